@@ -1,0 +1,7 @@
+pub mod Digits
+pub mod FilterLists
+pub mod NameTests
+pub mod NoFloats
+pub mod Objects
+pub mod StandardKinds
+pub mod Tables

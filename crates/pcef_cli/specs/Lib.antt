@@ -1,0 +1,12 @@
+pub mod DottedDecimal
+pub mod FaultAnswers
+pub mod LineFaults
+pub mod LineOf
+pub mod LineRules
+pub mod LineShape
+pub mod LineValues
+pub mod LineWords
+pub mod ProfileKeys
+pub mod ProfileOf
+pub mod ProfileValues
+pub mod Readings

@@ -1,0 +1,48 @@
+//! The lines of a script: one JSON object each (RFC 8259), whose `do` says what it asks for.
+
+mod fault;
+mod field;
+mod known;
+mod reading;
+mod rule;
+mod values;
+mod word;
+
+pub use fault::LineFault;
+pub use field::Field;
+use pcef_packet::Header;
+use pcef_rule::{KeyName, Rule};
+pub use reading::read_line;
+
+/// What a line asks for.
+#[derive(Drop)]
+pub enum Line {
+    /// `install`: a dynamic rule is put in.
+    Install(Rule),
+    /// `monitor`: the usage of a key is reported at each grant.
+    Monitor {
+        /// The monitoring key.
+        key: KeyName,
+        /// The grant in octets.
+        grant: u64,
+    },
+    /// `attach`: a worker comes.
+    Attach,
+    /// `take`: a worker takes a packet.
+    Take {
+        /// The number of the worker, 0 to 15.
+        worker: u8,
+        /// The header of the packet.
+        header: Header,
+    },
+    /// `flush`: what a worker took is written down.
+    Flush {
+        /// The number of the worker, 0 to 15.
+        worker: u8,
+    },
+    /// `show`: how the session stands.
+    Show,
+}
+
+#[cfg(test)]
+mod tests;

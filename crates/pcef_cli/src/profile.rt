@@ -1,0 +1,14 @@
+//! The profile of a session: a TOML document (v1.0.0).
+
+mod address;
+mod fault;
+mod key;
+mod reading;
+mod shape;
+mod values;
+
+pub use fault::ReadProfileFault;
+pub use reading::read_profile;
+
+#[cfg(test)]
+mod tests;

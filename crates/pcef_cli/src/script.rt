@@ -1,0 +1,13 @@
+//! Runs a script: reads lines, does what they ask for, and writes an answer for each.
+
+mod fault;
+mod input;
+mod run;
+mod step;
+mod writing;
+
+pub use fault::ScriptFault;
+pub use run::run_script;
+
+#[cfg(test)]
+mod tests;

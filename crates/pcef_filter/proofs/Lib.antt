@@ -1,0 +1,11 @@
+pub mod TokenLaws
+pub mod NumberLaws
+pub mod PieceLaws
+pub mod AddressLaws
+pub mod ListLaws
+pub mod PortLaws
+pub mod ClassLaws
+pub mod Fronts
+pub mod FaultLaws
+pub mod GrammarLaws
+pub mod FilterLaws

@@ -1,0 +1,9 @@
+pub mod Tokens
+pub mod Numbers
+pub mod Pieces
+pub mod Classes
+pub mod Grammar
+pub mod Faults
+pub mod Matching
+pub mod ReadingClasses
+pub mod Reading

@@ -1,0 +1,71 @@
+//! The commands of a session.
+
+ghost use Rattle.std.specs.Prelude.{◌≡◌, IfOk};
+
+use crate::trigger::{AccessKind, NoticeValue, TriggerSet};
+use pcef_rule::{BearerId, KeyName, Rule, RuleName};
+use std::alloc::AllocError;
+
+/// A command of the policy function or the access network.
+#[derive(Drop)]
+pub enum Command {
+    /// Makes a dynamic rule active, or replaces the active one of its name.
+    Install(Rule),
+    /// Makes a predefined rule active.
+    Activate(RuleName),
+    /// Takes an active rule away.
+    Remove(RuleName),
+    /// Switches a monitoring key on and sets its grant, in octets.
+    Monitor {
+        /// The key.
+        key: KeyName,
+        /// How many unreported octets reach the grant.
+        grant: u64,
+    },
+    /// Switches a monitoring key off.
+    Stop(KeyName),
+    /// Asks for a report of a monitoring key.
+    ReportNow(KeyName),
+    /// Subscribes to these events, and to no other.
+    Triggers(TriggerSet),
+    /// Tells of an access event.
+    Notice {
+        /// Its kind.
+        kind: AccessKind,
+        /// Its value.
+        value: NoticeValue,
+    },
+    /// Tells that a bearer was lost, with the rules that are bound to it.
+    LoseBearer(BearerId),
+    /// Ends what the policy function may do, and takes all rules away.
+    Close,
+    /// Ends the session.
+    Terminate,
+}
+
+impl Command {
+    /// Another one that is equal, or want of memory.
+    pub fn copy(&self) -> Result<Command, AllocError>
+        ensures { IfOk result (λ c. c ≡ self.now) }
+    {
+        match self {
+            Command::Install(rule) => Ok(Command::Install(rule.copy()?)),
+            Command::Activate(name) => Ok(Command::Activate(name.copy())),
+            Command::Remove(name) => Ok(Command::Remove(name.copy())),
+            Command::Monitor { key, grant } => Ok(Command::Monitor {
+                key: key.copy(),
+                grant: *grant,
+            }),
+            Command::Stop(key) => Ok(Command::Stop(key.copy())),
+            Command::ReportNow(key) => Ok(Command::ReportNow(key.copy())),
+            Command::Triggers(set) => Ok(Command::Triggers(*set)),
+            Command::Notice { kind, value } => Ok(Command::Notice {
+                kind: *kind,
+                value: value.copy(),
+            }),
+            Command::LoseBearer(id) => Ok(Command::LoseBearer(*id)),
+            Command::Close => Ok(Command::Close),
+            Command::Terminate => Ok(Command::Terminate),
+        }
+    }
+}

@@ -1,0 +1,4 @@
+pub mod Attached
+pub mod Bound
+pub mod Newest
+pub mod Reached

@@ -1,0 +1,5 @@
+pub mod Attached
+pub mod Bindings
+pub mod Decisions
+pub mod Replays
+pub mod Rules

@@ -1,0 +1,109 @@
+-- In every lawful journal no more is reported than was counted.
+use Rattle.std.proofs.Common.{◌≡◌, ◌≤◌, ◌<◌, ◌+◌, ◌-◌, ◌∙◌, ℕ, Bool, true, false, List, [], ◌∷◌, length, refl, sym, ap, subst, arith, inl, inr}
+use Rattle.std.specs.Prelude.{◌⊎◌, if◌then◌else◌}
+use Rattle.std.proofs.lemmas.Bool.{cases_Bool}
+use Rattle.pcef_journal.specs.declared.command.Command.{Command}
+use Rattle.pcef_journal.specs.declared.entry.Entry.TheVariants as entry
+use Rattle.pcef_journal.specs.declared.row.Row.{Row}
+use Rattle.pcef_journal.specs.declared.telling.Telling.{Telling}
+use Rattle.pcef_journal.specs.declared.telling.Telling.TheVariants.{Inactive, Usage, Access}
+use Rattle.pcef_journal.specs.Setting.{Setting, same_name}
+use Rattle.pcef_journal.specs.Generations.{made_by, oldest}
+use Rattle.pcef_journal.specs.Entries.{Journal, rows}
+use Rattle.pcef_journal.specs.Journals.{counted, counts, counts_in, gen, octets_of, octets_told, report_count, reported, tables}
+use Rattle.pcef_journal.specs.Reports.{after_command, after_flush, body_of, settled, tell, thresholds, with_rows}
+use Rattle.pcef_journal.proofs.Growth.{Known, counted_after_command, counted_after_row, gen_grows, known-more}
+use Rattle.pcef_session.specs.Lawful.{Lawful, RowsFollow, at_first, by_attach, by_command, by_flush, by_leave}
+use Rattle.pcef_session.proofs.BoundRules.{same_name_is}
+
+-- ---- reports
+pub tell_tables : (p : Setting) (ts : List Telling) (j : Journal) → tables (tell p ts j) ≡ tables j
+unfolding tell
+tell_tables p [] j = refl
+tell_tables p (t ∷ ts) j = tell_tables p ts (entry.Report (record { number = report_count j; body = body_of p j t }) ∷ j)
+
+pub tell_rows : (p : Setting) (ts : List Telling) (j : Journal) → rows (tell p ts j) ≡ rows j
+unfolding tell
+tell_rows p [] j = refl
+tell_rows p (t ∷ ts) j = tell_rows p ts (entry.Report (record { number = report_count j; body = body_of p j t }) ∷ j)
+
+-- a report tells no more than is unreported
+one_exact : (p : Setting) (t : Telling) (j : Journal) (key : List ℕ) → reported j key ≤ counted p j key →
+    octets_told key (body_of p j t) + reported j key ≤ counted p j key
+one_exact p (Inactive rule) j key exact = omega arith
+one_exact p (Access kind value) j key exact = omega arith
+one_exact p (Usage other cause) j key exact =
+    elim (cases_Bool (same_name key other)) [
+      | inl same ↦
+          let is : key ≡ other = same_name_is key other same in
+          let other_exact : reported j other ≤ counted p j other = subst (λ k. reported j k ≤ counted p j k) is exact in
+          let reported_is : reported j key ≡ reported j other = ap (reported j) is in
+          let counted_is : counted p j key ≡ counted p j other = ap (counted p j) is in
+          rw same (omega arith)
+      | inr differs ↦ rw differs (omega arith)
+    ]
+
+pub tell_exact : (p : Setting) (ts : List Telling) (j : Journal) (key : List ℕ) → reported j key ≤ counted p j key →
+    reported (tell p ts j) key ≤ counted p (tell p ts j) key
+unfolding tell reported
+tell_exact p [] j key exact = exact
+tell_exact p (t ∷ ts) j key exact =
+    tell_exact p ts (entry.Report (record { number = report_count j; body = body_of p j t }) ∷ j) key (one_exact p t j key exact)
+
+-- ---- what holds of every lawful journal
+pub record IsExact (p : Setting) (j : Journal) : Type 0 where
+  pub known : Known (gen j) (rows j)
+  pub exact : (key : List ℕ) → reported j key ≤ counted p j key
+
+reported_after_command : (j : Journal) (key : List ℕ) (c : Command) → reported (entry.Command c ∷ j) key ≡ reported j key
+unfolding reported
+reported_after_command j key c = refl
+
+reported_after_row : (j : Journal) (key : List ℕ) (r : Row) → reported (entry.Row r ∷ j) key ≡ reported j key
+unfolding reported
+reported_after_row j key r = refl
+
+exact_after_command : (p : Setting) (j : Journal) (c : Command) → IsExact p j → IsExact p (entry.Command c ∷ j)
+unfolding reported
+exact_after_command p j c is = record {
+  known = known-more (gen j) (gen (entry.Command c ∷ j)) (rows j) (gen_grows j c) is.known;
+  exact = λ key.
+      let same : counted p (entry.Command c ∷ j) key ≡ counted p j key = counted_after_command p j key c is.known in
+      let told : reported (entry.Command c ∷ j) key ≡ reported j key = reported_after_command j key c in
+      omega (arith, is.exact key);
+}
+
+exact_after_tell : (p : Setting) (ts : List Telling) (j : Journal) → IsExact p j → IsExact p (tell p ts j)
+exact_after_tell p ts j is = record {
+  known = rw (tell_tables p ts j, tell_rows p ts j) is.known;
+  exact = λ key. tell_exact p ts j key (is.exact key);
+}
+
+exact_after_row : (p : Setting) (j : Journal) (r : Row) → r.generation ≤ gen j → IsExact p j → IsExact p (entry.Row r ∷ j)
+unfolding Known
+exact_after_row p j r within is = record {
+  known = (within, is.known);
+  exact = λ key.
+      let told : reported (entry.Row r ∷ j) key ≡ reported j key = reported_after_row j key r in
+      omega (arith, is.exact key, counted_after_row p j key r);
+}
+
+exact_after_rows : (p : Setting) (rs : List Row) (j : Journal) → RowsFollow p j rs → IsExact p j → IsExact p (with_rows rs j)
+unfolding with_rows RowsFollow
+exact_after_rows p [] j follow is = is
+exact_after_rows p (r ∷ rs) j follow is =
+    exact_after_rows p rs (entry.Row r ∷ j) follow.1 (exact_after_row p j r follow.0.known is)
+
+exact_after_flush : (p : Setting) (rs : List Row) (j : Journal) → RowsFollow p j rs → IsExact p j → IsExact p (after_flush p j rs)
+exact_after_flush p [] j follow is = is
+exact_after_flush p (r ∷ rs) j follow is =
+    exact_after_tell p (thresholds p (with_rows (r ∷ rs) j)) (with_rows (r ∷ rs) j) (exact_after_rows p (r ∷ rs) j follow is)
+
+pub lawful_exact : (p : Setting) (j : Journal) → Lawful p j → IsExact p j
+unfolding after_command reported Known
+lawful_exact p _ at_first = record { known = tt; exact = λ key. omega arith }
+lawful_exact p _ (by_command j c l accepted changes) =
+    exact_after_tell p _ _ (exact_after_tell p _ _ (exact_after_command p j c (lawful_exact p j l)))
+lawful_exact p _ (by_attach j l accepted) = let is = lawful_exact p j l in record { known = is.known; exact = is.exact }
+lawful_exact p _ (by_leave j worker l there) = let is = lawful_exact p j l in record { known = is.known; exact = is.exact }
+lawful_exact p _ (by_flush j worker rs l accepted follows) = exact_after_flush p rs j follows.follow (lawful_exact p j l)

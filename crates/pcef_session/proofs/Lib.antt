@@ -1,0 +1,4 @@
+pub mod BearerIds
+pub mod BoundRules
+pub mod Exactness
+pub mod WorkerTables

@@ -1,0 +1,31 @@
+-- Laws of lawful journals, for whoever reads the definitions.
+use Rattle.std.specs.Prelude.{ℕ, ◌≡◌, ◌≤◌, ◌+◌, true, List, All}
+use Rattle.pcef_rule.specs.declared.quantity.Qos.{Qos}
+use Rattle.pcef_journal.specs.Setting.{Setting, same_qos}
+use Rattle.pcef_journal.specs.Generations.{has_bearer}
+use Rattle.pcef_journal.specs.Entries.{Journal}
+use Rattle.pcef_journal.specs.Journals.{counted, now, reported, unreported}
+use Rattle.pcef_session.specs.Lawful.{Lawful}
+
+-- no octet is reported twice, nor one that was never counted
+abbrev pub NothingIsReportedTwice : Type 0
+NothingIsReportedTwice = (p : Setting) (j : Journal) → Lawful p j → (key : List ℕ) → reported j key ≤ counted p j key
+
+-- what was reported and what wasn't are together what was counted
+abbrev pub NothingIsLost : Type 0
+NothingIsLost = (p : Setting) (j : Journal) → Lawful p j → (key : List ℕ) → reported j key + unreported p j key ≡ counted p j key
+
+-- the ids of bearers beside the default one are 6 to 15
+abbrev pub HasBearerIds : Setting → Type 0
+HasBearerIds p = All (λ id. (6 ≤ id) × (id ≤ 15)) p.other_ids
+
+-- two pairs of QCI and ARP with a bearer have different ids
+abbrev pub IdsAreDistinct : Type 0
+IdsAreDistinct = (p : Setting) → HasBearerIds p → (j : Journal) → Lawful p j → (q r : Qos) →
+    has_bearer p (now p j).rules q ≡ true → has_bearer p (now p j).rules r ≡ true → (now p j).id_of q ≡ (now p j).id_of r →
+    same_qos q r ≡ true
+
+-- each pair with a bearer has an id of 5 to 15
+abbrev pub IdsAreInRange : Type 0
+IdsAreInRange = (p : Setting) → HasBearerIds p → (j : Journal) → Lawful p j → (q : Qos) → has_bearer p (now p j).rules q ≡ true →
+    (5 ≤ (now p j).id_of q) × ((now p j).id_of q ≤ 15)

@@ -1,0 +1,11 @@
+pub mod Agreement
+pub mod Answers
+pub mod Core
+pub mod Laws
+pub mod Lawful
+pub mod Refusals
+pub mod Sessions
+pub mod Shown
+pub mod Soundness
+pub mod Terms
+pub mod Worlds

@@ -1,0 +1,90 @@
+//! The rows of a worker that wait.
+
+ghost use Rattle.std.specs.Prelude.{◌≡◌, ◌≤◌, ◌<◌, ◌++◌, ◌∷◌, [], ◌↔◌, IfOk, IsTrue, length};
+
+use pcef_journal::Row;
+use pcef_rule::Slot;
+use std::alloc::{AllocError, Global};
+use std::marker::Model;
+
+/// The most rows that wait.
+pub const MAX_WAITING: usize = 32;
+
+/// As many rows wait as may.
+#[derive(Clone, Copy, Debug, PartialEq, Eq)]
+pub struct BatchFull;
+
+/// A row that waits, with the slot that it counts for.
+#[derive(Debug, PartialEq, Eq, Drop)]
+pub struct Item {
+    /// The row.
+    pub row: Row,
+    /// The slot that it counts for, if there is one.
+    pub slot: Option<Slot>,
+}
+
+/// At most 32 rows of one worker that wait, with memory for all of them.
+#[derive(Drop)]
+pub struct Batch {
+    items: Vec<Item>,
+}
+
+impl Model for Batch {
+    ghost use Rattle.std.specs.Prelude.{List, ◌≤◌, length, vec_capacity};
+    ghost use Rattle.pcef_session.specs.declared.batch.Item.{Item};
+
+    ghost Value = { List Item };
+
+    ghost view = { λ b. b.items.items };
+
+    ghost invariant = { λ b. (length b.items.items ≤ 32) × (32 ≤ vec_capacity b.items) };
+}
+
+impl Batch {
+    /// No rows, and memory for 32, or want of it.
+    pub fn new(alloc: Global) -> Result<Batch, AllocError>
+        ensures { IfOk result (λ b. b ≡ []) }
+    {
+        Ok(Batch {
+            items: Vec::with_capacity(alloc, MAX_WAITING)?,
+        })
+    }
+
+    /// How many rows wait.
+    pub fn len(&self) -> usize
+        ensures len { result ≡ length self.now }
+        ensures most { result ≤ 32 }
+    {
+        self.items.len()
+    }
+
+    /// Whether no row waits.
+    pub fn is_empty(&self) -> bool
+        ensures { IsTrue result ↔ (self.now ≡ []) }
+    {
+        self.items.is_empty()
+    }
+
+    /// The rows that wait.
+    pub fn items(&self) -> &[Item]
+        ensures items { result.now ≡ self.now }
+        ensures most { length result.now ≤ 32 }
+    {
+        self.items.as_slice()
+    }
+
+    /// Adds a row. Takes no memory.
+    pub fn push(&mut self, item: Item)
+        requires { length self.old < 32 }
+        ensures { self.new ≡ self.old ++ item ∷ [] }
+    {
+        self.items.push_reserved(item);
+    }
+
+    /// Lets all rows go.
+    pub fn clear(&mut self)
+        ensures { self.new ≡ [] }
+    {
+        self.items.clear();
+    }
+}

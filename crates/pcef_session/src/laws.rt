@@ -1,0 +1,15 @@
+//! Laws of lawful journals, proved for whoever reads the definitions.
+
+ghost use Rattle.pcef_session.specs.Laws.{IdsAreDistinct, IdsAreInRange, NothingIsLost, NothingIsReportedTwice};
+
+/// What usage reports tell: each counted octet once at most, and none is lost.
+pub fn usage_is_exact()
+    ensures twice { NothingIsReportedTwice }
+    ensures lost { NothingIsLost }
+{}
+
+/// The ids of bearers: 5 to 15, and no two bearers have the same.
+pub fn bearers_have_their_own_ids()
+    ensures distinct { IdsAreDistinct }
+    ensures in_range { IdsAreInRange }
+{}

@@ -1,0 +1,25 @@
+//! A session of the gateway: its commands, its bearers, its usage and its journal, and the workers of
+//! a script.
+#![tactic(auto)]
+
+mod answer;
+mod batch;
+mod bearers;
+mod laws;
+mod profile;
+mod rows;
+mod session;
+mod state;
+mod usage;
+mod worker;
+mod world;
+
+pub use answer::{Accepted, AttachFault, FlushRefusal, Judged, OpenFault, Refusal, Verdicts};
+pub use batch::{Batch, BatchFull, Item, MAX_WAITING};
+pub use bearers::{Bearers, DEFAULT_BEARER};
+pub use laws::usage_is_exact;
+pub use profile::{MAX_CAPACITY, MAX_COMMANDS, Profile};
+pub use session::Session;
+pub use state::{MAX_WORKERS, Prepared, SessionState};
+pub use usage::{KeyState, Usage};
+pub use world::{StepRefusal, WorldState};

@@ -1,0 +1,5 @@
+pub mod Decided
+pub mod Foremost
+pub mod Keeping
+pub mod Ordered
+pub mod Alternatives

@@ -1,0 +1,6 @@
+use Rattle.pcef_table.specs.Catalogs.{offers_of}
+use Rattle.pcef_table.specs.Tables.{IsTable}
+use Rattle.pcef_table.proofs.tests.table_of.Given as goal
+
+abbrev pub invariant-loop-variant : goal.invariant-loop-variant
+invariant-loop-variant g l = IsTable (offers_of l.catalog) l.table.entries

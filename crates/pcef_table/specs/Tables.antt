@@ -1,0 +1,52 @@
+-- A generation, and what its operations make of its entries.
+use Rattle.std.specs.Prelude.{ℕ, ◌==◌, Bool, false, not, List, ◌∷◌, ◌++◌, Option, Some, None, All, AllPairs, filter, if◌then◌else◌, IsTrue}
+use Rattle.pcef_rule.specs.declared.quantity.Slot.{Slot}
+use Rattle.pcef_rule.specs.Precedence.{goes_before}
+use Rattle.pcef_table.specs.declared.listing.Offer.{Offer}
+use Rattle.pcef_table.specs.declared.entry.Entry.{Entry}
+use Rattle.pcef_table.specs.Sources.{IsKnown, is_named, name_of, rank_of}
+
+-- the number of a generation, and its entries in precedence order
+pub record TableValue : Type 0 where
+  pub number : ℕ
+  pub entries : List Entry
+
+-- own choice
+abbrev pub most_entries : ℕ
+most_entries = 64
+
+-- one entry's rule goes before another's
+abbrev pub GoesBefore : List Offer → Entry → Entry → Type 0
+GoesBefore offers a b = IsTrue (goes_before (rank_of offers a.source) (rank_of offers b.source))
+
+-- the entries of a table over these offers: each rule is known, and goes before all after it
+pub record IsTable (offers : List Offer) (entries : List Entry) : Type 0 where
+  pub known : All (λ e. IsKnown offers e.source) entries
+  pub ordered : AllPairs (GoesBefore offers) entries
+
+abbrev pub has_other_name : List Offer → List ℕ → Entry → Bool
+has_other_name offers name e = not (is_named offers name e.source)
+
+-- the entries without the one of this name
+abbrev pub without : List Offer → List ℕ → List Entry → List Entry
+without offers name entries = filter (has_other_name offers name) entries
+
+abbrev pub is_before : List Offer → Entry → Entry → Bool
+is_before offers x e = goes_before (rank_of offers e.source) (rank_of offers x.source)
+
+abbrev pub is_behind : List Offer → Entry → Entry → Bool
+is_behind offers x e = goes_before (rank_of offers x.source) (rank_of offers e.source)
+
+-- an entry in its place among those of other names
+abbrev pub placed : List Offer → Entry → List Entry → List Entry
+placed offers x entries =
+    let others = without offers (name_of offers x.source) entries in
+    filter (is_before offers x) others ++ x ∷ filter (is_behind offers x) others
+
+abbrev pub is_slot : Slot → Option Slot → Bool
+is_slot slot None = false
+is_slot slot (Some s) = s.0 == slot.0
+
+-- an entry whose slot is counted or not
+abbrev pub with_counting : Slot → Bool → Entry → Entry
+with_counting slot on e = if is_slot slot e.slot then record e { counted = on } else e

@@ -1,0 +1,50 @@
+-- What a generation decides of a packet (TS 23.203, clause 6.2.2).
+use Rattle.std.specs.Prelude.{◌≡◌, ◌⊎◌, true, false, List, Option, Some, None, All, Contains, find, if◌then◌else◌}
+use Rattle.std.specs.Option.{option_map_or}
+use Rattle.pcef_packet.specs.declared.header.Addr.{Addr}
+use Rattle.pcef_packet.specs.declared.header.Dir.{Dir}
+use Rattle.pcef_packet.specs.declared.header.Header.{Header}
+use Rattle.pcef_packet.specs.Addresses.{same_addr, ue_side}
+use Rattle.pcef_rule.specs.declared.quantity.BearerId.{BearerId}
+use Rattle.pcef_rule.specs.declared.quantity.Slot.{Slot}
+use Rattle.pcef_rule.specs.declared.rule.Properties.{Properties}
+use Rattle.pcef_rule.specs.Gate.{opens}
+use Rattle.pcef_table.specs.declared.listing.Offer.{Offer}
+use Rattle.pcef_table.specs.declared.entry.Entry.{Entry}
+use Rattle.pcef_table.specs.declared.verdict.Verdict.{Verdict}
+use Rattle.pcef_table.specs.declared.verdict.Verdict.TheVariants.{Stray, Unmatched, Gated, Passed}
+use Rattle.pcef_table.specs.Sources.{fits, is_named, properties_of}
+use Rattle.pcef_table.specs.Tables.{GoesBefore}
+
+-- the one entry that fits and goes before every other entry that fits, and its rule's properties
+pub record IsDecisive (offers : List Offer) (entries : List Entry) (ue : Addr) (header : Header) (e : Entry) (p : Properties) : Type 0 where
+  pub there : Contains entries e
+  pub properties_are : properties_of offers e.source ≡ Some p
+  pub fitting : fits offers ue header e.source ≡ true
+  pub first : All (λ f. fits offers ue header f.source ≡ true → (f ≡ e) ⊎ GoesBefore offers e f) entries
+
+-- what the gate of a rule decides of a packet of this direction
+abbrev pub gate_verdict : Properties → BearerId → Dir → Verdict
+gate_verdict p bearer dir = if opens p.gate dir then Passed p.name bearer else Gated p.name
+
+-- a packet whose user equipment's side isn't the session's address is a stray (own choice); one that
+-- no rule fits is discarded; else the decisive entry's gate decides
+abbrev pub IsVerdict : List Offer → List Entry → Addr → Header → Verdict → Type 0
+IsVerdict offers entries ue header Stray = same_addr (ue_side header) ue ≡ false
+IsVerdict offers entries ue header Unmatched =
+    (same_addr (ue_side header) ue ≡ true) × All (λ e. fits offers ue header e.source ≡ false) entries
+IsVerdict offers entries ue header (Gated rule) =
+    (same_addr (ue_side header) ue ≡ true) × (e : Entry) × (p : Properties)
+    × IsDecisive offers entries ue header e p × (opens p.gate header.dir ≡ false) × (rule ≡ p.name)
+IsVerdict offers entries ue header (Passed rule bearer) =
+    (same_addr (ue_side header) ue ≡ true) × (e : Entry) × (p : Properties)
+    × IsDecisive offers entries ue header e p × (opens p.gate header.dir ≡ true) × (rule ≡ p.name) × (bearer ≡ e.bearer)
+
+abbrev pub counted_slot : Entry → Option Slot
+counted_slot e = if e.counted then e.slot else None
+
+-- the slot that a packet with this verdict counts for: that of the rule that let it pass, where the
+-- slot is counted
+abbrev pub slot_for : List Offer → List Entry → Verdict → Option Slot
+slot_for offers entries (Passed rule bearer) = option_map_or counted_slot (find (λ e. is_named offers rule e.source) entries) None
+slot_for offers entries _ = None

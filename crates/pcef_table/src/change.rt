@@ -1,0 +1,126 @@
+//! Which entries of a generation go into the next one.
+
+ghost use Rattle.std.specs.Prelude.{◌≡◌, ◌++◌, ◌∷◌, [], All, IfOk, OnOk, filter, map, if◌then◌else◌};
+ghost use Rattle.pcef_table.specs.Sides.{stays};
+ghost use Rattle.pcef_table.specs.Sources.{IsKnown};
+ghost use Rattle.pcef_table.specs.Tables.{placed, with_counting, without};
+
+use crate::catalog::Offers;
+use crate::entry::Entry;
+use pcef_rule::{RuleName, Slot};
+use std::alloc::{AllocError, Global};
+
+/// Where an entry stands beside another one.
+#[derive(Clone, Copy)]
+enum Side {
+    Before,
+    Behind,
+}
+
+/// Whether an entry stands on this side of x and has another name.
+fn stays<C: Offers>(catalog: &C, x: &Entry, side: Side, entry: &Entry) -> bool
+    requires x_known { IsKnown (C.offers catalog.now) x.now.source }
+    requires known { IsKnown (C.offers catalog.now) entry.now.source }
+    ensures { result ≡ stays (C.offers catalog.now) x.now side entry.now }
+{
+    let order = match side {
+        Side::Before => entry.source.compare(catalog, &x.source),
+        Side::Behind => x.source.compare(catalog, &entry.source),
+    };
+    let name = &x.source.properties(catalog).name;
+    !entry.source.is_named(catalog, name) && order.is_lt()
+}
+
+/// Appends a copy of an entry that stays.
+fn keep(kept: &mut Vec<Entry>, entry: &Entry, stays: bool) -> Result<(), AllocError>
+    ensures { OnOk result (kept.new.items ≡ kept.old.items ++ (if stays then entry.now ∷ [] else [])) }
+{
+    if stays {
+        kept.push(entry.copy()?)?;
+    }
+    Ok(())
+}
+
+/// Copies of the entries without the one of this name.
+pub fn copy_without<C: Offers>(
+    alloc: Global,
+    catalog: &C,
+    entries: &[Entry],
+    name: &RuleName,
+) -> Result<Vec<Entry>, AllocError>
+    requires { All (λ e. IsKnown (C.offers catalog.now) e.source) entries.now }
+    ensures { IfOk result (λ v. v.items ≡ without (C.offers catalog.now) name.now entries.now) }
+{
+    let mut kept = Vec::with_capacity(alloc, entries.len())?;
+    for entry in entries {
+        let stays = !entry.source.is_named(catalog, name);
+        keep(&mut kept, entry, stays)?;
+    }
+    Ok(kept)
+}
+
+/// Appends copies of the entries that stand on this side of x and have other names.
+fn copy_side<C: Offers>(
+    catalog: &C,
+    entries: &[Entry],
+    x: &Entry,
+    side: Side,
+    kept: &mut Vec<Entry>,
+) -> Result<(), AllocError>
+    requires known { All (λ e. IsKnown (C.offers catalog.now) e.source) entries.now }
+    requires x_known { IsKnown (C.offers catalog.now) x.now.source }
+    ensures { OnOk result (kept.new.items ≡ kept.old.items ++ filter (stays (C.offers catalog.now) x.now side) entries.now) }
+{
+    for entry in entries {
+        let stays = stays(catalog, x, side, entry);
+        keep(kept, entry, stays)?;
+    }
+    Ok(())
+}
+
+/// Copies of the entries, with x in its place and in the place of the one of its name.
+pub fn copy_with<C: Offers>(
+    alloc: Global,
+    catalog: &C,
+    entries: &[Entry],
+    x: Entry,
+) -> Result<Vec<Entry>, AllocError>
+    requires known { All (λ e. IsKnown (C.offers catalog.now) e.source) entries.now }
+    requires x_known { IsKnown (C.offers catalog.now) x.source }
+    ensures { IfOk result (λ v. v.items ≡ placed (C.offers catalog.now) x entries.now) }
+{
+    let mut kept = Vec::with_capacity(alloc, entries.len())?;
+    copy_side(catalog, entries, &x, Side::Before, &mut kept)?;
+    let mut behind = Vec::new(alloc);
+    copy_side(catalog, entries, &x, Side::Behind, &mut behind)?;
+    kept.push(x)?;
+    kept.append(&mut behind)?;
+    Ok(kept)
+}
+
+/// A copy of an entry, whose slot is counted or not.
+fn copy_counting_one(entry: &Entry, slot: Slot, on: bool) -> Result<Entry, AllocError>
+    ensures { IfOk result (λ e. e ≡ with_counting slot on entry.now) }
+{
+    let mut copy = entry.copy()?;
+    if entry.slot == Some(slot) {
+        copy.counted = on;
+    }
+    Ok(copy)
+}
+
+/// Copies of all entries, where a slot is counted or not.
+pub fn copy_counting(
+    alloc: Global,
+    entries: &[Entry],
+    slot: Slot,
+    on: bool,
+) -> Result<Vec<Entry>, AllocError>
+    ensures { IfOk result (λ v. v.items ≡ map (with_counting slot on) entries.now) }
+{
+    let mut copies = Vec::with_capacity(alloc, entries.len())?;
+    for entry in entries {
+        copies.push(copy_counting_one(entry, slot, on)?)?;
+    }
+    Ok(copies)
+}

@@ -1,0 +1,71 @@
+//! What entries decide of a packet.
+
+ghost use Rattle.std.specs.Prelude.{◌≡◌, All, IfSome, find, None};
+ghost use Rattle.std.specs.Option.{option_copied, option_map_or};
+ghost use Rattle.pcef_packet.specs.Addresses.{same_addr, ue_side};
+ghost use Rattle.pcef_table.specs.Sources.{IsKnown, fits, is_named};
+ghost use Rattle.pcef_table.specs.Verdicts.{counted_slot, gate_verdict};
+
+use crate::catalog::Offers;
+use crate::entry::Entry;
+use crate::verdict::Verdict;
+use pcef_packet::{Addr, Dir, Header};
+use pcef_rule::{BearerId, Properties, RuleName, Slot};
+
+/// Whether the address on the user equipment's side is the session's.
+pub fn is_own(header: &Header, ue: Addr) -> bool
+    ensures { result ≡ same_addr (ue_side header.now) ue }
+{
+    header.ue_side() == ue
+}
+
+/// The first entry that fits.
+pub fn first_fitting<'a, C: Offers>(
+    catalog: &C,
+    entries: &'a [Entry],
+    ue: Addr,
+    header: &Header,
+) -> Option<&'a Entry>
+    requires { All (λ e. IsKnown (C.offers catalog.now) e.source) entries.now }
+    ensures known { IfSome result (λ e. IsKnown (C.offers catalog.now) e.now.source) }
+    ensures first { option_copied result ≡ find (λ e. fits (C.offers catalog.now) ue header.now e.source) entries.now }
+{
+    for entry in entries {
+        if entry.source.fits(catalog, ue, header) {
+            return Some(entry);
+        }
+    }
+    None
+}
+
+/// What the gate of a rule on this bearer decides of a packet of this direction.
+pub fn gate_verdict(properties: &Properties, bearer: BearerId, dir: Dir) -> Verdict
+    ensures { result ≡ gate_verdict properties.now bearer dir }
+{
+    let rule = properties.name.copy();
+    if properties.gate.opens(dir) {
+        Verdict::Passed { rule, bearer }
+    } else {
+        Verdict::Gated { rule }
+    }
+}
+
+/// The slot of an entry, where it is counted.
+fn counted_slot(entry: &Entry) -> Option<Slot>
+    ensures { result ≡ counted_slot entry.now }
+{
+    if entry.counted { entry.slot } else { None }
+}
+
+/// The slot of the entry of a name, where it is counted.
+pub fn slot_of<C: Offers>(catalog: &C, entries: &[Entry], name: &RuleName) -> Option<Slot>
+    requires { All (λ e. IsKnown (C.offers catalog.now) e.source) entries.now }
+    ensures { result ≡ option_map_or counted_slot (find (λ e. is_named (C.offers catalog.now) name.now e.source) entries.now) None }
+{
+    for entry in entries {
+        if entry.source.is_named(catalog, name) {
+            return counted_slot(entry);
+        }
+    }
+    None
+}

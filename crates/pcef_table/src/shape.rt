@@ -1,0 +1,140 @@
+//! Shapes: what a predefined rule detects.
+
+ghost use Rattle.std.specs.Prelude.{◌≡◌, map};
+ghost use Rattle.std.specs.List.{list_all, list_any};
+ghost use Rattle.pcef_packet.specs.Addresses.{remote_side};
+ghost use Rattle.pcef_table.specs.Shapes.{local_port, port_between, remote_port, shape_holds, test_holds};
+
+use arrayvec::ArrayVec;
+use pcef_filter::Net;
+use pcef_packet::{Addr, Dir, Header, Ports};
+use std::marker::Model;
+
+/// One test of a header. The local side is the user equipment's, the remote side the other one.
+#[derive(Clone, Copy, Debug, PartialEq, Eq)]
+pub enum Test {
+    /// The protocol is this one.
+    Proto(u8),
+    /// The code point is this one.
+    Dscp(u8),
+    /// There are ports, and the remote one lies between these, both included.
+    RemotePort(u16, u16),
+    /// There are ports, and the local one lies between these, both included.
+    LocalPort(u16, u16),
+    /// The remote address is of this network.
+    RemoteIn(Net),
+    /// The volume is at most this many octets.
+    OctetsAtMost(u16),
+    /// The packet goes in this direction.
+    Going(Dir),
+}
+
+impl Default for Test {
+    ghost use Rattle.std.specs.Prelude.{◌≡◌};
+
+    fn default() -> Self
+        ensures { result ≡ Test.Proto 0 }
+    {
+        Test::Proto(0)
+    }
+}
+
+/// Tests that are all to be true. With none, the alternative is always true.
+#[derive(Debug, Default, Drop)]
+pub struct Alternative {
+    /// The tests, at most 8.
+    pub tests: ArrayVec<Test, 8>,
+}
+
+/// At most 8 alternatives, of which one is to be true. With none, the shape never holds.
+#[derive(Debug, Drop)]
+pub struct Shape {
+    alternatives: ArrayVec<Alternative, 8>,
+}
+
+impl Model for Shape {
+    ghost use Rattle.std.specs.Prelude.{List, map};
+    ghost use Rattle.pcef_table.specs.declared.shape.Test.{Test};
+
+    ghost Value = { List (List Test) };
+
+    ghost view = { λ s. map (λ a. a.tests.items) s.alternatives.items };
+}
+
+impl Shape {
+    /// The shape of these alternatives.
+    pub fn new(alternatives: ArrayVec<Alternative, 8>) -> Shape
+        ensures { result ≡ map (λ a. a.tests.items) alternatives.items }
+    {
+        Shape { alternatives }
+    }
+
+    /// Whether all tests of some alternative are true of a header.
+    pub fn holds(&self, header: &Header) -> bool
+        ensures { result ≡ shape_holds self.now header.now }
+    {
+        any_holds(self.alternatives.as_slice(), header)
+    }
+}
+
+fn any_holds(alternatives: &[Alternative], header: &Header) -> bool
+    ensures { result ≡ list_any (λ a. list_all (test_holds header.now) a.tests.items) alternatives.now }
+{
+    alternatives.iter().any(|a| all_hold(&a.tests, header))
+}
+
+fn all_hold(tests: &[Test], header: &Header) -> bool
+    ensures { result ≡ list_all (test_holds header.now) tests.now }
+{
+    tests.iter().all(|test| test.holds(header))
+}
+
+fn remote_addr(header: &Header) -> Addr
+    ensures { result ≡ remote_side header.now }
+{
+    match header.dir {
+        Dir::Up => header.dst,
+        Dir::Down => header.src,
+    }
+}
+
+fn is_remote_between(dir: Dir, ports: Option<Ports>, low: u16, high: u16) -> bool
+    ensures { result ≡ port_between (remote_port dir) ports low high }
+{
+    match ports {
+        None => false,
+        Some(ports) => match dir {
+            Dir::Up => low <= ports.dst && ports.dst <= high,
+            Dir::Down => low <= ports.src && ports.src <= high,
+        },
+    }
+}
+
+fn is_local_between(dir: Dir, ports: Option<Ports>, low: u16, high: u16) -> bool
+    ensures { result ≡ port_between (local_port dir) ports low high }
+{
+    match ports {
+        None => false,
+        Some(ports) => match dir {
+            Dir::Up => low <= ports.src && ports.src <= high,
+            Dir::Down => low <= ports.dst && ports.dst <= high,
+        },
+    }
+}
+
+impl Test {
+    /// Whether the test is true of a header.
+    pub fn holds(&self, header: &Header) -> bool
+        ensures { result ≡ test_holds header.now self.now }
+    {
+        match self {
+            Test::Proto(proto) => header.proto == *proto,
+            Test::Dscp(point) => header.dscp == *point,
+            Test::RemotePort(low, high) => is_remote_between(header.dir, header.ports, *low, *high),
+            Test::LocalPort(low, high) => is_local_between(header.dir, header.ports, *low, *high),
+            Test::RemoteIn(net) => remote_addr(header).agrees_in(net.bits, net.addr),
+            Test::OctetsAtMost(most) => header.octets <= u32::from(*most),
+            Test::Going(dir) => header.dir == *dir,
+        }
+    }
+}

@@ -1,0 +1,78 @@
+//! The rules of entries: their properties, their order, and which packets they fit.
+
+ghost use Rattle.std.specs.Prelude.{◌≡◌, Some};
+ghost use Rattle.std.specs.List.{list_any};
+ghost use Rattle.pcef_filter.specs.Matching.{matches};
+ghost use Rattle.pcef_rule.specs.Precedence.{rank_cmp};
+ghost use Rattle.pcef_table.specs.Sources.{IsKnown, fits, is_named, origin_of, properties_of, rank_of};
+
+use crate::catalog::Offers;
+use crate::entry::Source;
+use pcef_filter::Filter;
+use pcef_packet::{Addr, Header};
+use pcef_rule::{Origin, Properties, RuleName, compare_rules};
+use std::cmp::Ordering;
+
+impl Source {
+    /// Where the rule comes from.
+    pub fn origin(&self) -> Origin
+        ensures { result ≡ origin_of self.now }
+    {
+        match self {
+            Source::Dynamic(_) => Origin::Dynamic,
+            Source::Predefined(_) => Origin::Predefined,
+        }
+    }
+
+    /// The properties of the rule.
+    pub fn properties<'a, C: Offers>(&'a self, catalog: &'a C) -> &'a Properties
+        requires { IsKnown (C.offers catalog.now) self.now }
+        ensures { properties_of (C.offers catalog.now) self.now ≡ Some result.now }
+    {
+        match self {
+            Source::Dynamic(rule) => rule.properties(),
+            Source::Predefined(index) => &catalog.listing().offers()[usize::from(
+                *index,
+            )].properties,
+        }
+    }
+
+    /// Whether the rule has this name.
+    pub fn is_named<C: Offers>(&self, catalog: &C, name: &RuleName) -> bool
+        requires { IsKnown (C.offers catalog.now) self.now }
+        ensures { result ≡ is_named (C.offers catalog.now) name.now self.now }
+    {
+        self.properties(catalog).name == *name
+    }
+
+    /// Whether the rule fits a packet.
+    pub fn fits<C: Offers>(&self, catalog: &C, ue: Addr, header: &Header) -> bool
+        requires { IsKnown (C.offers catalog.now) self.now }
+        ensures { result ≡ fits (C.offers catalog.now) ue header.now self.now }
+    {
+        match self {
+            Source::Dynamic(rule) => any_matches(rule.filters(), ue, header),
+            Source::Predefined(index) => catalog.detects(*index, header),
+        }
+    }
+
+    /// How two rules stand to each other: the one that goes first is less.
+    pub fn compare<C: Offers>(&self, catalog: &C, other: &Source) -> Ordering
+        requires known { IsKnown (C.offers catalog.now) self.now }
+        requires other_known { IsKnown (C.offers catalog.now) other.now }
+        ensures { result ≡ rank_cmp (rank_of (C.offers catalog.now) self.now) (rank_of (C.offers catalog.now) other.now) }
+    {
+        compare_rules(
+            self.properties(catalog),
+            self.origin(),
+            other.properties(catalog),
+            other.origin(),
+        )
+    }
+}
+
+fn any_matches(filters: &[Filter], ue: Addr, header: &Header) -> bool
+    ensures { result ≡ list_any (λ f. matches f ue header.now) filters.now }
+{
+    filters.iter().any(|filter| filter.matches(ue, header))
+}

@@ -1,0 +1,159 @@
+//! The table of a generation.
+
+ghost use Rattle.std.specs.Prelude.{◌≡◌, ◌≤◌, ◌<◌, ◌+◌, ◌^◌, [], IfOk, length, map, slice_get};
+ghost use Rattle.std.specs.Option.{option_copied};
+ghost use Rattle.pcef_table.specs.Sources.{IsKnown};
+ghost use Rattle.pcef_table.specs.Tables.{IsTable, most_entries, placed, with_counting, without};
+ghost use Rattle.pcef_table.specs.Verdicts.{IsVerdict, slot_for};
+
+use crate::catalog::Offers;
+use crate::change::{copy_counting, copy_with, copy_without};
+use crate::deciding::{first_fitting, gate_verdict, is_own, slot_of};
+use crate::entry::Entry;
+use crate::verdict::Verdict;
+use pcef_packet::{Addr, Header};
+use pcef_rule::{RuleName, Slot};
+use std::alloc::{AllocError, Global};
+use std::marker::Model;
+
+/// The most entries of a table.
+pub const MAX_ENTRIES: usize = 64;
+
+/// One rule generation, which never changes: at most 64 entries in precedence order. The operations
+/// that make the next generation take memory for its entries.
+#[derive(Drop)]
+pub struct Table {
+    alloc: Global,
+    entries: Vec<Entry>,
+    generation: u32,
+}
+
+impl Model for Table {
+    ghost use Rattle.std.specs.Prelude.{◌≤◌, length};
+    ghost use Rattle.pcef_table.specs.Tables.{TableValue, most_entries};
+
+    ghost Value = { TableValue };
+
+    ghost view = { λ t. record { number = t.generation; entries = t.entries.items } };
+
+    ghost invariant = { λ t. length t.entries.items ≤ most_entries };
+}
+
+impl Table {
+    /// The table of a generation without rules.
+    pub fn empty(alloc: Global, generation: u32) -> Result<Table, AllocError>
+        ensures number { IfOk result (λ t. t.number ≡ generation) }
+        ensures entries { IfOk result (λ t. t.entries ≡ []) }
+    {
+        Ok(Table {
+            alloc,
+            entries: Vec::new(alloc),
+            generation,
+        })
+    }
+
+    /// The number of the generation.
+    pub fn generation(&self) -> u32
+        ensures { result ≡ self.now.number }
+    {
+        self.generation
+    }
+
+    /// The entries, in precedence order.
+    pub fn entries(&self) -> &[Entry]
+        ensures { result.now ≡ self.now.entries }
+    {
+        &self.entries
+    }
+
+    /// The entry at a place, if there is one.
+    pub fn entry(&self, place: usize) -> Option<&Entry>
+        ensures { option_copied result ≡ slice_get self.now.entries place }
+    {
+        self.entries.get(place)
+    }
+
+    /// The next generation with this entry, which takes the place of one of its name, or want of memory.
+    pub fn with<C: Offers>(&self, catalog: &C, entry: Entry) -> Result<Table, AllocError>
+        requires number { self.now.number + 1 < 2 ^ 32 }
+        requires table { IsTable (C.offers catalog.now) self.now.entries }
+        requires known { IsKnown (C.offers catalog.now) entry.source }
+        requires room { length (placed (C.offers catalog.now) entry self.now.entries) ≤ most_entries }
+        ensures number { IfOk result (λ t. t.number ≡ self.now.number + 1) }
+        ensures entries { IfOk result (λ t. t.entries ≡ placed (C.offers catalog.now) entry self.now.entries) }
+        ensures table { IfOk result (λ t. IsTable (C.offers catalog.now) t.entries) }
+    {
+        let entries = copy_with(self.alloc, catalog, self.entries(), entry)?;
+        Ok(Table {
+            alloc: self.alloc,
+            entries,
+            generation: self.generation + 1,
+        })
+    }
+
+    /// The next generation without the entry of this name, or want of memory.
+    pub fn without<C: Offers>(&self, catalog: &C, name: &RuleName) -> Result<Table, AllocError>
+        requires number { self.now.number + 1 < 2 ^ 32 }
+        requires table { IsTable (C.offers catalog.now) self.now.entries }
+        ensures number { IfOk result (λ t. t.number ≡ self.now.number + 1) }
+        ensures entries { IfOk result (λ t. t.entries ≡ without (C.offers catalog.now) name.now self.now.entries) }
+        ensures table { IfOk result (λ t. IsTable (C.offers catalog.now) t.entries) }
+    {
+        let entries = copy_without(self.alloc, catalog, self.entries(), name)?;
+        Ok(Table {
+            alloc: self.alloc,
+            entries,
+            generation: self.generation + 1,
+        })
+    }
+
+    /// The next generation, where this slot is counted or not, or want of memory.
+    pub fn counting<C: Offers>(
+        &self,
+        _catalog: &C,
+        slot: Slot,
+        on: bool,
+    ) -> Result<Table, AllocError>
+        requires number { self.now.number + 1 < 2 ^ 32 }
+        requires table { IsTable (C.offers _catalog.now) self.now.entries }
+        ensures number { IfOk result (λ t. t.number ≡ self.now.number + 1) }
+        ensures entries { IfOk result (λ t. t.entries ≡ map (with_counting slot on) self.now.entries) }
+        ensures table { IfOk result (λ t. IsTable (C.offers _catalog.now) t.entries) }
+    {
+        let entries = copy_counting(self.alloc, self.entries(), slot, on)?;
+        Ok(Table {
+            alloc: self.alloc,
+            entries,
+            generation: self.generation + 1,
+        })
+    }
+
+    /// What the generation decides of a packet, for a session with this address
+    /// (TS 23.203, clause 6.2.2). Takes no memory.
+    pub fn classify<C: Offers>(&self, catalog: &C, ue: Addr, header: &Header) -> Verdict
+        requires { IsTable (C.offers catalog.now) self.now.entries }
+        ensures { IsVerdict (C.offers catalog.now) self.now.entries ue header.now result }
+    {
+        if !is_own(header, ue) {
+            return Verdict::Stray;
+        }
+        match first_fitting(catalog, self.entries(), ue, header) {
+            None => Verdict::Unmatched,
+            Some(entry) => {
+                let properties = entry.source.properties(catalog);
+                gate_verdict(properties, entry.bearer, header.dir)
+            }
+        }
+    }
+
+    /// The slot that a packet with this verdict counts for, if there is one.
+    pub fn counts<C: Offers>(&self, catalog: &C, verdict: &Verdict) -> Option<Slot>
+        requires { IsTable (C.offers catalog.now) self.now.entries }
+        ensures { result ≡ slot_for (C.offers catalog.now) self.now.entries verdict.now }
+    {
+        match verdict {
+            Verdict::Passed { rule, .. } => slot_of(catalog, self.entries(), rule),
+            _ => None,
+        }
+    }
+}
