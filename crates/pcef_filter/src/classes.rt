@@ -9,7 +9,7 @@ use crate::filter::{Direction, Flow};
 
 /// Whether a token is read as a port list: no other token behind a place begins with a digit.
 #[tactic(auto, unfolding(crate::specs::Tokens::begins_with_digit))]
-pub fn starts_with_digit(token: &[u8]) -> bool
+pub(crate) fn starts_with_digit(token: &[u8]) -> bool
     ensures { result ≡ begins_with_digit token.now }
 {
     match token {
@@ -20,7 +20,7 @@ pub fn starts_with_digit(token: &[u8]) -> bool
 
 /// The direction word.
 #[tactic(auto, unfolding(crate::specs::ReadingClasses::direction_in))]
-pub fn direction_of(token: &[u8]) -> Option<Direction>
+pub(crate) fn direction_of(token: &[u8]) -> Option<Direction>
     ensures { result ≡ direction_in token.now }
 {
     if token == b"in".as_slice() {
@@ -34,7 +34,7 @@ pub fn direction_of(token: &[u8]) -> Option<Direction>
 
 /// The protocol, which is none for every protocol.
 #[tactic(auto, unfolding(crate::specs::ReadingClasses::proto_in))]
-pub fn proto_of(token: &[u8]) -> Option<Option<u8>>
+pub(crate) fn proto_of(token: &[u8]) -> Option<Option<u8>>
     ensures { result ≡ proto_in token.now }
 {
     if token == b"ip".as_slice() {
@@ -48,7 +48,7 @@ pub fn proto_of(token: &[u8]) -> Option<Option<u8>>
 }
 
 /// Whether a flow word is given that may not stand beside a text of this direction.
-pub fn clashes(direction: Direction, flow: Option<Flow>) -> bool
+pub(crate) fn clashes(direction: Direction, flow: Option<Flow>) -> bool
     ensures { result ≡ is_clash direction flow }
 {
     match direction {

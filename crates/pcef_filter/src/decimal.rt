@@ -8,7 +8,7 @@ pub const MOST_DIGITS: usize = 5;
 
 /// The number that a token writes in no more than so many digits.
 #[tactic(auto, unfolding(crate::specs::ReadingClasses::number_in))]
-pub fn number_of(token: &[u8], most_digits: usize) -> Option<u32>
+pub(crate) fn number_of(token: &[u8], most_digits: usize) -> Option<u32>
     // Five digits are within 32 bits.
     requires { most_digits ≤ 5 }
     ensures { result ≡ number_in most_digits token.now }

@@ -19,7 +19,7 @@ fn first_len(token: &[u8], separator: u8) -> usize
 }
 
 /// The first piece, and what stands behind its separator, where it has one.
-pub fn cut(token: &[u8], separator: u8) -> (&[u8], Option<&[u8]>)
+pub(crate) fn cut(token: &[u8], separator: u8) -> (&[u8], Option<&[u8]>)
     ensures pieces { pieces separator token.now ≡ result.0.now ∷ pieces_left separator result.1 }
     ensures some_left { IfSome result.1 (λ left. 0 < length (pieces separator left.now)) }
     ensures shorter { IfSome result.1 (λ left. length left.now < length token.now) }

@@ -79,7 +79,7 @@ fn net_of(token: &[u8]) -> Option<Net>
 
 /// The addresses of one side.
 #[tactic(auto, unfolding(crate::specs::ReadingClasses::place_in))]
-pub fn place_of(token: &[u8]) -> Option<Place>
+pub(crate) fn place_of(token: &[u8]) -> Option<Place>
     ensures { result ≡ place_in token.now }
 {
     if token == b"any".as_slice() {

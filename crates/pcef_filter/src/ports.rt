@@ -48,7 +48,7 @@ fn range_of(piece: &[u8]) -> Option<PortRange>
 
 /// The ports of one side.
 #[tactic(auto, unfolding(crate::specs::ReadingClasses::ports_in))]
-pub fn ports_of(token: &[u8]) -> Option<ArrayVec<PortRange, 8>>
+pub(crate) fn ports_of(token: &[u8]) -> Option<ArrayVec<PortRange, 8>>
     ensures { result ≡ ports_in token.now }
 {
     let mut ranges = ArrayVec::new();

@@ -59,7 +59,7 @@ impl<'a> Model for Tokens<'a> {
 
 impl<'a> Tokens<'a> {
     /// All tokens of a text.
-    pub fn new(text: &'a str) -> Self
+    pub(crate) fn new(text: &'a str) -> Self
         ensures { result ≡ tokens text.now }
     {
         Tokens {
@@ -68,7 +68,7 @@ impl<'a> Tokens<'a> {
     }
 
     /// Takes the next token.
-    pub fn next(&mut self) -> Option<&'a [u8]>
+    pub(crate) fn next(&mut self) -> Option<&'a [u8]>
         ensures { MatchOption result ((self.old ≡ []) × (self.new ≡ [])) (λ token. self.old ≡ token.now ∷ self.new) }
     {
         let Some((token, rest)) = split_token(self.text) else {

@@ -79,7 +79,7 @@ fn fields(dir: Dir, octets: &[u8], header_len: usize) -> Header
 }
 
 /// The header at the front of the octets, or its first fault after the version.
-pub fn read_v4(dir: Dir, octets: &[u8]) -> Result<Header, PacketFault>
+pub(crate) fn read_v4(dir: Dir, octets: &[u8]) -> Result<Header, PacketFault>
     ensures { result ≡ first_of (faults_v4 octets.now) (header_v4 dir octets.now) }
 {
     if octets.len() < LEAST_HEADER_LEN {

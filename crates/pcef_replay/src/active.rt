@@ -31,14 +31,14 @@ impl<'a> ActiveRule<'a> {
 }
 
 /// Whether a rule has this name.
-pub fn is_named(name: &RuleName, rule: ActiveRule<'_>) -> bool
+pub(crate) fn is_named(name: &RuleName, rule: ActiveRule<'_>) -> bool
     ensures { result ≡ is_named name.now (active_of rule.entry) }
 {
     is_same_name(&rule.properties().name, name)
 }
 
 /// Whether a key is this one.
-pub fn is_key(key: &KeyName, other: &Option<KeyName>) -> bool
+pub(crate) fn is_key(key: &KeyName, other: &Option<KeyName>) -> bool
     ensures { result ≡ is_key key.now other.now }
 {
     match other {
@@ -48,7 +48,7 @@ pub fn is_key(key: &KeyName, other: &Option<KeyName>) -> bool
 }
 
 /// Whether one of the rules has this key.
-pub fn has_key(key: &KeyName, rules: &[ActiveRule<'_>]) -> bool
+pub(crate) fn has_key(key: &KeyName, rules: &[ActiveRule<'_>]) -> bool
     ensures { result ≡ has_key key.now (rules_in rules.now) }
 {
     for rule in rules {
@@ -60,7 +60,7 @@ pub fn has_key(key: &KeyName, rules: &[ActiveRule<'_>]) -> bool
 }
 
 /// The same rules.
-pub fn copy_rules<'a>(
+pub(crate) fn copy_rules<'a>(
     alloc: Global,
     rules: &[ActiveRule<'a>],
 ) -> Result<Vec<ActiveRule<'a>>, AllocError>
@@ -74,7 +74,7 @@ pub fn copy_rules<'a>(
 }
 
 /// The rules without the one of this name.
-pub fn without<'a>(
+pub(crate) fn without<'a>(
     alloc: Global,
     name: &RuleName,
     rules: &[ActiveRule<'a>],
@@ -90,7 +90,7 @@ pub fn without<'a>(
 }
 
 /// Adds a rule that stays.
-pub fn keep<'a>(
+pub(crate) fn keep<'a>(
     kept: &mut Vec<ActiveRule<'a>>,
     rule: ActiveRule<'a>,
     stays: bool,
@@ -104,7 +104,7 @@ pub fn keep<'a>(
 }
 
 /// The rules with this one, in the place of the one of its name where there is one.
-pub fn put<'a>(
+pub(crate) fn put<'a>(
     alloc: Global,
     new: ActiveRule<'a>,
     rules: &[ActiveRule<'a>],

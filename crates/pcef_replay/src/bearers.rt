@@ -54,7 +54,7 @@ impl Bearers {
     }
 
     /// The ids of the pairs of rules.
-    pub fn bind(
+    pub(crate) fn bind(
         &self,
         alloc: Global,
         setting: &Setting,
@@ -72,7 +72,7 @@ impl Bearers {
     }
 
     /// The ids of those of the new rules' pairs that had a bearer under the old rules.
-    pub fn kept_ids(
+    pub(crate) fn kept_ids(
         &self,
         alloc: Global,
         setting: &Setting,
@@ -104,7 +104,7 @@ fn has_rule(rules: &[ActiveRule<'_>], qos: &Qos) -> bool
 }
 
 /// Whether a pair has a bearer under these rules.
-pub fn has_bearer(setting: &Setting, rules: &[ActiveRule<'_>], qos: &Qos) -> bool
+pub(crate) fn has_bearer(setting: &Setting, rules: &[ActiveRule<'_>], qos: &Qos) -> bool
     ensures { result ≡ has_bearer setting.now (rules_in rules.now) qos.now }
 {
     is_same_qos(qos, setting.default_qos()) || has_rule(rules, qos)
@@ -128,7 +128,7 @@ fn first_free(ids: &[u8], used: &[u8]) -> Option<u8>
 }
 
 /// The least id that isn't in use, or 0 where there is none.
-pub fn least_free(setting: &Setting, used: &[u8]) -> u8
+pub(crate) fn least_free(setting: &Setting, used: &[u8]) -> u8
     ensures { result ≡ least_free setting.now used.now }
 {
     match first_free(setting.other_ids(), used) {

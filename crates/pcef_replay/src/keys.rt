@@ -14,14 +14,14 @@ use pcef_table::Offer;
 use std::alloc::{AllocError, Global};
 
 /// Whether a key is among others.
-pub fn is_among(key: &KeyName, keys: &[KeyName]) -> bool
+pub(crate) fn is_among(key: &KeyName, keys: &[KeyName]) -> bool
     ensures { result ≡ is_among key.now keys.now }
 {
     keys.iter().any(|other| is_same_name(key, other))
 }
 
 /// Adds a key that isn't there yet.
-pub fn add_key(key: &KeyName, keys: &mut Vec<KeyName>) -> Result<(), AllocError>
+pub(crate) fn add_key(key: &KeyName, keys: &mut Vec<KeyName>) -> Result<(), AllocError>
     ensures { OnOk result (keys.new.items ≡ add_key key.now keys.old.items) }
 {
     if is_among(key, keys) {

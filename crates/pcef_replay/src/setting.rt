@@ -43,7 +43,7 @@ impl Model for Setting {
 }
 
 /// Whether two names are the same.
-pub fn is_same_name<K>(a: &Name<K>, b: &Name<K>) -> bool
+pub(crate) fn is_same_name<K>(a: &Name<K>, b: &Name<K>) -> bool
     ensures { result ≡ same_name a.now b.now }
 {
     a == b
@@ -56,7 +56,7 @@ fn is_same_flag(a: bool, b: bool) -> bool
 }
 
 /// Whether two pairs of QCI and ARP are the same.
-pub fn is_same_qos(a: &Qos, b: &Qos) -> bool
+pub(crate) fn is_same_qos(a: &Qos, b: &Qos) -> bool
     ensures { result ≡ same_qos a.now b.now }
 {
     a.qci.0 == b.qci.0

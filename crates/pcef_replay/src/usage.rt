@@ -140,7 +140,7 @@ pub fn grant(entries: &[Entry], key: &KeyName) -> Option<u64>
 }
 
 /// Whether a command makes a new generation.
-pub fn is_table(command: &Command) -> bool
+pub(crate) fn is_table(command: &Command) -> bool
     ensures { result ≡ is_table command.now }
 {
     match command {
@@ -159,7 +159,7 @@ pub fn is_table(command: &Command) -> bool
 }
 
 /// Whether an entry makes a new generation.
-pub fn makes_generation(entry: &Entry) -> bool
+pub(crate) fn makes_generation(entry: &Entry) -> bool
     ensures { (j : Journal) → gen (entry.now ∷ j) ≡ (if result then 1 else 0) + gen j }
 {
     match entry {

@@ -16,7 +16,11 @@ pub struct Bearers {
 
 impl Bearers {
     /// The default bearer, with nothing bound to it. Its QCI has to be known and non-GBR.
-    pub fn new(default_qos: Qos, capacity: Sums, qcis: &QciTable) -> Result<Bearers, OpenFault> {
+    pub(crate) fn new(
+        default_qos: Qos,
+        capacity: Sums,
+        qcis: &QciTable,
+    ) -> Result<Bearers, OpenFault> {
         match qcis.kind_of(default_qos.qci) {
             None => Err(OpenFault::UnknownQci),
             Some(Kind::Gbr) => Err(OpenFault::DefaultIsGbr),
@@ -29,7 +33,12 @@ impl Bearers {
     }
 
     /// Why a rule with this QoS and these rates can't be bound.
-    pub fn refusal(&self, qos: Qos, rates: Option<Rates>, qcis: &QciTable) -> Option<Refusal> {
+    pub(crate) fn refusal(
+        &self,
+        qos: Qos,
+        rates: Option<Rates>,
+        qcis: &QciTable,
+    ) -> Option<Refusal> {
         match (qcis.kind_of(qos.qci), rates) {
             (None, _) => return Some(Refusal::UnknownQci),
             (Some(Kind::Gbr), None) => return Some(Refusal::RatesMissing),
@@ -53,7 +62,7 @@ impl Bearers {
     }
 
     /// Binds a rule that isn't refused.
-    pub fn bind(&mut self) -> BearerId {
+    pub(crate) fn bind(&mut self) -> BearerId {
         self.rules = self.rules.saturating_add(1);
         DEFAULT_BEARER
     }

@@ -10,7 +10,7 @@ use pcef_journal::{Entry, Journal};
 use std::alloc::{AllocError, Global};
 
 /// The verdicts of rows.
-pub fn note_rows(alloc: Global, items: &[Item]) -> Result<Vec<Judged>, AllocError> {
+pub(crate) fn note_rows(alloc: Global, items: &[Item]) -> Result<Vec<Judged>, AllocError> {
     let mut judged = Vec::with_capacity(alloc, items.len())?;
     for item in items {
         judged.push(Judged {
@@ -22,7 +22,7 @@ pub fn note_rows(alloc: Global, items: &[Item]) -> Result<Vec<Judged>, AllocErro
 }
 
 /// Adds rows to the journal and counts their octets. Takes no memory.
-pub fn take_rows(journal: &mut Journal, usage: &mut Usage, items: &[Item])
+pub(crate) fn take_rows(journal: &mut Journal, usage: &mut Usage, items: &[Item])
     requires { length items.now ≤ journal.old.room }
     ensures commands { commands journal.new.entries ≡ commands journal.old.entries }
 {

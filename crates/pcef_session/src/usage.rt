@@ -43,7 +43,7 @@ impl Model for Usage {
 
 impl Usage {
     /// No key has a slot, and there is memory for all, or want of it.
-    pub fn new(alloc: Global) -> Result<Usage, AllocError> {
+    pub(crate) fn new(alloc: Global) -> Result<Usage, AllocError> {
         Ok(Usage {
             states: Vec::with_capacity(alloc, MAX_KEYS)?,
         })
@@ -58,7 +58,7 @@ impl Usage {
     }
 
     /// The slot of a key, where it has one.
-    pub fn slot_of(&self, key: &KeyName) -> Option<Slot>
+    pub(crate) fn slot_of(&self, key: &KeyName) -> Option<Slot>
         ensures { IfSome result (λ s. s.0 < length self.now) }
     {
         for (place, state) in self.states.iter().enumerate() {
@@ -70,12 +70,12 @@ impl Usage {
     }
 
     /// Whether a key has no slot, and there is none left.
-    pub fn lacks_slot(&self, key: &KeyName) -> bool {
+    pub(crate) fn lacks_slot(&self, key: &KeyName) -> bool {
         self.states.len() >= MAX_KEYS && self.slot_of(key).is_none()
     }
 
     /// The slot of a key, which gets one where it has none. Without a free slot nothing changes.
-    pub fn slot(&mut self, key: &KeyName) -> Option<Slot> {
+    pub(crate) fn slot(&mut self, key: &KeyName) -> Option<Slot> {
         if let Some(slot) = self.slot_of(key) {
             return Some(slot);
         }
@@ -94,7 +94,7 @@ impl Usage {
     }
 
     /// Switches a key on and sets its grant.
-    pub fn start(&mut self, slot: Slot, grant: u64) {
+    pub(crate) fn start(&mut self, slot: Slot, grant: u64) {
         if let Some(state) = self.states.get_mut(usize::from(slot.0)) {
             state.on = true;
             state.grant = Some(grant);
@@ -102,7 +102,7 @@ impl Usage {
     }
 
     /// Counts octets for a key.
-    pub fn count(&mut self, slot: Slot, octets: u32) {
+    pub(crate) fn count(&mut self, slot: Slot, octets: u32) {
         if let Some(state) = self.states.get_mut(usize::from(slot.0)) {
             state.unreported = state.unreported.saturating_add(u64::from(octets));
         }

@@ -45,7 +45,7 @@ impl Worker {
     }
 
     /// Judges a packet, lets it wait, and gives how many wait then.
-    pub fn take<C: Offers>(
+    pub(crate) fn take<C: Offers>(
         &mut self,
         catalog: &C,
         ue: Addr,
@@ -63,7 +63,7 @@ impl Worker {
     }
 
     /// Hands the waiting rows over to the session. A refusal keeps them.
-    pub fn flush(&mut self, session: &mut SessionState) -> Result<Verdicts, FlushRefusal>
+    pub(crate) fn flush(&mut self, session: &mut SessionState) -> Result<Verdicts, FlushRefusal>
         ensures table { self.new.table ≡ self.old.table }
         ensures offers { session.new.offers ≡ session.old.offers }
     {

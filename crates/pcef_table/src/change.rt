@@ -42,7 +42,7 @@ fn keep(kept: &mut Vec<Entry>, entry: &Entry, stays: bool) -> Result<(), AllocEr
 }
 
 /// Copies of the entries without the one of this name.
-pub fn copy_without<C: Offers>(
+pub(crate) fn copy_without<C: Offers>(
     alloc: Global,
     catalog: &C,
     entries: &[Entry],
@@ -79,7 +79,7 @@ fn copy_side<C: Offers>(
 }
 
 /// Copies of the entries, with x in its place and in the place of the one of its name.
-pub fn copy_with<C: Offers>(
+pub(crate) fn copy_with<C: Offers>(
     alloc: Global,
     catalog: &C,
     entries: &[Entry],
@@ -110,7 +110,7 @@ fn copy_counting_one(entry: &Entry, slot: Slot, on: bool) -> Result<Entry, Alloc
 }
 
 /// Copies of all entries, where a slot is counted or not.
-pub fn copy_counting(
+pub(crate) fn copy_counting(
     alloc: Global,
     entries: &[Entry],
     slot: Slot,

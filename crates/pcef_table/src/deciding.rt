@@ -13,14 +13,14 @@ use pcef_packet::{Addr, Dir, Header};
 use pcef_rule::{BearerId, Properties, RuleName, Slot};
 
 /// Whether the address on the user equipment's side is the session's.
-pub fn is_own(header: &Header, ue: Addr) -> bool
+pub(crate) fn is_own(header: &Header, ue: Addr) -> bool
     ensures { result ≡ same_addr (ue_side header.now) ue }
 {
     header.ue_side() == ue
 }
 
 /// The first entry that fits.
-pub fn first_fitting<'a, C: Offers>(
+pub(crate) fn first_fitting<'a, C: Offers>(
     catalog: &C,
     entries: &'a [Entry],
     ue: Addr,
@@ -39,7 +39,7 @@ pub fn first_fitting<'a, C: Offers>(
 }
 
 /// What the gate of a rule on this bearer decides of a packet of this direction.
-pub fn gate_verdict(properties: &Properties, bearer: BearerId, dir: Dir) -> Verdict
+pub(crate) fn gate_verdict(properties: &Properties, bearer: BearerId, dir: Dir) -> Verdict
     ensures { result ≡ gate_verdict properties.now bearer dir }
 {
     let rule = properties.name.copy();
@@ -58,7 +58,7 @@ fn counted_slot(entry: &Entry) -> Option<Slot>
 }
 
 /// The slot of the entry of a name, where it is counted.
-pub fn slot_of<C: Offers>(catalog: &C, entries: &[Entry], name: &RuleName) -> Option<Slot>
+pub(crate) fn slot_of<C: Offers>(catalog: &C, entries: &[Entry], name: &RuleName) -> Option<Slot>
     requires { All (λ e. IsKnown (C.offers catalog.now) e.source) entries.now }
     ensures { result ≡ option_map_or counted_slot (find (λ e. is_named (C.offers catalog.now) name.now e.source) entries.now) None }
 {

@@ -15,7 +15,7 @@ use std::cmp::Ordering;
 
 impl Source {
     /// Where the rule comes from.
-    pub fn origin(&self) -> Origin
+    pub(crate) fn origin(&self) -> Origin
         ensures { result ≡ origin_of self.now }
     {
         match self {
@@ -38,7 +38,7 @@ impl Source {
     }
 
     /// Whether the rule has this name.
-    pub fn is_named<C: Offers>(&self, catalog: &C, name: &RuleName) -> bool
+    pub(crate) fn is_named<C: Offers>(&self, catalog: &C, name: &RuleName) -> bool
         requires { IsKnown (C.offers catalog.now) self.now }
         ensures { result ≡ is_named (C.offers catalog.now) name.now self.now }
     {
@@ -46,7 +46,7 @@ impl Source {
     }
 
     /// Whether the rule fits a packet.
-    pub fn fits<C: Offers>(&self, catalog: &C, ue: Addr, header: &Header) -> bool
+    pub(crate) fn fits<C: Offers>(&self, catalog: &C, ue: Addr, header: &Header) -> bool
         requires { IsKnown (C.offers catalog.now) self.now }
         ensures { result ≡ fits (C.offers catalog.now) ue header.now self.now }
     {
@@ -57,7 +57,7 @@ impl Source {
     }
 
     /// How two rules stand to each other: the one that goes first is less.
-    pub fn compare<C: Offers>(&self, catalog: &C, other: &Source) -> Ordering
+    pub(crate) fn compare<C: Offers>(&self, catalog: &C, other: &Source) -> Ordering
         requires known { IsKnown (C.offers catalog.now) self.now }
         requires other_known { IsKnown (C.offers catalog.now) other.now }
         ensures { result ≡ rank_cmp (rank_of (C.offers catalog.now) self.now) (rank_of (C.offers catalog.now) other.now) }

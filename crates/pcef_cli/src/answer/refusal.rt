@@ -5,17 +5,17 @@ use serde_json::json;
 use std::alloc::{AllocError, Global};
 
 /// A refusal by its name and number.
-pub fn refused_answer(alloc: Global, name: &str, number: u8) -> Result<String, AllocError> {
+pub(crate) fn refused_answer(alloc: Global, name: &str, number: u8) -> Result<String, AllocError> {
     json!(in alloc; { "name": name, "refused": number })?.to_string(alloc)
 }
 
 /// A step of a worker that isn't attached.
-pub fn no_worker_answer(alloc: Global) -> Result<String, AllocError> {
+pub(crate) fn no_worker_answer(alloc: Global) -> Result<String, AllocError> {
     refused_answer(alloc, "NoWorker", 0)
 }
 
 /// A refused command.
-pub fn refusal_answer(alloc: Global, refusal: Refusal) -> Result<String, AllocError> {
+pub(crate) fn refusal_answer(alloc: Global, refusal: Refusal) -> Result<String, AllocError> {
     let (name, number) = name_of_refusal(refusal);
     match refusal {
         Refusal::WorkersAttached(count) => {
@@ -26,7 +26,7 @@ pub fn refusal_answer(alloc: Global, refusal: Refusal) -> Result<String, AllocEr
 }
 
 /// A refused `attach`.
-pub fn attach_fault_answer(alloc: Global, fault: AttachFault) -> Result<String, AllocError> {
+pub(crate) fn attach_fault_answer(alloc: Global, fault: AttachFault) -> Result<String, AllocError> {
     match fault {
         AttachFault::NoPlace => refused_answer(alloc, "NoPlace", 1),
         AttachFault::Closed => refused_answer(alloc, "Closed", 2),
@@ -35,7 +35,10 @@ pub fn attach_fault_answer(alloc: Global, fault: AttachFault) -> Result<String, 
 }
 
 /// A refused `flush`.
-pub fn flush_refusal_answer(alloc: Global, refusal: FlushRefusal) -> Result<String, AllocError> {
+pub(crate) fn flush_refusal_answer(
+    alloc: Global,
+    refusal: FlushRefusal,
+) -> Result<String, AllocError> {
     match refusal {
         FlushRefusal::NotAttached => refused_answer(alloc, "NotAttached", 1),
         FlushRefusal::RowsFull => refused_answer(alloc, "RowsFull", 2),

@@ -45,7 +45,7 @@ fn report_value(alloc: Global, report: &Report) -> Result<Value, AllocError> {
 }
 
 /// The reports of a journal from a number on, up to another one.
-pub fn report_list(
+pub(crate) fn report_list(
     alloc: Global,
     journal: &Journal,
     first: u64,

@@ -82,7 +82,7 @@ fn rule_is_known(rule: &Value) -> bool
 
 /// Whether a line with this word, and each object in it that stands where an object belongs, has only
 /// fields that it may have.
-pub fn is_known(word: Word, line: &Value) -> bool
+pub(crate) fn is_known(word: Word, line: &Value) -> bool
     ensures { result ≡ is_known word (view line.now) }
 {
     has_only(word.fields(), line)

@@ -157,7 +157,7 @@ fn made(alloc: Global, properties: Properties, filters: &[Filter]) -> Result<Rul
 
 /// The rule that an object is.
 #[tactic(auto, unfolding(crate::specs::LineRules::rule_at))]
-pub fn rule(alloc: Global, object: &Value) -> Result<Rule, LineFault>
+pub(crate) fn rule(alloc: Global, object: &Value) -> Result<Rule, LineFault>
     ensures { Gives (λ r. r) result (rule_at (view object.now)) }
 {
     let name = name_field(object, Field::Name)?;

@@ -16,7 +16,7 @@ use std::alloc::Global;
 
 /// The value of a field. A fault names `told`: the field itself, or that of the object it stands in.
 #[tactic(auto, unfolding(crate::specs::LineValues::member_at))]
-pub fn member(object: &Value, field: Field, told: Field) -> Result<&Value, LineFault>
+pub(crate) fn member(object: &Value, field: Field, told: Field) -> Result<&Value, LineFault>
     ensures { Gives (λ v. view v.now) result (member_at field told (view object.now)) }
 {
     match object.get(field.text()) {
@@ -27,7 +27,7 @@ pub fn member(object: &Value, field: Field, told: Field) -> Result<&Value, LineF
 
 /// A field's object.
 #[tactic(auto, unfolding(crate::specs::LineValues::object_at))]
-pub fn object_field(object: &Value, field: Field) -> Result<&Value, LineFault>
+pub(crate) fn object_field(object: &Value, field: Field) -> Result<&Value, LineFault>
     ensures { Gives (λ v. view v.now) result (object_at field (view object.now)) }
 {
     let value = member(object, field, field)?;
@@ -39,7 +39,7 @@ pub fn object_field(object: &Value, field: Field) -> Result<&Value, LineFault>
 
 /// A field's list.
 #[tactic(auto, unfolding(crate::specs::LineValues::list_at))]
-pub fn list_field(object: &Value, field: Field) -> Result<&[Value], LineFault>
+pub(crate) fn list_field(object: &Value, field: Field) -> Result<&[Value], LineFault>
     ensures { Gives (λ vs. items_view vs.now) result (list_at field (view object.now)) }
 {
     match member(object, field, field)?.as_array() {
@@ -50,7 +50,7 @@ pub fn list_field(object: &Value, field: Field) -> Result<&[Value], LineFault>
 
 /// A field's text.
 #[tactic(auto, unfolding(crate::specs::LineValues::text_at))]
-pub fn text_field(object: &Value, field: Field, told: Field) -> Result<&str, LineFault>
+pub(crate) fn text_field(object: &Value, field: Field, told: Field) -> Result<&str, LineFault>
     ensures { Gives (λ t. t.now) result (text_at field told (view object.now)) }
 {
     match member(object, field, told)?.as_str() {
@@ -61,7 +61,7 @@ pub fn text_field(object: &Value, field: Field, told: Field) -> Result<&str, Lin
 
 /// A field's whole number, from `least` to `most`.
 #[tactic(auto, unfolding(crate::specs::LineValues::number_at))]
-pub fn number_field(
+pub(crate) fn number_field(
     object: &Value,
     field: Field,
     told: Field,
@@ -80,7 +80,7 @@ pub fn number_field(
 
 /// A field's truth value.
 #[tactic(auto, unfolding(crate::specs::LineValues::flag_at))]
-pub fn flag_field(object: &Value, field: Field, told: Field) -> Result<bool, LineFault>
+pub(crate) fn flag_field(object: &Value, field: Field, told: Field) -> Result<bool, LineFault>
     ensures { Gives (λ b. b) result (flag_at field told (view object.now)) }
 {
     match member(object, field, told)?.as_bool() {
@@ -100,7 +100,7 @@ fn name_of<K>(text: &str, field: Field) -> Result<Name<K>, LineFault>
 
 /// A field's name.
 #[tactic(auto, unfolding(crate::specs::LineValues::name_at))]
-pub fn name_field<K>(object: &Value, field: Field) -> Result<Name<K>, LineFault>
+pub(crate) fn name_field<K>(object: &Value, field: Field) -> Result<Name<K>, LineFault>
     ensures { Gives (λ n. n) result (name_at field (view object.now)) }
 {
     name_of(text_field(object, field, field)?, field)
@@ -108,7 +108,7 @@ pub fn name_field<K>(object: &Value, field: Field) -> Result<Name<K>, LineFault>
 
 /// A field's direction.
 #[tactic(auto, unfolding(crate::specs::LineValues::dir_at))]
-pub fn dir_field(object: &Value, field: Field) -> Result<Dir, LineFault>
+pub(crate) fn dir_field(object: &Value, field: Field) -> Result<Dir, LineFault>
     ensures { Gives (λ d. d) result (dir_at field (view object.now)) }
 {
     match text_field(object, field, field)? {
@@ -132,7 +132,7 @@ fn octets_field(alloc: Global, object: &Value, field: Field) -> Result<Vec<u8>, 
 
 /// The header of a field's packet.
 #[tactic(auto, unfolding(crate::specs::LineValues::packet_at))]
-pub fn packet_field(
+pub(crate) fn packet_field(
     alloc: Global,
     object: &Value,
     field: Field,

@@ -18,7 +18,7 @@ pub enum Word {
 
 impl Word {
     /// The word that a text is.
-    pub fn from_text(text: &str) -> Option<Word>
+    pub(crate) fn from_text(text: &str) -> Option<Word>
         ensures { result ≡ word_of text.now }
     {
         match text {
@@ -33,7 +33,7 @@ impl Word {
     }
 
     /// The fields that a line with this word may have.
-    pub fn fields(self) -> &'static [Field]
+    pub(crate) fn fields(self) -> &'static [Field]
         ensures { result.now ≡ fields_of self }
     {
         match self {

@@ -36,7 +36,7 @@ fn cut_at_dot(text: &str) -> Option<(&str, &str)>
 
 /// The address that four numbers from 0 to 255 joined by dots write.
 #[tactic(auto, unfolding(crate::specs::DottedDecimal::address_of))]
-pub fn address(text: &str) -> Option<Addr>
+pub(crate) fn address(text: &str) -> Option<Addr>
     ensures { result ≡ address_of text.now }
 {
     let (first, rest) = cut_at_dot(text)?;

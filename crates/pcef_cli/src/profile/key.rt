@@ -21,7 +21,7 @@ pub enum Key {
 
 impl Key {
     /// The key, as it stands in a profile.
-    pub fn text(self) -> &'static str
+    pub(crate) fn text(self) -> &'static str
         ensures { result.now ≡ key_text self }
     {
         match self {

@@ -22,7 +22,7 @@ const OF_DEFAULT: &[Key] = &[Key::Qci, Key::Level, Key::Capability, Key::Vulnera
 const OF_CAPACITY: &[Key] = &[Key::Up, Key::Down];
 
 /// The value of a key.
-pub fn entry(table: &Table, key: Key) -> Option<&Value>
+pub(crate) fn entry(table: &Table, key: Key) -> Option<&Value>
     ensures { option_map (λ v. view v.now) result ≡ get_member (key_text key) (table_view table.now) }
 {
     table.get(key.text())
@@ -54,7 +54,7 @@ fn keys_are_there(keys: &[Key], table: &Table) -> bool
 }
 
 /// Whether the profile and the tables in it have only keys that they may have.
-pub fn is_known(table: &Table) -> bool
+pub(crate) fn is_known(table: &Table) -> bool
     ensures { result ≡ is_known (table_view table.now) }
 {
     keys_are_known(OF_PROFILE, table)
@@ -63,7 +63,7 @@ pub fn is_known(table: &Table) -> bool
 }
 
 /// Whether the profile and the tables in it have all keys that they must have.
-pub fn is_whole(table: &Table) -> bool
+pub(crate) fn is_whole(table: &Table) -> bool
     ensures { result ≡ is_whole (table_view table.now) }
 {
     keys_are_there(OF_PROFILE, table)

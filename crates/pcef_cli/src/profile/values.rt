@@ -25,7 +25,12 @@ fn value_at(table: &Table, key: Key) -> Result<&Value, ReadProfileFault>
 
 /// A key's integer, from `least` to `most`.
 #[tactic(auto, unfolding(crate::specs::ProfileValues::number_at))]
-pub fn number_at(table: &Table, key: Key, least: u64, most: u64) -> Result<u64, ReadProfileFault>
+pub(crate) fn number_at(
+    table: &Table,
+    key: Key,
+    least: u64,
+    most: u64,
+) -> Result<u64, ReadProfileFault>
     ensures exact { Gives (λ n. n) result (number_at key least most (table_view table.now)) }
     ensures least { IfOk result (λ n. least ≤ n) }
     ensures most { IfOk result (λ n. n ≤ most) }
@@ -75,7 +80,7 @@ fn text_at(table: &Table, key: Key) -> Result<&str, ReadProfileFault>
 
 /// A key's address.
 #[tactic(auto, unfolding(crate::specs::ProfileValues::address_at))]
-pub fn address_at(table: &Table, key: Key) -> Result<Addr, ReadProfileFault>
+pub(crate) fn address_at(table: &Table, key: Key) -> Result<Addr, ReadProfileFault>
     ensures { Gives (λ a. a) result (address_at key (table_view table.now)) }
 {
     match address(text_at(table, key)?) {
@@ -86,7 +91,7 @@ pub fn address_at(table: &Table, key: Key) -> Result<Addr, ReadProfileFault>
 
 /// QCI and ARP of the default bearer.
 #[tactic(auto, unfolding(crate::specs::ProfileValues::qos_at))]
-pub fn qos_at(table: &Table, key: Key) -> Result<Qos, ReadProfileFault>
+pub(crate) fn qos_at(table: &Table, key: Key) -> Result<Qos, ReadProfileFault>
     ensures { Gives (λ q. q) result (qos_at key (table_view table.now)) }
 {
     let inner = table_at(table, key)?;
@@ -102,7 +107,7 @@ pub fn qos_at(table: &Table, key: Key) -> Result<Qos, ReadProfileFault>
 
 /// A capacity in both directions, each at most `most`.
 #[tactic(auto, unfolding(crate::specs::ProfileValues::capacity_at))]
-pub fn capacity_at(table: &Table, key: Key, most: u64) -> Result<Sums, ReadProfileFault>
+pub(crate) fn capacity_at(table: &Table, key: Key, most: u64) -> Result<Sums, ReadProfileFault>
     ensures exact { Gives (λ c. c) result (capacity_at key most (table_view table.now)) }
     ensures up { IfOk result (λ c. c.up ≤ most) }
     ensures down { IfOk result (λ c. c.down ≤ most) }

@@ -21,7 +21,7 @@ pub struct Pending {
 
 impl Pending {
     /// Nothing read yet.
-    pub fn new(alloc: Global) -> Pending {
+    pub(crate) fn new(alloc: Global) -> Pending {
         Pending {
             bytes: Vec::new(alloc),
             is_too_long: false,
@@ -30,7 +30,7 @@ impl Pending {
     }
 
     /// Takes one byte, and tells whether it ends the line.
-    pub fn take(&mut self, byte: u8) -> Result<bool, ScriptFault> {
+    pub(crate) fn take(&mut self, byte: u8) -> Result<bool, ScriptFault> {
         if self.read >= MAX_SCRIPT {
             return Err(ScriptFault::TooMuch);
         }
@@ -47,13 +47,13 @@ impl Pending {
     }
 
     /// Begins the next line.
-    pub fn clear(&mut self) {
+    pub(crate) fn clear(&mut self) {
         self.bytes.clear();
         self.is_too_long = false;
     }
 
     /// Whether the line gets no answer: it is within the limit and holds only spaces, tabs and CR.
-    pub fn is_blank(&self) -> bool {
+    pub(crate) fn is_blank(&self) -> bool {
         !self.is_too_long
             && self
                 .bytes

@@ -63,7 +63,7 @@ fn step<C: Offers>(
 }
 
 /// Does what a line asks for, and answers. A line at fault changes nothing.
-pub fn answer_line<C: Offers>(
+pub(crate) fn answer_line<C: Offers>(
     alloc: Global,
     catalog: &C,
     world: &mut WorldState,
@@ -86,6 +86,6 @@ pub fn answer_line<C: Offers>(
 }
 
 /// The answer to a line that is too long.
-pub fn answer_too_long(alloc: Global) -> Result<Answer, AllocError> {
+pub(crate) fn answer_too_long(alloc: Global) -> Result<Answer, AllocError> {
     fault(alloc, LineFault::LineTooLong)
 }

@@ -5,7 +5,7 @@ use std::io::Write;
 
 /// Writes all of some bytes. Every error of the writer ends it, an interruption too, and so does a
 /// write that takes no byte.
-pub fn put_all<W: Write>(writer: &mut W, bytes: &[u8]) -> Result<(), ScriptFault> {
+pub(crate) fn put_all<W: Write>(writer: &mut W, bytes: &[u8]) -> Result<(), ScriptFault> {
     let mut rest = bytes;
     while !rest.is_empty() {
         match writer.write(rest) {
