@@ -1,0 +1,17 @@
+-- What callers see of a journal and its counters.
+use Rattle.std.specs.Prelude.{ℕ, List}
+use Rattle.pcef_journal.specs.declared.entry.Entry.{Entry}
+use Rattle.pcef_journal.specs.declared.entry.Entry.TheVariants as entry
+use Rattle.pcef_journal.specs.Entries.{Journal}
+use Rattle.pcef_usage.specs.declared.usage.KeyState.{KeyState}
+
+-- the entries, the newest first, the counters in slot order, and how many more entries there is memory for
+pub record Counted : Type 0 where
+  pub journal : Journal
+  pub states : List KeyState
+  pub room : ℕ
+
+-- an entry that is no report
+abbrev pub IsEvent : Entry → Type 0
+IsEvent (entry.Report r) = ⊥
+IsEvent _ = Unit {0}

@@ -1,0 +1,90 @@
+-- The counters of monitoring keys, in slot order.
+use Rattle.std.specs.Prelude.{ℕ, ◌+◌, ◌<◌, ◌≤◌, ◌^◌, Bool, false, true, List, [], ◌∷◌, ◌++◌, Option, Some, None, if◌then◌else◌, map, not, ◌&&◌, nat_le, length, zero, suc}
+use Rattle.std.specs.List.{list_any, AllByRecursion}
+use Rattle.pcef_rule.specs.declared.quantity.Slot.{Slot}
+use Rattle.pcef_journal.specs.Setting.{same_name}
+use Rattle.pcef_journal.specs.Reports.{is_reached_by}
+use Rattle.pcef_usage.specs.declared.usage.KeyState.{KeyState}
+
+abbrev pub keys_of : List KeyState → List (List ℕ)
+keys_of states = map (λ s. s.key) states
+
+abbrev pub has_slot : List ℕ → List KeyState → Bool
+has_slot key states = list_any (λ s. same_name key s.key) states
+
+-- the place of a key, or past the end
+abbrev pub place_of : List ℕ → List KeyState → ℕ
+place_of key [] = 0
+place_of key (s ∷ states) = if same_name key s.key then 0 else suc (place_of key states)
+
+abbrev pub fresh : List ℕ → KeyState
+fresh key = record { key = key; on = false; grant = None; reported = 0; unreported = 0 }
+
+-- ---- one key
+abbrev pub started : ℕ → KeyState → KeyState
+started amount s = record s { on = true; grant = Some amount }
+
+abbrev pub stopped : KeyState → KeyState
+stopped s = record s { on = false; grant = None }
+
+abbrev pub ungranted : KeyState → KeyState
+ungranted s = record s { grant = None }
+
+abbrev pub added : ℕ → KeyState → KeyState
+added octets s = record s { unreported = s.unreported + octets }
+
+abbrev pub reported_on : KeyState → KeyState
+reported_on s = record s { reported = s.reported + s.unreported; unreported = 0 }
+
+-- a key that is on, with at least its grant unreported
+abbrev pub is_reached : KeyState → Bool
+is_reached s = s.on && is_reached_by s.grant s.unreported
+
+abbrev pub ungranted_if_reached : KeyState → KeyState
+ungranted_if_reached s = if is_reached s then ungranted s else s
+
+-- ---- all keys
+-- the places of the keys whose grants are reached
+abbrev pub reached_places : ℕ → List KeyState → List ℕ
+reached_places n [] = []
+reached_places n (s ∷ states) = if is_reached s then n ∷ reached_places (suc n) states else reached_places (suc n) states
+
+-- the states with the one at a place changed
+abbrev pub at_place : ℕ → (KeyState → KeyState) → List KeyState → List KeyState
+at_place n f [] = []
+at_place zero f (s ∷ states) = f s ∷ states
+at_place (suc n) f (s ∷ states) = s ∷ at_place n f states
+
+abbrev pub state_at : ℕ → List KeyState → KeyState
+state_at n [] = fresh []
+state_at zero (s ∷ states) = s
+state_at (suc n) (s ∷ states) = state_at n states
+
+-- own choice
+abbrev pub most_keys : ℕ
+most_keys = 8
+
+-- the states with a slot for this key
+abbrev pub with_slot : Option (List ℕ) → List KeyState → List KeyState
+with_slot None states = states
+with_slot (Some key) states = if has_slot key states then states else states ++ fresh key ∷ []
+
+-- a key has no slot and there is none left
+abbrev pub finds_no_slot : Option (List ℕ) → List KeyState → Bool
+finds_no_slot None states = false
+finds_no_slot (Some key) states = not (has_slot key states) && nat_le most_keys (length states)
+
+-- the states after a packet's octets are counted for the key of a slot, if there is one
+abbrev pub with_octets : Option Slot → ℕ → List KeyState → List KeyState
+with_octets None octets states = states
+with_octets (Some slot) octets states = at_place slot.0 (added octets) states
+
+-- what is counted of each key fits 64 bits
+abbrev pub AllFit : List KeyState → Type 0
+AllFit states = AllByRecursion (λ s. s.reported + s.unreported < 2 ^ 64) states
+
+-- a slot that has a key, which can count so many octets more
+abbrev pub CanCount : Option Slot → ℕ → List KeyState → Type 0
+CanCount None octets states = Unit {0}
+CanCount (Some slot) octets states =
+    (slot.0 < length states) × ((state_at slot.0 states).reported + (state_at slot.0 states).unreported + octets < 2 ^ 64)
