@@ -1,10 +1,11 @@
 //! The journal, and the counters that go with it.
 
-ghost use Rattle.std.specs.Prelude.{◌≡◌, ◌<◌, ◌≤◌, ◌+◌, [], ◌∷◌, length, false, true, IfOk, OnOk};
+ghost use Rattle.std.specs.Prelude.{◌≡◌, ◌<◌, ◌≤◌, ◌+◌, [], ◌∷◌, map, length, false, true, IfOk, OnOk, All};
 ghost use Rattle.pcef_journal.specs.Generations.{is_among};
+ghost use Rattle.pcef_journal.specs.Journals.{ends_grant, report_count};
 ghost use Rattle.pcef_usage.specs.Counted.{IsEvent};
-ghost use Rattle.pcef_usage.specs.Keys.{CanCount, at_place, finds_no_slot, keys_of, place_of, started, with_octets, with_slot};
-ghost use Rattle.pcef_usage.specs.Tellings.{KnowsAll, settled_states, settled_tellings, states_stopped, states_told, told};
+ghost use Rattle.pcef_usage.specs.Keys.{CanCount, at_place, finds_no_slot, keys_of, place_of, reported_on, started, state_at, stopped, with_octets, with_slot};
+ghost use Rattle.pcef_usage.specs.Tellings.{Knows, KnowsAll, after_stop, after_telling, body_by, settled_states, settled_tellings, states_stopped, states_told, threshold, told};
 
 use crate::usage::{KeyState, Usage};
 use pcef_journal::{Body, Cause, Entry, InactiveCause, Journal, Report, Row, Telling};
@@ -34,12 +35,22 @@ impl CountedJournal {
     pub fn new(alloc: Global) -> Result<CountedJournal, AllocError>
         ensures journal { IfOk result (λ c. c.journal ≡ []) }
         ensures states { IfOk result (λ c. c.states ≡ []) }
+    {
+        let usage = Usage::new(alloc)?;
+        Ok(CountedJournal {
+            journal: Journal::new(alloc),
+            usage,
+        })
+    }
 
     /// Takes memory for so many more entries, or answers want of it.
     pub fn reserve(&mut self, additional: usize) -> Result<(), AllocError>
         ensures journal { self.new.journal ≡ self.old.journal }
         ensures states { self.new.states ≡ self.old.states }
         ensures room { OnOk result (additional ≤ self.new.room) }
+    {
+        self.journal.reserve(additional)
+    }
 
     /// Appends an entry that is no report. Takes no memory.
     pub fn enter(&mut self, entry: Entry)
@@ -48,6 +59,9 @@ impl CountedJournal {
         ensures journal { self.new.journal ≡ entry ∷ self.old.journal }
         ensures states { self.new.states ≡ self.old.states }
         ensures room { self.old.room ≤ self.new.room + 1 }
+    {
+        self.journal.append(entry);
+    }
 
     /// Appends a packet row and counts its octets for the key of a slot. Takes no memory.
     pub fn take_row(&mut self, row: Row, slot: Option<Slot>)
@@ -56,6 +70,10 @@ impl CountedJournal {
         ensures journal { self.new.journal ≡ Entry.Row row ∷ self.old.journal }
         ensures states { self.new.states ≡ with_octets slot row.header.octets self.old.states }
         ensures room { self.old.room ≤ self.new.room + 1 }
+    {
+        self.usage.count(slot, row.header.octets);
+        self.journal.append(Entry::Row(row));
+    }
 
     /// Gives a key a slot, unless it has one. Takes no memory.
     pub fn keep_slot(&mut self, key: Option<&KeyName>)
@@ -63,6 +81,11 @@ impl CountedJournal {
         ensures journal { self.new.journal ≡ self.old.journal }
         ensures states { self.new.states ≡ with_slot key self.old.states }
         ensures room { self.new.room ≡ self.old.room }
+    {
+        if let Some(key) = key {
+            self.usage.keep_slot(key);
+        }
+    }
 
     /// Switches a key on and sets its grant.
     pub fn start(&mut self, key: &KeyName, amount: u64)
@@ -70,6 +93,9 @@ impl CountedJournal {
         ensures journal { self.new.journal ≡ self.old.journal }
         ensures states { self.new.states ≡ at_place (place_of key.now self.old.states) (started amount) self.old.states }
         ensures room { self.new.room ≡ self.old.room }
+    {
+        start_key(&mut self.usage, key, amount);
+    }
 
     /// Switches the keys off whose grants these reports will end.
     pub fn stop_all(&mut self, tellings: &[Telling])
@@ -77,6 +103,11 @@ impl CountedJournal {
         ensures journal { self.new.journal ≡ self.old.journal }
         ensures states { self.new.states ≡ states_stopped tellings.now self.old.states }
         ensures room { self.new.room ≡ self.old.room }
+    {
+        for telling in tellings {
+            self.stop_if(telling);
+        }
+    }
 
     /// Appends these reports in order, with their numbers and octets. Takes no memory.
     pub fn tell_all(&mut self, tellings: &[Telling])
@@ -85,6 +116,11 @@ impl CountedJournal {
         ensures journal { self.new.journal ≡ told tellings.now self.old.states self.old.journal }
         ensures states { self.new.states ≡ states_told tellings.now self.old.states }
         ensures room { self.old.room ≤ self.new.room + length tellings.now }
+    {
+        for telling in tellings {
+            self.tell(telling);
+        }
+    }
 
     /// At the end of an event, while usage reports are subscribed, appends the reports of the grants that
     /// are reached, and takes those grants. Takes no memory.
@@ -93,12 +129,119 @@ impl CountedJournal {
         ensures journal { self.new.journal ≡ told (settled_tellings subscribed self.old.states) (settled_states subscribed self.old.states) self.old.journal }
         ensures states { self.new.states ≡ states_told (settled_tellings subscribed self.old.states) (settled_states subscribed self.old.states) }
         ensures room { self.old.room ≤ self.new.room + length self.old.states }
+    {
+        let reached = self.usage.settle(subscribed);
+        self.tell_reached(reached.as_slice());
+    }
 
     /// The journal.
     pub fn journal(&self) -> &Journal
         ensures { result.now.entries ≡ self.now.journal }
+    {
+        &self.journal
+    }
 
     /// The counters.
     pub fn usage(&self) -> &Usage
         ensures { result.now ≡ self.now.states }
+    {
+        &self.usage
+    }
+
+    fn tell(&mut self, telling: &Telling)
+        requires known { Knows (keys_of self.old.states) telling.now }
+        requires room { 0 < self.old.room }
+        ensures journal { self.new.journal ≡ Entry.Report (record { number = report_count self.old.journal; body = body_by self.old.states telling.now }) ∷ self.old.journal }
+        ensures states { self.new.states ≡ after_telling telling.now self.old.states }
+        ensures room { self.old.room ≤ self.new.room + 1 }
+    {
+        let number = self.journal.reports_len();
+        let body = fill_in(&mut self.usage, telling);
+        self.journal.append(Entry::Report(Report { number, body }));
+    }
+
+    fn tell_reached(&mut self, reached: &[Slot])
+        requires known { All (λ s. s.0 < length self.old.states) reached.now }
+        requires room { length reached.now ≤ self.old.room }
+        ensures journal { self.new.journal ≡ told (map (λ s. threshold (state_at s.0 self.old.states).key) reached.now) self.old.states self.old.journal }
+        ensures states { self.new.states ≡ states_told (map (λ s. threshold (state_at s.0 self.old.states).key) reached.now) self.old.states }
+        ensures room { self.old.room ≤ self.new.room + length reached.now }
+    {
+        for slot in reached {
+            let key = self.usage.key(*slot).copy();
+            self.tell(&Telling::Usage(key, Cause::Threshold));
+        }
+    }
+
+    fn stop_if(&mut self, telling: &Telling)
+        requires known { Knows (keys_of self.old.states) telling.now }
+        ensures journal { self.new.journal ≡ self.old.journal }
+        ensures states { self.new.states ≡ after_stop telling.now self.old.states }
+        ensures room { self.new.room ≡ self.old.room }
+    {
+        if let Telling::Usage(key, cause) = telling {
+            if ends_grant(*cause) {
+                stop_key(&mut self.usage, key);
+            }
+        }
+    }
+}
+
+fn ends_grant(cause: Cause) -> bool
+    ensures { result ≡ ends_grant cause }
+{
+    cause != Cause::Requested
+}
+
+fn fill_in(usage: &mut Usage, telling: &Telling) -> Body
+    requires { Knows (keys_of usage.old) telling.now }
+    ensures body { result ≡ body_by usage.old telling.now }
+    ensures states { usage.new ≡ after_telling telling.now usage.old }
+{
+    match telling {
+        Telling::Inactive(rule) => Body::Inactive {
+            rule: rule.copy(),
+            cause: InactiveCause::BearerLost,
+        },
+        Telling::Usage(key, cause) => Body::Usage {
+            key: key.copy(),
+            octets: take_octets(usage, key),
+            cause: *cause,
+        },
+        Telling::Access(kind, value) => Body::Access {
+            kind: *kind,
+            value: value.copy(),
+        },
+    }
+}
+
+fn take_octets(usage: &mut Usage, key: &KeyName) -> u64
+    requires { is_among key.now (keys_of usage.old) ≡ true }
+    ensures octets { result ≡ (state_at (place_of key.now usage.old) usage.old).unreported }
+    ensures states { usage.new ≡ at_place (place_of key.now usage.old) reported_on usage.old }
+{
+    match usage.find(key) {
+        Some(slot) => usage.take_report(slot),
+        None => unreachable!(),
+    }
+}
+
+fn stop_key(usage: &mut Usage, key: &KeyName)
+    requires { is_among key.now (keys_of usage.old) ≡ true }
+    ensures { usage.new ≡ at_place (place_of key.now usage.old) stopped usage.old }
+{
+    match usage.find(key) {
+        Some(slot) => usage.stop(slot),
+        None => unreachable!(),
+    }
+}
+
+fn start_key(usage: &mut Usage, key: &KeyName, amount: u64)
+    requires { is_among key.now (keys_of usage.old) ≡ true }
+    ensures { usage.new ≡ at_place (place_of key.now usage.old) (started amount) usage.old }
+{
+    match usage.find(key) {
+        Some(slot) => usage.start(slot, amount),
+        None => unreachable!(),
+    }
 }

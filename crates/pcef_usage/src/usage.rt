@@ -98,3 +98,134 @@ impl Model for Usage {
 
     ghost invariant = { λ u. (length u.states.items ≤ 8) × (8 ≤ vec_capacity u.states) × AllFit u.states.items };
 }
+
+fn note(reached: &mut ArrayVec<Slot, 8>, is_reached: bool, place: u8)
+    requires { length reached.old.items < 8 }
+    ensures slots { map (λ s. s.0) reached.new.items ≡ map (λ s. s.0) reached.old.items ++ (if is_reached then place ∷ [] else []) }
+    ensures few { length reached.new.items ≤ length reached.old.items + 1 }
+{
+    if is_reached {
+        reached.push(Slot(place));
+    }
+}
+
+impl Usage {
+    /// No key has a slot. Takes the memory for all that may come, or answers want of it.
+    pub fn new(alloc: Global) -> Result<Usage, AllocError>
+        ensures { IfOk result (λ u. u ≡ []) }
+    {
+        let states = Vec::with_capacity(alloc, MAX_KEYS)?;
+        Ok(Usage { states })
+    }
+
+    /// What is kept of each key that has a slot, in slot order.
+    pub fn states(&self) -> &[KeyState]
+        ensures states { result.now ≡ self.now }
+        ensures few { length result.now ≤ 8 }
+    {
+        self.states.as_slice()
+    }
+
+    /// The slot of a key, if it has one.
+    pub fn find(&self, key: &KeyName) -> Option<Slot>
+        ensures { MatchOption result (has_slot key.now self.now ≡ false) (λ s. (has_slot key.now self.now ≡ true) × (s.0 ≡ place_of key.now self.now)) }
+    {
+        for (place, state) in self.states().iter().enumerate() {
+            if *key == state.key {
+                return Some(Slot(place as u8));
+            }
+        }
+        None
+    }
+
+    /// Gives a key a slot, unless it has one. Takes no memory.
+    pub(crate) fn keep_slot(&mut self, key: &KeyName)
+        requires { finds_no_slot (Some key.now) self.old ≡ false }
+        ensures { self.new ≡ with_slot (Some key.now) self.old }
+    {
+        if let Some(_slot) = self.find(key) {
+            return;
+        }
+        self.states.push_reserved(KeyState {
+            key: key.copy(),
+            on: false,
+            grant: None,
+            reported: 0,
+            unreported: 0,
+        });
+    }
+
+    /// Switches a key on and sets its grant.
+    pub(crate) fn start(&mut self, slot: Slot, amount: u64)
+        requires { slot.0 < length self.old }
+        ensures { self.new ≡ at_place slot.0 (started amount) self.old }
+    {
+        let states = self.states.as_mut_slice();
+        states[slot.0 as usize].start(amount);
+    }
+
+    /// Switches a key off and takes its grant.
+    pub(crate) fn stop(&mut self, slot: Slot)
+        requires { slot.0 < length self.old }
+        ensures { self.new ≡ at_place slot.0 stopped self.old }
+    {
+        let states = self.states.as_mut_slice();
+        states[slot.0 as usize].stop();
+    }
+
+    /// Counts octets for the key of a slot, where there is one.
+    pub(crate) fn count(&mut self, slot: Option<Slot>, octets: u32)
+        requires { CanCount slot octets self.old }
+        ensures { self.new ≡ with_octets slot octets self.old }
+    {
+        if let Some(slot) = slot {
+            self.add(slot, octets);
+        }
+    }
+
+    fn add(&mut self, slot: Slot, octets: u32)
+        requires known { slot.0 < length self.old }
+        requires fits { (state_at slot.0 self.old).reported + (state_at slot.0 self.old).unreported + octets < 2 ^ 64 }
+        ensures { self.new ≡ at_place slot.0 (added octets) self.old }
+    {
+        let states = self.states.as_mut_slice();
+        states[slot.0 as usize].count(octets);
+    }
+
+    /// Moves what is unreported of a key to what is reported, and answers how much that was.
+    pub(crate) fn take_report(&mut self, slot: Slot) -> u64
+        requires { slot.0 < length self.old }
+        ensures told { result ≡ (state_at slot.0 self.old).unreported }
+        ensures states { self.new ≡ at_place slot.0 reported_on self.old }
+    {
+        let states = self.states.as_mut_slice();
+        states[slot.0 as usize].report()
+    }
+
+    /// While usage reports are subscribed, the slots whose grants are reached, in order: their grants are
+    /// taken.
+    pub(crate) fn settle(&mut self, subscribed: bool) -> ArrayVec<Slot, 8>
+        ensures slots { map (λ s. s.0) result.items ≡ (if subscribed then reached_places 0 self.old else []) }
+        ensures states { self.new ≡ (if subscribed then map ungranted_if_reached self.old else self.old) }
+    {
+        let mut reached = ArrayVec::new();
+        if !subscribed {
+            return reached;
+        }
+        let mut place: u8 = 0;
+        for state in self.states.as_mut_slice().iter_mut() {
+            let is_reached = state.settle();
+            note(&mut reached, is_reached, place);
+            place += 1;
+        }
+        reached
+    }
+
+    /// The key of a slot.
+    pub(crate) fn key(&self, slot: Slot) -> &KeyName
+        requires { slot.0 < length self.now }
+        ensures { result.now ≡ (state_at slot.0 self.now).key }
+    {
+        &self.states.as_slice()[slot.0 as usize].key
+    }
+}

@@ -1,0 +1,179 @@
+-- Telling keeps the counters in agreement with the journal.
+use Rattle.std.proofs.Common.{◌≡◌, ◌≤◌, ◌<◌, ℕ, ◌+◌, ◌-◌, Bool, true, false, List, [], ◌∷◌, ◌++◌, length, refl, sym, ap, ◌∙◌, arith, if◌then◌else◌, inl, inr, zero, suc, subst, map}
+use Rattle.std.specs.Prelude.{◌⊎◌, Option, Some, None, not, ◌||◌, ◌&&◌, filter}
+use Rattle.std.specs.List.{list_any, AllByRecursion}
+use Rattle.std.proofs.lemmas.Slice.Eq.{bytes_eq-Decides}
+use Rattle.std.proofs.lemmas.Bool.{cases_Bool}
+use Rattle.pcef_journal.specs.declared.report.Cause.{Cause}
+use Rattle.pcef_journal.specs.declared.report.Cause.TheVariants.{Threshold, Requested}
+use Rattle.pcef_journal.specs.declared.report.Body.{Body}
+use Rattle.pcef_journal.specs.declared.report.Body.TheVariants as body
+use Rattle.pcef_journal.specs.declared.report.Report.{Report}
+use Rattle.pcef_journal.specs.declared.telling.Telling.{Telling}
+use Rattle.pcef_journal.specs.declared.telling.Telling.TheVariants.{Inactive, Usage, Access}
+use Rattle.pcef_journal.specs.declared.entry.Entry.TheVariants as entry
+use Rattle.pcef_journal.specs.declared.report.InactiveCause.TheVariants.{BearerLost}
+use Rattle.pcef_journal.specs.Setting.{Setting, same_name}
+use Rattle.pcef_journal.specs.Generations.{is_among}
+use Rattle.pcef_journal.specs.Entries.{Journal}
+use Rattle.pcef_journal.specs.Journals.{now, slots, grant, subscribed, reported, counted, unreported, report_count, ends_grant}
+use Rattle.pcef_journal.specs.Reports.{tell, body_of, is_reached as is_key_reached, thresholds, is_reached_by}
+use Rattle.pcef_usage.specs.declared.usage.KeyState.{KeyState}
+use Rattle.pcef_usage.specs.Keys.{keys_of, has_slot, place_of, at_place, state_at, reported_on, stopped, is_reached, ungranted, ungranted_if_reached}
+use Rattle.pcef_usage.specs.Tellings.{body_by, after_telling, told, states_told, ends, ended, Knows, KnowsAll, Distinct, Counts, AllCount, after_stop, states_stopped, reached_tellings, threshold}
+use Rattle.pcef_usage.proofs.Places.{or_no, or_rest}
+
+-- keys
+
+pub same_name_is : (a b : List ℕ) → same_name a b ≡ true → a ≡ b
+same_name_is a b same = (bytes_eq-Decides a b).0 same
+
+pub same_name_of : (a b : List ℕ) → a ≡ b → same_name a b ≡ true
+same_name_of a b is = (bytes_eq-Decides a b).1 is
+
+pub same_name_self : (a : List ℕ) → same_name a a ≡ true
+same_name_self a = same_name_of a a refl
+
+pub same_name_turned : (a b : List ℕ) → same_name a b ≡ true → same_name b a ≡ true
+same_name_turned a b same = same_name_of b a (sym (same_name_is a b same))
+
+pub same_name_not : (a b : List ℕ) → same_name a b ≡ false → same_name b a ≡ false
+same_name_not a b differs =
+    elim (cases_Bool (same_name b a)) [
+      | inl same ↦ let turned : same_name a b ≡ true = same_name_turned b a same in cc
+      | inr isnt ↦ isnt
+    ]
+
+pub has_slot_is : (k : List ℕ) (states : List KeyState) → has_slot k states ≡ is_among k (keys_of states)
+has_slot_is k [] = refl
+has_slot_is k (s ∷ states) = ap (λ b. same_name k s.key || b) (has_slot_is k states)
+
+pub keys_at_place : (f : KeyState → KeyState) (n : ℕ) (states : List KeyState) → ((s : KeyState) → (f s).key ≡ s.key) → keys_of (at_place n f states) ≡ keys_of states
+keys_at_place f n [] h = refl
+keys_at_place f zero (s ∷ states) h = ap (λ k. k ∷ keys_of states) (h s)
+keys_at_place f (suc n) (s ∷ states) h = ap (λ ks. s.key ∷ ks) (keys_at_place f n states h)
+
+pub keys_after : (t : Telling) (states : List KeyState) → keys_of (after_telling t states) ≡ keys_of states
+keys_after (Inactive n) states = refl
+keys_after (Usage k cause) states = keys_at_place reported_on (place_of k states) states (λ s. refl)
+keys_after (Access t v) states = refl
+
+-- a write at a key's place is one at each state of this key, as keys are distinct
+
+pub at_key : (f : KeyState → KeyState) (k : List ℕ) (s : KeyState) → KeyState
+at_key f k s = if same_name k s.key then f s else s
+
+not_here : (f : KeyState → KeyState) (k : List ℕ) (states : List KeyState) → is_among k (keys_of states) ≡ false → map (λ s. if same_name k s.key then f s else s) states ≡ states
+not_here f k [] h = refl
+not_here f k (s ∷ states) h =
+    let n = or_no (same_name k s.key) (is_among k (keys_of states)) h in
+    rw (n.0, not_here f k states n.1) refl
+
+pub at_place_of : (f : KeyState → KeyState) (k : List ℕ) (states : List KeyState) → Distinct (keys_of states) →
+    at_place (place_of k states) f states ≡ map (λ s. if same_name k s.key then f s else s) states
+at_place_of f k [] d = refl
+at_place_of f k (s ∷ states) d =
+    elim (cases_Bool (same_name k s.key)) [
+      | inl e ↦ let n : is_among k (keys_of states) ≡ false = ap (λ x. is_among x (keys_of states)) (same_name_is k s.key e) ∙ d.0 in
+          rw (e, not_here f k states n) refl
+      | inr e ↦ rw (e, at_place_of f k states d.1) refl
+    ]
+
+pub all_mapped : {X : Type 0} (P Q : X → Type 0) (f : X → X) (xs : List X) → ((x : X) → P x → Q (f x)) → AllByRecursion P xs → AllByRecursion Q (map f xs)
+all_mapped P Q f [] h a = tt
+all_mapped P Q f (x ∷ xs) h a = (h x a.0, all_mapped P Q f xs h a.1)
+
+pub all_same : {X : Type 0} (P Q : X → Type 0) (xs : List X) → ((x : X) → P x → Q x) → AllByRecursion P xs → AllByRecursion Q xs
+all_same P Q [] h a = tt
+all_same P Q (x ∷ xs) h a = (h x a.0, all_same P Q xs h a.1)
+
+-- one telling
+
+either : (a b : Bool) (g o : Option ℕ) → g ≡ (if a || b then None else o) → g ≡ (if b then None else if a then None else o)
+either true true g o h = h
+either true false g o h = h
+either false true g o h = h
+either false false g o h = h
+
+grant_told : (j : Journal) (n u : ℕ) (k : List ℕ) (cause : Cause) (ts : List Telling) (s : KeyState) →
+    s.grant ≡ (if ended (Usage k cause ∷ ts) s.key then None else grant j s.key) →
+    s.grant ≡ (if ended ts s.key then None else grant (entry.Report (record { number = n; body = body.Usage k u cause }) ∷ j) s.key)
+unfolding grant
+grant_told j n u k cause ts s h = either (same_name s.key k && ends_grant cause) (ended ts s.key) s.grant (grant j s.key) h
+
+hit : (p : Setting) (j : Journal) (n u : ℕ) (k : List ℕ) (cause : Cause) (ts : List Telling) (s : KeyState) → same_name k s.key ≡ true → u ≡ unreported p j k →
+    Counts p j (Usage k cause ∷ ts) s → Counts p (entry.Report (record { number = n; body = body.Usage k u cause }) ∷ j) ts (reported_on s)
+unfolding reported
+hit p j n u k cause ts s e f h =
+    let g : unreported p j k ≡ unreported p j s.key = ap (unreported p j) (same_name_is k s.key e) in record {
+      grant_is = grant_told j n u k cause ts s h.grant_is;
+      reported_is = rw (same_name_turned k s.key e) (omega (arith, h.reported_is, h.counted_is));
+      counted_is = omega (arith, h.counted_is);
+    }
+
+miss : (p : Setting) (j : Journal) (n u : ℕ) (k : List ℕ) (cause : Cause) (ts : List Telling) (s : KeyState) → same_name k s.key ≡ false →
+    Counts p j (Usage k cause ∷ ts) s → Counts p (entry.Report (record { number = n; body = body.Usage k u cause }) ∷ j) ts s
+unfolding reported
+miss p j n u k cause ts s e h = record {
+  grant_is = grant_told j n u k cause ts s h.grant_is;
+  reported_is = rw (same_name_not k s.key e) (omega (arith, h.reported_is));
+  counted_is = h.counted_is;
+}
+
+one_usage : (p : Setting) (j : Journal) (n u : ℕ) (k : List ℕ) (cause : Cause) (ts : List Telling) (s : KeyState) → u ≡ unreported p j k →
+    Counts p j (Usage k cause ∷ ts) s → Counts p (entry.Report (record { number = n; body = body.Usage k u cause }) ∷ j) ts (if same_name k s.key then reported_on s else s)
+one_usage p j n u k cause ts s f h =
+    elim (cases_Bool (same_name k s.key)) [
+      | inl e ↦ rw e (hit p j n u k cause ts s e f h)
+      | inr e ↦ rw e (miss p j n u k cause ts s e h)
+    ]
+
+pub unreported_is : (p : Setting) (j : Journal) (ts : List Telling) (k : List ℕ) (states : List KeyState) → is_among k (keys_of states) ≡ true → AllByRecursion (Counts p j ts) states →
+    (state_at (place_of k states) states).unreported ≡ unreported p j k
+unreported_is p j ts k [] h a = cc
+unreported_is p j ts k (s ∷ states) h a =
+    elim (cases_Bool (same_name k s.key)) [
+      | inl e ↦ let g : unreported p j k ≡ unreported p j s.key = ap (unreported p j) (same_name_is k s.key e) in
+          rw e (omega (arith, a.0.reported_is, a.0.counted_is))
+      | inr e ↦ rw e (unreported_is p j ts k states (or_rest (same_name k s.key) (is_among k (keys_of states)) e h) a.1)
+    ]
+
+one_told : (p : Setting) (t : Telling) (ts : List Telling) (j : Journal) (n : ℕ) (states : List KeyState) → Distinct (keys_of states) → Knows (keys_of states) t →
+    AllByRecursion (Counts p j (t ∷ ts)) states → AllByRecursion (Counts p (entry.Report (record { number = n; body = body_of p j t }) ∷ j) ts) (after_telling t states)
+unfolding grant reported
+one_told p (Inactive m) ts j n states d k a =
+    all_same (Counts p j (Inactive m ∷ ts)) (Counts p (entry.Report (record { number = n; body = body.Inactive m BearerLost }) ∷ j) ts) states
+    (λ s h. record { grant_is = h.grant_is; reported_is = omega (arith, h.reported_is); counted_is = h.counted_is }) a
+one_told p (Access t v) ts j n states d k a =
+    all_same (Counts p j (Access t v ∷ ts)) (Counts p (entry.Report (record { number = n; body = body.Access t v }) ∷ j) ts) states
+    (λ s h. record { grant_is = h.grant_is; reported_is = omega (arith, h.reported_is); counted_is = h.counted_is }) a
+one_told p (Usage k cause) ts j n states d i a =
+    subst (AllByRecursion (Counts p (entry.Report (record { number = n; body = body.Usage k (unreported p j k) cause }) ∷ j) ts)) (sym (at_place_of reported_on k states d))
+    (all_mapped (Counts p j (Usage k cause ∷ ts)) (Counts p (entry.Report (record { number = n; body = body.Usage k (unreported p j k) cause }) ∷ j) ts)
+    (λ s. if same_name k s.key then reported_on s else s) states (λ s h. one_usage p j n (unreported p j k) k cause ts s refl h) a)
+
+body_is : (p : Setting) (t : Telling) (ts : List Telling) (j : Journal) (states : List KeyState) → Knows (keys_of states) t → AllByRecursion (Counts p j (t ∷ ts)) states →
+    body_by states t ≡ body_of p j t
+body_is p (Inactive n) ts j states k a = refl
+body_is p (Usage k cause) ts j states h a = ap (λ u. body.Usage k u cause) (unreported_is p j (Usage k cause ∷ ts) k states h a)
+body_is p (Access t v) ts j states k a = refl
+
+-- all tellings
+
+pub record ToldWell (p : Setting) (ts : List Telling) (states : List KeyState) (j : Journal) : Type 0 where
+  pub journal_is : told ts states j ≡ tell p ts j
+  pub counts : AllCount p (tell p ts j) [] (states_told ts states)
+  pub keys_are : keys_of (states_told ts states) ≡ keys_of states
+
+pub told_well : (p : Setting) (ts : List Telling) (j : Journal) (states : List KeyState) → Distinct (keys_of states) → KnowsAll (keys_of states) ts → AllCount p j ts states →
+    ToldWell p ts states j
+unfolding told states_told tell KnowsAll AllCount
+told_well p [] j states d k a = record { journal_is = refl; counts = a; keys_are = refl }
+told_well p (t ∷ ts) j states d k a =
+    let e = keys_after t states in
+    let r = told_well p ts (entry.Report (record { number = report_count j; body = body_of p j t }) ∷ j) (after_telling t states) (subst Distinct (sym e) d)
+    (subst (λ keys. KnowsAll keys ts) (sym e) k.1) (one_told p t ts j (report_count j) states d k.0 a) in record {
+      journal_is = ap (λ b. told ts (after_telling t states) (entry.Report (record { number = report_count j; body = b }) ∷ j)) (body_is p t ts j states k.0 a) ∙ r.journal_is;
+      counts = r.counts;
+      keys_are = r.keys_are ∙ e;
+    }

@@ -1,0 +1,7 @@
+use Rattle.pcef_usage.specs.Keys.{started, stopped}
+use Rattle.pcef_usage.proofs.Places.{written}
+use Rattle.std.proofs.Common.{◌∙◌}
+use Rattle.pcef_usage.proofs.usage.Usage.start.Goals as goal
+
+pub returns : goal.returns
+returns c = written (started c.args.amount) _ _ _ _ _ _ _ c.self.inside.states.ok.0 c.self.view_is c.requires c.as_mut_slice-states.ensures.value c.start.ensures
