@@ -1,14 +1,13 @@
 -- The counters at a place.
-use Rattle.std.proofs.Common.{◌≡◌, ◌≤◌, ◌<◌, ℕ, ◌+◌, ◌^◌, Bool, true, false, cond, List, [], ◌∷◌, ◌++◌, length, refl, sym, ap, ◌∙◌, arith, if◌then◌else◌, inl, inr, zero, suc, subst, map, take, drop, set, get_or, append-nil, add-one, drop-cons, append_assoc}
-use Rattle.std.specs.Prelude.{◌⊎◌, Option, Some, None, not, ◌||◌}
-use Rattle.std.specs.List.{list_any, AllByRecursion, refill}
-use Rattle.std.proofs.lemmas.List.{take_all, drop_all, length-set, take_more, length_push, drop_more, get_or_at, length-map, length-take-le, get_or_default}
+use Rattle.std.proofs.Common.{◌≡◌, ◌≤◌, ◌<◌, ℕ, ◌+◌, Bool, true, false, List, [], ◌∷◌, ◌++◌, length, refl, sym, ap, ◌∙◌, arith, if◌then◌else◌, inl, inr, zero, suc, subst, map, take, drop, set, get_or, append-nil}
+use Rattle.std.specs.Prelude.{◌||◌}
+use Rattle.std.specs.List.{AllByRecursion, refill}
+use Rattle.std.proofs.lemmas.List.{take_all, drop_all, length-set, take_more, drop_more, get_or_at, length-map, length-take-le, get_or_default}
 use Rattle.std.proofs.lemmas.Bool.{cases_Bool}
-use Rattle.std.proofs.lemmas.Slice.Eq.{bytes_eq-Decides}
 use Rattle.std.proofs.lemmas.List.Edits.{map_over_more}
 use Rattle.pcef_journal.specs.Setting.{same_name}
 use Rattle.pcef_usage.specs.declared.usage.KeyState.{KeyState}
-use Rattle.pcef_usage.specs.Keys.{has_slot, place_of, at_place, state_at, AllFit, is_reached, reached_places, ungranted, ungranted_if_reached, with_slot, fresh}
+use Rattle.pcef_usage.specs.Keys.{has_slot, place_of, at_place, state_at, AllFit, is_reached, reached_places, ungranted_if_reached}
 
 -- ---- tests
 pub or_no : (a b : Bool) → (a || b) ≡ false → (a ≡ false) × (b ≡ false)
@@ -18,6 +17,10 @@ or_no false b h = (refl, h)
 pub or_rest : (a b : Bool) → a ≡ false → (a || b) ≡ true → b ≡ true
 or_rest true b e h = cc
 or_rest false b e h = h
+
+pub or_more : (a b : Bool) → b ≡ true → (a || b) ≡ true
+or_more true b h = refl
+or_more false b h = h
 
 refilled : {X : Type 0} (n : ℕ) (xs ws : List X) → n ≡ length xs → length ws ≡ length xs → refill n xs ws ≡ ws
 refilled n xs ws m e =

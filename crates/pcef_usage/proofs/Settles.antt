@@ -1,31 +1,27 @@
 -- Keys that are switched off before they are told, and the reports at the end of an event.
-use Rattle.std.proofs.Common.{◌≡◌, ◌≤◌, ◌<◌, ℕ, ◌+◌, ◌-◌, Bool, true, false, List, [], ◌∷◌, ◌++◌, length, refl, sym, ap, ◌∙◌, arith, if◌then◌else◌, inl, inr, zero, suc, subst, map}
-use Rattle.std.specs.Prelude.{◌⊎◌, Option, Some, None, not, ◌||◌, ◌&&◌, filter, All, slice_index_or}
-use Rattle.std.specs.List.{list_any, AllByRecursion}
+use Rattle.std.proofs.Common.{◌≡◌, ◌≤◌, ◌<◌, ℕ, ◌+◌, Bool, true, false, List, [], ◌∷◌, length, refl, sym, ap, ◌∙◌, arith, if◌then◌else◌, inl, inr, zero, suc, subst, map}
+use Rattle.std.specs.Prelude.{◌&&◌, filter, All}
+use Rattle.std.specs.List.{AllByRecursion}
 use Rattle.std.proofs.lemmas.Bool.{cases_Bool}
 use Rattle.pcef_journal.specs.declared.report.Cause.{Cause}
-use Rattle.pcef_journal.specs.declared.report.Cause.TheVariants.{Threshold}
 use Rattle.pcef_journal.specs.declared.telling.Telling.{Telling}
 use Rattle.pcef_journal.specs.declared.telling.Telling.TheVariants.{Inactive, Usage, Access}
 use Rattle.pcef_journal.specs.Setting.{Setting, same_name}
 use Rattle.pcef_journal.specs.Generations.{is_among}
 use Rattle.pcef_journal.specs.Entries.{Journal}
-use Rattle.pcef_journal.specs.Journals.{now, slots, grant, subscribed, reported, counted, unreported, ends_grant}
-use Rattle.pcef_journal.specs.Reports.{is_reached as is_key_reached, thresholds, is_reached_by}
+use Rattle.pcef_journal.specs.Journals.{slots, subscribed, unreported, ends_grant}
+use Rattle.pcef_journal.specs.Reports.{is_reached as is_key_reached, thresholds}
 use Rattle.pcef_usage.specs.declared.usage.KeyState.{KeyState}
 use Rattle.pcef_rule.specs.declared.quantity.Slot.{Slot}
-use Rattle.pcef_usage.specs.Keys.{keys_of, has_slot, place_of, at_place, state_at, reported_on, stopped, is_reached, reached_places, ungranted, ungranted_if_reached}
-use Rattle.pcef_usage.specs.Tellings.{ends, ended, Knows, KnowsAll, Distinct, Counts, AllCount, after_stop, states_stopped, OnIs, AllOn, reached_tellings, threshold, settled_tellings, settled_states}
-use Rattle.pcef_usage.proofs.Places.{or_no, or_rest}
-use Rattle.pcef_usage.proofs.Tells.{same_name_is, same_name_self, same_name_turned, same_name_not, at_place_of, all_mapped, all_same}
-use Rattle.pcef_usage.proofs.Loops.{keys_stopped}
+use Rattle.pcef_usage.specs.Keys.{keys_of, place_of, at_place, state_at, stopped, is_reached, reached_places, ungranted_if_reached}
+use Rattle.pcef_usage.specs.Tellings.{ends, ended, KnowsAll, Distinct, Counts, AllCount, after_stop, states_stopped, OnIs, AllOn, reached_tellings, threshold, settled_tellings, settled_states}
+use Rattle.pcef_usage.proofs.Places.{or_more, or_rest}
+use Rattle.pcef_usage.proofs.Names.{same_name_is, same_name_self, same_name_turned, same_name_not}
+use Rattle.pcef_usage.proofs.Tells.{at_place_of, all_mapped}
+use Rattle.pcef_usage.proofs.Loops.{keys_stopped, threshold_at}
 use Rattle.std.proofs.lemmas.List.{length-map}
 
 -- a stop at each telling is one at each key that is ended
-
-or_more : (a b : Bool) → b ≡ true → (a || b) ≡ true
-or_more true b h = refl
-or_more false b h = h
 
 map_twice : (f g h : KeyState → KeyState) (xs : List KeyState) → ((x : KeyState) → f (g x) ≡ h x) → map f (map g xs) ≡ map h xs
 map_twice f g h [] e = refl
@@ -57,13 +53,15 @@ stop_is (Inactive n) states d = sym (map_same states (stopped_if (λ l. ends l (
 stop_is (Access a v) states d = sym (map_same states (stopped_if (λ l. ends l (Access a v))) (λ x. refl))
 stop_is (Usage k cause) states d =
     elim (cases_Bool (ends_grant cause)) [
-      | inl e ↦ rw e (at_place_of stopped k states d ∙ map_alike _ (stopped_if (λ l. ends l (Usage k cause))) states (λ s. sym (stop_one k cause s e)))
-      | inr e ↦ rw e (sym (map_same states (stopped_if (λ l. ends l (Usage k cause))) (never k cause e)))
+      | inl e ↦ ap (λ (b : Bool). if b then at_place (place_of k states) stopped states else states) e ∙ at_place_of stopped k states d ∙
+          map_alike _ (stopped_if (λ l. ends l (Usage k cause))) states (λ s. sym (stop_one k cause s e))
+      | inr e ↦ ap (λ (b : Bool). if b then at_place (place_of k states) stopped states else states) e ∙
+          sym (map_same states (stopped_if (λ l. ends l (Usage k cause))) (never k cause e))
     ]
 
 both : (t : Telling) (ts : List Telling) (s : KeyState) → stopped_if (ended ts) (stopped_if (λ l. ends l t) s) ≡ stopped_if (ended (t ∷ ts)) s
 both t ts s =
-    elim (cases_Bool (ends t s.key)) [
+    elim (cases_Bool (ends s.key t)) [
       | inl e ↦ rw e (elim (cases_Bool (ended ts s.key)) [ inl f ↦ rw f refl | inr f ↦ rw f refl ])
       | inr e ↦ rw e refl
     ]
@@ -264,15 +262,10 @@ pub settled_length : (b : Bool) (states kept : List KeyState) → kept ≡ settl
 settled_length true states kept e = ap length e ∙ length-map states ungranted_if_reached
 settled_length false states kept e = ap length e
 
--- what the three calls of a settling give together
-pub matched : (b : Bool) (states kept : List KeyState) (items read : List Slot) (made told_now : List Telling) → map (λ s. s.0) items ≡ (if b then reached_places 0 states else []) →
-    kept ≡ settled_states b states → read ≡ items → made ≡ map (λ s. threshold (state_at s.0 kept).key) read → told_now ≡ made → told_now ≡ settled_tellings b states
-matched b states kept items read made told_now h e r m t =
-    t ∙ m ∙ ap (map (λ s. threshold (state_at s.0 kept).key)) r ∙ tellings_are b states kept items h e
+-- what a settling gives, slot by slot
+pub matched : (b : Bool) (states kept : List KeyState) (items slots : List Slot) → map (λ s. s.0) items ≡ (if b then reached_places 0 states else []) →
+    kept ≡ settled_states b states → slots ≡ items → map (threshold_at kept) slots ≡ settled_tellings b states
+matched b states kept items slots h e r = ap (map (threshold_at kept)) r ∙ tellings_are b states kept items h e
 
-pub knows_matched : (b : Bool) (states kept : List KeyState) (ts : List Telling) → kept ≡ settled_states b states → ts ≡ settled_tellings b states → KnowsAll (keys_of kept) ts
-knows_matched b states kept ts e f =
-    subst (λ (us : List Telling). KnowsAll (keys_of kept) us) (sym f) (subst (λ (ss : List KeyState). KnowsAll (keys_of ss) (settled_tellings b states)) (sym e) (knows_settled b states))
-
-pub few_matched : (b : Bool) (states : List KeyState) (ts : List Telling) → ts ≡ settled_tellings b states → length ts ≤ length states
-few_matched b states ts f = let h = few_settled b states in let e : length ts ≡ length (settled_tellings b states) = ap length f in omega arith
+pub few_matched : (b : Bool) (states kept : List KeyState) (slots : List Slot) → map (threshold_at kept) slots ≡ settled_tellings b states → length slots ≤ length states
+few_matched b states kept slots e = omega (arith, few_settled b states, ap length e, length-map slots (threshold_at kept))

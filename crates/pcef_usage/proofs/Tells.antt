@@ -1,14 +1,10 @@
 -- Telling keeps the counters in agreement with the journal.
-use Rattle.std.proofs.Common.{◌≡◌, ◌≤◌, ◌<◌, ℕ, ◌+◌, ◌-◌, Bool, true, false, List, [], ◌∷◌, ◌++◌, length, refl, sym, ap, ◌∙◌, arith, if◌then◌else◌, inl, inr, zero, suc, subst, map}
-use Rattle.std.specs.Prelude.{◌⊎◌, Option, Some, None, not, ◌||◌, ◌&&◌, filter}
-use Rattle.std.specs.List.{list_any, AllByRecursion}
-use Rattle.std.proofs.lemmas.Slice.Eq.{bytes_eq-Decides}
+use Rattle.std.proofs.Common.{◌≡◌, ℕ, Bool, true, false, List, [], ◌∷◌, refl, sym, ap, ◌∙◌, arith, if◌then◌else◌, inl, inr, zero, suc, subst, map}
+use Rattle.std.specs.Prelude.{Option, None, ◌||◌, ◌&&◌}
+use Rattle.std.specs.List.{AllByRecursion}
 use Rattle.std.proofs.lemmas.Bool.{cases_Bool}
 use Rattle.pcef_journal.specs.declared.report.Cause.{Cause}
-use Rattle.pcef_journal.specs.declared.report.Cause.TheVariants.{Threshold, Requested}
-use Rattle.pcef_journal.specs.declared.report.Body.{Body}
 use Rattle.pcef_journal.specs.declared.report.Body.TheVariants as body
-use Rattle.pcef_journal.specs.declared.report.Report.{Report}
 use Rattle.pcef_journal.specs.declared.telling.Telling.{Telling}
 use Rattle.pcef_journal.specs.declared.telling.Telling.TheVariants.{Inactive, Usage, Access}
 use Rattle.pcef_journal.specs.declared.entry.Entry.TheVariants as entry
@@ -16,33 +12,15 @@ use Rattle.pcef_journal.specs.declared.report.InactiveCause.TheVariants.{BearerL
 use Rattle.pcef_journal.specs.Setting.{Setting, same_name}
 use Rattle.pcef_journal.specs.Generations.{is_among}
 use Rattle.pcef_journal.specs.Entries.{Journal}
-use Rattle.pcef_journal.specs.Journals.{now, slots, grant, subscribed, reported, counted, unreported, report_count, ends_grant}
-use Rattle.pcef_journal.specs.Reports.{tell, body_of, is_reached as is_key_reached, thresholds, is_reached_by}
+use Rattle.pcef_journal.specs.Journals.{grant, reported, unreported, report_count, ends_grant}
+use Rattle.pcef_journal.specs.Reports.{tell, body_of}
 use Rattle.pcef_usage.specs.declared.usage.KeyState.{KeyState}
-use Rattle.pcef_usage.specs.Keys.{keys_of, has_slot, place_of, at_place, state_at, reported_on, stopped, is_reached, ungranted, ungranted_if_reached}
-use Rattle.pcef_usage.specs.Tellings.{body_by, after_telling, told, states_told, ends, ended, Knows, KnowsAll, Distinct, Counts, AllCount, after_stop, states_stopped, reached_tellings, threshold}
+use Rattle.pcef_usage.specs.Keys.{keys_of, has_slot, place_of, at_place, state_at, reported_on}
+use Rattle.pcef_usage.specs.Tellings.{body_by, after_telling, told, states_told, ended, Knows, KnowsAll, Distinct, Counts, AllCount}
+use Rattle.pcef_usage.proofs.Names.{same_name_is, same_name_not, same_name_turned}
 use Rattle.pcef_usage.proofs.Places.{or_no, or_rest}
 
 -- keys
-
-pub same_name_is : (a b : List ℕ) → same_name a b ≡ true → a ≡ b
-same_name_is a b same = (bytes_eq-Decides a b).0 same
-
-pub same_name_of : (a b : List ℕ) → a ≡ b → same_name a b ≡ true
-same_name_of a b is = (bytes_eq-Decides a b).1 is
-
-pub same_name_self : (a : List ℕ) → same_name a a ≡ true
-same_name_self a = same_name_of a a refl
-
-pub same_name_turned : (a b : List ℕ) → same_name a b ≡ true → same_name b a ≡ true
-same_name_turned a b same = same_name_of b a (sym (same_name_is a b same))
-
-pub same_name_not : (a b : List ℕ) → same_name a b ≡ false → same_name b a ≡ false
-same_name_not a b differs =
-    elim (cases_Bool (same_name b a)) [
-      | inl same ↦ let turned : same_name a b ≡ true = same_name_turned b a same in cc
-      | inr isnt ↦ isnt
-    ]
 
 pub has_slot_is : (k : List ℕ) (states : List KeyState) → has_slot k states ≡ is_among k (keys_of states)
 has_slot_is k [] = refl

@@ -1,5 +1,5 @@
 -- The counters of monitoring keys, in slot order.
-use Rattle.std.specs.Prelude.{ℕ, ◌+◌, ◌<◌, ◌≤◌, ◌^◌, Bool, false, true, List, [], ◌∷◌, ◌++◌, Option, Some, None, if◌then◌else◌, map, not, ◌&&◌, nat_le, length, zero, suc}
+use Rattle.std.specs.Prelude.{ℕ, ◌+◌, ◌<◌, ◌^◌, Bool, false, true, List, [], ◌∷◌, ◌++◌, Option, Some, None, if◌then◌else◌, map, not, ◌&&◌, nat_le, length, zero, suc}
 use Rattle.std.specs.List.{list_any, AllByRecursion}
 use Rattle.pcef_rule.specs.declared.quantity.Slot.{Slot}
 use Rattle.pcef_journal.specs.Setting.{same_name}

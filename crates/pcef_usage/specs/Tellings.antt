@@ -1,5 +1,5 @@
 -- Reports that are told one after another, by what the counters say.
-use Rattle.std.specs.Prelude.{◌≡◌, ℕ, ◌+◌, Bool, true, false, List, [], ◌∷◌, map, Option, None, if◌then◌else◌, ◌&&◌, filter}
+use Rattle.std.specs.Prelude.{◌≡◌, ℕ, ◌+◌, Bool, true, false, List, [], ◌∷◌, map, None, if◌then◌else◌, ◌&&◌, filter}
 use Rattle.std.specs.List.{list_any, AllByRecursion}
 use Rattle.pcef_journal.specs.declared.report.Body.{Body}
 use Rattle.pcef_journal.specs.declared.report.Body.TheVariants as body
@@ -13,7 +13,7 @@ use Rattle.pcef_journal.specs.Generations.{is_among}
 use Rattle.pcef_journal.specs.Entries.{Journal}
 use Rattle.pcef_journal.specs.Journals.{counted, ends_grant, grant, now, report_count, reported}
 use Rattle.pcef_usage.specs.declared.usage.KeyState.{KeyState}
-use Rattle.pcef_usage.specs.Keys.{at_place, is_reached, keys_of, place_of, reported_on, state_at, stopped, ungranted_if_reached}
+use Rattle.pcef_usage.specs.Keys.{at_place, is_reached, place_of, reported_on, state_at, stopped, ungranted_if_reached}
 
 -- ---- telling by the counters
 abbrev pub body_by : List KeyState → Telling → Body

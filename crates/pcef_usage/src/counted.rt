@@ -1,6 +1,7 @@
 //! The journal, and the counters that go with it.
 
 ghost use Rattle.std.specs.Prelude.{◌≡◌, ◌<◌, ◌≤◌, ◌+◌, [], ◌∷◌, map, length, false, true, IfOk, OnOk, All};
+ghost use Rattle.std.specs.Option.{option_copied};
 ghost use Rattle.pcef_journal.specs.Generations.{is_among};
 ghost use Rattle.pcef_journal.specs.Journals.{ends_grant, report_count};
 ghost use Rattle.pcef_usage.specs.Counted.{IsEvent};
@@ -77,9 +78,9 @@ impl CountedJournal {
 
     /// Gives a key a slot, unless it has one. Takes no memory.
     pub fn keep_slot(&mut self, key: Option<&KeyName>)
-        requires { finds_no_slot key self.old.states ≡ false }
+        requires { finds_no_slot (option_copied key) self.old.states ≡ false }
         ensures journal { self.new.journal ≡ self.old.journal }
-        ensures states { self.new.states ≡ with_slot key self.old.states }
+        ensures states { self.new.states ≡ with_slot (option_copied key.entry) self.old.states }
         ensures room { self.new.room ≡ self.old.room }
     {
         if let Some(key) = key {

@@ -1,5 +1,5 @@
 use Rattle.pcef_usage.specs.Keys.{keys_of}
-use Rattle.std.proofs.Common.{◌≡◌, ◌≤◌, ◌+◌, ◌-◌, drop, length}
+use Rattle.std.proofs.Common.{◌≡◌, drop}
 use Rattle.pcef_usage.specs.Tellings.{states_stopped}
 use Rattle.pcef_usage.proofs.counted.CountedJournal.stop_all.Given as goal
 

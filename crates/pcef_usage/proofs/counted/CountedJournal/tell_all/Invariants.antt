@@ -1,5 +1,5 @@
 use Rattle.pcef_usage.specs.Keys.{keys_of}
-use Rattle.std.proofs.Common.{◌≡◌, ◌≤◌, ◌+◌, ◌-◌, drop, length}
+use Rattle.std.proofs.Common.{◌≡◌, ◌≤◌, ◌+◌, drop, length}
 use Rattle.pcef_usage.specs.Tellings.{told, states_told}
 use Rattle.pcef_usage.proofs.counted.CountedJournal.tell_all.Given as goal
 

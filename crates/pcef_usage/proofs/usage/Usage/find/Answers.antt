@@ -1,4 +1,4 @@
-use Rattle.std.proofs.Common.{sym, ap, ◌∙◌, ◌≡◌, ◌<◌, subst, List, length, take, true, false, get_or}
+use Rattle.std.proofs.Common.{sym, ap, ◌∙◌, ◌≡◌, subst, List, true}
 use Rattle.pcef_journal.specs.Setting.{same_name}
 use Rattle.pcef_usage.specs.declared.usage.KeyState.{KeyState}
 use Rattle.pcef_usage.specs.Keys.{has_slot, place_of}

@@ -1,6 +1,5 @@
-use Rattle.pcef_usage.specs.Keys.{started, stopped}
+use Rattle.pcef_usage.specs.Keys.{stopped}
 use Rattle.pcef_usage.proofs.Places.{written}
-use Rattle.std.proofs.Common.{◌∙◌}
 use Rattle.pcef_usage.proofs.usage.Usage.stop.Goals as goal
 
 pub returns : goal.returns
