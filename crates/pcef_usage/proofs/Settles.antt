@@ -17,7 +17,7 @@ use Rattle.pcef_usage.specs.Keys.{keys_of, place_of, at_place, state_at, stopped
 use Rattle.pcef_usage.specs.Tellings.{ends, ended, KnowsAll, Distinct, Counts, AllCount, after_stop, states_stopped, OnIs, AllOn, reached_tellings, threshold, settled_tellings, settled_states}
 use Rattle.pcef_usage.proofs.Places.{or_more, or_rest}
 use Rattle.pcef_usage.proofs.Names.{same_name_is, same_name_self, same_name_turned, same_name_not}
-use Rattle.pcef_usage.proofs.Tells.{at_place_of, all_mapped}
+use Rattle.pcef_usage.proofs.Tells.{at_place_maps, all_mapped}
 use Rattle.pcef_usage.proofs.Loops.{keys_stopped, threshold_at}
 use Rattle.std.proofs.lemmas.List.{length-map}
 
@@ -53,7 +53,7 @@ stop_is (Inactive n) states d = sym (map_same states (stopped_if (λ l. ends l (
 stop_is (Access a v) states d = sym (map_same states (stopped_if (λ l. ends l (Access a v))) (λ x. refl))
 stop_is (Usage k cause) states d =
     elim (cases_Bool (ends_grant cause)) [
-      | inl e ↦ ap (λ (b : Bool). if b then at_place (place_of k states) stopped states else states) e ∙ at_place_of stopped k states d ∙
+      | inl e ↦ ap (λ (b : Bool). if b then at_place (place_of k states) stopped states else states) e ∙ at_place_maps stopped k states d ∙
           map_alike _ (stopped_if (λ l. ends l (Usage k cause))) states (λ s. sym (stop_one k cause s e))
       | inr e ↦ ap (λ (b : Bool). if b then at_place (place_of k states) stopped states else states) e ∙
           sym (map_same states (stopped_if (λ l. ends l (Usage k cause))) (never k cause e))

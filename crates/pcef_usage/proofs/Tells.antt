@@ -47,14 +47,14 @@ not_here f k (s ∷ states) h =
     let n = or_no (same_name k s.key) (is_among k (keys_of states)) h in
     rw (n.0, not_here f k states n.1) refl
 
-pub at_place_of : (f : KeyState → KeyState) (k : List ℕ) (states : List KeyState) → Distinct (keys_of states) →
+pub at_place_maps : (f : KeyState → KeyState) (k : List ℕ) (states : List KeyState) → Distinct (keys_of states) →
     at_place (place_of k states) f states ≡ map (λ s. if same_name k s.key then f s else s) states
-at_place_of f k [] d = refl
-at_place_of f k (s ∷ states) d =
+at_place_maps f k [] d = refl
+at_place_maps f k (s ∷ states) d =
     elim (cases_Bool (same_name k s.key)) [
       | inl e ↦ let n : is_among k (keys_of states) ≡ false = ap (λ x. is_among x (keys_of states)) (same_name_is k s.key e) ∙ d.0 in
           rw (e, not_here f k states n) refl
-      | inr e ↦ rw (e, at_place_of f k states d.1) refl
+      | inr e ↦ rw (e, at_place_maps f k states d.1) refl
     ]
 
 pub all_mapped : {X : Type 0} (P Q : X → Type 0) (f : X → X) (xs : List X) → ((x : X) → P x → Q (f x)) → AllByRecursion P xs → AllByRecursion Q (map f xs)
@@ -126,7 +126,7 @@ one_told p (Access t v) ts j n states d k a =
     all_same (Counts p j (Access t v ∷ ts)) (Counts p (entry.Report (record { number = n; body = body.Access t v }) ∷ j) ts) states
     (λ s h. record { grant_is = h.grant_is; reported_is = omega (arith, h.reported_is); counted_is = h.counted_is }) a
 one_told p (Usage k cause) ts j n states d i a =
-    subst (AllByRecursion (Counts p (entry.Report (record { number = n; body = body.Usage k (unreported p j k) cause }) ∷ j) ts)) (sym (at_place_of reported_on k states d))
+    subst (AllByRecursion (Counts p (entry.Report (record { number = n; body = body.Usage k (unreported p j k) cause }) ∷ j) ts)) (sym (at_place_maps reported_on k states d))
     (all_mapped (Counts p j (Usage k cause ∷ ts)) (Counts p (entry.Report (record { number = n; body = body.Usage k (unreported p j k) cause }) ∷ j) ts)
     (λ s. if same_name k s.key then reported_on s else s) states (λ s h. one_usage p j n (unreported p j k) k cause ts s refl h) a)
 

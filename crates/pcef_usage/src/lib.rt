@@ -7,3 +7,6 @@ mod usage;
 
 pub use counted::CountedJournal;
 pub use usage::{KeyState, MAX_KEYS, Usage};
+
+#[cfg(test)]
+mod tests;

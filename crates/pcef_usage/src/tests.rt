@@ -1,0 +1,164 @@
+//! Small journals, whose counters and reports were worked out by hand from TS 29.212, usage monitoring.
+
+ghost use Rattle.std.specs.Prelude.{◌≡◌, ◌≤◌, ◌+◌};
+
+use super::*;
+use pcef_journal::{Body, Cause, Command, Entry, Report, Row, Telling};
+use pcef_packet::{Addr, Dir, Header};
+use pcef_rule::{KeyName, Slot};
+use pcef_table::Verdict;
+use std::process::Abort;
+use std::test::Fail;
+
+/// The row of an uplink packet of so many octets.
+fn row_of(octets: u32) -> Row
+    ensures { result.header.octets ≡ octets }
+{
+    Row {
+        worker: 0,
+        seq: 0,
+        generation: 1,
+        header: Header {
+            dir: Dir::Up,
+            src: Addr::V4(0x0a00_0002),
+            dst: Addr::V4(0xc633_6407),
+            proto: 17,
+            ports: None,
+            octets,
+            dscp: 0,
+        },
+        verdict: Verdict::Unmatched,
+    }
+}
+
+/// A Monitor of a key, by which it has a slot, is on and has a grant.
+#[tactic(auto, using(crate::proofs::Tells::has_slot_is))]
+fn monitor(rt: &impl Abort, counted: &mut CountedJournal, key: &KeyName, grant: u64)
+    requires { 1 ≤ counted.old.room }
+    ensures { counted.old.room ≤ counted.new.room + 1 }
+{
+    counted.enter(Entry::Command(Command::Monitor {
+        key: key.copy(),
+        grant,
+    }));
+    assert!(rt; counted.usage().states().len() < MAX_KEYS);
+    counted.keep_slot(Some(key));
+    let Some(_slot) = counted.usage().find(key) else {
+        panic!(rt; "the key has no slot");
+    };
+    counted.start(key, grant);
+}
+
+/// A row that counts for the key of a slot.
+fn take(rt: &impl Abort, counted: &mut CountedJournal, slot: Slot, octets: u32)
+    requires { 1 ≤ counted.old.room }
+    ensures { counted.old.room ≤ counted.new.room + 1 }
+{
+    let states = counted.usage().states();
+    assert!(rt; (slot.0 as usize) < states.len());
+    let state = &states[slot.0 as usize];
+    assert!(rt; state.reported < 1000);
+    assert!(rt; state.unreported < 1000);
+    counted.take_row(row_of(octets), Some(slot));
+}
+
+/// The report of a key that lost its last rule.
+#[tactic(auto, using(crate::proofs::Tells::has_slot_is), unfolding(crate::specs::Tellings::KnowsAll))]
+fn lose_rules(rt: &impl Abort, counted: &mut CountedJournal, key: &KeyName)
+    requires { 1 ≤ counted.old.room }
+    ensures { counted.old.room ≤ counted.new.room + 1 }
+{
+    let tellings = [Telling::Usage(key.copy(), Cause::RulesGone)];
+    let Some(_slot) = counted.usage().find(key) else {
+        panic!(rt; "the key has no slot");
+    };
+    counted.stop_all(&tellings);
+    let Some(_slot) = counted.usage().find(key) else {
+        panic!(rt; "the key has no slot");
+    };
+    counted.tell_all(&tellings);
+}
+
+/// The end of an event.
+fn finish(counted: &mut CountedJournal, subscribed: bool)
+    requires { 8 ≤ counted.old.room }
+    ensures { counted.old.room ≤ counted.new.room + 8 }
+{
+    let _states = counted.usage().states();
+    counted.finish(subscribed);
+}
+
+/// The state of a slot in the order of its fields.
+fn state(counted: &CountedJournal, place: usize) -> Option<(bool, Option<u64>, u64, u64)> {
+    let state = counted.usage().states().get(place)?;
+    Some((state.on, state.grant, state.reported, state.unreported))
+}
+
+fn usage_report(number: u64, key: &KeyName, octets: u64, cause: Cause) -> Report {
+    Report {
+        number,
+        body: Body::Usage {
+            key: key.copy(),
+            octets,
+            cause,
+        },
+    }
+}
+
+#[test]
+fn an_empty_journal(rt: HostRuntime) -> Result<(), Fail> {
+    let mut counted = CountedJournal::new(rt.alloc())?;
+    counted.reserve(3)?;
+    assert_eq!(rt; counted.journal().rows_len(), 0);
+    assert_eq!(rt; counted.journal().reports_len(), 0);
+    assert_eq!(rt; counted.usage().states().len(), 0);
+    assert_eq!(rt; counted.usage().find(&KeyName::new("video")?), None);
+    let usage = Usage::new(rt.alloc())?;
+    assert_eq!(rt; usage.states().len(), 0);
+    Ok(())
+}
+
+#[test]
+fn a_grant_is_reached(rt: HostRuntime) -> Result<(), Fail> {
+    let video = KeyName::new("video")?;
+    let audio = KeyName::new("audio")?;
+    let mut counted = CountedJournal::new(rt.alloc())?;
+    counted.reserve(64)?;
+    monitor(&rt, &mut counted, &video, 100);
+    monitor(&rt, &mut counted, &audio, 1000);
+    assert_eq!(rt; counted.usage().find(&audio), Some(Slot(1)));
+    take(&rt, &mut counted, Slot(0), 60);
+    take(&rt, &mut counted, Slot(1), 28);
+    finish(&mut counted, true);
+    assert_eq!(rt; counted.journal().reports_len(), 0);
+    assert_eq!(rt; state(&counted, 0), Some((true, Some(100), 0, 60)));
+    take(&rt, &mut counted, Slot(0), 40);
+    finish(&mut counted, true);
+    let reached = usage_report(0, &video, 100, Cause::Threshold);
+    assert_eq!(rt; counted.journal().reports_from(0).next(), Some(&reached));
+    assert_eq!(rt; counted.journal().reports_len(), 1);
+    assert_eq!(rt; state(&counted, 0), Some((true, None, 100, 0)));
+    assert_eq!(rt; state(&counted, 1), Some((true, Some(1000), 0, 28)));
+    Ok(())
+}
+
+#[test]
+fn a_key_loses_its_rules(rt: HostRuntime) -> Result<(), Fail> {
+    let video = KeyName::new("video")?;
+    let audio = KeyName::new("audio")?;
+    let mut counted = CountedJournal::new(rt.alloc())?;
+    counted.reserve(64)?;
+    monitor(&rt, &mut counted, &video, 100);
+    monitor(&rt, &mut counted, &audio, 28);
+    take(&rt, &mut counted, Slot(1), 28);
+    finish(&mut counted, false);
+    assert_eq!(rt; counted.journal().reports_len(), 0);
+    lose_rules(&rt, &mut counted, &audio);
+    let gone = usage_report(0, &audio, 28, Cause::RulesGone);
+    assert_eq!(rt; counted.journal().reports_from(0).next(), Some(&gone));
+    assert_eq!(rt; state(&counted, 0), Some((true, Some(100), 0, 0)));
+    assert_eq!(rt; state(&counted, 1), Some((false, None, 28, 0)));
+    finish(&mut counted, true);
+    assert_eq!(rt; counted.journal().reports_len(), 1);
+    Ok(())
+}
