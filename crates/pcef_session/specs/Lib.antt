@@ -1,8 +1,10 @@
 pub mod Agreement
 pub mod Answers
 pub mod Core
-pub mod Laws
+pub mod Counters
+pub mod Following
 pub mod Lawful
+pub mod Laws
 pub mod Refusals
 pub mod Sessions
 pub mod Shown

@@ -1,0 +1,29 @@
+-- The slots that rows count for.
+use Rattle.std.specs.Prelude.{ℕ, ◌≡◌, ◌==◌, Bool, false, ◌&&◌, List, [], ◌∷◌, Option, Some, None}
+use Rattle.pcef_rule.specs.declared.quantity.Slot.{Slot}
+use Rattle.pcef_journal.specs.declared.entry.Entry.TheVariants as entry
+use Rattle.pcef_journal.specs.declared.row.Row.{Row}
+use Rattle.pcef_journal.specs.Setting.{Setting}
+use Rattle.pcef_journal.specs.Generations.{is_among}
+use Rattle.pcef_journal.specs.Entries.{Journal}
+use Rattle.pcef_journal.specs.Journals.{counts, slots}
+use Rattle.pcef_session.specs.declared.batch.Item.{Item}
+use Rattle.pcef_session.specs.Shown.{place_of}
+
+-- the key has this slot
+abbrev pub is_at : Option ℕ → ℕ → Bool
+is_at None n = false
+is_at (Some place) n = place == n
+
+abbrev pub has_this_slot : List (List ℕ) → Option Slot → List ℕ → Bool
+has_this_slot keys None key = false
+has_this_slot keys (Some slot) key = is_at (place_of key keys) slot.0
+
+-- a row counts for the key of its slot, and for no other
+abbrev pub CountsFor : Setting → Journal → Row → Option Slot → Type 0
+CountsFor p j row slot = (key : List ℕ) → counts p j key row ≡ has_this_slot (slots p j) slot key
+
+-- the slots of rows that come one after the other
+unfoldable pub SlotsFit : Setting → Journal → List Item → Type 0
+SlotsFit p j [] = Unit {0}
+SlotsFit p j (i ∷ items) = CountsFor p j i.row i.slot × SlotsFit p (entry.Row i.row ∷ j) items
