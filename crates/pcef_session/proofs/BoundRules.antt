@@ -53,7 +53,7 @@ same_qos_self a =
 pub same_name_is : (a b : List ℕ) → same_name a b ≡ true → a ≡ b
 same_name_is a b same = (bytes_eq-Decides a b).0 same
 
-same_name_of : (a b : List ℕ) → a ≡ b → same_name a b ≡ true
+pub same_name_of : (a b : List ℕ) → a ≡ b → same_name a b ≡ true
 same_name_of a b is = (bytes_eq-Decides a b).1 is
 
 -- each name once

@@ -1,11 +1,16 @@
 -- Laws of lawful journals, for whoever reads the definitions.
 use Rattle.std.specs.Prelude.{ℕ, ◌≡◌, ◌≤◌, ◌+◌, true, List, All}
+use Rattle.pcef_packet.specs.declared.header.Header.{Header}
 use Rattle.pcef_rule.specs.declared.quantity.Qos.{Qos}
+use Rattle.pcef_table.specs.declared.verdict.Verdict.{Verdict}
+use Rattle.pcef_table.specs.Tables.{TableValue}
+use Rattle.pcef_table.specs.Verdicts.{IsVerdict}
 use Rattle.pcef_journal.specs.Setting.{Setting, same_qos}
 use Rattle.pcef_journal.specs.Generations.{has_bearer}
 use Rattle.pcef_journal.specs.Entries.{Journal}
-use Rattle.pcef_journal.specs.Journals.{counted, now, reported, unreported}
+use Rattle.pcef_journal.specs.Journals.{at, counted, judged, now, reported, unreported}
 use Rattle.pcef_session.specs.Lawful.{Lawful}
+use Rattle.pcef_session.specs.Shown.{Shows}
 
 -- no octet is reported twice, nor one that was never counted
 abbrev pub NothingIsReportedTwice : Type 0
@@ -29,3 +34,8 @@ IdsAreDistinct = (p : Setting) → HasBearerIds p → (j : Journal) → Lawful p
 abbrev pub IdsAreInRange : Type 0
 IdsAreInRange = (p : Setting) → HasBearerIds p → (j : Journal) → Lawful p j → (q : Qos) → has_bearer p (now p j).rules q ≡ true →
     (5 ≤ (now p j).id_of q) × ((now p j).id_of q ≤ 15)
+
+-- a table that shows a generation gives its verdict on each packet
+abbrev pub ShownTablesJudge : Type 0
+ShownTablesJudge = (p : Setting) (j : Journal) (g : ℕ) (t : TableValue) (header : Header) (v : Verdict) → Shows p j g t →
+    IsVerdict p.catalog t.entries p.ue header v → v ≡ judged p (at p j g) header

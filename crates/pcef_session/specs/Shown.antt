@@ -37,9 +37,9 @@ pub record StandsFor (p : Setting) (j : Journal) (g : ℕ) (e : Entry) (r : Acti
   pub slot_is : option_map (λ s. s.0) e.slot ≡ slot_of (slots p j) r.properties.key
   pub counted_is : e.counted ≡ counts_now (at p j g).on r.properties.key
 
--- the table of generation g: its entries stand for the active rules, each for one, in precedence order
+-- the table of generation g: its entries stand for the active rules, and for no others, in precedence order
 pub record Shows (p : Setting) (j : Journal) (g : ℕ) (t : TableValue) : Type 0 where
   pub number_is : t.number ≡ g
   pub ordered : IsTable p.catalog t.entries
-  pub no_more : length t.entries ≡ length (at p j g).rules
   pub each : (r : Active) → Contains (at p j g).rules r → (e : Entry) × Contains t.entries e × StandsFor p j g e r
+  pub only : (e : Entry) → Contains t.entries e → (r : Active) × Contains (at p j g).rules r × StandsFor p j g e r

@@ -1,6 +1,6 @@
 //! Laws of lawful journals, proved for whoever reads the definitions.
 
-ghost use Rattle.pcef_session.specs.Laws.{IdsAreDistinct, IdsAreInRange, NothingIsLost, NothingIsReportedTwice};
+ghost use Rattle.pcef_session.specs.Laws.{IdsAreDistinct, IdsAreInRange, NothingIsLost, NothingIsReportedTwice, ShownTablesJudge};
 
 /// What usage reports tell: each counted octet once at most, and none is lost.
 pub fn usage_is_exact()
@@ -12,4 +12,9 @@ pub fn usage_is_exact()
 pub fn bearers_have_their_own_ids()
     ensures distinct { IdsAreDistinct }
     ensures in_range { IdsAreInRange }
+{}
+
+/// A table that shows a generation of the journal judges as the definitions do.
+pub fn shown_tables_judge()
+    ensures { ShownTablesJudge }
 {}

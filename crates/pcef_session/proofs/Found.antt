@@ -1,0 +1,46 @@
+-- What `find` and `list_any` say of the elements of a list.
+use Rattle.std.proofs.Common.{◌≡◌, ◌∙◌, ◌<◌, ℕ, suc, zero, Bool, true, false, ◌||◌, List, [], ◌∷◌, length, refl, sym, ap, subst, arith, inl, inr, find, AllPairs, Contains, Some, None}
+use Rattle.std.specs.Prelude.{Option}
+use Rattle.std.specs.List.{list_any, list_all}
+use Rattle.std.proofs.lemmas.Bool.{or_left, or_right, and_parts, and_from}
+use Rattle.std.proofs.lemmas.List.Elements.{All-contains}
+use Rattle.pcef_table.proofs.Foremost.{found_is_foremost, none_passes}
+use Rattle.pcef_session.proofs.BoundRules.{contrary}
+
+-- an element that passes a test is seen by it
+pub any_from : {X : Type 0} (test : X → Bool) (xs : List X) (x : X) → Contains xs x → test x ≡ true → list_any test xs ≡ true
+any_from test [] x (k, within, is) passes = absurd (omega arith)
+any_from test (y ∷ xs) x (zero, within, is) passes = or_left (test y) (list_any test xs) (ap test is ∙ passes)
+any_from test (y ∷ xs) x (suc k, within, is) passes = or_right (test y) (list_any test xs) (any_from test xs x (k, omega arith, is) passes)
+
+-- where no element passes, none is found
+pub find_none : {X : Type 0} (test : X → Bool) (xs : List X) → ((x : X) → Contains xs x → test x ≡ false) → find test xs ≡ None
+find_none {X} test xs none = from (find test xs) refl
+  where
+    from : (o : Option X) → find test xs ≡ o → find test xs ≡ None
+    from None is = is
+    from (Some x) is =
+        let f = found_is_foremost (λ _ _. Unit {0}) test xs x (λ i j d below within. tt) is in
+        contrary (test x) f.passes (none x f.there)
+
+-- the one element that passes is found
+pub find_one : {X : Type 0} (test : X → Bool) (xs : List X) (x : X) → Contains xs x → test x ≡ true → ((y : X) → Contains xs y → test y ≡ true → y ≡ x) → find test xs ≡ Some x
+find_one {X} test xs x there passes one = from (find test xs) refl
+  where
+    from : (o : Option X) → find test xs ≡ o → find test xs ≡ Some x
+    from None is = contrary (test x) passes (All-contains (λ y. test y ≡ false) xs x (none_passes test xs is) there)
+    from (Some y) is =
+        let f = found_is_foremost (λ _ _. Unit {0}) test xs y (λ i j d below within. tt) is in
+        is ∙ ap (λ z. Some z) (one y f.there f.passes)
+
+-- where all pass, each does
+pub all_at : {X : Type 0} (test : X → Bool) (xs : List X) (x : X) → list_all test xs ≡ true → Contains xs x → test x ≡ true
+all_at test [] x all (k, within, is) = absurd (omega arith)
+all_at test (y ∷ xs) x all (zero, within, is) = ap test (sym is) ∙ (and_parts (test y) (list_all test xs) all).0
+all_at test (y ∷ xs) x all (suc k, within, is) = all_at test xs x (and_parts (test y) (list_all test xs) all).1 (k, omega arith, is)
+
+-- where each passes, all do
+pub all_from : {X : Type 0} (test : X → Bool) (xs : List X) → ((x : X) → Contains xs x → test x ≡ true) → list_all test xs ≡ true
+all_from test [] each = refl
+all_from test (y ∷ xs) each =
+    and_from (test y) (list_all test xs) (each y (0, omega arith, refl)) (all_from test xs (λ x there. each x (suc there.0, omega (arith, there.1), there.2)))
