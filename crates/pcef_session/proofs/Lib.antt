@@ -2,5 +2,7 @@ pub mod BearerIds
 pub mod BoundRules
 pub mod Exactness
 pub mod Found
+pub mod Members
 pub mod ShownVerdicts
+pub mod SlotPlaces
 pub mod WorkerTables
