@@ -3,6 +3,7 @@ pub mod BoundRules
 pub mod Exactness
 pub mod Found
 pub mod Members
+pub mod ShownLater
 pub mod ShownVerdicts
 pub mod SlotPlaces
 pub mod WorkerTables

@@ -1,5 +1,5 @@
 -- A table goes on showing its generation as the journal grows.
-use Rattle.std.proofs.Common.{◌≡◌, ◌∙◌, ◌≤◌, ℕ, suc, Bool, true, false, not, List, [], ◌∷◌, ◌++◌, length, refl, sym, ap, subst, arith, inl, inr, Contains, Some, None}
+use Rattle.std.proofs.Common.{◌≡◌, ◌∙◌, ◌≤◌, ℕ, suc, Bool, true, false, not, List, [], ◌∷◌, ◌++◌, length, refl, sym, ap, subst, arith, inl, inr, Contains, Some, None, append-nil, append_assoc, nat_le, ◌==◌}
 use Rattle.std.specs.Prelude.{◌⊎◌, Option}
 use Rattle.std.specs.List.{list_any}
 use Rattle.std.specs.Option.{option_map}
@@ -7,14 +7,17 @@ use Rattle.std.proofs.lemmas.Bool.{cases_Bool}
 use Rattle.pcef_table.specs.declared.entry.Entry.{Entry}
 use Rattle.pcef_table.specs.declared.listing.Offer.{Offer}
 use Rattle.pcef_table.specs.Tables.{TableValue}
+use Rattle.pcef_journal.specs.declared.entry.Entry.TheVariants as entry
 use Rattle.pcef_journal.specs.declared.command.Command.{Command}
 use Rattle.pcef_journal.specs.declared.command.Command.TheVariants.{Install, Activate, Remove, Monitor, Stop, ReportNow, Triggers, Notice, LoseBearer, Close, Terminate}
 use Rattle.pcef_journal.specs.Setting.{Setting, offer_named}
 use Rattle.pcef_journal.specs.ActiveRules.{Active, dynamic, is_named, predefined, put, put_if_offered}
-use Rattle.pcef_journal.specs.Generations.{Generation, add_if_some, is_among, key_named, made_by, oldest, rules_after, slots_of}
+use Rattle.pcef_journal.specs.Generations.{Generation, add_if_some, is_among, key_named, key_offered, made_by, oldest, rules_after, slots_of}
 use Rattle.pcef_journal.specs.Entries.{Journal}
-use Rattle.pcef_journal.specs.Journals.{at, slots, tables}
-use Rattle.pcef_session.specs.Shown.{Shows, StandsFor, slot_of}
+use Rattle.pcef_journal.specs.Journals.{at, gen, is_table, slots, tables}
+use Rattle.pcef_journal.proofs.Growth.{at_after_command, tables_of_other, tables_of_table}
+use Rattle.pcef_session.specs.Shown.{Shows, StandsFor, place_of, slot_of}
+use Rattle.pcef_session.proofs.BoundRules.{NamesOnce}
 use Rattle.pcef_session.proofs.Members.{filter_from, put_cases}
 use Rattle.pcef_session.proofs.ShownVerdicts.{made_once}
 use Rattle.pcef_session.proofs.SlotPlaces.{Grows, add_among, add_grows, more_among, place_grown, slots_grow}
@@ -32,13 +35,88 @@ has_slot_named : (key : Option (List ℕ)) (keys : List (List ℕ)) → HasSlot 
 has_slot_named None keys = tt
 has_slot_named (Some key) keys = add_among key keys
 
+-- a rule after a command was there before, or has the key that the command names
+older : (p : Setting) (g : Generation) (c : Command) (r : Active) → NamesOnce g.rules → Contains (rules_after p g c) r → Contains g.rules r ⊎ (key_named p c ≡ r.properties.key)
+older p g (Install rule) r once there =
+    elim (put_cases (dynamic rule) g.rules r once there) [ inl new ↦ inr (ap (λ (x : Active). x.properties.key) new) | inr old ↦ inl old.0 ]
+older p g (Activate name) r once there = offered (offer_named p name) there
+  where
+    offered : (o : Option Offer) → Contains (put_if_offered o g.rules) r → Contains g.rules r ⊎ (key_offered o ≡ r.properties.key)
+    offered None there = inl there
+    offered (Some o) there =
+        elim (put_cases (predefined o) g.rules r once there) [ inl new ↦ inr (ap (λ (x : Active). x.properties.key) new) | inr old ↦ inl old.0 ]
+older p g (Remove name) r once there = inl (filter_from (λ r. not (is_named name r)) g.rules r there).0
+older p g (LoseBearer id) r once there = inl (filter_from (λ r. not (g.id_of r.properties.qos == id.0)) g.rules r there).0
+older p g Close r once there = absurd (omega (arith, there.1))
+older p g Terminate r once there = absurd (omega (arith, there.1))
+older p g (Monitor key amount) r once there = inl there
+older p g (Stop key) r once there = inl there
+older p g (ReportNow key) r once there = inl there
+older p g (Triggers set) r once there = inl there
+older p g (Notice kind value) r once there = inl there
+
 pub rules_have_slots : (p : Setting) (cs : List Command) (r : Active) → Contains (made_by p cs).rules r → HasSlot (slots_of p cs) r.properties.key
 unfolding made_by slots_of
 rules_have_slots p [] r there = absurd (omega (arith, there.1))
-rules_have_slots p (c ∷ cs) r there = elim (older p (made_by p cs) c r (made_once p cs) there) [
+rules_have_slots p (c ∷ cs) r there =
+    elim (older p (made_by p cs) c r (made_once p cs) there) [
       | inl old ↦ has_slot_later (slots_of p cs) (slots_of p (c ∷ cs)) r.properties.key (slots_grow p c cs) (rules_have_slots p cs r old)
-      | inr named ↦ subst (λ k. HasSlot (add_if_some (key_named p c) (slots_of p cs)) k) named (has_slot_named (key_named p c) (slots_of p cs))
+      | inr named ↦ subst (λ k. HasSlot (slots_of p (c ∷ cs)) k) named (has_slot_named (key_named p c) (slots_of p cs))
     ]
-  where
-    offered : (o : Option Offer) (rules : List Active) (r : Active) → offer_named p name_of ≡ o → Contains (put_if_offered o rules) r → Contains rules r ⊎ (key_offered o ≡ r.properties.key)
-    offered = ?
+
+-- the slots of the first commands are the first slots
+pub grows_all : (a b c : List (List ℕ)) → Grows a b → Grows b c → Grows a c
+grows_all a b c first second = (first.0 ++ second.0, second.1 ∙ ap (λ ks. ks ++ second.0) first.1 ∙ append_assoc a first.0 second.0)
+
+pub oldest_grow : (p : Setting) (g : ℕ) (cs : List Command) → Grows (slots_of p (oldest g cs)) (slots_of p cs)
+unfolding oldest slots_of
+oldest_grow p g [] = ([], refl)
+oldest_grow p g (c ∷ cs) =
+    elim (cases_Bool (nat_le g (length cs))) [
+      | inl before ↦ rw before (grows_all (slots_of p (oldest g cs)) (slots_of p cs) (slots_of p (c ∷ cs)) (oldest_grow p g cs) (slots_grow p c cs))
+      | inr all ↦ rw all ([], sym (append-nil (slots_of p (c ∷ cs))))
+    ]
+
+-- each rule of an earlier generation has a slot now
+pub shown_slots : (p : Setting) (j : Journal) (g : ℕ) (r : Active) → Contains (at p j g).rules r → HasSlot (slots p j) r.properties.key
+shown_slots p j g r there =
+    has_slot_later (slots_of p (oldest g (tables j))) (slots p j) r.properties.key (oldest_grow p g (tables j)) (rules_have_slots p (oldest g (tables j)) r there)
+
+-- ---- a table as the journal grows
+slot_stays : (keys all : List (List ℕ)) (key : Option (List ℕ)) → Grows keys all → HasSlot keys key → slot_of all key ≡ slot_of keys key
+slot_stays keys all None grows has = refl
+slot_stays keys all (Some key) grows has = ap (place_of key) grows.1 ∙ place_grown key keys grows.0 has
+
+pub stands_later : (p : Setting) (j k : Journal) (g : ℕ) (e : Entry) (r : Active) → at p k g ≡ at p j g → Grows (slots p j) (slots p k) →
+    Contains (at p j g).rules r → StandsFor p j g e r → StandsFor p k g e r
+stands_later p j k g e r same grows there stands = record {
+  rule_is = stands.rule_is;
+  bearer_is = rw same stands.bearer_is;
+  slot_is = stands.slot_is ∙ sym (slot_stays (slots p j) (slots p k) r.properties.key grows (shown_slots p j g r there));
+  counted_is = rw same stands.counted_is;
+}
+
+pub shows_later : (p : Setting) (j k : Journal) (g : ℕ) (t : TableValue) → at p k g ≡ at p j g → Grows (slots p j) (slots p k) → Shows p j g t → Shows p k g t
+shows_later p j k g t same grows shows = record {
+  number_is = shows.number_is;
+  ordered = shows.ordered;
+  each = λ r there.
+      let before : Contains (at p j g).rules r = subst (λ (q : Generation). Contains q.rules r) same there in
+      let w = shows.each r before in (w.0, w.1, stands_later p j k g w.0 r same grows before w.2);
+  only = λ e there.
+      let w = shows.only e there in
+      (w.0, subst (λ (q : Generation). Contains q.rules w.0) (sym same) w.1, stands_later p j k g e w.0 same grows w.1 w.2);
+}
+
+-- where no table command came, all is as before
+pub shows_same : (p : Setting) (j k : Journal) (g : ℕ) (t : TableValue) → tables k ≡ tables j → Shows p j g t → Shows p k g t
+shows_same p j k g t same = shows_later p j k g t (ap (λ cs. made_by p (oldest g cs)) same) ([], ap (slots_of p) same ∙ sym (append-nil (slots p j)))
+
+-- a command leaves the tables of the generations before it
+pub shows_after_command : (p : Setting) (j : Journal) (c : Command) (g : ℕ) (t : TableValue) → g ≤ gen j → Shows p j g t → Shows p (entry.Command c ∷ j) g t
+shows_after_command p j c g t within shows =
+    shows_later p j (entry.Command c ∷ j) g t (at_after_command p j c g within)
+    (elim (cases_Bool (is_table c)) [
+      | inl is ↦ let grown = slots_grow p c (tables j) in (grown.0, ap (slots_of p) (tables_of_table j c is) ∙ grown.1)
+      | inr isnt ↦ ([], ap (slots_of p) (tables_of_other j c isnt) ∙ sym (append-nil (slots p j)))
+    ]) shows

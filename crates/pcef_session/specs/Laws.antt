@@ -1,14 +1,16 @@
 -- Laws of lawful journals, for whoever reads the definitions.
-use Rattle.std.specs.Prelude.{ℕ, ◌≡◌, ◌≤◌, ◌+◌, true, List, All}
+use Rattle.std.specs.Prelude.{ℕ, ◌≡◌, ◌≤◌, ◌+◌, true, List, ◌∷◌, All}
 use Rattle.pcef_packet.specs.declared.header.Header.{Header}
 use Rattle.pcef_rule.specs.declared.quantity.Qos.{Qos}
 use Rattle.pcef_table.specs.declared.verdict.Verdict.{Verdict}
 use Rattle.pcef_table.specs.Tables.{TableValue}
 use Rattle.pcef_table.specs.Verdicts.{IsVerdict}
+use Rattle.pcef_journal.specs.declared.command.Command.{Command}
+use Rattle.pcef_journal.specs.declared.entry.Entry.TheVariants as entry
 use Rattle.pcef_journal.specs.Setting.{Setting, same_qos}
 use Rattle.pcef_journal.specs.Generations.{has_bearer}
 use Rattle.pcef_journal.specs.Entries.{Journal}
-use Rattle.pcef_journal.specs.Journals.{at, counted, judged, now, reported, unreported}
+use Rattle.pcef_journal.specs.Journals.{at, counted, gen, judged, now, reported, unreported}
 use Rattle.pcef_session.specs.Lawful.{Lawful}
 use Rattle.pcef_session.specs.Shown.{Shows}
 
@@ -39,3 +41,8 @@ IdsAreInRange = (p : Setting) → HasBearerIds p → (j : Journal) → Lawful p 
 abbrev pub ShownTablesJudge : Type 0
 ShownTablesJudge = (p : Setting) (j : Journal) (g : ℕ) (t : TableValue) (header : Header) (v : Verdict) → Shows p j g t →
     IsVerdict p.catalog t.entries p.ue header v → v ≡ judged p (at p j g) header
+
+-- a table goes on showing its generation as commands come
+abbrev pub ShownTablesStay : Type 0
+ShownTablesStay = (p : Setting) (j : Journal) (c : Command) (g : ℕ) (t : TableValue) → g ≤ gen j → Shows p j g t →
+    Shows p (entry.Command c ∷ j) g t

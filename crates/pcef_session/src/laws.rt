@@ -1,6 +1,6 @@
 //! Laws of lawful journals, proved for whoever reads the definitions.
 
-ghost use Rattle.pcef_session.specs.Laws.{IdsAreDistinct, IdsAreInRange, NothingIsLost, NothingIsReportedTwice, ShownTablesJudge};
+ghost use Rattle.pcef_session.specs.Laws.{IdsAreDistinct, IdsAreInRange, NothingIsLost, NothingIsReportedTwice, ShownTablesJudge, ShownTablesStay};
 
 /// What usage reports tell: each counted octet once at most, and none is lost.
 pub fn usage_is_exact()
@@ -14,7 +14,9 @@ pub fn bearers_have_their_own_ids()
     ensures in_range { IdsAreInRange }
 {}
 
-/// A table that shows a generation of the journal judges as the definitions do.
+/// A table that shows a generation of the journal judges as the definitions do, and goes on showing it as
+/// commands come.
 pub fn shown_tables_judge()
-    ensures { ShownTablesJudge }
+    ensures verdicts { ShownTablesJudge }
+    ensures stay { ShownTablesStay }
 {}
