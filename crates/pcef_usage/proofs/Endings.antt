@@ -37,12 +37,12 @@ unfolding states_told
 on_told g [] states a = a
 on_told g (t ∷ ts) states a = on_told g ts (after_telling t states) (on_telling g t states a)
 
-from_on : (p : Setting) (j : Journal) (states : List KeyState) → AllOn p j states → AllByRecursion (λ s. s.on ≡ is_among s.key (now p j).on) states
+pub from_on : (p : Setting) (j : Journal) (states : List KeyState) → AllOn p j states → AllByRecursion (λ s. s.on ≡ is_among s.key (now p j).on) states
 unfolding AllOn
 from_on p j [] a = tt
 from_on p j (s ∷ states) a = (a.0.on_is, from_on p j states a.1)
 
-to_on : (p : Setting) (j : Journal) (states : List KeyState) → AllByRecursion (λ s. s.on ≡ is_among s.key (now p j).on) states → AllOn p j states
+pub to_on : (p : Setting) (j : Journal) (states : List KeyState) → AllByRecursion (λ s. s.on ≡ is_among s.key (now p j).on) states → AllOn p j states
 unfolding AllOn
 to_on p j [] a = tt
 to_on p j (s ∷ states) a = (record { on_is = a.0 }, to_on p j states a.1)

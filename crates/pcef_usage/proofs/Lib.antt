@@ -4,5 +4,7 @@ pub mod Loops
 pub mod Names
 pub mod Places
 pub mod Reports
+pub mod Rows
 pub mod Settles
+pub mod Slots
 pub mod Tells

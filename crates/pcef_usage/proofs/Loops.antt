@@ -99,7 +99,7 @@ key_at (suc n) (s ∷ ss) = key_at n ss
 same_key_at : (n : ℕ) (ss uu : List KeyState) → keys_of ss ≡ keys_of uu → (state_at n ss).key ≡ (state_at n uu).key
 same_key_at n ss uu e = key_at n ss ∙ ap (λ ks. get_or ks n []) e ∙ sym (key_at n uu)
 
-key_among : (n : ℕ) (ss : List KeyState) → n < length ss → is_among (state_at n ss).key (keys_of ss) ≡ true
+pub key_among : (n : ℕ) (ss : List KeyState) → n < length ss → is_among (state_at n ss).key (keys_of ss) ≡ true
 key_among n [] h = absurd (omega arith)
 key_among zero (s ∷ ss) h = rw (same_name_self s.key) refl
 key_among (suc n) (s ∷ ss) h = or_more (same_name (state_at n ss).key s.key) (is_among (state_at n ss).key (keys_of ss)) (key_among n ss (omega arith))

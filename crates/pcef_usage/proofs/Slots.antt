@@ -1,0 +1,144 @@
+-- Keys that have a slot: each stands once, and a key that has none was never on and counts nothing.
+use Rattle.std.proofs.Common.{◌≡◌, ◌∙◌, ℕ, Bool, true, false, List, [], ◌∷◌, ◌++◌, length, refl, sym, ap, arith, inl, inr, nat_le}
+use Rattle.std.specs.Prelude.{Option, Some, None, not, ◌||◌, ◌&&◌, filter}
+use Rattle.std.proofs.lemmas.Bool.{cases_Bool}
+use Rattle.std.proofs.lemmas.List.{map_push}
+use Rattle.pcef_journal.specs.declared.command.Command.{Command}
+use Rattle.pcef_journal.specs.declared.command.Command.TheVariants.{Install, Activate, Remove, Monitor, Stop, ReportNow, Triggers, Notice, LoseBearer, Close, Terminate}
+use Rattle.pcef_journal.specs.declared.row.Row.{Row}
+use Rattle.pcef_journal.specs.Setting.{Setting, same_name}
+use Rattle.pcef_journal.specs.ActiveRules.{has_key}
+use Rattle.pcef_journal.specs.Generations.{add_if_some, add_key, is_among, key_named, made_by, oldest, rules_after, slots_of, switched}
+use Rattle.pcef_journal.specs.Entries.{Journal, rows}
+use Rattle.pcef_journal.specs.Journals.{at, counted, counts, decision, now, octets_of, passed_for, slots, tables}
+use Rattle.pcef_usage.specs.declared.usage.KeyState.{KeyState}
+use Rattle.pcef_usage.specs.Keys.{fresh, has_slot, keys_of, with_slot}
+use Rattle.pcef_usage.specs.Tellings.{Distinct}
+use Rattle.pcef_usage.proofs.Names.{same_name_is, same_name_not}
+use Rattle.pcef_usage.proofs.Places.{or_no}
+use Rattle.pcef_usage.proofs.Tells.{has_slot_is}
+
+or_false : (a : Bool) → (a || false) ≡ a
+or_false true = refl
+or_false false = refl
+
+or_assoc : (a b c : Bool) → (a || (b || c)) ≡ ((a || b) || c)
+or_assoc true b c = refl
+or_assoc false b c = refl
+
+and_no : (a b : Bool) → b ≡ false → (a && b) ≡ false
+and_no true b absent = absent
+and_no false b absent = refl
+
+-- ---- one key more, or some fewer
+pub is_among_append : (k l : List ℕ) (keys : List (List ℕ)) → is_among k (keys ++ l ∷ []) ≡ (is_among k keys || same_name k l)
+is_among_append k l [] = or_false (same_name k l)
+is_among_append k l (m ∷ keys) = ap (λ b. same_name k m || b) (is_among_append k l keys) ∙ or_assoc (same_name k m) (is_among k keys) (same_name k l)
+
+add_known : (k l : List ℕ) (keys : List (List ℕ)) → is_among l keys ≡ true → is_among k keys ≡ (is_among k keys || same_name k l)
+add_known k l keys known =
+    elim (cases_Bool (same_name k l)) [
+      | inl same ↦ let is : is_among k keys ≡ true = ap (λ x. is_among x keys) (same_name_is k l same) ∙ known in is ∙ sym (ap (λ b. b || same_name k l) is)
+      | inr differs ↦ sym (ap (λ b. is_among k keys || b) differs ∙ or_false (is_among k keys))
+    ]
+
+pub is_among_add : (k l : List ℕ) (keys : List (List ℕ)) → is_among k (add_key l keys) ≡ (is_among k keys || same_name k l)
+is_among_add k l keys =
+    elim (cases_Bool (is_among l keys)) [
+      | inl known ↦ rw known (add_known k l keys known)
+      | inr unknown ↦ rw unknown (is_among_append k l keys)
+    ]
+
+pub is_among_filter : (k : List ℕ) (test : List ℕ → Bool) (keys : List (List ℕ)) → is_among k keys ≡ false → is_among k (filter test keys) ≡ false
+is_among_filter k test [] absent = refl
+is_among_filter k test (m ∷ keys) absent =
+    let parts = or_no (same_name k m) (is_among k keys) absent in
+    elim (cases_Bool (test m)) [
+      | inl passes ↦ rw passes (rw (parts.0, is_among_filter k test keys parts.1) refl)
+      | inr fails ↦ rw fails (is_among_filter k test keys parts.1)
+    ]
+
+-- ---- a key that has no slot was never on
+off_before_add : (k : List ℕ) (named : Option (List ℕ)) (keys : List (List ℕ)) → is_among k (add_if_some named keys) ≡ false → is_among k keys ≡ false
+off_before_add k None keys absent = absent
+off_before_add k (Some l) keys absent = (or_no (is_among k keys) (same_name k l) (sym (is_among_add k l keys) ∙ absent)).0
+
+switched_off : (p : Setting) (c : Command) (keys on : List (List ℕ)) (k : List ℕ) →
+    is_among k (add_if_some (key_named p c) keys) ≡ false → is_among k on ≡ false → is_among k (switched c on) ≡ false
+switched_off p (Monitor l amount) keys on k absent off =
+    is_among_add k l on ∙ (let parts = or_no (is_among k keys) (same_name k l) (sym (is_among_add k l keys) ∙ absent) in rw (off, parts.1) refl)
+switched_off p (Stop l) keys on k absent off = is_among_filter k (λ m. not (same_name l m)) on off
+switched_off p Terminate keys on k absent off = refl
+switched_off p (Install rule) keys on k absent off = off
+switched_off p (Activate name) keys on k absent off = off
+switched_off p (Remove name) keys on k absent off = off
+switched_off p (ReportNow l) keys on k absent off = off
+switched_off p (Triggers set) keys on k absent off = off
+switched_off p (Notice kind value) keys on k absent off = off
+switched_off p (LoseBearer id) keys on k absent off = off
+switched_off p Close keys on k absent off = off
+
+pub stranger_off : (p : Setting) (cs : List Command) (k : List ℕ) → is_among k (slots_of p cs) ≡ false → is_among k (made_by p cs).on ≡ false
+unfolding made_by slots_of
+stranger_off p [] k absent = refl
+stranger_off p (c ∷ cs) k absent =
+    let off = stranger_off p cs k (off_before_add k (key_named p c) (slots_of p cs) absent) in
+    is_among_filter k (λ l. not (has_key l (made_by p cs).rules) || has_key l (rules_after p (made_by p cs) c)) _ (switched_off p c (slots_of p cs) (made_by p cs).on k absent off)
+
+stranger_older : (p : Setting) (n : ℕ) (cs : List Command) (k : List ℕ) → is_among k (slots_of p cs) ≡ false → is_among k (slots_of p (oldest n cs)) ≡ false
+unfolding oldest slots_of
+stranger_older p n [] k absent = refl
+stranger_older p n (c ∷ cs) k absent =
+    elim (cases_Bool (nat_le n (length cs))) [
+      | inl is ↦ rw is (stranger_older p n cs k (off_before_add k (key_named p c) (slots_of p cs) absent))
+      | inr isnt ↦ rw isnt absent
+    ]
+
+-- no row counts for it
+none_counted : (test : Row → Bool) (rs : List Row) → ((r : Row) → test r ≡ false) → octets_of test rs ≡ 0
+unfolding octets_of
+none_counted test [] none = refl
+none_counted test (r ∷ rs) none = rw (none r) (omega (arith, none_counted test rs none))
+
+pub stranger_counts : (p : Setting) (j : Journal) (k : List ℕ) (r : Row) → is_among k (slots p j) ≡ false → counts p j k r ≡ false
+stranger_counts p j k r absent =
+    and_no (passed_for k (decision p (at p j r.generation) r.header)) (is_among k (at p j r.generation).on)
+    (stranger_off p (oldest r.generation (tables j)) k (stranger_older p r.generation (tables j) k absent))
+
+pub stranger_counted : (p : Setting) (j : Journal) (k : List ℕ) → is_among k (slots p j) ≡ false → counted p j k ≡ 0
+stranger_counted p j k absent = none_counted (counts p j k) (rows j) (λ r. stranger_counts p j k r absent)
+
+pub slot_of_on : (p : Setting) (j : Journal) (k : List ℕ) → is_among k (now p j).on ≡ true → is_among k (slots p j) ≡ true
+slot_of_on p j k on =
+    elim (cases_Bool (is_among k (slots p j))) [
+      | inl is ↦ is
+      | inr isnt ↦ let off : is_among k (now p j).on ≡ false = stranger_off p (tables j) k isnt in cc
+    ]
+
+-- ---- keys that have a slot stand once
+distinct_append : (k : List ℕ) (keys : List (List ℕ)) → Distinct keys → is_among k keys ≡ false → Distinct (keys ++ k ∷ [])
+distinct_append k [] distinct absent = (refl, tt)
+distinct_append k (l ∷ keys) distinct absent =
+    let parts = or_no (same_name k l) (is_among k keys) absent in
+    (is_among_append l k keys ∙ ap (λ b. b || same_name l k) distinct.0 ∙ same_name_not k l parts.0, distinct_append k keys distinct.1 parts.1)
+
+distinct_add : (named : Option (List ℕ)) (keys : List (List ℕ)) → Distinct keys → Distinct (add_if_some named keys)
+distinct_add None keys distinct = distinct
+distinct_add (Some k) keys distinct =
+    elim (cases_Bool (is_among k keys)) [
+      | inl is ↦ rw is distinct
+      | inr isnt ↦ rw isnt (distinct_append k keys distinct isnt)
+    ]
+
+pub distinct_slots : (p : Setting) (cs : List Command) → Distinct (slots_of p cs)
+unfolding slots_of
+distinct_slots p [] = tt
+distinct_slots p (c ∷ cs) = distinct_add (key_named p c) (slots_of p cs) (distinct_slots p cs)
+
+pub keys_with_slot : (named : Option (List ℕ)) (states : List KeyState) → keys_of (with_slot named states) ≡ add_if_some named (keys_of states)
+keys_with_slot None states = refl
+keys_with_slot (Some k) states =
+    elim (cases_Bool (has_slot k states)) [
+      | inl is ↦ let among : is_among k (keys_of states) ≡ true = sym (has_slot_is k states) ∙ is in rw (is, among) refl
+      | inr isnt ↦ let among : is_among k (keys_of states) ≡ false = sym (has_slot_is k states) ∙ isnt in rw (isnt, among) (map_push (λ (s : KeyState). s.key) states (fresh k))
+    ]
