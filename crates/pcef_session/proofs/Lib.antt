@@ -4,6 +4,7 @@ pub mod Exactness
 pub mod Found
 pub mod Members
 pub mod ShownLater
+pub mod ShownSlots
 pub mod ShownVerdicts
 pub mod SlotPlaces
 pub mod WorkerTables

@@ -4,13 +4,14 @@ use Rattle.pcef_packet.specs.declared.header.Header.{Header}
 use Rattle.pcef_rule.specs.declared.quantity.Qos.{Qos}
 use Rattle.pcef_table.specs.declared.verdict.Verdict.{Verdict}
 use Rattle.pcef_table.specs.Tables.{TableValue}
-use Rattle.pcef_table.specs.Verdicts.{IsVerdict}
+use Rattle.pcef_table.specs.Verdicts.{IsVerdict, slot_for}
 use Rattle.pcef_journal.specs.declared.command.Command.{Command}
 use Rattle.pcef_journal.specs.declared.entry.Entry.TheVariants as entry
 use Rattle.pcef_journal.specs.Setting.{Setting, same_qos}
 use Rattle.pcef_journal.specs.Generations.{has_bearer}
 use Rattle.pcef_journal.specs.Entries.{Journal}
-use Rattle.pcef_journal.specs.Journals.{at, counted, gen, judged, now, reported, unreported}
+use Rattle.pcef_journal.specs.Journals.{at, counted, counts_in, gen, judged, now, reported, slots, unreported}
+use Rattle.pcef_session.specs.Following.{has_this_slot}
 use Rattle.pcef_session.specs.Lawful.{Lawful}
 use Rattle.pcef_session.specs.Shown.{Shows}
 
@@ -46,3 +47,9 @@ ShownTablesJudge = (p : Setting) (j : Journal) (g : ℕ) (t : TableValue) (heade
 abbrev pub ShownTablesStay : Type 0
 ShownTablesStay = (p : Setting) (j : Journal) (c : Command) (g : ℕ) (t : TableValue) → g ≤ gen j → Shows p j g t →
     Shows p (entry.Command c ∷ j) g t
+
+-- a table that shows a generation counts each packet for the key that the generation says
+abbrev pub ShownTablesCount : Type 0
+ShownTablesCount = (p : Setting) (j : Journal) (g : ℕ) (t : TableValue) (header : Header) (v : Verdict) (key : List ℕ) → Shows p j g t →
+    IsVerdict p.catalog t.entries p.ue header v →
+    counts_in p (at p j g) key header ≡ has_this_slot (slots p j) (slot_for p.catalog t.entries v) key

@@ -1,6 +1,6 @@
 //! Laws of lawful journals, proved for whoever reads the definitions.
 
-ghost use Rattle.pcef_session.specs.Laws.{IdsAreDistinct, IdsAreInRange, NothingIsLost, NothingIsReportedTwice, ShownTablesJudge, ShownTablesStay};
+ghost use Rattle.pcef_session.specs.Laws.{IdsAreDistinct, IdsAreInRange, NothingIsLost, NothingIsReportedTwice, ShownTablesCount, ShownTablesJudge, ShownTablesStay};
 
 /// What usage reports tell: each counted octet once at most, and none is lost.
 pub fn usage_is_exact()
@@ -14,9 +14,10 @@ pub fn bearers_have_their_own_ids()
     ensures in_range { IdsAreInRange }
 {}
 
-/// A table that shows a generation of the journal judges as the definitions do, and goes on showing it as
-/// commands come.
+/// A table that shows a generation of the journal judges and counts as the definitions do, and goes on
+/// showing it as commands come.
 pub fn shown_tables_judge()
     ensures verdicts { ShownTablesJudge }
+    ensures counts { ShownTablesCount }
     ensures stay { ShownTablesStay }
 {}

@@ -1,0 +1,129 @@
+-- A table that shows a generation counts each packet for the key that the generation says.
+use Rattle.std.proofs.Common.{◌≡◌, ◌∙◌, ◌<◌, ℕ, suc, zero, Bool, true, false, ◌&&◌, ◌==◌, List, [], ◌∷◌, length, refl, sym, ap, subst, arith, inl, inr, find, Contains, Some, None, if◌then◌else◌}
+use Rattle.std.specs.Prelude.{◌⊎◌, Option}
+use Rattle.std.specs.List.{list_any}
+use Rattle.std.specs.Option.{option_map, option_map_or}
+use Rattle.std.proofs.lemmas.Bool.{cases_Bool, eqb-true, eq-eqb, false_from_ne_true, and_left, and_right}
+use Rattle.std.proofs.lemmas.List.Elements.{All-contains}
+use Rattle.pcef_packet.specs.declared.header.Header.{Header}
+use Rattle.pcef_packet.specs.Addresses.{same_addr, ue_side}
+use Rattle.pcef_rule.specs.declared.quantity.Slot.{Slot}
+use Rattle.pcef_rule.specs.Gate.{opens}
+use Rattle.pcef_table.specs.declared.entry.Entry.{Entry}
+use Rattle.pcef_table.specs.declared.listing.Offer.{Offer}
+use Rattle.pcef_table.specs.declared.verdict.Verdict.{Verdict}
+use Rattle.pcef_table.specs.declared.verdict.Verdict.TheVariants.{Stray, Unmatched, Gated, Passed}
+use Rattle.pcef_table.specs.Sources.{is_named, name_of, properties_of}
+use Rattle.pcef_table.specs.Tables.{TableValue}
+use Rattle.pcef_table.specs.Verdicts.{counted_slot, slot_for}
+use Rattle.pcef_table.proofs.Foremost.{found_is_foremost, none_passes}
+use Rattle.pcef_journal.specs.Setting.{Setting, same_name}
+use Rattle.pcef_journal.specs.ActiveRules.{Active, decisive, is_decisive, is_key}
+use Rattle.pcef_journal.specs.Generations.{Generation, is_among}
+use Rattle.pcef_journal.specs.Entries.{Journal}
+use Rattle.pcef_journal.specs.Journals.{Decision, at, counts_in, decided_by, decision, gated, judged, passed, slots, stray, unmatched, verdict_of, passed_for}
+use Rattle.pcef_session.specs.Following.{has_this_slot, is_at}
+use Rattle.pcef_session.specs.Shown.{Shows, StandsFor, counts_now, place_of, slot_of}
+use Rattle.pcef_session.proofs.BoundRules.{NamesOnce, contrary, same_name_is, same_name_of}
+use Rattle.pcef_session.proofs.ShownLater.{HasSlot, shown_slots}
+use Rattle.pcef_session.proofs.ShownVerdicts.{once_is, rule_is}
+use Rattle.pcef_session.proofs.SlotPlaces.{place_once, place_there}
+
+-- an element that passes is found, or another one before it
+pub find_some : {X : Type 0} (test : X → Bool) (xs : List X) (x : X) → Contains xs x → test x ≡ true → (y : X) × (find test xs ≡ Some y) × Contains xs y × (test y ≡ true)
+find_some {X} test xs x there passes = from (find test xs) refl
+  where
+    from : (o : Option X) → find test xs ≡ o → (y : X) × (find test xs ≡ Some y) × Contains xs y × (test y ≡ true)
+    from None is = contrary (test x) passes (All-contains (λ y. test y ≡ false) xs x (none_passes test xs is) there)
+    from (Some y) is =
+        let f = found_is_foremost (λ _ _. Unit {0}) test xs y (λ i j d below within. tt) is in (y, is, f.there, f.passes)
+
+-- ---- the slot of an entry
+place_at : (key k : List ℕ) (keys : List (List ℕ)) (n : ℕ) → place_of k keys ≡ Some n → same_name key k ≡ false → is_at (place_of key keys) n ≡ false
+place_at key k keys n is differs = from (place_of key keys) refl
+  where
+    from : (o : Option ℕ) → place_of key keys ≡ o → is_at o n ≡ false
+    from None none = refl
+    from (Some m) some = false_from_ne_true (m == n) (λ same. contrary (same_name key k)
+        (same_name_of key k (place_once key k keys n (some ∙ ap (λ (i : ℕ). Some i) (eqb-true m n same)) is)) differs)
+
+keyed_counts : (keys on : List (List ℕ)) (k key : List ℕ) (slot : Option Slot) → is_among k on ≡ true → option_map (λ (s : Slot). s.0) slot ≡ place_of k keys → is_among k keys ≡ true →
+    (same_name key k && is_among key on) ≡ has_this_slot keys slot key
+keyed_counts keys on k key None counted slot_is has =
+    let w = place_there k keys has in absurd (let e : None ≡ Some w.0 = slot_is ∙ w.1 in cc)
+keyed_counts keys on k key (Some s) counted slot_is has =
+    elim (cases_Bool (same_name key k)) [
+      | inl same ↦
+          let is = same_name_is key k same in
+          let left : (same_name key k && is_among key on) ≡ true = rw same (ap (λ n. is_among n on) is ∙ counted) in
+          let right : is_at (place_of key keys) s.0 ≡ true = ap (λ n. is_at (place_of n keys) s.0) is ∙ ap (λ o. is_at o s.0) (sym slot_is) ∙ eq-eqb s.0 s.0 refl in
+          left ∙ sym right
+      | inr differs ↦ and_left (same_name key k) (is_among key on) differs ∙ sym (place_at key k keys s.0 (sym slot_is) differs)
+    ]
+
+slot_counts : (keys on : List (List ℕ)) (key_of : Option (List ℕ)) (counted : Bool) (slot : Option Slot) (key : List ℕ) → counted ≡ counts_now on key_of →
+    option_map (λ (s : Slot). s.0) slot ≡ slot_of keys key_of → HasSlot keys key_of → (is_key key key_of && is_among key on) ≡ has_this_slot keys (if counted then slot else None) key
+slot_counts keys on None counted slot key counted_is slot_is has = rw counted_is refl
+slot_counts keys on (Some k) counted slot key counted_is slot_is has =
+    elim (cases_Bool (is_among k on)) [
+      | inl is_on ↦ let is : counted ≡ true = counted_is ∙ is_on in rw is (keyed_counts keys on k key slot is_on slot_is has)
+      | inr is_off ↦
+          let is : counted ≡ false = counted_is ∙ is_off in
+          rw is (elim (cases_Bool (same_name key k)) [
+            | inl same ↦ and_right (same_name key k) (is_among key on) (ap (λ n. is_among n on) (same_name_is key k same) ∙ is_off)
+            | inr differs ↦ and_left (same_name key k) (is_among key on) differs
+          ])
+    ]
+
+-- ---- the rule that lets a packet pass
+gate_of : (header : Header) (x r : Active) → decided_by header (Some x) ≡ passed r → x ≡ r
+gate_of header x r is =
+    elim (cases_Bool (opens x.properties.gate header.dir)) [
+      | inl opened ↦ let e : passed x ≡ passed r = rw opened at is in cc
+      | inr closed ↦ let e : gated x ≡ passed r = rw closed at is in absurd cc
+    ]
+
+passed_is : (p : Setting) (g : Generation) (header : Header) (r : Active) → decision p g header ≡ passed r → Contains g.rules r
+passed_is p g header r is =
+    elim (cases_Bool (same_addr (ue_side header) p.ue)) [
+      | inr other ↦ let e : stray ≡ passed r = rw other at is in absurd cc
+      | inl own ↦ from (decisive g.rules p.ue header) refl (rw own at is)
+    ]
+  where
+    from : (o : Option Active) → decisive g.rules p.ue header ≡ o → decided_by header o ≡ passed r → Contains g.rules r
+    from None none by = absurd cc
+    from (Some x) some by =
+        let f = found_is_foremost (λ _ _. Unit {0}) (is_decisive g.rules p.ue header) g.rules x (λ i j d below within. tt) some in
+        subst (Contains g.rules) (gate_of header x r by) f.there
+
+-- the entry of a rule's name stands for the rule
+entry_named : (p : Setting) (j : Journal) (g : ℕ) (t : TableValue) (r : Active) → Shows p j g t → NamesOnce (at p j g).rules → Contains (at p j g).rules r →
+    (e : Entry) × (find (λ e. is_named p.catalog r.properties.name e.source) t.entries ≡ Some e) × StandsFor p j g e r
+entry_named p j g t r shows once there =
+    let w = shows.each r there in
+    let w_is = rule_is p.catalog w.0.source r w.2.rule_is in
+    let named : is_named p.catalog r.properties.name w.0.source ≡ true =
+    ap (λ o. same_name (option_map_or (λ q. q.name) o []) r.properties.name) w_is.properties_are ∙ same_name_of r.properties.name r.properties.name refl in
+    let f = find_some (λ (e : Entry). is_named p.catalog r.properties.name e.source) t.entries w.0 w.1 named in
+    let v = shows.only f.0 f.2 in
+    let v_is = rule_is p.catalog f.0.source v.0 v.2.rule_is in
+    let names : v.0.properties.name ≡ r.properties.name =
+    same_name_is v.0.properties.name r.properties.name (sym (ap (λ o. same_name (option_map_or (λ q. q.name) o []) r.properties.name) v_is.properties_are) ∙ f.3) in
+    let same : v.0 ≡ r = once_is (at p j g).rules v.0 r once v.1 there names in
+    (f.0, f.1, subst (StandsFor p j g f.0) same v.2)
+
+-- ---- counting
+-- the slot that a table gives to a verdict is that of the key that the packet counts for
+pub shown_counts : (p : Setting) (j : Journal) (g : ℕ) (t : TableValue) (header : Header) (v : Verdict) (key : List ℕ) → Shows p j g t → NamesOnce (at p j g).rules →
+    v ≡ judged p (at p j g) header → counts_in p (at p j g) key header ≡ has_this_slot (slots p j) (slot_for p.catalog t.entries v) key
+shown_counts p j g t header v key shows once is = rw is (from (decision p (at p j g) header) refl)
+  where
+    from : (d : Decision) → decision p (at p j g) header ≡ d →
+        (passed_for key d && is_among key (at p j g).on) ≡ has_this_slot (slots p j) (slot_for p.catalog t.entries (verdict_of (at p j g) d)) key
+    from stray decided = refl
+    from unmatched decided = refl
+    from (gated r) decided = refl
+    from (passed r) decided =
+        let there = passed_is p (at p j g) header r decided in
+        let w = entry_named p j g t r shows once there in
+        rw w.1 (slot_counts (slots p j) (at p j g).on r.properties.key w.0.counted w.0.slot key w.2.counted_is w.2.slot_is (shown_slots p j g r there))
