@@ -83,7 +83,7 @@ shown_slots p j g r there =
     has_slot_later (slots_of p (oldest g (tables j))) (slots p j) r.properties.key (oldest_grow p g (tables j)) (rules_have_slots p (oldest g (tables j)) r there)
 
 -- ---- a table as the journal grows
-slot_stays : (keys all : List (List ℕ)) (key : Option (List ℕ)) → Grows keys all → HasSlot keys key → slot_of all key ≡ slot_of keys key
+pub slot_stays : (keys all : List (List ℕ)) (key : Option (List ℕ)) → Grows keys all → HasSlot keys key → slot_of all key ≡ slot_of keys key
 slot_stays keys all None grows has = refl
 slot_stays keys all (Some key) grows has = ap (place_of key) grows.1 ∙ place_grown key keys grows.0 has
 

@@ -1,0 +1,223 @@
+-- The tables that Install, Remove and Monitor make show the next generation.
+use Rattle.std.proofs.Common.{◌≡◌, ◌∙◌, ◌≤◌, ◌+◌, ℕ, suc, Bool, true, false, ◌&&◌, ◌||◌, not, List, [], ◌∷◌, ◌++◌, length, refl, sym, ap, subst, arith, inl, inr, filter, map, Contains, Some, None, if◌then◌else◌, ◌==◌}
+use Rattle.std.specs.Prelude.{◌⊎◌, Option}
+use Rattle.std.specs.List.{list_any}
+use Rattle.std.specs.Option.{option_map, option_map_or}
+use Rattle.std.proofs.lemmas.Bool.{cases_Bool, or_left, or_right, eqb-true, eq-eqb, false_from_ne_true, not_from_false, not_from_true}
+use Rattle.std.proofs.lemmas.List.Elements.{Contains-append_cases, Contains-append_left, Contains-append_right}
+use Rattle.pcef_rule.specs.declared.quantity.Qos.{Qos}
+use Rattle.pcef_rule.specs.declared.quantity.Slot.{Slot}
+use Rattle.pcef_rule.specs.declared.rule.Properties.{Properties}
+use Rattle.pcef_rule.specs.Definition.{Definition}
+use Rattle.pcef_rule.specs.Precedence.{rank_by}
+use Rattle.pcef_rule.proofs.OrderOfRules.{one_goes_first}
+use Rattle.pcef_table.specs.declared.entry.Entry.{Entry}
+use Rattle.pcef_table.specs.declared.listing.Offer.{Offer}
+use Rattle.pcef_table.specs.Sources.{name_of, no_rank, origin_of, properties_of, rank_of}
+use Rattle.pcef_table.specs.Tables.{IsTable, TableValue, has_other_name, is_before, is_behind, is_slot, placed, with_counting, without}
+use Rattle.pcef_journal.specs.declared.entry.Entry.TheVariants as entry
+use Rattle.pcef_journal.specs.declared.command.Command.{Command}
+use Rattle.pcef_journal.specs.declared.command.Command.TheVariants.{Install, Remove, Monitor}
+use Rattle.pcef_journal.specs.Setting.{Setting, same_name, same_qos}
+use Rattle.pcef_journal.specs.ActiveRules.{Active, dynamic, has_key, is_key, put}
+use Rattle.pcef_journal.specs.ActiveRules as rules
+use Rattle.pcef_journal.specs.Generations.{Generation, add_key, default_id, id_after, is_among, next, rules_after, slots_of, still_on, switched}
+use Rattle.pcef_journal.specs.Entries.{Journal}
+use Rattle.pcef_journal.specs.Journals.{at, gen, is_table, now, slots, tables}
+use Rattle.pcef_journal.proofs.Growth.{at_newest, gen_after_table, now_after_table, tables_of_table}
+use Rattle.pcef_usage.proofs.Slots.{is_among_add}
+use Rattle.pcef_session.specs.Shown.{Shows, StandsFor, counts_now, place_of, slot_of}
+use Rattle.pcef_session.proofs.BoundRules.{NamesOnce, contrary, same_name_is, same_name_of, same_qos_self}
+use Rattle.pcef_session.proofs.Found.{any_from}
+use Rattle.pcef_session.proofs.Members.{filter_from, filter_to, first_there, later_there, map_from, map_to, put_cases, put_new, put_old, there_cases}
+use Rattle.pcef_session.proofs.ShownLater.{shown_slots, slot_stays}
+use Rattle.pcef_session.proofs.ShownVerdicts.{made_once, rule_is}
+use Rattle.pcef_session.proofs.SlotPlaces.{Grows, place_once, place_there, slots_grow}
+
+-- ---- keys that stay on
+on_kept : (key : List ℕ) (test : List ℕ → Bool) (keys : List (List ℕ)) → test key ≡ true → is_among key (filter test keys) ≡ is_among key keys
+on_kept key test [] passes = refl
+on_kept key test (k ∷ keys) passes =
+    elim (cases_Bool (same_name key k)) [
+      | inl same ↦
+          let at_k : test k ≡ true = ap test (sym (same_name_is key k same)) ∙ passes in rw (at_k, same) refl
+      | inr differs ↦ elim (cases_Bool (test k)) [
+        | inl kept ↦ rw (kept, differs) (on_kept key test keys passes)
+        | inr dropped ↦ rw (dropped, differs) (on_kept key test keys passes)
+      ]
+    ]
+
+has_key_from : (rs : List Active) (r : Active) (key : List ℕ) → Contains rs r → r.properties.key ≡ Some key → has_key key rs ≡ true
+has_key_from rs r key there is = any_from (λ x. is_key key x.properties.key) rs r there (ap (is_key key) is ∙ same_name_of key key refl)
+
+-- the key of a rule that is there afterwards stays on or off
+still : (old new : List Active) (on : List (List ℕ)) (r : Active) → Contains new r → counts_now (still_on old new on) r.properties.key ≡ counts_now on r.properties.key
+still old new on r there = from r.properties.key refl
+  where
+    from : (key : Option (List ℕ)) → r.properties.key ≡ key → counts_now (still_on old new on) key ≡ counts_now on key
+    from None is = refl
+    from (Some key) is =
+        on_kept key (λ k. not (has_key k old) || has_key k new) on (or_right (not (has_key key old)) (has_key key new) (has_key_from new r key there is))
+
+-- ---- bearers that stay
+-- the pair of a rule that was there keeps its id
+unfoldable pub Fives : Setting → Generation → Type 0
+Fives p g = (q : Qos) → same_qos q p.default_qos ≡ true → g.id_of q ≡ default_id
+
+id_stays : (p : Setting) (g : Generation) (new : List Active) (r : Active) → Fives p g → Contains g.rules r → id_after p g new r.properties.qos ≡ g.id_of r.properties.qos
+unfolding Fives
+id_stays p g new r fives there =
+    elim (cases_Bool (same_qos r.properties.qos p.default_qos)) [
+      | inl default ↦ rw default (sym (fives r.properties.qos default))
+      | inr other ↦
+          let has : list_any (λ (x : Active). same_qos r.properties.qos x.properties.qos) g.rules ≡ true =
+          any_from (λ (x : Active). same_qos r.properties.qos x.properties.qos) g.rules r there (same_qos_self r.properties.qos) in
+          rw (other, has) refl
+    ]
+
+-- ---- the next generation
+-- an entry goes on standing for a rule that stays, where its key stays on or off
+stands_next : (p : Setting) (j : Journal) (c : Command) (e : Entry) (r : Active) → is_table c ≡ true → Fives p (now p j) → Contains (now p j).rules r →
+    counts_now (next p (now p j) c).on r.properties.key ≡ counts_now (now p j).on r.properties.key →
+    StandsFor p j (gen j) e r → StandsFor p (entry.Command c ∷ j) (gen (entry.Command c ∷ j)) e r
+stands_next p j c e r is fives there on stands =
+    let before : at p j (gen j) ≡ now p j = at_newest p j in
+    let after : at p (entry.Command c ∷ j) (gen (entry.Command c ∷ j)) ≡ next p (now p j) c = at_newest p (entry.Command c ∷ j) ∙ now_after_table p j c is in
+    let grown : Grows (slots p j) (slots p (entry.Command c ∷ j)) = (let g = slots_grow p c (tables j) in (g.0, ap (slots_of p) (tables_of_table j c is) ∙ g.1)) in
+    let shown : Contains (at p j (gen j)).rules r = subst (λ (g : Generation). Contains g.rules r) (sym before) there in
+    record {
+      rule_is = stands.rule_is;
+      bearer_is = rw after (stands.bearer_is ∙ ap (λ (g : Generation). g.id_of r.properties.qos) before ∙ sym (id_stays p (now p j) (rules_after p (now p j) c) r fives there));
+      slot_is = stands.slot_is ∙ sym (slot_stays (slots p j) (slots p (entry.Command c ∷ j)) r.properties.key grown (shown_slots p j (gen j) r shown));
+      counted_is = rw after (stands.counted_is ∙ ap (λ (g : Generation). counts_now g.on r.properties.key) before ∙ sym on);
+    }
+
+-- what a table says of a generation that a table command made
+shows_next : (p : Setting) (j : Journal) (c : Command) (t : TableValue) → is_table c ≡ true → t.number ≡ gen j + 1 → IsTable p.catalog t.entries →
+    ((r : Active) → Contains (rules_after p (now p j) c) r → (e : Entry) × Contains t.entries e × StandsFor p (entry.Command c ∷ j) (gen (entry.Command c ∷ j)) e r) →
+    ((e : Entry) → Contains t.entries e → (r : Active) × Contains (rules_after p (now p j) c) r × StandsFor p (entry.Command c ∷ j) (gen (entry.Command c ∷ j)) e r) →
+    Shows p (entry.Command c ∷ j) (gen (entry.Command c ∷ j)) t
+shows_next p j c t is number table each only =
+    let after : at p (entry.Command c ∷ j) (gen (entry.Command c ∷ j)) ≡ next p (now p j) c = at_newest p (entry.Command c ∷ j) ∙ now_after_table p j c is in
+    record {
+      number_is = omega (arith, number, gen_after_table j c is);
+      ordered = table;
+      each = λ r there. each r (subst (λ (g : Generation). Contains g.rules r) after there);
+      only = λ e there. let w = only e there in (w.0, subst (λ (g : Generation). Contains g.rules w.0) (sym after) w.1, w.2);
+    }
+
+-- the rule of each entry, and the entry of each rule, in the newest generation
+each_now : (p : Setting) (j : Journal) (t : TableValue) → Shows p j (gen j) t → (r : Active) → Contains (now p j).rules r → (e : Entry) × Contains t.entries e × StandsFor p j (gen j) e r
+each_now p j t shows r there = shows.each r (subst (λ (g : Generation). Contains g.rules r) (sym (at_newest p j)) there)
+
+only_now : (p : Setting) (j : Journal) (t : TableValue) → Shows p j (gen j) t → (e : Entry) → Contains t.entries e → (r : Active) × Contains (now p j).rules r × StandsFor p j (gen j) e r
+only_now p j t shows e there = let w = shows.only e there in (w.0, subst (λ (g : Generation). Contains g.rules w.0) (at_newest p j) w.1, w.2)
+
+-- the name of an entry is that of its rule
+name_is : (p : Setting) (j : Journal) (g : ℕ) (e : Entry) (r : Active) → StandsFor p j g e r → name_of p.catalog e.source ≡ r.properties.name
+name_is p j g e r stands = ap (λ o. option_map_or (λ q. q.name) o []) (rule_is p.catalog e.source r stands.rule_is).properties_are
+
+-- ---- Remove
+pub shows_remove : (p : Setting) (j : Journal) (name : List ℕ) (t : TableValue) (number : ℕ) (entries : List Entry) → Fives p (now p j) → Shows p j (gen j) t →
+    number ≡ t.number + 1 → entries ≡ without p.catalog name t.entries → IsTable p.catalog entries →
+    Shows p (entry.Command (Remove name) ∷ j) (gen (entry.Command (Remove name) ∷ j)) (record { number = number; entries = entries })
+shows_remove p j name t number entries fives shows number_is entries_are table =
+    shows_next p j (Remove name) (record { number = number; entries = entries }) refl (omega (arith, number_is, shows.number_is)) table
+    (λ r there.
+      let kept = filter_from (λ x. not (rules.is_named name x)) (now p j).rules r there in
+      let w = each_now p j t shows r kept.0 in
+      let other : has_other_name p.catalog name w.0 ≡ true = ap (λ n. not (same_name n name)) (name_is p j (gen j) w.0 r w.2) ∙ kept.1 in
+      (w.0, subst (λ es. Contains es w.0) (sym entries_are) (filter_to (has_other_name p.catalog name) t.entries w.0 w.1 other),
+        stands_next p j (Remove name) w.0 r refl fives kept.0 (still (now p j).rules (rules_after p (now p j) (Remove name)) (now p j).on r there) w.2))
+    (λ e there.
+      let kept = filter_from (has_other_name p.catalog name) t.entries e (subst (λ es. Contains es e) entries_are there) in
+      let w = only_now p j t shows e kept.0 in
+      let other : not (rules.is_named name w.0) ≡ true = ap (λ n. not (same_name n name)) (sym (name_is p j (gen j) e w.0 w.2)) ∙ kept.1 in
+      let after = filter_to (λ x. not (rules.is_named name x)) (now p j).rules w.0 w.1 other in
+      (w.0, after, stands_next p j (Remove name) e w.0 refl fives w.1 (still (now p j).rules (rules_after p (now p j) (Remove name)) (now p j).on w.0 after) w.2))
+
+-- ---- Install
+rank_name : (offers : List Offer) (e : Entry) → (rank_of offers e.source).name ≡ name_of offers e.source
+rank_name offers e = from (properties_of offers e.source)
+  where
+    from : (o : Option Properties) → (option_map_or (rank_by (origin_of e.source)) o no_rank).name ≡ option_map_or (λ q. q.name) o []
+    from None = refl
+    from (Some q) = refl
+
+-- an entry of another name stands before the new one or behind it
+side_of : (offers : List Offer) (x e : Entry) → has_other_name offers (name_of offers x.source) e ≡ true →
+    (is_before offers x e ≡ true) ⊎ (is_behind offers x e ≡ true)
+side_of offers x e other =
+    elim (one_goes_first (rank_of offers e.source) (rank_of offers x.source) (λ same.
+      contrary (has_other_name offers (name_of offers x.source) e) other
+      (not_from_true (same_name (name_of offers e.source) (name_of offers x.source))
+        (same_name_of (name_of offers e.source) (name_of offers x.source) (sym (rank_name offers e) ∙ same ∙ rank_name offers x))))) [
+      | inl before ↦ inl before.0
+      | inr behind ↦ inr behind.1
+    ]
+
+placed_new : (offers : List Offer) (x : Entry) (entries : List Entry) → Contains (placed offers x entries) x
+placed_new offers x entries =
+    let others = without offers (name_of offers x.source) entries in
+    Contains-append_right (filter (is_before offers x) others) (x ∷ filter (is_behind offers x) others) x (first_there x (filter (is_behind offers x) others))
+
+placed_old : (offers : List Offer) (x : Entry) (entries : List Entry) (e : Entry) → Contains entries e → has_other_name offers (name_of offers x.source) e ≡ true →
+    Contains (placed offers x entries) e
+placed_old offers x entries e there other =
+    let others = without offers (name_of offers x.source) entries in
+    let stays : Contains others e = filter_to (has_other_name offers (name_of offers x.source)) entries e there other in
+    elim (side_of offers x e other) [
+      | inl before ↦
+          Contains-append_left (filter (is_before offers x) others) (x ∷ filter (is_behind offers x) others) e (filter_to (is_before offers x) others e stays before)
+      | inr behind ↦
+          Contains-append_right (filter (is_before offers x) others) (x ∷ filter (is_behind offers x) others) e
+          (later_there x (filter (is_behind offers x) others) e (filter_to (is_behind offers x) others e stays behind))
+    ]
+
+placed_cases : (offers : List Offer) (x : Entry) (entries : List Entry) (e : Entry) → Contains (placed offers x entries) e →
+    (x ≡ e) ⊎ (Contains entries e × (has_other_name offers (name_of offers x.source) e ≡ true))
+placed_cases offers x entries e there =
+    let others = without offers (name_of offers x.source) entries in
+    let old : Contains others e → Contains entries e × (has_other_name offers (name_of offers x.source) e ≡ true) =
+    λ stays. filter_from (has_other_name offers (name_of offers x.source)) entries e stays in
+    elim (Contains-append_cases (filter (is_before offers x) others) (x ∷ filter (is_behind offers x) others) e there) [
+      | inl before ↦ inr (old (filter_from (is_before offers x) others e before).0)
+      | inr rest ↦ elim (there_cases x (filter (is_behind offers x) others) e rest) [
+        | inl same ↦ inl same
+        | inr behind ↦ inr (old (filter_from (is_behind offers x) others e behind).0)
+      ]
+    ]
+
+-- the entry of the new rule stands for it, and those of other rules for theirs
+pub shows_install : (p : Setting) (j : Journal) (rule : Definition) (x : Entry) (t : TableValue) (number : ℕ) (entries : List Entry) → Fives p (now p j) → Shows p j (gen j) t →
+    StandsFor p (entry.Command (Install rule) ∷ j) (gen (entry.Command (Install rule) ∷ j)) x (dynamic rule) →
+    number ≡ t.number + 1 → entries ≡ placed p.catalog x t.entries → IsTable p.catalog entries →
+    Shows p (entry.Command (Install rule) ∷ j) (gen (entry.Command (Install rule) ∷ j)) (record { number = number; entries = entries })
+shows_install p j rule x t number entries fives shows stands number_is entries_are table =
+    let c : Command = Install rule in
+    let k : Journal = entry.Command c ∷ j in
+    let new : List Active = rules_after p (now p j) c in
+    let once : NamesOnce (now p j).rules = made_once p (tables j) in
+    let x_name : name_of p.catalog x.source ≡ rule.properties.name = name_is p k (gen k) x (dynamic rule) stands in
+    shows_next p j c (record { number = number; entries = entries }) refl (omega (arith, number_is, shows.number_is)) table
+    (λ r there. elim (put_cases (dynamic rule) (now p j).rules r once there) [
+      | inl same ↦ (x, subst (λ es. Contains es x) (sym entries_are) (placed_new p.catalog x t.entries), subst (StandsFor p k (gen k) x) same stands)
+      | inr old ↦
+          let w = each_now p j t shows r old.0 in
+          let differs : same_name (name_of p.catalog w.0.source) (name_of p.catalog x.source) ≡ false =
+          ap (λ n. same_name n (name_of p.catalog x.source)) (name_is p j (gen j) w.0 r w.2) ∙ ap (same_name r.properties.name) x_name ∙ old.1 in
+          (w.0, subst (λ es. Contains es w.0) (sym entries_are) (placed_old p.catalog x t.entries w.0 w.1 (not_from_false (same_name (name_of p.catalog w.0.source) (name_of p.catalog x.source)) differs)),
+            stands_next p j c w.0 r refl fives old.0 (still (now p j).rules new (now p j).on r there) w.2)
+    ])
+    (λ e there. elim (placed_cases p.catalog x t.entries e (subst (λ es. Contains es e) entries_are there)) [
+      | inl same ↦ (dynamic rule, put_new (dynamic rule) (now p j).rules, subst (λ (y : Entry). StandsFor p k (gen k) y (dynamic rule)) same stands)
+      | inr old ↦
+          let w = only_now p j t shows e old.0 in
+          let differs : same_name w.0.properties.name rule.properties.name ≡ false =
+          false_from_ne_true (same_name w.0.properties.name rule.properties.name) (λ same.
+            contrary (has_other_name p.catalog (name_of p.catalog x.source) e) old.1
+            (not_from_true (same_name (name_of p.catalog e.source) (name_of p.catalog x.source))
+              (ap (λ n. same_name n (name_of p.catalog x.source)) (name_is p j (gen j) e w.0 w.2) ∙ ap (same_name w.0.properties.name) x_name ∙ same))) in
+          let after = put_old (dynamic rule) (now p j).rules w.0 w.1 differs in
+          (w.0, after, stands_next p j c e w.0 refl fives w.1 (still (now p j).rules new (now p j).on w.0 after) w.2)
+    ])
