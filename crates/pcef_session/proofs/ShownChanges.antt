@@ -5,6 +5,7 @@ use Rattle.std.specs.List.{list_any}
 use Rattle.std.specs.Option.{option_map, option_map_or}
 use Rattle.std.proofs.lemmas.Bool.{cases_Bool, or_left, or_right, eqb-true, eq-eqb, false_from_ne_true, not_from_false, not_from_true}
 use Rattle.std.proofs.lemmas.List.Elements.{Contains-append_cases, Contains-append_left, Contains-append_right}
+use Rattle.pcef_rule.specs.declared.quantity.BearerId.{BearerId}
 use Rattle.pcef_rule.specs.declared.quantity.Qos.{Qos}
 use Rattle.pcef_rule.specs.declared.quantity.Slot.{Slot}
 use Rattle.pcef_rule.specs.declared.rule.Properties.{Properties}
@@ -26,7 +27,7 @@ use Rattle.pcef_journal.specs.Entries.{Journal}
 use Rattle.pcef_journal.specs.Journals.{at, gen, is_table, now, slots, tables}
 use Rattle.pcef_journal.proofs.Growth.{at_newest, gen_after_table, now_after_table, tables_of_table}
 use Rattle.pcef_usage.proofs.Slots.{is_among_add}
-use Rattle.pcef_session.specs.Shown.{Shows, StandsFor, counts_now, place_of, slot_of}
+use Rattle.pcef_session.specs.Shown.{Shows, StandsFor, counts_now, place_of, rule_of, slot_of}
 use Rattle.pcef_session.proofs.BoundRules.{NamesOnce, contrary, same_name_is, same_name_of, same_qos_self}
 use Rattle.pcef_session.proofs.Found.{any_from}
 use Rattle.pcef_session.proofs.Members.{filter_from, filter_to, first_there, later_there, map_from, map_to, put_cases, put_new, put_old, there_cases}
@@ -76,21 +77,33 @@ id_stays p g new r fives there =
     ]
 
 -- ---- the next generation
+after_is : (p : Setting) (j : Journal) (c : Command) → is_table c ≡ true → at p (entry.Command c ∷ j) (gen (entry.Command c ∷ j)) ≡ next p (now p j) c
+after_is p j c is = at_newest p (entry.Command c ∷ j) ∙ now_after_table p j c is
+
+-- an entry keeps the bearer of a rule that was there
+bearer_next : (p : Setting) (j : Journal) (c : Command) (e : Entry) (r : Active) → is_table c ≡ true → Fives p (now p j) → Contains (now p j).rules r →
+    StandsFor p j (gen j) e r → e.bearer.0 ≡ (at p (entry.Command c ∷ j) (gen (entry.Command c ∷ j))).id_of r.properties.qos
+bearer_next p j c e r is fives there stands =
+    rw (after_is p j c is) (stands.bearer_is ∙ ap (λ (g : Generation). g.id_of r.properties.qos) (at_newest p j) ∙ sym (id_stays p (now p j) (rules_after p (now p j) c) r fives there))
+
+-- and the slot of its key
+slot_next : (p : Setting) (j : Journal) (c : Command) (e : Entry) (r : Active) → is_table c ≡ true → Contains (now p j).rules r →
+    StandsFor p j (gen j) e r → option_map (λ s. s.0) e.slot ≡ slot_of (slots p (entry.Command c ∷ j)) r.properties.key
+slot_next p j c e r is there stands =
+    let grown : Grows (slots p j) (slots p (entry.Command c ∷ j)) = (let g = slots_grow p c (tables j) in (g.0, ap (slots_of p) (tables_of_table j c is) ∙ g.1)) in
+    let shown : Contains (at p j (gen j)).rules r = subst (λ (g : Generation). Contains g.rules r) (sym (at_newest p j)) there in
+    stands.slot_is ∙ sym (slot_stays (slots p j) (slots p (entry.Command c ∷ j)) r.properties.key grown (shown_slots p j (gen j) r shown))
+
 -- an entry goes on standing for a rule that stays, where its key stays on or off
 stands_next : (p : Setting) (j : Journal) (c : Command) (e : Entry) (r : Active) → is_table c ≡ true → Fives p (now p j) → Contains (now p j).rules r →
     counts_now (next p (now p j) c).on r.properties.key ≡ counts_now (now p j).on r.properties.key →
     StandsFor p j (gen j) e r → StandsFor p (entry.Command c ∷ j) (gen (entry.Command c ∷ j)) e r
-stands_next p j c e r is fives there on stands =
-    let before : at p j (gen j) ≡ now p j = at_newest p j in
-    let after : at p (entry.Command c ∷ j) (gen (entry.Command c ∷ j)) ≡ next p (now p j) c = at_newest p (entry.Command c ∷ j) ∙ now_after_table p j c is in
-    let grown : Grows (slots p j) (slots p (entry.Command c ∷ j)) = (let g = slots_grow p c (tables j) in (g.0, ap (slots_of p) (tables_of_table j c is) ∙ g.1)) in
-    let shown : Contains (at p j (gen j)).rules r = subst (λ (g : Generation). Contains g.rules r) (sym before) there in
-    record {
-      rule_is = stands.rule_is;
-      bearer_is = rw after (stands.bearer_is ∙ ap (λ (g : Generation). g.id_of r.properties.qos) before ∙ sym (id_stays p (now p j) (rules_after p (now p j) c) r fives there));
-      slot_is = stands.slot_is ∙ sym (slot_stays (slots p j) (slots p (entry.Command c ∷ j)) r.properties.key grown (shown_slots p j (gen j) r shown));
-      counted_is = rw after (stands.counted_is ∙ ap (λ (g : Generation). counts_now g.on r.properties.key) before ∙ sym on);
-    }
+stands_next p j c e r is fives there on stands = record {
+  rule_is = stands.rule_is;
+  bearer_is = bearer_next p j c e r is fives there stands;
+  slot_is = slot_next p j c e r is there stands;
+  counted_is = rw (after_is p j c is) (stands.counted_is ∙ ap (λ (g : Generation). counts_now g.on r.properties.key) (at_newest p j) ∙ sym on);
+}
 
 -- what a table says of a generation that a table command made
 shows_next : (p : Setting) (j : Journal) (c : Command) (t : TableValue) → is_table c ≡ true → t.number ≡ gen j + 1 → IsTable p.catalog t.entries →
@@ -98,7 +111,7 @@ shows_next : (p : Setting) (j : Journal) (c : Command) (t : TableValue) → is_t
     ((e : Entry) → Contains t.entries e → (r : Active) × Contains (rules_after p (now p j) c) r × StandsFor p (entry.Command c ∷ j) (gen (entry.Command c ∷ j)) e r) →
     Shows p (entry.Command c ∷ j) (gen (entry.Command c ∷ j)) t
 shows_next p j c t is number table each only =
-    let after : at p (entry.Command c ∷ j) (gen (entry.Command c ∷ j)) ≡ next p (now p j) c = at_newest p (entry.Command c ∷ j) ∙ now_after_table p j c is in
+    let after = after_is p j c is in
     record {
       number_is = omega (arith, number, gen_after_table j c is);
       ordered = table;
@@ -221,3 +234,69 @@ shows_install p j rule x t number entries fives shows stands number_is entries_a
           let after = put_old (dynamic rule) (now p j).rules w.0 w.1 differs in
           (w.0, after, stands_next p j c e w.0 refl fives w.1 (still (now p j).rules new (now p j).on w.0 after) w.2)
     ])
+
+-- ---- Monitor
+or_false : (b : Bool) → (b || false) ≡ b
+or_false true = refl
+or_false false = refl
+
+-- an entry counts for the slot of a key that is switched on where the key is its rule's
+counting_next : (keys on : List (List ℕ)) (key : List ℕ) (slot : Slot) (e : Entry) (key_of : Option (List ℕ)) → place_of key keys ≡ Some slot.0 →
+    option_map (λ (s : Slot). s.0) e.slot ≡ slot_of keys key_of → e.counted ≡ counts_now on key_of → (with_counting slot true e).counted ≡ counts_now (add_key key on) key_of
+counting_next keys on key slot e key_of place slot_is counted_is = from e.slot key_of refl slot_is counted_is
+  where
+    from : (o : Option Slot) (k : Option (List ℕ)) → e.slot ≡ o → option_map (λ (s : Slot). s.0) o ≡ slot_of keys k → e.counted ≡ counts_now on k →
+        (with_counting slot true e).counted ≡ counts_now (add_key key on) k
+    from None None none is counted = rw none counted
+    from (Some s) None some is counted = absurd cc
+    from None (Some k) none is counted =
+        let differs : same_name k key ≡ false = false_from_ne_true (same_name k key) (λ same.
+          let e2 : None ≡ Some slot.0 = is ∙ ap (λ n. place_of n keys) (same_name_is k key same) ∙ place in cc) in
+        rw none (counted ∙ sym (is_among_add k key on ∙ ap (λ b. is_among k on || b) differs ∙ or_false (is_among k on)))
+    from (Some s) (Some k) some is counted =
+        elim (cases_Bool (same_name k key)) [
+          | inl same ↦
+              let e2 : Some s.0 ≡ Some slot.0 = is ∙ ap (λ n. place_of n keys) (same_name_is k key same) ∙ place in
+              let hit : (s.0 == slot.0) ≡ true = eq-eqb s.0 slot.0 cc in
+              rw (some, hit) (sym (is_among_add k key on ∙ or_right (is_among k on) (same_name k key) same))
+          | inr differs ↦
+              let miss : (s.0 == slot.0) ≡ false = false_from_ne_true (s.0 == slot.0) (λ hit.
+                contrary (same_name k key) (same_name_of k key (place_once k key keys s.0 (sym is) (place ∙ ap (λ (n : ℕ). Some n) (sym (eqb-true s.0 slot.0 hit))))) differs) in
+              rw (some, miss) (counted ∙ sym (is_among_add k key on ∙ ap (λ b. is_among k on || b) differs ∙ or_false (is_among k on)))
+        ]
+
+-- what counting leaves of an entry
+keeps_source : (slot : Slot) (e : Entry) → (with_counting slot true e).source ≡ e.source
+keeps_source slot e = elim (cases_Bool (is_slot slot e.slot)) [ inl hit ↦ rw hit refl | inr miss ↦ rw miss refl ]
+
+keeps_bearer : (slot : Slot) (e : Entry) → (with_counting slot true e).bearer ≡ e.bearer
+keeps_bearer slot e = elim (cases_Bool (is_slot slot e.slot)) [ inl hit ↦ rw hit refl | inr miss ↦ rw miss refl ]
+
+keeps_slot : (slot : Slot) (e : Entry) → (with_counting slot true e).slot ≡ e.slot
+keeps_slot slot e = elim (cases_Bool (is_slot slot e.slot)) [ inl hit ↦ rw hit refl | inr miss ↦ rw miss refl ]
+
+-- the entries that have the slot of the key count now
+pub shows_monitor : (p : Setting) (j : Journal) (key : List ℕ) (amount : ℕ) (slot : Slot) (t : TableValue) (number : ℕ) (entries : List Entry) → Fives p (now p j) → Shows p j (gen j) t →
+    place_of key (slots p (entry.Command (Monitor key amount) ∷ j)) ≡ Some slot.0 → number ≡ t.number + 1 → entries ≡ map (with_counting slot true) t.entries → IsTable p.catalog entries →
+    Shows p (entry.Command (Monitor key amount) ∷ j) (gen (entry.Command (Monitor key amount) ∷ j)) (record { number = number; entries = entries })
+shows_monitor p j key amount slot t number entries fives shows place number_is entries_are table =
+    let c : Command = Monitor key amount in
+    let k : Journal = entry.Command c ∷ j in
+    let stands : (e : Entry) (r : Active) → Contains (now p j).rules r → StandsFor p j (gen j) e r → StandsFor p k (gen k) (with_counting slot true e) r =
+    λ e r there stands. record {
+      rule_is = ap (rule_of p.catalog) (keeps_source slot e) ∙ stands.rule_is;
+      bearer_is = ap (λ (b : BearerId). b.0) (keeps_bearer slot e) ∙ bearer_next p j c e r refl fives there stands;
+      slot_is = ap (option_map (λ (s : Slot). s.0)) (keeps_slot slot e) ∙ slot_next p j c e r refl there stands;
+      counted_is = rw (after_is p j c refl)
+          (counting_next (slots p k) (now p j).on key slot e r.properties.key place (slot_next p j c e r refl there stands)
+            (stands.counted_is ∙ ap (λ (g : Generation). counts_now g.on r.properties.key) (at_newest p j))
+            ∙ sym (still (now p j).rules (now p j).rules (add_key key (now p j).on) r there));
+    } in
+    shows_next p j c (record { number = number; entries = entries }) refl (omega (arith, number_is, shows.number_is)) table
+    (λ r there.
+      let w = each_now p j t shows r there in
+      (with_counting slot true w.0, subst (λ es. Contains es (with_counting slot true w.0)) (sym entries_are) (map_to (with_counting slot true) t.entries w.0 w.1), stands w.0 r there w.2))
+    (λ e there.
+      let v = map_from (with_counting slot true) t.entries e (subst (λ es. Contains es e) entries_are there) in
+      let w = only_now p j t shows v.0 v.1 in
+      (w.0, w.1, subst (λ (y : Entry). StandsFor p k (gen k) y w.0) v.2 (stands v.0 w.0 w.1 w.2)))
