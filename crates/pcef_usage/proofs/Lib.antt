@@ -1,6 +1,7 @@
 pub mod Bounds
 pub mod Endings
 pub mod Loops
+pub mod Monitors
 pub mod Names
 pub mod Places
 pub mod Reports

@@ -81,14 +81,6 @@ pub not_found_more : (k : List ℕ) (xs : List KeyState) (i : ℕ) (d : KeyState
     has_slot k (take (i + 1) xs) ≡ false
 not_found_more k xs i d h n e = ap (has_slot k) (take_more xs i d h) ∙ any_push k (take i xs) (get_or xs i d) n e
 
-pub place_new : (k : List ℕ) (xs : List KeyState) (y : KeyState) → has_slot k xs ≡ false → same_name k y.key ≡ true → place_of k (xs ++ y ∷ []) ≡ length xs
-place_new k [] y h e = rw e refl
-place_new k (x ∷ xs) y h e =
-    elim (cases_Bool (same_name k x.key)) [
-      | inl f ↦ let g : has_slot k (x ∷ xs) ≡ true = rw f refl in cc
-      | inr f ↦ let m : has_slot k xs ≡ false = (or_no (same_name k x.key) (has_slot k xs) h).1 in rw f (ap suc (place_new k xs y m e))
-    ]
-
 pub place_below : (k : List ℕ) (xs : List KeyState) → has_slot k xs ≡ true → place_of k xs < length xs
 place_below k [] h = cc
 place_below k (x ∷ xs) h =

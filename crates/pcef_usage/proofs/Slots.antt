@@ -18,7 +18,7 @@ use Rattle.pcef_usage.proofs.Names.{same_name_is, same_name_not}
 use Rattle.pcef_usage.proofs.Places.{or_no}
 use Rattle.pcef_usage.proofs.Tells.{has_slot_is}
 
-or_false : (a : Bool) → (a || false) ≡ a
+pub or_false : (a : Bool) → (a || false) ≡ a
 or_false true = refl
 or_false false = refl
 
@@ -59,7 +59,7 @@ is_among_filter k test (m ∷ keys) absent =
     ]
 
 -- ---- a key that has no slot was never on
-off_before_add : (k : List ℕ) (named : Option (List ℕ)) (keys : List (List ℕ)) → is_among k (add_if_some named keys) ≡ false → is_among k keys ≡ false
+pub off_before_add : (k : List ℕ) (named : Option (List ℕ)) (keys : List (List ℕ)) → is_among k (add_if_some named keys) ≡ false → is_among k keys ≡ false
 off_before_add k None keys absent = absent
 off_before_add k (Some l) keys absent = (or_no (is_among k keys) (same_name k l) (sym (is_among_add k l keys) ∙ absent)).0
 

@@ -38,9 +38,6 @@ keys_after (Access t v) states = refl
 
 -- a write at a key's place is one at each state of this key, as keys are distinct
 
-pub at_key : (f : KeyState → KeyState) (k : List ℕ) (s : KeyState) → KeyState
-at_key f k s = if same_name k s.key then f s else s
-
 not_here : (f : KeyState → KeyState) (k : List ℕ) (states : List KeyState) → is_among k (keys_of states) ≡ false → map (λ s. if same_name k s.key then f s else s) states ≡ states
 not_here f k [] h = refl
 not_here f k (s ∷ states) h =
