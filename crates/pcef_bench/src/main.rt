@@ -20,6 +20,7 @@ use std::{env, fs};
 /// The address of the user equipment in the recorded packets: 10.0.0.2.
 const UE: Addr = Addr::V4(0x0A00_0002);
 
+/// The arguments after the program's name.
 fn words(rt: &HostRuntime) -> io::Result<Vec<String>> {
     let mut words = Vec::new(rt.alloc());
     for word in env::args(rt)?.skip(1) {
@@ -28,6 +29,7 @@ fn words(rt: &HostRuntime) -> io::Result<Vec<String>> {
     Ok(words)
 }
 
+/// Judges the packets of one file by the rules of another, or tells that these are none.
 fn run(rt: &HostRuntime, rules: &str, packets: &str, passes: u32) -> io::Result<bool> {
     let text = fs::read_to_string(rt, rules)?;
     let file = fs::read(rt, packets)?;

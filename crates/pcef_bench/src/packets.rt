@@ -7,13 +7,18 @@ use pcef_packet::{Addr, Dir, read_header};
 use pcef_table::{Catalog, Table, Verdict};
 use std::io::{self, Write};
 
-/// How many packets went which way, and the octets of all that could be read.
+/// How many packets went which way.
 #[derive(Clone, Copy, Debug, Default)]
 pub struct Tally {
+    /// Packets that a rule let pass.
     pub passed: u64,
+    /// Packets whose rule's gate was closed.
     pub gated: u64,
+    /// Packets that no rule fits.
     pub unmatched: u64,
+    /// Packets of another user equipment.
     pub stray: u64,
+    /// The octets of all packets that could be read.
     pub octets: u64,
 }
 
@@ -30,7 +35,7 @@ impl Tally {
 }
 
 /// What follows the count of packets.
-pub fn without_count(file: &[u8]) -> &[u8] {
+pub(crate) fn without_count(file: &[u8]) -> &[u8] {
     if file.len() < 4 { &[] } else { &file[4..] }
 }
 
@@ -60,7 +65,13 @@ fn next(recorded: &[u8]) -> Option<Recorded<'_>> {
 }
 
 /// Judges each packet once.
-pub fn judge_all(catalog: &Catalog, table: &Table, ue: Addr, recorded: &[u8], tally: &mut Tally)
+pub(crate) fn judge_all(
+    catalog: &Catalog,
+    table: &Table,
+    ue: Addr,
+    recorded: &[u8],
+    tally: &mut Tally,
+)
     requires { IsTable (offers_of catalog.now) table.now.entries }
 {
     let mut left = recorded;
@@ -88,7 +99,7 @@ fn write_verdict<W: Write>(verdict: &Verdict, writer: &mut W) -> io::Result<()> 
 }
 
 /// Writes the verdict on each packet that can be read, one a line.
-pub fn write_verdicts<W: Write>(
+pub(crate) fn write_verdicts<W: Write>(
     catalog: &Catalog,
     table: &Table,
     ue: Addr,

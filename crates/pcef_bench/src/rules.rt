@@ -104,7 +104,7 @@ fn with_pending(
 }
 
 /// The table of the rules of a text.
-pub fn table(alloc: Global, catalog: &Catalog, text: &str) -> Result<Table, BadRules>
+pub(crate) fn table(alloc: Global, catalog: &Catalog, text: &str) -> Result<Table, BadRules>
     ensures { IfOk result (λ t. IsTable (offers_of catalog.now) t.entries) }
 {
     let mut table = Table::empty(alloc, 0).map_err(|_| BadRules)?;
