@@ -33,4 +33,6 @@ pub use verdicts::{Decided, counts_in, decision, judged};
 pub use workers::{attach_count, is_attached, lane_len, report_count, subscribed};
 
 #[cfg(test)]
+mod report_tests;
+#[cfg(test)]
 mod tests;
