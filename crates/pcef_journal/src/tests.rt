@@ -29,23 +29,24 @@ fn row(worker: u8, seq: u64, octets: u32) -> Result<Row, Fail> {
     })
 }
 
-/// A report of each kind, numbered in this order.
-fn bodies() -> Result<[Body; 3], Fail> {
-    Ok([
-        Body::Usage {
+/// The report of a number: of usage, of a rule that became inactive, or of an access event.
+fn report(number: u64) -> Result<Report, Fail> {
+    let body = match number {
+        0 => Body::Usage {
             key: KeyName::new("minutes")?,
             octets: 128,
             cause: Cause::Threshold,
         },
-        Body::Inactive {
+        1 => Body::Inactive {
             rule: RuleName::new("web")?,
             cause: InactiveCause::BearerLost,
         },
-        Body::Access {
+        _ => Body::Access {
             kind: AccessKind::RatChange,
             value: NoticeValue::new("LTE")?,
         },
-    ])
+    };
+    Ok(Report { number, body })
 }
 
 /// A rule of the name `web` with one filter.
@@ -74,7 +75,7 @@ fn add(journal: &mut Journal, entry: Entry) -> Result<(), Fail> {
 
 /// Two workers, of which worker 0 has two packets and worker 1 one, among two commands and three reports.
 fn small_journal(alloc: Global) -> Result<Journal, Fail> {
-    let [usage, inactive, access] = bodies()?;
+    let lost = Command::LoseBearer(BearerId(6));
     let mut journal = Journal::new(alloc);
     add(&mut journal, Entry::Attach(0))?;
     add(&mut journal, Entry::Command(Command::Install(web(alloc)?)))?;
@@ -82,32 +83,11 @@ fn small_journal(alloc: Global) -> Result<Journal, Fail> {
     add(&mut journal, Entry::Attach(1))?;
     add(&mut journal, Entry::Row(row(1, 0, 40)?))?;
     add(&mut journal, Entry::Row(row(0, 1, 60)?))?;
-    add(
-        &mut journal,
-        Entry::Report(Report {
-            number: 0,
-            body: usage,
-        }),
-    )?;
-    add(
-        &mut journal,
-        Entry::Command(Command::LoseBearer(BearerId(6))),
-    )?;
-    add(
-        &mut journal,
-        Entry::Report(Report {
-            number: 1,
-            body: inactive,
-        }),
-    )?;
+    add(&mut journal, Entry::Report(report(0)?))?;
+    add(&mut journal, Entry::Command(lost))?;
+    add(&mut journal, Entry::Report(report(1)?))?;
     add(&mut journal, Entry::Leave(1))?;
-    add(
-        &mut journal,
-        Entry::Report(Report {
-            number: 2,
-            body: access,
-        }),
-    )?;
+    add(&mut journal, Entry::Report(report(2)?))?;
     Ok(journal)
 }
 
@@ -241,9 +221,9 @@ fn copies_of_commands(rt: HostRuntime) -> Result<(), Fail> {
 fn copies_of_rows_and_reports(rt: HostRuntime) -> Result<(), Fail> {
     let row = row(1, 7, 40)?;
     assert_eq!(rt; row.copy(), row);
-    for body in bodies()? {
-        assert_eq!(rt; body.copy(), body);
-        let report = Report { number: 5, body };
+    for number in 0..3u64 {
+        let report = report(number)?;
+        assert_eq!(rt; report.body.copy(), report.body);
         assert_eq!(rt; report.copy(), report);
     }
     Ok(())
