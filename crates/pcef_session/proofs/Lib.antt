@@ -9,4 +9,5 @@ pub mod ShownLater
 pub mod ShownSlots
 pub mod ShownVerdicts
 pub mod SlotPlaces
+pub mod SlotsLater
 pub mod WorkerTables

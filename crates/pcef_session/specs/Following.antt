@@ -1,5 +1,5 @@
 -- The slots that rows count for.
-use Rattle.std.specs.Prelude.{ℕ, ◌≡◌, ◌==◌, Bool, false, ◌&&◌, List, [], ◌∷◌, Option, Some, None}
+use Rattle.std.specs.Prelude.{ℕ, ◌≡◌, ◌<◌, ◌==◌, Bool, false, ◌&&◌, List, [], ◌∷◌, Option, Some, None, length}
 use Rattle.pcef_rule.specs.declared.quantity.Slot.{Slot}
 use Rattle.pcef_journal.specs.declared.entry.Entry.TheVariants as entry
 use Rattle.pcef_journal.specs.declared.row.Row.{Row}
@@ -27,3 +27,8 @@ CountsFor p j row slot = (key : List ℕ) → counts p j key row ≡ has_this_sl
 unfoldable pub SlotsFit : Setting → Journal → List Item → Type 0
 SlotsFit p j [] = Unit {0}
 SlotsFit p j (i ∷ items) = CountsFor p j i.row i.slot × SlotsFit p (entry.Row i.row ∷ j) items
+
+-- the slot of a key that has one
+abbrev pub IsWithin : List (List ℕ) → Option Slot → Type 0
+IsWithin keys None = Unit {0}
+IsWithin keys (Some slot) = slot.0 < length keys
