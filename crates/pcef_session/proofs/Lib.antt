@@ -3,6 +3,7 @@ pub mod BoundRules
 pub mod Exactness
 pub mod Found
 pub mod Members
+pub mod PlainJournals
 pub mod RowsLater
 pub mod ShownChanges
 pub mod ShownLater

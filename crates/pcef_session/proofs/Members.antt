@@ -70,14 +70,17 @@ put_cases new (x ∷ rules) r once there =
     elim (cases_Bool (is_named new.properties.name x)) [
       | inl is ↦ elim (there_cases new rules r (rw is at there)) [
         | inl same ↦ inl same
-        | inr later ↦ inr (later_there x rules r later, elim (cases_Bool (is_named new.properties.name r)) [
-          | inr isnt ↦ isnt
-          | inl named ↦
-              contrary (list_any (is_named x.properties.name) rules)
-              (any_from (is_named x.properties.name) rules r later
+        | inr later ↦ inr (
+          later_there x rules r later,
+          elim (cases_Bool (is_named new.properties.name r)) [
+            | inr isnt ↦ isnt
+            | inl named ↦
+                contrary (list_any (is_named x.properties.name) rules)
+                (any_from (is_named x.properties.name) rules r later
                 (same_name_of r.properties.name x.properties.name
-                  (same_name_is r.properties.name new.properties.name named ∙ sym (same_name_is x.properties.name new.properties.name is)))) once.0
-        ])
+                (same_name_is r.properties.name new.properties.name named ∙ sym (same_name_is x.properties.name new.properties.name is)))) once.0
+          ],
+        )
       ]
       | inr isnt ↦ elim (there_cases x (put new rules) r (rw isnt at there)) [
         | inl same ↦ inr ((0, omega arith, same), ap (is_named new.properties.name) (sym same) ∙ isnt)

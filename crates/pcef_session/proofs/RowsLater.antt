@@ -68,9 +68,10 @@ row_later p j k r later follows = record {
 rows_later : (p : Setting) (worker : ℕ) (j k : Journal) (rs : List Row) → Later p worker j k → All (λ r. r.worker ≡ worker) rs → RowsFollow p j rs → RowsFollow p k rs
 unfolding RowsFollow
 rows_later p worker j k [] later own follow = tt
-rows_later p worker j k (r ∷ rs) later own follow =
-    (row_later p j k r (subst (λ w. Later p w j k) (sym (All-head (λ (x : Row). x.worker ≡ worker) r rs own)) later) follow.0,
-      rows_later p worker (entry.Row r ∷ j) (entry.Row r ∷ k) rs (later_both p worker j k r later) (All-tail (λ (x : Row). x.worker ≡ worker) r rs own) follow.1)
+rows_later p worker j k (r ∷ rs) later own follow = (
+  row_later p j k r (subst (λ w. Later p w j k) (sym (All-head (λ (x : Row). x.worker ≡ worker) r rs own)) later) follow.0,
+  rows_later p worker (entry.Row r ∷ j) (entry.Row r ∷ k) rs (later_both p worker j k r later) (All-tail (λ (x : Row). x.worker ≡ worker) r rs own) follow.1,
+)
 
 -- a batch that may come next may come later too
 pub batch_later : (p : Setting) (worker : ℕ) (j k : Journal) (rs : List Row) → Later p worker j k → BatchFollows p j worker rs → BatchFollows p k worker rs

@@ -137,17 +137,19 @@ pub shows_remove : (p : Setting) (j : Journal) (name : List ℕ) (t : TableValue
 shows_remove p j name t number entries fives shows number_is entries_are table =
     shows_next p j (Remove name) (record { number = number; entries = entries }) refl (omega (arith, number_is, shows.number_is)) table
     (λ r there.
-      let kept = filter_from (λ x. not (rules.is_named name x)) (now p j).rules r there in
-      let w = each_now p j t shows r kept.0 in
-      let other : has_other_name p.catalog name w.0 ≡ true = ap (λ n. not (same_name n name)) (name_is p j (gen j) w.0 r w.2) ∙ kept.1 in
-      (w.0, subst (λ es. Contains es w.0) (sym entries_are) (filter_to (has_other_name p.catalog name) t.entries w.0 w.1 other),
-        stands_next p j (Remove name) w.0 r refl fives kept.0 (still (now p j).rules (rules_after p (now p j) (Remove name)) (now p j).on r there) w.2))
+    let kept = filter_from (λ x. not (rules.is_named name x)) (now p j).rules r there in
+    let w = each_now p j t shows r kept.0 in
+    let other : has_other_name p.catalog name w.0 ≡ true = ap (λ n. not (same_name n name)) (name_is p j (gen j) w.0 r w.2) ∙ kept.1 in (
+      w.0,
+      subst (λ es. Contains es w.0) (sym entries_are) (filter_to (has_other_name p.catalog name) t.entries w.0 w.1 other),
+      stands_next p j (Remove name) w.0 r refl fives kept.0 (still (now p j).rules (rules_after p (now p j) (Remove name)) (now p j).on r there) w.2,
+    ))
     (λ e there.
-      let kept = filter_from (has_other_name p.catalog name) t.entries e (subst (λ es. Contains es e) entries_are there) in
-      let w = only_now p j t shows e kept.0 in
-      let other : not (rules.is_named name w.0) ≡ true = ap (λ n. not (same_name n name)) (sym (name_is p j (gen j) e w.0 w.2)) ∙ kept.1 in
-      let after = filter_to (λ x. not (rules.is_named name x)) (now p j).rules w.0 w.1 other in
-      (w.0, after, stands_next p j (Remove name) e w.0 refl fives w.1 (still (now p j).rules (rules_after p (now p j) (Remove name)) (now p j).on w.0 after) w.2))
+    let kept = filter_from (has_other_name p.catalog name) t.entries e (subst (λ es. Contains es e) entries_are there) in
+    let w = only_now p j t shows e kept.0 in
+    let other : not (rules.is_named name w.0) ≡ true = ap (λ n. not (same_name n name)) (sym (name_is p j (gen j) e w.0 w.2)) ∙ kept.1 in
+    let after = filter_to (λ x. not (rules.is_named name x)) (now p j).rules w.0 w.1 other in
+    (w.0, after, stands_next p j (Remove name) e w.0 refl fives w.1 (still (now p j).rules (rules_after p (now p j) (Remove name)) (now p j).on w.0 after) w.2))
 
 -- ---- Install
 rank_name : (offers : List Offer) (e : Entry) → (rank_of offers e.source).name ≡ name_of offers e.source
@@ -162,9 +164,9 @@ side_of : (offers : List Offer) (x e : Entry) → has_other_name offers (name_of
     (is_before offers x e ≡ true) ⊎ (is_behind offers x e ≡ true)
 side_of offers x e other =
     elim (one_goes_first (rank_of offers e.source) (rank_of offers x.source) (λ same.
-      contrary (has_other_name offers (name_of offers x.source) e) other
-      (not_from_true (same_name (name_of offers e.source) (name_of offers x.source))
-        (same_name_of (name_of offers e.source) (name_of offers x.source) (sym (rank_name offers e) ∙ same ∙ rank_name offers x))))) [
+    contrary (has_other_name offers (name_of offers x.source) e) other
+    (not_from_true (same_name (name_of offers e.source) (name_of offers x.source))
+    (same_name_of (name_of offers e.source) (name_of offers x.source) (sym (rank_name offers e) ∙ same ∙ rank_name offers x))))) [
       | inl before ↦ inl before.0
       | inr behind ↦ inr behind.1
     ]
@@ -218,9 +220,11 @@ shows_install p j rule x t number entries fives shows stands number_is entries_a
       | inr old ↦
           let w = each_now p j t shows r old.0 in
           let differs : same_name (name_of p.catalog w.0.source) (name_of p.catalog x.source) ≡ false =
-          ap (λ n. same_name n (name_of p.catalog x.source)) (name_is p j (gen j) w.0 r w.2) ∙ ap (same_name r.properties.name) x_name ∙ old.1 in
-          (w.0, subst (λ es. Contains es w.0) (sym entries_are) (placed_old p.catalog x t.entries w.0 w.1 (not_from_false (same_name (name_of p.catalog w.0.source) (name_of p.catalog x.source)) differs)),
-            stands_next p j c w.0 r refl fives old.0 (still (now p j).rules new (now p j).on r there) w.2)
+          ap (λ n. same_name n (name_of p.catalog x.source)) (name_is p j (gen j) w.0 r w.2) ∙ ap (same_name r.properties.name) x_name ∙ old.1 in (
+            w.0,
+            subst (λ es. Contains es w.0) (sym entries_are) (placed_old p.catalog x t.entries w.0 w.1 (not_from_false (same_name (name_of p.catalog w.0.source) (name_of p.catalog x.source)) differs)),
+            stands_next p j c w.0 r refl fives old.0 (still (now p j).rules new (now p j).on r there) w.2,
+          )
     ])
     (λ e there. elim (placed_cases p.catalog x t.entries e (subst (λ es. Contains es e) entries_are there)) [
       | inl same ↦ (dynamic rule, put_new (dynamic rule) (now p j).rules, subst (λ (y : Entry). StandsFor p k (gen k) y (dynamic rule)) same stands)
@@ -228,9 +232,9 @@ shows_install p j rule x t number entries fives shows stands number_is entries_a
           let w = only_now p j t shows e old.0 in
           let differs : same_name w.0.properties.name rule.properties.name ≡ false =
           false_from_ne_true (same_name w.0.properties.name rule.properties.name) (λ same.
-            contrary (has_other_name p.catalog (name_of p.catalog x.source) e) old.1
-            (not_from_true (same_name (name_of p.catalog e.source) (name_of p.catalog x.source))
-              (ap (λ n. same_name n (name_of p.catalog x.source)) (name_is p j (gen j) e w.0 w.2) ∙ ap (same_name w.0.properties.name) x_name ∙ same))) in
+          contrary (has_other_name p.catalog (name_of p.catalog x.source) e) old.1
+          (not_from_true (same_name (name_of p.catalog e.source) (name_of p.catalog x.source))
+          (ap (λ n. same_name n (name_of p.catalog x.source)) (name_is p j (gen j) e w.0 w.2) ∙ ap (same_name w.0.properties.name) x_name ∙ same))) in
           let after = put_old (dynamic rule) (now p j).rules w.0 w.1 differs in
           (w.0, after, stands_next p j c e w.0 refl fives w.1 (still (now p j).rules new (now p j).on w.0 after) w.2)
     ])
@@ -251,7 +255,7 @@ counting_next keys on key slot e key_of place slot_is counted_is = from e.slot k
     from (Some s) None some is counted = absurd cc
     from None (Some k) none is counted =
         let differs : same_name k key ≡ false = false_from_ne_true (same_name k key) (λ same.
-          let e2 : None ≡ Some slot.0 = is ∙ ap (λ n. place_of n keys) (same_name_is k key same) ∙ place in cc) in
+        let e2 : None ≡ Some slot.0 = is ∙ ap (λ n. place_of n keys) (same_name_is k key same) ∙ place in cc) in
         rw none (counted ∙ sym (is_among_add k key on ∙ ap (λ b. is_among k on || b) differs ∙ or_false (is_among k on)))
     from (Some s) (Some k) some is counted =
         elim (cases_Bool (same_name k key)) [
@@ -261,7 +265,7 @@ counting_next keys on key slot e key_of place slot_is counted_is = from e.slot k
               rw (some, hit) (sym (is_among_add k key on ∙ or_right (is_among k on) (same_name k key) same))
           | inr differs ↦
               let miss : (s.0 == slot.0) ≡ false = false_from_ne_true (s.0 == slot.0) (λ hit.
-                contrary (same_name k key) (same_name_of k key (place_once k key keys s.0 (sym is) (place ∙ ap (λ (n : ℕ). Some n) (sym (eqb-true s.0 slot.0 hit))))) differs) in
+              contrary (same_name k key) (same_name_of k key (place_once k key keys s.0 (sym is) (place ∙ ap (λ (n : ℕ). Some n) (sym (eqb-true s.0 slot.0 hit))))) differs) in
               rw (some, miss) (counted ∙ sym (is_among_add k key on ∙ ap (λ b. is_among k on || b) differs ∙ or_false (is_among k on)))
         ]
 
@@ -289,14 +293,14 @@ shows_monitor p j key amount slot t number entries fives shows place number_is e
       slot_is = ap (option_map (λ (s : Slot). s.0)) (keeps_slot slot e) ∙ slot_next p j c e r refl there stands;
       counted_is = rw (after_is p j c refl)
           (counting_next (slots p k) (now p j).on key slot e r.properties.key place (slot_next p j c e r refl there stands)
-            (stands.counted_is ∙ ap (λ (g : Generation). counts_now g.on r.properties.key) (at_newest p j))
-            ∙ sym (still (now p j).rules (now p j).rules (add_key key (now p j).on) r there));
+          (stands.counted_is ∙ ap (λ (g : Generation). counts_now g.on r.properties.key) (at_newest p j))
+          ∙ sym (still (now p j).rules (now p j).rules (add_key key (now p j).on) r there));
     } in
     shows_next p j c (record { number = number; entries = entries }) refl (omega (arith, number_is, shows.number_is)) table
     (λ r there.
-      let w = each_now p j t shows r there in
-      (with_counting slot true w.0, subst (λ es. Contains es (with_counting slot true w.0)) (sym entries_are) (map_to (with_counting slot true) t.entries w.0 w.1), stands w.0 r there w.2))
+    let w = each_now p j t shows r there in
+    (with_counting slot true w.0, subst (λ es. Contains es (with_counting slot true w.0)) (sym entries_are) (map_to (with_counting slot true) t.entries w.0 w.1), stands w.0 r there w.2))
     (λ e there.
-      let v = map_from (with_counting slot true) t.entries e (subst (λ es. Contains es e) entries_are there) in
-      let w = only_now p j t shows v.0 v.1 in
-      (w.0, w.1, subst (λ (y : Entry). StandsFor p k (gen k) y w.0) v.2 (stands v.0 w.0 w.1 w.2)))
+    let v = map_from (with_counting slot true) t.entries e (subst (λ es. Contains es e) entries_are there) in
+    let w = only_now p j t shows v.0 v.1 in
+    (w.0, w.1, subst (λ (y : Entry). StandsFor p k (gen k) y w.0) v.2 (stands v.0 w.0 w.1 w.2)))

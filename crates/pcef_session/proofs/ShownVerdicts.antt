@@ -81,6 +81,7 @@ made_once p (c ∷ cs) = next_once p (made_by p cs) c (made_once p cs)
     offered_once : (o : Option Offer) (rules : List Active) → NamesOnce rules → NamesOnce (put_if_offered o rules)
     offered_once None rules once = once
     offered_once (Some o) rules once = put_once (predefined o) rules once
+
     next_once : (p : Setting) (g : Generation) (c : Command) → NamesOnce g.rules → NamesOnce (rules_after p g c)
     next_once p g (Install rule) once = put_once (dynamic rule) g.rules once
     next_once p g (Activate name) once = offered_once (offer_named p name) g.rules once
@@ -140,19 +141,19 @@ entry_decides p j g t header e r shows once there stands fitting first =
     let e_is = rule_is p.catalog e.source r stands.rule_is in
     let r_fits : fits p.ue header r ≡ true = sym (e_is.fits_alike p.ue header) ∙ fitting in
     let goes : (s : Active) → Contains rules s → goes_ahead_of p.ue header r s ≡ true = λ s s_there.
-        elim (cases_Bool (fits p.ue header s)) [
-          | inr misses ↦ rw misses refl
-          | inl hits ↦
-              let w = shows.each s s_there in
-              let f_is = rule_is p.catalog w.0.source s w.2.rule_is in
-              let f_fits : sources.fits p.catalog p.ue header w.0.source ≡ true = f_is.fits_alike p.ue header ∙ hits in
-              rw hits (elim (All-contains (λ f. sources.fits p.catalog p.ue header f.source ≡ true → (f ≡ e) ⊎ GoesBefore p.catalog e f) t.entries w.0 first w.1 f_fits) [
-                | inl same ↦
-                    let one : s ≡ r = some_is s r (sym w.2.rule_is ∙ ap (λ (x : Entry). rule_of p.catalog x.source) same ∙ stands.rule_is) in
-                    or_left (is_named r.properties.name s) (is_before r s) (same_name_of s.properties.name r.properties.name (ap (λ (x : Active). x.properties.name) one))
-                | inr before ↦ or_right (is_named r.properties.name s) (is_before r s) (rw (e_is.rank_is, f_is.rank_is) at before)
-              ])
-        ] in
+    elim (cases_Bool (fits p.ue header s)) [
+      | inr misses ↦ rw misses refl
+      | inl hits ↦
+          let w = shows.each s s_there in
+          let f_is = rule_is p.catalog w.0.source s w.2.rule_is in
+          let f_fits : sources.fits p.catalog p.ue header w.0.source ≡ true = f_is.fits_alike p.ue header ∙ hits in
+          rw hits (elim (All-contains (λ f. sources.fits p.catalog p.ue header f.source ≡ true → (f ≡ e) ⊎ GoesBefore p.catalog e f) t.entries w.0 first w.1 f_fits) [
+            | inl same ↦
+                let one : s ≡ r = some_is s r (sym w.2.rule_is ∙ ap (λ (x : Entry). rule_of p.catalog x.source) same ∙ stands.rule_is) in
+                or_left (is_named r.properties.name s) (is_before r s) (same_name_of s.properties.name r.properties.name (ap (λ (x : Active). x.properties.name) one))
+            | inr before ↦ or_right (is_named r.properties.name s) (is_before r s) (rw (e_is.rank_is, f_is.rank_is) at before)
+          ])
+    ] in
     let r_is : is_decisive rules p.ue header r ≡ true =
     and_from (fits p.ue header r) (list_all (goes_ahead_of p.ue header r) rules) r_fits (all_from (goes_ahead_of p.ue header r) rules goes) in
     find_one (is_decisive rules p.ue header) rules r there r_is (λ s s_there s_is. decisive_once rules p.ue header r s once there s_there r_is s_is)
@@ -163,10 +164,10 @@ none_decides : (p : Setting) (j : Journal) (g : ℕ) (t : TableValue) (header : 
 none_decides p j g t header shows none =
     let rules = (at p j g).rules in
     find_none (is_decisive rules p.ue header) rules (λ r there.
-      let w = shows.each r there in
-      let misses : fits p.ue header r ≡ false =
-      sym ((rule_is p.catalog w.0.source r w.2.rule_is).fits_alike p.ue header) ∙ All-contains (λ e. sources.fits p.catalog p.ue header e.source ≡ false) t.entries w.0 none w.1 in
-      rw misses refl)
+    let w = shows.each r there in
+    let misses : fits p.ue header r ≡ false =
+    sym ((rule_is p.catalog w.0.source r w.2.rule_is).fits_alike p.ue header) ∙ All-contains (λ e. sources.fits p.catalog p.ue header e.source ≡ false) t.entries w.0 none w.1 in
+    rw misses refl)
 
 -- ---- verdicts
 bearer_same : (b : BearerId) (n : ℕ) → b.0 ≡ n → b ≡ record { 0 = n }
@@ -190,4 +191,4 @@ shown_judges p j g t header (Passed rule bearer) shows once (own, e, properties,
     let opening : opens w.0.properties.gate header.dir ≡ true = ap (λ q. opens q.gate header.dir) (sym same) ∙ opened in
     rw (own, entry_decides p j g t header e w.0 shows once w.1 w.2 decides.fitting decides.first, opening)
     (ap (λ n. Passed n bearer) (name_is ∙ ap (λ (q : Properties). q.name) same)
-      ∙ ap (λ b. Passed w.0.properties.name b) (bearer_is ∙ bearer_same e.bearer ((at p j g).id_of w.0.properties.qos) w.2.bearer_is))
+    ∙ ap (λ b. Passed w.0.properties.name b) (bearer_is ∙ bearer_same e.bearer ((at p j g).id_of w.0.properties.qos) w.2.bearer_is))

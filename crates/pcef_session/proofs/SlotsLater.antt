@@ -67,8 +67,8 @@ slot_grown keys more n key within =
     from None none absent = ap (λ o. is_at o n) none
     from (Some m) some absent =
         ap (λ o. is_at o n) some ∙ false_from_ne_true (m == n) (λ same.
-          let past = place_past key keys more m absent some in
-          let is = eqb-true m n same in absurd (omega (arith, past, within, is)))
+        let past = place_past key keys more m absent some in
+        let is = eqb-true m n same in absurd (omega (arith, past, within, is)))
 
 pub this_slot_grown : (keys all : List (List ℕ)) (slot : Option Slot) (key : List ℕ) → Grows keys all → IsWithin keys slot → has_this_slot all slot key ≡ has_this_slot keys slot key
 this_slot_grown keys all None key grows within = refl

@@ -16,6 +16,7 @@ use Rattle.pcef_session.specs.declared.answer.AttachFault.TheVariants as attach
 use Rattle.pcef_session.specs.declared.answer.FlushRefusal.{FlushRefusal}
 use Rattle.pcef_session.specs.declared.answer.FlushRefusal.TheVariants as flush
 use Rattle.pcef_session.specs.declared.answer.Judged.{Judged}
+use Rattle.pcef_session.specs.declared.answer.Verdicts.{Verdicts}
 use Rattle.pcef_session.specs.declared.answer.Refusal.{Refusal}
 use Rattle.pcef_session.specs.declared.answer.Refusal.TheVariants as refusal
 use Rattle.pcef_session.specs.Refusals.{attach_faults, first_of, flush_refusals, is_active, is_attached, refusals}
@@ -75,6 +76,9 @@ pub record Told : Type 0 where
   pub rows : List Judged
   pub first_report : ℕ
   pub past_last_report : ℕ
+
+abbrev pub told_of : Verdicts → Told
+told_of v = record { rows = v.rows.items; first_report = v.first_report; past_last_report = v.past_last_report }
 
 abbrev pub told : List Row → Journal → Journal → Told
 told rows before after = record { rows = map judged_of rows; first_report = report_count before; past_last_report = report_count after }

@@ -33,6 +33,7 @@ HasPlace _ active = Unit {0}
 
 -- a command that the session accepts next, with its table and room in the journal
 pub record IsPreparedFor (s : Core) (p : Prepared) : Type 0 where
+  pub served : IsServed p.command
   pub has_room : 0 < s.room
   pub table : IsTable s.offers (arc_value p.table).entries
   pub generation : (arc_value p.table).number ≤ length (commands s.journal) + 1

@@ -10,6 +10,9 @@ use Rattle.pcef_journal.specs.Journals.{counts, slots}
 use Rattle.pcef_session.specs.declared.batch.Item.{Item}
 use Rattle.pcef_session.specs.Shown.{place_of}
 
+abbrev pub row_of : Item → Row
+row_of i = i.row
+
 -- the key has this slot
 abbrev pub is_at : Option ℕ → ℕ → Bool
 is_at None n = false

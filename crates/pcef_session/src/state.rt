@@ -1,14 +1,20 @@
 //! A session without the closures of its catalog.
 
-ghost use Rattle.std.specs.Prelude.{◌≡◌, [], ◌≤◌, ◌<◌, ◌+◌, IfOk, IfNone, length};
+ghost use Rattle.std.specs.Prelude.{◌≡◌, [], ◌≤◌, ◌<◌, ◌+◌, ◌^◌, IfOk, IfNone, OnErr, OnOk, length, map};
 ghost use Rattle.std.specs.Arc.{arc_value};
-ghost use Rattle.pcef_journal.specs.Entries.{commands};
+ghost use Rattle.pcef_journal.specs.Entries.{commands, rows};
+ghost use Rattle.pcef_journal.specs.Reports.{after_flush};
 ghost use Rattle.pcef_table.specs.Sources.{IsKnown};
 ghost use Rattle.pcef_table.specs.Tables.{IsTable};
+ghost use Rattle.std.specs.Result.{result_map_both};
+ghost use Rattle.pcef_session.specs.Answers.{Attaches, Flushes, told, told_of};
 ghost use Rattle.pcef_session.specs.Core.{Core, HasPlace, IsPreparedFor, IsServed};
+ghost use Rattle.pcef_session.specs.Following.{row_of};
+ghost use Rattle.pcef_session.specs.Refusals.{first_of, flush_refusals};
+ghost use Rattle.pcef_session.specs.Terms.{setting_of};
 
 use crate::answer::{Accepted, AttachFault, FlushRefusal, OpenFault, Refusal, Verdicts};
-use crate::batch::Batch;
+use crate::batch::{Batch, Item};
 use crate::bearers::{Bearers, DEFAULT_BEARER};
 use crate::profile::Profile;
 use crate::rows::{note_rows, take_rows};
@@ -63,6 +69,32 @@ fn keep_active(active: &mut IndexMap<RuleName, Source>, rule: Option<(RuleName, 
     if let Some((name, source)) = rule {
         let _replaced = active.insert(name, source);
     }
+}
+
+/// Notes what a command says of keys and bearers.
+fn note_command(usage: &mut Usage, bearers: &mut Bearers, command: &Command) {
+    match command {
+        Command::Install(rule) => {
+            if let Some(key) = &rule.properties().key {
+                let _slot = usage.slot(key);
+            }
+            let _bearer = bearers.bind();
+        }
+        Command::Monitor { key, grant } => {
+            if let Some(slot) = usage.slot(key) {
+                usage.start(slot, *grant);
+            }
+        }
+        _ => {}
+    }
+}
+
+/// How many rows a journal takes.
+fn rows_of(profile: &Profile) -> u64
+    ensures rows { result ≡ profile.now.rows }
+    ensures most { result < 2 ^ 32 }
+{
+    u64::from(profile.rows)
 }
 
 /// A session, without the closures of its catalog.
@@ -272,20 +304,7 @@ impl SessionState {
         ensures offers { self.new.offers ≡ self.old.offers }
     {
         let first_report = self.journal.reports_len();
-        match &prepared.command {
-            Command::Install(rule) => {
-                if let Some(key) = &rule.properties().key {
-                    let _slot = self.usage.slot(key);
-                }
-                let _bearer = self.bearers.bind();
-            }
-            Command::Monitor { key, grant } => {
-                if let Some(slot) = self.usage.slot(key) {
-                    self.usage.start(slot, *grant);
-                }
-            }
-            _ => {}
-        }
+        note_command(&mut self.usage, &mut self.bearers, &prepared.command);
         keep_active(&mut self.active, prepared.rule);
         self.table = prepared.table;
         self.journal.append(Entry::Command(prepared.command));
@@ -313,6 +332,7 @@ impl SessionState {
     /// Attaches a worker and gives its number. Numbers go up from 0 and are never used again. Takes
     /// memory for what the journal says of the worker.
     pub fn attach(&mut self) -> Result<u8, AttachFault>
+        ensures answer { Attaches self.old.journal result self.new.journal }
         ensures offers { self.new.offers ≡ self.old.offers }
         ensures terms { self.new.terms ≡ self.old.terms }
     {
@@ -328,35 +348,54 @@ impl SessionState {
         Ok(worker)
     }
 
-    /// Takes over a worker's waiting rows, all or none.
-    pub fn flush(&mut self, worker: u8, batch: &Batch) -> Result<Verdicts, FlushRefusal>
+    /// Why rows of a worker aren't taken over, want of memory aside.
+    fn flush_refusal(&self, worker: u8, count: usize) -> Option<FlushRefusal>
+        ensures { result ≡ first_of (flush_refusals (setting_of self.now.terms self.now.offers) self.now.journal worker count) }
+    {
+        if worker >= self.attached {
+            return Some(FlushRefusal::NotAttached);
+        }
+        if self.journal.rows_len().saturating_add(count as u64) > rows_of(&self.profile) {
+            return Some(FlushRefusal::RowsFull);
+        }
+        None
+    }
+
+    /// Adds rows to the journal and counts their octets, or changes nothing that can be seen where there
+    /// is no memory for them.
+    fn take_over(&mut self, items: &[Item]) -> Result<Verdicts, AllocError>
+        requires { length (rows self.old.journal) + length items.now ≤ self.old.terms.rows }
+        ensures told { IfOk result (λ v. told_of v ≡ told (map row_of items.now) self.old.journal self.new.journal) }
+        ensures taken { OnOk result (self.new.journal ≡ after_flush (setting_of self.old.terms self.old.offers) self.old.journal (map row_of items.now)) }
+        ensures kept { OnErr result (self.new.journal ≡ self.old.journal) }
         ensures offers { self.new.offers ≡ self.old.offers }
         ensures terms { self.new.terms ≡ self.old.terms }
     {
-        if worker >= self.attached {
-            return Err(FlushRefusal::NotAttached);
-        }
-        let rows = u64::from(self.profile.rows);
-        if rows.saturating_sub(self.journal.rows_len()) < batch.len() as u64 {
-            return Err(FlushRefusal::RowsFull);
-        }
-        let Ok(judged) = note_rows(self.alloc, batch.items()) else {
-            return Err(FlushRefusal::NoMemory);
-        };
-        if self
-            .journal
-            .reserve(batch.len() + usize::from(self.attached))
-            .is_err()
-        {
-            return Err(FlushRefusal::NoMemory);
-        }
+        let judged = note_rows(self.alloc, items)?;
+        self.journal
+            .reserve(items.len() + usize::from(self.attached))?;
         let first_report = self.journal.reports_len();
-        take_rows(&mut self.journal, &mut self.usage, batch.items());
+        take_rows(&mut self.journal, &mut self.usage, items);
         Ok(Verdicts {
             rows: judged,
             first_report,
             past_last_report: self.journal.reports_len(),
         })
+    }
+
+    /// Takes over a worker's waiting rows, all or none.
+    pub fn flush(&mut self, worker: u8, batch: &Batch) -> Result<Verdicts, FlushRefusal>
+        ensures answer { Flushes (setting_of self.old.terms self.old.offers) worker (map row_of batch.now) self.old.journal (result_map_both told_of (λ e. e) result) self.new.journal }
+        ensures offers { self.new.offers ≡ self.old.offers }
+        ensures terms { self.new.terms ≡ self.old.terms }
+    {
+        if let Some(refusal) = self.flush_refusal(worker, batch.len()) {
+            return Err(refusal);
+        }
+        match self.take_over(batch.items()) {
+            Ok(verdicts) => Ok(verdicts),
+            Err(_) => Err(FlushRefusal::NoMemory),
+        }
     }
 
     /// The active rules by their names, in the order in which they became active.
