@@ -1,5 +1,6 @@
 pub mod Bounds
 pub mod Endings
+pub mod Gone
 pub mod Loops
 pub mod Monitors
 pub mod Names
