@@ -5,6 +5,7 @@ pub mod Loops
 pub mod Monitors
 pub mod Names
 pub mod Places
+pub mod Planned
 pub mod Reports
 pub mod Rows
 pub mod Settles
