@@ -1,4 +1,5 @@
 pub mod Bounds
+pub mod Commanded
 pub mod Endings
 pub mod Gone
 pub mod Loops
