@@ -1,6 +1,8 @@
+pub mod Afterwards
 pub mod Bounds
 pub mod Commanded
 pub mod Endings
+pub mod Flushed
 pub mod Gone
 pub mod Loops
 pub mod Monitors

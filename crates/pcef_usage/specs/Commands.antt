@@ -1,5 +1,5 @@
 -- What a command does to the counters of monitoring keys.
-use Rattle.std.specs.Prelude.{◌≡◌, ℕ, true, false, not, ◌&&◌, if◌then◌else◌, List, ◌∷◌, Some}
+use Rattle.std.specs.Prelude.{◌≡◌, ℕ, true, false, not, ◌&&◌, if◌then◌else◌, List, ◌∷◌}
 use Rattle.pcef_journal.specs.declared.command.Command.{Command}
 use Rattle.pcef_journal.specs.declared.command.Command.TheVariants.{Monitor, Stop, ReportNow, Triggers}
 use Rattle.pcef_journal.specs.declared.entry.Entry.TheVariants as entry
@@ -13,10 +13,14 @@ use Rattle.pcef_usage.specs.declared.usage.KeyState.{KeyState}
 use Rattle.pcef_usage.specs.Keys.{at_place, place_of, started, with_slot}
 use Rattle.pcef_usage.specs.Tellings.{ended}
 
+-- the key of a Monitor is started
+abbrev pub started_by : Command → List KeyState → List KeyState
+started_by (Monitor key amount) states = at_place (place_of key states) (started amount) states
+started_by _ states = states
+
 -- the counters when a command comes: a key that it names has a slot, and the key of a Monitor is started
 abbrev pub entered : Setting → Command → List KeyState → List KeyState
-entered p (Monitor key amount) states = at_place (place_of key (with_slot (Some key) states)) (started amount) (with_slot (Some key) states)
-entered p c states = with_slot (key_named p c) states
+entered p c states = started_by c (with_slot (key_named p c) states)
 
 -- a key that is asked for is known: Stop names one that is on, and ReportNow one that has a slot
 abbrev pub Asks : Setting → Journal → Command → Type 0
