@@ -9,7 +9,7 @@ use Rattle.pcef_journal.specs.declared.trigger.TriggerSet.{TriggerSet}
 use Rattle.pcef_journal.specs.Setting.{Setting, same_name}
 use Rattle.pcef_journal.specs.Entries.{Journal}
 use Rattle.pcef_journal.specs.Journals.{counted, counts, slots, subscribed, tables}
-use Rattle.pcef_journal.specs.Reports.{after_flush, settled, tell, with_rows}
+use Rattle.pcef_journal.specs.Reports.{after_flush, tell, with_rows}
 use Rattle.pcef_usage.specs.declared.usage.KeyState.{KeyState}
 use Rattle.pcef_usage.specs.Flushes.{rows_counted}
 use Rattle.pcef_usage.specs.Keys.{CanCount, keys_of, state_at, with_octets}

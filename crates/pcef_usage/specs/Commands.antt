@@ -1,5 +1,5 @@
 -- What a command does to the counters of monitoring keys.
-use Rattle.std.specs.Prelude.{◌≡◌, ℕ, true, false, not, ◌&&◌, if◌then◌else◌, List, ◌∷◌}
+use Rattle.std.specs.Prelude.{◌≡◌, ℕ, true, not, ◌&&◌, List, ◌∷◌}
 use Rattle.pcef_journal.specs.declared.command.Command.{Command}
 use Rattle.pcef_journal.specs.declared.command.Command.TheVariants.{Monitor, Stop, ReportNow, Triggers}
 use Rattle.pcef_journal.specs.declared.entry.Entry.TheVariants as entry
