@@ -18,11 +18,7 @@ use Rattle.pcef_journal.specs.Reports.{asked, ended as keys_ended, in_order, ina
 use Rattle.pcef_usage.specs.Commands.{OnAfter, switched_on}
 use Rattle.pcef_usage.specs.Tellings.{ended, ends}
 use Rattle.pcef_usage.proofs.Names.{same_name_is, same_name_not, same_name_turned}
-use Rattle.pcef_usage.proofs.Slots.{or_false, stranger_off}
-
-or_assoc : (a b c : Bool) → (a || (b || c)) ≡ ((a || b) || c)
-or_assoc true b c = refl
-or_assoc false b c = refl
+use Rattle.pcef_usage.proofs.Slots.{and_no, or_assoc, or_false, stranger_off}
 
 and_true : (a : Bool) → (a && true) ≡ a
 and_true true = refl
@@ -33,10 +29,6 @@ and_false true = refl
 and_false false = refl
 
 -- ---- keys that pass a test
-no_test : (a b : Bool) → b ≡ false → (a && b) ≡ false
-no_test true b none = none
-no_test false b none = refl
-
 pub among_filter : (test : List ℕ → Bool) (k : List ℕ) (keys : List (List ℕ)) → is_among k (filter test keys) ≡ (is_among k keys && test k)
 among_filter test k [] = refl
 among_filter test k (l ∷ keys) =
@@ -45,7 +37,7 @@ among_filter test k (l ∷ keys) =
       | inl same ↦ let alike : test l ≡ test k = sym (ap test (same_name_is k l same)) in
           elim (cases_Bool (test k)) [
             | inl yes_k ↦ let yes_l : test l ≡ true = alike ∙ yes_k in rw (yes_l, same, yes_k) refl
-            | inr no_k ↦ let no_l : test l ≡ false = alike ∙ no_k in rw (no_l, same, no_k) (rest ∙ no_test (is_among k keys) (test k) no_k)
+            | inr no_k ↦ let no_l : test l ≡ false = alike ∙ no_k in rw (no_l, same, no_k) (rest ∙ and_no (is_among k keys) (test k) no_k)
           ]
       | inr differs ↦ elim (cases_Bool (test l)) [ inl is ↦ rw (is, differs) rest | inr isnt ↦ rw (isnt, differs) rest ]
     ]
