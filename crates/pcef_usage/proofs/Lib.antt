@@ -9,6 +9,8 @@ pub mod Monitors
 pub mod Names
 pub mod Places
 pub mod Planned
+pub mod Plans
+pub mod Quiet
 pub mod Reports
 pub mod Rows
 pub mod Settles

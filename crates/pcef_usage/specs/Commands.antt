@@ -1,10 +1,14 @@
 -- What a command does to the counters of monitoring keys.
-use Rattle.std.specs.Prelude.{◌≡◌, ℕ, true, not, ◌&&◌, List, ◌∷◌}
+use Rattle.std.specs.Prelude.{◌≡◌, ℕ, Bool, true, not, ◌&&◌, List, ◌∷◌, filter, map}
 use Rattle.pcef_journal.specs.declared.command.Command.{Command}
 use Rattle.pcef_journal.specs.declared.command.Command.TheVariants.{Monitor, Stop, ReportNow, Triggers}
 use Rattle.pcef_journal.specs.declared.entry.Entry.TheVariants as entry
+use Rattle.pcef_journal.specs.declared.report.Cause.{Cause}
+use Rattle.pcef_journal.specs.declared.telling.Telling.{Telling}
+use Rattle.pcef_journal.specs.declared.telling.Telling.TheVariants.{Usage}
 use Rattle.pcef_journal.specs.declared.trigger.TriggerSet.{TriggerSet}
 use Rattle.pcef_journal.specs.Setting.{Setting}
+use Rattle.pcef_journal.specs.ActiveRules.{Active, has_key}
 use Rattle.pcef_journal.specs.Generations.{add_key, is_among, key_named}
 use Rattle.pcef_journal.specs.Entries.{Journal}
 use Rattle.pcef_journal.specs.Journals.{now, slots}
@@ -43,3 +47,11 @@ OnAfter p j c = (key : List ℕ) → is_among key (slots p (entry.Command c ∷ 
 abbrev pub subscribed_by : Command → TriggerSet → TriggerSet
 subscribed_by (Triggers set) old = set
 subscribed_by _ old = old
+
+-- ---- what commands report by themselves, slot by slot
+abbrev pub usage_of : Cause → (KeyState → Bool) → List KeyState → List Telling
+usage_of cause test states = map (λ s. Usage s.key cause) (filter test states)
+
+-- a key that is on, and of whose rules there were some and are none
+abbrev pub loses_rules : List Active → List Active → KeyState → Bool
+loses_rules old new s = s.on && has_key s.key old && not (has_key s.key new)
