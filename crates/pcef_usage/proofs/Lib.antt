@@ -1,9 +1,16 @@
+pub mod Afterwards
 pub mod Bounds
+pub mod Commanded
 pub mod Endings
+pub mod Flushed
+pub mod Gone
 pub mod Loops
 pub mod Monitors
 pub mod Names
 pub mod Places
+pub mod Planned
+pub mod Plans
+pub mod Quiet
 pub mod Reports
 pub mod Rows
 pub mod Settles

@@ -96,7 +96,7 @@ key_at n [] = refl
 key_at zero (s ∷ ss) = refl
 key_at (suc n) (s ∷ ss) = key_at n ss
 
-same_key_at : (n : ℕ) (ss uu : List KeyState) → keys_of ss ≡ keys_of uu → (state_at n ss).key ≡ (state_at n uu).key
+pub same_key_at : (n : ℕ) (ss uu : List KeyState) → keys_of ss ≡ keys_of uu → (state_at n ss).key ≡ (state_at n uu).key
 same_key_at n ss uu e = key_at n ss ∙ ap (λ ks. get_or ks n []) e ∙ sym (key_at n uu)
 
 pub key_among : (n : ℕ) (ss : List KeyState) → n < length ss → is_among (state_at n ss).key (keys_of ss) ≡ true

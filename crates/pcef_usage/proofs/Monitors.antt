@@ -22,7 +22,7 @@ use Rattle.pcef_usage.proofs.Slots.{is_among_add, off_before_add, or_false, stra
 use Rattle.pcef_usage.proofs.Tells.{all_mapped, at_place_maps, has_slot_is}
 
 -- ---- a key that has no slot has no grant
-slots_before : (p : Setting) (j : Journal) (c : Command) (k : List ℕ) → is_among k (slots p (entry.Command c ∷ j)) ≡ false → is_among k (slots p j) ≡ false
+pub slots_before : (p : Setting) (j : Journal) (c : Command) (k : List ℕ) → is_among k (slots p (entry.Command c ∷ j)) ≡ false → is_among k (slots p j) ≡ false
 unfolding slots_of
 slots_before p j c k absent =
     elim (cases_Bool (is_table c)) [
