@@ -16,8 +16,13 @@ use Rattle.pcef_filter.specs.declared.filter.Place.TheVariants.{Any, Assigned, N
 use Rattle.pcef_filter.specs.declared.filter.PortRange.{PortRange}
 use Rattle.pcef_filter.specs.declared.filter.Endpoint.{Endpoint}
 use Rattle.pcef_filter.specs.declared.filter.Filter.{Filter}
-use Rattle.pcef_filter.specs.declared.matching.Orientation.{Orientation}
-use Rattle.pcef_filter.specs.declared.matching.Orientation.TheVariants.{AsWritten, Exchanged, NotApplied}
+
+-- how the endpoints of a filter stand to a packet: its source on the packet's source, or on the packet's
+-- destination, or not at all
+pub data Orientation : Type 0 where
+  AsWritten : Orientation
+  Exchanged : Orientation
+  NotApplied : Orientation
 
 -- an `in` text applies to uplink packets as written; an `out` text to downlink packets, or as its
 -- flow word says (TS 29.212, Flow-Direction), with source and target exchanged on uplink packets

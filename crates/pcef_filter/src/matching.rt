@@ -7,16 +7,6 @@ ghost use Rattle.pcef_filter.specs.Matching.{applies, orientation_of, dst_port, 
 use crate::filter::{Direction, Endpoint, Filter, Flow, Place, PortRange};
 use pcef_packet::{Addr, Dir, Header, Ports};
 
-/// How the endpoints of a filter stand to a packet.
-enum Orientation {
-    /// The source on the packet's source.
-    AsWritten,
-    /// The source on the packet's destination, and the target on its source.
-    Exchanged,
-    /// The filter doesn't apply to packets of this direction.
-    NotApplied,
-}
-
 /// Whether the flow word of an `out` text asks for uplink packets.
 fn asks_for_uplink(flow: Option<Flow>) -> bool
     ensures { result ≡ applies (orientation_of Direction.Out flow Dir.Up) }

@@ -1,6 +1,7 @@
 //! Texts and packets whose meaning was worked out by hand from RFC 6733, clause 4.3.1.
 use super::*;
 use pcef_packet::{Addr, Dir, Header, Ports};
+use std::process::Abort;
 
 /// The address of the session, 10.0.0.2.
 const UE: Addr = Addr::V4(0x0a00_0002);
@@ -30,12 +31,12 @@ fn fault_of(text: &str) -> Option<FilterFault> {
     read_filter(text, None).err()
 }
 
-/// Whether a text and a flow word are right, and match a packet of this header.
-fn matches(text: &str, flow: Option<Flow>, header: &Header) -> bool {
-    match read_filter(text, flow) {
-        Ok(filter) => filter.matches(UE, header),
-        Err(_) => false,
-    }
+/// Whether the filter that a text and a flow word are matches a packet of this header.
+fn matches(rt: &impl Abort, text: &str, flow: Option<Flow>, header: &Header) -> bool {
+    let Ok(filter) = read_filter(text, flow) else {
+        panic!(rt; "the text is right");
+    };
+    filter.matches(UE, header)
 }
 
 #[test]
@@ -144,7 +145,7 @@ fn flow_words_are_judged_last(rt: HostRuntime) {
 #[test]
 fn blanks_and_leading_zeros(rt: HostRuntime) {
     let spread = "\t permit  out\t017 from 198.051.100.007/00024 \t00053 to assigned 05000 ";
-    assert!(rt; matches(spread, None, &DNS_ANSWER));
+    assert!(rt; matches(&rt, spread, None, &DNS_ANSWER));
     assert_eq!(rt;
         fault_of("permit out 000017 from any to any"),
         Some(FilterFault::Proto)
@@ -186,6 +187,10 @@ fn port_lists(rt: HostRuntime) {
         fault_of("permit out 17 from any 1,2,3,4,5,6,7,8,9 to any"),
         Some(FilterFault::SourcePorts)
     );
+    assert_eq!(rt;
+        fault_of("permit out 6 from any 90-80 to any"),
+        Some(FilterFault::SourcePorts)
+    );
     assert_eq!(rt; fault_of("permit out 17 from any to any 80-90"), None);
     assert_eq!(rt;
         fault_of("permit out 17 from any to any 90-80"),
@@ -208,13 +213,21 @@ fn packets(rt: HostRuntime) {
         ..DNS_ANSWER
     };
     let dns = "permit out 17 from any 53 to assigned";
-    assert!(rt; matches(dns, None, &DNS_ANSWER));
-    assert!(rt; !matches(dns, None, &DNS_QUESTION));
-    assert!(rt; !matches(dns, None, &no_ports));
-    assert!(rt; matches("permit out ip from any to any", None, &no_ports));
-    assert!(rt; !matches("permit out 6 from any 53 to assigned", None, &DNS_ANSWER));
+    assert!(rt; matches(&rt, dns, None, &DNS_ANSWER));
+    assert!(rt; !matches(&rt, dns, None, &DNS_QUESTION));
+    assert!(rt; !matches(&rt, dns, None, &no_ports));
+    assert!(rt; matches(&rt, "permit out ip from any to any", None, &no_ports));
+    assert!(rt;
+        !matches(
+            &rt,
+            "permit out 6 from any 53 to assigned",
+            None,
+            &DNS_ANSWER
+        )
+    );
     assert!(rt;
         matches(
+            &rt,
             "permit out 17 from any 1,50-53 to assigned",
             None,
             &DNS_ANSWER
@@ -222,27 +235,37 @@ fn packets(rt: HostRuntime) {
     );
     assert!(rt;
         !matches(
+            &rt,
             "permit out 17 from any 1-52,54 to assigned",
             None,
             &DNS_ANSWER
         )
     );
-    assert!(rt; !matches("permit out 17 from assigned to any", None, &DNS_ANSWER));
+    assert!(rt; !matches(&rt, "permit out 17 from assigned to any", None, &DNS_ANSWER));
 }
 
 #[test]
 fn networks(rt: HostRuntime) {
     assert!(rt;
         matches(
+            &rt,
             "permit out ip from 198.51.100.7 to 10.0.0.2/32",
             None,
             &DNS_ANSWER
         )
     );
-    assert!(rt; !matches("permit out ip from 198.51.100.6 to any", None, &DNS_ANSWER));
+    assert!(rt;
+        !matches(
+            &rt,
+            "permit out ip from 198.51.100.6 to any",
+            None,
+            &DNS_ANSWER
+        )
+    );
     // Bits below the mask don't count, and of 25 bits the last is another.
     assert!(rt;
         matches(
+            &rt,
             "permit out ip from 198.51.100.250/24 to any",
             None,
             &DNS_ANSWER
@@ -250,6 +273,7 @@ fn networks(rt: HostRuntime) {
     );
     assert!(rt;
         !matches(
+            &rt,
             "permit out ip from 198.51.100.250/25 to any",
             None,
             &DNS_ANSWER
@@ -257,6 +281,7 @@ fn networks(rt: HostRuntime) {
     );
     assert!(rt;
         matches(
+            &rt,
             "permit out ip from 255.255.255.255/0 to any",
             None,
             &DNS_ANSWER
@@ -267,12 +292,19 @@ fn networks(rt: HostRuntime) {
 #[test]
 fn flow_words(rt: HostRuntime) {
     let dns = "permit out 17 from any 53 to assigned";
-    assert!(rt; matches(dns, Some(Flow::Downlink), &DNS_ANSWER));
-    assert!(rt; !matches(dns, Some(Flow::Downlink), &DNS_QUESTION));
-    assert!(rt; !matches(dns, Some(Flow::Uplink), &DNS_ANSWER));
-    assert!(rt; matches(dns, Some(Flow::Uplink), &DNS_QUESTION));
-    assert!(rt; matches(dns, Some(Flow::Bidirectional), &DNS_ANSWER));
-    assert!(rt; matches(dns, Some(Flow::Bidirectional), &DNS_QUESTION));
-    assert!(rt; matches("permit in 17 from assigned to any 53", None, &DNS_QUESTION));
-    assert!(rt; !matches("permit in ip from any to any", None, &DNS_ANSWER));
+    assert!(rt; matches(&rt, dns, Some(Flow::Downlink), &DNS_ANSWER));
+    assert!(rt; !matches(&rt, dns, Some(Flow::Downlink), &DNS_QUESTION));
+    assert!(rt; !matches(&rt, dns, Some(Flow::Uplink), &DNS_ANSWER));
+    assert!(rt; matches(&rt, dns, Some(Flow::Uplink), &DNS_QUESTION));
+    assert!(rt; matches(&rt, dns, Some(Flow::Bidirectional), &DNS_ANSWER));
+    assert!(rt; matches(&rt, dns, Some(Flow::Bidirectional), &DNS_QUESTION));
+    assert!(rt;
+        matches(
+            &rt,
+            "permit in 17 from assigned to any 53",
+            None,
+            &DNS_QUESTION
+        )
+    );
+    assert!(rt; !matches(&rt, "permit in ip from any to any", None, &DNS_ANSWER));
 }

@@ -1,5 +1,5 @@
 -- What stands in a journal (own choice). It is the list of its entries, the newest first.
-use Rattle.std.specs.Prelude.{ℕ, ◌+◌, ◌==◌, nat_le, Bool, true, false, List, [], ◌∷◌, Option, Some, None, filter, filter_map, if◌then◌else◌, length}
+use Rattle.std.specs.Prelude.{ℕ, ◌+◌, ◌==◌, Bool, true, false, List, [], ◌∷◌, Option, Some, None, filter, filter_map, if◌then◌else◌, length}
 use Rattle.pcef_journal.specs.declared.command.Command.{Command}
 use Rattle.pcef_journal.specs.declared.entry.Entry.{Entry}
 use Rattle.pcef_journal.specs.declared.entry.Entry.TheVariants as entry
@@ -34,7 +34,3 @@ reports j = filter_map as_report j
 -- the rows of a worker, the newest first
 abbrev pub lane : Journal → ℕ → List Row
 lane j worker = filter (λ r. r.worker == worker) (rows j)
-
--- the reports from this number on, the newest first
-abbrev pub reports_from : Journal → ℕ → List Report
-reports_from j number = filter (λ r. nat_le number r.number) (reports j)

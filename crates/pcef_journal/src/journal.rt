@@ -46,6 +46,7 @@ impl Journal {
     pub fn reserve(&mut self, additional: usize) -> Result<(), AllocError>
         ensures entries { self.new.entries ≡ self.old.entries }
         ensures room { OnOk result (additional ≤ self.new.room) }
+        ensures kept { self.old.room ≤ self.new.room }
     {
         self.entries.reserve(additional)
     }

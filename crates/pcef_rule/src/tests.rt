@@ -222,3 +222,28 @@ fn copies(rt: HostRuntime) -> Result<(), Fail> {
     assert!(rt; copy.filters() == some);
     Ok(())
 }
+
+/// Properties with this name and precedence.
+fn ranked(name: &str, precedence: u32) -> Result<Properties, Fail> {
+    let name = RuleName::new(name)?;
+    Ok(Properties {
+        name,
+        precedence,
+        ..properties()?
+    })
+}
+
+#[test]
+fn precedence_then_origin_then_name(rt: HostRuntime) -> Result<(), Fail> {
+    let (dynamic, predefined) = (Origin::Dynamic, Origin::Predefined);
+    let early = ranked("z", 10)?;
+    let late = ranked("a", 11)?;
+    assert!(rt; comes_before((&early, predefined), (&late, dynamic)));
+    assert!(rt; !comes_before((&late, dynamic), (&early, predefined)));
+    let (a, b) = (ranked("a", 10)?, ranked("b", 10)?);
+    assert!(rt; comes_before((&b, dynamic), (&a, predefined)));
+    assert!(rt; comes_before((&a, predefined), (&b, predefined)));
+    assert!(rt; !comes_before((&a, dynamic), (&a, dynamic)));
+    assert_eq!(rt; compare_rules(&a, dynamic, &a, dynamic), Ordering::Equal);
+    Ok(())
+}

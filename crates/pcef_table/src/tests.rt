@@ -212,13 +212,16 @@ fn counting_of_a_slot(rt: HostRuntime) -> Result<(), Fail> {
 fn no_predefined_rules(rt: HostRuntime) -> Result<(), Fail> {
     let catalog = Catalog::none();
     assert_eq!(rt; catalog.listing().share()?.offers().len(), 0);
+    Ok(())
+}
+
+#[test]
+fn shapes(rt: HostRuntime) {
+    // An alternative without tests is true of every packet, and a shape without alternatives of none.
     let mut alternatives = ArrayVec::new();
     alternatives.push(Alternative::default());
-    let shape = Shape::new(alternatives);
-    assert_eq!(rt;
-        format!(in rt.alloc(); "{:?}", Test::default())?.as_str(),
-        "Proto(0)"
-    );
-    let _ = shape;
-    Ok(())
+    assert!(rt; Shape::new(alternatives).holds(&DNS_ANSWER));
+    assert!(rt; !Shape::new(ArrayVec::new()).holds(&DNS_ANSWER));
+    assert!(rt; Test::Proto(17).holds(&DNS_ANSWER));
+    assert!(rt; !Test::default().holds(&DNS_ANSWER));
 }

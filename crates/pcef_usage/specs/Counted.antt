@@ -11,7 +11,8 @@ pub record Counted : Type 0 where
   pub states : List KeyState
   pub room : ℕ
 
--- an entry that is no report
+-- an entry that is neither a report nor a row: those go with the counters
 abbrev pub IsEvent : Entry → Type 0
 IsEvent (entry.Report r) = ⊥
+IsEvent (entry.Row r) = ⊥
 IsEvent _ = Unit {0}

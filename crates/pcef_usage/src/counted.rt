@@ -49,11 +49,12 @@ impl CountedJournal {
         ensures journal { self.new.journal ≡ self.old.journal }
         ensures states { self.new.states ≡ self.old.states }
         ensures room { OnOk result (additional ≤ self.new.room) }
+        ensures kept { self.old.room ≤ self.new.room }
     {
         self.journal.reserve(additional)
     }
 
-    /// Appends an entry that is no report. Takes no memory.
+    /// Appends an entry that is neither a report nor a row. Takes no memory.
     pub fn enter(&mut self, entry: Entry)
         requires event { IsEvent entry }
         requires room { 0 < self.old.room }
