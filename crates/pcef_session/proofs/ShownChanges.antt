@@ -28,6 +28,9 @@ use Rattle.pcef_journal.specs.Journals.{at, gen, is_table, now, slots, tables}
 use Rattle.pcef_journal.proofs.Growth.{at_newest, gen_after_table, now_after_table, tables_of_table}
 use Rattle.pcef_usage.proofs.Slots.{is_among_add}
 use Rattle.pcef_session.specs.Shown.{Shows, StandsFor, counts_now, place_of, rule_of, slot_of}
+use Rattle.pcef_session.specs.Laws.{HasBearerIds}
+use Rattle.pcef_session.specs.Lawful.{Lawful}
+use Rattle.pcef_session.proofs.BearerIds.{lawful_bound}
 use Rattle.pcef_session.proofs.BoundRules.{NamesOnce, contrary, same_name_is, same_name_of, same_qos_self}
 use Rattle.pcef_session.proofs.Found.{any_from}
 use Rattle.pcef_session.proofs.Members.{filter_from, filter_to, first_there, later_there, map_from, map_to, put_cases, put_new, put_old, there_cases}
@@ -304,3 +307,8 @@ shows_monitor p j key amount slot t number entries fives shows place number_is e
     let v = map_from (with_counting slot true) t.entries e (subst (λ es. Contains es e) entries_are there) in
     let w = only_now p j t shows v.0 v.1 in
     (w.0, w.1, subst (λ (y : Entry). StandsFor p k (gen k) y w.0) v.2 (stands v.0 w.0 w.1 w.2)))
+
+-- the default pair keeps the default bearer
+pub lawful_fives : (p : Setting) → HasBearerIds p → (j : Journal) → Lawful p j → Fives p (now p j)
+unfolding Fives
+lawful_fives p ids j lawful q default = (lawful_bound p ids j lawful).five q default

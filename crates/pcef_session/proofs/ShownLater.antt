@@ -112,11 +112,15 @@ shows_later p j k g t same grows shows = record {
 pub shows_same : (p : Setting) (j k : Journal) (g : ℕ) (t : TableValue) → tables k ≡ tables j → Shows p j g t → Shows p k g t
 shows_same p j k g t same = shows_later p j k g t (ap (λ cs. made_by p (oldest g cs)) same) ([], ap (slots_of p) same ∙ sym (append-nil (slots p j)))
 
+-- slots after a command
+pub slots_grow_by : (p : Setting) (j : Journal) (c : Command) → Grows (slots p j) (slots p (entry.Command c ∷ j))
+slots_grow_by p j c =
+    elim (cases_Bool (is_table c)) [
+      | inl is ↦ let grown = slots_grow p c (tables j) in (grown.0, ap (slots_of p) (tables_of_table j c is) ∙ grown.1)
+      | inr isnt ↦ ([], ap (slots_of p) (tables_of_other j c isnt) ∙ sym (append-nil (slots p j)))
+    ]
+
 -- a command leaves the tables of the generations before it
 pub shows_after_command : (p : Setting) (j : Journal) (c : Command) (g : ℕ) (t : TableValue) → g ≤ gen j → Shows p j g t → Shows p (entry.Command c ∷ j) g t
 shows_after_command p j c g t within shows =
-    shows_later p j (entry.Command c ∷ j) g t (at_after_command p j c g within)
-    (elim (cases_Bool (is_table c)) [
-      | inl is ↦ let grown = slots_grow p c (tables j) in (grown.0, ap (slots_of p) (tables_of_table j c is) ∙ grown.1)
-      | inr isnt ↦ ([], ap (slots_of p) (tables_of_other j c isnt) ∙ sym (append-nil (slots p j)))
-    ]) shows
+    shows_later p j (entry.Command c ∷ j) g t (at_after_command p j c g within) (slots_grow_by p j c) shows

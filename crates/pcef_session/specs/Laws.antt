@@ -1,19 +1,25 @@
 -- Laws of lawful journals, for whoever reads the definitions.
-use Rattle.std.specs.Prelude.{ℕ, ◌≡◌, ◌≤◌, ◌+◌, true, List, ◌∷◌, All}
+use Rattle.std.specs.Prelude.{ℕ, ◌≡◌, ◌≤◌, ◌+◌, ◌==◌, true, false, List, ◌∷◌, Option, Some, All, map}
 use Rattle.pcef_packet.specs.declared.header.Header.{Header}
 use Rattle.pcef_rule.specs.declared.quantity.Qos.{Qos}
+use Rattle.pcef_rule.specs.declared.quantity.Slot.{Slot}
+use Rattle.pcef_rule.specs.Definition.{Definition}
 use Rattle.pcef_table.specs.declared.verdict.Verdict.{Verdict}
-use Rattle.pcef_table.specs.Tables.{TableValue}
+use Rattle.pcef_table.specs.declared.entry.Entry.{Entry}
+use Rattle.pcef_table.specs.Tables.{IsTable, TableValue, placed, with_counting, without}
 use Rattle.pcef_table.specs.Verdicts.{IsVerdict, slot_for}
 use Rattle.pcef_journal.specs.declared.command.Command.{Command}
+use Rattle.pcef_journal.specs.declared.command.Command.TheVariants.{Install, Monitor, Remove}
 use Rattle.pcef_journal.specs.declared.entry.Entry.TheVariants as entry
+use Rattle.pcef_journal.specs.declared.row.Row.{Row}
+use Rattle.pcef_journal.specs.ActiveRules.{dynamic}
 use Rattle.pcef_journal.specs.Setting.{Setting, same_qos}
 use Rattle.pcef_journal.specs.Generations.{has_bearer}
 use Rattle.pcef_journal.specs.Entries.{Journal}
 use Rattle.pcef_journal.specs.Journals.{at, counted, counts_in, gen, judged, now, reported, slots, unreported}
-use Rattle.pcef_session.specs.Following.{has_this_slot}
-use Rattle.pcef_session.specs.Lawful.{Lawful}
-use Rattle.pcef_session.specs.Shown.{Shows}
+use Rattle.pcef_session.specs.Following.{CountsFor, IsWithin, has_this_slot}
+use Rattle.pcef_session.specs.Lawful.{BatchFollows, Lawful}
+use Rattle.pcef_session.specs.Shown.{Shows, StandsFor, place_of}
 
 -- no octet is reported twice, nor one that was never counted
 abbrev pub NothingIsReportedTwice : Type 0
@@ -53,3 +59,35 @@ abbrev pub ShownTablesCount : Type 0
 ShownTablesCount = (p : Setting) (j : Journal) (g : ℕ) (t : TableValue) (header : Header) (v : Verdict) (key : List ℕ) → Shows p j g t →
     IsVerdict p.catalog t.entries p.ue header v →
     counts_in p (at p j g) key header ≡ has_this_slot (slots p j) (slot_for p.catalog t.entries v) key
+
+-- the tables that Install, Remove and Monitor make of one that shows the newest generation show the next one
+abbrev pub InstalledTablesShow : Type 0
+InstalledTablesShow = (p : Setting) → HasBearerIds p → (j : Journal) → Lawful p j → (rule : Definition) (x : Entry) (t new : TableValue) → Shows p j (gen j) t →
+    StandsFor p (entry.Command (Install rule) ∷ j) (gen (entry.Command (Install rule) ∷ j)) x (dynamic rule) →
+    new.number ≡ t.number + 1 → new.entries ≡ placed p.catalog x t.entries → IsTable p.catalog new.entries →
+    Shows p (entry.Command (Install rule) ∷ j) (gen (entry.Command (Install rule) ∷ j)) new
+
+abbrev pub RemovedTablesShow : Type 0
+RemovedTablesShow = (p : Setting) → HasBearerIds p → (j : Journal) → Lawful p j → (name : List ℕ) (t new : TableValue) → Shows p j (gen j) t →
+    new.number ≡ t.number + 1 → new.entries ≡ without p.catalog name t.entries → IsTable p.catalog new.entries →
+    Shows p (entry.Command (Remove name) ∷ j) (gen (entry.Command (Remove name) ∷ j)) new
+
+abbrev pub MonitoredTablesShow : Type 0
+MonitoredTablesShow = (p : Setting) → HasBearerIds p → (j : Journal) → Lawful p j → (key : List ℕ) (amount : ℕ) (slot : Slot) (t new : TableValue) → Shows p j (gen j) t →
+    place_of key (slots p (entry.Command (Monitor key amount) ∷ j)) ≡ Some slot.0 →
+    new.number ≡ t.number + 1 → new.entries ≡ map (with_counting slot true) t.entries → IsTable p.catalog new.entries →
+    Shows p (entry.Command (Monitor key amount) ∷ j) (gen (entry.Command (Monitor key amount) ∷ j)) new
+
+-- rows that wait may still come next after a command, and after a row of another worker; and a row goes on
+-- counting for the key of its slot
+abbrev pub WaitingRowsStay : Type 0
+WaitingRowsStay = (p : Setting) (j : Journal) (c : Command) (worker : ℕ) (rs : List Row) → BatchFollows p j worker rs →
+    BatchFollows p (entry.Command c ∷ j) worker rs
+
+abbrev pub WaitingRowsStayBesideOthers : Type 0
+WaitingRowsStayBesideOthers = (p : Setting) (j : Journal) (other : Row) (worker : ℕ) (rs : List Row) → (other.worker == worker) ≡ false → BatchFollows p j worker rs →
+    BatchFollows p (entry.Row other ∷ j) worker rs
+
+abbrev pub SlotsStay : Type 0
+SlotsStay = (p : Setting) (j : Journal) (c : Command) (row : Row) (slot : Option Slot) → row.generation ≤ gen j → IsWithin (slots p j) slot →
+    CountsFor p j row slot → CountsFor p (entry.Command c ∷ j) row slot

@@ -1,7 +1,6 @@
 pub mod Agreement
 pub mod Answers
 pub mod Core
-pub mod Counters
 pub mod Following
 pub mod Lawful
 pub mod Laws

@@ -1,6 +1,6 @@
 //! Laws of lawful journals, proved for whoever reads the definitions.
 
-ghost use Rattle.pcef_session.specs.Laws.{IdsAreDistinct, IdsAreInRange, NothingIsLost, NothingIsReportedTwice, ShownTablesCount, ShownTablesJudge, ShownTablesStay};
+ghost use Rattle.pcef_session.specs.Laws.{InstalledTablesShow, MonitoredTablesShow, RemovedTablesShow, SlotsStay, WaitingRowsStay, WaitingRowsStayBesideOthers, IdsAreDistinct, IdsAreInRange, NothingIsLost, NothingIsReportedTwice, ShownTablesCount, ShownTablesJudge, ShownTablesStay};
 
 /// What usage reports tell: each counted octet once at most, and none is lost.
 pub fn usage_is_exact()
@@ -20,4 +20,18 @@ pub fn shown_tables_judge()
     ensures verdicts { ShownTablesJudge }
     ensures counts { ShownTablesCount }
     ensures stay { ShownTablesStay }
+{}
+
+/// The table that Install, Remove or Monitor makes of one that shows the newest generation shows the next.
+pub fn tables_follow_commands()
+    ensures installed { InstalledTablesShow }
+    ensures removed { RemovedTablesShow }
+    ensures monitored { MonitoredTablesShow }
+{}
+
+/// Rows that wait lose nothing while they do: they may still come next, and count for the same keys.
+pub fn waiting_rows_stay()
+    ensures commands { WaitingRowsStay }
+    ensures others { WaitingRowsStayBesideOthers }
+    ensures slots { SlotsStay }
 {}
