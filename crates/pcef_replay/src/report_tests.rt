@@ -43,27 +43,79 @@ fn idle_rule(alloc: Global, name: &str, key: &str) -> Result<Rule, Fail> {
     Ok(Rule::new(alloc, properties, &[filter])?)
 }
 
-fn monitor(key: &str, grant: u64) -> Result<Command, Fail> {
-    let key = KeyName::new(key)?;
-    Ok(Command::Monitor { key, grant })
+/// What happens in a worked example.
+#[derive(Drop)]
+enum Event {
+    /// A command is accepted.
+    Command(Command),
+    /// The first worker flushes rows of so many octets.
+    Flush(&'static [u32]),
 }
 
-/// Install of `web`, Monitor of its key with a grant of 1,000, and a worker.
-fn monitored(alloc: Global, setting: &Setting) -> Result<Vec<Entry>, Fail> {
+/// Rows of the second generation.
+fn rows_of(alloc: Global, octets: &[u32]) -> Result<Vec<Row>, Fail> {
+    let mut rows = Vec::new(alloc);
+    for octets in octets {
+        let header = Header {
+            octets: *octets,
+            ..DNS_ANSWER
+        };
+        rows.push(Row { header, ..row()? })?;
+    }
+    Ok(rows)
+}
+
+fn happen(
+    alloc: Global,
+    setting: &Setting,
+    entries: &mut Vec<Entry>,
+    event: Event,
+) -> Result<(), Fail> {
+    match event {
+        Event::Command(command) => after_command(alloc, setting, entries, command)?,
+        Event::Flush(octets) => {
+            let rows = rows_of(alloc, octets)?;
+            after_flush(alloc, setting, entries, &rows)?;
+        }
+    }
+    Ok(())
+}
+
+/// The journal in which a worker is attached and these things happen.
+fn journal_of(alloc: Global, setting: &Setting, events: Vec<Event>) -> Result<Vec<Entry>, Fail> {
     let mut entries = Vec::new(alloc);
-    after_command(alloc, setting, &mut entries, Command::Install(web(alloc)?))?;
-    after_command(alloc, setting, &mut entries, monitor("vid", 1000)?)?;
     entries.push(Entry::Attach(0))?;
+    for event in events {
+        happen(alloc, setting, &mut entries, event)?;
+    }
     Ok(entries)
 }
 
-/// A row of so many octets.
-fn row_of(octets: u32) -> Result<Row, Fail> {
-    let header = Header {
-        octets,
-        ..DNS_ANSWER
-    };
-    Ok(Row { header, ..row()? })
+fn install(rule: Rule) -> Event {
+    Event::Command(Command::Install(rule))
+}
+
+fn monitor(key: &str, grant: u64) -> Result<Event, Fail> {
+    let key = KeyName::new(key)?;
+    Ok(Event::Command(Command::Monitor { key, grant }))
+}
+
+fn subscribe(set: TriggerSet) -> Event {
+    Event::Command(Command::Triggers(set))
+}
+
+fn report_now(key: &str) -> Result<Event, Fail> {
+    Ok(Event::Command(Command::ReportNow(KeyName::new(key)?)))
+}
+
+fn stop(key: &str) -> Result<Event, Fail> {
+    Ok(Event::Command(Command::Stop(KeyName::new(key)?)))
+}
+
+fn notice() -> Result<Event, Fail> {
+    let kind = AccessKind::RatChange;
+    let value = NoticeValue::new("eutran")?;
+    Ok(Event::Command(Command::Notice { kind, value }))
 }
 
 fn usage(number: u64, key: &str, octets: u64, cause: Cause) -> Result<Report, Fail> {
@@ -90,30 +142,53 @@ fn reports_in(alloc: Global, entries: &[Entry]) -> Result<Vec<Report>, Fail> {
     Ok(reports)
 }
 
+/// The reports that are made while these things happen.
+fn reports_of(alloc: Global, setting: &Setting, events: Vec<Event>) -> Result<Vec<Report>, Fail> {
+    let entries = journal_of(alloc, setting, events)?;
+    reports_in(alloc, &entries)
+}
+
+/// How many keys are on at the end.
+fn on_after(alloc: Global, setting: &Setting, entries: &[Entry]) -> Result<usize, Fail> {
+    Ok(replay(alloc, setting, entries)?.on.len())
+}
+
 #[test]
 fn a_grant_that_a_flush_reaches_is_reported(rt: HostRuntime) -> Result<(), Fail> {
     let alloc = rt.alloc();
     let setting = setting_of(alloc, qos_nine()?)?;
     let vid = KeyName::new("vid")?;
-    let mut entries = monitored(alloc, &setting)?;
-    after_command(
-        alloc,
-        &setting,
-        &mut entries,
-        Command::Triggers(USAGE_REPORTS),
-    )?;
-    after_flush(alloc, &setting, &mut entries, &[row_of(600)?, row_of(600)?])?;
-    let reports = reports_in(alloc, &entries)?;
+    let events = vec![in alloc;
+        install(web(alloc)?),
+        monitor("vid", 1000)?,
+        subscribe(USAGE_REPORTS),
+        Event::Flush(&[600, 600]),
+        Event::Flush(&[5000]),
+        Event::Flush(&[]),
+    ]?;
+    let entries = journal_of(alloc, &setting, events)?;
     let expected = [usage(0, "vid", 1200, Cause::Threshold)?];
+    let reports = reports_in(alloc, &entries)?;
     assert_eq!(rt; reports.as_slice(), expected.as_slice());
-    assert_eq!(rt; entries.len(), 7usize);
+    assert_eq!(rt; entries.len(), 8usize);
     assert_eq!(rt; grant(&entries, &vid), None);
-    assert_eq!(rt; unreported(alloc, &setting, &entries, &vid)?, 0u128);
-    after_flush(alloc, &setting, &mut entries, &[row_of(5000)?])?;
-    assert_eq!(rt; entries.len(), 8usize);
     assert_eq!(rt; unreported(alloc, &setting, &entries, &vid)?, 5000u128);
-    after_flush(alloc, &setting, &mut entries, &[])?;
-    assert_eq!(rt; entries.len(), 8usize);
+    Ok(())
+}
+
+#[test]
+fn a_grant_that_is_not_reached_is_not_reported(rt: HostRuntime) -> Result<(), Fail> {
+    let alloc = rt.alloc();
+    let setting = setting_of(alloc, qos_nine()?)?;
+    let events = vec![in alloc;
+        install(web(alloc)?),
+        monitor("vid", 1000)?,
+        subscribe(USAGE_REPORTS),
+        Event::Flush(&[999]),
+    ]?;
+    let entries = journal_of(alloc, &setting, events)?;
+    assert_eq!(rt; report_count(&entries), 0usize);
+    assert_eq!(rt; thresholds(alloc, &setting, &entries)?.len(), 0usize);
     Ok(())
 }
 
@@ -121,27 +196,21 @@ fn a_grant_that_a_flush_reaches_is_reported(rt: HostRuntime) -> Result<(), Fail>
 fn a_grant_waits_for_the_subscription(rt: HostRuntime) -> Result<(), Fail> {
     let alloc = rt.alloc();
     let setting = setting_of(alloc, qos_nine()?)?;
-    let mut entries = monitored(alloc, &setting)?;
-    after_flush(alloc, &setting, &mut entries, &[row_of(999)?])?;
-    let triggers = Command::Triggers(USAGE_REPORTS);
-    after_command(alloc, &setting, &mut entries, triggers)?;
-    assert_eq!(rt; report_count(&entries), 0usize);
-    assert_eq!(rt; thresholds(alloc, &setting, &entries)?.len(), 0usize);
-    after_command(alloc, &setting, &mut entries, monitor("vid", 999)?)?;
-    let reports = reports_in(alloc, &entries)?;
-    let expected = [usage(0, "vid", 999, Cause::Threshold)?];
-    assert_eq!(rt; reports.as_slice(), expected.as_slice());
-    let none = Command::Triggers(TriggerSet::default());
-    after_command(alloc, &setting, &mut entries, none)?;
-    after_command(alloc, &setting, &mut entries, monitor("vid", 1)?)?;
-    after_flush(alloc, &setting, &mut entries, &[row_of(28)?])?;
-    assert_eq!(rt; report_count(&entries), 1usize);
-    let again = Command::Triggers(USAGE_REPORTS);
-    after_command(alloc, &setting, &mut entries, again)?;
-    let reports = reports_in(alloc, &entries)?;
+    let events = vec![in alloc;
+        install(web(alloc)?),
+        monitor("vid", 28)?,
+        Event::Flush(&[28]),
+        report_now("vid")?,
+        Event::Flush(&[40]),
+        subscribe(USAGE_REPORTS),
+        Event::Flush(&[50]),
+        monitor("vid", 50)?,
+    ]?;
+    let reports = reports_of(alloc, &setting, events)?;
     let expected = [
-        usage(0, "vid", 999, Cause::Threshold)?,
-        usage(1, "vid", 28, Cause::Threshold)?,
+        usage(0, "vid", 28, Cause::Requested)?,
+        usage(1, "vid", 40, Cause::Threshold)?,
+        usage(2, "vid", 50, Cause::Threshold)?,
     ];
     assert_eq!(rt; reports.as_slice(), expected.as_slice());
     Ok(())
@@ -151,49 +220,79 @@ fn a_grant_waits_for_the_subscription(rt: HostRuntime) -> Result<(), Fail> {
 fn a_report_that_is_asked_for_leaves_the_grant(rt: HostRuntime) -> Result<(), Fail> {
     let alloc = rt.alloc();
     let setting = setting_of(alloc, qos_nine()?)?;
-    let vid = KeyName::new("vid")?;
-    let mut entries = monitored(alloc, &setting)?;
-    after_flush(alloc, &setting, &mut entries, &[row_of(28)?])?;
-    after_command(
-        alloc,
-        &setting,
-        &mut entries,
-        Command::ReportNow(vid.copy()),
-    )?;
-    assert_eq!(rt; grant(&entries, &vid), Some(1000));
-    assert_eq!(rt; generation(&entries), 2usize);
-    after_command(alloc, &setting, &mut entries, Command::Stop(vid.copy()))?;
-    assert_eq!(rt; grant(&entries, &vid), None);
-    assert_eq!(rt; generation(&entries), 3usize);
+    let events = vec![in alloc;
+        install(web(alloc)?),
+        monitor("vid", 1000)?,
+        Event::Flush(&[28]),
+        report_now("vid")?,
+    ]?;
+    let entries = journal_of(alloc, &setting, events)?;
     let reports = reports_in(alloc, &entries)?;
-    let expected = [
-        usage(0, "vid", 28, Cause::Requested)?,
-        usage(1, "vid", 0, Cause::Disabled)?,
-    ];
+    let expected = [usage(0, "vid", 28, Cause::Requested)?];
     assert_eq!(rt; reports.as_slice(), expected.as_slice());
-    let newest = replay(alloc, &setting, &entries)?;
-    assert_eq!(rt; newest.on.len(), 0usize);
+    assert_eq!(rt; grant(&entries, &KeyName::new("vid")?), Some(1000));
+    assert_eq!(rt; generation(&entries), 2usize);
     Ok(())
 }
 
 #[test]
-fn the_last_rule_of_a_key_goes(rt: HostRuntime) -> Result<(), Fail> {
+fn a_key_that_is_stopped_is_off(rt: HostRuntime) -> Result<(), Fail> {
     let alloc = rt.alloc();
     let setting = setting_of(alloc, qos_nine()?)?;
-    let mut entries = monitored(alloc, &setting)?;
-    let second = Command::Install(idle_rule(alloc, "second", "vid")?);
-    after_command(alloc, &setting, &mut entries, second)?;
-    after_flush(alloc, &setting, &mut entries, &[row_of(28)?])?;
-    let remove = Command::Remove(RuleName::new("web")?);
-    after_command(alloc, &setting, &mut entries, remove)?;
-    assert_eq!(rt; report_count(&entries), 0usize);
-    let other_key = Command::Install(idle_rule(alloc, "second", "other")?);
-    after_command(alloc, &setting, &mut entries, other_key)?;
+    let events = vec![in alloc;
+        install(web(alloc)?),
+        monitor("vid", 1000)?,
+        Event::Flush(&[28]),
+        stop("vid")?,
+    ]?;
+    let entries = journal_of(alloc, &setting, events)?;
     let reports = reports_in(alloc, &entries)?;
-    let expected = [usage(0, "vid", 28, Cause::RulesGone)?];
+    let expected = [usage(0, "vid", 28, Cause::Disabled)?];
     assert_eq!(rt; reports.as_slice(), expected.as_slice());
-    let newest = replay(alloc, &setting, &entries)?;
-    assert_eq!(rt; newest.on.len(), 0usize);
+    assert_eq!(rt; grant(&entries, &KeyName::new("vid")?), None);
+    assert_eq!(rt; on_after(alloc, &setting, &entries)?, 0usize);
+    Ok(())
+}
+
+#[test]
+fn the_last_rule_of_a_key_is_removed(rt: HostRuntime) -> Result<(), Fail> {
+    let alloc = rt.alloc();
+    let setting = setting_of(alloc, qos_nine()?)?;
+    let remove = Command::Remove(RuleName::new("web")?);
+    let events = vec![in alloc;
+        install(web(alloc)?),
+        monitor("vid", 1000)?,
+        Event::Command(remove),
+        Event::Flush(&[28]),
+    ]?;
+    let entries = journal_of(alloc, &setting, events)?;
+    let reports = reports_in(alloc, &entries)?;
+    let expected = [usage(0, "vid", 0, Cause::RulesGone)?];
+    assert_eq!(rt; reports.as_slice(), expected.as_slice());
+    assert_eq!(rt; on_after(alloc, &setting, &entries)?, 0usize);
+    Ok(())
+}
+
+#[test]
+fn the_last_rule_of_a_key_takes_another_key(rt: HostRuntime) -> Result<(), Fail> {
+    let alloc = rt.alloc();
+    let setting = setting_of(alloc, qos_nine()?)?;
+    let remove = Command::Remove(RuleName::new("web")?);
+    let events = vec![in alloc;
+        install(web(alloc)?),
+        monitor("vid", 1000)?,
+        install(idle_rule(alloc, "second", "vid")?),
+        Event::Flush(&[28]),
+        Event::Command(remove),
+        report_now("vid")?,
+        install(idle_rule(alloc, "second", "other")?),
+    ]?;
+    let reports = reports_of(alloc, &setting, events)?;
+    let expected = [
+        usage(0, "vid", 28, Cause::Requested)?,
+        usage(1, "vid", 0, Cause::RulesGone)?,
+    ];
+    assert_eq!(rt; reports.as_slice(), expected.as_slice());
     Ok(())
 }
 
@@ -201,35 +300,34 @@ fn the_last_rule_of_a_key_goes(rt: HostRuntime) -> Result<(), Fail> {
 fn a_close_leaves_a_key_that_never_had_a_rule(rt: HostRuntime) -> Result<(), Fail> {
     let alloc = rt.alloc();
     let setting = setting_of(alloc, qos_nine()?)?;
-    let mut entries = monitored(alloc, &setting)?;
-    after_command(alloc, &setting, &mut entries, monitor("all", 10)?)?;
-    after_command(alloc, &setting, &mut entries, Command::Close)?;
+    let events = vec![in alloc;
+        install(web(alloc)?),
+        monitor("all", 10)?,
+        monitor("vid", 1000)?,
+        Event::Command(Command::Close),
+    ]?;
+    let entries = journal_of(alloc, &setting, events)?;
     let reports = reports_in(alloc, &entries)?;
     let expected = [usage(0, "vid", 0, Cause::RulesGone)?];
     assert_eq!(rt; reports.as_slice(), expected.as_slice());
-    let newest = replay(alloc, &setting, &entries)?;
-    assert_eq!(rt; newest.on.len(), 1usize);
-    assert!(rt; newest.on[0] == KeyName::new("all")?);
+    assert_eq!(rt; on_after(alloc, &setting, &entries)?, 1usize);
     Ok(())
 }
 
 #[test]
 fn rules_of_a_lost_bearer_go_by_their_names(rt: HostRuntime) -> Result<(), Fail> {
     let alloc = rt.alloc();
-    let default_qos = Qos {
-        qci: Qci(8),
-        arp: Arp::new(8, false, true)?,
-    };
-    let setting = setting_of(alloc, default_qos)?;
-    let mut entries = Vec::new(alloc);
-    for name in ["b", "a", "ab", "C"] {
-        let install = Command::Install(idle_rule(alloc, name, "vid")?);
-        after_command(alloc, &setting, &mut entries, install)?;
-    }
-    after_command(alloc, &setting, &mut entries, monitor("vid", 9)?)?;
-    let bearer = Command::LoseBearer(BearerId(6));
-    after_command(alloc, &setting, &mut entries, bearer)?;
-    let reports = reports_in(alloc, &entries)?;
+    let arp = Arp::new(8, false, true)?;
+    let setting = setting_of(alloc, Qos { qci: Qci(8), arp })?;
+    let events = vec![in alloc;
+        install(idle_rule(alloc, "b", "vid")?),
+        install(idle_rule(alloc, "a", "vid")?),
+        install(idle_rule(alloc, "ab", "vid")?),
+        install(idle_rule(alloc, "C", "vid")?),
+        monitor("vid", 9)?,
+        Event::Command(Command::LoseBearer(BearerId(6))),
+    ]?;
+    let reports = reports_of(alloc, &setting, events)?;
     let expected = [
         lost(0, "C")?,
         lost(1, "a")?,
@@ -241,29 +339,39 @@ fn rules_of_a_lost_bearer_go_by_their_names(rt: HostRuntime) -> Result<(), Fail>
     Ok(())
 }
 
-/// Slots for `vid`, which is off, `all`, which is on, and `idle`, which was never on.
+/// Slots for `vid`, which is off and has 28 late octets, for `all`, which is on, and for `idle`, which
+/// was never on.
 fn three_keys(alloc: Global, setting: &Setting) -> Result<Vec<Entry>, Fail> {
-    let mut entries = monitored(alloc, setting)?;
-    after_command(alloc, setting, &mut entries, monitor("all", 10)?)?;
-    let install = Command::Install(idle_rule(alloc, "other", "idle")?);
-    after_command(alloc, setting, &mut entries, install)?;
-    let stop = Command::Stop(KeyName::new("vid")?);
-    after_command(alloc, setting, &mut entries, stop)?;
-    Ok(entries)
+    let events = vec![in alloc;
+        install(web(alloc)?),
+        monitor("vid", 1000)?,
+        monitor("all", 10)?,
+        install(idle_rule(alloc, "other", "idle")?),
+        stop("vid")?,
+        Event::Flush(&[28]),
+    ]?;
+    journal_of(alloc, setting, events)
 }
 
 #[test]
-fn the_end_reports_keys_in_the_order_of_their_slots(rt: HostRuntime) -> Result<(), Fail> {
+fn the_end_tells_keys_in_the_order_of_their_slots(rt: HostRuntime) -> Result<(), Fail> {
     let alloc = rt.alloc();
     let setting = setting_of(alloc, qos_nine()?)?;
-    let mut entries = three_keys(alloc, &setting)?;
-    after_flush(alloc, &setting, &mut entries, &[row_of(28)?])?;
+    let entries = three_keys(alloc, &setting)?;
     let told = plan(alloc, &setting, &entries, &Command::Terminate)?;
     let expected = [
         Telling::Usage(KeyName::new("vid")?, Cause::Terminated),
         Telling::Usage(KeyName::new("all")?, Cause::Terminated),
     ];
     assert_eq!(rt; told.as_slice(), expected.as_slice());
+    Ok(())
+}
+
+#[test]
+fn the_end_reports_late_octets(rt: HostRuntime) -> Result<(), Fail> {
+    let alloc = rt.alloc();
+    let setting = setting_of(alloc, qos_nine()?)?;
+    let mut entries = three_keys(alloc, &setting)?;
     after_command(alloc, &setting, &mut entries, Command::Terminate)?;
     let reports = reports_in(alloc, &entries)?;
     let expected = [
@@ -272,45 +380,26 @@ fn the_end_reports_keys_in_the_order_of_their_slots(rt: HostRuntime) -> Result<(
         usage(2, "all", 0, Cause::Terminated)?,
     ];
     assert_eq!(rt; reports.as_slice(), expected.as_slice());
-    let newest = replay(alloc, &setting, &entries)?;
-    assert_eq!(rt; newest.on.len(), 0usize);
     Ok(())
-}
-
-fn notice() -> Result<Command, Fail> {
-    Ok(Command::Notice {
-        kind: AccessKind::RatChange,
-        value: NoticeValue::new("eutran")?,
-    })
 }
 
 #[test]
 fn a_notice_is_reported_where_it_is_subscribed(rt: HostRuntime) -> Result<(), Fail> {
     let alloc = rt.alloc();
     let setting = setting_of(alloc, qos_nine()?)?;
-    let mut entries = Vec::new(alloc);
-    after_command(alloc, &setting, &mut entries, notice()?)?;
-    after_command(
-        alloc,
-        &setting,
-        &mut entries,
-        Command::Triggers(USAGE_REPORTS),
-    )?;
-    after_command(alloc, &setting, &mut entries, notice()?)?;
-    assert_eq!(rt; report_count(&entries), 0usize);
-    after_command(
-        alloc,
-        &setting,
-        &mut entries,
-        Command::Triggers(RAT_CHANGES),
-    )?;
-    after_command(alloc, &setting, &mut entries, notice()?)?;
+    let events = vec![in alloc;
+        notice()?,
+        subscribe(USAGE_REPORTS),
+        notice()?,
+        subscribe(RAT_CHANGES),
+        notice()?,
+    ]?;
+    let entries = journal_of(alloc, &setting, events)?;
     let reports = reports_in(alloc, &entries)?;
-    let body = Body::Access {
-        kind: AccessKind::RatChange,
-        value: NoticeValue::new("eutran")?,
-    };
+    let kind = AccessKind::RatChange;
+    let value = NoticeValue::new("eutran")?;
+    let body = Body::Access { kind, value };
     assert_eq!(rt; reports.as_slice(), [Report { number: 0, body }].as_slice());
-    assert_eq!(rt; entries.len(), 6usize);
+    assert_eq!(rt; entries.len(), 7usize);
     Ok(())
 }
