@@ -3,31 +3,54 @@ use super::*;
 use crate::tests::{DNS_ANSWER, qos_nine, row, setting_of, web};
 use pcef_filter::read_filter;
 use pcef_journal::{
-    AccessKind, Body, Cause, Command, Entry, InactiveCause, NoticeValue, Report, Row, Telling,
-    TriggerSet,
+    AccessKind, Body, Cause, Command, Entry, NoticeValue, Report, Row, Telling, TriggerSet,
 };
 use pcef_packet::Header;
 use pcef_rule::{Arp, BearerId, Gate, KeyName, Properties, Qci, Qos, Rule, RuleName};
 use std::alloc::Global;
 use std::test::Fail;
 
-/// A subscription to usage reports alone.
-const USAGE_REPORTS: TriggerSet = TriggerSet {
-    usage_report: true,
-    rat_change: false,
-    plmn_change: false,
-    user_location_change: false,
-    ue_time_zone_change: false,
-};
+/// What happens in a worked example.
+#[derive(Clone, Copy)]
+enum Event {
+    /// The rule `web` is installed, whose key is `vid`.
+    InstallWeb,
+    /// A rule of this name and key is installed, which no packet fits.
+    InstallIdle(&'static str, &'static str),
+    /// A rule is removed.
+    Remove(&'static str),
+    /// A key is monitored, with a grant.
+    Monitor(&'static str, u64),
+    /// A key is stopped.
+    Stop(&'static str),
+    /// A report of a key is asked for.
+    ReportNow(&'static str),
+    /// Usage reports are subscribed, and nothing else.
+    SubscribeUsage,
+    /// Changes of the radio access technology are subscribed, and nothing else.
+    SubscribeChange,
+    /// The radio access technology changes.
+    Change,
+    /// The bearer of an id is lost.
+    LoseBearer(u8),
+    /// The session is closed.
+    Close,
+    /// The session ends.
+    Terminate,
+    /// The first worker flushes rows of so many octets.
+    Flush(&'static [u32]),
+}
 
-/// A subscription to changes of the radio access technology alone.
-const RAT_CHANGES: TriggerSet = TriggerSet {
-    usage_report: false,
-    rat_change: true,
-    plmn_change: false,
-    user_location_change: false,
-    ue_time_zone_change: false,
-};
+/// What a report is to tell.
+#[derive(Clone, Copy)]
+enum Told {
+    /// Octets of a key, and the cause.
+    Usage(&'static str, u64, Cause),
+    /// A rule went with its bearer.
+    Lost(&'static str),
+    /// The radio access technology changed.
+    Changed,
+}
 
 /// A rule with this name and key that no packet of these tests fits.
 fn idle_rule(alloc: Global, name: &str, key: &str) -> Result<Rule, Fail> {
@@ -43,24 +66,58 @@ fn idle_rule(alloc: Global, name: &str, key: &str) -> Result<Rule, Fail> {
     Ok(Rule::new(alloc, properties, &[filter])?)
 }
 
-/// What happens in a worked example.
-#[derive(Drop)]
-enum Event {
-    /// A command is accepted.
-    Command(Command),
-    /// The first worker flushes rows of so many octets.
-    Flush(&'static [u32]),
+fn key(text: &str) -> Result<KeyName, Fail> {
+    Ok(KeyName::new(text)?)
+}
+
+fn subscription(usage_report: bool, rat_change: bool) -> Command {
+    Command::Triggers(TriggerSet {
+        usage_report,
+        rat_change,
+        ..TriggerSet::default()
+    })
+}
+
+fn notice() -> Result<Command, Fail> {
+    let kind = AccessKind::RatChange;
+    let value = NoticeValue::new("eutran")?;
+    Ok(Command::Notice { kind, value })
+}
+
+fn monitor(text: &str, grant: u64) -> Result<Command, Fail> {
+    let key = KeyName::new(text)?;
+    Ok(Command::Monitor { key, grant })
+}
+
+fn command_of(alloc: Global, event: Event) -> Result<Option<Command>, Fail> {
+    Ok(match event {
+        Event::InstallWeb => Some(Command::Install(web(alloc)?)),
+        Event::InstallIdle(name, key) => Some(Command::Install(idle_rule(alloc, name, key)?)),
+        Event::Remove(name) => Some(Command::Remove(RuleName::new(name)?)),
+        Event::Monitor(text, grant) => Some(monitor(text, grant)?),
+        Event::Stop(text) => Some(Command::Stop(key(text)?)),
+        Event::ReportNow(text) => Some(Command::ReportNow(key(text)?)),
+        Event::SubscribeUsage => Some(subscription(true, false)),
+        Event::SubscribeChange => Some(subscription(false, true)),
+        Event::Change => Some(notice()?),
+        Event::LoseBearer(id) => Some(Command::LoseBearer(BearerId(id))),
+        Event::Close => Some(Command::Close),
+        Event::Terminate => Some(Command::Terminate),
+        Event::Flush(_) => None,
+    })
 }
 
 /// Rows of the second generation.
-fn rows_of(alloc: Global, octets: &[u32]) -> Result<Vec<Row>, Fail> {
+fn rows_of(alloc: Global, event: Event) -> Result<Vec<Row>, Fail> {
     let mut rows = Vec::new(alloc);
-    for octets in octets {
-        let header = Header {
-            octets: *octets,
-            ..DNS_ANSWER
-        };
-        rows.push(Row { header, ..row()? })?;
+    if let Event::Flush(lens) = event {
+        for octets in lens {
+            let header = Header {
+                octets: *octets,
+                ..DNS_ANSWER
+            };
+            rows.push(Row { header, ..row()? })?;
+        }
     }
     Ok(rows)
 }
@@ -71,81 +128,74 @@ fn happen(
     entries: &mut Vec<Entry>,
     event: Event,
 ) -> Result<(), Fail> {
-    match event {
-        Event::Command(command) => after_command(alloc, setting, entries, command)?,
-        Event::Flush(octets) => {
-            let rows = rows_of(alloc, octets)?;
-            after_flush(alloc, setting, entries, &rows)?;
-        }
+    if let Some(command) = command_of(alloc, event)? {
+        after_command(alloc, setting, entries, command)?;
     }
+    let rows = rows_of(alloc, event)?;
+    after_flush(alloc, setting, entries, &rows)?;
     Ok(())
 }
 
 /// The journal in which a worker is attached and these things happen.
-fn journal_of(alloc: Global, setting: &Setting, events: Vec<Event>) -> Result<Vec<Entry>, Fail> {
+fn journal_of(alloc: Global, setting: &Setting, events: &[Event]) -> Result<Vec<Entry>, Fail> {
     let mut entries = Vec::new(alloc);
     entries.push(Entry::Attach(0))?;
     for event in events {
-        happen(alloc, setting, &mut entries, event)?;
+        happen(alloc, setting, &mut entries, *event)?;
     }
     Ok(entries)
 }
 
-fn install(rule: Rule) -> Event {
-    Event::Command(Command::Install(rule))
-}
-
-fn monitor(key: &str, grant: u64) -> Result<Event, Fail> {
-    let key = KeyName::new(key)?;
-    Ok(Event::Command(Command::Monitor { key, grant }))
-}
-
-fn subscribe(set: TriggerSet) -> Event {
-    Event::Command(Command::Triggers(set))
-}
-
-fn report_now(key: &str) -> Result<Event, Fail> {
-    Ok(Event::Command(Command::ReportNow(KeyName::new(key)?)))
-}
-
-fn stop(key: &str) -> Result<Event, Fail> {
-    Ok(Event::Command(Command::Stop(KeyName::new(key)?)))
-}
-
-fn notice() -> Result<Event, Fail> {
-    let kind = AccessKind::RatChange;
-    let value = NoticeValue::new("eutran")?;
-    Ok(Event::Command(Command::Notice { kind, value }))
-}
-
-fn usage(number: u64, key: &str, octets: u64, cause: Cause) -> Result<Report, Fail> {
-    let key = KeyName::new(key)?;
-    let body = Body::Usage { key, octets, cause };
-    Ok(Report { number, body })
-}
-
-fn lost(number: u64, rule: &str) -> Result<Report, Fail> {
-    let rule = RuleName::new(rule)?;
-    let cause = InactiveCause::BearerLost;
-    let body = Body::Inactive { rule, cause };
-    Ok(Report { number, body })
-}
-
-/// The reports of a journal, the oldest first.
-fn reports_in(alloc: Global, entries: &[Entry]) -> Result<Vec<Report>, Fail> {
-    let mut reports = Vec::new(alloc);
-    for entry in entries {
-        if let Entry::Report(report) = entry {
-            reports.push(report.copy())?;
+fn is_told(report: &Report, told: Told) -> bool {
+    match &report.body {
+        Body::Usage { key, octets, cause } => {
+            if let Told::Usage(text, amount, why) = told {
+                key.as_str() == text && *octets == amount && *cause == why
+            } else {
+                false
+            }
+        }
+        Body::Inactive { rule, .. } => {
+            if let Told::Lost(name) = told {
+                rule.as_str() == name
+            } else {
+                false
+            }
+        }
+        Body::Access { kind, value } => {
+            matches!(told, Told::Changed)
+                && *kind == AccessKind::RatChange
+                && value.as_str() == "eutran"
         }
     }
-    Ok(reports)
 }
 
-/// The reports that are made while these things happen.
-fn reports_of(alloc: Global, setting: &Setting, events: Vec<Event>) -> Result<Vec<Report>, Fail> {
+/// Whether these are all the reports of a journal, in this order.
+fn tells(entries: &[Entry], expected: &[Told]) -> bool {
+    let mut place = 0usize;
+    for entry in entries {
+        if let Entry::Report(report) = entry {
+            let Some(told) = expected.get(place) else {
+                return false;
+            };
+            if report.number != place as u64 || !is_told(report, *told) {
+                return false;
+            }
+            place += 1;
+        }
+    }
+    place == expected.len()
+}
+
+/// Whether these reports are made while these things happen.
+fn reports(
+    alloc: Global,
+    setting: &Setting,
+    events: &[Event],
+    expected: &[Told],
+) -> Result<bool, Fail> {
     let entries = journal_of(alloc, setting, events)?;
-    reports_in(alloc, &entries)
+    Ok(tells(&entries, expected))
 }
 
 /// How many keys are on at the end.
@@ -157,19 +207,18 @@ fn on_after(alloc: Global, setting: &Setting, entries: &[Entry]) -> Result<usize
 fn a_grant_that_a_flush_reaches_is_reported(rt: HostRuntime) -> Result<(), Fail> {
     let alloc = rt.alloc();
     let setting = setting_of(alloc, qos_nine()?)?;
-    let vid = KeyName::new("vid")?;
-    let events = vec![in alloc;
-        install(web(alloc)?),
-        monitor("vid", 1000)?,
-        subscribe(USAGE_REPORTS),
+    let events = [
+        Event::InstallWeb,
+        Event::Monitor("vid", 1000),
+        Event::SubscribeUsage,
         Event::Flush(&[600, 600]),
         Event::Flush(&[5000]),
         Event::Flush(&[]),
-    ]?;
-    let entries = journal_of(alloc, &setting, events)?;
-    let expected = [usage(0, "vid", 1200, Cause::Threshold)?];
-    let reports = reports_in(alloc, &entries)?;
-    assert_eq!(rt; reports.as_slice(), expected.as_slice());
+    ];
+    let expected = [Told::Usage("vid", 1200, Cause::Threshold)];
+    let entries = journal_of(alloc, &setting, &events)?;
+    assert!(rt; tells(&entries, &expected));
+    let vid = KeyName::new("vid")?;
     assert_eq!(rt; entries.len(), 8usize);
     assert_eq!(rt; grant(&entries, &vid), None);
     assert_eq!(rt; unreported(alloc, &setting, &entries, &vid)?, 5000u128);
@@ -180,14 +229,14 @@ fn a_grant_that_a_flush_reaches_is_reported(rt: HostRuntime) -> Result<(), Fail>
 fn a_grant_that_is_not_reached_is_not_reported(rt: HostRuntime) -> Result<(), Fail> {
     let alloc = rt.alloc();
     let setting = setting_of(alloc, qos_nine()?)?;
-    let events = vec![in alloc;
-        install(web(alloc)?),
-        monitor("vid", 1000)?,
-        subscribe(USAGE_REPORTS),
+    let events = [
+        Event::InstallWeb,
+        Event::Monitor("vid", 1000),
+        Event::SubscribeUsage,
         Event::Flush(&[999]),
-    ]?;
-    let entries = journal_of(alloc, &setting, events)?;
-    assert_eq!(rt; report_count(&entries), 0usize);
+    ];
+    let entries = journal_of(alloc, &setting, &events)?;
+    assert!(rt; tells(&entries, &[]));
     assert_eq!(rt; thresholds(alloc, &setting, &entries)?.len(), 0usize);
     Ok(())
 }
@@ -196,23 +245,22 @@ fn a_grant_that_is_not_reached_is_not_reported(rt: HostRuntime) -> Result<(), Fa
 fn a_grant_waits_for_the_subscription(rt: HostRuntime) -> Result<(), Fail> {
     let alloc = rt.alloc();
     let setting = setting_of(alloc, qos_nine()?)?;
-    let events = vec![in alloc;
-        install(web(alloc)?),
-        monitor("vid", 28)?,
+    let events = [
+        Event::InstallWeb,
+        Event::Monitor("vid", 28),
         Event::Flush(&[28]),
-        report_now("vid")?,
+        Event::ReportNow("vid"),
         Event::Flush(&[40]),
-        subscribe(USAGE_REPORTS),
+        Event::SubscribeUsage,
         Event::Flush(&[50]),
-        monitor("vid", 50)?,
-    ]?;
-    let reports = reports_of(alloc, &setting, events)?;
-    let expected = [
-        usage(0, "vid", 28, Cause::Requested)?,
-        usage(1, "vid", 40, Cause::Threshold)?,
-        usage(2, "vid", 50, Cause::Threshold)?,
+        Event::Monitor("vid", 50),
     ];
-    assert_eq!(rt; reports.as_slice(), expected.as_slice());
+    let expected = [
+        Told::Usage("vid", 28, Cause::Requested),
+        Told::Usage("vid", 40, Cause::Threshold),
+        Told::Usage("vid", 50, Cause::Threshold),
+    ];
+    assert!(rt; reports(alloc, &setting, &events, &expected)?);
     Ok(())
 }
 
@@ -220,16 +268,15 @@ fn a_grant_waits_for_the_subscription(rt: HostRuntime) -> Result<(), Fail> {
 fn a_report_that_is_asked_for_leaves_the_grant(rt: HostRuntime) -> Result<(), Fail> {
     let alloc = rt.alloc();
     let setting = setting_of(alloc, qos_nine()?)?;
-    let events = vec![in alloc;
-        install(web(alloc)?),
-        monitor("vid", 1000)?,
+    let events = [
+        Event::InstallWeb,
+        Event::Monitor("vid", 1000),
         Event::Flush(&[28]),
-        report_now("vid")?,
-    ]?;
-    let entries = journal_of(alloc, &setting, events)?;
-    let reports = reports_in(alloc, &entries)?;
-    let expected = [usage(0, "vid", 28, Cause::Requested)?];
-    assert_eq!(rt; reports.as_slice(), expected.as_slice());
+        Event::ReportNow("vid"),
+    ];
+    let expected = [Told::Usage("vid", 28, Cause::Requested)];
+    let entries = journal_of(alloc, &setting, &events)?;
+    assert!(rt; tells(&entries, &expected));
     assert_eq!(rt; grant(&entries, &KeyName::new("vid")?), Some(1000));
     assert_eq!(rt; generation(&entries), 2usize);
     Ok(())
@@ -239,16 +286,15 @@ fn a_report_that_is_asked_for_leaves_the_grant(rt: HostRuntime) -> Result<(), Fa
 fn a_key_that_is_stopped_is_off(rt: HostRuntime) -> Result<(), Fail> {
     let alloc = rt.alloc();
     let setting = setting_of(alloc, qos_nine()?)?;
-    let events = vec![in alloc;
-        install(web(alloc)?),
-        monitor("vid", 1000)?,
+    let events = [
+        Event::InstallWeb,
+        Event::Monitor("vid", 1000),
         Event::Flush(&[28]),
-        stop("vid")?,
-    ]?;
-    let entries = journal_of(alloc, &setting, events)?;
-    let reports = reports_in(alloc, &entries)?;
-    let expected = [usage(0, "vid", 28, Cause::Disabled)?];
-    assert_eq!(rt; reports.as_slice(), expected.as_slice());
+        Event::Stop("vid"),
+    ];
+    let expected = [Told::Usage("vid", 28, Cause::Disabled)];
+    let entries = journal_of(alloc, &setting, &events)?;
+    assert!(rt; tells(&entries, &expected));
     assert_eq!(rt; grant(&entries, &KeyName::new("vid")?), None);
     assert_eq!(rt; on_after(alloc, &setting, &entries)?, 0usize);
     Ok(())
@@ -258,17 +304,15 @@ fn a_key_that_is_stopped_is_off(rt: HostRuntime) -> Result<(), Fail> {
 fn the_last_rule_of_a_key_is_removed(rt: HostRuntime) -> Result<(), Fail> {
     let alloc = rt.alloc();
     let setting = setting_of(alloc, qos_nine()?)?;
-    let remove = Command::Remove(RuleName::new("web")?);
-    let events = vec![in alloc;
-        install(web(alloc)?),
-        monitor("vid", 1000)?,
-        Event::Command(remove),
+    let events = [
+        Event::InstallWeb,
+        Event::Monitor("vid", 1000),
+        Event::Remove("web"),
         Event::Flush(&[28]),
-    ]?;
-    let entries = journal_of(alloc, &setting, events)?;
-    let reports = reports_in(alloc, &entries)?;
-    let expected = [usage(0, "vid", 0, Cause::RulesGone)?];
-    assert_eq!(rt; reports.as_slice(), expected.as_slice());
+    ];
+    let expected = [Told::Usage("vid", 0, Cause::RulesGone)];
+    let entries = journal_of(alloc, &setting, &events)?;
+    assert!(rt; tells(&entries, &expected));
     assert_eq!(rt; on_after(alloc, &setting, &entries)?, 0usize);
     Ok(())
 }
@@ -277,22 +321,20 @@ fn the_last_rule_of_a_key_is_removed(rt: HostRuntime) -> Result<(), Fail> {
 fn the_last_rule_of_a_key_takes_another_key(rt: HostRuntime) -> Result<(), Fail> {
     let alloc = rt.alloc();
     let setting = setting_of(alloc, qos_nine()?)?;
-    let remove = Command::Remove(RuleName::new("web")?);
-    let events = vec![in alloc;
-        install(web(alloc)?),
-        monitor("vid", 1000)?,
-        install(idle_rule(alloc, "second", "vid")?),
+    let events = [
+        Event::InstallWeb,
+        Event::Monitor("vid", 1000),
+        Event::InstallIdle("second", "vid"),
         Event::Flush(&[28]),
-        Event::Command(remove),
-        report_now("vid")?,
-        install(idle_rule(alloc, "second", "other")?),
-    ]?;
-    let reports = reports_of(alloc, &setting, events)?;
-    let expected = [
-        usage(0, "vid", 28, Cause::Requested)?,
-        usage(1, "vid", 0, Cause::RulesGone)?,
+        Event::Remove("web"),
+        Event::ReportNow("vid"),
+        Event::InstallIdle("second", "other"),
     ];
-    assert_eq!(rt; reports.as_slice(), expected.as_slice());
+    let expected = [
+        Told::Usage("vid", 28, Cause::Requested),
+        Told::Usage("vid", 0, Cause::RulesGone),
+    ];
+    assert!(rt; reports(alloc, &setting, &events, &expected)?);
     Ok(())
 }
 
@@ -300,70 +342,69 @@ fn the_last_rule_of_a_key_takes_another_key(rt: HostRuntime) -> Result<(), Fail>
 fn a_close_leaves_a_key_that_never_had_a_rule(rt: HostRuntime) -> Result<(), Fail> {
     let alloc = rt.alloc();
     let setting = setting_of(alloc, qos_nine()?)?;
-    let events = vec![in alloc;
-        install(web(alloc)?),
-        monitor("all", 10)?,
-        monitor("vid", 1000)?,
-        Event::Command(Command::Close),
-    ]?;
-    let entries = journal_of(alloc, &setting, events)?;
-    let reports = reports_in(alloc, &entries)?;
-    let expected = [usage(0, "vid", 0, Cause::RulesGone)?];
-    assert_eq!(rt; reports.as_slice(), expected.as_slice());
+    let events = [
+        Event::InstallWeb,
+        Event::Monitor("all", 10),
+        Event::Monitor("vid", 1000),
+        Event::Close,
+    ];
+    let expected = [Told::Usage("vid", 0, Cause::RulesGone)];
+    let entries = journal_of(alloc, &setting, &events)?;
+    assert!(rt; tells(&entries, &expected));
     assert_eq!(rt; on_after(alloc, &setting, &entries)?, 1usize);
     Ok(())
+}
+
+/// QCI 8 and ARP level 8, which may be pre-empted.
+fn qos_eight() -> Result<Qos, Fail> {
+    let qci = Qci(8);
+    let arp = Arp::new(8, false, true)?;
+    Ok(Qos { qci, arp })
 }
 
 #[test]
 fn rules_of_a_lost_bearer_go_by_their_names(rt: HostRuntime) -> Result<(), Fail> {
     let alloc = rt.alloc();
-    let arp = Arp::new(8, false, true)?;
-    let setting = setting_of(alloc, Qos { qci: Qci(8), arp })?;
-    let events = vec![in alloc;
-        install(idle_rule(alloc, "b", "vid")?),
-        install(idle_rule(alloc, "a", "vid")?),
-        install(idle_rule(alloc, "ab", "vid")?),
-        install(idle_rule(alloc, "C", "vid")?),
-        monitor("vid", 9)?,
-        Event::Command(Command::LoseBearer(BearerId(6))),
-    ]?;
-    let reports = reports_of(alloc, &setting, events)?;
-    let expected = [
-        lost(0, "C")?,
-        lost(1, "a")?,
-        lost(2, "ab")?,
-        lost(3, "b")?,
-        usage(4, "vid", 0, Cause::RulesGone)?,
+    let setting = setting_of(alloc, qos_eight()?)?;
+    let events = [
+        Event::InstallIdle("b", "vid"),
+        Event::InstallIdle("a", "vid"),
+        Event::InstallIdle("ab", "vid"),
+        Event::InstallIdle("C", "vid"),
+        Event::Monitor("vid", 9),
+        Event::LoseBearer(6),
     ];
-    assert_eq!(rt; reports.as_slice(), expected.as_slice());
+    let expected = [
+        Told::Lost("C"),
+        Told::Lost("a"),
+        Told::Lost("ab"),
+        Told::Lost("b"),
+        Told::Usage("vid", 0, Cause::RulesGone),
+    ];
+    assert!(rt; reports(alloc, &setting, &events, &expected)?);
     Ok(())
 }
 
-/// Slots for `vid`, which is off and has 28 late octets, for `all`, which is on, and for `idle`, which
+/// Gives a slot to `vid`, which is off and has 28 late octets, to `all`, which is on, and to `idle`, which
 /// was never on.
-fn three_keys(alloc: Global, setting: &Setting) -> Result<Vec<Entry>, Fail> {
-    let events = vec![in alloc;
-        install(web(alloc)?),
-        monitor("vid", 1000)?,
-        monitor("all", 10)?,
-        install(idle_rule(alloc, "other", "idle")?),
-        stop("vid")?,
-        Event::Flush(&[28]),
-    ]?;
-    journal_of(alloc, setting, events)
-}
+const THREE_KEYS: [Event; 6] = [
+    Event::InstallWeb,
+    Event::Monitor("vid", 1000),
+    Event::Monitor("all", 10),
+    Event::InstallIdle("other", "idle"),
+    Event::Stop("vid"),
+    Event::Flush(&[28]),
+];
 
 #[test]
 fn the_end_tells_keys_in_the_order_of_their_slots(rt: HostRuntime) -> Result<(), Fail> {
     let alloc = rt.alloc();
     let setting = setting_of(alloc, qos_nine()?)?;
-    let entries = three_keys(alloc, &setting)?;
+    let entries = journal_of(alloc, &setting, &THREE_KEYS)?;
     let told = plan(alloc, &setting, &entries, &Command::Terminate)?;
-    let expected = [
-        Telling::Usage(KeyName::new("vid")?, Cause::Terminated),
-        Telling::Usage(KeyName::new("all")?, Cause::Terminated),
-    ];
-    assert_eq!(rt; told.as_slice(), expected.as_slice());
+    let vid = Telling::Usage(key("vid")?, Cause::Terminated);
+    let all = Telling::Usage(key("all")?, Cause::Terminated);
+    assert_eq!(rt; told.as_slice(), [vid, all].as_slice());
     Ok(())
 }
 
@@ -371,15 +412,14 @@ fn the_end_tells_keys_in_the_order_of_their_slots(rt: HostRuntime) -> Result<(),
 fn the_end_reports_late_octets(rt: HostRuntime) -> Result<(), Fail> {
     let alloc = rt.alloc();
     let setting = setting_of(alloc, qos_nine()?)?;
-    let mut entries = three_keys(alloc, &setting)?;
-    after_command(alloc, &setting, &mut entries, Command::Terminate)?;
-    let reports = reports_in(alloc, &entries)?;
+    let mut entries = journal_of(alloc, &setting, &THREE_KEYS)?;
+    happen(alloc, &setting, &mut entries, Event::Terminate)?;
     let expected = [
-        usage(0, "vid", 0, Cause::Disabled)?,
-        usage(1, "vid", 28, Cause::Terminated)?,
-        usage(2, "all", 0, Cause::Terminated)?,
+        Told::Usage("vid", 0, Cause::Disabled),
+        Told::Usage("vid", 28, Cause::Terminated),
+        Told::Usage("all", 0, Cause::Terminated),
     ];
-    assert_eq!(rt; reports.as_slice(), expected.as_slice());
+    assert!(rt; tells(&entries, &expected));
     Ok(())
 }
 
@@ -387,19 +427,14 @@ fn the_end_reports_late_octets(rt: HostRuntime) -> Result<(), Fail> {
 fn a_notice_is_reported_where_it_is_subscribed(rt: HostRuntime) -> Result<(), Fail> {
     let alloc = rt.alloc();
     let setting = setting_of(alloc, qos_nine()?)?;
-    let events = vec![in alloc;
-        notice()?,
-        subscribe(USAGE_REPORTS),
-        notice()?,
-        subscribe(RAT_CHANGES),
-        notice()?,
-    ]?;
-    let entries = journal_of(alloc, &setting, events)?;
-    let reports = reports_in(alloc, &entries)?;
-    let kind = AccessKind::RatChange;
-    let value = NoticeValue::new("eutran")?;
-    let body = Body::Access { kind, value };
-    assert_eq!(rt; reports.as_slice(), [Report { number: 0, body }].as_slice());
-    assert_eq!(rt; entries.len(), 7usize);
+    let events = [
+        Event::Change,
+        Event::SubscribeUsage,
+        Event::Change,
+        Event::SubscribeChange,
+        Event::Change,
+    ];
+    let expected = [Told::Changed];
+    assert!(rt; reports(alloc, &setting, &events, &expected)?);
     Ok(())
 }
