@@ -33,6 +33,10 @@ orientation_of Out (Some Uplink) Up = Exchanged
 orientation_of Out (Some Bidirectional) Down = AsWritten
 orientation_of Out (Some Bidirectional) Up = Exchanged
 
+abbrev pub applies : Orientation → Bool
+applies NotApplied = false
+applies _ = true
+
 -- without a number every protocol fits
 abbrev pub proto_fits : Option ℕ → ℕ → Bool
 proto_fits None proto = true

@@ -15,6 +15,7 @@ mod tokens;
 
 pub use filter::{Direction, Endpoint, Filter, FilterFault, Flow, Net, Place, PortRange};
 pub use laws::one_fault;
+pub use matching::any_matches;
 pub use reading::read_filter;
 
 #[cfg(test)]

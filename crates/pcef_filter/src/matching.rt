@@ -1,7 +1,8 @@
 //! Which headers a filter matches.
 
-ghost use Rattle.std.specs.Prelude.{◌≡◌};
-ghost use Rattle.pcef_filter.specs.Matching.{orientation_of, dst_port, endpoint_fits, in_ranges, matches, place_fits, ports_fit, proto_fits, src_port};
+ghost use Rattle.std.specs.Prelude.{◌≡◌, ◌==◌, ◌&&◌, not};
+ghost use Rattle.std.specs.List.{list_any};
+ghost use Rattle.pcef_filter.specs.Matching.{applies, orientation_of, dst_port, endpoints_fit, in_ranges, matches, place_fits, ports_fit, proto_fits, src_port};
 
 use crate::filter::{Direction, Endpoint, Filter, Flow, Place, PortRange};
 use pcef_packet::{Addr, Dir, Header, Ports};
@@ -16,25 +17,23 @@ enum Orientation {
     NotApplied,
 }
 
-fn orientation_of(direction: Direction, flow: Option<Flow>, dir: Dir) -> Orientation
-    ensures { result ≡ orientation_of direction flow dir }
+/// Whether the flow word of an `out` text asks for uplink packets.
+fn asks_for_uplink(flow: Option<Flow>) -> bool
+    ensures { result ≡ applies (orientation_of Direction.Out flow Dir.Up) }
 {
-    match (direction, flow, dir) {
-        (Direction::In, _, Dir::Up) => Orientation::AsWritten,
-        (Direction::Out, None | Some(Flow::Downlink | Flow::Bidirectional), Dir::Down) =>
-            Orientation::AsWritten,
-        (Direction::Out, Some(Flow::Uplink | Flow::Bidirectional), Dir::Up) =>
-            Orientation::Exchanged,
-        _ => Orientation::NotApplied,
+    match flow {
+        Some(Flow::Uplink | Flow::Bidirectional) => true,
+        _ => false,
     }
 }
 
-fn proto_fits(wanted: Option<u8>, proto: u8) -> bool
-    ensures { result ≡ proto_fits wanted proto }
+/// Whether the flow word of an `out` text leaves out downlink packets.
+fn leaves_downlink(flow: Option<Flow>) -> bool
+    ensures { result ≡ not (applies (orientation_of Direction.Out flow Dir.Down)) }
 {
-    match wanted {
-        None => true,
-        Some(wanted) => proto == wanted,
+    match flow {
+        Some(Flow::Uplink) => true,
+        _ => false,
     }
 }
 
@@ -58,6 +57,16 @@ fn ports_fit(ranges: &[PortRange], port: Option<u16>) -> bool
     }
 }
 
+/// How far a protocol is from the wanted one: 0 where it fits.
+fn proto_difference(wanted: Option<u8>, proto: u8) -> u8
+    ensures { (result == 0) ≡ proto_fits wanted proto }
+{
+    match wanted {
+        None => 0,
+        Some(wanted) => wanted ^ proto,
+    }
+}
+
 impl Place {
     fn fits(&self, ue: Addr, addr: Addr) -> bool
         ensures { result ≡ place_fits self.now ue addr }
@@ -67,14 +76,6 @@ impl Place {
             Place::Assigned => addr == ue,
             Place::Net(net) => addr.agrees_in(net.bits, net.addr),
         }
-    }
-}
-
-impl Endpoint {
-    fn fits(&self, ue: Addr, addr: Addr, port: Option<u16>) -> bool
-        ensures { result ≡ endpoint_fits self.now ue addr port }
-    {
-        self.place.fits(ue, addr) && ports_fit(&self.ports, port)
     }
 }
 
@@ -90,18 +91,91 @@ fn dst_of(ports: Option<Ports>) -> Option<u16>
     ports.map(|ports| ports.dst)
 }
 
+/// Whether a filter doesn't apply, or has another protocol. Most filters end here, so it is one sum and
+/// one branch, which a processor guesses well.
+fn fails_early(applies: bool, proto_difference: u8) -> bool
+    ensures { result ≡ not (applies && (proto_difference == 0)) }
+{
+    u32::from(!applies) + u32::from(proto_difference) != 0
+}
+
+/// Whether one endpoint fits the packet's source, and the other its destination. The addresses come first,
+/// since few fit by them.
+fn fit(source: &Endpoint, target: &Endpoint, ue: Addr, header: &Header) -> bool
+    ensures { result ≡ endpoints_fit source.now target.now ue header.now }
+{
+    source.place.fits(ue, header.src)
+        && target.place.fits(ue, header.dst)
+        && ports_fit(&source.ports, src_of(header.ports))
+        && ports_fit(&target.ports, dst_of(header.ports))
+}
+
 impl Filter {
+    /// Whether the filter matches an uplink packet.
+    fn matches_uplink(&self, ue: Addr, header: &Header) -> bool
+        requires { header.now.dir ≡ Dir.Up }
+        ensures { result ≡ matches self.now ue header.now }
+    {
+        let is_in = self.direction == Direction::In;
+        let applies = is_in | asks_for_uplink(self.flow);
+        if fails_early(applies, proto_difference(self.proto, header.proto)) {
+            return false;
+        }
+        let (source, target) = if is_in {
+            (&self.source, &self.target)
+        } else {
+            (&self.target, &self.source)
+        };
+        fit(source, target, ue, header)
+    }
+
+    /// Whether the filter matches a downlink packet.
+    fn matches_downlink(&self, ue: Addr, header: &Header) -> bool
+        requires { header.now.dir ≡ Dir.Down }
+        ensures { result ≡ matches self.now ue header.now }
+    {
+        let applies = !((self.direction == Direction::In) | leaves_downlink(self.flow));
+        if fails_early(applies, proto_difference(self.proto, header.proto)) {
+            return false;
+        }
+        fit(&self.source, &self.target, ue, header)
+    }
+
     /// Whether the filter matches a header (RFC 6733, clause 4.3.1), for a session with this address.
     pub fn matches(&self, ue: Addr, header: &Header) -> bool
         ensures { result ≡ matches self.now ue header.now }
     {
-        let (source, target) = match orientation_of(self.direction, self.flow, header.dir) {
-            Orientation::AsWritten => (&self.source, &self.target),
-            Orientation::Exchanged => (&self.target, &self.source),
-            Orientation::NotApplied => return false,
-        };
-        proto_fits(self.proto, header.proto)
-            && source.fits(ue, header.src, src_of(header.ports))
-            && target.fits(ue, header.dst, dst_of(header.ports))
+        match header.dir {
+            Dir::Up => self.matches_uplink(ue, header),
+            Dir::Down => self.matches_downlink(ue, header),
+        }
+    }
+}
+
+fn any_matches_uplink(filters: &[Filter], ue: Addr, header: &Header) -> bool
+    requires { header.now.dir ≡ Dir.Up }
+    ensures { result ≡ list_any (λ f. matches f ue header.now) filters.now }
+{
+    filters
+        .iter()
+        .any(|filter| filter.matches_uplink(ue, header))
+}
+
+fn any_matches_downlink(filters: &[Filter], ue: Addr, header: &Header) -> bool
+    requires { header.now.dir ≡ Dir.Down }
+    ensures { result ≡ list_any (λ f. matches f ue header.now) filters.now }
+{
+    filters
+        .iter()
+        .any(|filter| filter.matches_downlink(ue, header))
+}
+
+/// Whether one of the filters matches a header.
+pub fn any_matches(filters: &[Filter], ue: Addr, header: &Header) -> bool
+    ensures { result ≡ list_any (λ f. matches f ue header.now) filters.now }
+{
+    match header.dir {
+        Dir::Up => any_matches_uplink(filters, ue, header),
+        Dir::Down => any_matches_downlink(filters, ue, header),
     }
 }

@@ -21,3 +21,6 @@ pub use row::Row;
 pub use telling::Telling;
 pub use trigger::{AccessKind, NoticeValue, OfNotice, TriggerSet};
 pub use walk::{Commands, Lane, Reports};
+
+#[cfg(test)]
+mod tests;

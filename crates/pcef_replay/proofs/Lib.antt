@@ -1,4 +1,5 @@
 pub mod Attached
 pub mod Bound
+pub mod Flushed
 pub mod Newest
 pub mod Reached

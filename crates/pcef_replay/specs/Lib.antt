@@ -2,4 +2,5 @@ pub mod Attached
 pub mod Bindings
 pub mod Decisions
 pub mod Replays
+pub mod Reporting
 pub mod Rules

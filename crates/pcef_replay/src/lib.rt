@@ -7,8 +7,12 @@ mod active;
 mod bearers;
 mod counting;
 mod fitting;
+mod grants;
+mod inactive;
 mod keys;
+mod planned;
 mod replayed;
+mod reports;
 mod setting;
 mod usage;
 mod verdicts;
@@ -18,12 +22,17 @@ pub use active::ActiveRule;
 pub use bearers::{Bearers, Binding};
 pub use counting::counted;
 pub use fitting::decisive;
+pub use grants::{thresholds, unreported};
 pub use keys::slots;
+pub use planned::plan;
 pub use replayed::{Replayed, replay, replay_to};
+pub use reports::{ReplayFault, after_command, after_flush};
 pub use setting::Setting;
 pub use usage::{generation, grant, reported};
 pub use verdicts::{Decided, counts_in, decision, judged};
 pub use workers::{attach_count, is_attached, lane_len, report_count, subscribed};
 
+#[cfg(test)]
+mod report_tests;
 #[cfg(test)]
 mod tests;

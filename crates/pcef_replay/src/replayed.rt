@@ -41,7 +41,12 @@ fn copy_keys(alloc: Global, keys: &[KeyName]) -> Result<Vec<KeyName>, AllocError
     Ok(copy)
 }
 
-fn keep_key(kept: &mut Vec<KeyName>, key: &KeyName, stays: bool) -> Result<(), AllocError>
+/// Adds a key that stays.
+pub(crate) fn keep_key(
+    kept: &mut Vec<KeyName>,
+    key: &KeyName,
+    stays: bool,
+) -> Result<(), AllocError>
     ensures { OnOk result (kept.new.items ≡ kept.old.items ++ (if stays then key.now ∷ [] else [])) }
 {
     if stays {
@@ -70,7 +75,11 @@ fn with_key(alloc: Global, key: &KeyName, keys: &[KeyName]) -> Result<Vec<KeyNam
 }
 
 /// The keys after what a command itself switches on or off.
-fn switched(alloc: Global, command: &Command, on: &[KeyName]) -> Result<Vec<KeyName>, AllocError>
+pub(crate) fn switched(
+    alloc: Global,
+    command: &Command,
+    on: &[KeyName],
+) -> Result<Vec<KeyName>, AllocError>
     ensures { IfOk result (λ v. v.items ≡ switched command.now on.now) }
 {
     match command {
@@ -137,7 +146,7 @@ fn without_bearer<'a>(
 }
 
 /// The rules after a command.
-fn rules_after<'a>(
+pub(crate) fn rules_after<'a>(
     alloc: Global,
     setting: &'a Setting,
     before: &Replayed<'a>,

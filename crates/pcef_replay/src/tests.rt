@@ -15,7 +15,7 @@ use std::test::Fail;
 const UE: Addr = Addr::V4(0x0a00_0002);
 
 /// A UDP packet of 28 octets from 198.51.100.7 port 53 to 10.0.0.2 port 5000.
-const DNS_ANSWER: Header = Header {
+pub(crate) const DNS_ANSWER: Header = Header {
     dir: Dir::Down,
     src: Addr::V4(0xc633_6407),
     dst: UE,
@@ -26,7 +26,7 @@ const DNS_ANSWER: Header = Header {
 };
 
 /// QCI 9 and ARP level 8, which may be pre-empted.
-fn qos_nine() -> Result<Qos, Fail> {
+pub(crate) fn qos_nine() -> Result<Qos, Fail> {
     Ok(Qos {
         qci: Qci(9),
         arp: Arp::new(8, false, true)?,
@@ -34,7 +34,7 @@ fn qos_nine() -> Result<Qos, Fail> {
 }
 
 /// A session with no predefined rules, whose default bearer has this QCI and ARP.
-fn setting_of(alloc: Global, default_qos: Qos) -> Result<Setting, Fail> {
+pub(crate) fn setting_of(alloc: Global, default_qos: Qos) -> Result<Setting, Fail> {
     let mut other_ids = Vec::new(alloc);
     for id in 6..16u8 {
         other_ids.push(id)?;
@@ -54,7 +54,7 @@ fn setting_of(alloc: Global, default_qos: Qos) -> Result<Setting, Fail> {
 }
 
 /// The rule `web` of DNS answers, whose usage counts for the key `vid`.
-fn web(alloc: Global) -> Result<Rule, Fail> {
+pub(crate) fn web(alloc: Global) -> Result<Rule, Fail> {
     let filter = read_filter("permit out 17 from any 53 to assigned", None)?;
     let properties = Properties {
         name: RuleName::new("web")?,
@@ -68,7 +68,7 @@ fn web(alloc: Global) -> Result<Rule, Fail> {
 }
 
 /// A row of worker 0 that the second generation judged.
-fn row() -> Result<Row, Fail> {
+pub(crate) fn row() -> Result<Row, Fail> {
     Ok(Row {
         worker: 0,
         seq: 0,

@@ -1,14 +1,12 @@
 //! The rules of entries: their properties, their order, and which packets they fit.
 
 ghost use Rattle.std.specs.Prelude.{◌≡◌, Some};
-ghost use Rattle.std.specs.List.{list_any};
-ghost use Rattle.pcef_filter.specs.Matching.{matches};
 ghost use Rattle.pcef_rule.specs.Precedence.{rank_cmp};
 ghost use Rattle.pcef_table.specs.Sources.{IsKnown, fits, is_named, origin_of, properties_of, rank_of};
 
 use crate::catalog::Offers;
 use crate::entry::Source;
-use pcef_filter::Filter;
+use pcef_filter::any_matches;
 use pcef_packet::{Addr, Header};
 use pcef_rule::{Origin, Properties, RuleName, compare_rules};
 use std::cmp::Ordering;
@@ -69,10 +67,4 @@ impl Source {
             other.origin(),
         )
     }
-}
-
-fn any_matches(filters: &[Filter], ue: Addr, header: &Header) -> bool
-    ensures { result ≡ list_any (λ f. matches f ue header.now) filters.now }
-{
-    filters.iter().any(|filter| filter.matches(ue, header))
 }
