@@ -8,7 +8,7 @@ ghost use Rattle.pcef_bearer.specs.declared.refusal.BearersFault.TheVariants as 
 ghost use Rattle.pcef_bearer.specs.Bindings.{bearer_of, bound_at, first_of, guaranteed, id_beside, is_named, number_of, put, refusal_in, refusals, released, rules_on, with_rules, without, HasRoom, IsBinding, is_gbr, is_non_gbr};
 
 use crate::ids::{count_on, finds_no_bearer, id_beside, is_present};
-use crate::lookup::{drop_named, named, put};
+use crate::lookup::{drop_named, has_name, named, put};
 use crate::rates::{is_over, sums_beside, sums_of, sums_on};
 use crate::refusal::{BearersFault, BindRefusal};
 use pcef_rule::{BearerId, Kind, QciTable, Qos, Rates, RuleName, Sums};
@@ -124,7 +124,14 @@ impl Bearers {
         ensures bound { result.now ≡ self.now.bound }
         ensures binding { IsBinding self.now }
     {
-        &self.bound
+        self.bound.as_slice()
+    }
+
+    /// Whether a rule of this name is bound.
+    pub fn is_bound(&self, name: &RuleName) -> bool
+        ensures { result ≡ list_any (is_named name.now) self.now.bound }
+    {
+        has_name(&self.bound, name)
     }
 
     /// Why a rule of this name can't be bound with this pair and these rates, if it can't. What is bound

@@ -10,3 +10,6 @@ mod refusal;
 pub use bearers::{Bearers, Bound, MAX_BOUND, Released};
 pub use ids::DEFAULT_BEARER;
 pub use refusal::{BearersFault, BindRefusal};
+
+#[cfg(test)]
+mod tests;

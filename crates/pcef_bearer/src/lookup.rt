@@ -39,6 +39,13 @@ pub(crate) fn place_of(bound: &[Bound], name: &RuleName) -> Option<usize>
     bound.iter().position(|b| is_named(name, b))
 }
 
+/// Whether a rule of this name is bound.
+pub(crate) fn has_name(bound: &[Bound], name: &RuleName) -> bool
+    ensures { result ≡ list_any (is_named name.now) bound.now }
+{
+    bound.iter().any(|b| is_named(name, b))
+}
+
 /// The rule of this name, if it is bound.
 pub(crate) fn named<'a>(bound: &'a [Bound], name: &RuleName) -> Option<&'a Bound>
     ensures { option_copied result ≡ find (is_named name.now) bound.now }
