@@ -1,0 +1,100 @@
+-- Sums of guaranteed rates over part of the rules.
+use Rattle.std.proofs.Common.{◌≡◌, ◌≤◌, ◌<◌, ◌+◌, ℕ, zero, suc, Bool, true, false, List, [], ◌∷◌, refl, sym, arith, inl, inr, drop, length, get_or, filter, add-one}
+use Rattle.std.specs.Prelude.{if◌then◌else◌, not}
+use Rattle.std.specs.List.{list_any}
+use Rattle.std.proofs.lemmas.Bool.{cases_Bool}
+use Rattle.std.proofs.Math.Seq.{drop-cons}
+use Rattle.pcef_bearer.specs.declared.bearers.Bound.{Bound}
+use Rattle.pcef_bearer.specs.Bindings.{is_named, put, rate_down, rate_up, total_down, total_up, without}
+
+-- one rule more or less
+cons_up : (p : Bound → Bool) (b : Bound) (bound : List Bound) →
+    total_up (filter p (b ∷ bound)) ≡ (if p b then rate_up b.rates else 0) + total_up (filter p bound)
+unfolding total_up
+cons_up p b bound =
+    elim (cases_Bool (p b)) [
+      | inl is ↦ rw is refl
+      | inr isnt ↦ rw isnt (omega arith)
+    ]
+
+cons_down : (p : Bound → Bool) (b : Bound) (bound : List Bound) →
+    total_down (filter p (b ∷ bound)) ≡ (if p b then rate_down b.rates else 0) + total_down (filter p bound)
+unfolding total_down
+cons_down p b bound =
+    elim (cases_Bool (p b)) [
+      | inl is ↦ rw is refl
+      | inr isnt ↦ rw isnt (omega arith)
+    ]
+
+-- a step of a loop
+step_up : (p : Bound → Bool) (bound : List Bound) (i : ℕ) (b : Bound) → i < length bound → b ≡ get_or bound i b →
+    total_up (filter p (drop i bound)) ≡ (if p b then rate_up b.rates else 0) + total_up (filter p (drop (suc i) bound))
+step_up p [] i b within is = absurd (omega (arith, within))
+step_up p (x ∷ bound) zero b within is = rw is (cons_up p x bound)
+step_up p (x ∷ bound) (suc i) b within is = step_up p bound i b (omega (arith, within)) is
+
+step_down : (p : Bound → Bool) (bound : List Bound) (i : ℕ) (b : Bound) → i < length bound → b ≡ get_or bound i b →
+    total_down (filter p (drop i bound)) ≡ (if p b then rate_down b.rates else 0) + total_down (filter p (drop (suc i) bound))
+step_down p [] i b within is = absurd (omega (arith, within))
+step_down p (x ∷ bound) zero b within is = rw is (cons_down p x bound)
+step_down p (x ∷ bound) (suc i) b within is = step_down p bound i b (omega (arith, within)) is
+
+-- nothing is left at the end
+pub past_up : (p : Bound → Bool) (bound : List Bound) (i : ℕ) → length bound ≤ i → total_up (filter p (drop i bound)) ≡ 0
+unfolding total_up
+past_up p [] zero past = refl
+past_up p [] (suc i) past = refl
+past_up p (b ∷ bound) zero past = absurd (omega (arith, past))
+past_up p (b ∷ bound) (suc i) past = past_up p bound i (omega (arith, past))
+
+pub past_down : (p : Bound → Bool) (bound : List Bound) (i : ℕ) → length bound ≤ i → total_down (filter p (drop i bound)) ≡ 0
+unfolding total_down
+past_down p [] zero past = refl
+past_down p [] (suc i) past = refl
+past_down p (b ∷ bound) zero past = absurd (omega (arith, past))
+past_down p (b ∷ bound) (suc i) past = past_down p bound i (omega (arith, past))
+
+-- a part has no more than all
+pub part_up : (p : Bound → Bool) (bound : List Bound) → total_up (filter p bound) ≤ total_up bound
+unfolding total_up
+part_up p [] = omega arith
+part_up p (b ∷ bound) =
+    let rest : total_up (filter p bound) ≤ total_up bound = part_up p bound in
+    elim (cases_Bool (p b)) [
+      | inl is ↦ rw is (omega (arith, rest))
+      | inr isnt ↦ rw isnt (omega (arith, rest))
+    ]
+
+pub part_down : (p : Bound → Bool) (bound : List Bound) → total_down (filter p bound) ≤ total_down bound
+unfolding total_down
+part_down p [] = omega arith
+part_down p (b ∷ bound) =
+    let rest : total_down (filter p bound) ≤ total_down bound = part_down p bound in
+    elim (cases_Bool (p b)) [
+      | inl is ↦ rw is (omega (arith, rest))
+      | inr isnt ↦ rw isnt (omega (arith, rest))
+    ]
+
+pub part_length : (p : Bound → Bool) (bound : List Bound) → length (filter p bound) ≤ length bound
+part_length p [] = omega arith
+part_length p (b ∷ bound) =
+    let rest : length (filter p bound) ≤ length bound = part_length p bound in
+    elim (cases_Bool (p b)) [
+      | inl is ↦ rw is (omega (arith, rest))
+      | inr isnt ↦ rw isnt (omega (arith, rest))
+    ]
+
+-- one step more
+pub on_up : (p : Bound → Bool) (bound : List Bound) (i : ℕ) (b : Bound) (sum more : ℕ) → i < length bound → b ≡ get_or bound i b →
+    sum + total_up (filter p (drop i bound)) ≡ total_up (filter p bound) → more ≡ (if p b then rate_up b.rates else 0) →
+    sum + more + total_up (filter p (drop (i + 1) bound)) ≡ total_up (filter p bound)
+on_up p bound i b sum more within is sofar adds =
+    let step : total_up (filter p (drop i bound)) ≡ more + total_up (filter p (drop (suc i) bound)) = rw adds (step_up p bound i b within is) in
+    rw add-one (omega (arith, step, sofar))
+
+pub on_down : (p : Bound → Bool) (bound : List Bound) (i : ℕ) (b : Bound) (sum more : ℕ) → i < length bound → b ≡ get_or bound i b →
+    sum + total_down (filter p (drop i bound)) ≡ total_down (filter p bound) → more ≡ (if p b then rate_down b.rates else 0) →
+    sum + more + total_down (filter p (drop (i + 1) bound)) ≡ total_down (filter p bound)
+on_down p bound i b sum more within is sofar adds =
+    let step : total_down (filter p (drop i bound)) ≡ more + total_down (filter p (drop (suc i) bound)) = rw adds (step_down p bound i b within is) in
+    rw add-one (omega (arith, step, sofar))

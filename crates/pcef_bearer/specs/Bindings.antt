@@ -1,0 +1,177 @@
+-- Which bearers rules are bound to, and what may be bound (TS 23.203, clauses 6.1.1.4 and 6.2.2.2).
+use Rattle.std.specs.Prelude.{ℕ, ◌≡◌, ◌≤◌, ◌<◌, ◌+◌, ◌==◌, Bool, true, false, ◌&&◌, ◌||◌, not, List, [], ◌∷◌, ◌++◌, Option, Some, None, Result, Ok, Err, All, AllPairs, filter, find, is_none, is_some, length, nat_lt, if◌then◌else◌}
+use Rattle.std.specs.List.{list_any}
+use Rattle.pcef_rule.specs.declared.qci.Kind.{Kind}
+use Rattle.pcef_rule.specs.declared.qci.Kind.TheVariants.{Gbr, NonGbr}
+use Rattle.pcef_rule.specs.declared.quantity.Qos.{Qos}
+use Rattle.pcef_rule.specs.declared.quantity.Rates.{Rates}
+use Rattle.pcef_rule.specs.declared.quantity.Sums.{Sums}
+use Rattle.pcef_rule.specs.QciKinds.{kind_of}
+use Rattle.pcef_journal.specs.Setting.{same_name, same_qos}
+use Rattle.pcef_rule.specs.declared.quantity.BearerId.{BearerId}
+use Rattle.pcef_bearer.specs.declared.bearers.Bound.{Bound}
+use Rattle.pcef_bearer.specs.declared.bearers.Released.{Released}
+use Rattle.pcef_bearer.specs.declared.refusal.BindRefusal.{BindRefusal}
+use Rattle.pcef_bearer.specs.declared.refusal.BindRefusal.TheVariants.{UnknownQci, RatesMissing, RatesNotWanted, TooManyBearers, OverCapacityUp, OverCapacityDown}
+
+-- what is fixed: the pair of the default bearer, what the guaranteed rates may sum up to, and the kind
+-- that is declared for each QCI; and the rules that are bound, in the order in which they were bound
+pub record Binding : Type 0 where
+  pub default_qos : Qos
+  pub capacity : Sums
+  pub qcis : List (Option Kind)
+  pub bound : List Bound
+
+-- ---- rules by name
+abbrev pub is_named : List ℕ → Bound → Bool
+is_named name b = same_name b.name name
+
+abbrev pub without : List ℕ → List Bound → List Bound
+without name bound = filter (λ b. not (is_named name b)) bound
+
+-- the rules with this one: a rule that is bound anew keeps its place
+abbrev pub put : Bound → List Bound → List Bound
+put new [] = new ∷ []
+put new (b ∷ bound) = if is_named new.name b then new ∷ bound else b ∷ put new bound
+
+-- ---- bearers
+-- own choice
+abbrev pub default_id : ℕ
+default_id = 5
+
+-- the ids of bearers beside the default one (own choice)
+abbrev pub other_ids : List ℕ
+other_ids = 6 ∷ 7 ∷ 8 ∷ 9 ∷ 10 ∷ 11 ∷ 12 ∷ 13 ∷ 14 ∷ 15 ∷ []
+
+-- the default pair has a bearer, and each pair of a rule that is bound
+abbrev pub has_bearer : Qos → List Bound → Qos → Bool
+has_bearer default bound q = same_qos q default || list_any (λ b. same_qos q b.qos) bound
+
+-- the least id that no bearer has, if there is one (own choice)
+abbrev pub least_free : List Bound → Option ℕ
+least_free bound = find (λ id. not (list_any (λ b. id == b.bearer.0) bound)) other_ids
+
+-- the id of a bearer that is there, or a free one
+abbrev pub id_or_new : Option Bound → List Bound → Option ℕ
+id_or_new (Some b) others = Some b.bearer.0
+id_or_new None others = least_free others
+
+-- the id of a pair's bearer, or of the one that is established for it: the old bearer where the pair had
+-- one before, else the least id that is free beside the rules that stay
+abbrev pub id_beside : Qos → List Bound → List Bound → Qos → Option ℕ
+id_beside default before others q =
+    if same_qos q default then Some default_id
+    else id_or_new (find (λ b. same_qos q b.qos) before) others
+
+-- ---- rates: exact sums, in which a rule without rates adds 0
+abbrev pub rate_up : Option Rates → ℕ
+rate_up None = 0
+rate_up (Some rates) = rates.up
+
+abbrev pub rate_down : Option Rates → ℕ
+rate_down None = 0
+rate_down (Some rates) = rates.down
+
+unfoldable pub total_up : List Bound → ℕ
+total_up [] = 0
+total_up (b ∷ bound) = rate_up b.rates + total_up bound
+
+unfoldable pub total_down : List Bound → ℕ
+total_down [] = 0
+total_down (b ∷ bound) = rate_down b.rates + total_down bound
+
+-- the bearer of a rule
+abbrev pub bearer_in : Option Bound → Option BearerId
+bearer_in None = None
+bearer_in (Some b) = Some b.bearer
+
+abbrev pub bearer_of : List ℕ → List Bound → Option BearerId
+bearer_of name bound = bearer_in (find (is_named name) bound)
+
+-- the rules on the bearer with this id
+abbrev pub rules_on : ℕ → List Bound → List Bound
+rules_on id bound = filter (λ b. b.bearer.0 == id) bound
+
+abbrev pub is_present : ℕ → List Bound → Bool
+is_present id bound = (id == default_id) || list_any (λ b. b.bearer.0 == id) bound
+
+abbrev pub guaranteed : ℕ → List Bound → Option Sums
+guaranteed id bound =
+    if is_present id bound then Some (record { up = total_up (rules_on id bound); down = total_down (rules_on id bound) }) else None
+
+-- what a rule leaves that is no longer bound: a bearer ends that isn't present beside the rules that stay
+abbrev pub released : Option Bound → List Bound → Option Released
+released None others = None
+released (Some b) others = Some (record { bearer = b.bearer; ended = not (is_present b.bearer.0 others) })
+
+-- ---- refusals, in their order: a condition, and what is answered where it holds and none before it does
+abbrev pub first_of : List (Bool × BindRefusal) → Option BindRefusal
+first_of [] = None
+first_of (c ∷ cs) = if c.0 then Some c.1 else first_of cs
+
+abbrev pub is_gbr : Option Kind → Bool
+is_gbr (Some Gbr) = true
+is_gbr _ = false
+
+abbrev pub is_non_gbr : Option Kind → Bool
+is_non_gbr (Some NonGbr) = true
+is_non_gbr _ = false
+
+-- a new pair needs a free id beside the rules that stay
+abbrev pub finds_no_bearer : Qos → List Bound → Qos → Bool
+finds_no_bearer default others q = not (has_bearer default others q) && is_none (least_free others)
+
+-- the refusals of a binding with this pair and these rates, beside the rules that stay
+abbrev pub refusals : Binding → List Bound → Qos → Option Rates → List (Bool × BindRefusal)
+refusals v others q rates =
+    (is_none (kind_of v.qcis q.qci.0), UnknownQci) ∷
+    (is_gbr (kind_of v.qcis q.qci.0) && is_none rates, RatesMissing) ∷
+    (is_non_gbr (kind_of v.qcis q.qci.0) && is_some rates, RatesNotWanted) ∷
+    (finds_no_bearer v.default_qos others q, TooManyBearers) ∷
+    (nat_lt v.capacity.up (total_up others + rate_up rates), OverCapacityUp) ∷
+    (nat_lt v.capacity.down (total_down others + rate_down rates), OverCapacityDown) ∷ []
+
+-- ---- what a binding gives
+abbrev pub bound_at : List ℕ → Qos → Option Rates → ℕ → Bound
+bound_at name q rates id = record { name = name; qos = q; rates = rates; bearer = record { 0 = id } }
+
+-- the same with other rules
+abbrev pub with_rules : Binding → List Bound → Binding
+with_rules v bound = record { default_qos = v.default_qos; capacity = v.capacity; qcis = v.qcis; bound = bound }
+
+-- the number of an id, where there is one
+abbrev pub number_of : Option BearerId → Option ℕ
+number_of None = None
+number_of (Some id) = Some id.0
+
+-- why a binding was refused, where it was
+abbrev pub refusal_in : Result BearerId BindRefusal → Option BindRefusal
+refusal_in (Ok _) = None
+refusal_in (Err refusal) = Some refusal
+
+-- a rule of this name is bound, or there is room for one more
+abbrev pub HasRoom : List ℕ → ℕ → List Bound → Type 0
+HasRoom name room bound = list_any (is_named name) bound ≡ false → length bound < room
+
+-- ---- what always holds
+-- two rules are on one bearer exactly where they have the same pair
+abbrev pub Agree : Bound → Bound → Type 0
+Agree a b = same_qos a.qos b.qos ≡ (a.bearer.0 == b.bearer.0)
+
+abbrev pub DifferInName : Bound → Bound → Type 0
+DifferInName a b = same_name a.name b.name ≡ false
+
+-- the default pair is on the default bearer, and another one on another bearer
+abbrev pub HasItsId : Qos → Bound → Type 0
+HasItsId default b =
+    (same_qos b.qos default ≡ true → b.bearer.0 ≡ default_id)
+    × (same_qos b.qos default ≡ false → (6 ≤ b.bearer.0) × (b.bearer.0 ≤ 15))
+
+pub record IsBinding (v : Binding) : Type 0 where
+  pub default_is_non_gbr : kind_of v.qcis v.default_qos.qci.0 ≡ Some NonGbr
+  pub few : length v.bound ≤ 64
+  pub names : AllPairs DifferInName v.bound
+  pub ids : All (HasItsId v.default_qos) v.bound
+  pub pairs : AllPairs Agree v.bound
+  pub within_up : total_up v.bound ≤ v.capacity.up
+  pub within_down : total_down v.bound ≤ v.capacity.down

@@ -1,0 +1,297 @@
+//! The bearers of a session, and the rules that are bound to them.
+
+ghost use Rattle.std.specs.Prelude.{◌≡◌, ◌≤◌, ◌<◌, ◌↔◌, ◌&&◌, is_none, is_some, [], ◌∷◌, ◌++◌, IfOk, OnErr, Err, Some, None, find, length, true, false};
+ghost use Rattle.std.specs.List.{list_any};
+ghost use Rattle.pcef_rule.specs.declared.qci.Kind.TheVariants as kind;
+ghost use Rattle.pcef_rule.specs.QciKinds.{kind_of};
+ghost use Rattle.pcef_bearer.specs.declared.refusal.BearersFault.TheVariants as fault;
+ghost use Rattle.pcef_bearer.specs.Bindings.{bearer_of, bound_at, first_of, guaranteed, id_beside, is_named, number_of, put, refusal_in, refusals, released, rules_on, with_rules, without, HasRoom, IsBinding, is_gbr, is_non_gbr};
+
+use crate::ids::{count_on, finds_no_bearer, id_beside, is_present};
+use crate::lookup::{drop_named, has_name, named, put};
+use crate::rates::{is_over, sums_beside, sums_of, sums_on};
+use crate::refusal::{BearersFault, BindRefusal};
+use pcef_rule::{BearerId, Kind, QciTable, Qos, Rates, RuleName, Sums};
+use std::alloc::Global;
+use std::marker::Model;
+
+/// The most rules that are bound.
+pub const MAX_BOUND: usize = 64;
+
+/// An active rule and the bearer that it is bound to.
+#[derive(Debug, PartialEq, Eq, Drop)]
+pub struct Bound {
+    /// The name of the rule.
+    pub name: RuleName,
+    /// Its QCI and ARP.
+    pub qos: Qos,
+    /// Its guaranteed rates, where its QCI has some.
+    pub rates: Option<Rates>,
+    /// Its bearer.
+    pub bearer: BearerId,
+}
+
+/// What a rule leaves that is no longer bound.
+#[derive(Clone, Copy, Debug, PartialEq, Eq)]
+pub struct Released {
+    /// The bearer that it was bound to.
+    pub bearer: BearerId,
+    /// Whether the bearer ended with it: it isn't the default one, and no other rule is on it.
+    pub ended: bool,
+}
+
+/// The bearers of a session, with memory for all rules that may be bound: two rules are on one bearer
+/// exactly where they have the same QCI and the same ARP (TS 23.203, clause 6.1.1.4).
+#[derive(Drop)]
+pub struct Bearers {
+    default_qos: Qos,
+    capacity: Sums,
+    qcis: QciTable,
+    bound: Vec<Bound>,
+}
+
+impl Model for Bearers {
+    ghost use Rattle.std.specs.Prelude.{◌≤◌, ◌<◌, ◌^◌, vec_capacity};
+    ghost use Rattle.pcef_bearer.specs.Bindings.{Binding, IsBinding};
+
+    ghost Value = { Binding };
+
+    ghost view = { λ b. record { default_qos = b.default_qos; capacity = b.capacity; qcis = b.qcis; bound = b.bound.items } };
+
+    ghost invariant = { λ b. IsBinding (record { default_qos = b.default_qos; capacity = b.capacity; qcis = b.qcis; bound = b.bound.items }) × (64 ≤ vec_capacity b.bound) × (b.capacity.up < 2 ^ 64) × (b.capacity.down < 2 ^ 64) };
+}
+
+/// Whether a rule of a GBR QCI has no rates.
+fn lacks_rates(kind: Option<Kind>, rates: Option<Rates>) -> bool
+    ensures { result ≡ (is_gbr kind && is_none rates) }
+{
+    match kind {
+        Some(Kind::Gbr) => match rates {
+            None => true,
+            Some(_) => false,
+        },
+        Some(Kind::NonGbr) => false,
+        None => false,
+    }
+}
+
+/// Whether a rule of a non-GBR QCI has rates.
+fn has_unwanted_rates(kind: Option<Kind>, rates: Option<Rates>) -> bool
+    ensures { result ≡ (is_non_gbr kind && is_some rates) }
+{
+    match kind {
+        Some(Kind::NonGbr) => match rates {
+            None => false,
+            Some(_) => true,
+        },
+        Some(Kind::Gbr) => false,
+        None => false,
+    }
+}
+
+impl Bearers {
+    /// The default bearer for this pair of QCI and ARP, up to this capacity, or the first fault in the
+    /// order of [`BearersFault`]. Takes memory for all rules that may be bound.
+    pub fn new(
+        alloc: Global,
+        default_qos: Qos,
+        capacity: Sums,
+        qcis: QciTable,
+    ) -> Result<Bearers, BearersFault>
+        ensures unknown { (result ≡ Err fault.UnknownQci) ↔ (kind_of qcis default_qos.qci.0 ≡ None) }
+        ensures gbr { (result ≡ Err fault.DefaultIsGbr) ↔ (kind_of qcis default_qos.qci.0 ≡ Some kind.Gbr) }
+        ensures made { IfOk result (λ b. b ≡ record { default_qos = default_qos; capacity = capacity; qcis = qcis; bound = [] }) }
+    {
+        match qcis.kind_of(default_qos.qci) {
+            None => Err(BearersFault::UnknownQci),
+            Some(Kind::Gbr) => Err(BearersFault::DefaultIsGbr),
+            Some(Kind::NonGbr) => match Vec::with_capacity(alloc, MAX_BOUND) {
+                Err(_) => Err(BearersFault::NoMemory),
+                Ok(bound) => Ok(Bearers {
+                    default_qos,
+                    capacity,
+                    qcis,
+                    bound,
+                }),
+            },
+        }
+    }
+
+    /// The rules that are bound. What always holds of a binding holds of them: at most 64 rules, with
+    /// names of their own, of which two are on one bearer exactly where they have the same pair, with sums
+    /// within the capacity.
+    pub fn bound(&self) -> &[Bound]
+        ensures bound { result.now ≡ self.now.bound }
+        ensures binding { IsBinding self.now }
+    {
+        self.bound.as_slice()
+    }
+
+    /// Whether a rule of this name is bound.
+    pub fn is_bound(&self, name: &RuleName) -> bool
+        ensures { result ≡ list_any (is_named name.now) self.now.bound }
+    {
+        has_name(&self.bound, name)
+    }
+
+    /// Why a rule of this name can't be bound with this pair and these rates, if it can't. What is bound
+    /// under its name doesn't count.
+    pub fn refusal(&self, name: &RuleName, qos: Qos, rates: Option<Rates>) -> Option<BindRefusal>
+        ensures { result ≡ first_of (refusals self.now (without name.now self.now.bound) qos rates) }
+    {
+        self.refusal_beside(name, &qos, rates)
+    }
+
+    /// The bearer that a rule of this name gets by this pair: the one of the pair, or else the least id
+    /// that no other rule is on.
+    pub fn bearer_for(&self, name: &RuleName, qos: Qos) -> Option<BearerId>
+        ensures { number_of result ≡ id_beside self.now.default_qos self.now.bound (without name.now self.now.bound) qos }
+    {
+        self.bearer_beside(name, &qos)
+    }
+
+    fn refusal_beside(
+        &self,
+        name: &RuleName,
+        qos: &Qos,
+        rates: Option<Rates>,
+    ) -> Option<BindRefusal>
+        ensures { result ≡ first_of (refusals self.now (without name.now self.now.bound) qos.now rates) }
+    {
+        let kind = self.qcis.kind_of(qos.qci);
+        if kind.is_none() {
+            return Some(BindRefusal::UnknownQci);
+        }
+        if lacks_rates(kind, rates) {
+            return Some(BindRefusal::RatesMissing);
+        }
+        if has_unwanted_rates(kind, rates) {
+            return Some(BindRefusal::RatesNotWanted);
+        }
+        if finds_no_bearer(&self.default_qos, name, &self.bound, qos) {
+            return Some(BindRefusal::TooManyBearers);
+        }
+        let others = sums_beside(name, &self.bound);
+        let more = sums_of(rates);
+        if is_over(self.capacity.up, others.up, more.up) {
+            return Some(BindRefusal::OverCapacityUp);
+        }
+        if is_over(self.capacity.down, others.down, more.down) {
+            return Some(BindRefusal::OverCapacityDown);
+        }
+        None
+    }
+
+    fn bearer_beside(&self, name: &RuleName, qos: &Qos) -> Option<BearerId>
+        ensures { number_of result ≡ id_beside self.now.default_qos self.now.bound (without name.now self.now.bound) qos.now }
+    {
+        id_beside(&self.default_qos, name, &self.bound, qos)
+    }
+
+    fn set(
+        &mut self,
+        name: RuleName,
+        qos: &Qos,
+        rates: Option<Rates>,
+    ) -> Result<BearerId, BindRefusal>
+        requires { HasRoom name 64 self.old.bound }
+        ensures refused { refusal_in result ≡ first_of (refusals self.old (without name self.old.bound) qos.now rates) }
+        ensures unchanged { OnErr result (self.new ≡ self.old) }
+        ensures bearer { IfOk result (λ id. id_beside self.old.default_qos self.old.bound (without name self.old.bound) qos.now ≡ Some id.0) }
+        ensures bound { IfOk result (λ id. self.new ≡ with_rules self.old (put (bound_at name qos.now rates id.0) self.old.bound)) }
+    {
+        if let Some(refusal) = self.refusal_beside(&name, qos, rates) {
+            return Err(refusal);
+        }
+        let Some(bearer) = self.bearer_beside(&name, qos) else {
+            unreachable!()
+        };
+        let new = Bound {
+            name,
+            qos: *qos,
+            rates,
+            bearer,
+        };
+        put(&mut self.bound, new);
+        Ok(bearer)
+    }
+
+    /// Binds a rule that isn't bound, and gives its bearer, or the first refusal in the order of
+    /// [`BindRefusal`]. Takes no memory.
+    pub fn bind(
+        &mut self,
+        name: RuleName,
+        qos: Qos,
+        rates: Option<Rates>,
+    ) -> Result<BearerId, BindRefusal>
+        requires new { list_any (is_named name) self.old.bound ≡ false }
+        requires room { length self.old.bound < 64 }
+        ensures refused { refusal_in result ≡ first_of (refusals self.old (without name self.old.bound) qos rates) }
+        ensures unchanged { OnErr result (self.new ≡ self.old) }
+        ensures bearer { IfOk result (λ id. id_beside self.old.default_qos self.old.bound (without name self.old.bound) qos ≡ Some id.0) }
+        ensures bound { IfOk result (λ id. self.new ≡ with_rules self.old (put (bound_at name qos rates id.0) self.old.bound)) }
+        ensures last { IfOk result (λ id. self.new.bound ≡ self.old.bound ++ bound_at name qos rates id.0 ∷ []) }
+    {
+        self.set(name, &qos, rates)
+    }
+
+    /// Binds a rule anew that is bound, and gives its bearer, or the first refusal in the order of
+    /// [`BindRefusal`], which changes nothing. A pair that stays keeps its bearer, and a new pair may get
+    /// the bearer that the rule leaves. Takes no memory.
+    pub fn rebind(
+        &mut self,
+        name: RuleName,
+        qos: Qos,
+        rates: Option<Rates>,
+    ) -> Result<BearerId, BindRefusal>
+        requires { list_any (is_named name) self.old.bound ≡ true }
+        ensures refused { refusal_in result ≡ first_of (refusals self.old (without name self.old.bound) qos rates) }
+        ensures unchanged { OnErr result (self.new ≡ self.old) }
+        ensures bearer { IfOk result (λ id. id_beside self.old.default_qos self.old.bound (without name self.old.bound) qos ≡ Some id.0) }
+        ensures bound { IfOk result (λ id. self.new ≡ with_rules self.old (put (bound_at name qos rates id.0) self.old.bound)) }
+    {
+        self.set(name, &qos, rates)
+    }
+
+    /// Drops the rule of this name, and tells what it leaves, or `None` where no rule of this name is
+    /// bound.
+    pub fn unbind(&mut self, name: &RuleName) -> Option<Released>
+        ensures released { result ≡ released (find (is_named name.now) self.old.bound) (without name.now self.old.bound) }
+        ensures bound { self.new ≡ with_rules self.old (without name.now self.old.bound) }
+    {
+        let Some(bearer) = self.bearer_of(name) else {
+            return None;
+        };
+        drop_named(&mut self.bound, name);
+        let ended = !is_present(bearer, &self.bound);
+        Some(Released { bearer, ended })
+    }
+
+    /// The bearer of the rule of this name, if it is bound.
+    pub fn bearer_of(&self, name: &RuleName) -> Option<BearerId>
+        ensures { result ≡ bearer_of name.now self.now.bound }
+    {
+        match named(&self.bound, name) {
+            Some(b) => Some(b.bearer),
+            None => None,
+        }
+    }
+
+    /// The sums of the guaranteed rates on a bearer, or `None` where there is no bearer of this id.
+    pub fn guaranteed(&self, id: BearerId) -> Option<Sums>
+        ensures { result ≡ guaranteed id.0 self.now.bound }
+    {
+        if is_present(id, &self.bound) {
+            Some(sums_on(id, &self.bound))
+        } else {
+            None
+        }
+    }
+
+    /// How many rules are on a bearer.
+    pub fn rules_on(&self, id: BearerId) -> u8
+        ensures { result ≡ length (rules_on id.0 self.now.bound) }
+    {
+        count_on(id, &self.bound) as u8
+    }
+}

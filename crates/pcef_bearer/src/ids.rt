@@ -1,0 +1,95 @@
+//! The ids of bearers.
+
+ghost use Rattle.std.specs.Prelude.{◌≡◌, ◌==◌, ◌≤◌, find, length, not};
+ghost use Rattle.std.specs.List.{list_any};
+ghost use Rattle.pcef_bearer.specs.Bindings.{finds_no_bearer, id_beside, is_present, least_free, number_of, rules_on, without};
+
+use crate::bearers::Bound;
+use crate::lookup::{has_pair_beside, is_named, of_pair, same_qos};
+use pcef_rule::{BearerId, Qos, RuleName};
+
+/// The id of the default bearer.
+pub const DEFAULT_BEARER: BearerId = BearerId(5);
+
+/// Whether a rule other than the one of this name is on the bearer of this id.
+fn is_used_beside(name: &RuleName, bound: &[Bound], id: u8) -> bool
+    ensures { result ≡ list_any (λ b. id == b.bearer.0) (without name.now bound.now) }
+{
+    for b in bound {
+        if !is_named(name, b) && id == b.bearer.0 {
+            return true;
+        }
+    }
+    false
+}
+
+/// The first of these ids that no rule other than the one of this name is on.
+fn first_free(ids: &[u8], name: &RuleName, bound: &[Bound]) -> Option<BearerId>
+    ensures { number_of result ≡ find (λ id. not (list_any (λ b. id == b.bearer.0) (without name.now bound.now))) ids.now }
+{
+    for id in ids {
+        if !is_used_beside(name, bound, *id) {
+            return Some(BearerId(*id));
+        }
+    }
+    None
+}
+
+/// The least id that no rule other than the one of this name is on.
+pub(crate) fn least_free(name: &RuleName, bound: &[Bound]) -> Option<BearerId>
+    ensures { number_of result ≡ least_free (without name.now bound.now) }
+{
+    first_free(&[6, 7, 8, 9, 10, 11, 12, 13, 14, 15], name, bound)
+}
+
+/// The id that a binding of this name to this pair gives.
+pub(crate) fn id_beside(
+    default: &Qos,
+    name: &RuleName,
+    bound: &[Bound],
+    qos: &Qos,
+) -> Option<BearerId>
+    ensures { number_of result ≡ id_beside default.now bound.now (without name.now bound.now) qos.now }
+{
+    if same_qos(qos, default) {
+        return Some(DEFAULT_BEARER);
+    }
+    match of_pair(bound, qos) {
+        Some(b) => Some(b.bearer),
+        None => least_free(name, bound),
+    }
+}
+
+/// Whether this pair has no bearer beside the rule of this name, and none is free for it.
+pub(crate) fn finds_no_bearer(default: &Qos, name: &RuleName, bound: &[Bound], qos: &Qos) -> bool
+    ensures { result ≡ finds_no_bearer default.now (without name.now bound.now) qos.now }
+{
+    if same_qos(qos, default) || has_pair_beside(name, bound, qos) {
+        return false;
+    }
+    match least_free(name, bound) {
+        None => true,
+        Some(_) => false,
+    }
+}
+
+/// Whether a rule is on the bearer of this id.
+fn is_used(id: BearerId, bound: &[Bound]) -> bool
+    ensures { result ≡ list_any (λ b. b.bearer.0 == id.0) bound.now }
+{
+    bound.iter().any(|b| b.bearer.0 == id.0)
+}
+
+/// Whether there is a bearer of this id.
+pub(crate) fn is_present(id: BearerId, bound: &[Bound]) -> bool
+    ensures { result ≡ is_present id.0 bound.now }
+{
+    id.0 == 5 || is_used(id, bound)
+}
+
+/// How many rules are on the bearer of this id.
+pub(crate) fn count_on(id: BearerId, bound: &[Bound]) -> usize
+    ensures { result ≡ length (rules_on id.0 bound.now) }
+{
+    bound.iter().filter(|b| b.bearer.0 == id.0).count()
+}
