@@ -17,7 +17,10 @@ mod world;
 pub use answer::{Accepted, AttachFault, FlushRefusal, Judged, OpenFault, Refusal, Verdicts};
 pub use batch::{Batch, BatchFull, Item, MAX_WAITING};
 pub use bearers::{Bearers, DEFAULT_BEARER};
-pub use laws::{bearers_have_their_own_ids, shown_tables_judge, tables_follow_commands, usage_is_exact, waiting_rows_stay};
+pub use laws::{
+    bearers_have_their_own_ids, shown_tables_judge, tables_follow_commands, usage_is_exact,
+    waiting_rows_stay,
+};
 pub use profile::{MAX_CAPACITY, MAX_COMMANDS, Profile};
 pub use session::Session;
 pub use state::{MAX_WORKERS, Prepared, SessionState};
