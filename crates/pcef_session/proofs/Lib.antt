@@ -1,4 +1,5 @@
 pub mod BearerIds
+pub mod BoundBearers
 pub mod BoundRules
 pub mod Exactness
 pub mod Found

@@ -24,8 +24,8 @@ use Rattle.pcef_session.specs.Soundness.{IsPlain, below}
 use Rattle.pcef_session.proofs.BoundRules.{contrary}
 
 pub plain_row : (j : Journal) (n : ℕ) (r : Row) → IsPlain j n → IsPlain (entry.Row r ∷ j) n
-unfolding attach_count attached subscribed
-plain_row j n r plain = record { counted = plain.counted; attached_are = plain.attached_are; not_closed = plain.not_closed; not_terminated = plain.not_terminated; quiet = plain.quiet }
+unfolding attach_count attached
+plain_row j n r plain = record { counted = plain.counted; attached_are = plain.attached_are; not_closed = plain.not_closed; not_terminated = plain.not_terminated }
 
 pub plain_rows : (j : Journal) (n : ℕ) (rs : List Row) → IsPlain j n → IsPlain (with_rows rs j) n
 unfolding with_rows
@@ -33,13 +33,12 @@ plain_rows j n [] plain = plain
 plain_rows j n (r ∷ rs) plain = plain_rows (entry.Row r ∷ j) n rs (plain_row j n r plain)
 
 pub plain_attach : (j : Journal) (n : ℕ) → IsPlain j n → IsPlain (entry.Attach n ∷ j) (suc n)
-unfolding attach_count attached subscribed
+unfolding attach_count attached
 plain_attach j n plain = record {
   counted = omega (arith, plain.counted);
   attached_are = ap (λ ws. n ∷ ws) plain.attached_are;
   not_closed = plain.not_closed;
   not_terminated = plain.not_terminated;
-  quiet = plain.quiet;
 }
 
 pub rows_with : (j : Journal) (rs : List Row) → length (rows (with_rows rs j)) ≡ length rs + length (rows j)
@@ -56,16 +55,6 @@ pub reports_with : (j : Journal) (rs : List Row) → report_count (with_rows rs 
 unfolding with_rows
 reports_with j [] = refl
 reports_with j (r ∷ rs) = reports_with (entry.Row r ∷ j) rs
-
--- without a subscription no grant is reported
-pub quiet_settled : (p : Setting) (j : Journal) → (subscribed j).usage_report ≡ false → settled p j ≡ j
-unfolding thresholds tell
-quiet_settled p j quiet = rw quiet refl
-
-pub quiet_flush : (p : Setting) (j : Journal) (n : ℕ) (rs : List Row) → IsPlain j n → after_flush p j rs ≡ with_rows rs j
-unfolding with_rows
-quiet_flush p j n [] plain = refl
-quiet_flush p j n (r ∷ rs) plain = quiet_settled p (with_rows (r ∷ rs) j) (plain_rows j n (r ∷ rs) plain).quiet
 
 -- those who are attached are the workers below the count
 one_below : (n worker : ℕ) → ((n == worker) || nat_lt worker n) ≡ nat_lt worker (suc n)
@@ -124,11 +113,11 @@ refused_by_none p j n worker count plain under fits =
 
 -- ---- commands that are served
 pub plain_command : (j : Journal) (n : ℕ) (c : Command) → IsServed c → IsPlain j n → IsPlain (entry.Command c ∷ j) n
-unfolding attach_count attached subscribed
-plain_command j n (Install rule) served plain = record { counted = plain.counted; attached_are = plain.attached_are; not_closed = plain.not_closed; not_terminated = plain.not_terminated; quiet = plain.quiet }
-plain_command j n (Monitor key amount) served plain = record { counted = plain.counted; attached_are = plain.attached_are; not_closed = plain.not_closed; not_terminated = plain.not_terminated; quiet = plain.quiet }
+unfolding attach_count attached
+plain_command j n (Install rule) served plain = record { counted = plain.counted; attached_are = plain.attached_are; not_closed = plain.not_closed; not_terminated = plain.not_terminated }
+plain_command j n (Monitor key amount) served plain = record { counted = plain.counted; attached_are = plain.attached_are; not_closed = plain.not_closed; not_terminated = plain.not_terminated }
 plain_command j n (Activate name) served plain = absurd served
-plain_command j n (Remove name) served plain = absurd served
+plain_command j n (Remove name) served plain = record { counted = plain.counted; attached_are = plain.attached_are; not_closed = plain.not_closed; not_terminated = plain.not_terminated }
 plain_command j n (Stop key) served plain = absurd served
 plain_command j n (ReportNow key) served plain = absurd served
 plain_command j n (Triggers set) served plain = absurd served
@@ -138,8 +127,8 @@ plain_command j n Close served plain = absurd served
 plain_command j n Terminate served plain = absurd served
 
 pub plain_first : IsPlain [] 0
-unfolding attach_count attached subscribed
-plain_first = record { counted = refl; attached_are = refl; not_closed = refl; not_terminated = refl; quiet = refl }
+unfolding attach_count attached
+plain_first = record { counted = refl; attached_are = refl; not_closed = refl; not_terminated = refl }
 
 -- ---- the loop over rows that are taken over
 pub taken_step : (items : List Item) (i : ℕ) (item : Item) (j new all : Journal) (row : Row) → i < length items → item ≡ get_or items i item → row ≡ item.row →

@@ -4,10 +4,11 @@ ghost use Rattle.std.specs.Prelude.{◌≡◌, [], IfOk};
 
 use crate::answer::{Accepted, AttachFault, FlushRefusal, OpenFault, Refusal, Verdicts};
 use crate::batch::Batch;
-use crate::bearers::Bearers;
+use pcef_bearer::Bearers;
 use crate::profile::Profile;
-use crate::state::{Prepared, SessionState};
-use crate::usage::Usage;
+use crate::prepared::Prepared;
+use crate::state::SessionState;
+use pcef_usage::Usage;
 use indexmap::IndexMap;
 use pcef_journal::{Command, Journal};
 use pcef_rule::RuleName;
