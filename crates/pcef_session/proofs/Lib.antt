@@ -1,10 +1,15 @@
+pub mod Acceptance
 pub mod BearerIds
 pub mod BoundBearers
 pub mod BoundRules
+pub mod CoreSound
 pub mod Exactness
 pub mod Found
+pub mod KeptRules
 pub mod Members
+pub mod NextTables
 pub mod PlainJournals
+pub mod Refused
 pub mod RowsLater
 pub mod ShownChanges
 pub mod ShownLater

@@ -1,5 +1,5 @@
--- The rules of a table's entries, by their keys.
-use Rattle.std.specs.Prelude.{Bool, ℕ, not, ◌&&◌, List, Option}
+-- Keys that are on, and the rules of a table's entries by their keys.
+use Rattle.std.specs.Prelude.{Bool, ℕ, not, ◌&&◌, List, Option, Some, None}
 use Rattle.std.specs.List.{list_any}
 use Rattle.std.specs.Option.{option_map_or}
 use Rattle.std.specs.Prelude.{false}
@@ -14,6 +14,11 @@ use Rattle.pcef_usage.specs.declared.usage.KeyState.{KeyState}
 -- the rule of some entry passes a test
 abbrev pub some_entry : List Offer → (Properties → Bool) → List Entry → Bool
 some_entry offers test entries = list_any (λ e. option_map_or test (properties_of offers e.source) false) entries
+
+-- the key has a slot, and is on there
+abbrev pub is_on : Option (List ℕ) → List KeyState → Bool
+is_on None states = false
+is_on (Some key) states = list_any (λ s. same_name s.key key && s.on) states
 
 abbrev pub has_key : List ℕ → Properties → Bool
 has_key key rule = is_key key rule.key

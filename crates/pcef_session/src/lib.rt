@@ -5,6 +5,7 @@
 mod answer;
 mod batch;
 mod entering;
+mod keys;
 mod laws;
 mod planning;
 mod prepared;

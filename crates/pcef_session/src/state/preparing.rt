@@ -1,52 +1,37 @@
 //! The memory that commands take.
 
-ghost use Rattle.std.specs.Prelude.{◌≡◌, ◌≤◌, ◌+◌, IfOk, IfErr, None, length};
-ghost use Rattle.std.specs.Arc.{arc_value};
-ghost use Rattle.pcef_rule.specs.Definition.{Definition};
+ghost use Rattle.std.specs.Prelude.{◌≡◌, IfOk, IfErr, None};
+ghost use Rattle.std.specs.Option.{option_copied};
 ghost use Rattle.pcef_journal.specs.ActiveRules.{dynamic};
-ghost use Rattle.pcef_journal.specs.Generations.{is_among};
+ghost use Rattle.pcef_journal.specs.declared.report.Cause.TheVariants as cause;
 ghost use Rattle.pcef_journal.specs.Journals.{gen, now};
 ghost use Rattle.pcef_journal.specs.Reports.{plan};
-ghost use Rattle.pcef_usage.specs.Keys.{place_of};
+ghost use Rattle.pcef_usage.specs.Commands.{usage_of};
 ghost use Rattle.pcef_session.specs.Answers.{IsRefused};
 ghost use Rattle.pcef_session.specs.Core.{IsPreparedFor, IsServed, setting_in, with_command};
+ghost use Rattle.pcef_session.specs.Kept.{is_gone};
 ghost use Rattle.pcef_session.specs.Refusals.{first_of, refusals};
 ghost use Rattle.pcef_session.specs.Shown.{Shows, StandsFor};
 
 use super::SessionState;
 use crate::answer::Refusal;
+use crate::keys::{is_on, place_of, slot_of};
 use crate::planning::keys_gone;
 use crate::prepared::{Prepared, source_of};
 use pcef_journal::{Command, Telling};
-use pcef_rule::{BearerId, KeyName, Properties, Rule, RuleName, Slot};
+use pcef_rule::{BearerId, KeyName, Rule, RuleName};
 use pcef_table::{Entry as TableEntry, Source, Table};
 use std::alloc::AllocError;
 use std::sync::Arc;
 
 impl SessionState {
-    /// The slot of a key, or the one that it gets next.
-    fn slot_to_be(&self, key: &KeyName) -> Slot
-        ensures { result.0 ≡ place_of key.now self.now.parts.keys }
-    {
-        match self.counted.usage().find(key) {
-            Some(slot) => slot,
-            None => Slot(self.counted.usage().states().len() as u8),
-        }
-    }
-
-    /// Whether a key is on.
-    fn is_on(&self, key: &KeyName) -> bool
-        ensures { result ≡ is_among key.now (now (setting_in self.now) self.now.journal).on }
-    {
-        match self.counted.usage().find(key) {
-            Some(slot) => self.counted.usage().states()[usize::from(slot.0)].on,
-            None => false,
-        }
-    }
-
     /// The bearer of a rule that is installed.
-    fn bearer_to_be(&self, rule: &Properties) -> BearerId {
-        match self.bearers.bearer_for(&rule.name, rule.qos) {
+    fn bearer_to_be(&self, rule: &Rule) -> BearerId
+        requires { first_of (refusals (setting_in self.now) self.now.journal (Command.Install rule.now)) ≡ None }
+        ensures { result.0 ≡ (now (setting_in self.now) (with_command (Command.Install rule.now) self.now.journal)).id_of rule.now.properties.qos }
+    {
+        let properties = rule.properties();
+        match self.bearers.bearer_for(&properties.name, properties.qos) {
             Some(bearer) => bearer,
             None => unreachable!(),
         }
@@ -57,17 +42,34 @@ impl SessionState {
         requires { first_of (refusals (setting_in self.now) self.now.journal (Command.Install rule.now)) ≡ None }
         ensures { IfOk result (λ e. StandsFor (setting_in self.now) (with_command (Command.Install rule.now) self.now.journal) (gen (with_command (Command.Install rule.now) self.now.journal)) e (dynamic rule.now)) }
     {
-        let properties = rule.properties();
-        let (slot, counted) = match &properties.key {
-            Some(key) => (Some(self.slot_to_be(key)), self.is_on(key)),
-            None => (None, false),
-        };
+        let source = Source::Dynamic(rule.copy()?);
+        let key = rule.properties().key.as_ref();
         Ok(TableEntry {
-            source: Source::Dynamic(rule.copy()?),
-            bearer: self.bearer_to_be(properties),
-            slot,
-            counted,
+            source,
+            bearer: self.bearer_to_be(rule),
+            slot: slot_of(self.counted.usage(), key),
+            counted: is_on(self.counted.usage(), key),
         })
+    }
+
+    fn table_installed(&self, rule: &Rule) -> Result<Table, AllocError>
+        requires { first_of (refusals (setting_in self.now) self.now.journal (Command.Install rule.now)) ≡ None }
+        ensures { IfOk result (λ t. Shows (setting_in self.now) (with_command (Command.Install rule.now) self.now.journal) (gen (with_command (Command.Install rule.now) self.now.journal)) t) }
+    {
+        self.table.with(&self.listing, self.entry_of(rule)?)
+    }
+
+    fn table_removed(&self, name: &RuleName) -> Result<Table, AllocError>
+        ensures { IfOk result (λ t. Shows (setting_in self.now) (with_command (Command.Remove name.now) self.now.journal) (gen (with_command (Command.Remove name.now) self.now.journal)) t) }
+    {
+        self.table.without(&self.listing, name)
+    }
+
+    fn table_monitored(&self, key: &KeyName, _grant: u64) -> Result<Table, AllocError>
+        ensures { IfOk result (λ t. Shows (setting_in self.now) (with_command (Command.Monitor key.now _grant) self.now.journal) (gen (with_command (Command.Monitor key.now _grant) self.now.journal)) t) }
+    {
+        let slot = place_of(self.counted.usage(), key);
+        self.table.counting(&self.listing, slot, true)
     }
 
     /// The table that a command makes.
@@ -77,12 +79,9 @@ impl SessionState {
         ensures { IfOk result (λ t. Shows (setting_in self.now) (with_command command.now self.now.journal) (gen (with_command command.now self.now.journal)) t) }
     {
         match command {
-            Command::Install(rule) => self.table.with(&self.listing, self.entry_of(rule)?),
-            Command::Remove(name) => self.table.without(&self.listing, name),
-            Command::Monitor { key, .. } => {
-                self.table
-                    .counting(&self.listing, self.slot_to_be(key), true)
-            }
+            Command::Install(rule) => self.table_installed(rule),
+            Command::Remove(name) => self.table_removed(name),
+            Command::Monitor { key, grant } => self.table_monitored(key, *grant),
             _ => unreachable!(),
         }
     }
@@ -93,6 +92,7 @@ impl SessionState {
         name: &RuleName,
         new: Option<&KeyName>,
     ) -> Result<Vec<Telling>, AllocError>
+        ensures { IfOk result (λ v. v.items ≡ usage_of cause.RulesGone (is_gone self.now.offers self.now.parts.table.entries name.now (option_copied new.entry)) self.now.parts.keys) }
     {
         keys_gone(
             self.alloc,

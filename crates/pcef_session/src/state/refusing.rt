@@ -3,22 +3,31 @@
 ghost use Rattle.std.specs.Prelude.{◌≡◌, ◌==◌, ◌&&◌, ◌∷◌, [], Some, is_some, length, nat_le, not};
 ghost use Rattle.std.specs.List.{list_any};
 ghost use Rattle.std.specs.Option.{option_copied, option_map};
-ghost use Rattle.pcef_journal.specs.Generations.{is_among};
+ghost use Rattle.pcef_journal.specs.ActiveRules.{without};
+ghost use Rattle.pcef_journal.specs.Journals.{now};
 ghost use Rattle.pcef_journal.specs.Setting.{offer_named, same_name};
 ghost use Rattle.pcef_usage.specs.Keys.{finds_no_slot as slotless};
 ghost use Rattle.pcef_bearer.specs.Bindings as binding;
 ghost use Rattle.pcef_session.specs.declared.answer.Refusal.TheVariants as refusal;
 ghost use Rattle.pcef_session.specs.Bound.{refusal_of};
 ghost use Rattle.pcef_session.specs.Core.{IsServed, setting_in};
-ghost use Rattle.pcef_session.specs.Refusals.{becoming_active, common_refusals, finds_no_slot, first_of, is_active, refusals};
+ghost use Rattle.pcef_session.specs.Refusals.{becoming_active, bindings, common_refusals, finds_no_slot, first_of, is_active, refusals};
 
 use super::{MAX_RULES, SessionState};
 use crate::answer::Refusal;
+use crate::profile::Profile;
 use pcef_bearer::BindRefusal;
 use pcef_journal::Command;
 use pcef_rule::{KeyName, Properties, RuleName};
 use pcef_table::Listing;
 use pcef_usage::{MAX_KEYS, Usage};
+
+/// How many commands a journal takes.
+fn commands_of(profile: &Profile) -> u64
+    ensures { result ≡ profile.now.commands }
+{
+    u64::from(profile.commands)
+}
 
 /// How the session names a refusal of a binding.
 fn refusal_of(refusal: BindRefusal) -> Refusal
@@ -58,7 +67,7 @@ impl SessionState {
     fn common_refusal(&self) -> Option<Refusal>
         ensures { result ≡ first_of (common_refusals (setting_in self.now) self.now.journal) }
     {
-        if self.counted.journal().commands_len() >= u64::from(self.profile.commands) {
+        if self.counted.journal().commands_len() >= commands_of(&self.profile) {
             return Some(Refusal::CommandsFull);
         }
         None
@@ -76,20 +85,34 @@ impl SessionState {
         self.bearers.is_bound(name)
     }
 
+    /// Whether a rule is new, and there is no place for one more.
+    fn finds_no_place(&self, name: &RuleName) -> bool
+        ensures { result ≡ (not (is_active (setting_in self.now) self.now.journal name.now) && nat_le (setting_in self.now).most_rules (length (now (setting_in self.now) self.now.journal).rules)) }
+    {
+        !self.is_active(name) && self.active.len() >= MAX_RULES
+    }
+
+    /// Why a rule can't be bound.
+    fn bind_refusal(&self, rule: &Properties) -> Option<Refusal>
+        ensures { result ≡ first_of (bindings (setting_in self.now) (now (setting_in self.now) self.now.journal) rule.now (without rule.now.name (now (setting_in self.now) self.now.journal).rules)) }
+    {
+        match self.bearers.refusal(&rule.name, rule.qos, rule.rates) {
+            Some(refusal) => Some(refusal_of(refusal)),
+            None => None,
+        }
+    }
+
     /// Why a rule can't become active.
     fn becoming_active(&self, rule: &Properties) -> Option<Refusal>
         ensures { result ≡ first_of (becoming_active (setting_in self.now) self.now.journal rule.now) }
     {
-        if !self.is_active(&rule.name) && self.active.len() >= MAX_RULES {
+        if self.finds_no_place(&rule.name) {
             return Some(Refusal::RulesFull);
         }
         if self.finds_no_slot(rule.key.as_ref()) {
             return Some(Refusal::KeysFull);
         }
-        match self.bearers.refusal(&rule.name, rule.qos, rule.rates) {
-            Some(refusal) => Some(refusal_of(refusal)),
-            None => None,
-        }
+        self.bind_refusal(rule)
     }
 
     fn install_refusal(&self, rule: &Properties) -> Option<Refusal>
