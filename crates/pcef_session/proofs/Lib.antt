@@ -5,6 +5,7 @@ pub mod Exactness
 pub mod Found
 pub mod Members
 pub mod PlainJournals
+pub mod RowLoops
 pub mod RowsLater
 pub mod ShownChanges
 pub mod ShownLater
