@@ -3,6 +3,7 @@ pub mod BoundBearers
 pub mod BoundRules
 pub mod Exactness
 pub mod Found
+pub mod KeysGone
 pub mod Members
 pub mod PlainJournals
 pub mod RowLoops
