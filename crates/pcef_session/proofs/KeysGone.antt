@@ -1,6 +1,7 @@
 -- Which keys lose their last rule: what a table's entries say of it, and what the journal's rules say.
 use Rattle.std.proofs.Common.{◌≡◌, ◌∙◌, Bool, true, false, ◌&&◌, ◌||◌, not, ℕ, List, [], ◌∷◌, refl, sym, ap, inl, inr, filter, Contains, None}
-use Rattle.std.specs.List.{list_any}
+use Rattle.std.specs.Prelude.{Option}
+use Rattle.std.specs.List.{list_any, AllByRecursion}
 use Rattle.std.specs.Option.{option_map_or}
 use Rattle.std.proofs.lemmas.Bool.{cases_Bool, or_cases, or_parts}
 use Rattle.pcef_rule.specs.declared.rule.Properties.{Properties}
@@ -8,6 +9,7 @@ use Rattle.pcef_rule.specs.Definition.{Definition}
 use Rattle.pcef_table.specs.declared.entry.Entry.{Entry}
 use Rattle.pcef_table.specs.Sources.{properties_of}
 use Rattle.pcef_table.specs.Tables.{TableValue}
+use Rattle.pcef_journal.specs.declared.command.Command.{Command}
 use Rattle.pcef_journal.specs.declared.command.Command.TheVariants.{Install, Remove}
 use Rattle.pcef_journal.specs.declared.report.Cause.{Cause}
 use Rattle.pcef_journal.specs.declared.report.Cause.TheVariants.{RulesGone}
@@ -17,7 +19,7 @@ use Rattle.pcef_journal.specs.Setting.{Setting, same_name}
 use Rattle.pcef_journal.specs.ActiveRules.{Active, dynamic, has_key, is_key, is_named, put, without}
 use Rattle.pcef_journal.specs.Generations.{Generation, rules_after}
 use Rattle.pcef_journal.specs.Entries.{Journal}
-use Rattle.pcef_journal.specs.Journals.{at, gen, now, slots}
+use Rattle.pcef_journal.specs.Journals.{at, gen, now, slots, tables}
 use Rattle.pcef_journal.specs.Reports.{plan}
 use Rattle.pcef_journal.proofs.Growth.{at_newest}
 use Rattle.pcef_usage.specs.declared.usage.KeyState.{KeyState}
@@ -25,13 +27,14 @@ use Rattle.pcef_usage.specs.Commands.{loses_rules, usage_of}
 use Rattle.pcef_usage.specs.Keys.{keys_of}
 use Rattle.pcef_usage.specs.Tellings.{AllOn}
 use Rattle.pcef_usage.proofs.Plans.{plan_install, plan_remove}
+use Rattle.pcef_session.specs.Agreement.{Agrees, KeyAgrees, Parts}
 use Rattle.pcef_session.specs.Kept.{is_gone, is_other_with_key, some_entry}
 use Rattle.pcef_session.specs.Kept as kept
 use Rattle.pcef_session.specs.Shown.{Shows, StandsFor}
 use Rattle.pcef_session.proofs.BoundRules.{NamesOnce, same_name_is}
 use Rattle.pcef_session.proofs.Found.{any_from}
 use Rattle.pcef_session.proofs.Members.{first_there, later_there}
-use Rattle.pcef_session.proofs.ShownVerdicts.{rule_is}
+use Rattle.pcef_session.proofs.ShownVerdicts.{made_once, rule_is}
 
 -- ---- tests
 -- two tests that imply each other are one
@@ -40,6 +43,7 @@ same_test true b onward back = sym (onward refl)
 same_test false true onward back = back refl
 same_test false false onward back = refl
 
+-- the first two of three trade places
 or_swap : (a b c : Bool) → (a || (b || c)) ≡ (b || (a || c))
 or_swap true true c = refl
 or_swap true false c = refl
@@ -51,6 +55,7 @@ neither true true c = refl
 neither true false c = refl
 neither false b c = refl
 
+-- what is never there adds nothing
 and_not_no : (a c : Bool) → (a && not false && not c) ≡ (a && not c)
 and_not_no true c = refl
 and_not_no false c = refl
@@ -149,6 +154,7 @@ remove_gone p j t name s shows =
     (and_not_no (s.on && has_key s.key (now p j).rules) (has_key s.key (without name (now p j).rules)))
 
 -- ---- what the keys that are gone report
+-- tests that are alike report alike
 usage_alike : (cause : Cause) (mine other : KeyState → Bool) (states : List KeyState) → ((s : KeyState) → mine s ≡ other s) → usage_of cause mine states ≡ usage_of cause other states
 usage_alike cause mine other [] same = refl
 usage_alike cause mine other (s ∷ states) same =
@@ -157,6 +163,7 @@ usage_alike cause mine other (s ∷ states) same =
       | inr isnt ↦ let here : mine s ≡ false = same s ∙ isnt in rw (isnt, here) (usage_alike cause mine other states same)
     ]
 
+-- what an Install reports by itself
 pub plan_installed : (p : Setting) (j : Journal) (t : TableValue) (rule : Definition) (states : List KeyState) (v : List Telling) →
     v ≡ usage_of RulesGone (is_gone p.catalog t.entries rule.properties.name rule.properties.key) states → keys_of states ≡ slots p j → AllOn p j states →
     Shows p j (gen j) t → NamesOnce (now p j).rules → v ≡ plan p j (Install rule)
@@ -166,6 +173,7 @@ plan_installed p j t rule states v v_is keys on shows once =
     (λ s. install_gone p j t rule s shows once)
     ∙ plan_install p j rule states keys on
 
+-- what a Remove reports by itself
 pub plan_removed : (p : Setting) (j : Journal) (t : TableValue) (name : List ℕ) (states : List KeyState) (v : List Telling) →
     v ≡ usage_of RulesGone (is_gone p.catalog t.entries name None) states → keys_of states ≡ slots p j → AllOn p j states →
     Shows p j (gen j) t → v ≡ plan p j (Remove name)
@@ -174,3 +182,27 @@ plan_removed p j t name states v v_is keys on shows =
     ∙ usage_alike RulesGone (is_gone p.catalog t.entries name None) (loses_rules (now p j).rules (rules_after p (now p j) (Remove name))) states
     (λ s. remove_gone p j t name s shows)
     ∙ plan_remove p j name states keys on
+
+-- ---- in a session that agrees with its journal
+-- each key that has a slot is on where the journal says so
+pub keys_on : (p : Setting) (j : Journal) (states : List KeyState) → AllByRecursion (KeyAgrees p j) states → AllOn p j states
+unfolding AllOn
+keys_on p j [] agree = tt
+keys_on p j (s ∷ states) agree = (record { on_is = agree.0.on_is }, keys_on p j states agree.1)
+
+-- what is told of the properties of a rule that is installed
+pub agreed_install : (p : Setting) (j : Journal) (parts : Parts) (c : Command) (rule : Definition) (properties : Properties) (key : Option (List ℕ)) (v : List Telling) → Agrees p j parts →
+    c ≡ Install rule → properties ≡ rule.properties → key ≡ properties.key → v ≡ usage_of RulesGone (is_gone p.catalog parts.table.entries properties.name key) parts.keys → v ≡ plan p j c
+agreed_install p j parts c rule properties key v agrees c_is properties_are key_is v_is =
+    plan_installed p j parts.table rule parts.keys v
+    (v_is
+    ∙ ap (λ (k : Option (List ℕ)). usage_of RulesGone (is_gone p.catalog parts.table.entries properties.name k) parts.keys) key_is
+    ∙ ap (λ (q : Properties). usage_of RulesGone (is_gone p.catalog parts.table.entries q.name q.key) parts.keys) properties_are)
+    agrees.keys_are (keys_on p j parts.keys agrees.usage_is) agrees.table_shows (made_once p (tables j))
+    ∙ ap (plan p j) (sym c_is)
+
+-- and of the name of one that is removed
+pub agreed_remove : (p : Setting) (j : Journal) (parts : Parts) (c : Command) (name : List ℕ) (v : List Telling) → Agrees p j parts →
+    c ≡ Remove name → v ≡ usage_of RulesGone (is_gone p.catalog parts.table.entries name None) parts.keys → v ≡ plan p j c
+agreed_remove p j parts c name v agrees c_is v_is =
+    plan_removed p j parts.table name parts.keys v v_is agrees.keys_are (keys_on p j parts.keys agrees.usage_is) agrees.table_shows ∙ ap (plan p j) (sym c_is)

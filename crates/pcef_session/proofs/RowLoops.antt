@@ -25,7 +25,7 @@ fits_later items i item states new row within is row_is new_is fits =
     subst (CanCountAll (drop (i + 1) items)) (sym (new_is ∙ ap (λ (r : Row). with_octets item.slot r.header.octets states) row_is))
     (subst (λ (xs : List Item). CanCountAll xs states) (split_here items i item within is) fits).1
 
--- what is counted when all rows are
+-- what all rows count is what is left to count, one row on
 pub counted_step : (items : List Item) (i : ℕ) (item : Item) (states new all : List KeyState) (row : Row) → i < length items → item ≡ get_or items i item → row ≡ item.row →
     new ≡ with_octets item.slot row.header.octets states → rows_counted row_of slot_of (drop i items) states ≡ all →
     rows_counted row_of slot_of (drop (i + 1) items) new ≡ all
@@ -34,6 +34,7 @@ counted_step items i item states new all row within is row_is new_is before =
     ap (rows_counted row_of slot_of (drop (i + 1) items)) (new_is ∙ ap (λ (r : Row). with_octets item.slot r.header.octets states) row_is)
     ∙ sym (ap (λ (xs : List Item). rows_counted row_of slot_of xs states) (split_here items i item within is)) ∙ before
 
+-- and nothing is left at the end
 pub counted_end : (items : List Item) (i : ℕ) (states all : List KeyState) → length items ≤ i → rows_counted row_of slot_of (drop i items) states ≡ all → states ≡ all
 unfolding rows_counted
 counted_end items i states all past before = sym (ap (λ (xs : List Item). rows_counted row_of slot_of xs states) (drop_all i items past)) ∙ before
