@@ -6,10 +6,12 @@ pub mod CoreSound
 pub mod Exactness
 pub mod Found
 pub mod KeptRules
+pub mod KeysGone
 pub mod Members
 pub mod NextTables
 pub mod PlainJournals
 pub mod Refused
+pub mod RowLoops
 pub mod RowsLater
 pub mod ShownChanges
 pub mod ShownLater
