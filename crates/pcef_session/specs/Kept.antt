@@ -15,10 +15,13 @@ use Rattle.pcef_usage.specs.declared.usage.KeyState.{KeyState}
 abbrev pub some_entry : List Offer → (Properties → Bool) → List Entry → Bool
 some_entry offers test entries = list_any (λ e. option_map_or test (properties_of offers e.source) false) entries
 
+abbrev pub is_on_there : List ℕ → KeyState → Bool
+is_on_there key s = same_name s.key key && s.on
+
 -- the key has a slot, and is on there
 abbrev pub is_on : Option (List ℕ) → List KeyState → Bool
 is_on None states = false
-is_on (Some key) states = list_any (λ s. same_name s.key key && s.on) states
+is_on (Some key) states = list_any (is_on_there key) states
 
 abbrev pub has_key : List ℕ → Properties → Bool
 has_key key rule = is_key key rule.key

@@ -1,12 +1,13 @@
 //! The slots of keys, and which of them are on.
 
 ghost use Rattle.std.specs.Prelude.{◌≡◌};
+ghost use Rattle.std.specs.List.{list_any};
 ghost use Rattle.std.specs.Option.{option_copied, option_map};
 ghost use Rattle.pcef_usage.specs.Keys.{place_of};
-ghost use Rattle.pcef_session.specs.Kept.{is_on};
+ghost use Rattle.pcef_session.specs.Kept.{is_on, is_on_there};
 
 use pcef_rule::{KeyName, Slot};
-use pcef_usage::Usage;
+use pcef_usage::{KeyState, Usage};
 
 /// The slot of a key, or the one that it gets next.
 pub(crate) fn place_of(usage: &Usage, key: &KeyName) -> Slot
@@ -28,15 +29,26 @@ pub(crate) fn slot_of(usage: &Usage, key: Option<&KeyName>) -> Option<Slot>
     }
 }
 
+/// Whether a state is that of a key, and it is on.
+fn is_on_there(key: &KeyName, state: &KeyState) -> bool
+    ensures { result ≡ is_on_there key.now state.now }
+{
+    state.key == *key && state.on
+}
+
+/// Whether a key is on.
+fn is_on_in(states: &[KeyState], key: &KeyName) -> bool
+    ensures { result ≡ list_any (is_on_there key.now) states.now }
+{
+    states.iter().any(|state| is_on_there(key, state))
+}
+
 /// Whether a key is on, if there is one.
 pub(crate) fn is_on(usage: &Usage, key: Option<&KeyName>) -> bool
     ensures { result ≡ is_on (option_copied key.entry) usage.now }
 {
     match key {
-        Some(key) => usage
-            .states()
-            .iter()
-            .any(|state| state.key == *key && state.on),
+        Some(key) => is_on_in(usage.states(), key),
         None => false,
     }
 }
