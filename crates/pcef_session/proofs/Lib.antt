@@ -2,8 +2,10 @@ pub mod Acceptance
 pub mod BearerIds
 pub mod BoundBearers
 pub mod BoundRules
+pub mod Commanding
 pub mod CoreSound
 pub mod Exactness
+pub mod FirstSession
 pub mod Found
 pub mod KeptRules
 pub mod KeysGone
@@ -19,4 +21,6 @@ pub mod ShownSlots
 pub mod ShownVerdicts
 pub mod SlotPlaces
 pub mod SlotsLater
+pub mod SoundLater
+pub mod Taking
 pub mod WorkerTables

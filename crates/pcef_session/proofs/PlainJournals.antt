@@ -8,10 +8,11 @@ use Rattle.pcef_journal.specs.declared.command.Command.{Command}
 use Rattle.pcef_journal.specs.declared.command.Command.TheVariants.{Install, Activate, Remove, Monitor, Stop, ReportNow, Triggers, Notice, LoseBearer, Close, Terminate}
 use Rattle.pcef_journal.specs.declared.entry.Entry.TheVariants as entry
 use Rattle.pcef_journal.specs.declared.row.Row.{Row}
+use Rattle.pcef_journal.specs.declared.telling.Telling.{Telling}
 use Rattle.pcef_journal.specs.Setting.{Setting}
 use Rattle.pcef_journal.specs.Entries.{Journal, commands, rows}
 use Rattle.pcef_journal.specs.Journals.{attach_count, attached, report_count, subscribed}
-use Rattle.pcef_journal.specs.Reports.{after_flush, settled, tell, thresholds, with_rows}
+use Rattle.pcef_journal.specs.Reports.{after_command, after_flush, body_of, plan, settled, tell, thresholds, with_rows}
 use Rattle.pcef_session.specs.declared.answer.AttachFault.TheVariants.{NoPlace}
 use Rattle.pcef_session.specs.declared.answer.FlushRefusal.{FlushRefusal}
 use Rattle.pcef_session.specs.declared.answer.FlushRefusal.TheVariants.{NotAttached, RowsFull}
@@ -19,7 +20,7 @@ use Rattle.pcef_session.specs.Answers.{Attaches, Flushes, Told, attach_outcome, 
 use Rattle.pcef_session.specs.declared.batch.Item.{Item}
 use Rattle.pcef_session.specs.Core.{IsServed}
 use Rattle.pcef_session.specs.Following.{row_of}
-use Rattle.pcef_session.specs.Refusals.{first_of, flush_refusals}
+use Rattle.pcef_session.specs.Refusals.{attach_faults, first_of, flush_refusals}
 use Rattle.pcef_session.specs.Soundness.{IsPlain, below}
 use Rattle.pcef_session.proofs.BoundRules.{contrary}
 
@@ -78,6 +79,9 @@ pub attach_full : (j : Journal) (n : ℕ) → IsPlain j n → 16 ≤ n → Attac
 unfolding attach_outcome
 attach_full j n plain full = inl (rw (plain.counted, le-leb 16 n full) (refl, refl))
 
+pub attach_accepted : (j : Journal) (n : ℕ) → IsPlain j n → n < 16 → first_of (attach_faults j) ≡ None
+attach_accepted j n plain few = rw (plain.counted, lt-leb 16 n few, plain.not_closed, plain.not_terminated) refl
+
 pub attach_next : (j new : Journal) (n : ℕ) → IsPlain j n → n < 16 → new ≡ entry.Attach n ∷ j → Attaches j (Ok n) new
 unfolding attach_outcome
 attach_next j new n plain few is =
@@ -125,6 +129,20 @@ plain_command j n (Notice kind value) served plain = absurd served
 plain_command j n (LoseBearer id) served plain = absurd served
 plain_command j n Close served plain = absurd served
 plain_command j n Terminate served plain = absurd served
+
+-- reports, and so an accepted command with them
+pub plain_told : (p : Setting) (ts : List Telling) (j : Journal) (n : ℕ) → IsPlain j n → IsPlain (tell p ts j) n
+unfolding tell attach_count attached
+plain_told p [] j n plain = plain
+plain_told p (t ∷ ts) j n plain =
+    plain_told p ts (entry.Report (record { number = report_count j; body = body_of p j t }) ∷ j) n
+    (record { counted = plain.counted; attached_are = plain.attached_are; not_closed = plain.not_closed; not_terminated = plain.not_terminated })
+
+pub plain_after : (p : Setting) (j : Journal) (n : ℕ) (c : Command) → IsServed c → IsPlain j n → IsPlain (after_command p j c) n
+unfolding after_command
+plain_after p j n c served plain =
+    plain_told p (thresholds p (tell p (plan p j c) (entry.Command c ∷ j))) (tell p (plan p j c) (entry.Command c ∷ j)) n
+    (plain_told p (plan p j c) (entry.Command c ∷ j) n (plain_command j n c served plain))
 
 pub plain_first : IsPlain [] 0
 unfolding attach_count attached

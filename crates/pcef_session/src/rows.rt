@@ -3,7 +3,7 @@
 ghost use Rattle.std.specs.Prelude.{◌≡◌, ◌≤◌, ◌<◌, ◌+◌, ◌∷◌, length, map, IfOk};
 ghost use Rattle.pcef_journal.specs.Reports.{with_rows};
 ghost use Rattle.pcef_session.specs.Answers.{judged_of};
-ghost use Rattle.pcef_session.specs.Following.{CanCountAll, row_of, slot_of};
+ghost use Rattle.pcef_session.specs.Following.{CanCountAll, IsTaken, row_of, slot_of};
 ghost use Rattle.pcef_usage.specs.Flushes.{rows_counted};
 
 use crate::answer::Judged;
@@ -36,4 +36,19 @@ pub(crate) fn take_rows(counted: &mut CountedJournal, items: &[Item])
     for item in items {
         counted.take_row(item.row.copy(), item.slot);
     }
+}
+
+/// Adds rows to the journal, counts their octets and tells the thresholds. No rows change nothing. Takes
+/// no memory.
+pub(crate) fn take_all(counted: &mut CountedJournal, items: &[Item], subscribed: bool)
+    requires room { length items.now + 8 ≤ counted.old.room }
+    requires few { length counted.old.states ≤ 8 }
+    requires fits { CanCountAll items.now counted.old.states }
+    ensures { IsTaken subscribed items.now counted.old counted.new }
+{
+    if items.is_empty() {
+        return;
+    }
+    take_rows(counted, items);
+    counted.finish(subscribed);
 }

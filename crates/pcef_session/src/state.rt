@@ -3,8 +3,10 @@
 ghost use Rattle.std.specs.Prelude.{◌≡◌, [], IfOk};
 ghost use Rattle.std.specs.Arc.{arc_value};
 ghost use Rattle.std.specs.Result.{result_err};
+ghost use Rattle.pcef_journal.specs.Generations.{at_first};
 ghost use Rattle.pcef_session.specs.Agreement.{Agrees};
 ghost use Rattle.pcef_session.specs.Answers.{Attaches, Opens};
+ghost use Rattle.pcef_session.specs.Bound.{binding_of};
 ghost use Rattle.pcef_session.specs.Core.{setting_in};
 ghost use Rattle.pcef_session.specs.Terms.{setting_of};
 
@@ -58,7 +60,10 @@ impl Model for SessionState {
 }
 
 /// The bearers of a session that is opened.
-fn open_bearers(alloc: Global, profile: &Profile) -> Result<Bearers, OpenFault> {
+fn open_bearers(alloc: Global, profile: &Profile) -> Result<Bearers, OpenFault>
+    ensures answer { Opens (setting_of profile.now []) (result_err result) }
+    ensures made { IfOk result (λ b. b ≡ binding_of (setting_of profile.now []) at_first) }
+{
     match Bearers::new(
         alloc,
         profile.default_qos,
@@ -83,7 +88,10 @@ impl SessionState {
         ensures answer { Opens (setting_of profile listing) (result_err result) }
         ensures made { IfOk result (λ s. (s.terms ≡ profile) × (s.offers ≡ listing) × (s.journal ≡ [])) }
     {
-        let bearers = open_bearers(alloc, &profile)?;
+        let bearers = match open_bearers(alloc, &profile) {
+            Ok(bearers) => bearers,
+            Err(fault) => return Err(fault),
+        };
         let Ok(counted) = CountedJournal::new(alloc) else {
             return Err(OpenFault::NoMemory);
         };

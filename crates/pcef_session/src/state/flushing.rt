@@ -6,7 +6,7 @@ ghost use Rattle.pcef_journal.specs.Entries.{rows};
 ghost use Rattle.pcef_journal.specs.Reports.{after_flush};
 ghost use Rattle.pcef_session.specs.Answers.{Flushes, told, told_of};
 ghost use Rattle.pcef_session.specs.Core.{setting_in};
-ghost use Rattle.pcef_session.specs.Following.{HasItsSlots, row_of};
+ghost use Rattle.pcef_session.specs.Following.{HasItsSlots, HasSmallRows, row_of};
 ghost use Rattle.pcef_session.specs.Lawful.{BatchFollows};
 ghost use Rattle.pcef_session.specs.Refusals.{first_of, flush_refusals};
 
@@ -14,7 +14,7 @@ use super::SessionState;
 use crate::answer::{FlushRefusal, Verdicts};
 use crate::batch::{Batch, Item};
 use crate::profile::Profile;
-use crate::rows::{note_rows, take_rows};
+use crate::rows::{note_rows, take_all};
 use std::alloc::AllocError;
 
 /// How many rows a journal takes.
@@ -45,6 +45,7 @@ impl SessionState {
         requires accepted { first_of (flush_refusals (setting_in self.old) self.old.journal worker (length items.now)) ≡ None }
         requires follow { BatchFollows (setting_in self.old) self.old.journal worker (map row_of items.now) }
         requires slots { HasItsSlots (setting_in self.old) self.old.journal items.now }
+        requires octets { HasSmallRows items.now }
         ensures told { IfOk result (λ v. told_of v ≡ told (map row_of items.now) self.old.journal self.new.journal) }
         ensures taken { OnOk result (self.new.journal ≡ after_flush (setting_in self.old) self.old.journal (map row_of items.now)) }
         ensures kept { OnErr result (self.new.journal ≡ self.old.journal) }
@@ -54,10 +55,7 @@ impl SessionState {
         let judged = note_rows(self.alloc, items)?;
         self.counted.reserve(items.len() + 8)?;
         let first_report = self.counted.journal().reports_len();
-        take_rows(&mut self.counted, items);
-        if !items.is_empty() {
-            self.counted.finish(self.subscribed.usage_report);
-        }
+        take_all(&mut self.counted, items, self.subscribed.usage_report);
         Ok(Verdicts {
             rows: judged,
             first_report,
