@@ -7,8 +7,11 @@ pub mod Exactness
 pub mod Found
 pub mod KeptRules
 pub mod KeysGone
+pub mod Lanes
 pub mod Members
+pub mod NewLanes
 pub mod NextTables
+pub mod Onward
 pub mod PlainJournals
 pub mod Refused
 pub mod RowLoops
@@ -19,4 +22,4 @@ pub mod ShownSlots
 pub mod ShownVerdicts
 pub mod SlotPlaces
 pub mod SlotsLater
-pub mod WorkerTables
+pub mod WorkersWait
