@@ -23,3 +23,4 @@ pub mod ShownVerdicts
 pub mod SlotPlaces
 pub mod SlotsLater
 pub mod WorkersWait
+pub mod WorldSteps
