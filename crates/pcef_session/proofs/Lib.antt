@@ -23,4 +23,5 @@ pub mod ShownVerdicts
 pub mod SlotPlaces
 pub mod SlotsLater
 pub mod WorkersWait
+pub mod WorldAnswers
 pub mod WorldSteps

@@ -37,7 +37,7 @@ pub setting_same : (s t : Core) → t.terms ≡ s.terms → t.offers ≡ s.offer
 setting_same s t terms offers = ap (λ x. setting_of x t.offers) terms ∙ ap (setting_of s.terms) offers
 
 -- the worker at a place
-waits_at : (p : Setting) (j : Journal) (workers : List Worker) (i : ℕ) (w : Worker) → AllWait p j workers → i < length workers → w ≡ get_or workers i w → Waits p j i w
+pub waits_at : (p : Setting) (j : Journal) (workers : List Worker) (i : ℕ) (w : Worker) → AllWait p j workers → i < length workers → w ≡ get_or workers i w → Waits p j i w
 waits_at p j workers i w all within is = subst (Waits p j i) (sym is) (all i w within)
 
 -- a worker changes, and the others stay as they are
@@ -180,3 +180,12 @@ sound_flushed s t workers i w new (Ok v) sound within is flushes new_is terms of
       wait = subst (λ q. AllWait q t.journal (slice_set workers i new)) (sym (setting_same s t terms offers))
           (all_set p s.journal t.journal workers i new within sound.wait after others);
     }
+
+-- ---- a world that is opened
+pub sound_new : (s : Core) (workers : List Worker) → s.journal ≡ [] → workers ≡ [] → s.terms.rows ≤ 4294967295 → IsSoundWith s workers
+unfolding attach_count
+sound_new s workers journal_is none few = record {
+  counted = rw (journal_is, none) refl;
+  few_rows = few;
+  wait = rw none (λ i w inside. absurd (omega (arith, inside)));
+}

@@ -1,22 +1,19 @@
-use Rattle.std.proofs.Common.{rules, ◌≡◌, ◌≤◌, [], IfOk, length, ℕ, ◌+◌, ◌-◌, ◌*◌, ◌<◌, ◌/◌, ◌%◌, Bool, true, false, nat_eq, nat_lt, List, ◌∷◌, ◌++◌, slice_index_or, slice_set, bit_and, bit_or, Fits, w8, w32, w64, Bor, MutBor}
-use Rattle.std.specs.Arc.{arc_value}
-use Rattle.std.specs.Result.{result_err, result_map_both}
-use Rattle.pcef_journal.specs.Journals.{attach_count, gen}
-use Rattle.pcef_session.specs.Agreement.{Agrees}
-use Rattle.pcef_session.specs.Answers.{Attaches, Does, Opens, told_of}
-use Rattle.pcef_session.specs.Core.{IsServed, setting_in}
-use Rattle.pcef_session.specs.Terms.{setting_of}
-use Rattle.pcef_session.specs.Worlds.{AreReady, HandsOver, Refreshes, Takes, after_attaching}
+use Rattle.std.proofs.Common.{length, ap, refl, sym, ◌∙◌}
+use Rattle.pcef_session.proofs.WorldSteps.{attached_number, sound_attached, sound_attached_not}
 use Rattle.pcef_session.proofs.world.WorldState.attach.Goals as goal
 
--- src/world.rt:115:22
 pub invariant_of-self-in_err-number : goal.invariant_of-self-in_err-number
-invariant_of-self-in_err-number c = ?
+invariant_of-self-in_err-number c =
+    rw c.reserve.ensures.items
+    (sound_attached_not c.self.inside.session c.attach.new.self c.self.inside.workers.items c.in_err-number.field-0.0 c.self.invariant c.in_err-number.ensures.answer c.attach.ensures.terms
+    c.attach.ensures.offers)
 
--- src/world.rt:99:5
 pub invariant_of-self-2 : goal.invariant_of-self-2
-invariant_of-self-2 c = ?
+invariant_of-self-2 c =
+    rw (c.push_reserved.ensures.items, c.reserve.ensures.items)
+    (sound_attached c.self.inside.session c.attach.new.self c.self.inside.workers.items c.in_ok-number.number _ c.self.invariant c.newest.ensures.agrees c.in_ok-number.ensures.answer
+    c.attach.ensures.terms c.attach.ensures.offers c.in-Ok-newest.ensures.table refl ? refl)
 
--- src/world.rt:99:5
 pub returns-clause-number : goal.returns-clause-number
-returns-clause-number c = ?
+returns-clause-number c =
+    rw (← c.self.view_is) ?

@@ -1,22 +1,18 @@
-use Rattle.std.proofs.Common.{rules, ◌≡◌, ◌≤◌, [], IfOk, length, ℕ, ◌+◌, ◌-◌, ◌*◌, ◌<◌, ◌/◌, ◌%◌, Bool, true, false, nat_eq, nat_lt, List, ◌∷◌, ◌++◌, slice_index_or, slice_set, bit_and, bit_or, Fits, w8, w32, w64, Bor, MutBor}
-use Rattle.std.specs.Arc.{arc_value}
-use Rattle.std.specs.Result.{result_err, result_map_both}
-use Rattle.pcef_journal.specs.Journals.{attach_count, gen}
-use Rattle.pcef_session.specs.Agreement.{Agrees}
-use Rattle.pcef_session.specs.Answers.{Attaches, Does, Opens, told_of}
-use Rattle.pcef_session.specs.Core.{IsServed, setting_in}
-use Rattle.pcef_session.specs.Terms.{setting_of}
-use Rattle.pcef_session.specs.Worlds.{AreReady, HandsOver, Refreshes, Takes, after_attaching}
+use Rattle.pcef_session.proofs.WorldAnswers.{hands_over_answer, hands_over_nowhere}
+use Rattle.pcef_session.proofs.WorldSteps.{sound_flushed}
 use Rattle.pcef_session.proofs.world.WorldState.flush.Goals as goal
 
--- src/world.rt:169:13
 pub returns-in_default-clause-answer : goal.returns-in_default-clause-answer
-returns-in_default-clause-answer c = ?
+returns-in_default-clause-answer c =
+    rw (← c.self.view_is, ← c.from.ensures) (hands_over_nowhere _ _ c.self.inside.workers.items c.from.result ?)
 
--- src/world.rt:163:5
 pub invariant_of-self-2 : goal.invariant_of-self-2
-invariant_of-self-2 c = ?
+invariant_of-self-2 c =
+    sound_flushed c.self.inside.session c.flush.new.session c.self.inside.workers.items c.from.result c.in-Some.worker.now c.flush.new.self c.flush.result c.self.invariant
+    c.in-Some.ensures.item.3.0 c.in-Some.ensures.value c.flush.ensures.answer c.flush.ensures.worker c.flush.ensures.terms c.flush.ensures.offers
 
--- src/world.rt:163:5
 pub returns-clause-answer : goal.returns-clause-answer
-returns-clause-answer c = ?
+returns-clause-answer c =
+    rw (← c.self.view_is, ← c.from.ensures)
+    (hands_over_answer c.self.inside.session c.flush.new.session c.self.inside.workers.items c.from.result c.in-Some.worker.now c.flush.new.self c.flush.result c.map_err.result
+    c.self.invariant c.in-Some.ensures.item.3.0 c.in-Some.ensures.value c.flush.ensures.answer c.flush.ensures.worker ?)

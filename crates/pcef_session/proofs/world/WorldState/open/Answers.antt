@@ -1,14 +1,9 @@
-use Rattle.std.proofs.Common.{rules, ◌≡◌, ◌≤◌, [], IfOk, length, ℕ, ◌+◌, ◌-◌, ◌*◌, ◌<◌, ◌/◌, ◌%◌, Bool, true, false, nat_eq, nat_lt, List, ◌∷◌, ◌++◌, slice_index_or, slice_set, bit_and, bit_or, Fits, w8, w32, w64, Bor, MutBor}
-use Rattle.std.specs.Arc.{arc_value}
-use Rattle.std.specs.Result.{result_err, result_map_both}
-use Rattle.pcef_journal.specs.Journals.{attach_count, gen}
-use Rattle.pcef_session.specs.Agreement.{Agrees}
-use Rattle.pcef_session.specs.Answers.{Attaches, Does, Opens, told_of}
-use Rattle.pcef_session.specs.Core.{IsServed, setting_in}
-use Rattle.pcef_session.specs.Terms.{setting_of}
-use Rattle.pcef_session.specs.Worlds.{AreReady, HandsOver, Refreshes, Takes, after_attaching}
+use Rattle.std.proofs.Common.{ap, arith, length, ◌∙◌, absurd}
+use Rattle.pcef_journal.specs.Journals.{attach_count}
+use Rattle.pcef_session.proofs.WorldSteps.{sound_new}
 use Rattle.pcef_session.proofs.world.WorldState.open.Goals as goal
 
--- src/world.rt:71:9
 pub invariant_of-result : goal.invariant_of-result
-invariant_of-result c = ?
+invariant_of-result c =
+    sound_new c.in_ok-session.session c.new.result.items c.in_ok-session.ensures.made.2 c.new.ensures.items
+    (omega (arith, c.profile.invariant.few_rows, ap (λ t. t.rows) (c.in_ok-session.ensures.made.0 ∙ ?)))

@@ -1,26 +1,24 @@
-use Rattle.std.proofs.Common.{rules, ◌≡◌, ◌≤◌, [], IfOk, length, ℕ, ◌+◌, ◌-◌, ◌*◌, ◌<◌, ◌/◌, ◌%◌, Bool, true, false, nat_eq, nat_lt, List, ◌∷◌, ◌++◌, slice_index_or, slice_set, bit_and, bit_or, Fits, w8, w32, w64, Bor, MutBor}
-use Rattle.std.specs.Arc.{arc_value}
-use Rattle.std.specs.Result.{result_err, result_map_both}
-use Rattle.pcef_journal.specs.Journals.{attach_count, gen}
-use Rattle.pcef_session.specs.Agreement.{Agrees}
-use Rattle.pcef_session.specs.Answers.{Attaches, Does, Opens, told_of}
-use Rattle.pcef_session.specs.Core.{IsServed, setting_in}
-use Rattle.pcef_session.specs.Terms.{setting_of}
-use Rattle.pcef_session.specs.Worlds.{AreReady, HandsOver, Refreshes, Takes, after_attaching}
+use Rattle.std.proofs.Common.{refl}
+use Rattle.pcef_session.proofs.WorldAnswers.{refreshes_answer, refreshes_not, refreshes_nowhere}
+use Rattle.pcef_session.proofs.WorldSteps.{sound_refreshed}
 use Rattle.pcef_session.proofs.world.WorldState.refresh.Goals as goal
 
--- src/world.rt:153:13
 pub returns-in_default-clause-answer : goal.returns-in_default-clause-answer
-returns-in_default-clause-answer c = ?
+returns-in_default-clause-answer c =
+    rw (← c.self.view_is, ← c.from.ensures) (refreshes_nowhere _ c.self.inside.workers.items c.from.result ?)
 
--- src/world.rt:156:13
 pub returns-in_default-newest-clause-answer : goal.returns-in_default-newest-clause-answer
-returns-in_default-newest-clause-answer c = ?
+returns-in_default-newest-clause-answer c =
+    rw (← c.self.view_is, ← c.from.ensures)
+    (refreshes_not _ c.self.inside.workers.items c.from.result c.in-Some.worker.now c.in-Some.worker.now _ c.in-Some.ensures.item.3.0 c.in-Some.ensures.value refl)
 
--- src/world.rt:148:5
 pub invariant_of-self-2 : goal.invariant_of-self-2
-invariant_of-self-2 c = ?
+invariant_of-self-2 c =
+    sound_refreshed c.self.inside.session c.self.inside.workers.items c.from.result c.in-Some.worker.now _ c.self.invariant c.newest.ensures.agrees c.in-Some.ensures.item.3.0
+    c.in-Some.ensures.value c.in-Ok.ensures.table refl refl refl
 
--- src/world.rt:148:5
 pub returns-clause-answer : goal.returns-clause-answer
-returns-clause-answer c = ?
+returns-clause-answer c =
+    rw (← c.self.view_is, ← c.from.ensures)
+    (refreshes_answer c.self.inside.session c.self.inside.workers.items c.from.result c.in-Some.worker.now _ c.generation.result c.newest.ensures.agrees c.in-Some.ensures.item.3.0
+    c.in-Some.ensures.value c.in-Ok.ensures.table refl ?)

@@ -1,22 +1,16 @@
-use Rattle.std.proofs.Common.{rules, ◌≡◌, ◌≤◌, [], IfOk, length, ℕ, ◌+◌, ◌-◌, ◌*◌, ◌<◌, ◌/◌, ◌%◌, Bool, true, false, nat_eq, nat_lt, List, ◌∷◌, ◌++◌, slice_index_or, slice_set, bit_and, bit_or, Fits, w8, w32, w64, Bor, MutBor}
-use Rattle.std.specs.Arc.{arc_value}
-use Rattle.std.specs.Result.{result_err, result_map_both}
-use Rattle.pcef_journal.specs.Journals.{attach_count, gen}
-use Rattle.pcef_session.specs.Agreement.{Agrees}
-use Rattle.pcef_session.specs.Answers.{Attaches, Does, Opens, told_of}
-use Rattle.pcef_session.specs.Core.{IsServed, setting_in}
-use Rattle.pcef_session.specs.Terms.{setting_of}
-use Rattle.pcef_session.specs.Worlds.{AreReady, HandsOver, Refreshes, Takes, after_attaching}
+use Rattle.pcef_session.proofs.WorldAnswers.{takes_answer, takes_nowhere}
+use Rattle.pcef_session.proofs.WorldSteps.{sound_taken}
 use Rattle.pcef_session.proofs.world.WorldState.take.Goals as goal
 
--- src/world.rt:139:13
 pub returns-in_default-clause-answer : goal.returns-in_default-clause-answer
-returns-in_default-clause-answer g c = ?
+returns-in_default-clause-answer g c =
+    rw (← c.self.view_is, ← c.from.ensures) (takes_nowhere _ _ c.self.inside.workers.items c.from.result c.args.header.now ?)
 
--- src/world.rt:127:5
 pub invariant_of-self-2 : goal.invariant_of-self-2
-invariant_of-self-2 g c = ?
+invariant_of-self-2 g c =
+    sound_taken c.self.inside.session c.self.inside.workers.items c.from.result c.in-Some.worker.now c.take.new.self (g.C.Offers.offers c.args.catalog.now) c.behind-self.inside.ue
+    c.args.header.now c.take.result c.self.invariant c.in-Some.ensures.item.3.0 c.in-Some.ensures.value ? ? c.take.ensures
 
--- src/world.rt:127:5
 pub returns-clause-answer : goal.returns-clause-answer
-returns-clause-answer g c = ?
+returns-clause-answer g c =
+    let h = c.map_err.ensures.cases in ?
