@@ -1,10 +1,10 @@
 -- What the steps of a world's workers answer, as its callers see them.
-use Rattle.std.proofs.Common.{◌≡◌, ◌∙◌, ◌≤◌, ◌<◌, ◌+◌, ℕ, Bool, true, false, List, [], ◌∷◌, ◌++◌, length, map, refl, sym, ap, subst, arith, Some, None, Ok, Err, get_or}
-use Rattle.std.specs.Prelude.{Option, Result, nat_le, slice_get, slice_set}
+use Rattle.std.proofs.Common.{◌≡◌, ◌∙◌, ◌≤◌, ◌<◌, ◌+◌, ℕ, Bool, true, false, List, [], ◌∷◌, ◌++◌, length, map, refl, sym, ap, subst, arith, inl, inr, Some, None, Ok, Err, get_or}
+use Rattle.std.specs.Prelude.{MatchResult, Option, Result, nat_le, slice_get, slice_set}
 use Rattle.std.specs.Option.{option_map}
-use Rattle.std.specs.Result.{result_map_both}
+use Rattle.std.specs.Result.{IsErrAnd, result_map_both}
 use Rattle.std.specs.declared.alloc.AllocError.{AllocError}
-use Rattle.std.proofs.lemmas.Bool.{le-leb, lt-leb}
+use Rattle.std.proofs.lemmas.Bool.{cases_lt, false≢true, le-leb, lt-leb}
 use Rattle.std.proofs.lemmas.List.{length-map, map-append, map-set}
 use Rattle.std.proofs.lemmas.Option.{slice_get-map, slice_get_past, slice_get_read}
 use Rattle.std.proofs.Math.Seq.{map-set_same}
@@ -36,6 +36,15 @@ use Rattle.pcef_session.proofs.WorldSteps.{waits_at}
 abbrev pub wrapped : {A E : Type 0} → Result A E → Result A (StepRefusal E)
 wrapped (Ok a) = Ok a
 wrapped (Err e) = Err (Refused e)
+
+pub wrapped_is : {A E : Type 0} (r : Result A E) (out : Result A (StepRefusal E)) → MatchResult r (λ x. out ≡ Ok x) (λ e. IsErrAnd out (λ y. y ≡ Refused e)) → out ≡ wrapped r
+wrapped_is (Ok x) out is = is
+wrapped_is (Err e) (Ok x) is = absurd is
+wrapped_is (Err e) (Err y) is = ap (λ z. Err z) is
+
+-- where no worker is found there is none
+pub past_from : (i n : ℕ) → (i < n → false ≡ true) → n ≤ i
+past_from i n none = elim (cases_lt i n) [ inl less ↦ absurd (false≢true (none less)) | inr past ↦ past ]
 
 -- ---- the worker of a step, as callers see it
 seen_at : (workers : List Worker) (i : ℕ) (w : Worker) → i < length workers → w ≡ get_or workers i w → slice_get (map seen workers) i ≡ Some (seen w)

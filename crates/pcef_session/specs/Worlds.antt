@@ -62,7 +62,7 @@ with_row r w = record w { rows = w.rows ++ r ∷ [] }
 abbrev pub take_outcome_by : Setting → Journal → List Waiting → ℕ → Header → Option Waiting → Result ℕ (StepRefusal BatchFull) × List Waiting
 take_outcome_by p j workers worker header None = (Err NoWorker, workers)
 take_outcome_by p j workers worker header (Some w) =
-    if nat_le most_waiting (length w.rows) then (Err (Refused (record { })), workers)
+    if nat_le most_waiting (length w.rows) then (Err (Refused (record {})), workers)
     else (Ok (length w.rows + 1), slice_set workers worker (with_row (row_taken p j worker w header) w))
 
 unfoldable pub take_outcome : Setting → Journal → List Waiting → ℕ → Header → Result ℕ (StepRefusal BatchFull) × List Waiting

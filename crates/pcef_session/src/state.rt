@@ -59,12 +59,7 @@ impl Model for SessionState {
 
 /// The bearers of a session that is opened.
 fn open_bearers(alloc: Global, profile: &Profile) -> Result<Bearers, OpenFault> {
-    match Bearers::new(
-        alloc,
-        profile.default_qos,
-        profile.capacity,
-        profile.qcis,
-    ) {
+    match Bearers::new(alloc, profile.default_qos, profile.capacity, profile.qcis) {
         Ok(bearers) => Ok(bearers),
         Err(BearersFault::UnknownQci) => Err(OpenFault::UnknownQci),
         Err(BearersFault::DefaultIsGbr) => Err(OpenFault::DefaultIsGbr),

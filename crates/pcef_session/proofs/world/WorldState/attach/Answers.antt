@@ -1,4 +1,6 @@
-use Rattle.std.proofs.Common.{length, ap, refl, sym, ◌∙◌}
+use Rattle.std.proofs.Common.{refl, sym, ◌∙◌}
+use Rattle.std.proofs.lemmas.List.{length-map}
+use Rattle.pcef_session.specs.WorldSoundness.{seen}
 use Rattle.pcef_session.proofs.WorldSteps.{attached_number, sound_attached, sound_attached_not}
 use Rattle.pcef_session.proofs.world.WorldState.attach.Goals as goal
 
@@ -12,8 +14,10 @@ pub invariant_of-self-2 : goal.invariant_of-self-2
 invariant_of-self-2 c =
     rw (c.push_reserved.ensures.items, c.reserve.ensures.items)
     (sound_attached c.self.inside.session c.attach.new.self c.self.inside.workers.items c.in_ok-number.number _ c.self.invariant c.newest.ensures.agrees c.in_ok-number.ensures.answer
-    c.attach.ensures.terms c.attach.ensures.offers c.in-Ok-newest.ensures.table refl ? refl)
+    c.attach.ensures.terms c.attach.ensures.offers c.in-Ok-newest.ensures.table refl c.in-Ok.ensures refl)
 
 pub returns-clause-number : goal.returns-clause-number
 returns-clause-number c =
-    rw (← c.self.view_is) ?
+    rw (← c.self.view_is)
+    (attached_number c.self.inside.session c.attach.new.self c.self.inside.workers.items c.in_ok-number.number c.self.invariant c.in_ok-number.ensures.answer
+    ∙ sym (length-map c.self.inside.workers.items seen))
