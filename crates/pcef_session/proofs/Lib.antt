@@ -9,8 +9,11 @@ pub mod FirstSession
 pub mod Found
 pub mod KeptRules
 pub mod KeysGone
+pub mod Lanes
 pub mod Members
+pub mod NewLanes
 pub mod NextTables
+pub mod Onward
 pub mod PlainJournals
 pub mod Refused
 pub mod RowLoops
@@ -24,3 +27,6 @@ pub mod SlotsLater
 pub mod SoundLater
 pub mod Taking
 pub mod WorkerTables
+pub mod WorkersWait
+pub mod WorldAnswers
+pub mod WorldSteps

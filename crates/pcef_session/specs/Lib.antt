@@ -12,4 +12,6 @@ pub mod Sessions
 pub mod Shown
 pub mod Soundness
 pub mod Terms
+pub mod Workers
+pub mod WorldSoundness
 pub mod Worlds

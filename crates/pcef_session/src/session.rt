@@ -4,15 +4,15 @@ ghost use Rattle.std.specs.Prelude.{◌≡◌, [], IfOk};
 
 use crate::answer::{Accepted, AttachFault, FlushRefusal, OpenFault, Refusal, Verdicts};
 use crate::batch::Batch;
-use pcef_bearer::Bearers;
-use crate::profile::Profile;
 use crate::prepared::Prepared;
+use crate::profile::Profile;
 use crate::state::SessionState;
-use pcef_usage::Usage;
 use indexmap::IndexMap;
+use pcef_bearer::Bearers;
 use pcef_journal::{Command, Journal};
 use pcef_rule::RuleName;
 use pcef_table::{Catalog, Offers, Source, Table};
+use pcef_usage::Usage;
 use std::alloc::Global;
 use std::sync::Arc;
 

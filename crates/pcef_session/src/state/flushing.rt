@@ -33,7 +33,13 @@ impl SessionState {
         if worker >= self.attached {
             return Some(FlushRefusal::NotAttached);
         }
-        if self.counted.journal().rows_len().saturating_add(count as u64) > rows_of(&self.profile) {
+        if self
+            .counted
+            .journal()
+            .rows_len()
+            .saturating_add(count as u64)
+            > rows_of(&self.profile)
+        {
             return Some(FlushRefusal::RowsFull);
         }
         None

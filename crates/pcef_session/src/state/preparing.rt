@@ -87,11 +87,7 @@ impl SessionState {
     }
 
     /// The reports of the keys that lose their last rule where a rule goes and one with this key comes.
-    fn keys_gone(
-        &self,
-        name: &RuleName,
-        new: Option<&KeyName>,
-    ) -> Result<Vec<Telling>, AllocError>
+    fn keys_gone(&self, name: &RuleName, new: Option<&KeyName>) -> Result<Vec<Telling>, AllocError>
         ensures { IfOk result (λ v. v.items ≡ usage_of cause.RulesGone (is_gone self.now.offers self.now.parts.table.entries name.now (option_copied new.entry)) self.now.parts.keys) }
     {
         keys_gone(
