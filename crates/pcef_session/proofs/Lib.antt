@@ -26,7 +26,6 @@ pub mod SlotPlaces
 pub mod SlotsLater
 pub mod SoundLater
 pub mod Taking
-pub mod WorkerTables
 pub mod WorkersWait
 pub mod WorldAnswers
 pub mod WorldSteps

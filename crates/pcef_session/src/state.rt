@@ -60,7 +60,6 @@ impl Model for SessionState {
 }
 
 /// The bearers of a session that is opened.
-<<<<<<< HEAD
 fn open_bearers(alloc: Global, profile: &Profile) -> Result<Bearers, OpenFault>
     ensures answer { Opens (setting_of profile.now []) (result_err result) }
     ensures made { IfOk result (λ b. b ≡ binding_of (setting_of profile.now []) at_first) }
@@ -71,10 +70,6 @@ fn open_bearers(alloc: Global, profile: &Profile) -> Result<Bearers, OpenFault>
         profile.capacity,
         profile.qcis,
     ) {
-=======
-fn open_bearers(alloc: Global, profile: &Profile) -> Result<Bearers, OpenFault> {
-    match Bearers::new(alloc, profile.default_qos, profile.capacity, profile.qcis) {
->>>>>>> 8eda4fb8e69a23fdd60e0de54f72c7937cd35b95
         Ok(bearers) => Ok(bearers),
         Err(BearersFault::UnknownQci) => Err(OpenFault::UnknownQci),
         Err(BearersFault::DefaultIsGbr) => Err(OpenFault::DefaultIsGbr),
