@@ -66,7 +66,7 @@ impl WorldState {
         ensures answer { Opens (setting_of profile listing) (result_err result) }
         ensures made { IfOk result (λ w. (w.core.terms ≡ profile) × (w.core.offers ≡ listing) × (w.core.journal ≡ []) × (w.workers ≡ [])) }
     {
-        let _most = profile.rows;
+        let _rows = profile.rows;
         let session = SessionState::open(alloc, profile, listing)?;
         Ok(WorldState {
             alloc,
