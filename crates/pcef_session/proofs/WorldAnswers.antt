@@ -99,23 +99,24 @@ takes_answer s workers i w new offers ue header result out sound within is offer
     (taken_as s workers i w new header result out sound within is own out_is)
 
 -- ---- the newest generation is taken
-pub refreshes_nowhere : (j : Journal) (workers : List Worker) (i : ℕ) → length workers ≤ i → Refreshes j i (map seen workers) (Err NoWorker) (map seen workers)
+pub refreshes_nowhere : (j : Journal) (workers : List Worker) (i : ℕ) → length workers ≤ i → Refreshes j i (map seen workers) None (map seen workers)
 unfolding Refreshes
 refreshes_nowhere j workers i past = rw (seen_past workers i past) (refl, refl)
 
-pub refreshes_not : (j : Journal) (workers : List Worker) (i : ℕ) (w new : Worker) (e : AllocError) → i < length workers → w ≡ get_or workers i w → new ≡ w →
-    Refreshes j i (map seen workers) (Err (Refused e)) (map seen (slice_set workers i new))
+pub refreshes_not : (j : Journal) (workers : List Worker) (i : ℕ) (w new : Worker) (generation : ℕ) → i < length workers → w ≡ get_or workers i w → new ≡ w → generation ≡ (held_by new).number →
+    Refreshes j i (map seen workers) (Some generation) (map seen (slice_set workers i new))
 unfolding Refreshes
-refreshes_not j workers i w new e within is same = rw (seen_at workers i w within is) (seen_same workers i w new is same)
+refreshes_not j workers i w new generation within is same held =
+    rw (seen_at workers i w within is) (inr (held ∙ ap (λ (v : Worker). (held_by v).number) same, seen_same workers i w new is same))
 
 pub refreshes_answer : (s : Core) (workers : List Worker) (i : ℕ) (w new : Worker) (generation : ℕ) → Agrees (setting_in s) s.journal s.parts → i < length workers → w ≡ get_or workers i w →
-    held_by new ≡ s.parts.table → new.waiting ≡ w.waiting → generation ≡ (held_by new).number → Refreshes s.journal i (map seen workers) (Ok generation) (map seen (slice_set workers i new))
+    held_by new ≡ s.parts.table → new.waiting ≡ w.waiting → generation ≡ (held_by new).number → Refreshes s.journal i (map seen workers) (Some generation) (map seen (slice_set workers i new))
 unfolding Refreshes
 refreshes_answer s workers i w new generation agrees within is table waiting_is generation_is =
     let newest : (held_by new).number ≡ gen s.journal = ap (λ t. t.number) table ∙ agrees.table_shows.number_is in
     let looks : seen new ≡ with_generation (gen s.journal) (seen w) = ap (λ g. record { generation = g; rows = map row_of new.waiting }) newest
     ∙ ap (λ items. record { generation = gen s.journal; rows = map row_of items }) waiting_is in
-    rw (seen_at workers i w within is) (generation_is ∙ newest, map-set seen workers i new ∙ ap (slice_set (map seen workers) i) looks)
+    rw (seen_at workers i w within is) (inl (generation_is ∙ newest, map-set seen workers i new ∙ ap (slice_set (map seen workers) i) looks))
 
 -- ---- rows are handed over
 pub hands_over_nowhere : (p : Setting) (j : Journal) (workers : List Worker) (i : ℕ) → length workers ≤ i → HandsOver p i j (map seen workers) (Err NoWorker) j (map seen workers)

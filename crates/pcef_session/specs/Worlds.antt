@@ -1,7 +1,6 @@
 -- What callers see of a world, a session and its workers, and what the steps of workers answer (own
 -- choice).
 use Rattle.std.specs.Prelude.{ℕ, ◌≡◌, ◌≤◌, ◌<◌, ◌+◌, ◌⊎◌, List, [], ◌∷◌, ◌++◌, Option, Some, None, Result, Ok, Err, length, nat_le, slice_get, slice_set, slice_index_or, if◌then◌else◌}
-use Rattle.std.specs.declared.alloc.AllocError.{AllocError}
 use Rattle.pcef_packet.specs.declared.header.Header.{Header}
 use Rattle.pcef_journal.specs.declared.row.Row.{Row}
 use Rattle.pcef_journal.specs.Setting.{Setting}
@@ -76,14 +75,15 @@ Takes p j worker header before result after =
 abbrev pub with_generation : ℕ → Waiting → Waiting
 with_generation g w = record w { generation = g }
 
--- its rows go on waiting; or the table finds no place to be counted in, and nothing changes
-abbrev pub RefreshesBy : Journal → ℕ → List Waiting → Option Waiting → Result ℕ (StepRefusal AllocError) → List Waiting → Type 0
-RefreshesBy j worker before None result after = (result ≡ Err NoWorker) × (after ≡ before)
-RefreshesBy j worker before (Some w) (Ok generation) after = (generation ≡ gen j) × (after ≡ slice_set before worker (with_generation (gen j) w))
-RefreshesBy j worker before (Some w) (Err (Refused e)) after = after ≡ before
-RefreshesBy j worker before (Some w) (Err NoWorker) after = ⊥
+-- its rows go on waiting; where the table finds no place to be counted in, the worker keeps the one that
+-- it holds
+abbrev pub RefreshesBy : Journal → ℕ → List Waiting → Option Waiting → Option ℕ → List Waiting → Type 0
+RefreshesBy j worker before None result after = (result ≡ None) × (after ≡ before)
+RefreshesBy j worker before (Some w) None after = ⊥
+RefreshesBy j worker before (Some w) (Some generation) after =
+    ((generation ≡ gen j) × (after ≡ slice_set before worker (with_generation (gen j) w))) ⊎ ((generation ≡ w.generation) × (after ≡ before))
 
-unfoldable pub Refreshes : Journal → ℕ → List Waiting → Result ℕ (StepRefusal AllocError) → List Waiting → Type 0
+unfoldable pub Refreshes : Journal → ℕ → List Waiting → Option ℕ → List Waiting → Type 0
 Refreshes j worker before result after = RefreshesBy j worker before (slice_get before worker) result after
 
 -- ---- a worker hands its rows over

@@ -143,20 +143,21 @@ impl WorldState {
             .map_err(StepRefusal::Refused)
     }
 
-    /// A worker takes the newest generation, by which it judges from then on, and gives its number.
-    /// Its rows go on waiting. Takes no memory.
-    pub fn refresh(&mut self, worker: u8) -> Result<u32, StepRefusal<AllocError>>
+    /// A worker takes the newest generation, by which it judges from then on, and the number of the one
+    /// that it holds then is given. Its rows go on waiting. Where the table finds no place to be counted
+    /// in, it keeps the one that it holds. `None` where the worker isn't attached. Takes no memory.
+    pub fn refresh(&mut self, worker: u8) -> Option<u32>
         ensures answer { Refreshes self.old.core.journal worker self.old.workers result self.new.workers }
         ensures core { self.new.core ≡ self.old.core }
     {
         let Some(worker) = self.workers.get_mut(usize::from(worker)) else {
-            return Err(StepRefusal::NoWorker);
+            return None;
         };
         let Ok(table) = newest(&self.session) else {
-            return Err(StepRefusal::Refused(AllocError));
+            return Some(worker.table.generation());
         };
         worker.table = table;
-        Ok(worker.table.generation())
+        Some(worker.table.generation())
     }
 
     /// Hands the waiting rows of a worker over. A refusal keeps them.
