@@ -240,11 +240,12 @@ pub outcome_commanded : (p : Setting) (j : Journal) (c : Command) (a : Accepted)
     Gives (command_outcome p j c) (Ok a) after
 unfolding command_outcome
 outcome_commanded p j c a after accepted changing is generation bearer first past unchanged =
-    rw (accepted, changing)
-    (ap (λ (b : Accepted). Ok b)
-    (accepted_is a.generation (gen (after_command p j c)) a.bearer (bearer_named (now p (after_command p j c)) c) a.first_report (report_count j)
-    a.past_last_report (report_count (after_command p j c)) a.unchanged false (generation ∙ ap gen is) (bearer ∙ ap (λ (k : Journal). bearer_named (now p k) c) is) first (past ∙ ap report_count is) unchanged),
-    is)
+    rw (accepted, changing) (
+      ap (λ (b : Accepted). Ok b)
+          (accepted_is a.generation (gen (after_command p j c)) a.bearer (bearer_named (now p (after_command p j c)) c) a.first_report (report_count j)
+          a.past_last_report (report_count (after_command p j c)) a.unchanged false (generation ∙ ap gen is) (bearer ∙ ap (λ (k : Journal). bearer_named (now p k) c) is) first (past ∙ ap report_count is) unchanged),
+      is,
+    )
 
 -- a command that is refused
 pub does_refused : (p : Setting) (j : Journal) (c : Command) (r : Refusal) → IsRefused p j c r → Does p c j (Err r) j

@@ -64,12 +64,7 @@ fn open_bearers(alloc: Global, profile: &Profile) -> Result<Bearers, OpenFault>
     ensures answer { Opens (setting_of profile.now []) (result_err result) }
     ensures made { IfOk result (λ b. b ≡ binding_of (setting_of profile.now []) at_first) }
 {
-    match Bearers::new(
-        alloc,
-        profile.default_qos,
-        profile.capacity,
-        profile.qcis,
-    ) {
+    match Bearers::new(alloc, profile.default_qos, profile.capacity, profile.qcis) {
         Ok(bearers) => Ok(bearers),
         Err(BearersFault::UnknownQci) => Err(OpenFault::UnknownQci),
         Err(BearersFault::DefaultIsGbr) => Err(OpenFault::DefaultIsGbr),
