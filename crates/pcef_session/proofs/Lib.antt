@@ -1,7 +1,9 @@
 pub mod Acceptance
 pub mod BearerIds
+pub mod BearerLaws
 pub mod BoundBearers
 pub mod BoundRules
+pub mod Capacity
 pub mod Commanding
 pub mod CoreSound
 pub mod Exactness

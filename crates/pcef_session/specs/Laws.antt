@@ -1,8 +1,10 @@
 -- Laws of lawful journals, for whoever reads the definitions.
-use Rattle.std.specs.Prelude.{ℕ, ◌≡◌, ◌≤◌, ◌+◌, ◌==◌, true, false, List, ◌∷◌, Option, Some, All, map}
+use Rattle.std.specs.Prelude.{ℕ, ◌≡◌, ◌≤◌, ◌+◌, ◌==◌, true, false, List, ◌∷◌, Option, Some, All, map, filter, Contains}
 use Rattle.pcef_packet.specs.declared.header.Header.{Header}
 use Rattle.pcef_rule.specs.declared.quantity.Qos.{Qos}
 use Rattle.pcef_rule.specs.declared.quantity.Slot.{Slot}
+use Rattle.pcef_rule.specs.declared.quantity.Sums.{Sums}
+use Rattle.pcef_bearer.specs.Bindings.{bearer_of, guaranteed}
 use Rattle.pcef_rule.specs.Definition.{Definition}
 use Rattle.pcef_table.specs.declared.verdict.Verdict.{Verdict}
 use Rattle.pcef_table.specs.declared.entry.Entry.{Entry}
@@ -12,11 +14,13 @@ use Rattle.pcef_journal.specs.declared.command.Command.{Command}
 use Rattle.pcef_journal.specs.declared.command.Command.TheVariants.{Install, Monitor, Remove}
 use Rattle.pcef_journal.specs.declared.entry.Entry.TheVariants as entry
 use Rattle.pcef_journal.specs.declared.row.Row.{Row}
-use Rattle.pcef_journal.specs.ActiveRules.{dynamic}
+use Rattle.pcef_journal.specs.ActiveRules.{Active, dynamic}
 use Rattle.pcef_journal.specs.Setting.{Setting, same_qos}
 use Rattle.pcef_journal.specs.Generations.{has_bearer}
 use Rattle.pcef_journal.specs.Entries.{Journal}
 use Rattle.pcef_journal.specs.Journals.{at, counted, counts_in, gen, judged, now, reported, slots, unreported}
+use Rattle.pcef_session.specs.Agreement.{Agrees, Parts}
+use Rattle.pcef_session.specs.Refusals.{total_down, total_up}
 use Rattle.pcef_session.specs.Following.{CountsFor, IsWithin, has_this_slot}
 use Rattle.pcef_session.specs.Lawful.{BatchFollows, Lawful}
 use Rattle.pcef_session.specs.Shown.{Shows, StandsFor, place_of}
@@ -91,3 +95,20 @@ WaitingRowsStayBesideOthers = (p : Setting) (j : Journal) (other : Row) (worker 
 abbrev pub SlotsStay : Type 0
 SlotsStay = (p : Setting) (j : Journal) (c : Command) (row : Row) (slot : Option Slot) → row.generation ≤ gen j → IsWithin (slots p j) slot →
     CountsFor p j row slot → CountsFor p (entry.Command c ∷ j) row slot
+
+-- ---- bearers (TS 23.203, clause 6.1.1.4)
+-- each active rule stands on one bearer, that of its pair of QCI and ARP
+abbrev pub RulesStandOnTheirBearers : Type 0
+RulesStandOnTheirBearers = (p : Setting) (j : Journal) (parts : Parts) → Agrees p j parts → (r : Active) → Contains (now p j).rules r →
+    bearer_of r.properties.name parts.binding.bound ≡ Some (record { 0 = (now p j).id_of r.properties.qos })
+
+-- a bearer's guaranteed rates are the sums over the rules that stand on it
+abbrev pub RatesAreSums : Type 0
+RatesAreSums = (p : Setting) (j : Journal) (parts : Parts) → Agrees p j parts → (id : ℕ) (sums : Sums) → guaranteed id parts.binding.bound ≡ Some sums →
+    (sums.up ≡ total_up (filter (λ r. (now p j).id_of r.properties.qos == id) (now p j).rules))
+    × (sums.down ≡ total_down (filter (λ r. (now p j).id_of r.properties.qos == id) (now p j).rules))
+
+-- all guaranteed rates together are within the capacity (own choice)
+abbrev pub RatesAreWithinCapacity : Type 0
+RatesAreWithinCapacity = (p : Setting) (j : Journal) → Lawful p j →
+    (total_up (now p j).rules ≤ p.capacity.up) × (total_down (now p j).rules ≤ p.capacity.down)

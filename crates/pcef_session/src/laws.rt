@@ -1,6 +1,6 @@
 //! Laws of lawful journals, proved for whoever reads the definitions.
 
-ghost use Rattle.pcef_session.specs.Laws.{InstalledTablesShow, MonitoredTablesShow, RemovedTablesShow, SlotsStay, WaitingRowsStay, WaitingRowsStayBesideOthers, IdsAreDistinct, IdsAreInRange, NothingIsLost, NothingIsReportedTwice, ShownTablesCount, ShownTablesJudge, ShownTablesStay};
+ghost use Rattle.pcef_session.specs.Laws.{InstalledTablesShow, MonitoredTablesShow, RemovedTablesShow, SlotsStay, RatesAreSums, RatesAreWithinCapacity, RulesStandOnTheirBearers, WaitingRowsStay, WaitingRowsStayBesideOthers, IdsAreDistinct, IdsAreInRange, NothingIsLost, NothingIsReportedTwice, ShownTablesCount, ShownTablesJudge, ShownTablesStay};
 
 /// What usage reports tell: each counted octet once at most, and none is lost.
 pub fn usage_is_exact()
@@ -34,4 +34,12 @@ pub fn waiting_rows_stay()
     ensures commands { WaitingRowsStay }
     ensures others { WaitingRowsStayBesideOthers }
     ensures slots { SlotsStay }
+{}
+
+/// The bearers of a session that agrees with its journal: each active rule stands on the one of its QCI and
+/// ARP, each bearer's guaranteed rates are the sums of its rules', and all of them are within the capacity.
+pub fn rules_have_their_bearers()
+    ensures bearers { RulesStandOnTheirBearers }
+    ensures sums { RatesAreSums }
+    ensures capacity { RatesAreWithinCapacity }
 {}
