@@ -1,5 +1,5 @@
 -- In every lawful journal each row is of a worker that was attached before it.
-use Rattle.std.proofs.Common.{◌≡◌, ◌∙◌, ◌≤◌, ◌<◌, ◌+◌, ℕ, Bool, true, false, not, ◌==◌, List, [], ◌∷◌, All, length, filter, refl, sym, ap, subst, arith, inl, inr}
+use Rattle.std.proofs.Common.{◌≡◌, ◌<◌, ◌+◌, ℕ, true, false, not, ◌==◌, List, [], ◌∷◌, All, length, filter, refl, arith, inl, inr}
 use Rattle.std.specs.List.{list_any}
 use Rattle.std.proofs.lemmas.Bool.{cases_Bool, eqb-true, ne_eqb}
 use Rattle.std.proofs.lemmas.List.Elements.{All-cons, All-filter, All-head, All-nil, All-tail, All-weaker}
@@ -8,7 +8,7 @@ use Rattle.pcef_journal.specs.declared.row.Row.{Row}
 use Rattle.pcef_journal.specs.Setting.{Setting}
 use Rattle.pcef_journal.specs.Entries.{Journal, lane, rows}
 use Rattle.pcef_journal.specs.Journals.{attach_count, attached}
-use Rattle.pcef_journal.specs.Reports.{after_flush, with_rows}
+use Rattle.pcef_journal.specs.Reports.{with_rows}
 use Rattle.pcef_session.specs.Lawful.{Lawful, at_first, by_attach, by_command, by_flush, by_leave}
 use Rattle.pcef_session.proofs.Onward.{attach_count_after_command, attach_count_after_flush, attached_after_command, attached_after_flush, flushed_fits, rows_after_command, rows_after_flush}
 
@@ -17,6 +17,7 @@ pub record IsNumbered (j : Journal) : Type 0 where
   pub attached_below : All (λ w. w < attach_count j) (attached j)
   pub rows_below : All (λ r. r.worker < attach_count j) (rows j)
 
+-- where neither workers nor rows came
 numbered_same : (j k : Journal) → attach_count k ≡ attach_count j → attached k ≡ attached j → rows k ≡ rows j → IsNumbered j → IsNumbered k
 numbered_same j k count attached_are rows_are is = record {
   attached_below = rw (count, attached_are) is.attached_below;
@@ -32,6 +33,7 @@ below_any n worker (w ∷ ws) all any =
       | inr differs ↦ below_any n worker ws (All-tail (λ x. x < n) w ws all) (rw differs at any)
     ]
 
+-- rows of a worker with such a number come
 rows_with_below : (n worker : ℕ) (rs : List Row) (j : Journal) → worker < n → All (λ r. r.worker ≡ worker) rs → All (λ r. r.worker < n) (rows j) →
     All (λ r. r.worker < n) (rows (with_rows rs j))
 unfolding with_rows
@@ -41,6 +43,7 @@ rows_with_below n worker (r ∷ rs) j within own all =
     let here : r.worker < n = omega (arith, within, All-head P r rs own) in
     rows_with_below n worker rs (entry.Row r ∷ j) within (All-tail P r rs own) (All-cons (λ (x : Row). x.worker < n) r (rows j) here all)
 
+-- in every lawful journal all numbers were given
 pub lawful_numbered : (p : Setting) (j : Journal) → Lawful p j → IsNumbered j
 unfolding attached attach_count
 lawful_numbered p _ at_first = record { attached_below = All-nil (λ w. w < 0); rows_below = All-nil (λ (r : Row). r.worker < 0) }
@@ -68,6 +71,7 @@ lawful_numbered p _ (by_flush j worker rs l accepted follows) =
       rows_below = rw (attach_count_after_flush p j rs, rows_after_flush p j rs) (rows_with_below (attach_count j) worker rs j within follows.own is.rows_below);
     }
 
+-- rows of lower numbers are no rows of this one
 none_of : (n : ℕ) (rs : List Row) → All (λ r. r.worker < n) rs → filter (λ (r : Row). r.worker == n) rs ≡ []
 none_of n [] below = refl
 none_of n (r ∷ rs) below =

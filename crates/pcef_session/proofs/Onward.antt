@@ -1,6 +1,6 @@
 -- What events leave of the generations, slots, lanes and workers of a journal.
-use Rattle.std.proofs.Common.{◌≡◌, ◌∙◌, ◌≤◌, ◌+◌, ℕ, Bool, true, false, List, [], ◌∷◌, length, refl, sym, ap, arith, inl, inr, Some, None, Ok, Err, append-nil}
-use Rattle.std.specs.Prelude.{◌⊎◌, Option, Result, nat_lt}
+use Rattle.std.proofs.Common.{◌≡◌, ◌∙◌, ◌≤◌, ◌+◌, ℕ, true, List, [], ◌∷◌, length, refl, sym, ap, arith, inl, inr, Some, None, Ok, Err, append-nil}
+use Rattle.std.specs.Prelude.{Option, Result, nat_lt}
 use Rattle.std.proofs.lemmas.Bool.{cases_Bool, ltb-false}
 use Rattle.pcef_journal.specs.declared.command.Command.{Command}
 use Rattle.pcef_journal.specs.declared.entry.Entry.TheVariants as entry
@@ -8,9 +8,9 @@ use Rattle.pcef_journal.specs.declared.row.Row.{Row}
 use Rattle.pcef_journal.specs.declared.telling.Telling.{Telling}
 use Rattle.pcef_journal.specs.Setting.{Setting}
 use Rattle.pcef_journal.specs.Generations.{made_by, oldest, slots_of}
-use Rattle.pcef_journal.specs.Entries.{Journal, lane, rows}
+use Rattle.pcef_journal.specs.Entries.{Journal, rows}
 use Rattle.pcef_journal.specs.Journals.{at, attach_count, attached, gen, report_count, slots, tables}
-use Rattle.pcef_journal.specs.Reports.{after_attach, after_command, after_flush, body_of, plan, settled, tell, thresholds, with_rows}
+use Rattle.pcef_journal.specs.Reports.{after_attach, after_command, after_flush, body_of, plan, tell, thresholds, with_rows}
 use Rattle.pcef_journal.proofs.Growth.{at_after_command, gen_grows}
 use Rattle.pcef_usage.proofs.Afterwards.{tables_after, tables_after_rows}
 use Rattle.pcef_session.specs.declared.answer.Accepted.{Accepted}
@@ -30,6 +30,7 @@ pub record Onward (p : Setting) (j k : Journal) : Type 0 where
   pub at_is : (g : ℕ) → g ≤ gen j → at p k g ≡ at p j g
   pub grows : Grows (slots p j) (slots p k)
 
+-- where no table command came
 pub onward_same : (p : Setting) (j k : Journal) → tables k ≡ tables j → Onward p j k
 onward_same p j k same = record {
   gen_more = omega (arith, ap length same);
@@ -37,6 +38,7 @@ onward_same p j k same = record {
   grows = ([], ap (slots_of p) same ∙ sym (append-nil (slots p j)));
 }
 
+-- in two steps
 onward_twice : (p : Setting) (i j k : Journal) → Onward p i j → Onward p j k → Onward p i k
 onward_twice p i j k first second = record {
   gen_more = omega (arith, first.gen_more, second.gen_more);
@@ -45,17 +47,20 @@ onward_twice p i j k first second = record {
 }
 
 -- ---- commands
+-- a command and its reports
 pub onward_command : (p : Setting) (j : Journal) (c : Command) → Onward p j (after_command p j c)
 onward_command p j c =
     onward_twice p j (entry.Command c ∷ j) (after_command p j c)
     (record { gen_more = gen_grows j c; at_is = λ g within. at_after_command p j c g within; grows = slots_grow_by p j c })
     (onward_same p (entry.Command c ∷ j) (after_command p j c) (tables_after p j c))
 
+-- neither a command nor a report is a row
 pub rows_after_command : (p : Setting) (j : Journal) (c : Command) → rows (after_command p j c) ≡ rows j
 unfolding after_command
 rows_after_command p j c =
     tell_rows p (thresholds p (tell p (plan p j c) (entry.Command c ∷ j))) (tell p (plan p j c) (entry.Command c ∷ j)) ∙ tell_rows p (plan p j c) (entry.Command c ∷ j)
 
+-- no worker comes or leaves by a report
 tell_attach_count : (p : Setting) (ts : List Telling) (j : Journal) → attach_count (tell p ts j) ≡ attach_count j
 unfolding tell attach_count
 tell_attach_count p [] j = refl
@@ -66,6 +71,7 @@ unfolding tell attached
 tell_attached p [] j = refl
 tell_attached p (t ∷ ts) j = tell_attached p ts (entry.Report (record { number = report_count j; body = body_of p j t }) ∷ j)
 
+-- nor by a command
 pub attach_count_after_command : (p : Setting) (j : Journal) (c : Command) → attach_count (after_command p j c) ≡ attach_count j
 unfolding after_command attach_count
 attach_count_after_command p j c =
@@ -77,15 +83,18 @@ attached_after_command p j c =
     tell_attached p (thresholds p (tell p (plan p j c) (entry.Command c ∷ j))) (tell p (plan p j c) (entry.Command c ∷ j)) ∙ tell_attached p (plan p j c) (entry.Command c ∷ j)
 
 -- ---- rows that are taken over
+-- they are no commands
 pub tables_after_flush : (p : Setting) (j : Journal) (rs : List Row) → tables (after_flush p j rs) ≡ tables j
 tables_after_flush p j [] = refl
 tables_after_flush p j (r ∷ rs) = tell_tables p (thresholds p (with_rows (r ∷ rs) j)) (with_rows (r ∷ rs) j) ∙ tables_after_rows (r ∷ rs) j
 
+-- the reports after them are no rows
 pub rows_after_flush : (p : Setting) (j : Journal) (rs : List Row) → rows (after_flush p j rs) ≡ rows (with_rows rs j)
 unfolding with_rows
 rows_after_flush p j [] = refl
 rows_after_flush p j (r ∷ rs) = tell_rows p (thresholds p (with_rows (r ∷ rs) j)) (with_rows (r ∷ rs) j)
 
+-- no worker comes or leaves by a row
 attach_count_with : (rs : List Row) (j : Journal) → attach_count (with_rows rs j) ≡ attach_count j
 unfolding with_rows attach_count
 attach_count_with [] j = refl
@@ -96,6 +105,7 @@ unfolding with_rows attached
 attached_with [] j = refl
 attached_with (r ∷ rs) j = attached_with rs (entry.Row r ∷ j)
 
+-- nor with the reports after it
 pub attach_count_after_flush : (p : Setting) (j : Journal) (rs : List Row) → attach_count (after_flush p j rs) ≡ attach_count j
 attach_count_after_flush p j [] = refl
 attach_count_after_flush p j (r ∷ rs) = tell_attach_count p (thresholds p (with_rows (r ∷ rs) j)) (with_rows (r ∷ rs) j) ∙ attach_count_with (r ∷ rs) j
@@ -111,13 +121,16 @@ pub record Commanded (p : Setting) (j k : Journal) : Type 0 where
   pub rows_are : rows k ≡ rows j
   pub count_is : attach_count k ≡ attach_count j
 
+-- where nothing changed
 commanded_not : (p : Setting) (j k : Journal) → k ≡ j → Commanded p j k
 commanded_not p j k same = record { onward = onward_same p j k (ap tables same); rows_are = ap rows same; count_is = ap attach_count same }
 
+-- where the command was done
 commanded_once : (p : Setting) (j k : Journal) (c : Command) → k ≡ after_command p j c → Commanded p j k
 commanded_once p j k c is =
     rw is (record { onward = onward_command p j c; rows_are = rows_after_command p j c; count_is = attach_count_after_command p j c })
 
+-- a command that was answered
 pub commanded : (p : Setting) (c : Command) (j k : Journal) (result : Result Accepted Refusal) → Does p c j result k → Commanded p j k
 unfolding command_outcome
 commanded p c j k result (inr none) = commanded_not p j k none.1
@@ -141,6 +154,7 @@ attached_once j k number (inl done) = from (first_of (attach_faults j)) done
     from (Some f) is = absurd (let e = is.0 in cc)
     from None is = (let e = is.0 in cc, is.1)
 
+-- or none comes
 pub attached_not : (j k : Journal) (fault : AttachFault) → Attaches j (Err fault) k → k ≡ j
 unfolding attach_outcome
 attached_not j k fault (inr none) = none.1
@@ -161,6 +175,7 @@ flushed_once p worker rs j k v (inl done) = from (first_of (flush_refusals p j w
     from (Some f) is = absurd (let e = is.0 in cc)
     from None is = (refl, is.1)
 
+-- or none is taken over
 pub flushed_not : (p : Setting) (worker : ℕ) (rs : List Row) (j k : Journal) (r : FlushRefusal) → Flushes p worker rs j (Err r) k → k ≡ j
 unfolding flush_outcome
 flushed_not p worker rs j k r (inr none) = none.1
@@ -170,7 +185,7 @@ flushed_not p worker rs j k r (inl done) = from (first_of (flush_refusals p j wo
     from (Some f) is = is.1
     from None is = absurd (let e = is.0 in cc)
 
--- and fit into the journal
+-- those that nothing refuses are of an attached worker, and fit into the journal
 pub flushed_fits : (p : Setting) (worker count : ℕ) (j : Journal) → first_of (flush_refusals p j worker count) ≡ None →
     (is_attached j worker ≡ true) × (length (rows j) + count ≤ p.rows)
 flushed_fits p worker count j none =

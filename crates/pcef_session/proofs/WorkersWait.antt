@@ -1,6 +1,6 @@
 -- What always holds of a worker stays as the journal grows, and as the worker works.
-use Rattle.std.proofs.Common.{◌≡◌, ◌∙◌, ◌≤◌, ◌<◌, ◌+◌, ℕ, Bool, true, false, ◌==◌, List, [], ◌∷◌, ◌++◌, All, length, filter, map, refl, sym, ap, subst, arith, Some, None, Ok, Err, find, Contains, length-append}
-use Rattle.std.specs.Prelude.{Option, Result, if◌then◌else◌, slice_index_or}
+use Rattle.std.proofs.Common.{◌≡◌, ◌∙◌, ◌≤◌, ◌<◌, ◌+◌, ℕ, Bool, true, false, ◌==◌, List, [], ◌∷◌, ◌++◌, All, length, filter, map, refl, sym, ap, subst, arith, Some, None, find, length-append}
+use Rattle.std.specs.Prelude.{Option, if◌then◌else◌, slice_index_or}
 use Rattle.std.specs.Option.{option_map, option_map_or}
 use Rattle.std.proofs.lemmas.Bool.{eq-eqb}
 use Rattle.std.proofs.lemmas.List.{length-map, map-append}
@@ -12,14 +12,14 @@ use Rattle.pcef_table.specs.declared.verdict.Verdict.{Verdict}
 use Rattle.pcef_table.specs.declared.verdict.Verdict.TheVariants.{Stray, Unmatched, Gated, Passed}
 use Rattle.pcef_table.specs.Sources.{is_named}
 use Rattle.pcef_table.specs.Tables.{TableValue}
-use Rattle.pcef_table.specs.Verdicts.{IsVerdict, counted_slot, slot_for}
+use Rattle.pcef_table.specs.Verdicts.{counted_slot, slot_for}
 use Rattle.pcef_table.proofs.Foremost.{found_is_foremost}
 use Rattle.pcef_journal.specs.declared.entry.Entry.TheVariants as entry
 use Rattle.pcef_journal.specs.declared.row.Row.{Row}
 use Rattle.pcef_journal.specs.Setting.{Setting}
 use Rattle.pcef_journal.specs.Generations.{made_by, oldest}
 use Rattle.pcef_journal.specs.Entries.{Journal, lane, rows}
-use Rattle.pcef_journal.specs.Journals.{at, attach_count, counts, gen, judged, lane_len, slots, tables}
+use Rattle.pcef_journal.specs.Journals.{at, attach_count, gen, judged, lane_len, slots, tables}
 use Rattle.pcef_journal.specs.Reports.{after_attach, after_flush, with_rows}
 use Rattle.pcef_usage.proofs.Afterwards.{tables_after_rows}
 use Rattle.pcef_session.specs.declared.batch.Item.{Item}
@@ -28,11 +28,11 @@ use Rattle.pcef_session.specs.Following.{CountsFor, HasItsSlots, IsWithin, row_o
 use Rattle.pcef_session.specs.Lawful.{BatchFollows, Lawful, RowFollows, RowsFollow, newest_generation}
 use Rattle.pcef_session.specs.Refusals.{first_of, flush_refusals}
 use Rattle.pcef_session.specs.Shown.{Shows, slot_of}
-use Rattle.pcef_session.specs.Workers.{IsJudged, Waits, after_flushing, held_by, with_item}
+use Rattle.pcef_session.specs.Workers.{IsJudged, Waits, held_by, with_item}
 use Rattle.pcef_session.proofs.Lanes.{lane_few, lane_len_with, lane_other, lane_with, with_rows_push}
 use Rattle.pcef_session.proofs.NewLanes.{new_lane}
 use Rattle.pcef_session.proofs.Onward.{Onward, flushed_fits, onward_same, rows_after_flush, tables_after_flush}
-use Rattle.pcef_session.proofs.RowsLater.{Later, batch_empty, batch_later, batch_push}
+use Rattle.pcef_session.proofs.RowsLater.{batch_empty, batch_later, batch_push}
 use Rattle.pcef_session.proofs.ShownLater.{shows_later, shows_same}
 use Rattle.pcef_session.proofs.ShownSlots.{shown_counts}
 use Rattle.pcef_session.proofs.ShownVerdicts.{made_once, shown_judges}
@@ -47,17 +47,20 @@ rows_known p j [] follow = All-nil (λ (i : Item). i.row.generation ≤ gen j)
 rows_known p j (i ∷ items) follow =
     All-cons (λ (i : Item). i.row.generation ≤ gen j) i items follow.0.known (rows_known p _ items follow.1)
 
+-- a slot of a key stays one as keys come
 within_later : (keys all : List (List ℕ)) (slot : Option Slot) → Grows keys all → IsWithin keys slot → IsWithin all slot
 within_later keys all None grows within = tt
 within_later keys all (Some slot) grows within = omega (arith, within, ap length grows.1, length-append keys grows.0)
 
+-- items keep their slots
 slots_later : (p : Setting) (j k : Journal) (items : List Item) → Onward p j k → All (λ i. i.row.generation ≤ gen j) items → HasItsSlots p j items → HasItsSlots p k items
 slots_later p j k items onward known has = λ m d inside.
     let i : Item = slice_index_or items m d in
-    let h : IsWithin (slots p j) i.slot × CountsFor p j i.row i.slot = has m d inside in
-    (within_later (slots p j) (slots p k) i.slot onward.grows h.0, counts_later p j k i.row i.slot (onward.at_is i.row.generation (known m d inside)) onward.grows h.0 h.1)
+    let own : IsWithin (slots p j) i.slot × CountsFor p j i.row i.slot = has m d inside in
+    (within_later (slots p j) (slots p k) i.slot onward.grows own.0, counts_later p j k i.row i.slot (onward.at_is i.row.generation (known m d inside)) onward.grows own.0 own.1)
 
 -- ---- as the journal grows
+-- a worker whose lane is as it was
 pub waits_later : (p : Setting) (j k : Journal) (n : ℕ) (w : Worker) → Onward p j k → lane k n ≡ lane j n → Waits p j n w → Waits p k n w
 waits_later p j k n w onward lane_is waits = record {
   number_is = waits.number_is;
@@ -71,6 +74,7 @@ waits_later p j k n w onward lane_is waits = record {
 }
 
 -- ---- a worker that comes
+-- its lane is empty, and nothing waits
 pub waits_new : (p : Setting) (j k : Journal) (w : Worker) → Lawful p j → k ≡ after_attach j → Shows p j (gen j) (held_by w) → w.number ≡ attach_count j →
     w.waiting ≡ [] → w.handed_over ≡ 0 → Waits p k (attach_count j) w
 unfolding with_rows
@@ -114,6 +118,7 @@ slot_within p j g t (Passed rule bearer) shows = from (find (λ e. is_named p.ca
         let r = shows.only e f.there in
         counted e.counted e.slot (slotted e.slot r.0.properties.key r.2.slot_is)
 
+-- a row is made of its fields
 row_of_fields : (r : Row) (worker seq generation : ℕ) (header : Header) (verdict : Verdict) → r.worker ≡ worker → r.seq ≡ seq → r.generation ≡ generation → r.header ≡ header → r.verdict ≡ verdict →
     r ≡ record { worker = worker; seq = seq; generation = generation; header = header; verdict = verdict }
 row_of_fields r worker seq generation header verdict a b c d e = rw (← a, ← b, ← c, ← d, ← e) refl
@@ -145,6 +150,7 @@ taken_follows p j n w header r waits is =
       verdict = ap (λ cs. judged p (made_by p (oldest (held_by w).number cs)) header) (sym same);
     })
 
+-- one more item waits
 pub waits_take : (p : Setting) (j : Journal) (n : ℕ) (w : Worker) (header : Header) (i : Item) → Waits p j n w → IsJudged p.catalog p.ue header w i → Waits p j n (with_item i w)
 waits_take p j n w header i waits made =
     let rs : List Row = map row_of w.waiting in
@@ -169,6 +175,7 @@ waits_take p j n w header i waits made =
     }
 
 -- ---- the newest generation is taken
+-- its rows go on waiting
 pub waits_refresh : (p : Setting) (j : Journal) (n : ℕ) (w new : Worker) → Waits p j n w → Shows p j (gen j) (held_by new) → new.number ≡ w.number → new.waiting ≡ w.waiting →
     new.handed_over ≡ w.handed_over → Waits p j n new
 waits_refresh p j n w new waits shows number_is waiting_is handed_is = record {

@@ -1,5 +1,5 @@
 -- What the steps of a world's workers answer, as its callers see them.
-use Rattle.std.proofs.Common.{◌≡◌, ◌∙◌, ◌≤◌, ◌<◌, ◌+◌, ℕ, Bool, true, false, List, [], ◌∷◌, ◌++◌, length, map, refl, sym, ap, subst, arith, inl, inr, Some, None, Ok, Err, get_or}
+use Rattle.std.proofs.Common.{◌≡◌, ◌∙◌, ◌≤◌, ◌<◌, ◌+◌, ℕ, true, false, List, [], ◌∷◌, ◌++◌, length, map, refl, sym, ap, subst, arith, inl, inr, Some, None, Ok, Err, get_or}
 use Rattle.std.specs.Prelude.{MatchResult, Option, Result, nat_le, slice_get, slice_set}
 use Rattle.std.specs.Option.{option_map}
 use Rattle.std.specs.Result.{IsErrAnd, result_map_both}
@@ -11,7 +11,6 @@ use Rattle.std.proofs.Math.Seq.{map-set_same}
 use Rattle.pcef_packet.specs.declared.header.Addr.{Addr}
 use Rattle.pcef_packet.specs.declared.header.Header.{Header}
 use Rattle.pcef_table.specs.declared.listing.Offer.{Offer}
-use Rattle.pcef_journal.specs.declared.row.Row.{Row}
 use Rattle.pcef_journal.specs.Setting.{Setting}
 use Rattle.pcef_journal.specs.Entries.{Journal}
 use Rattle.pcef_journal.specs.Journals.{gen}
@@ -23,12 +22,12 @@ use Rattle.pcef_session.specs.declared.worker.Worker.{Worker}
 use Rattle.pcef_session.specs.declared.world.StepRefusal.{StepRefusal}
 use Rattle.pcef_session.specs.declared.world.StepRefusal.TheVariants.{NoWorker, Refused}
 use Rattle.pcef_session.specs.Agreement.{Agrees}
-use Rattle.pcef_session.specs.Answers.{Flushes, Told, told_of}
+use Rattle.pcef_session.specs.Answers.{Flushes, told_of}
 use Rattle.pcef_session.specs.Core.{Core, setting_in}
 use Rattle.pcef_session.specs.Following.{row_of}
 use Rattle.pcef_session.specs.Workers.{IsJudged, TakesItem, Waits, after_flushing, held_by, with_item}
 use Rattle.pcef_session.specs.WorldSoundness.{IsSoundWith, seen}
-use Rattle.pcef_session.specs.Worlds.{HandsOver, HandsOverBy, Refreshes, Takes, Waiting, row_taken, take_outcome, take_outcome_by, with_generation, with_none, with_row}
+use Rattle.pcef_session.specs.Worlds.{HandsOver, HandsOverBy, Refreshes, Takes, Waiting, row_taken, take_outcome, take_outcome_by, with_generation, with_row}
 use Rattle.pcef_session.proofs.WorkersWait.{row_made}
 use Rattle.pcef_session.proofs.WorldSteps.{waits_at}
 
@@ -37,6 +36,7 @@ abbrev pub wrapped : {A E : Type 0} → Result A E → Result A (StepRefusal E)
 wrapped (Ok a) = Ok a
 wrapped (Err e) = Err (Refused e)
 
+-- which is what it says of each case
 pub wrapped_is : {A E : Type 0} (r : Result A E) (out : Result A (StepRefusal E)) → MatchResult r (λ x. out ≡ Ok x) (λ e. IsErrAnd out (λ y. y ≡ Refused e)) → out ≡ wrapped r
 wrapped_is (Ok x) out is = is
 wrapped_is (Err e) (Ok x) is = absurd is
@@ -47,9 +47,11 @@ pub past_from : (i n : ℕ) → (i < n → false ≡ true) → n ≤ i
 past_from i n none = elim (cases_lt i n) [ inl less ↦ absurd (false≢true (none less)) | inr past ↦ past ]
 
 -- ---- the worker of a step, as callers see it
+-- it is the one at its place
 seen_at : (workers : List Worker) (i : ℕ) (w : Worker) → i < length workers → w ≡ get_or workers i w → slice_get (map seen workers) i ≡ Some (seen w)
 seen_at workers i w within is = slice_get-map seen workers i ∙ ap (option_map seen) (slice_get_read workers (length workers) i w refl within is)
 
+-- past the last there is none
 seen_past : (workers : List Worker) (i : ℕ) → length workers ≤ i → slice_get (map seen workers) i ≡ None
 seen_past workers i past = slice_get_past (map seen workers) i (omega (arith, past, length-map workers seen))
 
@@ -58,6 +60,7 @@ seen_same : (workers : List Worker) (i : ℕ) (w new : Worker) → w ≡ get_or 
 seen_same workers i w new is same = map-set_same seen workers i new w (ap seen (same ∙ is))
 
 -- ---- a packet is taken
+-- by no worker
 pub takes_nowhere : (p : Setting) (j : Journal) (workers : List Worker) (i : ℕ) (header : Header) → length workers ≤ i → Takes p j i header (map seen workers) (Err NoWorker) (map seen workers)
 unfolding take_outcome
 takes_nowhere p j workers i header past = rw (seen_past workers i past) (refl, refl)
@@ -70,10 +73,12 @@ seen_taken s i w new header item waits made new_is =
     ap seen new_is ∙ ap (λ rs. record { generation = (held_by w).number; rows = rs })
     (all ∙ ap (λ r. map row_of w.waiting ++ r ∷ []) (row_made (setting_in s) s.journal i w header item waits made))
 
+-- what a worker answers, where it is there
 abbrev TakesAs : Core → List Waiting → ℕ → Header → Option Waiting → Result ℕ (StepRefusal BatchFull) → List Waiting → Type 0
 TakesAs s before i header o out after =
     (out ≡ (take_outcome_by (setting_in s) s.journal before i header o).0) × (after ≡ (take_outcome_by (setting_in s) s.journal before i header o).1)
 
+-- by a worker that is there
 taken_as : (s : Core) (workers : List Worker) (i : ℕ) (w new : Worker) (header : Header) (result : Result ℕ BatchFull) (out : Result ℕ (StepRefusal BatchFull)) → IsSoundWith s workers →
     i < length workers → w ≡ get_or workers i w → TakesItem s.offers s.terms.ue header w result new → out ≡ wrapped result →
     TakesAs s (map seen workers) i header (Some (seen w)) out (map seen (slice_set workers i new))
@@ -89,6 +94,7 @@ taken_as s workers i w new header (Err full) out sound within is (many, same) ou
     let full_is : nat_le 32 (length (map row_of w.waiting)) ≡ true = le-leb 32 (length (map row_of w.waiting)) (omega (arith, many, length-map w.waiting row_of)) in
     rw full_is (out_is, seen_same workers i w new is same)
 
+-- by a worker of the list
 pub takes_answer : (s : Core) (workers : List Worker) (i : ℕ) (w new : Worker) (offers : List Offer) (ue : Addr) (header : Header) (result : Result ℕ BatchFull) (out : Result ℕ (StepRefusal BatchFull)) →
     IsSoundWith s workers → i < length workers → w ≡ get_or workers i w → offers ≡ s.offers → ue ≡ s.terms.ue → TakesItem offers ue header w result new → out ≡ wrapped result →
     Takes (setting_in s) s.journal i header (map seen workers) out (map seen (slice_set workers i new))
@@ -109,6 +115,7 @@ unfolding Refreshes
 refreshes_not j workers i w new generation within is same held =
     rw (seen_at workers i w within is) (inr (held ∙ ap (λ (v : Worker). (held_by v).number) same, seen_same workers i w new is same))
 
+-- by a worker of the list
 pub refreshes_answer : (s : Core) (workers : List Worker) (i : ℕ) (w new : Worker) (generation : ℕ) → Agrees (setting_in s) s.journal s.parts → i < length workers → w ≡ get_or workers i w →
     held_by new ≡ s.parts.table → new.waiting ≡ w.waiting → generation ≡ (held_by new).number → Refreshes s.journal i (map seen workers) (Some generation) (map seen (slice_set workers i new))
 unfolding Refreshes
@@ -119,10 +126,12 @@ refreshes_answer s workers i w new generation agrees within is table waiting_is 
     rw (seen_at workers i w within is) (inl (generation_is ∙ newest, map-set seen workers i new ∙ ap (slice_set (map seen workers) i) looks))
 
 -- ---- rows are handed over
+-- by no worker
 pub hands_over_nowhere : (p : Setting) (j : Journal) (workers : List Worker) (i : ℕ) → length workers ≤ i → HandsOver p i j (map seen workers) (Err NoWorker) j (map seen workers)
 unfolding HandsOver
 hands_over_nowhere p j workers i past = rw (seen_past workers i past) (refl, refl, refl)
 
+-- by a worker of the list
 pub hands_over_answer : (s t : Core) (workers : List Worker) (i : ℕ) (w new : Worker) (result : Result Verdicts FlushRefusal) (out : Result Verdicts (StepRefusal FlushRefusal)) →
     IsSoundWith s workers → i < length workers → w ≡ get_or workers i w → Flushes (setting_in s) w.number (map row_of w.waiting) s.journal (result_map_both told_of (λ e. e) result) t.journal →
     new ≡ after_flushing result w → out ≡ wrapped result → HandsOver (setting_in s) i s.journal (map seen workers) (result_map_both told_of (λ e. e) out) t.journal (map seen (slice_set workers i new))

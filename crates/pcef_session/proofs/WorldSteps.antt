@@ -1,6 +1,6 @@
 -- What always holds of a world stays as its session and its workers step.
-use Rattle.std.proofs.Common.{◌≡◌, ◌∙◌, ◌≤◌, ◌<◌, ◌+◌, ℕ, suc, Bool, true, false, ◌==◌, List, [], ◌∷◌, ◌++◌, All, filter, length, map, refl, sym, ap, subst, arith, inl, inr, Some, None, Ok, Err, get_or}
-use Rattle.std.specs.Prelude.{Option, Result, slice_set}
+use Rattle.std.proofs.Common.{◌≡◌, ◌∙◌, ◌≤◌, ◌<◌, ◌+◌, ℕ, suc, ◌==◌, List, [], ◌∷◌, ◌++◌, filter, length, map, refl, sym, ap, subst, arith, inl, inr, None, Ok, Err, get_or}
+use Rattle.std.specs.Prelude.{Result, slice_set}
 use Rattle.std.specs.Result.{result_map_both}
 use Rattle.std.proofs.lemmas.Bool.{cases_eq, cases_lt, ne_eqb}
 use Rattle.std.proofs.lemmas.List.{get_or-map, get_or-set_other, get_or-set_same, get_or_append_left, get_or_push, length-map, length-set, length_push}
@@ -26,13 +26,14 @@ use Rattle.pcef_session.specs.Core.{Core, setting_in}
 use Rattle.pcef_session.specs.Following.{row_of}
 use Rattle.pcef_session.specs.Refusals.{first_of, flush_refusals}
 use Rattle.pcef_session.specs.Terms.{setting_of}
-use Rattle.pcef_session.specs.Workers.{AllWait, IsJudged, TakesItem, Waits, after_flushing, held_by}
+use Rattle.pcef_session.specs.Workers.{AllWait, TakesItem, Waits, after_flushing, held_by}
 use Rattle.pcef_session.specs.WorldSoundness.{IsSoundWith, seen}
 use Rattle.pcef_session.specs.Worlds.{AreReady, IsReady}
 use Rattle.pcef_session.proofs.Onward.{Commanded, attach_count_after_flush, attached_not, attached_once, commanded, flushed_not, flushed_once, onward_same}
 use Rattle.pcef_session.proofs.WorkersWait.{waits_beside, waits_flushed, waits_later, waits_new, waits_refresh, waits_take}
 
 -- ---- workers in their list
+-- what is fixed and what is offered stay
 pub setting_same : (s t : Core) → t.terms ≡ s.terms → t.offers ≡ s.offers → setting_in t ≡ setting_in s
 setting_same s t terms offers = ap (λ x. setting_of x t.offers) terms ∙ ap (setting_of s.terms) offers
 
@@ -74,6 +75,7 @@ all_ready p j workers all = λ i x inside.
     some_worker (w ∷ ws) i within = w
 
 -- ---- commands
+-- the lanes and the workers stay
 pub sound_command : (s t : Core) (workers : List Worker) (c : Command) (result : Result Accepted Refusal) → IsSoundWith s workers → Does (setting_in s) c s.journal result t.journal →
     t.terms ≡ s.terms → t.offers ≡ s.offers → IsSoundWith t workers
 sound_command s t workers c result sound does terms offers =
@@ -102,6 +104,7 @@ sound_attached_not s t workers fault sound attaches terms offers =
 pub attached_number : (s t : Core) (workers : List Worker) (number : ℕ) → IsSoundWith s workers → Attaches s.journal (Ok number) t.journal → number ≡ length workers
 attached_number s t workers number sound attaches = (attached_once s.journal t.journal number attaches).0 ∙ sound.counted
 
+-- it waits with no rows
 pub sound_attached : (s t : Core) (workers : List Worker) (number : ℕ) (w : Worker) → IsSoundWith s workers → Agrees (setting_in s) s.journal s.parts →
     Attaches s.journal (Ok number) t.journal → t.terms ≡ s.terms → t.offers ≡ s.offers → held_by w ≡ s.parts.table → w.number ≡ number → w.waiting ≡ [] → w.handed_over ≡ 0 →
     IsSoundWith t (workers ++ w ∷ [])
@@ -122,6 +125,7 @@ sound_attached s t workers number w sound agrees attaches terms offers table num
     }
 
 -- ---- a packet is taken
+-- one item more waits, or none
 pub sound_taken : (s : Core) (workers : List Worker) (i : ℕ) (w new : Worker) (offers : List Offer) (ue : Addr) (header : Header) (result : Result ℕ BatchFull) →
     IsSoundWith s workers → i < length workers → w ≡ get_or workers i w → offers ≡ s.offers → ue ≡ s.terms.ue → TakesItem offers ue header w result new →
     IsSoundWith s (slice_set workers i new)
@@ -140,6 +144,7 @@ sound_taken s workers i w new offers ue header result sound within is offers_are
     from (Err full) (many, same) waits = rw same waits
 
 -- ---- the newest generation is taken
+-- the worker holds it then
 pub sound_refreshed : (s : Core) (workers : List Worker) (i : ℕ) (w new : Worker) → IsSoundWith s workers → Agrees (setting_in s) s.journal s.parts → i < length workers →
     w ≡ get_or workers i w → held_by new ≡ s.parts.table → new.number ≡ w.number → new.waiting ≡ w.waiting → new.handed_over ≡ w.handed_over → IsSoundWith s (slice_set workers i new)
 sound_refreshed s workers i w new sound agrees within is table number_is waiting_is handed_is =
@@ -153,6 +158,7 @@ sound_refreshed s workers i w new sound agrees within is table number_is waiting
     }
 
 -- ---- rows are handed over
+-- the journal takes them, or refuses them
 pub sound_flushed : (s t : Core) (workers : List Worker) (i : ℕ) (w new : Worker) (result : Result Verdicts FlushRefusal) → IsSoundWith s workers → i < length workers → w ≡ get_or workers i w →
     Flushes (setting_in s) w.number (map row_of w.waiting) s.journal (result_map_both told_of (λ e. e) result) t.journal → new ≡ after_flushing result w →
     t.terms ≡ s.terms → t.offers ≡ s.offers → IsSoundWith t (slice_set workers i new)
@@ -182,6 +188,7 @@ sound_flushed s t workers i w new (Ok v) sound within is flushes new_is terms of
     }
 
 -- ---- a world that is opened
+-- it has no workers
 pub sound_new : (s : Core) (workers : List Worker) → s.journal ≡ [] → workers ≡ [] → s.terms.rows ≤ 4294967295 → IsSoundWith s workers
 unfolding attach_count
 sound_new s workers journal_is none few = record {

@@ -1,5 +1,5 @@
 -- What always holds of a world's parts.
-use Rattle.std.specs.Prelude.{ℕ, ◌≡◌, ◌≤◌, List, length, map}
+use Rattle.std.specs.Prelude.{◌≡◌, ◌≤◌, List, length, map}
 use Rattle.pcef_journal.specs.Journals.{attach_count}
 use Rattle.pcef_session.specs.declared.world.WorldState.TheInside.{Inside}
 use Rattle.pcef_session.specs.declared.worker.Worker.{Worker}
