@@ -3,11 +3,11 @@ use Rattle.std.proofs.Common.{◌≡◌, ◌∙◌, ◌≤◌, ◌<◌, ◌+◌,
 use Rattle.std.specs.Prelude.{Option, is_some, ◌==◌}
 use Rattle.std.specs.Option.{option_map}
 use Rattle.std.specs.List.{list_any}
-use Rattle.std.proofs.lemmas.Bool.{cases_Bool, leb-false, not_from_true, not_from_false}
+use Rattle.std.proofs.lemmas.Bool.{cases_Bool, leb-false}
 use Rattle.pcef_rule.specs.declared.rule.Properties.{Properties}
 use Rattle.pcef_rule.specs.Definition.{Definition}
 use Rattle.pcef_bearer.specs.declared.refusal.BindRefusal.{BindRefusal}
-use Rattle.pcef_bearer.specs.Bindings.{HasRoom, first_of as first_bound, is_named as bound_named, refusals as bound_refusals, without as bound_without}
+use Rattle.pcef_bearer.specs.Bindings.{first_of as first_bound, refusals as bound_refusals, without as bound_without}
 use Rattle.pcef_journal.specs.declared.command.Command.{Command}
 use Rattle.pcef_journal.specs.declared.command.Command.TheVariants.{Install, Activate, Remove, Monitor, Stop, ReportNow, Triggers, Notice, LoseBearer, Close, Terminate}
 use Rattle.pcef_journal.specs.Setting.{Setting, offer_named}

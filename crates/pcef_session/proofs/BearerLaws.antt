@@ -1,9 +1,8 @@
 -- What a session's bearers are, rule by rule.
-use Rattle.std.proofs.Common.{◌≡◌, ◌∙◌, ◌≤◌, ◌<◌, ℕ, suc, zero, Bool, true, false, List, [], ◌∷◌, length, refl, sym, ap, subst, arith, inl, inr, filter, find, Contains, Some, None, ◌==◌}
-use Rattle.std.specs.Prelude.{Option, if◌then◌else◌}
+use Rattle.std.proofs.Common.{◌≡◌, ◌∙◌, ℕ, Bool, true, false, List, [], ◌∷◌, refl, sym, ap, arith, inl, inr, filter, Contains, Some, None, ◌==◌}
+use Rattle.std.specs.Prelude.{if◌then◌else◌}
 use Rattle.std.specs.List.{list_any}
 use Rattle.std.proofs.lemmas.Bool.{cases_Bool}
-use Rattle.pcef_rule.specs.declared.quantity.BearerId.{BearerId}
 use Rattle.pcef_rule.specs.declared.quantity.Sums.{Sums}
 use Rattle.pcef_bearer.specs.Bindings.{Binding, bearer_of, guaranteed, is_present, rules_on, total_down as bound_down, total_up as bound_up}
 use Rattle.pcef_journal.specs.Setting.{Setting, same_name}
@@ -12,7 +11,7 @@ use Rattle.pcef_journal.specs.Generations.{Generation}
 use Rattle.pcef_journal.specs.Entries.{Journal}
 use Rattle.pcef_journal.specs.Journals.{now, tables}
 use Rattle.pcef_session.specs.Agreement.{Agrees, Parts}
-use Rattle.pcef_session.specs.Bound.{binding_of, bound_of}
+use Rattle.pcef_session.specs.Bound.{bound_of}
 use Rattle.pcef_session.specs.Refusals.{total_down, total_up}
 use Rattle.pcef_session.proofs.BoundBearers.{total_down_bound, total_up_bound}
 use Rattle.pcef_session.proofs.BoundRules.{NamesOnce, contrary, same_name_is, same_name_of}

@@ -1,5 +1,5 @@
 -- In every lawful journal the guaranteed rates of the active rules are within the capacity.
-use Rattle.std.proofs.Common.{◌≡◌, ◌∙◌, ◌≤◌, ◌<◌, ◌+◌, ℕ, Bool, true, false, not, ◌&&◌, List, [], ◌∷◌, ◌++◌, length, refl, sym, ap, subst, arith, inl, inr, filter, Some, None, nat_lt, ◌==◌}
+use Rattle.std.proofs.Common.{◌≡◌, ◌≤◌, ◌+◌, Bool, true, false, not, ◌&&◌, List, [], ◌∷◌, ◌++◌, length, sym, ap, subst, arith, inl, inr, filter, Some, None, nat_lt, ◌==◌}
 use Rattle.std.specs.Prelude.{Option, is_none, is_some, nat_le}
 use Rattle.std.specs.List.{list_any}
 use Rattle.std.proofs.lemmas.Bool.{cases_Bool, ltb-false}
@@ -8,13 +8,11 @@ use Rattle.pcef_rule.specs.QciKinds.{kind_of}
 use Rattle.pcef_table.specs.declared.listing.Offer.{Offer}
 use Rattle.pcef_journal.specs.declared.command.Command.{Command}
 use Rattle.pcef_journal.specs.declared.command.Command.TheVariants.{Install, Activate, Remove, Monitor, Stop, ReportNow, Triggers, Notice, LoseBearer, Close, Terminate}
-use Rattle.pcef_journal.specs.declared.entry.Entry.TheVariants as entry
 use Rattle.pcef_journal.specs.Setting.{Setting, offer_named}
 use Rattle.pcef_journal.specs.ActiveRules.{Active, dynamic, is_named, predefined, put, put_if_offered, without}
-use Rattle.pcef_journal.specs.Generations.{Generation, made_by, next, rules_after}
+use Rattle.pcef_journal.specs.Generations.{Generation, made_by, rules_after}
 use Rattle.pcef_journal.specs.Entries.{Journal}
 use Rattle.pcef_journal.specs.Journals.{is_table, now, tables}
-use Rattle.pcef_journal.specs.Reports.{after_command, after_flush}
 use Rattle.pcef_journal.proofs.Growth.{now_after_table, tables_of_other}
 use Rattle.pcef_usage.proofs.Afterwards.{now_after}
 use Rattle.pcef_session.specs.declared.answer.Refusal.{Refusal}

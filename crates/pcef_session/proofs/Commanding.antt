@@ -1,15 +1,12 @@
 -- A session that has done a command agrees with the journal after it.
-use Rattle.std.proofs.Common.{◌≡◌, ◌∙◌, ◌≤◌, ◌<◌, ◌+◌, ℕ, suc, Bool, true, false, List, [], ◌∷◌, length, refl, sym, ap, subst, arith, inl, inr, map, find, Some, None, All, if◌then◌else◌}
+use Rattle.std.proofs.Common.{◌≡◌, ◌∙◌, ◌≤◌, ℕ, Bool, true, false, List, [], ◌∷◌, length, refl, sym, ap, subst, arith, inl, inr, find, Some, None}
 use Rattle.std.specs.Prelude.{Option, Ok, Err}
 use Rattle.std.specs.List.{AllByRecursion}
 use Rattle.std.proofs.lemmas.Bool.{cases_Bool}
 use Rattle.std.proofs.lemmas.List.{length-map}
 use Rattle.pcef_rule.specs.declared.quantity.BearerId.{BearerId}
-use Rattle.pcef_rule.specs.declared.rule.Properties.{Properties}
-use Rattle.pcef_rule.specs.Definition.{Definition}
 use Rattle.pcef_table.specs.declared.entry.Source.{Source}
-use Rattle.pcef_table.specs.Tables.{TableValue}
-use Rattle.pcef_bearer.specs.Bindings.{Binding, bound_at, id_beside, put as bound_put, with_rules, without as bound_without}
+use Rattle.pcef_bearer.specs.Bindings.{Binding}
 use Rattle.pcef_journal.specs.declared.command.Command.{Command}
 use Rattle.pcef_journal.specs.declared.command.Command.TheVariants.{Install, Activate, Remove, Monitor, Stop, ReportNow, Triggers, Notice, LoseBearer, Close, Terminate}
 use Rattle.pcef_journal.specs.declared.entry.Entry.TheVariants as entry
@@ -18,14 +15,14 @@ use Rattle.pcef_journal.specs.Setting.{Setting}
 use Rattle.pcef_journal.specs.ActiveRules.{Active, dynamic, is_named, put}
 use Rattle.pcef_journal.specs.Generations.{Generation, key_named, next, rules_after}
 use Rattle.pcef_journal.specs.declared.trigger.TriggerSet.{TriggerSet}
-use Rattle.pcef_journal.specs.Entries.{Journal, commands, rows}
+use Rattle.pcef_journal.specs.Entries.{Journal, commands}
 use Rattle.pcef_journal.specs.Journals.{gen, is_table, now, report_count, slots, subscribed, tables}
-use Rattle.pcef_journal.specs.Reports.{after_command, body_of, plan, settled, tell, thresholds}
+use Rattle.pcef_journal.specs.Reports.{after_command, body_of, plan, tell, thresholds}
 use Rattle.pcef_journal.proofs.Growth.{now_after_table}
 use Rattle.pcef_usage.specs.declared.usage.KeyState.{KeyState}
 use Rattle.pcef_usage.specs.Commands.{Asks, entered, subscribed_by}
 use Rattle.pcef_usage.specs.Keys.{finds_no_slot, keys_of}
-use Rattle.pcef_usage.specs.Tellings.{AllCount, AllOn, Counts, OnIs, settled_states, settled_tellings, states_stopped, states_told, told}
+use Rattle.pcef_usage.specs.Tellings.{AllCount, AllOn, settled_states, settled_tellings, states_stopped, states_told, told}
 use Rattle.pcef_usage.proofs.Afterwards.{few_entered, now_after, slots_after, subscribed_after, subscribed_after_command, tables_after}
 use Rattle.pcef_usage.proofs.Commanded.{command_ended, keys_entered}
 use Rattle.pcef_usage.proofs.Endings.{Ended}
@@ -39,7 +36,6 @@ use Rattle.pcef_session.specs.Core.{IsServed}
 use Rattle.pcef_session.specs.Lawful.{Lawful, by_command}
 use Rattle.pcef_session.specs.Refusals.{first_of, refusals}
 use Rattle.pcef_session.specs.Shown.{Shows}
-use Rattle.pcef_session.specs.Soundness.{IsPlain}
 use Rattle.pcef_session.proofs.BearerIds.{lawful_bound}
 use Rattle.pcef_session.proofs.BoundBearers.{has_bearer_ids, next_id, next_install, next_monitor, next_remove}
 use Rattle.pcef_session.proofs.BoundRules.{same_name_of}

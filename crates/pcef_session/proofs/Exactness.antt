@@ -1,6 +1,5 @@
 -- In every lawful journal no more is reported than was counted.
-use Rattle.std.proofs.Common.{◌≡◌, ◌≤◌, ◌<◌, ◌+◌, ◌-◌, ◌∙◌, ℕ, Bool, true, false, List, [], ◌∷◌, length, refl, sym, ap, subst, arith, inl, inr}
-use Rattle.std.specs.Prelude.{◌⊎◌, if◌then◌else◌}
+use Rattle.std.proofs.Common.{◌≡◌, ◌≤◌, ◌+◌, ℕ, List, [], ◌∷◌, refl, ap, subst, arith, inl, inr}
 use Rattle.std.proofs.lemmas.Bool.{cases_Bool}
 use Rattle.pcef_journal.specs.declared.command.Command.{Command}
 use Rattle.pcef_journal.specs.declared.entry.Entry.TheVariants as entry
@@ -8,10 +7,9 @@ use Rattle.pcef_journal.specs.declared.row.Row.{Row}
 use Rattle.pcef_journal.specs.declared.telling.Telling.{Telling}
 use Rattle.pcef_journal.specs.declared.telling.Telling.TheVariants.{Inactive, Usage, Access}
 use Rattle.pcef_journal.specs.Setting.{Setting, same_name}
-use Rattle.pcef_journal.specs.Generations.{made_by, oldest}
 use Rattle.pcef_journal.specs.Entries.{Journal, rows}
-use Rattle.pcef_journal.specs.Journals.{counted, counts, counts_in, gen, octets_of, octets_told, report_count, reported, tables}
-use Rattle.pcef_journal.specs.Reports.{after_command, after_flush, body_of, settled, tell, thresholds, with_rows}
+use Rattle.pcef_journal.specs.Journals.{counted, gen, octets_told, report_count, reported, tables}
+use Rattle.pcef_journal.specs.Reports.{after_command, after_flush, body_of, tell, thresholds, with_rows}
 use Rattle.pcef_journal.proofs.Growth.{Known, counted_after_command, counted_after_row, gen_grows, known-more}
 use Rattle.pcef_session.specs.Lawful.{Lawful, RowsFollow, at_first, by_attach, by_command, by_flush, by_leave}
 use Rattle.pcef_session.proofs.BoundRules.{same_name_is}

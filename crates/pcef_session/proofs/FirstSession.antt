@@ -1,17 +1,15 @@
 -- A session that is opened agrees with the empty journal, and goes on agreeing as workers come.
-use Rattle.std.proofs.Common.{◌≡◌, ◌∙◌, ℕ, Bool, List, [], ◌∷◌, refl, sym, ap, subst, arith, Contains, None, false, map}
+use Rattle.std.proofs.Common.{◌≡◌, ℕ, Bool, List, [], refl, sym, ap, subst, arith, Contains, None, false, map}
 use Rattle.std.specs.List.{AllByRecursion}
 use Rattle.pcef_table.specs.declared.entry.Entry.{Entry}
 use Rattle.pcef_table.specs.declared.entry.Source.{Source}
-use Rattle.pcef_table.specs.Tables.{IsTable, TableValue}
+use Rattle.pcef_table.specs.Tables.{TableValue}
 use Rattle.pcef_table.proofs.Ordered.{empty_is_table}
-use Rattle.pcef_bearer.specs.Bindings.{Binding}
-use Rattle.pcef_journal.specs.declared.entry.Entry.TheVariants as entry
 use Rattle.pcef_journal.specs.declared.trigger.TriggerSet.{TriggerSet}
 use Rattle.pcef_journal.specs.Setting.{Setting}
 use Rattle.pcef_journal.specs.Generations.{at_first as before_all, made_by, oldest, slots_of}
 use Rattle.pcef_journal.specs.Entries.{Journal}
-use Rattle.pcef_journal.specs.Journals.{at, gen, grant, no_triggers, reported, subscribed}
+use Rattle.pcef_journal.specs.Journals.{gen, grant, no_triggers, reported, subscribed}
 use Rattle.pcef_journal.specs.Reports.{after_attach}
 use Rattle.pcef_usage.specs.declared.usage.KeyState.{KeyState}
 use Rattle.pcef_usage.proofs.Tells.{all_same}

@@ -1,5 +1,5 @@
 -- What `find` and `list_any` say of the elements of a list.
-use Rattle.std.proofs.Common.{◌≡◌, ◌∙◌, ◌<◌, ℕ, suc, zero, Bool, true, false, ◌||◌, List, [], ◌∷◌, length, refl, sym, ap, subst, arith, inl, inr, find, AllPairs, Contains, Some, None}
+use Rattle.std.proofs.Common.{◌≡◌, ◌∙◌, suc, zero, Bool, true, false, List, [], ◌∷◌, refl, sym, ap, arith, find, Contains, Some, None}
 use Rattle.std.specs.Prelude.{Option}
 use Rattle.std.specs.List.{list_any, list_all}
 use Rattle.std.proofs.lemmas.Bool.{or_left, or_right, and_parts, and_from}

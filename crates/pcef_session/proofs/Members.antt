@@ -1,5 +1,5 @@
 -- The elements of lists that are filtered, and of rules that are put in.
-use Rattle.std.proofs.Common.{◌≡◌, ◌∙◌, ◌<◌, ℕ, suc, zero, Bool, true, false, not, List, [], ◌∷◌, ◌++◌, length, refl, sym, ap, arith, inl, inr, filter, map, Contains}
+use Rattle.std.proofs.Common.{◌≡◌, ◌∙◌, suc, zero, Bool, true, false, List, [], ◌∷◌, refl, sym, ap, arith, inl, inr, filter, map, Contains}
 use Rattle.std.specs.Prelude.{◌⊎◌}
 use Rattle.std.specs.List.{list_any}
 use Rattle.std.proofs.lemmas.Bool.{cases_Bool}

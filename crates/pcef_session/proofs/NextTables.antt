@@ -1,5 +1,5 @@
 -- The tables that commands make show their generations, with at most one entry for each rule.
-use Rattle.std.proofs.Common.{◌≡◌, ◌≢◌, ◌∙◌, ◌≤◌, ◌<◌, ◌+◌, ℕ, suc, Bool, true, false, ◌&&◌, ◌||◌, List, [], ◌∷◌, ◌++◌, length, refl, sym, ap, subst, arith, inl, inr, map, Contains, Some, None, All, AllPairs, IsTrue}
+use Rattle.std.proofs.Common.{◌≡◌, ◌∙◌, ◌≤◌, ◌<◌, ◌+◌, ℕ, suc, Bool, true, false, ◌&&◌, ◌||◌, List, [], ◌∷◌, ◌++◌, length, refl, sym, ap, subst, arith, inl, inr, map, Contains, Some, None, All, AllPairs, IsTrue}
 use Rattle.std.specs.Prelude.{Option, Result, Ok, Err, IfOk}
 use Rattle.std.specs.Option.{option_map}
 use Rattle.std.specs.List.{AllByRecursion, IsDistinct, list_any}
@@ -24,10 +24,10 @@ use Rattle.pcef_journal.specs.declared.command.Command.TheVariants.{Install, Mon
 use Rattle.pcef_journal.specs.Setting.{Setting, same_name}
 use Rattle.pcef_journal.specs.ActiveRules.{Active, dynamic, put}
 use Rattle.pcef_journal.specs.ActiveRules as rules
-use Rattle.pcef_journal.specs.Generations.{Generation, add_if_some, add_key, is_among, key_named, slots_of, still_on}
+use Rattle.pcef_journal.specs.Generations.{Generation, add_if_some, add_key, is_among, key_named, slots_of}
 use Rattle.pcef_journal.specs.Entries.{Journal}
 use Rattle.pcef_journal.specs.Journals.{at, gen, is_table, now, slots, tables}
-use Rattle.pcef_journal.proofs.Growth.{at_newest, now_after_table, tables_of_table}
+use Rattle.pcef_journal.proofs.Growth.{at_newest, tables_of_table}
 use Rattle.pcef_usage.specs.declared.usage.KeyState.{KeyState}
 use Rattle.pcef_usage.specs.Keys.{has_slot, keys_of, place_of as place_in}
 use Rattle.pcef_usage.specs.Tellings.{AllCount, AllOn, Counts, OnIs}

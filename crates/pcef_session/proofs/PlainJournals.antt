@@ -1,6 +1,5 @@
 -- What rows, attachments and commands leave of a journal that nothing ended.
-use Rattle.std.proofs.Common.{◌≡◌, ◌∙◌, ◌≤◌, ◌<◌, ◌+◌, ℕ, suc, zero, Bool, true, false, List, [], ◌∷◌, length, refl, sym, ap, arith, inl, inr, ◌==◌, ◌||◌, nat_lt, nat_le, not, Ok, Err, Some, None, map, drop, get_or}
-use Rattle.std.specs.Prelude.{◌⊎◌}
+use Rattle.std.proofs.Common.{◌≡◌, ◌∙◌, ◌≤◌, ◌<◌, ◌+◌, ℕ, suc, zero, List, [], ◌∷◌, length, refl, sym, ap, arith, inl, inr, ◌==◌, ◌||◌, nat_lt, not, Ok, Err, Some, None, map, drop, get_or}
 use Rattle.std.specs.List.{list_any}
 use Rattle.std.proofs.lemmas.List.{drop_all, drop_more}
 use Rattle.std.proofs.lemmas.Bool.{cases_Bool, eq-eqb, eqb-true, le-leb, le-ltb, lt-leb, lt-ltb, ltb-false, ltb-true, or_from, or_left, or_right}
@@ -11,8 +10,8 @@ use Rattle.pcef_journal.specs.declared.row.Row.{Row}
 use Rattle.pcef_journal.specs.declared.telling.Telling.{Telling}
 use Rattle.pcef_journal.specs.Setting.{Setting}
 use Rattle.pcef_journal.specs.Entries.{Journal, commands, rows}
-use Rattle.pcef_journal.specs.Journals.{attach_count, attached, report_count, subscribed}
-use Rattle.pcef_journal.specs.Reports.{after_command, after_flush, body_of, plan, settled, tell, thresholds, with_rows}
+use Rattle.pcef_journal.specs.Journals.{attach_count, attached, report_count}
+use Rattle.pcef_journal.specs.Reports.{after_command, after_flush, body_of, plan, tell, thresholds, with_rows}
 use Rattle.pcef_session.specs.declared.answer.AttachFault.TheVariants.{NoPlace}
 use Rattle.pcef_session.specs.declared.answer.FlushRefusal.{FlushRefusal}
 use Rattle.pcef_session.specs.declared.answer.FlushRefusal.TheVariants.{NotAttached, RowsFull}

@@ -1,18 +1,17 @@
 -- Rows that wait go on following their lane as the journal grows.
-use Rattle.std.proofs.Common.{◌≡◌, ◌∙◌, ◌≤◌, ◌<◌, ℕ, suc, zero, Bool, true, false, List, [], ◌∷◌, ◌++◌, length, refl, sym, ap, subst, arith, inl, inr, All, filter, if◌then◌else◌, ◌==◌}
-use Rattle.std.proofs.lemmas.Bool.{cases_Bool, false_from_ne_true, eqb-true}
+use Rattle.std.proofs.Common.{◌≡◌, ◌∙◌, ◌≤◌, ℕ, false, List, [], ◌∷◌, ◌++◌, length, refl, sym, ap, subst, arith, inl, inr, All, if◌then◌else◌, ◌==◌}
+use Rattle.std.proofs.lemmas.Bool.{cases_Bool}
 use Rattle.std.proofs.lemmas.List.Elements.{All-head, All-nil, All-push, All-tail}
 use Rattle.pcef_journal.specs.declared.command.Command.{Command}
-use Rattle.pcef_journal.specs.declared.entry.Entry.{Entry}
 use Rattle.pcef_journal.specs.declared.entry.Entry.TheVariants as entry
 use Rattle.pcef_journal.specs.declared.row.Row.{Row}
 use Rattle.pcef_journal.specs.Setting.{Setting}
-use Rattle.pcef_journal.specs.Entries.{Journal, lane, rows}
+use Rattle.pcef_journal.specs.Entries.{Journal, lane}
 use Rattle.pcef_journal.specs.Generations.{made_by, oldest}
 use Rattle.pcef_journal.specs.Journals.{at, gen, is_table, judged, tables}
 use Rattle.pcef_journal.specs.Reports.{with_rows}
 use Rattle.pcef_journal.proofs.Growth.{at_after_command, gen_after_table, tables_of_other}
-use Rattle.pcef_session.specs.Lawful.{BatchFollows, RowFollows, RowsFollow, newest_generation}
+use Rattle.pcef_session.specs.Lawful.{BatchFollows, RowFollows, RowsFollow}
 
 -- a later journal, in which a worker's lane and the generations of before are as they were
 pub record Later (p : Setting) (worker : ℕ) (j k : Journal) : Type 0 where

@@ -1,9 +1,9 @@
 -- The tables that Install, Remove and Monitor make show the next generation.
-use Rattle.std.proofs.Common.{◌≡◌, ◌∙◌, ◌≤◌, ◌+◌, ℕ, suc, Bool, true, false, ◌&&◌, ◌||◌, not, List, [], ◌∷◌, ◌++◌, length, refl, sym, ap, subst, arith, inl, inr, filter, map, Contains, Some, None, if◌then◌else◌, ◌==◌}
+use Rattle.std.proofs.Common.{◌≡◌, ◌∙◌, ◌+◌, ℕ, Bool, true, false, ◌||◌, not, List, [], ◌∷◌, refl, sym, ap, subst, arith, inl, inr, filter, map, Contains, Some, None, ◌==◌}
 use Rattle.std.specs.Prelude.{◌⊎◌, Option}
 use Rattle.std.specs.List.{list_any}
 use Rattle.std.specs.Option.{option_map, option_map_or}
-use Rattle.std.proofs.lemmas.Bool.{cases_Bool, or_left, or_right, eqb-true, eq-eqb, false_from_ne_true, not_from_false, not_from_true}
+use Rattle.std.proofs.lemmas.Bool.{cases_Bool, or_right, eqb-true, eq-eqb, false_from_ne_true, not_from_false, not_from_true}
 use Rattle.std.proofs.lemmas.List.Elements.{Contains-append_cases, Contains-append_left, Contains-append_right}
 use Rattle.pcef_rule.specs.declared.quantity.BearerId.{BearerId}
 use Rattle.pcef_rule.specs.declared.quantity.Qos.{Qos}
@@ -22,7 +22,7 @@ use Rattle.pcef_journal.specs.declared.command.Command.TheVariants.{Install, Rem
 use Rattle.pcef_journal.specs.Setting.{Setting, same_name, same_qos}
 use Rattle.pcef_journal.specs.ActiveRules.{Active, dynamic, has_key, is_key, put}
 use Rattle.pcef_journal.specs.ActiveRules as rules
-use Rattle.pcef_journal.specs.Generations.{Generation, add_key, default_id, id_after, is_among, next, rules_after, slots_of, still_on, switched}
+use Rattle.pcef_journal.specs.Generations.{Generation, add_key, default_id, id_after, is_among, next, rules_after, slots_of, still_on}
 use Rattle.pcef_journal.specs.Entries.{Journal}
 use Rattle.pcef_journal.specs.Journals.{at, gen, is_table, now, slots, tables}
 use Rattle.pcef_journal.proofs.Growth.{at_newest, gen_after_table, now_after_table, tables_of_table}
@@ -36,7 +36,7 @@ use Rattle.pcef_session.proofs.Found.{any_from}
 use Rattle.pcef_session.proofs.Members.{filter_from, filter_to, first_there, later_there, map_from, map_to, put_cases, put_new, put_old, there_cases}
 use Rattle.pcef_session.proofs.ShownLater.{shown_slots, slot_stays}
 use Rattle.pcef_session.proofs.ShownVerdicts.{made_once, rule_is}
-use Rattle.pcef_session.proofs.SlotPlaces.{Grows, place_once, place_there, slots_grow}
+use Rattle.pcef_session.proofs.SlotPlaces.{Grows, place_once, slots_grow}
 
 -- ---- keys that stay on
 on_kept : (key : List ℕ) (test : List ℕ → Bool) (keys : List (List ℕ)) → test key ≡ true → is_among key (filter test keys) ≡ is_among key keys

@@ -1,8 +1,6 @@
 -- A table goes on showing its generation as the journal grows.
-use Rattle.std.proofs.Common.{◌≡◌, ◌∙◌, ◌≤◌, ℕ, suc, Bool, true, false, not, List, [], ◌∷◌, ◌++◌, length, refl, sym, ap, subst, arith, inl, inr, Contains, Some, None, append-nil, append_assoc, nat_le, ◌==◌}
+use Rattle.std.proofs.Common.{◌≡◌, ◌∙◌, ◌≤◌, ℕ, true, not, List, [], ◌∷◌, ◌++◌, length, refl, sym, ap, subst, arith, inl, inr, Contains, Some, None, append-nil, append_assoc, nat_le, ◌==◌}
 use Rattle.std.specs.Prelude.{◌⊎◌, Option}
-use Rattle.std.specs.List.{list_any}
-use Rattle.std.specs.Option.{option_map}
 use Rattle.std.proofs.lemmas.Bool.{cases_Bool}
 use Rattle.pcef_table.specs.declared.entry.Entry.{Entry}
 use Rattle.pcef_table.specs.declared.listing.Offer.{Offer}
@@ -11,7 +9,7 @@ use Rattle.pcef_journal.specs.declared.entry.Entry.TheVariants as entry
 use Rattle.pcef_journal.specs.declared.command.Command.{Command}
 use Rattle.pcef_journal.specs.declared.command.Command.TheVariants.{Install, Activate, Remove, Monitor, Stop, ReportNow, Triggers, Notice, LoseBearer, Close, Terminate}
 use Rattle.pcef_journal.specs.Setting.{Setting, offer_named}
-use Rattle.pcef_journal.specs.ActiveRules.{Active, dynamic, is_named, predefined, put, put_if_offered}
+use Rattle.pcef_journal.specs.ActiveRules.{Active, dynamic, is_named, predefined, put_if_offered}
 use Rattle.pcef_journal.specs.Generations.{Generation, add_if_some, is_among, key_named, key_offered, made_by, oldest, rules_after, slots_of}
 use Rattle.pcef_journal.specs.Entries.{Journal}
 use Rattle.pcef_journal.specs.Journals.{at, gen, is_table, slots, tables}
@@ -20,7 +18,7 @@ use Rattle.pcef_session.specs.Shown.{Shows, StandsFor, place_of, slot_of}
 use Rattle.pcef_session.proofs.BoundRules.{NamesOnce}
 use Rattle.pcef_session.proofs.Members.{filter_from, put_cases}
 use Rattle.pcef_session.proofs.ShownVerdicts.{made_once}
-use Rattle.pcef_session.proofs.SlotPlaces.{Grows, add_among, add_grows, more_among, place_grown, slots_grow}
+use Rattle.pcef_session.proofs.SlotPlaces.{Grows, add_among, more_among, place_grown, slots_grow}
 
 -- ---- the key of each active rule has a slot
 abbrev pub HasSlot : List (List ℕ) → Option (List ℕ) → Type 0

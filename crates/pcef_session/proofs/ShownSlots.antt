@@ -1,7 +1,6 @@
 -- A table that shows a generation counts each packet for the key that the generation says.
-use Rattle.std.proofs.Common.{◌≡◌, ◌∙◌, ◌<◌, ℕ, suc, zero, Bool, true, false, ◌&&◌, ◌==◌, List, [], ◌∷◌, length, refl, sym, ap, subst, arith, inl, inr, find, Contains, Some, None, if◌then◌else◌}
-use Rattle.std.specs.Prelude.{◌⊎◌, Option}
-use Rattle.std.specs.List.{list_any}
+use Rattle.std.proofs.Common.{◌≡◌, ◌∙◌, ℕ, Bool, true, false, ◌&&◌, ◌==◌, List, [], refl, sym, ap, subst, inl, inr, find, Contains, Some, None, if◌then◌else◌}
+use Rattle.std.specs.Prelude.{Option}
 use Rattle.std.specs.Option.{option_map, option_map_or}
 use Rattle.std.proofs.lemmas.Bool.{cases_Bool, eqb-true, eq-eqb, false_from_ne_true, and_left, and_right}
 use Rattle.std.proofs.lemmas.List.Elements.{All-contains}
@@ -10,12 +9,10 @@ use Rattle.pcef_packet.specs.Addresses.{same_addr, ue_side}
 use Rattle.pcef_rule.specs.declared.quantity.Slot.{Slot}
 use Rattle.pcef_rule.specs.Gate.{opens}
 use Rattle.pcef_table.specs.declared.entry.Entry.{Entry}
-use Rattle.pcef_table.specs.declared.listing.Offer.{Offer}
 use Rattle.pcef_table.specs.declared.verdict.Verdict.{Verdict}
-use Rattle.pcef_table.specs.declared.verdict.Verdict.TheVariants.{Stray, Unmatched, Gated, Passed}
-use Rattle.pcef_table.specs.Sources.{is_named, name_of, properties_of}
+use Rattle.pcef_table.specs.Sources.{is_named}
 use Rattle.pcef_table.specs.Tables.{TableValue}
-use Rattle.pcef_table.specs.Verdicts.{counted_slot, slot_for}
+use Rattle.pcef_table.specs.Verdicts.{slot_for}
 use Rattle.pcef_table.proofs.Foremost.{found_is_foremost, none_passes}
 use Rattle.pcef_journal.specs.Setting.{Setting, same_name}
 use Rattle.pcef_journal.specs.ActiveRules.{Active, decisive, is_decisive, is_key}

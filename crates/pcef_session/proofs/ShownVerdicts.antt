@@ -1,5 +1,5 @@
 -- A table that shows a generation gives the generation's verdicts.
-use Rattle.std.proofs.Common.{◌≡◌, ◌∙◌, ◌<◌, ℕ, suc, zero, Bool, true, false, ◌&&◌, ◌||◌, not, List, [], ◌∷◌, length, refl, sym, ap, subst, arith, inl, inr, find, All, Contains, Some, None, if◌then◌else◌, ◌==◌}
+use Rattle.std.proofs.Common.{◌≡◌, ◌∙◌, ℕ, suc, zero, true, false, ◌||◌, not, List, [], ◌∷◌, refl, sym, ap, arith, inl, inr, All, Contains, Some, None, ◌==◌}
 use Rattle.std.specs.Prelude.{◌⊎◌, Option, slice_get}
 use Rattle.std.specs.List.{list_any, list_all}
 use Rattle.std.specs.Option.{option_map}
@@ -7,7 +7,6 @@ use Rattle.std.proofs.lemmas.Bool.{cases_Bool, and_parts, and_from, or_left, or_
 use Rattle.std.proofs.lemmas.List.Elements.{All-contains}
 use Rattle.pcef_packet.specs.declared.header.Addr.{Addr}
 use Rattle.pcef_packet.specs.declared.header.Header.{Header}
-use Rattle.pcef_packet.specs.Addresses.{same_addr, ue_side}
 use Rattle.pcef_rule.specs.declared.quantity.BearerId.{BearerId}
 use Rattle.pcef_rule.specs.declared.rule.Properties.{Properties}
 use Rattle.pcef_rule.specs.Gate.{opens}
@@ -22,14 +21,14 @@ use Rattle.pcef_table.specs.declared.verdict.Verdict.TheVariants.{Stray, Unmatch
 use Rattle.pcef_table.specs.Sources.{properties_of}
 use Rattle.pcef_table.specs.Sources as sources
 use Rattle.pcef_table.specs.Tables.{GoesBefore, TableValue}
-use Rattle.pcef_table.specs.Verdicts.{IsDecisive, IsVerdict}
+use Rattle.pcef_table.specs.Verdicts.{IsVerdict}
 use Rattle.pcef_journal.specs.declared.command.Command.{Command}
 use Rattle.pcef_journal.specs.declared.command.Command.TheVariants.{Install, Activate, Remove, Monitor, Stop, ReportNow, Triggers, Notice, LoseBearer, Close, Terminate}
 use Rattle.pcef_journal.specs.Setting.{Setting, offer_named, same_name}
-use Rattle.pcef_journal.specs.Generations.{Generation, made_by, oldest, rules_after}
+use Rattle.pcef_journal.specs.Generations.{Generation, made_by, rules_after}
 use Rattle.pcef_journal.specs.ActiveRules.{Active, decisive, dynamic, fits, goes_ahead_of, is_before, is_decisive, is_named, predefined, put_if_offered, rank_of}
 use Rattle.pcef_journal.specs.Entries.{Journal}
-use Rattle.pcef_journal.specs.Journals.{at, judged, tables}
+use Rattle.pcef_journal.specs.Journals.{at, judged}
 use Rattle.pcef_session.specs.Shown.{Shows, StandsFor, rule_of}
 use Rattle.pcef_session.proofs.BoundRules.{NamesOnce, contrary, filter_once, put_once, same_name_is, same_name_of}
 use Rattle.pcef_session.proofs.Found.{all_at, all_from, any_from, find_none, find_one}

@@ -1,15 +1,13 @@
 -- The slots of keys: they stay where they are, and each active rule's key has one.
-use Rattle.std.proofs.Common.{◌≡◌, ◌∙◌, ◌<◌, ℕ, suc, zero, Bool, true, false, not, ◌||◌, List, [], ◌∷◌, ◌++◌, length, refl, sym, ap, arith, inl, inr, Contains, Some, None, append-nil, append_assoc}
-use Rattle.std.specs.Prelude.{◌⊎◌, Option}
-use Rattle.std.specs.List.{list_any}
+use Rattle.std.proofs.Common.{◌≡◌, ◌∙◌, ℕ, suc, true, false, List, [], ◌∷◌, ◌++◌, refl, sym, ap, arith, inl, inr, Some, None, append-nil}
+use Rattle.std.specs.Prelude.{Option}
 use Rattle.std.specs.Option.{option_map}
-use Rattle.std.proofs.lemmas.Bool.{cases_Bool, or_cases, or_left}
+use Rattle.std.proofs.lemmas.Bool.{cases_Bool, or_left}
 use Rattle.pcef_journal.specs.declared.command.Command.{Command}
-use Rattle.pcef_journal.specs.declared.command.Command.TheVariants.{Install, Activate, Remove, Monitor, Stop, ReportNow, Triggers, Notice, LoseBearer, Close, Terminate}
-use Rattle.pcef_journal.specs.Setting.{Setting, offer_named, same_name}
+use Rattle.pcef_journal.specs.Setting.{Setting, same_name}
 use Rattle.pcef_journal.specs.Generations.{add_if_some, add_key, is_among, key_named, slots_of}
 use Rattle.pcef_session.specs.Shown.{place_of}
-use Rattle.pcef_session.proofs.BoundRules.{contrary, same_name_is, same_name_of}
+use Rattle.pcef_session.proofs.BoundRules.{same_name_is, same_name_of}
 
 -- ---- places in a list of keys
 pub place_there : (key : List ℕ) (keys : List (List ℕ)) → is_among key keys ≡ true → (n : ℕ) × (place_of key keys ≡ Some n)

@@ -1,16 +1,14 @@
 -- A row goes on counting for the key of its slot as the journal grows.
-use Rattle.std.proofs.Common.{◌≡◌, ◌∙◌, ◌≤◌, ◌<◌, ◌+◌, ℕ, suc, zero, Bool, true, false, ◌||◌, List, [], ◌∷◌, ◌++◌, length, refl, sym, ap, arith, inl, inr, Contains, Some, None, if◌then◌else◌, ◌==◌, length-append}
+use Rattle.std.proofs.Common.{◌≡◌, ◌∙◌, ◌≤◌, ◌<◌, ℕ, suc, true, false, List, [], ◌∷◌, ◌++◌, length, refl, sym, ap, arith, inl, inr, Some, None, ◌==◌}
 use Rattle.std.specs.Prelude.{Option}
-use Rattle.std.specs.List.{list_any}
 use Rattle.std.specs.Option.{option_map}
 use Rattle.std.proofs.lemmas.Bool.{cases_Bool, eqb-true, false_from_ne_true}
 use Rattle.pcef_rule.specs.declared.quantity.Slot.{Slot}
-use Rattle.pcef_table.specs.declared.entry.Entry.{Entry}
 use Rattle.pcef_journal.specs.declared.row.Row.{Row}
 use Rattle.pcef_journal.specs.Setting.{Setting, same_name}
 use Rattle.pcef_journal.specs.Generations.{is_among}
 use Rattle.pcef_journal.specs.Entries.{Journal}
-use Rattle.pcef_journal.specs.Journals.{at, counts_in, gen, slots}
+use Rattle.pcef_journal.specs.Journals.{at, counts_in, slots}
 use Rattle.pcef_session.specs.Following.{CountsFor, IsWithin, has_this_slot, is_at}
 use Rattle.pcef_session.specs.Shown.{place_of}
 use Rattle.pcef_session.proofs.SlotPlaces.{Grows, place_grown}

@@ -1,5 +1,5 @@
 -- A session stays sound as it changes.
-use Rattle.std.proofs.Common.{◌≡◌, ◌∙◌, ◌≤◌, ◌<◌, ◌+◌, ◌^◌, ℕ, suc, List, [], ◌∷◌, length, refl, sym, ap, subst, arith, None, All, map, false}
+use Rattle.std.proofs.Common.{◌≡◌, ◌∙◌, ◌≤◌, ◌<◌, ◌^◌, ℕ, suc, List, [], ◌∷◌, length, refl, sym, ap, subst, arith, None, false}
 use Rattle.std.specs.Arc.{arc_value}
 use Rattle.std.proofs.lemmas.List.Elements.{All-nil}
 use Rattle.std.specs.Prelude.{Option, not}
@@ -22,9 +22,9 @@ use Rattle.pcef_journal.specs.Entries.{Journal, commands, rows}
 use Rattle.pcef_journal.specs.Generations.{Generation, at_first as before_all, key_named, rules_after}
 use Rattle.pcef_journal.specs.Journals.{attach_count, no_triggers, now, slots}
 use Rattle.pcef_usage.specs.declared.usage.KeyState.{KeyState}
-use Rattle.pcef_session.specs.Agreement.{Agrees, Parts}
+use Rattle.pcef_session.specs.Agreement.{Agrees}
 use Rattle.pcef_session.specs.Bound.{binding_of}
-use Rattle.pcef_session.specs.Soundness.{IsLimited, IsPlain, IsSmall, IsSound, parts_of}
+use Rattle.pcef_session.specs.Soundness.{IsSound, parts_of}
 use Rattle.pcef_session.specs.Terms.{setting_of}
 use Rattle.pcef_session.specs.declared.state.SessionState.TheInside.{Inside}
 use Rattle.pcef_session.proofs.FirstSession.{agrees_attached, agrees_first}

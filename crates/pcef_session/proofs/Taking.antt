@@ -1,7 +1,7 @@
 -- A session that has taken rows over agrees with the journal after them.
-use Rattle.std.proofs.Common.{◌≡◌, ◌∙◌, ◌≤◌, ◌<◌, ◌+◌, ◌*◌, ◌^◌, ◌==◌, ℕ, suc, zero, Bool, true, false, List, [], ◌∷◌, length, refl, sym, ap, subst, arith, inl, inr, map, Some, None, All, if◌then◌else◌, not, nat_lt, get_or}
+use Rattle.std.proofs.Common.{◌≡◌, ◌∙◌, ◌≤◌, ◌<◌, ◌+◌, ◌*◌, ◌^◌, ◌==◌, ℕ, suc, zero, Bool, false, List, [], ◌∷◌, length, refl, sym, ap, subst, arith, inl, inr, map, Some, None, All, not, nat_lt, get_or}
 use Rattle.std.specs.Prelude.{Option}
-use Rattle.std.specs.List.{AllByRecursion, list_any}
+use Rattle.std.specs.List.{AllByRecursion}
 use Rattle.std.specs.Option.{option_map}
 use Rattle.std.proofs.lemmas.Bool.{cases_Bool, eq-eqb, eqb-true, ltb-false, false_from_ne_true}
 use Rattle.std.proofs.lemmas.List.{length-map}
@@ -10,15 +10,15 @@ use Rattle.pcef_rule.specs.declared.quantity.Slot.{Slot}
 use Rattle.pcef_journal.specs.declared.entry.Entry.TheVariants as entry
 use Rattle.pcef_journal.specs.declared.row.Row.{Row}
 use Rattle.pcef_journal.specs.Setting.{Setting, same_name}
-use Rattle.pcef_journal.specs.Generations.{Generation, is_among, made_by, slots_of}
+use Rattle.pcef_journal.specs.Generations.{is_among, made_by, slots_of}
 use Rattle.pcef_journal.specs.Entries.{Journal, commands, rows}
-use Rattle.pcef_journal.specs.Journals.{counted, counts, gen, now, octets_of, slots, subscribed, tables}
-use Rattle.pcef_journal.specs.Reports.{after_flush, settled, tell, thresholds, with_rows}
+use Rattle.pcef_journal.specs.Journals.{counts, gen, now, octets_of, slots, subscribed, tables}
+use Rattle.pcef_journal.specs.Reports.{after_flush, thresholds, with_rows}
 use Rattle.pcef_usage.specs.declared.usage.KeyState.{KeyState}
 use Rattle.pcef_usage.specs.Flushes.{rows_counted}
-use Rattle.pcef_usage.specs.Keys.{CanCount, keys_of, state_at, with_octets}
+use Rattle.pcef_usage.specs.Keys.{keys_of, state_at, with_octets}
 use Rattle.pcef_usage.specs.Counted.{Counted}
-use Rattle.pcef_usage.specs.Tellings.{AllCount, AllOn, Distinct, settled_states, settled_tellings, states_told, told}
+use Rattle.pcef_usage.specs.Tellings.{Distinct, settled_states, settled_tellings, states_told, told}
 use Rattle.pcef_usage.proofs.Afterwards.{subscribed_settled, tables_after_rows, tables_settled}
 use Rattle.pcef_usage.proofs.Endings.{Ended}
 use Rattle.pcef_usage.proofs.Flushed.{StatesAgree, can_count, flush_is, row_agrees, rows_ended, subscribed_after_rows}
@@ -28,7 +28,7 @@ use Rattle.pcef_usage.proofs.Rows as usage
 use Rattle.pcef_usage.proofs.Slots.{distinct_slots}
 use Rattle.pcef_session.specs.declared.batch.Item.{Item}
 use Rattle.pcef_session.specs.Agreement.{Agrees, KeyAgrees, Parts}
-use Rattle.pcef_session.specs.Following.{CanCountAll, CountsFor, HasItsSlots, HasSmallRows, IsTaken, IsWithin, has_this_slot, is_at, row_of, slot_of}
+use Rattle.pcef_session.specs.Following.{CanCountAll, CountsFor, HasItsSlots, HasSmallRows, IsTaken, IsWithin, is_at, row_of, slot_of}
 use Rattle.pcef_session.specs.Bound.{binding_of}
 use Rattle.pcef_session.specs.Lawful.{BatchFollows, Lawful, by_flush}
 use Rattle.pcef_journal.specs.declared.trigger.TriggerSet.{TriggerSet}

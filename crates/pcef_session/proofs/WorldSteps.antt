@@ -10,7 +10,7 @@ use Rattle.pcef_table.specs.declared.listing.Offer.{Offer}
 use Rattle.pcef_journal.specs.declared.command.Command.{Command}
 use Rattle.pcef_journal.specs.declared.row.Row.{Row}
 use Rattle.pcef_journal.specs.Setting.{Setting}
-use Rattle.pcef_journal.specs.Entries.{Journal, lane, rows}
+use Rattle.pcef_journal.specs.Entries.{Journal, lane}
 use Rattle.pcef_journal.specs.Journals.{attach_count, tables}
 use Rattle.pcef_journal.specs.Reports.{after_attach, after_flush}
 use Rattle.pcef_session.specs.declared.answer.Accepted.{Accepted}

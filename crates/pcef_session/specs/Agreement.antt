@@ -1,7 +1,7 @@
 -- When what a session keeps agrees with its journal.
-use Rattle.std.specs.Prelude.{ℕ, ◌≡◌, ◌+◌, List, [], ◌∷◌, Option, Some, map}
+use Rattle.std.specs.Prelude.{ℕ, ◌≡◌, ◌+◌, List, [], ◌∷◌, Some, map}
 use Rattle.std.specs.List.{AllByRecursion}
-use Rattle.pcef_bearer.specs.Bindings.{Binding, bound_at}
+use Rattle.pcef_bearer.specs.Bindings.{Binding}
 use Rattle.pcef_journal.specs.declared.trigger.TriggerSet.{TriggerSet}
 use Rattle.pcef_journal.specs.Setting.{Setting}
 use Rattle.pcef_journal.specs.ActiveRules.{Active}

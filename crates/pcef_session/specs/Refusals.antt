@@ -1,6 +1,6 @@
 -- The refusals of each event: of the conditions that hold, the first in the order of the lists decides
 -- (own choice).
-use Rattle.std.specs.Prelude.{ℕ, ◌+◌, ◌==◌, Bool, true, false, not, ◌&&◌, ◌||◌, List, [], ◌∷◌, ◌++◌, Option, Some, None, find, is_none, is_some, length, nat_le, nat_lt, if◌then◌else◌}
+use Rattle.std.specs.Prelude.{ℕ, ◌+◌, ◌==◌, Bool, true, false, not, ◌&&◌, ◌||◌, List, [], ◌∷◌, ◌++◌, Option, Some, None, is_none, is_some, length, nat_le, nat_lt, if◌then◌else◌}
 use Rattle.std.specs.List.{list_any}
 use Rattle.pcef_rule.specs.declared.qci.Kind.{Kind}
 use Rattle.pcef_rule.specs.declared.qci.Kind.TheVariants.{Gbr, NonGbr}
@@ -12,10 +12,9 @@ use Rattle.pcef_journal.specs.declared.command.Command.{Command}
 use Rattle.pcef_journal.specs.declared.command.Command.TheVariants.{Install, Activate, Remove, Monitor, Stop, ReportNow, Triggers, Notice, LoseBearer, Close, Terminate}
 use Rattle.pcef_journal.specs.declared.entry.Entry.{Entry}
 use Rattle.pcef_journal.specs.declared.entry.Entry.TheVariants as entry
-use Rattle.pcef_journal.specs.declared.row.Row.{Row}
 use Rattle.pcef_journal.specs.Setting.{Setting, offer_named}
 use Rattle.pcef_journal.specs.ActiveRules.{Active, is_named, without}
-use Rattle.pcef_journal.specs.Generations.{Generation, default_id, has_bearer, is_among, kept_ids, key_offered, least_free}
+use Rattle.pcef_journal.specs.Generations.{Generation, default_id, has_bearer, is_among, kept_ids, least_free}
 use Rattle.pcef_journal.specs.Entries.{Journal, rows}
 use Rattle.pcef_journal.specs.Journals.{attach_count, attached, now, slots}
 use Rattle.pcef_session.specs.declared.answer.OpenFault.{OpenFault}

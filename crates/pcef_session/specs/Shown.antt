@@ -1,5 +1,5 @@
 -- When a table shows a generation of the journal.
-use Rattle.std.specs.Prelude.{ℕ, ◌≡◌, Bool, false, List, [], ◌∷◌, Option, Some, None, length, suc, slice_get, if◌then◌else◌, Contains}
+use Rattle.std.specs.Prelude.{ℕ, ◌≡◌, Bool, false, List, [], ◌∷◌, Option, Some, None, suc, slice_get, if◌then◌else◌, Contains}
 use Rattle.std.specs.Option.{option_map}
 use Rattle.pcef_table.specs.declared.entry.Entry.{Entry}
 use Rattle.pcef_table.specs.declared.entry.Source.{Source}

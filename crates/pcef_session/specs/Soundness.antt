@@ -1,5 +1,5 @@
 -- What always holds of a session's parts.
-use Rattle.std.specs.Prelude.{ℕ, ◌≡◌, ◌≤◌, ◌<◌, ◌+◌, ◌^◌, false, List, [], ◌∷◌, All, length, zero, suc}
+use Rattle.std.specs.Prelude.{ℕ, ◌≡◌, ◌≤◌, ◌<◌, ◌^◌, false, List, [], ◌∷◌, All, length, zero, suc}
 use Rattle.std.specs.Arc.{arc_value}
 use Rattle.indexmap.specs.IndexMap.{spare}
 use Rattle.pcef_journal.specs.declared.row.Row.{Row}

@@ -19,8 +19,8 @@ mod world;
 pub use answer::{Accepted, AttachFault, FlushRefusal, Judged, OpenFault, Refusal, Verdicts};
 pub use batch::{Batch, BatchFull, Item, MAX_WAITING};
 pub use laws::{
-    bearers_have_their_own_ids, rules_have_their_bearers, shown_tables_judge, tables_follow_commands, usage_is_exact,
-    waiting_rows_stay,
+    bearers_have_their_own_ids, rules_have_their_bearers, shown_tables_judge,
+    tables_follow_commands, usage_is_exact, waiting_rows_stay,
 };
 pub use prepared::Prepared;
 pub use profile::{MAX_CAPACITY, MAX_COMMANDS, Profile};

@@ -1,4 +1,4 @@
-use Rattle.std.proofs.Common.{◌≡◌, ◌∙◌, ap, length, List}
+use Rattle.std.proofs.Common.{◌∙◌, ap, length, List}
 use Rattle.pcef_usage.specs.declared.usage.KeyState.{KeyState}
 use Rattle.pcef_session.proofs.NextTables.{place_past}
 use Rattle.pcef_session.proofs.keys.place_of.Goals as goal

@@ -1,4 +1,4 @@
-use Rattle.std.proofs.Common.{◌≡◌, ◌∙◌, ap, arith, length, List}
+use Rattle.std.proofs.Common.{◌∙◌, ap, arith, length, List}
 use Rattle.pcef_usage.specs.declared.usage.KeyState.{KeyState}
 use Rattle.pcef_usage.proofs.Flushed.{length-rows_counted}
 use Rattle.pcef_session.specs.Following.{row_of, slot_of}

@@ -1,15 +1,11 @@
-use Rattle.std.proofs.Common.{◌≡◌, ap, arith, subst, refl, sym, ◌∙◌, ◌<◌, length, rules, None, All}
+use Rattle.std.proofs.Common.{ap, arith, subst, refl, ◌∙◌}
 use Rattle.pcef_journal.specs.declared.entry.Entry.TheVariants as entry
 use Rattle.std.specs.Prelude.{◌∷◌, Ok, Err}
-use Rattle.pcef_journal.specs.Entries.{Journal, commands, rows}
+use Rattle.pcef_journal.specs.Entries.{Journal}
 use Rattle.pcef_session.specs.declared.answer.AttachFault.TheVariants.{NoPlace}
-use Rattle.pcef_session.specs.Agreement.{Agrees, Parts}
 use Rattle.pcef_session.specs.Answers.{Attaches}
 use Rattle.pcef_session.specs.Core.{Core}
-use Rattle.pcef_session.specs.Soundness.{IsPlain, IsSound}
-use Rattle.pcef_session.specs.Terms.{setting_of}
-use Rattle.pcef_session.proofs.FirstSession.{agrees_attached}
-use Rattle.pcef_session.proofs.PlainJournals.{attach_accepted, attach_full, attach_next, plain_attach}
+use Rattle.pcef_session.proofs.PlainJournals.{attach_full, attach_next}
 use Rattle.pcef_session.proofs.SoundLater.{sound_attached}
 use Rattle.pcef_session.proofs.state.SessionState.attach.Goals as goal
 

@@ -1,4 +1,4 @@
-use Rattle.std.proofs.Common.{rules, ◌≡◌, ◌∙◌, ap, sym, subst, refl, Some, None}
+use Rattle.std.proofs.Common.{rules, ◌≡◌, ◌∙◌, ap, sym, subst, refl}
 use Rattle.pcef_bearer.specs.Bindings.{Binding, id_beside, number_of, without}
 use Rattle.pcef_bearer.proofs.GivenIds.{gets_id}
 use Rattle.pcef_bearer.proofs.Kept.{accepted}
@@ -11,7 +11,7 @@ use Rattle.pcef_session.specs.Core.{Core, setting_in}
 use Rattle.pcef_session.proofs.Acceptance.{binds_rule}
 use Rattle.pcef_session.proofs.BearerIds.{lawful_bound}
 use Rattle.pcef_session.proofs.BoundBearers.{has_bearer_ids, next_id}
-use Rattle.pcef_session.proofs.CoreSound.{IsSoundCore, sound_now}
+use Rattle.pcef_session.proofs.CoreSound.{sound_now}
 use Rattle.pcef_session.proofs.state.SessionState.bearer_to_be.Goals as goal
 
 pub unreachable-requires : goal.unreachable-requires

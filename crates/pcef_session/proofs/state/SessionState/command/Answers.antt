@@ -1,4 +1,4 @@
-use Rattle.std.proofs.Common.{rules, ◌≡◌, ◌∙◌, subst, sym, Err}
+use Rattle.std.proofs.Common.{rules, subst, sym, Err}
 use Rattle.pcef_journal.specs.Entries.{Journal}
 use Rattle.pcef_session.specs.Answers.{Does}
 use Rattle.pcef_session.specs.Core.{setting_in}

@@ -1,10 +1,7 @@
-use Rattle.std.proofs.Common.{rules, ◌≡◌, ◌∙◌, ap, sym, subst, refl, map}
-use Rattle.std.specs.Option.{option_copied, option_map}
-use Rattle.pcef_usage.specs.declared.usage.KeyState.{KeyState}
-use Rattle.pcef_usage.specs.Keys.{place_of}
+use Rattle.std.proofs.Common.{rules, ◌∙◌, ap}
+use Rattle.std.specs.Option.{option_copied}
 use Rattle.pcef_session.specs.Core.{Core, setting_in}
-use Rattle.pcef_session.specs.Kept.{is_on}
-use Rattle.pcef_session.proofs.CoreSound.{IsSoundCore, sound_now}
+use Rattle.pcef_session.proofs.CoreSound.{sound_now}
 use Rattle.pcef_journal.specs.Journals.{now}
 use Rattle.pcef_session.specs.Shown.{counts_now}
 use Rattle.pcef_session.proofs.NextTables.{counts_is, stands_installed}

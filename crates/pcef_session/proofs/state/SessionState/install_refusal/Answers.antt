@@ -1,9 +1,7 @@
-use Rattle.std.proofs.Common.{◌≡◌, ◌∙◌, ap, refl, sym, subst, Some, ◌∷◌, true, false}
+use Rattle.std.proofs.Common.{◌≡◌, ◌∙◌, refl, sym, subst, true, false}
 use Rattle.std.specs.Prelude.{is_some}
 use Rattle.pcef_journal.specs.Setting.{offer_named}
-use Rattle.pcef_session.specs.declared.answer.Refusal.TheVariants as refusal
 use Rattle.pcef_session.specs.Core.{Core, setting_in}
-use Rattle.pcef_session.specs.Refusals.{becoming_active, first_of}
 use Rattle.pcef_session.specs.Terms.{setting_of}
 use Rattle.pcef_session.proofs.Refused.{offered}
 use Rattle.pcef_session.proofs.state.SessionState.install_refusal.Goals as goal

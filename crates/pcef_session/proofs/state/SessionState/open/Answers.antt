@@ -1,4 +1,4 @@
-use Rattle.std.proofs.Common.{rules, ◌≡◌, ◌∙◌, ap, arith, refl}
+use Rattle.std.proofs.Common.{rules, ◌∙◌, ap, refl}
 use Rattle.pcef_table.specs.Tables.{TableValue}
 use Rattle.pcef_session.proofs.FirstSession.{triggers_first}
 use Rattle.pcef_session.proofs.SoundLater.{sound_opened}

@@ -1,18 +1,15 @@
-use Rattle.std.proofs.Common.{rules, ◌≡◌, ◌∙◌, ◌+◌, ◌≤◌, ℕ, ap, sym, subst, refl, arith, length, List, [], ◌∷◌, Ok, None, false, true}
-use Rattle.std.specs.Prelude.{Option}
+use Rattle.std.proofs.Common.{◌≡◌, ◌∙◌, ◌≤◌, ℕ, ap, sym, subst, refl, arith, length, List, ◌∷◌, Ok, false}
 use Rattle.std.specs.Arc.{arc_value}
-use Rattle.pcef_bearer.specs.Bindings.{Binding}
 use Rattle.pcef_journal.specs.declared.entry.Entry.TheVariants as entry
 use Rattle.pcef_journal.specs.declared.telling.Telling.{Telling}
 use Rattle.pcef_journal.specs.Entries.{Journal}
-use Rattle.pcef_journal.specs.Journals.{gen, now, report_count, slots, tables}
+use Rattle.pcef_journal.specs.Journals.{gen, now, report_count, slots}
 use Rattle.pcef_journal.specs.Reports.{after_command, plan}
 use Rattle.pcef_table.specs.Tables.{TableValue}
 use Rattle.pcef_usage.specs.declared.usage.KeyState.{KeyState}
-use Rattle.pcef_usage.specs.Commands.{entered}
 use Rattle.pcef_usage.specs.Keys.{keys_of}
 use Rattle.pcef_usage.specs.Tellings.{KnowsAll}
-use Rattle.pcef_usage.proofs.Afterwards.{few_entered, tables_after}
+use Rattle.pcef_usage.proofs.Afterwards.{tables_after}
 use Rattle.pcef_usage.proofs.Commanded.{keys_entered}
 use Rattle.pcef_usage.proofs.Planned.{knows_plan}
 use Rattle.pcef_session.specs.declared.answer.Accepted.{Accepted}

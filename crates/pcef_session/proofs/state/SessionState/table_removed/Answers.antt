@@ -1,4 +1,4 @@
-use Rattle.std.proofs.Common.{rules, ◌≡◌, ◌∙◌, ap, List}
+use Rattle.std.proofs.Common.{◌∙◌, ap}
 use Rattle.pcef_session.specs.Core.{Core}
 use Rattle.pcef_session.proofs.CoreSound.{sound_now}
 use Rattle.pcef_session.proofs.NextTables.{if_ok, number_fits, table_without}

@@ -1,9 +1,6 @@
-use Rattle.std.proofs.Common.{rules, ◌≡◌, ◌∙◌, ◌+◌, ◌≤◌, ap, sym, subst, refl, arith, length, map, List, None}
+use Rattle.std.proofs.Common.{◌≡◌, ◌+◌, ◌≤◌, sym, subst, refl, arith, length, map, None}
 use Rattle.pcef_journal.specs.Entries.{rows}
 use Rattle.pcef_journal.specs.Reports.{after_flush}
-use Rattle.pcef_usage.specs.declared.usage.KeyState.{KeyState}
-use Rattle.pcef_usage.proofs.Flushed.{StatesAgree}
-use Rattle.pcef_session.specs.declared.batch.Item.{Item}
 use Rattle.pcef_session.specs.Core.{Core, setting_in}
 use Rattle.pcef_session.specs.Following.{CanCountAll, HasItsSlots, row_of}
 use Rattle.pcef_session.specs.Lawful.{BatchFollows}
