@@ -1,3 +1,4 @@
+pub mod AnswerTexts
 pub mod Digits
 pub mod FilterLists
 pub mod NameTests

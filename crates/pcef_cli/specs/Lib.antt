@@ -10,3 +10,6 @@ pub mod ProfileKeys
 pub mod ProfileOf
 pub mod ProfileValues
 pub mod Readings
+pub mod RefusalAnswers
+pub mod ReportAnswers
+pub mod StepAnswers
