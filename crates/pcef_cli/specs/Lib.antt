@@ -12,4 +12,5 @@ pub mod ProfileValues
 pub mod Readings
 pub mod RefusalAnswers
 pub mod ReportAnswers
+pub mod ScriptLines
 pub mod StepAnswers

@@ -27,10 +27,9 @@ fn answer_of<C: Offers>(
     requires { C.offers catalog.now ≡ world.old.offers }
     ensures { world.new.offers ≡ world.old.offers }
 {
-    if line.is_too_long {
-        answer_too_long(alloc)
-    } else {
-        answer_line(alloc, catalog, world, &line.bytes)
+    match line.bytes() {
+        None => answer_too_long(alloc),
+        Some(bytes) => answer_line(alloc, catalog, world, bytes),
     }
 }
 
