@@ -50,7 +50,7 @@ body_data number (Inactive rule cause) =
 abbrev pub report_data : Report → Data
 report_data report = body_data report.number report.body
 
--- a journal's reports from a number on, in order; none where that is no number before the other one
+-- a journal's reports from the number `first` on, the oldest first; none where `past_last` is not above it
 abbrev pub reports_told : Journal → ℕ → ℕ → List Report
 reports_told journal first past_last = if nat_lt first past_last then drop first (reverse (reports journal)) else []
 

@@ -1,8 +1,11 @@
 //! Scripts and their answers, worked out by hand.
-use super::run_script;
+use super::writing::put_all;
+use super::{ScriptFault, run_script};
 use crate::profile::read_profile;
 use pcef_table::Catalog;
 use std::alloc::Global;
+use std::io;
+use std::io::Write;
 use std::sync::Arc;
 use std::test::Fail;
 
@@ -163,5 +166,67 @@ fn one_rule_one_key_and_thirty_two_rows(rt: HostRuntime) -> Result<(), Fail> {
         )
     );
     assert_eq!(rt; faults, 0);
+    Ok(())
+}
+
+#[test]
+fn a_line_has_262_144_bytes_at_most(rt: HostRuntime) -> Result<(), Fail> {
+    let alloc = rt.alloc();
+    let mut script = String::new(alloc);
+    for _ in 0..262_144 {
+        script.push(' ')?;
+    }
+    let (text, faults) = run(alloc, &[script.as_str(), "\n"])?;
+    assert_eq!(rt; text.as_str(), "");
+    assert_eq!(rt; faults, 0);
+    let (text, faults) = run(alloc, &[script.as_str(), " \n", SHOW])?;
+    assert_eq!(rt;
+        text.as_str(),
+        "{\"fault\":1,\"name\":\"LineTooLong\"}\n{\"active\":[],\"bearers\":[{\"down\":0,\"id\":5,\"rules\":0,\"up\":0}],\"generation\":0,\"keys\":[]}\n"
+    );
+    assert_eq!(rt; faults, 1);
+    Ok(())
+}
+
+/// Takes a byte at a time while there is room, and then is interrupted, or takes none.
+#[derive(Drop)]
+struct Failing {
+    taken: usize,
+    room: usize,
+    is_interrupted: bool,
+}
+
+impl Write for Failing {
+    fn write(&mut self, bytes: &[u8]) -> io::Result<usize> {
+        if self.taken < self.room && !bytes.is_empty() {
+            self.taken += 1;
+            Ok(1)
+        } else if self.is_interrupted {
+            Err(io::Error::from(io::ErrorKind::Interrupted))
+        } else {
+            Ok(0)
+        }
+    }
+
+    fn flush(&mut self) -> io::Result<()> {
+        Ok(())
+    }
+}
+
+#[test]
+fn a_writer_that_fails_ends_it(rt: HostRuntime) -> Result<(), Fail> {
+    for (room, is_interrupted, expected) in [
+        (4, true, Err(ScriptFault::Write)),
+        (4, false, Err(ScriptFault::Write)),
+        (6, true, Ok(())),
+    ] {
+        let mut writer = Failing {
+            taken: 0,
+            room,
+            is_interrupted,
+        };
+        assert_eq!(rt; put_all(&mut writer, b"answer"), expected);
+        assert_eq!(rt; writer.taken, room);
+    }
     Ok(())
 }
