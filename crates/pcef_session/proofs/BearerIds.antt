@@ -188,13 +188,13 @@ third_case b c x y z isnt neither = rw (isnt, neither) refl
 
 -- what id a pair has after
 module _ (p : Setting) (g : Generation) (rules : List Active) (q : Qos) where
-  id_default : same_qos q p.default_qos ≡ true → id_after p g rules q ≡ 5
+  pub id_default : same_qos q p.default_qos ≡ true → id_after p g rules q ≡ 5
   id_default is = first_case (same_qos q p.default_qos) (has_bearer p g.rules q) 5 (g.id_of q) (least_free p (kept_ids p g rules)) is
 
-  id_kept : same_qos q p.default_qos ≡ false → has_bearer p g.rules q ≡ true → id_after p g rules q ≡ g.id_of q
+  pub id_kept : same_qos q p.default_qos ≡ false → has_bearer p g.rules q ≡ true → id_after p g rules q ≡ g.id_of q
   id_kept isnt had = second_case (same_qos q p.default_qos) (has_bearer p g.rules q) 5 (g.id_of q) (least_free p (kept_ids p g rules)) isnt had
 
-  id_new : same_qos q p.default_qos ≡ false → has_bearer p g.rules q ≡ false → id_after p g rules q ≡ least_free p (kept_ids p g rules)
+  pub id_new : same_qos q p.default_qos ≡ false → has_bearer p g.rules q ≡ false → id_after p g rules q ≡ least_free p (kept_ids p g rules)
   id_new isnt new = third_case (same_qos q p.default_qos) (has_bearer p g.rules q) 5 (g.id_of q) (least_free p (kept_ids p g rules)) isnt new
 
 -- ids after, one generation on

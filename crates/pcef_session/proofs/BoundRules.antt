@@ -93,7 +93,7 @@ filter_once s (r ∷ rules) once =
     ]
 
 -- where none has a name, all stay
-without_none : (name : List ℕ) (rules : List Active) → list_any (is_named name) rules ≡ false → without name rules ≡ rules
+pub without_none : (name : List ℕ) (rules : List Active) → list_any (is_named name) rules ≡ false → without name rules ≡ rules
 without_none name [] none = refl
 without_none name (r ∷ rules) none =
     let parts = or_parts (is_named name r) (list_any (is_named name) rules) none in

@@ -8,10 +8,11 @@ use Rattle.pcef_journal.specs.declared.command.Command.{Command}
 use Rattle.pcef_journal.specs.declared.command.Command.TheVariants.{Install, Activate, Remove, Monitor, Stop, ReportNow, Triggers, Notice, LoseBearer, Close, Terminate}
 use Rattle.pcef_journal.specs.declared.entry.Entry.TheVariants as entry
 use Rattle.pcef_journal.specs.declared.row.Row.{Row}
+use Rattle.pcef_journal.specs.declared.telling.Telling.{Telling}
 use Rattle.pcef_journal.specs.Setting.{Setting}
 use Rattle.pcef_journal.specs.Entries.{Journal, commands, rows}
 use Rattle.pcef_journal.specs.Journals.{attach_count, attached, report_count, subscribed}
-use Rattle.pcef_journal.specs.Reports.{after_flush, settled, tell, thresholds, with_rows}
+use Rattle.pcef_journal.specs.Reports.{after_command, after_flush, body_of, plan, settled, tell, thresholds, with_rows}
 use Rattle.pcef_session.specs.declared.answer.AttachFault.TheVariants.{NoPlace}
 use Rattle.pcef_session.specs.declared.answer.FlushRefusal.{FlushRefusal}
 use Rattle.pcef_session.specs.declared.answer.FlushRefusal.TheVariants.{NotAttached, RowsFull}
@@ -19,13 +20,13 @@ use Rattle.pcef_session.specs.Answers.{Attaches, Flushes, Told, attach_outcome, 
 use Rattle.pcef_session.specs.declared.batch.Item.{Item}
 use Rattle.pcef_session.specs.Core.{IsServed}
 use Rattle.pcef_session.specs.Following.{row_of}
-use Rattle.pcef_session.specs.Refusals.{first_of, flush_refusals}
+use Rattle.pcef_session.specs.Refusals.{attach_faults, first_of, flush_refusals}
 use Rattle.pcef_session.specs.Soundness.{IsPlain, below}
 use Rattle.pcef_session.proofs.BoundRules.{contrary}
 
 pub plain_row : (j : Journal) (n : ℕ) (r : Row) → IsPlain j n → IsPlain (entry.Row r ∷ j) n
-unfolding attach_count attached subscribed
-plain_row j n r plain = record { counted = plain.counted; attached_are = plain.attached_are; not_closed = plain.not_closed; not_terminated = plain.not_terminated; quiet = plain.quiet }
+unfolding attach_count attached
+plain_row j n r plain = record { counted = plain.counted; attached_are = plain.attached_are; not_closed = plain.not_closed; not_terminated = plain.not_terminated }
 
 pub plain_rows : (j : Journal) (n : ℕ) (rs : List Row) → IsPlain j n → IsPlain (with_rows rs j) n
 unfolding with_rows
@@ -33,13 +34,12 @@ plain_rows j n [] plain = plain
 plain_rows j n (r ∷ rs) plain = plain_rows (entry.Row r ∷ j) n rs (plain_row j n r plain)
 
 pub plain_attach : (j : Journal) (n : ℕ) → IsPlain j n → IsPlain (entry.Attach n ∷ j) (suc n)
-unfolding attach_count attached subscribed
+unfolding attach_count attached
 plain_attach j n plain = record {
   counted = omega (arith, plain.counted);
   attached_are = ap (λ ws. n ∷ ws) plain.attached_are;
   not_closed = plain.not_closed;
   not_terminated = plain.not_terminated;
-  quiet = plain.quiet;
 }
 
 pub rows_with : (j : Journal) (rs : List Row) → length (rows (with_rows rs j)) ≡ length rs + length (rows j)
@@ -56,16 +56,6 @@ pub reports_with : (j : Journal) (rs : List Row) → report_count (with_rows rs 
 unfolding with_rows
 reports_with j [] = refl
 reports_with j (r ∷ rs) = reports_with (entry.Row r ∷ j) rs
-
--- without a subscription no grant is reported
-pub quiet_settled : (p : Setting) (j : Journal) → (subscribed j).usage_report ≡ false → settled p j ≡ j
-unfolding thresholds tell
-quiet_settled p j quiet = rw quiet refl
-
-pub quiet_flush : (p : Setting) (j : Journal) (n : ℕ) (rs : List Row) → IsPlain j n → after_flush p j rs ≡ with_rows rs j
-unfolding with_rows
-quiet_flush p j n [] plain = refl
-quiet_flush p j n (r ∷ rs) plain = quiet_settled p (with_rows (r ∷ rs) j) (plain_rows j n (r ∷ rs) plain).quiet
 
 -- those who are attached are the workers below the count
 one_below : (n worker : ℕ) → ((n == worker) || nat_lt worker n) ≡ nat_lt worker (suc n)
@@ -88,6 +78,9 @@ among_below (suc n) worker = ap (λ b. (n == worker) || b) (among_below n worker
 pub attach_full : (j : Journal) (n : ℕ) → IsPlain j n → 16 ≤ n → Attaches j (Err NoPlace) j
 unfolding attach_outcome
 attach_full j n plain full = inl (rw (plain.counted, le-leb 16 n full) (refl, refl))
+
+pub attach_accepted : (j : Journal) (n : ℕ) → IsPlain j n → n < 16 → first_of (attach_faults j) ≡ None
+attach_accepted j n plain few = rw (plain.counted, lt-leb 16 n few, plain.not_closed, plain.not_terminated) refl
 
 pub attach_next : (j new : Journal) (n : ℕ) → IsPlain j n → n < 16 → new ≡ entry.Attach n ∷ j → Attaches j (Ok n) new
 unfolding attach_outcome
@@ -124,11 +117,11 @@ refused_by_none p j n worker count plain under fits =
 
 -- ---- commands that are served
 pub plain_command : (j : Journal) (n : ℕ) (c : Command) → IsServed c → IsPlain j n → IsPlain (entry.Command c ∷ j) n
-unfolding attach_count attached subscribed
-plain_command j n (Install rule) served plain = record { counted = plain.counted; attached_are = plain.attached_are; not_closed = plain.not_closed; not_terminated = plain.not_terminated; quiet = plain.quiet }
-plain_command j n (Monitor key amount) served plain = record { counted = plain.counted; attached_are = plain.attached_are; not_closed = plain.not_closed; not_terminated = plain.not_terminated; quiet = plain.quiet }
+unfolding attach_count attached
+plain_command j n (Install rule) served plain = record { counted = plain.counted; attached_are = plain.attached_are; not_closed = plain.not_closed; not_terminated = plain.not_terminated }
+plain_command j n (Monitor key amount) served plain = record { counted = plain.counted; attached_are = plain.attached_are; not_closed = plain.not_closed; not_terminated = plain.not_terminated }
 plain_command j n (Activate name) served plain = absurd served
-plain_command j n (Remove name) served plain = absurd served
+plain_command j n (Remove name) served plain = record { counted = plain.counted; attached_are = plain.attached_are; not_closed = plain.not_closed; not_terminated = plain.not_terminated }
 plain_command j n (Stop key) served plain = absurd served
 plain_command j n (ReportNow key) served plain = absurd served
 plain_command j n (Triggers set) served plain = absurd served
@@ -137,9 +130,23 @@ plain_command j n (LoseBearer id) served plain = absurd served
 plain_command j n Close served plain = absurd served
 plain_command j n Terminate served plain = absurd served
 
+-- reports, and so an accepted command with them
+pub plain_told : (p : Setting) (ts : List Telling) (j : Journal) (n : ℕ) → IsPlain j n → IsPlain (tell p ts j) n
+unfolding tell attach_count attached
+plain_told p [] j n plain = plain
+plain_told p (t ∷ ts) j n plain =
+    plain_told p ts (entry.Report (record { number = report_count j; body = body_of p j t }) ∷ j) n
+    (record { counted = plain.counted; attached_are = plain.attached_are; not_closed = plain.not_closed; not_terminated = plain.not_terminated })
+
+pub plain_after : (p : Setting) (j : Journal) (n : ℕ) (c : Command) → IsServed c → IsPlain j n → IsPlain (after_command p j c) n
+unfolding after_command
+plain_after p j n c served plain =
+    plain_told p (thresholds p (tell p (plan p j c) (entry.Command c ∷ j))) (tell p (plan p j c) (entry.Command c ∷ j)) n
+    (plain_told p (plan p j c) (entry.Command c ∷ j) n (plain_command j n c served plain))
+
 pub plain_first : IsPlain [] 0
-unfolding attach_count attached subscribed
-plain_first = record { counted = refl; attached_are = refl; not_closed = refl; not_terminated = refl; quiet = refl }
+unfolding attach_count attached
+plain_first = record { counted = refl; attached_are = refl; not_closed = refl; not_terminated = refl }
 
 -- ---- the loop over rows that are taken over
 pub taken_step : (items : List Item) (i : ℕ) (item : Item) (j new all : Journal) (row : Row) → i < length items → item ≡ get_or items i item → row ≡ item.row →

@@ -55,7 +55,7 @@ has_key_from : (rs : List Active) (r : Active) (key : List ℕ) → Contains rs 
 has_key_from rs r key there is = any_from (λ x. is_key key x.properties.key) rs r there (ap (is_key key) is ∙ same_name_of key key refl)
 
 -- the key of a rule that is there afterwards stays on or off
-still : (old new : List Active) (on : List (List ℕ)) (r : Active) → Contains new r → counts_now (still_on old new on) r.properties.key ≡ counts_now on r.properties.key
+pub still : (old new : List Active) (on : List (List ℕ)) (r : Active) → Contains new r → counts_now (still_on old new on) r.properties.key ≡ counts_now on r.properties.key
 still old new on r there = from r.properties.key refl
   where
     from : (key : Option (List ℕ)) → r.properties.key ≡ key → counts_now (still_on old new on) key ≡ counts_now on key
@@ -80,7 +80,7 @@ id_stays p g new r fives there =
     ]
 
 -- ---- the next generation
-after_is : (p : Setting) (j : Journal) (c : Command) → is_table c ≡ true → at p (entry.Command c ∷ j) (gen (entry.Command c ∷ j)) ≡ next p (now p j) c
+pub after_is : (p : Setting) (j : Journal) (c : Command) → is_table c ≡ true → at p (entry.Command c ∷ j) (gen (entry.Command c ∷ j)) ≡ next p (now p j) c
 after_is p j c is = at_newest p (entry.Command c ∷ j) ∙ now_after_table p j c is
 
 -- an entry keeps the bearer of a rule that was there
@@ -130,7 +130,7 @@ only_now : (p : Setting) (j : Journal) (t : TableValue) → Shows p j (gen j) t 
 only_now p j t shows e there = let w = shows.only e there in (w.0, subst (λ (g : Generation). Contains g.rules w.0) (at_newest p j) w.1, w.2)
 
 -- the name of an entry is that of its rule
-name_is : (p : Setting) (j : Journal) (g : ℕ) (e : Entry) (r : Active) → StandsFor p j g e r → name_of p.catalog e.source ≡ r.properties.name
+pub name_is : (p : Setting) (j : Journal) (g : ℕ) (e : Entry) (r : Active) → StandsFor p j g e r → name_of p.catalog e.source ≡ r.properties.name
 name_is p j g e r stands = ap (λ o. option_map_or (λ q. q.name) o []) (rule_is p.catalog e.source r stands.rule_is).properties_are
 
 -- ---- Remove

@@ -16,10 +16,12 @@ use Rattle.pcef_session.specs.declared.answer.AttachFault.TheVariants as attach
 use Rattle.pcef_session.specs.declared.answer.FlushRefusal.{FlushRefusal}
 use Rattle.pcef_session.specs.declared.answer.FlushRefusal.TheVariants as flush
 use Rattle.pcef_session.specs.declared.answer.Judged.{Judged}
+use Rattle.pcef_session.specs.declared.answer.OpenFault.{OpenFault}
+use Rattle.pcef_session.specs.declared.answer.OpenFault.TheVariants as opening
 use Rattle.pcef_session.specs.declared.answer.Verdicts.{Verdicts}
 use Rattle.pcef_session.specs.declared.answer.Refusal.{Refusal}
 use Rattle.pcef_session.specs.declared.answer.Refusal.TheVariants as refusal
-use Rattle.pcef_session.specs.Refusals.{attach_faults, first_of, flush_refusals, is_active, is_attached, refusals}
+use Rattle.pcef_session.specs.Refusals.{attach_faults, first_of, flush_refusals, is_active, is_attached, open_faults, refusals}
 
 -- an answer, and the journal after it
 abbrev pub Outcome : Type 0 → Type 0 → Type 0
@@ -105,6 +107,15 @@ abbrev pub abandon_outcome : Journal → ℕ → ℕ × Journal
 abandon_outcome j worker = (lane_len j worker, if is_attached j worker then after_leave worker j else j)
 
 -- ---- promises
+-- a session opens without a fault, or the first fault is told, or memory is wanting
+abbrev pub Opens : Setting → Option OpenFault → Type 0
+Opens p None = first_of (open_faults p) ≡ None
+Opens p (Some f) = (first_of (open_faults p) ≡ Some f) ⊎ (f ≡ opening.NoMemory)
+
+-- a command is refused for the first reason, or for want of memory
+abbrev pub IsRefused : Setting → Journal → Command → Refusal → Type 0
+IsRefused p j c r = (first_of (refusals p j c) ≡ Some r) ⊎ (r ≡ refusal.NoMemory)
+
 -- what was answered, and the journal after it, are as due
 abbrev pub Gives : {A R : Type 0} → Outcome A R → Result A R → Journal → Type 0
 Gives due result after = (result ≡ due.0) × (after ≡ due.1)

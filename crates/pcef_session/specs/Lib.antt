@@ -1,7 +1,10 @@
 pub mod Agreement
 pub mod Answers
+pub mod Bound
+pub mod Changes
 pub mod Core
 pub mod Following
+pub mod Kept
 pub mod Lawful
 pub mod Laws
 pub mod Refusals
@@ -9,4 +12,6 @@ pub mod Sessions
 pub mod Shown
 pub mod Soundness
 pub mod Terms
+pub mod Workers
+pub mod WorldSoundness
 pub mod Worlds

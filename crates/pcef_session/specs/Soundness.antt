@@ -1,34 +1,56 @@
 -- What always holds of a session's parts.
-use Rattle.std.specs.Prelude.{ℕ, ◌≡◌, ◌≤◌, false, List, [], ◌∷◌, length, zero, suc}
+use Rattle.std.specs.Prelude.{ℕ, ◌≡◌, ◌≤◌, ◌<◌, ◌+◌, ◌^◌, false, List, [], ◌∷◌, All, length, zero, suc}
 use Rattle.std.specs.Arc.{arc_value}
+use Rattle.indexmap.specs.IndexMap.{spare}
+use Rattle.pcef_journal.specs.declared.row.Row.{Row}
 use Rattle.pcef_journal.specs.Entries.{Journal, commands, rows}
-use Rattle.pcef_journal.specs.Journals.{attach_count, attached, subscribed}
-use Rattle.pcef_table.specs.Tables.{IsTable}
+use Rattle.pcef_journal.specs.Journals.{attach_count, attached}
+use Rattle.pcef_session.specs.Agreement.{Agrees, Parts}
 use Rattle.pcef_session.specs.Core.{Core}
 use Rattle.pcef_session.specs.Refusals.{was_closed, was_terminated}
+use Rattle.pcef_session.specs.Terms.{setting_of}
 use Rattle.pcef_session.specs.declared.state.SessionState.TheInside.{Inside}
 
+abbrev pub parts_of : Inside → Parts
+parts_of s = record {
+  rules = s.active.entries;
+  binding = s.bearers;
+  keys = s.counted.states;
+  triggers = s.subscribed;
+  table = arc_value s.table;
+}
+
 abbrev pub core_of : Inside → Core
-core_of s = record { terms = s.profile; offers = s.listing; journal = s.journal.entries; room = s.journal.room; active = (arc_value s.table).entries }
+core_of s = record { terms = s.profile; offers = s.listing; journal = s.counted.journal; room = s.counted.room; places = spare s.active; parts = parts_of s }
 
 -- the numbers below n, the highest first
 abbrev pub below : ℕ → List ℕ
 below zero = []
 below (suc n) = n ∷ below n
 
--- a journal to which so many workers were attached, of whom none left, which nothing ended, and in which no
--- trigger is subscribed: the session serves no such command yet
+-- a journal to which so many workers were attached, of whom none left, and which nothing ended: the
+-- session serves no command that ends it yet
 pub record IsPlain (j : Journal) (workers : ℕ) : Type 0 where
   pub counted : attach_count j ≡ workers
   pub attached_are : attached j ≡ below workers
   pub not_closed : was_closed j ≡ false
   pub not_terminated : was_terminated j ≡ false
-  pub quiet : (subscribed j).usage_report ≡ false
+
+-- the journal is within the profile's limits, and the octets of each row fit 32 bits
+pub record IsLimited (s : Inside) : Type 0 where
+  pub few_commands : length (commands s.counted.journal) ≤ s.profile.commands
+  pub most_commands : s.profile.commands ≤ 1000000
+  pub few_rows : length (rows s.counted.journal) ≤ s.profile.rows
+  pub most_rows : s.profile.rows ≤ 4294967295
+  pub octets : All (λ (r : Row). r.header.octets < 2 ^ 32) (rows s.counted.journal)
+
+-- at most 64 rules are active, and at most 8 keys have a slot
+pub record IsSmall (s : Inside) : Type 0 where
+  pub few_rules : length s.active.entries ≤ 64
+  pub few_keys : length s.counted.states ≤ 8
 
 pub record IsSound (s : Inside) : Type 0 where
-  pub table : IsTable s.listing (arc_value s.table).entries
-  pub generation : (arc_value s.table).number ≤ length (commands s.journal.entries)
-  pub few : length (commands s.journal.entries) ≤ s.profile.commands
-  pub limit : s.profile.commands ≤ 1000000
-  pub few_rows : length (rows s.journal.entries) ≤ s.profile.rows
-  pub plain : IsPlain s.journal.entries s.attached
+  pub agrees : Agrees (setting_of s.profile s.listing) s.counted.journal (parts_of s)
+  pub plain : IsPlain s.counted.journal s.attached
+  pub limited : IsLimited s
+  pub small : IsSmall s

@@ -1,6 +1,7 @@
 //! The rows of a worker that wait.
 
 ghost use Rattle.std.specs.Prelude.{◌≡◌, ◌≤◌, ◌<◌, ◌++◌, ◌∷◌, [], ◌↔◌, IfOk, IsTrue, length};
+ghost use Rattle.pcef_session.specs.Following.{HasSmallRows};
 
 use pcef_journal::Row;
 use pcef_rule::Slot;
@@ -37,7 +38,9 @@ impl Model for Batch {
 
     ghost view = { λ b. b.items.items };
 
-    ghost invariant = { λ b. (length b.items.items ≤ 32) × (32 ≤ vec_capacity b.items) };
+    ghost use Rattle.pcef_session.specs.Following.{HasSmallRows};
+
+    ghost invariant = { λ b. (length b.items.items ≤ 32) × (32 ≤ vec_capacity b.items) × HasSmallRows b.items.items };
 }
 
 impl Batch {
@@ -68,6 +71,7 @@ impl Batch {
     /// The rows that wait.
     pub fn items(&self) -> &[Item]
         ensures items { result.now ≡ self.now }
+        ensures octets { HasSmallRows result.now }
         ensures most { length result.now ≤ 32 }
     {
         self.items.as_slice()

@@ -4,25 +4,26 @@
 
 mod answer;
 mod batch;
-mod bearers;
+mod entering;
+mod keys;
 mod laws;
+mod planning;
+mod prepared;
 mod profile;
 mod rows;
 mod session;
 mod state;
-mod usage;
 mod worker;
 mod world;
 
 pub use answer::{Accepted, AttachFault, FlushRefusal, Judged, OpenFault, Refusal, Verdicts};
 pub use batch::{Batch, BatchFull, Item, MAX_WAITING};
-pub use bearers::{Bearers, DEFAULT_BEARER};
 pub use laws::{
     bearers_have_their_own_ids, shown_tables_judge, tables_follow_commands, usage_is_exact,
     waiting_rows_stay,
 };
+pub use prepared::Prepared;
 pub use profile::{MAX_CAPACITY, MAX_COMMANDS, Profile};
 pub use session::Session;
-pub use state::{MAX_WORKERS, Prepared, SessionState};
-pub use usage::{KeyState, Usage};
+pub use state::{MAX_RULES, MAX_WORKERS, SessionState};
 pub use world::{StepRefusal, WorldState};

@@ -1,14 +1,14 @@
 //! Rows that are taken over.
 
-ghost use Rattle.std.specs.Prelude.{◌≡◌, ◌≤◌, length, map, IfOk};
+ghost use Rattle.std.specs.Prelude.{◌≡◌, ◌≤◌, ◌<◌, ◌+◌, ◌∷◌, length, map, IfOk};
 ghost use Rattle.pcef_journal.specs.Reports.{with_rows};
 ghost use Rattle.pcef_session.specs.Answers.{judged_of};
-ghost use Rattle.pcef_session.specs.Following.{row_of};
+ghost use Rattle.pcef_session.specs.Following.{CanCountAll, IsTaken, row_of, slot_of};
+ghost use Rattle.pcef_usage.specs.Flushes.{rows_counted};
 
 use crate::answer::Judged;
 use crate::batch::Item;
-use crate::usage::Usage;
-use pcef_journal::{Entry, Journal};
+use pcef_usage::CountedJournal;
 use std::alloc::{AllocError, Global};
 
 /// The verdicts of rows.
@@ -26,14 +26,29 @@ pub(crate) fn note_rows(alloc: Global, items: &[Item]) -> Result<Vec<Judged>, Al
 }
 
 /// Adds rows to the journal and counts their octets. Takes no memory.
-pub(crate) fn take_rows(journal: &mut Journal, usage: &mut Usage, items: &[Item])
-    requires { length items.now ≤ journal.old.room }
-    ensures rows { journal.new.entries ≡ with_rows (map row_of items.now) journal.old.entries }
+pub(crate) fn take_rows(counted: &mut CountedJournal, items: &[Item])
+    requires room { length items.now ≤ counted.old.room }
+    requires fits { CanCountAll items.now counted.old.states }
+    ensures journal { counted.new.journal ≡ with_rows (map row_of items.now) counted.old.journal }
+    ensures states { counted.new.states ≡ rows_counted row_of slot_of items.now counted.old.states }
+    ensures room { counted.old.room ≤ counted.new.room + length items.now }
 {
     for item in items {
-        journal.append(Entry::Row(item.row.copy()));
-        if let Some(slot) = item.slot {
-            usage.count(slot, item.row.header.octets);
-        }
+        counted.take_row(item.row.copy(), item.slot);
     }
+}
+
+/// Adds rows to the journal, counts their octets and tells the thresholds. No rows change nothing. Takes
+/// no memory.
+pub(crate) fn take_all(counted: &mut CountedJournal, items: &[Item], subscribed: bool)
+    requires room { length items.now + 8 ≤ counted.old.room }
+    requires few { length counted.old.states ≤ 8 }
+    requires fits { CanCountAll items.now counted.old.states }
+    ensures { IsTaken subscribed items.now counted.old counted.new }
+{
+    if items.is_empty() {
+        return;
+    }
+    take_rows(counted, items);
+    counted.finish(subscribed);
 }

@@ -1,17 +1,21 @@
 //! A session with its catalog.
 
-ghost use Rattle.std.specs.Prelude.{◌≡◌, [], IfOk};
+ghost use Rattle.std.specs.Prelude.{◌≡◌, [], IfErr, IfOk, Ok, map};
+ghost use Rattle.std.specs.Arc.{arc_value};
+ghost use Rattle.std.specs.Result.{result_err, result_map_both};
+ghost use Rattle.pcef_table.specs.Catalogs.{offers_of};
 
 use crate::answer::{Accepted, AttachFault, FlushRefusal, OpenFault, Refusal, Verdicts};
 use crate::batch::Batch;
-use crate::bearers::Bearers;
+use crate::prepared::Prepared;
 use crate::profile::Profile;
-use crate::state::{Prepared, SessionState};
-use crate::usage::Usage;
+use crate::state::SessionState;
 use indexmap::IndexMap;
+use pcef_bearer::Bearers;
 use pcef_journal::{Command, Journal};
 use pcef_rule::RuleName;
 use pcef_table::{Catalog, Offers, Source, Table};
+use pcef_usage::Usage;
 use std::alloc::Global;
 use std::sync::Arc;
 
@@ -20,11 +24,17 @@ use std::sync::Arc;
 pub struct Session {
     catalog: Arc<Catalog>,
     state: SessionState,
+    ghost offered: { state.offers ≡ offers_of (arc_value catalog) },
 }
 
 impl Session {
-    ghost use Rattle.pcef_session.specs.Core.{IsPreparedFor, IsServed};
+    ghost use Rattle.pcef_session.specs.Agreement.{Agrees};
+    ghost use Rattle.pcef_session.specs.Answers.{Attaches, Does, Flushes, Gives, IsRefused, Opens, command_outcome, told_of};
+    ghost use Rattle.pcef_session.specs.Core.{IsPreparedFor, IsServed, setting_in};
+    ghost use Rattle.pcef_session.specs.Following.{HasItsSlots, row_of};
+    ghost use Rattle.pcef_session.specs.Lawful.{BatchFollows};
     ghost use Rattle.pcef_session.specs.Sessions.{state_of};
+    ghost use Rattle.pcef_session.specs.Terms.{setting_of};
 
     /// A session with an empty journal, or the first fault in the order of [`OpenFault`].
     pub fn open(
@@ -32,7 +42,8 @@ impl Session {
         profile: Profile,
         catalog: Arc<Catalog>,
     ) -> Result<Session, OpenFault>
-        ensures { IfOk result (λ s. (state_of s).journal ≡ []) }
+        ensures answer { Opens (setting_of profile (offers_of (arc_value catalog))) (result_err result) }
+        ensures made { IfOk result (λ s. ((state_of s).terms ≡ profile) × ((state_of s).offers ≡ offers_of (arc_value catalog)) × ((state_of s).journal ≡ [])) }
     {
         let Ok(listing) = catalog.listing().share() else {
             return Err(OpenFault::NoMemory);
@@ -44,6 +55,13 @@ impl Session {
     /// As [`SessionState::prepare`].
     pub fn prepare(&mut self, command: Command) -> Result<Prepared, Refusal>
         requires { IsServed command }
+        ensures terms { (state_of self.new).terms ≡ (state_of self.old).terms }
+        ensures offers { (state_of self.new).offers ≡ (state_of self.old).offers }
+        ensures journal { (state_of self.new).journal ≡ (state_of self.old).journal }
+        ensures parts { (state_of self.new).parts ≡ (state_of self.old).parts }
+        ensures refused { IfErr result (IsRefused (setting_in (state_of self.old)) (state_of self.old).journal command) }
+        ensures ready { IfOk result (λ d. IsPreparedFor (state_of self.new) d) }
+        ensures command { IfOk result (λ d. d.command ≡ command) }
     {
         self.state.prepare(command)
     }
@@ -51,6 +69,9 @@ impl Session {
     /// As [`SessionState::settle`].
     pub fn settle(&mut self, prepared: Prepared) -> Accepted
         requires { IsPreparedFor (state_of self.old) prepared }
+        ensures answer { Gives (command_outcome (setting_in (state_of self.old)) (state_of self.old).journal prepared.command) (Ok result) (state_of self.new).journal }
+        ensures terms { (state_of self.new).terms ≡ (state_of self.old).terms }
+        ensures offers { (state_of self.new).offers ≡ (state_of self.old).offers }
     {
         self.state.settle(prepared)
     }
@@ -58,57 +79,88 @@ impl Session {
     /// As [`SessionState::command`].
     pub fn command(&mut self, command: Command) -> Result<Accepted, Refusal>
         requires { IsServed command }
+        ensures answer { Does (setting_in (state_of self.old)) command (state_of self.old).journal result (state_of self.new).journal }
+        ensures terms { (state_of self.new).terms ≡ (state_of self.old).terms }
+        ensures offers { (state_of self.new).offers ≡ (state_of self.old).offers }
     {
         self.state.command(command)
     }
 
     /// As [`SessionState::attach`].
-    pub fn attach(&mut self) -> Result<u8, AttachFault> {
+    pub fn attach(&mut self) -> Result<u8, AttachFault>
+        ensures answer { Attaches (state_of self.old).journal result (state_of self.new).journal }
+        ensures offers { (state_of self.new).offers ≡ (state_of self.old).offers }
+        ensures terms { (state_of self.new).terms ≡ (state_of self.old).terms }
+        ensures parts { (state_of self.new).parts ≡ (state_of self.old).parts }
+    {
         self.state.attach()
     }
 
     /// As [`SessionState::flush`].
-    pub fn flush(&mut self, worker: u8, batch: &Batch) -> Result<Verdicts, FlushRefusal> {
+    pub fn flush(&mut self, worker: u8, batch: &Batch) -> Result<Verdicts, FlushRefusal>
+        requires follow { BatchFollows (setting_in (state_of self.old)) (state_of self.old).journal worker (map row_of batch.now) }
+        requires slots { HasItsSlots (setting_in (state_of self.old)) (state_of self.old).journal batch.now }
+        ensures answer { Flushes (setting_in (state_of self.old)) worker (map row_of batch.now) (state_of self.old).journal (result_map_both told_of (λ e. e) result) (state_of self.new).journal }
+        ensures offers { (state_of self.new).offers ≡ (state_of self.old).offers }
+        ensures terms { (state_of self.new).terms ≡ (state_of self.old).terms }
+    {
         self.state.flush(worker, batch)
     }
 
-    /// The catalog.
-    pub fn catalog(&self) -> &Arc<Catalog> {
+    /// The catalog, which offers the predefined rules of the session.
+    pub fn catalog(&self) -> &Arc<Catalog>
+        ensures { offers_of (arc_value result.now) ≡ (state_of self.now).offers }
+    {
         &self.catalog
     }
 
     /// The table of the newest generation, with the active rules.
-    pub fn table(&self) -> &Arc<Table> {
+    pub fn table(&self) -> &Arc<Table>
+        ensures { arc_value result.now ≡ (state_of self.now).parts.table }
+    {
         self.state.table()
     }
 
     /// The active rules by their names, in the order in which they became active.
-    pub fn active(&self) -> &IndexMap<RuleName, Source> {
+    pub fn active(&self) -> &IndexMap<RuleName, Source>
+        ensures { result.now.entries ≡ (state_of self.now).parts.rules }
+    {
         self.state.active()
     }
 
     /// The bearers.
-    pub fn bearers(&self) -> &Bearers {
+    pub fn bearers(&self) -> &Bearers
+        ensures { result.now ≡ (state_of self.now).parts.binding }
+    {
         self.state.bearers()
     }
 
     /// The keys that have a slot, with their usage.
-    pub fn usage(&self) -> &Usage {
+    pub fn usage(&self) -> &Usage
+        ensures { result.now ≡ (state_of self.now).parts.keys }
+    {
         self.state.usage()
     }
 
     /// The number of the newest generation.
-    pub fn generation(&self) -> u32 {
+    pub fn generation(&self) -> u32
+        ensures { result ≡ (state_of self.now).parts.table.number }
+    {
         self.state.generation()
     }
 
-    /// The journal.
-    pub fn journal(&self) -> &Journal {
+    /// The journal, and all that the session keeps beside it agrees with it.
+    pub fn journal(&self) -> &Journal
+        ensures journal { result.now.entries ≡ (state_of self.now).journal }
+        ensures agrees { Agrees (setting_in (state_of self.now)) (state_of self.now).journal (state_of self.now).parts }
+    {
         self.state.journal()
     }
 
     /// What is fixed for the session.
-    pub fn profile(&self) -> &Profile {
+    pub fn profile(&self) -> &Profile
+        ensures { result.now ≡ (state_of self.now).terms }
+    {
         self.state.profile()
     }
 }

@@ -1,101 +1,37 @@
 //! A session without the closures of its catalog.
 
-ghost use Rattle.std.specs.Prelude.{◌≡◌, [], ◌≤◌, ◌<◌, ◌+◌, ◌^◌, IfOk, IfNone, OnErr, OnOk, length, map};
+ghost use Rattle.std.specs.Prelude.{◌≡◌, [], IfOk};
 ghost use Rattle.std.specs.Arc.{arc_value};
-ghost use Rattle.pcef_journal.specs.Entries.{commands, rows};
-ghost use Rattle.pcef_journal.specs.Reports.{after_flush};
-ghost use Rattle.pcef_table.specs.Sources.{IsKnown};
-ghost use Rattle.pcef_table.specs.Tables.{IsTable};
-ghost use Rattle.std.specs.Result.{result_map_both};
-ghost use Rattle.pcef_session.specs.Answers.{Attaches, Flushes, told, told_of};
-ghost use Rattle.pcef_session.specs.Core.{Core, HasPlace, IsPreparedFor, IsServed};
-ghost use Rattle.pcef_session.specs.Following.{row_of};
-ghost use Rattle.pcef_session.specs.Refusals.{first_of, flush_refusals};
+ghost use Rattle.std.specs.Result.{result_err};
+ghost use Rattle.pcef_journal.specs.Generations.{at_first};
+ghost use Rattle.pcef_session.specs.Agreement.{Agrees};
+ghost use Rattle.pcef_session.specs.Answers.{Attaches, Opens};
+ghost use Rattle.pcef_session.specs.Bound.{binding_of};
+ghost use Rattle.pcef_session.specs.Core.{setting_in};
 ghost use Rattle.pcef_session.specs.Terms.{setting_of};
 
-use crate::answer::{Accepted, AttachFault, FlushRefusal, OpenFault, Refusal, Verdicts};
-use crate::batch::{Batch, Item};
-use crate::bearers::{Bearers, DEFAULT_BEARER};
+use crate::answer::{AttachFault, OpenFault};
 use crate::profile::Profile;
-use crate::rows::{note_rows, take_rows};
-use crate::usage::Usage;
 use indexmap::IndexMap;
-use pcef_journal::{Command, Entry, Journal};
-use pcef_rule::{BearerId, KeyName, Properties, Rule, RuleName, Slot};
-use pcef_table::{Entry as TableEntry, Listing, Source, Table};
-use std::alloc::{AllocError, Global};
+use pcef_bearer::{Bearers, BearersFault};
+use pcef_journal::{Entry, Journal, TriggerSet};
+use pcef_rule::RuleName;
+use pcef_table::{Listing, Source, Table};
+use pcef_usage::{CountedJournal, Usage};
+use std::alloc::Global;
 use std::marker::Model;
 use std::sync::Arc;
 
-/// How many rules may be active. There is one yet.
-const MAX_RULES: usize = 1;
+mod commands;
+mod flushing;
+mod preparing;
+mod refusing;
+
+/// How many rules may be active.
+pub const MAX_RULES: usize = 64;
 
 /// The most workers that are ever attached to a session.
 pub const MAX_WORKERS: u8 = 16;
-
-/// A command that a session accepts, with the memory that it takes.
-#[derive(Drop)]
-pub struct Prepared {
-    /// The command.
-    pub command: Command,
-    /// The table of the generation that the command makes.
-    pub table: Arc<Table>,
-    /// The rule that the command makes active, with its name.
-    pub rule: Option<(RuleName, Source)>,
-    /// The bearer of that rule.
-    pub bearer: Option<BearerId>,
-}
-
-impl Prepared {
-    /// The table of the generation that the command makes, if it makes one.
-    pub fn table(&self) -> Option<&Arc<Table>> {
-        Some(&self.table)
-    }
-}
-
-/// The rule that a command makes active, with its name.
-fn named_rule(command: &Command) -> Result<Option<(RuleName, Source)>, AllocError> {
-    match command {
-        Command::Install(rule) => {
-            let name = rule.properties().name.copy();
-            Ok(Some((name, Source::Dynamic(rule.copy()?))))
-        }
-        _ => Ok(None),
-    }
-}
-
-/// Keeps a rule that became active. There has been room for it since the session was opened.
-fn keep_active(active: &mut IndexMap<RuleName, Source>, rule: Option<(RuleName, Source)>) {
-    if let Some((name, source)) = rule {
-        let _replaced = active.insert(name, source);
-    }
-}
-
-/// Notes what a command says of keys and bearers.
-fn note_command(usage: &mut Usage, bearers: &mut Bearers, command: &Command) {
-    match command {
-        Command::Install(rule) => {
-            if let Some(key) = &rule.properties().key {
-                let _slot = usage.slot(key);
-            }
-            let _bearer = bearers.bind();
-        }
-        Command::Monitor { key, grant } => {
-            if let Some(slot) = usage.slot(key) {
-                usage.start(slot, *grant);
-            }
-        }
-        _ => {}
-    }
-}
-
-/// How many rows a journal takes.
-fn rows_of(profile: &Profile) -> u64
-    ensures rows { result ≡ profile.now.rows }
-    ensures most { result < 2 ^ 32 }
-{
-    u64::from(profile.rows)
-}
 
 /// A session, without the closures of its catalog.
 #[derive(Drop)]
@@ -103,11 +39,11 @@ pub struct SessionState {
     alloc: Global,
     profile: Profile,
     listing: Listing,
-    journal: Journal,
+    counted: CountedJournal,
     active: IndexMap<RuleName, Source>,
-    usage: Usage,
     bearers: Bearers,
     table: Arc<Table>,
+    subscribed: TriggerSet,
     attached: u8,
 }
 
@@ -123,17 +59,40 @@ impl Model for SessionState {
     ghost invariant = { IsSound };
 }
 
+/// The bearers of a session that is opened.
+fn open_bearers(alloc: Global, profile: &Profile) -> Result<Bearers, OpenFault>
+    ensures answer { Opens (setting_of profile.now []) (result_err result) }
+    ensures made { IfOk result (λ b. b ≡ binding_of (setting_of profile.now []) at_first) }
+{
+    match Bearers::new(
+        alloc,
+        profile.default_qos,
+        profile.capacity,
+        profile.qcis,
+    ) {
+        Ok(bearers) => Ok(bearers),
+        Err(BearersFault::UnknownQci) => Err(OpenFault::UnknownQci),
+        Err(BearersFault::DefaultIsGbr) => Err(OpenFault::DefaultIsGbr),
+        Err(BearersFault::NoMemory) => Err(OpenFault::NoMemory),
+    }
+}
+
 impl SessionState {
-    /// A session with an empty journal, or the first fault in the order of [`OpenFault`].
+    /// A session with an empty journal, or the first fault in the order of [`OpenFault`]. Takes memory for
+    /// the rules and keys that may come.
     pub fn open(
         alloc: Global,
         profile: Profile,
         listing: Listing,
     ) -> Result<SessionState, OpenFault>
-        ensures { IfOk result (λ s. (s.terms ≡ profile) × (s.offers ≡ listing) × (s.journal ≡ [])) }
+        ensures answer { Opens (setting_of profile listing) (result_err result) }
+        ensures made { IfOk result (λ s. (s.terms ≡ profile) × (s.offers ≡ listing) × (s.journal ≡ [])) }
     {
-        let bearers = Bearers::new(profile.default_qos, profile.capacity, &profile.qcis)?;
-        let Ok(usage) = Usage::new(alloc) else {
+        let bearers = match open_bearers(alloc, &profile) {
+            Ok(bearers) => bearers,
+            Err(fault) => return Err(fault),
+        };
+        let Ok(counted) = CountedJournal::new(alloc) else {
             return Err(OpenFault::NoMemory);
         };
         let Ok(active) = IndexMap::with_capacity(alloc, MAX_RULES) else {
@@ -149,184 +108,13 @@ impl SessionState {
             alloc,
             profile,
             listing,
-            journal: Journal::new(alloc),
+            counted,
             active,
-            usage,
             bearers,
             table,
+            subscribed: TriggerSet::default(),
             attached: 0,
         })
-    }
-
-    /// Why a rule can't be installed.
-    fn install_refusal(&self, properties: &Properties) -> Option<Refusal>
-        ensures { IfNone result (self.now.active ≡ []) }
-    {
-        if !self.table.entries().is_empty() {
-            return Some(Refusal::RulesFull);
-        }
-        if let Some(key) = &properties.key {
-            if self.usage.lacks_slot(key) {
-                return Some(Refusal::KeysFull);
-            }
-        }
-        self.bearers
-            .refusal(properties.qos, properties.rates, &self.profile.qcis)
-    }
-
-    /// Why a key can't be switched on.
-    fn monitor_refusal(&self, key: &KeyName, grant: u64) -> Option<Refusal> {
-        if grant == 0 {
-            Some(Refusal::ZeroGrant)
-        } else if self.usage.lacks_slot(key) {
-            Some(Refusal::KeysFull)
-        } else {
-            None
-        }
-    }
-
-    /// Why a command is refused, want of memory aside.
-    fn refusal(&self, command: &Command) -> Option<Refusal>
-        requires { IsServed command.now }
-        ensures few { IfNone result (length (commands self.now.journal) < self.now.terms.commands) }
-        ensures place { IfNone result (HasPlace command.now self.now.active) }
-    {
-        if self.journal.commands_len() >= u64::from(self.profile.commands) {
-            return Some(Refusal::CommandsFull);
-        }
-        match command {
-            Command::Install(rule) => self.install_refusal(rule.properties()),
-            Command::Monitor { key, grant } => self.monitor_refusal(key, *grant),
-            _ => unreachable!(),
-        }
-    }
-
-    /// The slot of a key, or the one that it will get.
-    fn slot_to_be(&self, key: &KeyName) -> Slot {
-        match self.usage.slot_of(key) {
-            Some(slot) => slot,
-            None => Slot(self.usage.states().len() as u8),
-        }
-    }
-
-    /// Whether a slot's key is on.
-    fn is_on(&self, slot: Slot) -> bool {
-        match self.usage.states().get(usize::from(slot.0)) {
-            Some(state) => state.on,
-            None => false,
-        }
-    }
-
-    /// The entry of a rule.
-    fn entry_of(&self, rule: &Rule) -> Result<TableEntry, AllocError>
-        ensures { IfOk result (λ e. IsKnown self.now.offers e.source) }
-    {
-        let slot = match &rule.properties().key {
-            Some(key) => Some(self.slot_to_be(key)),
-            None => None,
-        };
-        let counted = match slot {
-            Some(slot) => self.is_on(slot),
-            None => false,
-        };
-        Ok(TableEntry {
-            source: Source::Dynamic(rule.copy()?),
-            bearer: DEFAULT_BEARER,
-            slot,
-            counted,
-        })
-    }
-
-    /// The table that a command makes.
-    fn next_table(&self, command: &Command) -> Result<Table, AllocError>
-        requires served { IsServed command.now }
-        requires place { HasPlace command.now self.now.active }
-        ensures table { IfOk result (λ t. IsTable self.now.offers t.entries) }
-        ensures number { IfOk result (λ t. t.number ≤ length (commands self.now.journal) + 1) }
-    {
-        match command {
-            Command::Install(rule) => self.table.with(&self.listing, self.entry_of(rule)?),
-            Command::Monitor { key, .. } => {
-                self.table
-                    .counting(&self.listing, self.slot_to_be(key), true)
-            }
-            _ => unreachable!(),
-        }
-    }
-
-    /// Takes all memory that a command needs, and changes nothing that can be seen.
-    fn grow(&mut self, command: Command) -> Result<Prepared, AllocError>
-        requires served { IsServed command }
-        requires few { length (commands self.old.journal) < self.old.terms.commands }
-        requires place { HasPlace command self.old.active }
-        ensures terms { self.new.terms ≡ self.old.terms }
-        ensures offers { self.new.offers ≡ self.old.offers }
-        ensures journal { self.new.journal ≡ self.old.journal }
-        ensures ready { IfOk result (IsPreparedFor self.new) }
-    {
-        let table = Arc::new(self.alloc, self.next_table(&command)?)?;
-        self.journal.reserve(1 + usize::from(self.attached))?;
-        let rule = named_rule(&command)?;
-        let bearer = match &command {
-            Command::Install(_) => Some(DEFAULT_BEARER),
-            _ => None,
-        };
-        Ok(Prepared {
-            command,
-            table,
-            rule,
-            bearer,
-        })
-    }
-
-    /// Looks whether a command is accepted, and takes all memory that it needs, or answers the first
-    /// refusal in the order of [`Refusal`]. Changes nothing that can be seen.
-    pub fn prepare(&mut self, command: Command) -> Result<Prepared, Refusal>
-        requires { IsServed command }
-        ensures terms { self.new.terms ≡ self.old.terms }
-        ensures offers { self.new.offers ≡ self.old.offers }
-        ensures journal { self.new.journal ≡ self.old.journal }
-        ensures ready { IfOk result (IsPreparedFor self.new) }
-    {
-        if let Some(refusal) = self.refusal(&command) {
-            return Err(refusal);
-        }
-        match self.grow(command) {
-            Ok(prepared) => Ok(prepared),
-            Err(_) => Err(Refusal::NoMemory),
-        }
-    }
-
-    /// Does what was prepared since the journal last grew. Takes no memory.
-    pub fn settle(&mut self, prepared: Prepared) -> Accepted
-        requires { IsPreparedFor self.old prepared }
-        ensures terms { self.new.terms ≡ self.old.terms }
-        ensures offers { self.new.offers ≡ self.old.offers }
-    {
-        let first_report = self.journal.reports_len();
-        note_command(&mut self.usage, &mut self.bearers, &prepared.command);
-        keep_active(&mut self.active, prepared.rule);
-        self.table = prepared.table;
-        self.journal.append(Entry::Command(prepared.command));
-        Accepted {
-            generation: self.table.generation(),
-            bearer: prepared.bearer,
-            first_report,
-            past_last_report: self.journal.reports_len(),
-            unchanged: false,
-        }
-    }
-
-    /// Does a command, or answers the first refusal in the order of [`Refusal`], which changes nothing.
-    pub fn command(&mut self, command: Command) -> Result<Accepted, Refusal>
-        requires { IsServed command }
-        ensures terms { self.new.terms ≡ self.old.terms }
-        ensures offers { self.new.offers ≡ self.old.offers }
-    {
-        match self.prepare(command) {
-            Err(refusal) => Err(refusal),
-            Ok(prepared) => Ok(self.settle(prepared)),
-        }
     }
 
     /// Attaches a worker and gives its number. Numbers go up from 0 and are never used again. Takes
@@ -335,92 +123,54 @@ impl SessionState {
         ensures answer { Attaches self.old.journal result self.new.journal }
         ensures offers { self.new.offers ≡ self.old.offers }
         ensures terms { self.new.terms ≡ self.old.terms }
+        ensures parts { self.new.parts ≡ self.old.parts }
     {
         if self.attached >= MAX_WORKERS {
             return Err(AttachFault::NoPlace);
         }
         let worker = self.attached;
-        if self.journal.reserve(2 + usize::from(worker)).is_err() {
+        if self.counted.reserve(2 + usize::from(worker)).is_err() {
             return Err(AttachFault::NoMemory);
         }
         self.attached += 1;
-        self.journal.append(Entry::Attach(worker));
+        self.counted.enter(Entry::Attach(worker));
         Ok(worker)
     }
 
-    /// Why rows of a worker aren't taken over, want of memory aside.
-    fn flush_refusal(&self, worker: u8, count: usize) -> Option<FlushRefusal>
-        ensures { result ≡ first_of (flush_refusals (setting_of self.now.terms self.now.offers) self.now.journal worker count) }
-    {
-        if worker >= self.attached {
-            return Some(FlushRefusal::NotAttached);
-        }
-        if self.journal.rows_len().saturating_add(count as u64) > rows_of(&self.profile) {
-            return Some(FlushRefusal::RowsFull);
-        }
-        None
-    }
-
-    /// Adds rows to the journal and counts their octets, or changes nothing that can be seen where there
-    /// is no memory for them.
-    fn take_over(&mut self, items: &[Item]) -> Result<Verdicts, AllocError>
-        requires { length (rows self.old.journal) + length items.now ≤ self.old.terms.rows }
-        ensures told { IfOk result (λ v. told_of v ≡ told (map row_of items.now) self.old.journal self.new.journal) }
-        ensures taken { OnOk result (self.new.journal ≡ after_flush (setting_of self.old.terms self.old.offers) self.old.journal (map row_of items.now)) }
-        ensures kept { OnErr result (self.new.journal ≡ self.old.journal) }
-        ensures offers { self.new.offers ≡ self.old.offers }
-        ensures terms { self.new.terms ≡ self.old.terms }
-    {
-        let judged = note_rows(self.alloc, items)?;
-        self.journal
-            .reserve(items.len() + usize::from(self.attached))?;
-        let first_report = self.journal.reports_len();
-        take_rows(&mut self.journal, &mut self.usage, items);
-        Ok(Verdicts {
-            rows: judged,
-            first_report,
-            past_last_report: self.journal.reports_len(),
-        })
-    }
-
-    /// Takes over a worker's waiting rows, all or none.
-    pub fn flush(&mut self, worker: u8, batch: &Batch) -> Result<Verdicts, FlushRefusal>
-        ensures answer { Flushes (setting_of self.old.terms self.old.offers) worker (map row_of batch.now) self.old.journal (result_map_both told_of (λ e. e) result) self.new.journal }
-        ensures offers { self.new.offers ≡ self.old.offers }
-        ensures terms { self.new.terms ≡ self.old.terms }
-    {
-        if let Some(refusal) = self.flush_refusal(worker, batch.len()) {
-            return Err(refusal);
-        }
-        match self.take_over(batch.items()) {
-            Ok(verdicts) => Ok(verdicts),
-            Err(_) => Err(FlushRefusal::NoMemory),
-        }
-    }
-
     /// The active rules by their names, in the order in which they became active.
-    pub fn active(&self) -> &IndexMap<RuleName, Source> {
+    pub fn active(&self) -> &IndexMap<RuleName, Source>
+        ensures { result.now.entries ≡ self.now.parts.rules }
+    {
         &self.active
     }
 
-    /// The bearers.
-    pub fn bearers(&self) -> &Bearers {
+    /// The bearers, and the rules that are bound to them.
+    pub fn bearers(&self) -> &Bearers
+        ensures { result.now ≡ self.now.parts.binding }
+    {
         &self.bearers
     }
 
     /// The keys that have a slot, with their usage.
-    pub fn usage(&self) -> &Usage {
-        &self.usage
+    pub fn usage(&self) -> &Usage
+        ensures { result.now ≡ self.now.parts.keys }
+    {
+        self.counted.usage()
     }
 
     /// The number of the newest generation.
-    pub fn generation(&self) -> u32 {
+    pub fn generation(&self) -> u32
+        ensures { result ≡ self.now.parts.table.number }
+    {
         self.table.generation()
     }
 
-    /// The journal.
-    pub fn journal(&self) -> &Journal {
-        &self.journal
+    /// The journal, and all that the session keeps beside it agrees with it.
+    pub fn journal(&self) -> &Journal
+        ensures journal { result.now.entries ≡ self.now.journal }
+        ensures agrees { Agrees (setting_in self.now) self.now.journal self.now.parts }
+    {
+        self.counted.journal()
     }
 
     /// What is fixed for the session.
@@ -439,7 +189,7 @@ impl SessionState {
 
     /// The table of the newest generation.
     pub fn table(&self) -> &Arc<Table>
-        ensures { IsTable self.now.offers (arc_value result.now).entries }
+        ensures { arc_value result.now ≡ self.now.parts.table }
     {
         &self.table
     }

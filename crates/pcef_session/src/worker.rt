@@ -1,8 +1,13 @@
 //! The workers of a script.
 
-ghost use Rattle.std.specs.Prelude.{◌≡◌};
-ghost use Rattle.std.specs.Arc.{arc_value};
+ghost use Rattle.std.specs.Prelude.{◌≡◌, ◌≤◌, map};
+ghost use Rattle.std.specs.Result.{result_map_both};
 ghost use Rattle.pcef_table.specs.Tables.{IsTable};
+ghost use Rattle.pcef_session.specs.Answers.{Flushes, told_of};
+ghost use Rattle.pcef_session.specs.Core.{setting_in};
+ghost use Rattle.pcef_session.specs.Following.{HasItsSlots, row_of};
+ghost use Rattle.pcef_session.specs.Lawful.{BatchFollows};
+ghost use Rattle.pcef_session.specs.Workers.{IsJudged, TakesItem, after_flushing, held_by};
 
 use crate::answer::{FlushRefusal, Verdicts};
 use crate::batch::{Batch, BatchFull, Item, MAX_WAITING};
@@ -28,14 +33,16 @@ pub struct Worker {
 impl Worker {
     /// Judges a packet by the table that the worker holds.
     fn judge<C: Offers>(&self, catalog: &C, ue: Addr, header: &Header) -> Item
-        requires { IsTable (C.offers catalog.now) (arc_value self.now.table).entries }
+        requires table { IsTable (C.offers catalog.now) (held_by self.now).entries }
+        requires few { self.now.handed_over ≤ 4294967295 }
+        ensures { IsJudged (C.offers catalog.now) ue header.now self.now result }
     {
         let verdict = self.table.classify(catalog, ue, header);
         let slot = self.table.counts(catalog, &verdict);
         Item {
             row: Row {
                 worker: self.number,
-                seq: self.handed_over.saturating_add(self.waiting.len() as u64),
+                seq: self.handed_over + self.waiting.len() as u64,
                 generation: self.table.generation(),
                 header: *header,
                 verdict,
@@ -51,8 +58,9 @@ impl Worker {
         ue: Addr,
         header: &Header,
     ) -> Result<u8, BatchFull>
-        requires { IsTable (C.offers catalog.now) (arc_value self.old.table).entries }
-        ensures { self.new.table ≡ self.old.table }
+        requires table { IsTable (C.offers catalog.now) (held_by self.old).entries }
+        requires few { self.old.handed_over ≤ 4294967295 }
+        ensures { TakesItem (C.offers catalog.now) ue header.now self.old result self.new }
     {
         if self.waiting.len() >= MAX_WAITING {
             return Err(BatchFull);
@@ -64,11 +72,16 @@ impl Worker {
 
     /// Hands the waiting rows over to the session. A refusal keeps them.
     pub(crate) fn flush(&mut self, session: &mut SessionState) -> Result<Verdicts, FlushRefusal>
-        ensures table { self.new.table ≡ self.old.table }
+        requires follow { BatchFollows (setting_in session.old) session.old.journal self.old.number (map row_of self.old.waiting) }
+        requires slots { HasItsSlots (setting_in session.old) session.old.journal self.old.waiting }
+        requires few { self.old.handed_over ≤ 4294967295 }
+        ensures answer { Flushes (setting_in session.old) self.old.number (map row_of self.old.waiting) session.old.journal (result_map_both told_of (λ e. e) result) session.new.journal }
+        ensures worker { self.new ≡ after_flushing result self.old }
         ensures offers { session.new.offers ≡ session.old.offers }
+        ensures terms { session.new.terms ≡ session.old.terms }
     {
         let verdicts = session.flush(self.number, &self.waiting)?;
-        self.handed_over = self.handed_over.saturating_add(self.waiting.len() as u64);
+        self.handed_over += self.waiting.len() as u64;
         self.waiting.clear();
         Ok(verdicts)
     }

@@ -1,7 +1,14 @@
 //! What a script works on: a session and its workers.
 
-ghost use Rattle.std.specs.Prelude.{◌≡◌, IfOk};
-ghost use Rattle.pcef_session.specs.Core.{IsServed};
+ghost use Rattle.std.specs.Prelude.{◌≡◌, ◌≤◌, [], IfOk, length};
+ghost use Rattle.std.specs.Arc.{arc_value};
+ghost use Rattle.std.specs.Result.{result_err, result_map_both};
+ghost use Rattle.pcef_journal.specs.Journals.{attach_count, gen};
+ghost use Rattle.pcef_session.specs.Agreement.{Agrees};
+ghost use Rattle.pcef_session.specs.Answers.{Attaches, Does, Opens, told_of};
+ghost use Rattle.pcef_session.specs.Core.{IsServed, setting_in};
+ghost use Rattle.pcef_session.specs.Terms.{setting_of};
+ghost use Rattle.pcef_session.specs.Worlds.{AreReady, HandsOver, Refreshes, Takes, after_attaching};
 
 use crate::answer::{Accepted, AttachFault, FlushRefusal, OpenFault, Refusal, Verdicts};
 use crate::batch::{Batch, BatchFull};
@@ -10,8 +17,8 @@ use crate::state::SessionState;
 use crate::worker::Worker;
 use pcef_journal::Command;
 use pcef_packet::Header;
-use pcef_table::{Listing, Offers};
-use std::alloc::Global;
+use pcef_table::{Listing, Offers, Table};
+use std::alloc::{AllocError, Global};
 use std::marker::Model;
 use std::sync::Arc;
 
@@ -33,22 +40,33 @@ pub struct WorldState {
 }
 
 impl Model for WorldState {
-    ghost use Rattle.pcef_session.specs.Core.{Core};
+    ghost use Rattle.pcef_session.specs.Worlds.{World};
 
-    ghost Value = { Core };
+    ghost Value = { World };
 
-    ghost use Rattle.pcef_session.specs.Worlds.{HoldTables};
+    ghost use Rattle.pcef_session.specs.WorldSoundness.{IsSoundWorld, world_of};
 
-    ghost view = { λ w. w.session };
+    ghost view = { world_of };
 
-    ghost invariant = { λ w. HoldTables w.session.offers w.workers.items };
+    ghost invariant = { IsSoundWorld };
+}
+
+/// The table of a session's newest generation, for one more worker to hold.
+fn newest(session: &SessionState) -> Result<Arc<Table>, AllocError>
+    ensures table { IfOk result (λ t. arc_value t ≡ session.now.parts.table) }
+    ensures agrees { Agrees (setting_in session.now) session.now.journal session.now.parts }
+{
+    let _journal = session.journal();
+    Arc::try_clone(session.table())
 }
 
 impl WorldState {
     /// A session with an empty journal and no workers, or the first fault in the order of [`OpenFault`].
     pub fn open(alloc: Global, profile: Profile, listing: Listing) -> Result<WorldState, OpenFault>
-        ensures { IfOk result (λ w. w.offers ≡ listing) }
+        ensures answer { Opens (setting_of profile listing) (result_err result) }
+        ensures made { IfOk result (λ w. (w.core.terms ≡ profile) × (w.core.offers ≡ listing) × (w.core.journal ≡ []) × (w.workers ≡ [])) }
     {
+        let _rows = profile.rows;
         let session = SessionState::open(alloc, profile, listing)?;
         Ok(WorldState {
             alloc,
@@ -57,9 +75,11 @@ impl WorldState {
         })
     }
 
-    /// The session.
+    /// The session. As many workers there are as were attached, and the rows of each may come next.
     pub fn session(&self) -> &SessionState
-        ensures { result.now ≡ self.now }
+        ensures session { result.now ≡ self.now.core }
+        ensures attached { attach_count self.now.core.journal ≡ length self.now.workers }
+        ensures ready { AreReady (setting_in self.now.core) self.now.core.journal self.now.workers }
     {
         &self.session
     }
@@ -67,14 +87,21 @@ impl WorldState {
     /// As [`SessionState::command`].
     pub fn command(&mut self, command: Command) -> Result<Accepted, Refusal>
         requires { IsServed command }
-        ensures { self.new.offers ≡ self.old.offers }
+        ensures answer { Does (setting_in self.old.core) command self.old.core.journal result self.new.core.journal }
+        ensures workers { self.new.workers ≡ self.old.workers }
+        ensures terms { self.new.core.terms ≡ self.old.core.terms }
+        ensures offers { self.new.core.offers ≡ self.old.core.offers }
     {
         self.session.command(command)
     }
 
     /// Attaches a worker, which holds the newest generation. Takes memory for its waiting rows.
     pub fn attach(&mut self) -> Result<u8, AttachFault>
-        ensures { self.new.offers ≡ self.old.offers }
+        ensures answer { Attaches self.old.core.journal result self.new.core.journal }
+        ensures workers { self.new.workers ≡ after_attaching self.old.core.journal result self.old.workers }
+        ensures number { IfOk result (λ number. number ≡ length self.old.workers) }
+        ensures terms { self.new.core.terms ≡ self.old.core.terms }
+        ensures offers { self.new.core.offers ≡ self.old.core.offers }
     {
         if self.workers.reserve(1).is_err() {
             return Err(AttachFault::NoMemory);
@@ -82,7 +109,7 @@ impl WorldState {
         let Ok(waiting) = Batch::new(self.alloc) else {
             return Err(AttachFault::NoMemory);
         };
-        let Ok(table) = Arc::try_clone(self.session.table()) else {
+        let Ok(table) = newest(&self.session) else {
             return Err(AttachFault::NoMemory);
         };
         let number = self.session.attach()?;
@@ -103,8 +130,9 @@ impl WorldState {
         worker: u8,
         header: &Header,
     ) -> Result<u8, StepRefusal<BatchFull>>
-        requires { C.offers catalog.now ≡ self.old.offers }
-        ensures { self.new.offers ≡ self.old.offers }
+        requires { C.offers catalog.now ≡ self.old.core.offers }
+        ensures answer { Takes (setting_in self.old.core) self.old.core.journal worker header.now self.old.workers result self.new.workers }
+        ensures core { self.new.core ≡ self.old.core }
     {
         let ue = self.session.profile().ue;
         let Some(worker) = self.workers.get_mut(usize::from(worker)) else {
@@ -115,9 +143,28 @@ impl WorldState {
             .map_err(StepRefusal::Refused)
     }
 
+    /// A worker takes the newest generation, by which it judges from then on, and the number of the one
+    /// that it holds then is given. Its rows go on waiting. Where the table finds no place to be counted
+    /// in, it keeps the one that it holds. `None` where the worker isn't attached. Takes no memory.
+    pub fn refresh(&mut self, worker: u8) -> Option<u32>
+        ensures answer { Refreshes self.old.core.journal worker self.old.workers result self.new.workers }
+        ensures core { self.new.core ≡ self.old.core }
+    {
+        let Some(worker) = self.workers.get_mut(usize::from(worker)) else {
+            return None;
+        };
+        let Ok(table) = newest(&self.session) else {
+            return Some(worker.table.generation());
+        };
+        worker.table = table;
+        Some(worker.table.generation())
+    }
+
     /// Hands the waiting rows of a worker over. A refusal keeps them.
     pub fn flush(&mut self, worker: u8) -> Result<Verdicts, StepRefusal<FlushRefusal>>
-        ensures { self.new.offers ≡ self.old.offers }
+        ensures answer { HandsOver (setting_in self.old.core) worker self.old.core.journal self.old.workers (result_map_both told_of (λ e. e) result) self.new.core.journal self.new.workers }
+        ensures terms { self.new.core.terms ≡ self.old.core.terms }
+        ensures offers { self.new.core.offers ≡ self.old.core.offers }
     {
         let Some(worker) = self.workers.get_mut(usize::from(worker)) else {
             return Err(StepRefusal::NoWorker);

@@ -89,7 +89,7 @@ counting_is_table offers slot on entries table = record {
 }
 
 -- what goes before x doesn't go behind it
-apart : (a x : Rank) → goes_before a x ≡ true → goes_before x a ≡ false
+pub apart : (a x : Rank) → goes_before a x ≡ true → goes_before x a ≡ false
 apart a x before = ap is_lt (rank_total.antisymm x a ∙ ap ordering_reverse (less_if (rank_cmp a x) before))
 
 -- an entry in its place makes a table longer by one at most

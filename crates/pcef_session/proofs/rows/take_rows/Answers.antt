@@ -1,12 +1,26 @@
 use Rattle.std.proofs.Common.{arith}
 use Rattle.pcef_session.proofs.PlainJournals.{taken_end, taken_step}
+use Rattle.pcef_session.proofs.RowLoops.{counted_end, counted_step, fits_here, fits_later}
 use Rattle.pcef_session.proofs.rows.take_rows.Goals as goal
+
+pub take_row-requires-clause-fits : goal.take_row-requires-clause-fits
+take_row-requires-clause-fits c =
+    fits_here c.args.items.now c.loop-item.item-index c.item-item.result _ _ c.loop-item-test.true c.item-item.is c.copy.ensures c.loop-item.invariant.fits
+
+pub take_row-requires-clause-room : goal.take_row-requires-clause-room
+take_row-requires-clause-room c = omega (arith, c.loop-item.invariant.left)
 
 pub loop-item-preserved : goal.loop-item-preserved
 loop-item-preserved c = record {
-  room = omega (arith, c.loop-item.invariant.room, c.append.ensures.room);
-  rows = taken_step c.args.items.now c.loop-item.item-index c.item-item.result _ _ _ _ c.loop-item-test.true c.item-item.is (c.copy.ensures) c.append.ensures.entries c.loop-item.invariant.rows;
+  left = omega (arith, c.loop-item.invariant.left, c.take_row.ensures.room);
+  fits = fits_later c.args.items.now c.loop-item.item-index c.item-item.result _ _ _ c.loop-item-test.true c.item-item.is c.copy.ensures c.take_row.ensures.states c.loop-item.invariant.fits;
+  journal = taken_step c.args.items.now c.loop-item.item-index c.item-item.result _ _ _ _ c.loop-item-test.true c.item-item.is c.copy.ensures c.take_row.ensures.journal c.loop-item.invariant.journal;
+  states = counted_step c.args.items.now c.loop-item.item-index c.item-item.result _ _ _ _ c.loop-item-test.true c.item-item.is c.copy.ensures c.take_row.ensures.states c.loop-item.invariant.states;
+  room = omega (arith, c.loop-item.invariant.room, c.take_row.ensures.room);
 }
 
-pub returns : goal.returns
-returns c = record { rows = taken_end c.args.items.now c.loop-item.item-index _ _ c.loop-item-test.false c.loop-item.invariant.rows }
+pub returns-clause-journal : goal.returns-clause-journal
+returns-clause-journal c = taken_end c.args.items.now c.loop-item.item-index _ _ c.loop-item-test.false c.loop-item.invariant.journal
+
+pub returns-clause-states : goal.returns-clause-states
+returns-clause-states c = counted_end c.args.items.now c.loop-item.item-index _ _ c.loop-item-test.false c.loop-item.invariant.states

@@ -1,11 +1,16 @@
-use Rattle.std.proofs.Common.{ap, arith, subst, ◌∙◌}
+use Rattle.std.proofs.Common.{◌≡◌, ap, arith, subst, refl, sym, ◌∙◌, ◌<◌, length, rules, None, All}
 use Rattle.pcef_journal.specs.declared.entry.Entry.TheVariants as entry
 use Rattle.std.specs.Prelude.{◌∷◌, Ok, Err}
+use Rattle.pcef_journal.specs.Entries.{Journal, commands, rows}
 use Rattle.pcef_session.specs.declared.answer.AttachFault.TheVariants.{NoPlace}
+use Rattle.pcef_session.specs.Agreement.{Agrees, Parts}
 use Rattle.pcef_session.specs.Answers.{Attaches}
 use Rattle.pcef_session.specs.Core.{Core}
-use Rattle.pcef_session.specs.Soundness.{IsPlain}
-use Rattle.pcef_session.proofs.PlainJournals.{attach_full, attach_next, plain_attach}
+use Rattle.pcef_session.specs.Soundness.{IsPlain, IsSound}
+use Rattle.pcef_session.specs.Terms.{setting_of}
+use Rattle.pcef_session.proofs.FirstSession.{agrees_attached}
+use Rattle.pcef_session.proofs.PlainJournals.{attach_accepted, attach_full, attach_next, plain_attach}
+use Rattle.pcef_session.proofs.SoundLater.{sound_attached}
 use Rattle.pcef_session.proofs.state.SessionState.attach.Goals as goal
 
 pub returns-then-self-ge-MAX_WORKERS-clause-answer : goal.returns-then-self-ge-MAX_WORKERS-clause-answer
@@ -13,17 +18,13 @@ returns-then-self-ge-MAX_WORKERS-clause-answer c =
     subst (λ (v : Core). Attaches v.journal (Err NoPlace) v.journal) c.self.view_is (attach_full _ _ c.self.invariant.plain c.if-self-ge-MAX_WORKERS.true)
 
 pub invariant_of-self-2 : goal.invariant_of-self-2
-invariant_of-self-2 c = record {
-  table = c.self.invariant.table;
-  generation = rw (c.append.ensures.entries, c.reserve.ensures.entries) c.self.invariant.generation;
-  few = rw (c.append.ensures.entries, c.reserve.ensures.entries) c.self.invariant.few;
-  limit = c.self.invariant.limit;
-  few_rows = rw (c.append.ensures.entries, c.reserve.ensures.entries) c.self.invariant.few_rows;
-  plain = rw (c.append.ensures.entries, c.reserve.ensures.entries) (subst (IsPlain _) (omega arith) (plain_attach _ _ c.self.invariant.plain));
-}
+invariant_of-self-2 c =
+    sound_attached c.self.inside _ c.self.invariant (omega (arith, c.if-self-ge-MAX_WORKERS.false)) refl refl
+    (c.enter.ensures.journal ∙ ap (λ (j : Journal). entry.Attach c.self.inside.attached ∷ j) c.reserve.ensures.journal)
+    (c.enter.ensures.states ∙ c.reserve.ensures.states) refl refl refl refl (omega arith)
 
 pub returns-clause-answer : goal.returns-clause-answer
 returns-clause-answer c =
-    subst (λ (v : Core). Attaches v.journal (Ok c.self.inside.attached) c.append.new.self.entries) c.self.view_is
+    subst (λ (v : Core). Attaches v.journal (Ok c.self.inside.attached) c.enter.new.self.journal) c.self.view_is
     (attach_next _ _ c.self.inside.attached c.self.invariant.plain (omega (arith, c.if-self-ge-MAX_WORKERS.false))
-    (c.append.ensures.entries ∙ ap (λ j. entry.Attach c.self.inside.attached ∷ j) c.reserve.ensures.entries))
+    (c.enter.ensures.journal ∙ ap (λ j. entry.Attach c.self.inside.attached ∷ j) c.reserve.ensures.journal))

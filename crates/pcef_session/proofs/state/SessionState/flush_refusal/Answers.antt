@@ -1,4 +1,5 @@
-use Rattle.std.proofs.Common.{arith, subst}
+use Rattle.std.proofs.Common.{ap, arith, length, subst}
+use Rattle.pcef_journal.specs.Entries.{rows}
 use Rattle.std.specs.Prelude.{Some, None, ◌≡◌}
 use Rattle.pcef_session.specs.declared.answer.FlushRefusal.TheVariants.{NotAttached, RowsFull}
 use Rattle.pcef_session.specs.Core.{Core}
@@ -16,10 +17,10 @@ pub returns-then-saturating_add-rows_of : goal.returns-then-saturating_add-rows_
 returns-then-saturating_add-rows_of c =
     subst (λ (v : Core). Some RowsFull ≡ first_of (flush_refusals (setting_of v.terms v.offers) v.journal c.args.worker c.args.count)) c.self.view_is
     (refused_full (setting_of c.self.inside.profile c.self.inside.listing) _ c.self.inside.attached c.args.worker c.args.count c.self.invariant.plain (omega (arith, c.if-worker-self.false))
-    (omega (arith, c.if-saturating_add-rows_of.true, c.rows_len.ensures, c.rows_of.ensures.rows, c.rows_of.ensures.most, c.saturating_add.ensures)))
+    (omega (arith, c.if-saturating_add-rows_of.true, c.rows_len.ensures, c.rows_of.ensures.rows, c.rows_of.ensures.most, c.self.invariant.limited.most_rows, ap (λ j. length (rows j)) c.journal.ensures, c.saturating_add.ensures)))
 
 pub returns : goal.returns
 returns c =
     subst (λ (v : Core). None ≡ first_of (flush_refusals (setting_of v.terms v.offers) v.journal c.args.worker c.args.count)) c.self.view_is
     (refused_by_none (setting_of c.self.inside.profile c.self.inside.listing) _ c.self.inside.attached c.args.worker c.args.count c.self.invariant.plain (omega (arith, c.if-worker-self.false))
-    (omega (arith, c.if-saturating_add-rows_of.false, c.rows_len.ensures, c.rows_of.ensures.rows, c.rows_of.ensures.most, c.saturating_add.ensures)))
+    (omega (arith, c.if-saturating_add-rows_of.false, c.rows_len.ensures, c.rows_of.ensures.rows, c.rows_of.ensures.most, c.self.invariant.limited.most_rows, ap (λ j. length (rows j)) c.journal.ensures, c.saturating_add.ensures)))

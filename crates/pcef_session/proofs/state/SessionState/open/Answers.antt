@@ -1,13 +1,12 @@
-use Rattle.std.proofs.Common.{arith, rules}
-use Rattle.pcef_session.proofs.PlainJournals.{plain_first}
+use Rattle.std.proofs.Common.{rules, ◌≡◌, ◌∙◌, ap, arith, refl}
+use Rattle.pcef_table.specs.Tables.{TableValue}
+use Rattle.pcef_session.proofs.FirstSession.{triggers_first}
+use Rattle.pcef_session.proofs.SoundLater.{sound_opened}
 use Rattle.pcef_session.proofs.state.SessionState.open.Goals as goal
 
 pub invariant_of-result : goal.invariant_of-result
-invariant_of-result c = record {
-  table = search rules;
-  generation = search rules;
-  few = search rules;
-  limit = search rules;
-  few_rows = rw c.new-4.ensures (omega arith);
-  plain = rw c.new-4.ensures plain_first;
-}
+invariant_of-result c =
+    sound_opened _ c.in-Ok-new.ensures.journal c.in-Ok-new.ensures.states (search rules) (search rules)
+    (ap (λ (t : TableValue). t.number) c.in-Ok-new-2.ensures.ok ∙ c.in-Ok-empty.ensures.number)
+    (ap (λ (t : TableValue). t.entries) c.in-Ok-new-2.ensures.ok ∙ c.in-Ok-empty.ensures.entries)
+    (triggers_first c.default.result c.default.ensures.0 c.default.ensures.1.0 c.default.ensures.1.1.0 c.default.ensures.1.1.1.0 c.default.ensures.1.1.1.1) refl (search rules) (search rules)

@@ -1,27 +1,42 @@
-use Rattle.std.proofs.Common.{arith, ap, length, map, subst, sym, ◌≤◌, ◌+◌, ◌≡◌, ◌∙◌}
-use Rattle.std.proofs.lemmas.List.{length-map}
+use Rattle.std.proofs.Common.{rules, ◌≡◌, ◌∙◌, ◌+◌, ◌≤◌, ap, sym, subst, refl, arith, length, map, List, None}
 use Rattle.pcef_journal.specs.Entries.{rows}
-use Rattle.pcef_journal.specs.Reports.{after_flush, with_rows}
-use Rattle.pcef_session.specs.Core.{Core}
+use Rattle.pcef_journal.specs.Reports.{after_flush}
+use Rattle.pcef_usage.specs.declared.usage.KeyState.{KeyState}
+use Rattle.pcef_usage.proofs.Flushed.{StatesAgree}
+use Rattle.pcef_session.specs.declared.batch.Item.{Item}
+use Rattle.pcef_session.specs.Core.{Core, setting_in}
+use Rattle.pcef_session.specs.Following.{CanCountAll, HasItsSlots, row_of}
+use Rattle.pcef_session.specs.Lawful.{BatchFollows}
+use Rattle.pcef_session.specs.Refusals.{first_of, flush_refusals}
+use Rattle.pcef_session.specs.Soundness.{parts_of}
 use Rattle.pcef_session.specs.Terms.{setting_of}
-use Rattle.pcef_session.specs.Following.{row_of}
-use Rattle.pcef_session.proofs.PlainJournals.{commands_with, plain_rows, quiet_flush, rows_with}
+use Rattle.pcef_session.proofs.Taking.{can_count_all, flushed_journal, sound_flushed, states_agree, within_rows}
 use Rattle.pcef_session.proofs.state.SessionState.take_over.Goals as goal
+
+pub take_all-requires-clause-fits : goal.take_all-requires-clause-fits
+take_all-requires-clause-fits c =
+    let s = c.self.inside in
+    let p = setting_of s.profile s.listing in
+    let accepted = subst (λ (v : Core). first_of (flush_refusals (setting_in v) v.journal c.args.worker (length c.args.items.now)) ≡ None) (sym c.self.view_is) c.requires.accepted in
+    let its = subst (λ (v : Core). HasItsSlots (setting_in v) v.journal c.args.items.now) (sym c.self.view_is) c.requires.slots in
+    let within : length (rows s.counted.journal) + length c.args.items.now ≤ s.profile.rows = within_rows p s.counted.journal c.args.worker (length c.args.items.now) accepted in
+    subst (CanCountAll c.args.items.now) (sym c.reserve.ensures.states)
+    (can_count_all p s.counted.journal c.args.items.now s.counted.states (states_agree p s.counted.journal (parts_of s) c.self.invariant.agrees) its c.requires.octets c.self.invariant.limited.octets
+    (omega (arith, within, c.self.invariant.limited.most_rows)))
 
 pub invariant_of-self-2 : goal.invariant_of-self-2
 invariant_of-self-2 c =
-    let fits = subst (λ (v : Core). length (rows v.journal) + length c.args.items.now ≤ v.terms.rows) (sym c.self.view_is) c.requires in
-    record {
-      table = c.self.invariant.table;
-      generation = rw (c.take_rows.ensures.rows, commands_with _ _, c.reserve.ensures.entries) c.self.invariant.generation;
-      few = rw (c.take_rows.ensures.rows, commands_with _ _, c.reserve.ensures.entries) c.self.invariant.few;
-      limit = c.self.invariant.limit;
-      few_rows = rw (c.take_rows.ensures.rows, c.reserve.ensures.entries) (omega (arith, fits, rows_with c.self.inside.journal.entries (map row_of c.args.items.now), length-map c.args.items.now row_of));
-      plain = rw (c.take_rows.ensures.rows, c.reserve.ensures.entries) (plain_rows _ _ _ c.self.invariant.plain);
-    }
+    let s = c.self.inside in
+    let accepted = subst (λ (v : Core). first_of (flush_refusals (setting_in v) v.journal c.args.worker (length c.args.items.now)) ≡ None) (sym c.self.view_is) c.requires.accepted in
+    let its = subst (λ (v : Core). HasItsSlots (setting_in v) v.journal c.args.items.now) (sym c.self.view_is) c.requires.slots in
+    let follow = subst (λ (v : Core). BatchFollows (setting_in v) v.journal c.args.worker (map row_of c.args.items.now)) (sym c.self.view_is) c.requires.follow in
+    sound_flushed s _ c.args.worker c.args.items.now c.reserve.new.self c.self.invariant accepted follow its c.requires.octets c.reserve.ensures.states c.reserve.ensures.journal c.take_all.ensures
+    refl refl refl refl refl refl refl
 
 pub returns-clause-taken : goal.returns-clause-taken
 returns-clause-taken c =
-    subst (λ (v : Core). c.take_rows.new.journal.entries ≡ after_flush (setting_of v.terms v.offers) v.journal (map row_of c.args.items.now)) c.self.view_is
-    (c.take_rows.ensures.rows ∙ ap (with_rows (map row_of c.args.items.now)) c.reserve.ensures.entries ∙
-    sym (quiet_flush (setting_of c.self.inside.profile c.self.inside.listing) c.self.inside.journal.entries c.self.inside.attached (map row_of c.args.items.now) c.self.invariant.plain))
+    let s = c.self.inside in
+    let p = setting_of s.profile s.listing in
+    let its = subst (λ (v : Core). HasItsSlots (setting_in v) v.journal c.args.items.now) (sym c.self.view_is) c.requires.slots in
+    subst (λ (v : Core). c.take_all.new.counted.journal ≡ after_flush (setting_in v) v.journal (map row_of c.args.items.now)) c.self.view_is
+    (flushed_journal p s.counted.journal c.args.items.now (parts_of s) c.reserve.new.self c.take_all.new.counted c.self.invariant.agrees c.reserve.ensures.states c.reserve.ensures.journal its c.take_all.ensures)

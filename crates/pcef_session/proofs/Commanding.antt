@@ -1,0 +1,256 @@
+-- A session that has done a command agrees with the journal after it.
+use Rattle.std.proofs.Common.{◌≡◌, ◌∙◌, ◌≤◌, ◌<◌, ◌+◌, ℕ, suc, Bool, true, false, List, [], ◌∷◌, length, refl, sym, ap, subst, arith, inl, inr, map, find, Some, None, All, if◌then◌else◌}
+use Rattle.std.specs.Prelude.{Option, Ok, Err}
+use Rattle.std.specs.List.{AllByRecursion}
+use Rattle.std.proofs.lemmas.Bool.{cases_Bool}
+use Rattle.std.proofs.lemmas.List.{length-map}
+use Rattle.pcef_rule.specs.declared.quantity.BearerId.{BearerId}
+use Rattle.pcef_rule.specs.declared.rule.Properties.{Properties}
+use Rattle.pcef_rule.specs.Definition.{Definition}
+use Rattle.pcef_table.specs.declared.entry.Source.{Source}
+use Rattle.pcef_table.specs.Tables.{TableValue}
+use Rattle.pcef_bearer.specs.Bindings.{Binding, bound_at, id_beside, put as bound_put, with_rules, without as bound_without}
+use Rattle.pcef_journal.specs.declared.command.Command.{Command}
+use Rattle.pcef_journal.specs.declared.command.Command.TheVariants.{Install, Activate, Remove, Monitor, Stop, ReportNow, Triggers, Notice, LoseBearer, Close, Terminate}
+use Rattle.pcef_journal.specs.declared.entry.Entry.TheVariants as entry
+use Rattle.pcef_journal.specs.declared.telling.Telling.{Telling}
+use Rattle.pcef_journal.specs.Setting.{Setting}
+use Rattle.pcef_journal.specs.ActiveRules.{Active, dynamic, is_named, put}
+use Rattle.pcef_journal.specs.Generations.{Generation, key_named, next, rules_after}
+use Rattle.pcef_journal.specs.declared.trigger.TriggerSet.{TriggerSet}
+use Rattle.pcef_journal.specs.Entries.{Journal, commands, rows}
+use Rattle.pcef_journal.specs.Journals.{gen, is_table, now, report_count, slots, subscribed, tables}
+use Rattle.pcef_journal.specs.Reports.{after_command, body_of, plan, settled, tell, thresholds}
+use Rattle.pcef_journal.proofs.Growth.{now_after_table}
+use Rattle.pcef_usage.specs.declared.usage.KeyState.{KeyState}
+use Rattle.pcef_usage.specs.Commands.{Asks, entered, subscribed_by}
+use Rattle.pcef_usage.specs.Keys.{finds_no_slot, keys_of}
+use Rattle.pcef_usage.specs.Tellings.{AllCount, AllOn, Counts, OnIs, settled_states, settled_tellings, states_stopped, states_told, told}
+use Rattle.pcef_usage.proofs.Afterwards.{few_entered, now_after, slots_after, subscribed_after, subscribed_after_command, tables_after}
+use Rattle.pcef_usage.proofs.Commanded.{command_ended, keys_entered}
+use Rattle.pcef_usage.proofs.Endings.{Ended}
+use Rattle.pcef_session.specs.Agreement.{Agrees, AreKept, KeyAgrees, Parts}
+use Rattle.pcef_session.specs.declared.answer.Accepted.{Accepted}
+use Rattle.pcef_session.specs.declared.answer.Refusal.{Refusal}
+use Rattle.pcef_session.specs.Answers.{Does, Gives, IsRefused, bearer_named, changes, command_outcome}
+use Rattle.pcef_session.specs.Bound.{HasOtherIds, binding_of}
+use Rattle.pcef_session.specs.Changes.{IsRebound, active_after, entered_by}
+use Rattle.pcef_session.specs.Core.{IsServed}
+use Rattle.pcef_session.specs.Lawful.{Lawful, by_command}
+use Rattle.pcef_session.specs.Refusals.{first_of, refusals}
+use Rattle.pcef_session.specs.Shown.{Shows}
+use Rattle.pcef_session.specs.Soundness.{IsPlain}
+use Rattle.pcef_session.proofs.BearerIds.{lawful_bound}
+use Rattle.pcef_session.proofs.BoundBearers.{has_bearer_ids, next_id, next_install, next_monitor, next_remove}
+use Rattle.pcef_session.proofs.BoundRules.{same_name_of}
+use Rattle.pcef_session.proofs.Exactness.{lawful_exact}
+use Rattle.pcef_session.proofs.KeptRules.{kept_put, kept_without}
+use Rattle.pcef_session.proofs.NextTables.{all_count_from, all_on_from}
+use Rattle.pcef_session.proofs.ShownLater.{shows_same}
+use Rattle.pcef_session.proofs.ShownVerdicts.{made_once}
+
+-- ---- commands that are served
+-- each of them makes a generation, changes something, asks for no key and leaves the triggers
+pub record IsPlainCommand (p : Setting) (j : Journal) (c : Command) : Type 0 where
+  pub table : is_table c ≡ true
+  pub changing : changes p j c ≡ true
+  pub asks : Asks p j c
+  pub triggers : subscribed_by c (subscribed j) ≡ subscribed j
+  pub entering : (states : List KeyState) → entered_by c states ≡ entered p c states
+
+pub served_plainly : (p : Setting) (j : Journal) (c : Command) → IsServed c → IsPlainCommand p j c
+served_plainly p j (Install rule) served = record { table = refl; changing = refl; asks = tt; triggers = refl; entering = λ states. refl }
+served_plainly p j (Remove name) served = record { table = refl; changing = refl; asks = tt; triggers = refl; entering = λ states. refl }
+served_plainly p j (Monitor key amount) served = record { table = refl; changing = refl; asks = tt; triggers = refl; entering = λ states. refl }
+served_plainly p j (Activate name) served = absurd served
+served_plainly p j (Stop key) served = absurd served
+served_plainly p j (ReportNow key) served = absurd served
+served_plainly p j (Triggers set) served = absurd served
+served_plainly p j (Notice kind value) served = absurd served
+served_plainly p j (LoseBearer id) served = absurd served
+served_plainly p j Close served = absurd served
+served_plainly p j Terminate served = absurd served
+
+-- ---- the generation after a command
+pub next_now : (p : Setting) (j : Journal) (c : Command) → is_table c ≡ true → now p (after_command p j c) ≡ next p (now p j) c
+next_now p j c is = now_after p j c ∙ now_after_table p j c is
+
+-- ---- rules
+kept_after : (p : Setting) (j : Journal) (c : Command) (kept : List (List ℕ × Source)) → IsServed c → AreKept p.catalog kept (now p j).rules →
+    AreKept p.catalog (active_after c kept) (rules_after p (now p j) c)
+kept_after p j (Install rule) kept served are = kept_put p.catalog rule kept (now p j).rules are
+kept_after p j (Remove name) kept served are = kept_without p.catalog name kept (now p j).rules (made_once p (tables j)) are
+kept_after p j (Monitor key amount) kept served are = are
+kept_after p j (Activate name) kept served are = absurd served
+kept_after p j (Stop key) kept served are = absurd served
+kept_after p j (ReportNow key) kept served are = absurd served
+kept_after p j (Triggers set) kept served are = absurd served
+kept_after p j (Notice kind value) kept served are = absurd served
+kept_after p j (LoseBearer id) kept served are = absurd served
+kept_after p j Close kept served are = absurd served
+kept_after p j Terminate kept served are = absurd served
+
+-- ---- bearers
+bound_after : (p : Setting) (j : Journal) (c : Command) (new : Binding) (bearer : Option BearerId) → Lawful p j → HasOtherIds p → IsServed c → IsRebound c (binding_of p (now p j)) new bearer →
+    new ≡ binding_of p (next p (now p j) c)
+bound_after p j (Install rule) new None lawful ids served rebound = absurd rebound
+bound_after p j (Install rule) new (Some id) lawful ids served rebound =
+    rebound.binding_is ∙ sym (next_install p (now p j) rule id.0 (lawful_bound p (has_bearer_ids p ids) j lawful) ids rebound.bearer_is)
+bound_after p j (Remove name) new bearer lawful ids served rebound = rebound.1 ∙ sym (next_remove p (now p j) name (lawful_bound p (has_bearer_ids p ids) j lawful))
+bound_after p j (Monitor key amount) new bearer lawful ids served rebound = rebound.1 ∙ sym (next_monitor p (now p j) key amount (lawful_bound p (has_bearer_ids p ids) j lawful))
+bound_after p j (Activate name) new bearer lawful ids served rebound = absurd served
+bound_after p j (Stop key) new bearer lawful ids served rebound = absurd served
+bound_after p j (ReportNow key) new bearer lawful ids served rebound = absurd served
+bound_after p j (Triggers set) new bearer lawful ids served rebound = absurd served
+bound_after p j (Notice kind value) new bearer lawful ids served rebound = absurd served
+bound_after p j (LoseBearer id) new bearer lawful ids served rebound = absurd served
+bound_after p j Close new bearer lawful ids served rebound = absurd served
+bound_after p j Terminate new bearer lawful ids served rebound = absurd served
+
+-- the rule that was put in is found by its name
+find_put : (new : Active) (rules : List Active) → find (is_named new.properties.name) (put new rules) ≡ Some new
+find_put new [] = let own : is_named new.properties.name new ≡ true = same_name_of new.properties.name new.properties.name refl in rw own refl
+find_put new (r ∷ rules) =
+    let own : is_named new.properties.name new ≡ true = same_name_of new.properties.name new.properties.name refl in
+    elim (cases_Bool (is_named new.properties.name r)) [
+      | inl is ↦ rw (is, own) refl
+      | inr isnt ↦ rw (isnt, isnt) (find_put new rules)
+    ]
+
+named_after : (p : Setting) (j : Journal) (c : Command) (new : Binding) (bearer : Option BearerId) → Lawful p j → HasOtherIds p → IsServed c → IsRebound c (binding_of p (now p j)) new bearer →
+    bearer ≡ bearer_named (next p (now p j) c) c
+named_after p j (Install rule) new None lawful ids served rebound = absurd rebound
+named_after p j (Install rule) new (Some id) lawful ids served rebound =
+    let g : Generation = next p (now p j) (Install rule) in
+    let its : g.id_of rule.properties.qos ≡ id.0 = next_id p (now p j) rule id.0 (lawful_bound p (has_bearer_ids p ids) j lawful) ids rebound.bearer_is in
+    rw (find_put (dynamic rule) (now p j).rules) (ap (λ (n : ℕ). Some (record { 0 = n })) (sym its))
+named_after p j (Remove name) new bearer lawful ids served rebound = rebound.0
+named_after p j (Monitor key amount) new bearer lawful ids served rebound = rebound.0
+named_after p j (Activate name) new bearer lawful ids served rebound = absurd served
+named_after p j (Stop key) new bearer lawful ids served rebound = absurd served
+named_after p j (ReportNow key) new bearer lawful ids served rebound = absurd served
+named_after p j (Triggers set) new bearer lawful ids served rebound = absurd served
+named_after p j (Notice kind value) new bearer lawful ids served rebound = absurd served
+named_after p j (LoseBearer id) new bearer lawful ids served rebound = absurd served
+named_after p j Close new bearer lawful ids served rebound = absurd served
+named_after p j Terminate new bearer lawful ids served rebound = absurd served
+
+-- ---- keys
+pub all_agree : (p : Setting) (j : Journal) (states : List KeyState) → AllCount p j [] states → AllOn p j states → AllByRecursion (KeyAgrees p j) states
+unfolding AllCount AllOn
+all_agree p j [] counts on = tt
+all_agree p j (s ∷ states) counts on = (
+  record { on_is = on.0.on_is; grant_is = counts.0.grant_is; reported_is = counts.0.reported_is; counted_is = counts.0.counted_is },
+  all_agree p j states counts.1 on.1,
+)
+
+-- the counters after a command, and the journal after it
+abbrev pub left_by : Bool → List Telling → List KeyState → List KeyState
+left_by b ts states = states_told (settled_tellings b (states_told ts (states_stopped ts states))) (settled_states b (states_told ts (states_stopped ts states)))
+
+abbrev pub told_by : Bool → List Telling → List KeyState → Journal → Journal
+told_by b ts states j =
+    told (settled_tellings b (states_told ts (states_stopped ts states))) (settled_states b (states_told ts (states_stopped ts states))) (told ts (states_stopped ts states) j)
+
+ended_command : (p : Setting) (j : Journal) (c : Command) (parts : Parts) → Agrees p j parts → IsPlainCommand p j c →
+    Ended p (entry.Command c ∷ j) (plan p j c) (states_stopped (plan p j c) (entered p c parts.keys)) (told_by parts.triggers.usage_report (plan p j c) (entered p c parts.keys) (entry.Command c ∷ j))
+    (left_by parts.triggers.usage_report (plan p j c) (entered p c parts.keys))
+ended_command p j c parts agrees plainly =
+    let exact = lawful_exact p j agrees.lawful in
+    command_ended p j c parts.keys parts.triggers.usage_report agrees.keys_are (all_count_from p j parts.keys agrees.usage_is) (all_on_from p j parts.keys agrees.usage_is) exact.known exact.exact plainly.asks
+    (ap (λ (t : TriggerSet). t.usage_report) (agrees.triggers_are ∙ sym plainly.triggers ∙ sym (subscribed_after j c)))
+
+-- ---- all parts
+pub record IsCommanded (p : Setting) (j : Journal) (c : Command) (old new : Parts) (bearer : Option BearerId) : Type 0 where
+  pub served : IsServed c
+  pub accepted : first_of (refusals p j c) ≡ None
+  pub rules_are : new.rules ≡ active_after c old.rules
+  pub rebound : IsRebound c old.binding new.binding bearer
+  pub keys_are : new.keys ≡ left_by old.triggers.usage_report (plan p j c) (entered_by c old.keys)
+  pub triggers_are : new.triggers ≡ old.triggers
+  pub shows : Shows p (entry.Command c ∷ j) (gen (entry.Command c ∷ j)) new.table
+
+pub journal_commanded : (p : Setting) (j : Journal) (c : Command) (parts : Parts) (after : Journal) → Agrees p j parts → IsServed c →
+    after ≡ told_by parts.triggers.usage_report (plan p j c) (entered_by c parts.keys) (entry.Command c ∷ j) → after ≡ after_command p j c
+unfolding after_command
+journal_commanded p j c parts after agrees served is =
+    let plainly = served_plainly p j c served in
+    is ∙ ap (λ (states : List KeyState). told_by parts.triggers.usage_report (plan p j c) states (entry.Command c ∷ j)) (plainly.entering parts.keys) ∙ (ended_command p j c parts agrees plainly).journal_is
+
+pub agrees_commanded : (p : Setting) (j : Journal) (c : Command) (old new : Parts) (bearer : Option BearerId) → HasOtherIds p → Agrees p j old → IsCommanded p j c old new bearer → Agrees p (after_command p j c) new
+agrees_commanded p j c old new bearer ids agrees is =
+    let plainly = served_plainly p j c is.served in
+    let ended = ended_command p j c old agrees plainly in
+    let after : Journal = after_command p j c in
+    let journal : told_by old.triggers.usage_report (plan p j c) (entered p c old.keys) (entry.Command c ∷ j) ≡ after =
+    ap (λ (states : List KeyState). told_by old.triggers.usage_report (plan p j c) states (entry.Command c ∷ j)) (sym (plainly.entering old.keys)) ∙
+    journal_commanded p j c old (told_by old.triggers.usage_report (plan p j c) (entered_by c old.keys) (entry.Command c ∷ j)) agrees is.served refl in
+    let keys : new.keys ≡ left_by old.triggers.usage_report (plan p j c) (entered p c old.keys) =
+    is.keys_are ∙ ap (left_by old.triggers.usage_report (plan p j c)) (plainly.entering old.keys) in
+    let generation : now p after ≡ next p (now p j) c = next_now p j c plainly.table in
+    record {
+      lawful = by_command j c agrees.lawful is.accepted plainly.changing;
+      rules_are = subst (λ (g : Generation). AreKept p.catalog new.rules g.rules) (sym generation)
+          (subst (λ (kept : List (List ℕ × Source)). AreKept p.catalog kept (rules_after p (now p j) c)) (sym is.rules_are) (kept_after p j c old.rules is.served agrees.rules_are));
+      binding_is = bound_after p j c new.binding bearer agrees.lawful ids is.served (subst (λ (b : Binding). IsRebound c b new.binding bearer) agrees.binding_is is.rebound) ∙
+          ap (binding_of p) (sym generation);
+      keys_are = ap keys_of keys ∙ ended.keys_are ∙ ap (slots p) journal;
+      usage_is = subst (AllByRecursion (KeyAgrees p after)) (sym keys)
+          (subst (λ (k : Journal). AllByRecursion (KeyAgrees p k) (left_by old.triggers.usage_report (plan p j c) (entered p c old.keys))) journal
+          (all_agree p (told_by old.triggers.usage_report (plan p j c) (entered p c old.keys) (entry.Command c ∷ j)) (left_by old.triggers.usage_report (plan p j c) (entered p c old.keys)) ended.counts ended.on));
+      triggers_are = is.triggers_are ∙ agrees.triggers_are ∙ sym plainly.triggers ∙ sym (subscribed_after_command p j c);
+      table_shows = subst (λ n. Shows p after n new.table) (sym (ap length (tables_after p j c)))
+          (shows_same p (entry.Command c ∷ j) after (gen (entry.Command c ∷ j)) new.table (tables_after p j c) is.shows);
+    }
+
+pub bearer_commanded : (p : Setting) (j : Journal) (c : Command) (old new : Parts) (bearer : Option BearerId) → HasOtherIds p → Agrees p j old → IsCommanded p j c old new bearer →
+    bearer ≡ bearer_named (now p (after_command p j c)) c
+bearer_commanded p j c old new bearer ids agrees is =
+    named_after p j c new.binding bearer agrees.lawful ids is.served (subst (λ (b : Binding). IsRebound c b new.binding bearer) agrees.binding_is is.rebound) ∙
+    ap (λ (g : Generation). bearer_named g c) (sym (next_now p j c (served_plainly p j c is.served).table))
+
+-- ---- what stays
+pub commands_told : (p : Setting) (ts : List Telling) (j : Journal) → commands (tell p ts j) ≡ commands j
+unfolding tell
+commands_told p [] j = refl
+commands_told p (t ∷ ts) j = commands_told p ts (entry.Report (record { number = report_count j; body = body_of p j t }) ∷ j)
+
+pub commands_after : (p : Setting) (j : Journal) (c : Command) → commands (after_command p j c) ≡ c ∷ commands j
+unfolding after_command
+commands_after p j c =
+    commands_told p (thresholds p (tell p (plan p j c) (entry.Command c ∷ j))) (tell p (plan p j c) (entry.Command c ∷ j)) ∙ commands_told p (plan p j c) (entry.Command c ∷ j)
+
+pub few_keys_after : (p : Setting) (j : Journal) (c : Command) (keys : List KeyState) (states : List KeyState) → keys_of states ≡ slots p j → keys_of keys ≡ slots p (after_command p j c) →
+    finds_no_slot (key_named p c) states ≡ false → length states ≤ 8 → length keys ≤ 8
+few_keys_after p j c keys states before after finds few =
+    let entered_keys = keys_entered p j c states before in
+    let same : length (keys_of keys) ≡ length (keys_of (entered p c states)) = ap length (after ∙ slots_after p j c ∙ sym entered_keys) in
+    let fits = few_entered p c states finds few in
+    omega (arith, same, fits, length-map keys (λ s. s.key), length-map (entered p c states) (λ s. s.key))
+
+-- ---- the answer
+abbrev accepted_of : ℕ → Option BearerId → ℕ → ℕ → Bool → Accepted
+accepted_of generation bearer first past unchanged = record { generation = generation; bearer = bearer; first_report = first; past_last_report = past; unchanged = unchanged }
+
+accepted_is : (g g2 : ℕ) (r r2 : Option BearerId) (f f2 l l2 : ℕ) (u u2 : Bool) → g ≡ g2 → r ≡ r2 → f ≡ f2 → l ≡ l2 → u ≡ u2 → accepted_of g r f l u ≡ accepted_of g2 r2 f2 l2 u2
+accepted_is g g2 r r2 f f2 l l2 u u2 a b c d e = rw (a, b, c, d, e) refl
+
+pub outcome_commanded : (p : Setting) (j : Journal) (c : Command) (a : Accepted) (after : Journal) → first_of (refusals p j c) ≡ None → changes p j c ≡ true → after ≡ after_command p j c →
+    a.generation ≡ gen after → a.bearer ≡ bearer_named (now p after) c → a.first_report ≡ report_count j → a.past_last_report ≡ report_count after → a.unchanged ≡ false →
+    Gives (command_outcome p j c) (Ok a) after
+unfolding command_outcome
+outcome_commanded p j c a after accepted changing is generation bearer first past unchanged =
+    rw (accepted, changing)
+    (ap (λ (b : Accepted). Ok b)
+    (accepted_is a.generation (gen (after_command p j c)) a.bearer (bearer_named (now p (after_command p j c)) c) a.first_report (report_count j)
+    a.past_last_report (report_count (after_command p j c)) a.unchanged false (generation ∙ ap gen is) (bearer ∙ ap (λ (k : Journal). bearer_named (now p k) c) is) first (past ∙ ap report_count is) unchanged),
+    is)
+
+-- a command that is refused
+pub does_refused : (p : Setting) (j : Journal) (c : Command) (r : Refusal) → IsRefused p j c r → Does p c j (Err r) j
+unfolding command_outcome
+does_refused p j c r refused =
+    elim refused [
+      | inl first ↦ inl (rw first (refl, refl))
+      | inr wanting ↦ inr (ap (λ x. Err x) wanting, refl)
+    ]

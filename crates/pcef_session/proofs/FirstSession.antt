@@ -1,0 +1,66 @@
+-- A session that is opened agrees with the empty journal, and goes on agreeing as workers come.
+use Rattle.std.proofs.Common.{◌≡◌, ◌∙◌, ℕ, Bool, List, [], ◌∷◌, refl, sym, ap, subst, arith, Contains, None, false, map}
+use Rattle.std.specs.List.{AllByRecursion}
+use Rattle.pcef_table.specs.declared.entry.Entry.{Entry}
+use Rattle.pcef_table.specs.declared.entry.Source.{Source}
+use Rattle.pcef_table.specs.Tables.{IsTable, TableValue}
+use Rattle.pcef_table.proofs.Ordered.{empty_is_table}
+use Rattle.pcef_bearer.specs.Bindings.{Binding}
+use Rattle.pcef_journal.specs.declared.entry.Entry.TheVariants as entry
+use Rattle.pcef_journal.specs.declared.trigger.TriggerSet.{TriggerSet}
+use Rattle.pcef_journal.specs.Setting.{Setting}
+use Rattle.pcef_journal.specs.Generations.{at_first as before_all, made_by, oldest, slots_of}
+use Rattle.pcef_journal.specs.Entries.{Journal}
+use Rattle.pcef_journal.specs.Journals.{at, gen, grant, no_triggers, reported, subscribed}
+use Rattle.pcef_journal.specs.Reports.{after_attach}
+use Rattle.pcef_usage.specs.declared.usage.KeyState.{KeyState}
+use Rattle.pcef_usage.proofs.Tells.{all_same}
+use Rattle.pcef_session.specs.Agreement.{Agrees, AreKept, KeyAgrees, Parts}
+use Rattle.pcef_session.specs.Bound.{binding_of}
+use Rattle.pcef_session.specs.Lawful.{at_first, by_attach}
+use Rattle.pcef_session.specs.Refusals.{attach_faults, first_of}
+use Rattle.pcef_session.specs.Shown.{Shows}
+use Rattle.pcef_session.proofs.ShownLater.{shows_same}
+
+flags_first : (usage rat plmn location zone : Bool) → usage ≡ false → rat ≡ false → plmn ≡ false → location ≡ false → zone ≡ false →
+    record { usage_report = usage; rat_change = rat; plmn_change = plmn; user_location_change = location; ue_time_zone_change = zone } ≡ no_triggers
+flags_first usage rat plmn location zone a b c d e = rw (a, b, c, d, e) refl
+
+pub triggers_first : (t : TriggerSet) → t.usage_report ≡ false → t.rat_change ≡ false → t.plmn_change ≡ false → t.user_location_change ≡ false → t.ue_time_zone_change ≡ false → t ≡ no_triggers
+triggers_first t usage rat plmn location zone =
+    flags_first t.usage_report t.rat_change t.plmn_change t.user_location_change t.ue_time_zone_change usage rat plmn location zone
+
+shows_first : (p : Setting) (t : TableValue) → t.number ≡ 0 → t.entries ≡ [] → Shows p [] 0 t
+unfolding made_by oldest
+shows_first p t number entries = record {
+  number_is = number;
+  ordered = empty_is_table p.catalog t.entries entries;
+  each = λ r there. absurd (omega (arith, there.1));
+  only = λ e there. let none : Contains [] e = subst (λ (es : List Entry). Contains es e) entries there in absurd (omega (arith, none.1));
+}
+
+pub agrees_first : (p : Setting) (parts : Parts) → parts.rules ≡ [] → parts.binding ≡ binding_of p before_all → parts.keys ≡ [] → parts.triggers ≡ no_triggers →
+    parts.table.number ≡ 0 → parts.table.entries ≡ [] → Agrees p [] parts
+unfolding made_by slots_of subscribed
+agrees_first p parts rules binding keys triggers number entries = record {
+  lawful = at_first;
+  rules_are = subst (λ (kept : List (List ℕ × Source)). AreKept p.catalog kept []) (sym rules) tt;
+  binding_is = binding;
+  keys_are = ap (λ (states : List KeyState). map (λ s. s.key) states) keys;
+  usage_is = subst (AllByRecursion (KeyAgrees p [])) (sym keys) tt;
+  triggers_are = triggers;
+  table_shows = shows_first p parts.table number entries;
+}
+
+pub agrees_attached : (p : Setting) (j : Journal) (parts : Parts) → Agrees p j parts → first_of (attach_faults j) ≡ None → Agrees p (after_attach j) parts
+unfolding grant reported subscribed
+agrees_attached p j parts agrees accepted = record {
+  lawful = by_attach j agrees.lawful accepted;
+  rules_are = agrees.rules_are;
+  binding_is = agrees.binding_is;
+  keys_are = agrees.keys_are;
+  usage_is = all_same (KeyAgrees p j) (KeyAgrees p (after_attach j)) parts.keys
+      (λ s h. record { on_is = h.on_is; grant_is = h.grant_is; reported_is = h.reported_is; counted_is = h.counted_is }) agrees.usage_is;
+  triggers_are = agrees.triggers_are;
+  table_shows = shows_same p j (after_attach j) (gen j) parts.table refl agrees.table_shows;
+}

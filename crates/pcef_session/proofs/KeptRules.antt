@@ -1,0 +1,61 @@
+-- The rules that are kept by name, as commands change them.
+use Rattle.std.proofs.Common.{◌≡◌, ◌∙◌, ℕ, suc, Bool, true, false, not, List, [], ◌∷◌, length, refl, sym, ap, inl, inr, Some}
+use Rattle.std.specs.List.{list_any}
+use Rattle.std.proofs.lemmas.Bool.{cases_Bool}
+use Rattle.indexmap.specs.IndexMap.{insert_entry, shift_remove_entry}
+use Rattle.pcef_rule.specs.Definition.{Definition}
+use Rattle.pcef_table.specs.declared.entry.Source.{Source}
+use Rattle.pcef_table.specs.declared.entry.Source.TheVariants.{Dynamic}
+use Rattle.pcef_table.specs.declared.listing.Offer.{Offer}
+use Rattle.pcef_journal.specs.Setting.{same_name}
+use Rattle.pcef_journal.specs.ActiveRules.{Active, dynamic, is_named, put, without}
+use Rattle.pcef_usage.proofs.Names.{same_name_not, same_name_turned}
+use Rattle.pcef_session.specs.Agreement.{AreKept}
+use Rattle.pcef_session.proofs.BoundRules.{NamesOnce, same_name_is, without_none}
+
+-- as many are kept as there are
+pub kept_length : (offers : List Offer) (kept : List (List ℕ × Source)) (rules : List Active) → AreKept offers kept rules → length kept ≡ length rules
+kept_length offers [] [] are = refl
+kept_length offers [] (r ∷ rules) are = absurd are
+kept_length offers (e ∷ kept) [] are = absurd are
+kept_length offers (e ∷ kept) (r ∷ rules) are = ap suc (kept_length offers kept rules are.2)
+
+-- a name is the same one from both sides
+turned : (name : List ℕ) (e : List ℕ × Source) (r : Active) (b : Bool) → e.0 ≡ r.properties.name → is_named name r ≡ b → same_name name e.0 ≡ b
+turned name e r true is named = ap (same_name name) is ∙ same_name_turned r.properties.name name named
+turned name e r false is named = ap (same_name name) is ∙ same_name_not r.properties.name name named
+
+-- a rule is installed
+pub kept_put : (offers : List Offer) (d : Definition) (kept : List (List ℕ × Source)) (rules : List Active) → AreKept offers kept rules →
+    AreKept offers (insert_entry same_name kept d.properties.name (Dynamic d)) (put (dynamic d) rules)
+kept_put offers d [] [] are = (refl, refl, tt)
+kept_put offers d [] (r ∷ rules) are = absurd are
+kept_put offers d (e ∷ kept) [] are = absurd are
+kept_put offers d (e ∷ kept) (r ∷ rules) are =
+    elim (cases_Bool (is_named d.properties.name r)) [
+      | inl is ↦
+          let hit : same_name d.properties.name e.0 ≡ true = turned d.properties.name e r true are.0 is in
+          rw (is, hit) (are.0 ∙ same_name_is r.properties.name d.properties.name is, refl, are.2)
+      | inr isnt ↦
+          let miss : same_name d.properties.name e.0 ≡ false = turned d.properties.name e r false are.0 isnt in
+          rw (isnt, miss) (are.0, are.1, kept_put offers d kept rules are.2)
+    ]
+
+-- a rule is removed
+pub kept_without : (offers : List Offer) (name : List ℕ) (kept : List (List ℕ × Source)) (rules : List Active) → NamesOnce rules → AreKept offers kept rules →
+    AreKept offers (shift_remove_entry (same_name name) kept) (without name rules)
+unfolding NamesOnce
+kept_without offers name [] [] once are = tt
+kept_without offers name [] (r ∷ rules) once are = absurd are
+kept_without offers name (e ∷ kept) [] once are = absurd are
+kept_without offers name (e ∷ kept) (r ∷ rules) once are =
+    elim (cases_Bool (is_named name r)) [
+      | inl is ↦
+          let hit : same_name name e.0 ≡ true = turned name e r true are.0 is in
+          let none : list_any (is_named name) rules ≡ false = rw (← same_name_is r.properties.name name is) once.0 in
+          let stay : without name rules ≡ rules = without_none name rules none in
+          rw (is, hit, stay) are.2
+      | inr isnt ↦
+          let miss : same_name name e.0 ≡ false = turned name e r false are.0 isnt in
+          rw (isnt, miss) (are.0, are.1, kept_without offers name kept rules once.1 are.2)
+    ]

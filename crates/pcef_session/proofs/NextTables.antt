@@ -1,0 +1,304 @@
+-- The tables that commands make show their generations, with at most one entry for each rule.
+use Rattle.std.proofs.Common.{◌≡◌, ◌≢◌, ◌∙◌, ◌≤◌, ◌<◌, ◌+◌, ℕ, suc, Bool, true, false, ◌&&◌, ◌||◌, List, [], ◌∷◌, ◌++◌, length, refl, sym, ap, subst, arith, inl, inr, map, Contains, Some, None, All, AllPairs, IsTrue}
+use Rattle.std.specs.Prelude.{Option, Result, Ok, Err, IfOk}
+use Rattle.std.specs.Option.{option_map}
+use Rattle.std.specs.List.{AllByRecursion, IsDistinct, list_any}
+use Rattle.std.proofs.lemmas.Bool.{cases_Bool, false_from_ne_true}
+use Rattle.std.proofs.lemmas.List.{length-map}
+use Rattle.std.proofs.lemmas.List.Elements.{All-head, All-tail}
+use Rattle.std.proofs.lemmas.Map.Made.{length-le_from_is_member}
+use Rattle.std.specs.Cmp.Lexicographic.{nat_list_eq_equiv}
+use Rattle.pcef_rule.specs.declared.quantity.Slot.{Slot}
+use Rattle.pcef_rule.specs.Definition.{Definition}
+use Rattle.pcef_rule.specs.Precedence.{Rank, goes_before}
+use Rattle.pcef_table.specs.declared.entry.Entry.{Entry}
+use Rattle.pcef_table.specs.declared.entry.Source.TheVariants.{Dynamic}
+use Rattle.pcef_table.specs.declared.listing.Offer.{Offer}
+use Rattle.pcef_table.specs.Sources.{IsKnown, name_of, rank_of}
+use Rattle.pcef_table.specs.Tables.{GoesBefore, IsTable, TableValue, placed, with_counting, without}
+use Rattle.pcef_table.proofs.Foremost.{ordered_head, ordered_tail}
+use Rattle.pcef_table.proofs.Ordered.{apart, counting_is_table, placed_is_table, without_is_table}
+use Rattle.pcef_journal.specs.declared.entry.Entry.TheVariants as entry
+use Rattle.pcef_journal.specs.declared.command.Command.{Command}
+use Rattle.pcef_journal.specs.declared.command.Command.TheVariants.{Install, Monitor, Remove}
+use Rattle.pcef_journal.specs.Setting.{Setting, same_name}
+use Rattle.pcef_journal.specs.ActiveRules.{Active, dynamic, put}
+use Rattle.pcef_journal.specs.ActiveRules as rules
+use Rattle.pcef_journal.specs.Generations.{Generation, add_if_some, add_key, is_among, key_named, slots_of, still_on}
+use Rattle.pcef_journal.specs.Entries.{Journal}
+use Rattle.pcef_journal.specs.Journals.{at, gen, is_table, now, slots, tables}
+use Rattle.pcef_journal.proofs.Growth.{at_newest, now_after_table, tables_of_table}
+use Rattle.pcef_usage.specs.declared.usage.KeyState.{KeyState}
+use Rattle.pcef_usage.specs.Keys.{has_slot, keys_of, place_of as place_in}
+use Rattle.pcef_usage.specs.Tellings.{AllCount, AllOn, Counts, OnIs}
+use Rattle.pcef_usage.proofs.Names.{same_name_turned, same_name_not}
+use Rattle.pcef_usage.proofs.Slots.{slot_of_on}
+use Rattle.pcef_usage.proofs.Tells.{all_same}
+use Rattle.pcef_session.specs.Agreement.{KeyAgrees}
+use Rattle.pcef_session.specs.Core.{Core, setting_in, with_command}
+use Rattle.pcef_session.specs.Kept.{is_on}
+use Rattle.pcef_session.specs.Refusals.{first_of, refusals}
+use Rattle.pcef_session.specs.Shown.{Shows, StandsFor, counts_now, place_of, slot_of}
+use Rattle.pcef_session.proofs.Acceptance.{few_put}
+use Rattle.pcef_session.proofs.BoundBearers.{has_bearer_ids}
+use Rattle.pcef_session.proofs.CoreSound.{IsSoundCore, few_generations}
+use Rattle.pcef_session.proofs.KeptRules.{kept_length}
+use Rattle.pcef_session.proofs.BoundRules.{NamesOnce, contrary, same_name_is, same_name_of}
+use Rattle.pcef_session.proofs.Found.{any_from}
+use Rattle.pcef_session.proofs.Members.{first_there, later_there, map_to, put_new}
+use Rattle.pcef_session.proofs.ShownChanges.{Fives, after_is, lawful_fives, name_is, shows_install, shows_monitor, shows_remove, still}
+use Rattle.pcef_session.proofs.ShownVerdicts.{made_once, once_is, rule_is}
+
+-- ---- slots
+here_place : (k : List ℕ) (states : List KeyState) → is_among k (keys_of states) ≡ true → place_of k (keys_of states) ≡ Some (place_in k states)
+here_place k [] there = absurd cc
+here_place k (s ∷ states) there =
+    elim (cases_Bool (same_name k s.key)) [
+      | inl same ↦ rw same refl
+      | inr differs ↦ let later : is_among k (keys_of states) ≡ true = rw differs at there in rw differs (ap (option_map (λ n. suc n)) (here_place k states later))
+    ]
+
+next_place : (k : List ℕ) (states : List KeyState) → is_among k (keys_of states) ≡ false → place_of k (keys_of states ++ k ∷ []) ≡ Some (place_in k states)
+next_place k [] absent = rw (same_name_of k k refl) refl
+next_place k (s ∷ states) absent =
+    elim (cases_Bool (same_name k s.key)) [
+      | inl same ↦ let there : is_among k (keys_of (s ∷ states)) ≡ true = rw same refl in cc
+      | inr differs ↦ let later : is_among k (keys_of states) ≡ false = rw differs at absent in rw differs (ap (option_map (λ n. suc n)) (next_place k states later))
+    ]
+
+-- a key without a slot has the place past the end
+pub place_past : (k : List ℕ) (states : List KeyState) → has_slot k states ≡ false → length states ≡ place_in k states
+place_past k [] absent = refl
+place_past k (s ∷ states) absent =
+    elim (cases_Bool (same_name k s.key)) [
+      | inl same ↦ let there : has_slot k (s ∷ states) ≡ true = rw same refl in cc
+      | inr differs ↦ let later : has_slot k states ≡ false = rw differs at absent in rw differs (ap suc (place_past k states later))
+    ]
+
+-- a key's slot is its place, or the next one
+pub key_place : (k : List ℕ) (states : List KeyState) → place_of k (add_key k (keys_of states)) ≡ Some (place_in k states)
+key_place k states =
+    elim (cases_Bool (is_among k (keys_of states))) [
+      | inl there ↦ rw there (here_place k states there)
+      | inr absent ↦ rw absent (next_place k states absent)
+    ]
+
+pub slots_next : (p : Setting) (j : Journal) (c : Command) → is_table c ≡ true → slots p (entry.Command c ∷ j) ≡ add_if_some (key_named p c) (slots p j)
+unfolding slots_of
+slots_next p j c is = ap (slots_of p) (tables_of_table j c is)
+
+slot_named : (p : Setting) (j : Journal) (rule : Definition) (states : List KeyState) (key : Option (List ℕ)) → rule.properties.key ≡ key → keys_of states ≡ slots p j →
+    option_map (λ k. place_in k states) key ≡ slot_of (slots p (entry.Command (Install rule) ∷ j)) key
+slot_named p j rule states None is keys = refl
+slot_named p j rule states (Some k) is keys =
+    sym (key_place k states) ∙ ap (place_of k) (ap (add_key k) keys ∙ ap (λ o. add_if_some o (slots p j)) (sym is) ∙ sym (slots_next p j (Install rule) refl))
+
+-- ---- keys that are on
+pub all_on_from : (p : Setting) (j : Journal) (states : List KeyState) → AllByRecursion (KeyAgrees p j) states → AllOn p j states
+unfolding AllOn
+all_on_from p j states all = all_same (KeyAgrees p j) (OnIs p j) states (λ s h. record { on_is = h.on_is }) all
+
+pub all_count_from : (p : Setting) (j : Journal) (states : List KeyState) → AllByRecursion (KeyAgrees p j) states → AllCount p j [] states
+unfolding AllCount
+all_count_from p j states all =
+    all_same (KeyAgrees p j) (Counts p j []) states (λ s h. record { grant_is = h.grant_is; reported_is = h.reported_is; counted_is = h.counted_is }) all
+
+on_any : (on : List (List ℕ)) (k : List ℕ) (states : List KeyState) → AllByRecursion (λ s. s.on ≡ is_among s.key on) states →
+    list_any (λ s. same_name s.key k && s.on) states ≡ (is_among k (keys_of states) && is_among k on)
+on_any on k [] all = refl
+on_any on k (s ∷ states) all =
+    let rest = on_any on k states all.1 in
+    elim (cases_Bool (same_name s.key k)) [
+      | inl same ↦
+          let turned : same_name k s.key ≡ true = same_name_turned s.key k same in
+          let here : s.on ≡ is_among k on = all.0 ∙ ap (λ n. is_among n on) (same_name_is s.key k same) in
+          rw (same, turned) (joined s.on (is_among k on) (list_any (λ s. same_name s.key k && s.on) states) (is_among k (keys_of states)) here rest)
+      | inr differs ↦
+          let turned : same_name k s.key ≡ false = same_name_not s.key k differs in
+          rw (differs, turned) rest
+    ]
+  where
+    joined : (a b c d : Bool) → a ≡ b → c ≡ (d && b) → (a || c) ≡ b
+    joined true b c d is rest = is
+    joined false true c d is rest = absurd cc
+    joined false false c true is rest = rest
+    joined false false c false is rest = rest
+
+pub on_is : (p : Setting) (j : Journal) (states : List KeyState) (key : Option (List ℕ)) → keys_of states ≡ slots p j → AllByRecursion (KeyAgrees p j) states →
+    is_on key states ≡ counts_now (now p j).on key
+on_is p j states None keys all = refl
+on_is p j states (Some k) keys all =
+    on_any (now p j).on k states (all_same (KeyAgrees p j) (λ s. s.on ≡ is_among s.key (now p j).on) states (λ s h. h.on_is) all) ∙ ap (λ ks. is_among k ks && is_among k (now p j).on) keys ∙ within
+  where
+    within : (is_among k (slots p j) && is_among k (now p j).on) ≡ is_among k (now p j).on
+    within =
+        elim (cases_Bool (is_among k (now p j).on)) [
+          | inl is ↦ let slot : is_among k (slots p j) ≡ true = slot_of_on p j k is in rw (slot, is) refl
+          | inr isnt ↦ rw isnt (none (is_among k (slots p j)))
+        ]
+      where
+        none : (b : Bool) → (b && false) ≡ false
+        none true = refl
+        none false = refl
+
+-- ---- the entry of a rule that is installed
+pub stands_installed : (p : Setting) (j : Journal) (rule : Definition) (e : Entry) (states : List KeyState) → keys_of states ≡ slots p j → e.source ≡ Dynamic rule →
+    e.bearer.0 ≡ (now p (entry.Command (Install rule) ∷ j)).id_of rule.properties.qos →
+    option_map (λ (s : Slot). s.0) e.slot ≡ option_map (λ k. place_in k states) rule.properties.key → e.counted ≡ counts_now (now p j).on rule.properties.key →
+    StandsFor p (entry.Command (Install rule) ∷ j) (gen (entry.Command (Install rule) ∷ j)) e (dynamic rule)
+stands_installed p j rule e states keys source bearer slot counted = record {
+  rule_is = rw source refl;
+  bearer_is = bearer ∙ sym (ap (λ (g : Generation). g.id_of rule.properties.qos) (at_newest p (entry.Command (Install rule) ∷ j)));
+  slot_is = slot ∙ slot_named p j rule states rule.properties.key refl keys;
+  counted_is = rw (after_is p j (Install rule) refl)
+      (counted ∙ sym (still (now p j).rules (put (dynamic rule) (now p j).rules) (now p j).on (dynamic rule) (put_new (dynamic rule) (now p j).rules)));
+}
+
+-- ---- one entry for each rule
+rank_at : (p : Setting) (j : Journal) (g : ℕ) (e : Entry) (r : Active) → StandsFor p j g e r → rank_of p.catalog e.source ≡ rules.rank_of r
+rank_at p j g e r stands = (rule_is p.catalog e.source r stands.rule_is).rank_is
+
+apart_names : (p : Setting) (j : Journal) (g : ℕ) (t : TableValue) (e f : Entry) → Shows p j g t → NamesOnce (at p j g).rules → Contains t.entries e → Contains t.entries f →
+    GoesBefore p.catalog e f → same_name (name_of p.catalog e.source) (name_of p.catalog f.source) ≡ false
+apart_names p j g t e f shows once e_there f_there before =
+    false_from_ne_true (same_name (name_of p.catalog e.source) (name_of p.catalog f.source)) (λ same.
+    let a = shows.only e e_there in
+    let b = shows.only f f_there in
+    let names : a.0.properties.name ≡ b.0.properties.name =
+    sym (name_is p j g e a.0 a.2) ∙ same_name_is (name_of p.catalog e.source) (name_of p.catalog f.source) same ∙ name_is p j g f b.0 b.2 in
+    let one : a.0 ≡ b.0 = once_is (at p j g).rules a.0 b.0 once a.1 b.1 names in
+    let ranks : rank_of p.catalog e.source ≡ rank_of p.catalog f.source = rank_at p j g e a.0 a.2 ∙ ap rules.rank_of one ∙ sym (rank_at p j g f b.0 b.2) in
+    not_before (rank_of p.catalog e.source) (rank_of p.catalog f.source) ranks before)
+  where
+    not_before : (x y : Rank) → x ≡ y → IsTrue (goes_before x y) → ⊥
+    not_before x y is before =
+        let here : goes_before x x ≡ true = ap (goes_before x) is ∙ before in contrary (goes_before x x) here (apart x x here)
+
+names_distinct : (p : Setting) (j : Journal) (g : ℕ) (t : TableValue) (entries : List Entry) → Shows p j g t → NamesOnce (at p j g).rules → ((e : Entry) → Contains entries e → Contains t.entries e) →
+    AllPairs (GoesBefore p.catalog) entries → IsDistinct same_name (map (λ e. name_of p.catalog e.source) entries)
+unfolding IsDistinct
+names_distinct p j g t [] shows once within ordered = tt
+names_distinct p j g t (e ∷ entries) shows once within ordered = (
+  others entries (λ f there. later_there e entries f there) (ordered_head (GoesBefore p.catalog) e entries ordered),
+  names_distinct p j g t entries shows once (λ f there. within f (later_there e entries f there)) (ordered_tail (GoesBefore p.catalog) e entries ordered),
+)
+  where
+    others : (rest : List Entry) → ((f : Entry) → Contains rest f → Contains (e ∷ entries) f) → All (GoesBefore p.catalog e) rest →
+        AllByRecursion (λ name. same_name (name_of p.catalog e.source) name ≡ false) (map (λ f. name_of p.catalog f.source) rest)
+    others [] inside all = tt
+    others (f ∷ rest) inside all = (
+      apart_names p j g t e f shows once (within e (first_there e entries)) (within f (inside f (first_there f rest))) (All-head (GoesBefore p.catalog e) f rest all),
+      others rest (λ x there. inside x (later_there f rest x there)) (All-tail (GoesBefore p.catalog e) f rest all),
+    )
+
+-- ---- the name of each entry is one of a rule
+any_named : (q : List ℕ) (p : Setting) (entries : List Entry) → list_any (same_name q) (map (λ e. name_of p.catalog e.source) entries) ≡ true →
+    (e : Entry) × Contains entries e × (same_name q (name_of p.catalog e.source) ≡ true)
+any_named q p [] any = absurd cc
+any_named q p (e ∷ entries) any =
+    elim (cases_Bool (same_name q (name_of p.catalog e.source))) [
+      | inl same ↦ (e, first_there e entries, same)
+      | inr differs ↦ let r = any_named q p entries (rw differs at any) in (r.0, later_there e entries r.0 r.1, r.2)
+    ]
+
+pub few_entries : (p : Setting) (j : Journal) (g : ℕ) (t : TableValue) → Shows p j g t → NamesOnce (at p j g).rules → length t.entries ≤ length (at p j g).rules
+few_entries p j g t shows once =
+    let names = map (λ (e : Entry). name_of p.catalog e.source) t.entries in
+    let all = map (λ (r : Active). r.properties.name) (at p j g).rules in
+    let fewer : length names ≤ length all = length-le_from_is_member nat_list_eq_equiv names all (names_distinct p j g t t.entries shows once (λ e there. there) shows.ordered.ordered)
+    (λ q there.
+    let w = any_named q p t.entries there in
+    let v = shows.only w.0 w.1 in
+    let same : same_name q v.0.properties.name ≡ true = ap (same_name q) (sym (name_is p j g w.0 v.0 v.2)) ∙ w.2 in
+    any_from (same_name q) all v.0.properties.name (map_to (λ (r : Active). r.properties.name) (at p j g).rules v.0 v.1) same) in
+    omega (arith, fewer, length-map t.entries (λ (e : Entry). name_of p.catalog e.source), length-map (at p j g).rules (λ (r : Active). r.properties.name))
+
+-- ---- the table after an Install
+pub install_shows : (p : Setting) (j : Journal) (rule : Definition) (e : Entry) (t : TableValue) → Fives p (now p j) → Shows p j (gen j) t →
+    StandsFor p (entry.Command (Install rule) ∷ j) (gen (entry.Command (Install rule) ∷ j)) e (dynamic rule) → IsKnown p.catalog e.source →
+    Shows p (entry.Command (Install rule) ∷ j) (gen (entry.Command (Install rule) ∷ j)) (record { number = t.number + 1; entries = placed p.catalog e t.entries })
+install_shows p j rule e t fives shows stands known =
+    shows_install p j rule e t (t.number + 1) (placed p.catalog e t.entries) fives shows stands refl refl (placed_is_table p.catalog e t.entries known shows.ordered)
+
+-- it has room for the entry
+pub room_installed : (p : Setting) (j : Journal) (rule : Definition) (e : Entry) (t : TableValue) → Fives p (now p j) → Shows p j (gen j) t →
+    StandsFor p (entry.Command (Install rule) ∷ j) (gen (entry.Command (Install rule) ∷ j)) e (dynamic rule) → IsKnown p.catalog e.source →
+    length (put (dynamic rule) (now p j).rules) ≤ 64 → length (placed p.catalog e t.entries) ≤ 64
+room_installed p j rule e t fives shows stands known few =
+    let k : Journal = entry.Command (Install rule) ∷ j in
+    let next_rules : (at p k (gen k)).rules ≡ put (dynamic rule) (now p j).rules = ap (λ (g : Generation). g.rules) (after_is p j (Install rule) refl) in
+    let once : NamesOnce (at p k (gen k)).rules = subst (λ (g : Generation). NamesOnce g.rules) (sym (at_newest p k)) (made_once p (tables k)) in
+    let fewer = few_entries p k (gen k) (record { number = t.number + 1; entries = placed p.catalog e t.entries }) (install_shows p j rule e t fives shows stands known) once in
+    omega (arith, fewer, ap length next_rules, few)
+
+-- ---- a table with these fields
+pub shows_as : (p : Setting) (j : Journal) (g : ℕ) (t : TableValue) (number : ℕ) (entries : List Entry) → t.number ≡ number → t.entries ≡ entries →
+    Shows p j g (record { number = number; entries = entries }) → Shows p j g t
+shows_as p j g t number entries number_is entries_are shows = record {
+  number_is = number_is ∙ shows.number_is;
+  ordered = subst (IsTable p.catalog) (sym entries_are) shows.ordered;
+  each = λ r there. let w = shows.each r there in (w.0, subst (λ es. Contains es w.0) (sym entries_are) w.1, w.2);
+  only = λ e there. shows.only e (subst (λ es. Contains es e) entries_are there);
+}
+
+-- ---- what a session makes of its table
+pub if_ok : {T E : Type 0} (P Q R : T → Type 0) (r : Result T E) → ((t : T) → P t → Q t → R t) → IfOk r P → IfOk r Q → IfOk r R
+if_ok P Q R (Ok t) both first second = both t first second
+if_ok P Q R (Err e) both first second = tt
+
+pub number_fits : (v : Core) (t : TableValue) → IsSoundCore v → t ≡ v.parts.table → t.number + 1 < 4294967296
+number_fits v t sound is =
+    let number : t.number ≡ gen v.journal = ap (λ (x : TableValue). x.number) is ∙ sound.agrees.table_shows.number_is in
+    let few = few_generations v.journal in omega (arith, number, few, sound.few_commands, sound.most_commands)
+
+fives_now : (v : Core) → IsSoundCore v → Fives (setting_in v) (now (setting_in v) v.journal)
+fives_now v sound = lawful_fives (setting_in v) (has_bearer_ids (setting_in v) refl) v.journal sound.agrees.lawful
+
+shows_now : (v : Core) (t : TableValue) → IsSoundCore v → t ≡ v.parts.table → Shows (setting_in v) v.journal (gen v.journal) t
+shows_now v t sound is = subst (Shows (setting_in v) v.journal (gen v.journal)) (sym is) sound.agrees.table_shows
+
+-- the rules that are kept are those that are active
+few_active : (v : Core) → IsSoundCore v → length (now (setting_in v) v.journal).rules ≤ 64
+few_active v sound = omega (arith, sound.few_rules, kept_length v.offers v.parts.rules (now (setting_in v) v.journal).rules sound.agrees.rules_are)
+
+pub room_for_rule : (v : Core) (rule : Definition) (e : Entry) (t : TableValue) (offers : List Offer) → IsSoundCore v → first_of (refusals (setting_in v) v.journal (Install rule)) ≡ None →
+    StandsFor (setting_in v) (with_command (Install rule) v.journal) (gen (with_command (Install rule) v.journal)) e (dynamic rule) → IsKnown offers e.source → t ≡ v.parts.table → offers ≡ v.offers →
+    length (placed offers e t.entries) ≤ 64
+room_for_rule v rule e t offers sound accepted stands known is offers_are =
+    subst (λ (os : List Offer). length (placed os e t.entries) ≤ 64) (sym offers_are)
+    (room_installed (setting_in v) v.journal rule e t (fives_now v sound) (shows_now v t sound is) stands (subst (λ (os : List Offer). IsKnown os e.source) offers_are known)
+    (few_put (setting_in v) v.journal rule refl (few_active v sound) accepted))
+
+pub table_with : (v : Core) (rule : Definition) (e : Entry) (t : TableValue) (offers : List Offer) → IsSoundCore v →
+    StandsFor (setting_in v) (with_command (Install rule) v.journal) (gen (with_command (Install rule) v.journal)) e (dynamic rule) → IsKnown offers e.source → t ≡ v.parts.table → offers ≡ v.offers →
+    (new : TableValue) → new.number ≡ t.number + 1 → new.entries ≡ placed offers e t.entries → Shows (setting_in v) (with_command (Install rule) v.journal) (gen (with_command (Install rule) v.journal)) new
+table_with v rule e t offers sound stands known is offers_are new number entries =
+    let p : Setting = setting_in v in
+    shows_as p (with_command (Install rule) v.journal) (gen (with_command (Install rule) v.journal)) new (t.number + 1) (placed p.catalog e t.entries) number
+    (entries ∙ ap (λ (os : List Offer). placed os e t.entries) offers_are)
+    (install_shows p v.journal rule e t (fives_now v sound) (shows_now v t sound is) stands (subst (λ (os : List Offer). IsKnown os e.source) offers_are known))
+
+pub table_without : (v : Core) (name : List ℕ) (t : TableValue) (offers : List Offer) → IsSoundCore v → t ≡ v.parts.table → offers ≡ v.offers →
+    (new : TableValue) → new.number ≡ t.number + 1 → new.entries ≡ without offers name t.entries → Shows (setting_in v) (with_command (Remove name) v.journal) (gen (with_command (Remove name) v.journal)) new
+table_without v name t offers sound is offers_are new number entries =
+    let p : Setting = setting_in v in
+    let shows = shows_now v t sound is in
+    shows_as p (with_command (Remove name) v.journal) (gen (with_command (Remove name) v.journal)) new (t.number + 1) (without p.catalog name t.entries) number
+    (entries ∙ ap (λ (os : List Offer). without os name t.entries) offers_are)
+    (shows_remove p v.journal name t (t.number + 1) (without p.catalog name t.entries) (fives_now v sound) shows refl refl (without_is_table p.catalog name t.entries shows.ordered))
+
+pub table_counting : (v : Core) (key : List ℕ) (amount : ℕ) (slot : Slot) (states : List KeyState) (t : TableValue) → IsSoundCore v → t ≡ v.parts.table → slot.0 ≡ place_in key states → states ≡ v.parts.keys →
+    (new : TableValue) → new.number ≡ t.number + 1 → new.entries ≡ map (with_counting slot true) t.entries →
+    Shows (setting_in v) (with_command (Monitor key amount) v.journal) (gen (with_command (Monitor key amount) v.journal)) new
+table_counting v key amount slot states t sound is slot_is states_are new number entries =
+    let p : Setting = setting_in v in
+    let shows = shows_now v t sound is in
+    let place : place_of key (slots p (with_command (Monitor key amount) v.journal)) ≡ Some slot.0 =
+    ap (place_of key) (slots_next p v.journal (Monitor key amount) refl ∙ ap (add_key key) (sym sound.agrees.keys_are)) ∙ key_place key v.parts.keys ∙
+    ap (λ n. Some n) (ap (place_in key) (sym states_are) ∙ sym slot_is) in
+    shows_as p (with_command (Monitor key amount) v.journal) (gen (with_command (Monitor key amount) v.journal)) new (t.number + 1) (map (with_counting slot true) t.entries) number entries
+    (shows_monitor p v.journal key amount slot t (t.number + 1) (map (with_counting slot true) t.entries) (fives_now v sound) shows place refl refl (counting_is_table p.catalog slot true t.entries shows.ordered))
+
+-- a key is on, by what a session keeps
+pub counts_is : (v : Core) (key : Option (List ℕ)) (states : List KeyState) → IsSoundCore v → states ≡ v.parts.keys → is_on key states ≡ counts_now (now (setting_in v) v.journal).on key
+counts_is v key states sound is = ap (is_on key) is ∙ on_is (setting_in v) v.journal v.parts.keys key sound.agrees.keys_are sound.agrees.usage_is

@@ -1,0 +1,93 @@
+-- What the refusals of commands come to in a journal that nothing ended.
+use Rattle.std.proofs.Common.{◌≡◌, ◌∙◌, ◌≤◌, ◌<◌, ℕ, Bool, true, false, not, ◌&&◌, List, [], ◌∷◌, ◌++◌, length, refl, sym, ap, arith, Some, None, nat_le, true≢false, inl, inr}
+use Rattle.std.specs.Prelude.{Option, find, is_some}
+use Rattle.std.specs.List.{list_any}
+use Rattle.std.proofs.lemmas.Bool.{cases_Bool, le-leb, lt-leb}
+use Rattle.pcef_rule.specs.declared.rule.Properties.{Properties}
+use Rattle.pcef_journal.specs.declared.command.Command.{Command}
+use Rattle.pcef_journal.specs.declared.command.Command.TheVariants.{Install, Activate, Remove, Monitor, Stop, ReportNow, Triggers, Notice, LoseBearer, Close, Terminate}
+use Rattle.pcef_journal.specs.declared.entry.Entry.TheVariants as entry
+use Rattle.pcef_journal.specs.Setting.{Setting, offer_named, same_name}
+use Rattle.pcef_journal.specs.ActiveRules.{without}
+use Rattle.pcef_journal.specs.Generations.{is_among}
+use Rattle.pcef_journal.specs.Entries.{Journal, commands}
+use Rattle.pcef_journal.specs.Journals.{now, slots}
+use Rattle.pcef_usage.specs.declared.usage.KeyState.{KeyState}
+use Rattle.pcef_usage.specs.Keys.{finds_no_slot as slotless, keys_of}
+use Rattle.pcef_usage.proofs.Monitors.{finds_no_slot_is}
+use Rattle.pcef_session.specs.declared.answer.Refusal.{Refusal}
+use Rattle.pcef_session.specs.declared.answer.Refusal.TheVariants.{CommandsFull, RulesFull, KeysFull}
+use Rattle.pcef_session.specs.Refusals.{Conditions, becoming_active, bindings, common_refusals, finds_no_slot, first_of, is_active, limited_count, was_closed, was_terminated}
+use Rattle.pcef_session.specs.Soundness.{IsPlain}
+
+-- ---- conditions one after the other
+pub first_after : {R : Type 0} (cs ds : Conditions R) → None ≡ first_of cs → first_of (cs ++ ds) ≡ first_of ds
+first_after [] ds none = refl
+first_after (c ∷ cs) ds none =
+    elim (cases_Bool c.0) [
+      | inl is ↦ absurd (let some : None ≡ Some c.1 = rw is at none in cc)
+      | inr isnt ↦ let later : None ≡ first_of cs = rw isnt at none in rw isnt (first_after cs ds later)
+    ]
+
+pub first_before : {R : Type 0} (cs ds : Conditions R) (r : R) → Some r ≡ first_of cs → Some r ≡ first_of (cs ++ ds)
+first_before [] ds r some = absurd cc
+first_before (c ∷ cs) ds r some =
+    elim (cases_Bool c.0) [
+      | inl is ↦ let here : Some r ≡ Some c.1 = rw is at some in rw is here
+      | inr isnt ↦ let later : Some r ≡ first_of cs = rw isnt at some in rw isnt (first_before cs ds r later)
+    ]
+
+-- ---- the budget of commands
+pub limited_plain : (j : Journal) → was_closed j ≡ false → was_terminated j ≡ false → limited_count j ≡ length (commands j)
+unfolding limited_count
+limited_plain [] closed terminated = refl
+limited_plain (entry.Row r ∷ j) closed terminated = let rest = limited_plain j closed terminated in omega (arith, rest)
+limited_plain (entry.Report r ∷ j) closed terminated = let rest = limited_plain j closed terminated in omega (arith, rest)
+limited_plain (entry.Attach w ∷ j) closed terminated = let rest = limited_plain j closed terminated in omega (arith, rest)
+limited_plain (entry.Leave w ∷ j) closed terminated = let rest = limited_plain j closed terminated in omega (arith, rest)
+limited_plain (entry.Command Close ∷ j) closed terminated = absurd (true≢false closed)
+limited_plain (entry.Command Terminate ∷ j) closed terminated = absurd (true≢false terminated)
+limited_plain (entry.Command (Install rule) ∷ j) closed terminated = let rest = limited_plain j closed terminated in omega (arith, rest)
+limited_plain (entry.Command (Activate name) ∷ j) closed terminated = let rest = limited_plain j closed terminated in omega (arith, rest)
+limited_plain (entry.Command (Remove name) ∷ j) closed terminated = let rest = limited_plain j closed terminated in omega (arith, rest)
+limited_plain (entry.Command (Monitor key amount) ∷ j) closed terminated = let rest = limited_plain j closed terminated in omega (arith, rest)
+limited_plain (entry.Command (Stop key) ∷ j) closed terminated = let rest = limited_plain j closed terminated in omega (arith, rest)
+limited_plain (entry.Command (ReportNow key) ∷ j) closed terminated = let rest = limited_plain j closed terminated in omega (arith, rest)
+limited_plain (entry.Command (Triggers set) ∷ j) closed terminated = let rest = limited_plain j closed terminated in omega (arith, rest)
+limited_plain (entry.Command (Notice kind value) ∷ j) closed terminated = let rest = limited_plain j closed terminated in omega (arith, rest)
+limited_plain (entry.Command (LoseBearer id) ∷ j) closed terminated = let rest = limited_plain j closed terminated in omega (arith, rest)
+
+pub common_full : (p : Setting) (j : Journal) (n : ℕ) → IsPlain j n → p.commands ≤ length (commands j) → Some CommandsFull ≡ first_of (common_refusals p j)
+common_full p j n plain full =
+    let count = limited_plain j plain.not_closed plain.not_terminated in rw (plain.not_terminated, plain.not_closed, count, le-leb p.commands (length (commands j)) full) refl
+
+pub common_none : (p : Setting) (j : Journal) (n : ℕ) → IsPlain j n → length (commands j) < p.commands → None ≡ first_of (common_refusals p j)
+common_none p j n plain few =
+    let count = limited_plain j plain.not_closed plain.not_terminated in rw (plain.not_terminated, plain.not_closed, count, lt-leb p.commands (length (commands j)) few) refl
+
+-- ---- names of the catalog
+find_any : {X : Type 0} (test : X → Bool) (xs : List X) → list_any test xs ≡ is_some (find test xs)
+find_any test [] = refl
+find_any test (x ∷ xs) = elim (cases_Bool (test x)) [ inl is ↦ rw is refl | inr isnt ↦ rw isnt (find_any test xs) ]
+
+pub offered : (p : Setting) (name : List ℕ) (b : Bool) → b ≡ list_any (λ o. same_name o.properties.name name) p.catalog → b ≡ is_some (offer_named p name)
+offered p name b is = is ∙ find_any (λ o. same_name o.properties.name name) p.catalog
+
+-- ---- slots
+pub slotless_is : (p : Setting) (j : Journal) (key : Option (List ℕ)) (states : List KeyState) → p.most_keys ≡ 8 → keys_of states ≡ slots p j → slotless key states ≡ finds_no_slot p j key
+slotless_is p j None states most keys = refl
+slotless_is p j (Some key) states most keys =
+    finds_no_slot_is p j key states keys ∙ ap (λ n. not (is_among key (slots p j)) && nat_le n (length (slots p j))) (sym most)
+
+-- ---- becoming active
+pub becoming_full : (p : Setting) (j : Journal) (rule : Properties) → true ≡ (not (is_active p j rule.name) && nat_le p.most_rules (length (now p j).rules)) →
+    Some RulesFull ≡ first_of (becoming_active p j rule)
+becoming_full p j rule full = rw (← full) refl
+
+pub becoming_slotless : (p : Setting) (j : Journal) (rule : Properties) → false ≡ (not (is_active p j rule.name) && nat_le p.most_rules (length (now p j).rules)) →
+    true ≡ finds_no_slot p j rule.key → Some KeysFull ≡ first_of (becoming_active p j rule)
+becoming_slotless p j rule place lacks = rw (← place, ← lacks) refl
+
+pub becoming_bound : (p : Setting) (j : Journal) (rule : Properties) (o : Option Refusal) → false ≡ (not (is_active p j rule.name) && nat_le p.most_rules (length (now p j).rules)) →
+    false ≡ finds_no_slot p j rule.key → o ≡ first_of (bindings p (now p j) rule (without rule.name (now p j).rules)) → o ≡ first_of (becoming_active p j rule)
+becoming_bound p j rule o place has is = is ∙ rw (← place, ← has) refl

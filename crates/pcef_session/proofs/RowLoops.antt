@@ -1,0 +1,40 @@
+-- The counters in the loop over rows that are taken over.
+use Rattle.std.proofs.Common.{◌≡◌, ◌∙◌, ◌≤◌, ◌<◌, ◌+◌, ℕ, List, ◌∷◌, length, sym, ap, subst, drop, get_or}
+use Rattle.std.proofs.lemmas.List.{drop_all, drop_more}
+use Rattle.pcef_journal.specs.declared.row.Row.{Row}
+use Rattle.pcef_usage.specs.declared.usage.KeyState.{KeyState}
+use Rattle.pcef_usage.specs.Flushes.{rows_counted}
+use Rattle.pcef_usage.specs.Keys.{CanCount, with_octets}
+use Rattle.pcef_session.specs.declared.batch.Item.{Item}
+use Rattle.pcef_session.specs.Following.{CanCountAll, row_of, slot_of}
+
+-- what is left begins with the item at hand
+split_here : (items : List Item) (i : ℕ) (item : Item) → i < length items → item ≡ get_or items i item → drop i items ≡ item ∷ drop (i + 1) items
+split_here items i item within is = drop_more items i item within ∙ ap (λ (x : Item). x ∷ drop (i + 1) items) (sym is)
+
+-- the octets of the item at hand can be counted
+pub fits_here : (items : List Item) (i : ℕ) (item : Item) (states : List KeyState) (row : Row) → i < length items → item ≡ get_or items i item → row ≡ item.row →
+    CanCountAll (drop i items) states → CanCount item.slot row.header.octets states
+fits_here items i item states row within is row_is fits =
+    subst (λ (r : Row). CanCount item.slot r.header.octets states) (sym row_is) (subst (λ (xs : List Item). CanCountAll xs states) (split_here items i item within is) fits).0
+
+-- and then those of the others
+pub fits_later : (items : List Item) (i : ℕ) (item : Item) (states new : List KeyState) (row : Row) → i < length items → item ≡ get_or items i item → row ≡ item.row →
+    new ≡ with_octets item.slot row.header.octets states → CanCountAll (drop i items) states → CanCountAll (drop (i + 1) items) new
+fits_later items i item states new row within is row_is new_is fits =
+    subst (CanCountAll (drop (i + 1) items)) (sym (new_is ∙ ap (λ (r : Row). with_octets item.slot r.header.octets states) row_is))
+    (subst (λ (xs : List Item). CanCountAll xs states) (split_here items i item within is) fits).1
+
+-- what all rows count is what is left to count, one row on
+pub counted_step : (items : List Item) (i : ℕ) (item : Item) (states new all : List KeyState) (row : Row) → i < length items → item ≡ get_or items i item → row ≡ item.row →
+    new ≡ with_octets item.slot row.header.octets states → rows_counted row_of slot_of (drop i items) states ≡ all →
+    rows_counted row_of slot_of (drop (i + 1) items) new ≡ all
+unfolding rows_counted
+counted_step items i item states new all row within is row_is new_is before =
+    ap (rows_counted row_of slot_of (drop (i + 1) items)) (new_is ∙ ap (λ (r : Row). with_octets item.slot r.header.octets states) row_is)
+    ∙ sym (ap (λ (xs : List Item). rows_counted row_of slot_of xs states) (split_here items i item within is)) ∙ before
+
+-- and nothing is left at the end
+pub counted_end : (items : List Item) (i : ℕ) (states all : List KeyState) → length items ≤ i → rows_counted row_of slot_of (drop i items) states ≡ all → states ≡ all
+unfolding rows_counted
+counted_end items i states all past before = sym (ap (λ (xs : List Item). rows_counted row_of slot_of xs states) (drop_all i items past)) ∙ before

@@ -1,0 +1,145 @@
+-- A session stays sound as it changes.
+use Rattle.std.proofs.Common.{◌≡◌, ◌∙◌, ◌≤◌, ◌<◌, ◌+◌, ◌^◌, ℕ, suc, List, [], ◌∷◌, length, refl, sym, ap, subst, arith, None, All, map, false}
+use Rattle.std.specs.Arc.{arc_value}
+use Rattle.std.proofs.lemmas.List.Elements.{All-nil}
+use Rattle.std.specs.Prelude.{Option, not}
+use Rattle.pcef_table.proofs.Keeping.{filter_length}
+use Rattle.pcef_rule.specs.declared.quantity.BearerId.{BearerId}
+use Rattle.pcef_journal.specs.declared.command.Command.{Command}
+use Rattle.pcef_journal.specs.declared.command.Command.TheVariants.{Install, Activate, Remove, Monitor, Stop, ReportNow, Triggers, Notice, LoseBearer, Close, Terminate}
+use Rattle.pcef_journal.specs.declared.entry.Entry.TheVariants as entry
+use Rattle.pcef_journal.specs.ActiveRules.{is_named}
+use Rattle.pcef_journal.specs.Reports.{after_command, plan, tell, thresholds}
+use Rattle.pcef_usage.specs.Keys.{finds_no_slot as slotless, keys_of}
+use Rattle.pcef_usage.proofs.Afterwards.{few_entered}
+use Rattle.pcef_usage.proofs.Reports.{tell_rows}
+use Rattle.pcef_session.specs.Changes.{entered_by, key_of}
+use Rattle.pcef_session.specs.Core.{IsServed}
+use Rattle.pcef_session.specs.Refusals.{first_of, refusals}
+use Rattle.pcef_journal.specs.declared.row.Row.{Row}
+use Rattle.pcef_journal.specs.Setting.{Setting}
+use Rattle.pcef_journal.specs.Entries.{Journal, commands, rows}
+use Rattle.pcef_journal.specs.Generations.{Generation, at_first as before_all, key_named, rules_after}
+use Rattle.pcef_journal.specs.Journals.{attach_count, no_triggers, now, slots}
+use Rattle.pcef_usage.specs.declared.usage.KeyState.{KeyState}
+use Rattle.pcef_session.specs.Agreement.{Agrees, Parts}
+use Rattle.pcef_session.specs.Bound.{binding_of}
+use Rattle.pcef_session.specs.Soundness.{IsLimited, IsPlain, IsSmall, IsSound, parts_of}
+use Rattle.pcef_session.specs.Terms.{setting_of}
+use Rattle.pcef_session.specs.declared.state.SessionState.TheInside.{Inside}
+use Rattle.pcef_session.proofs.FirstSession.{agrees_attached, agrees_first}
+use Rattle.pcef_session.proofs.Acceptance.{few_put, served_budget, served_slot}
+use Rattle.pcef_session.proofs.Commanding.{IsCommanded, agrees_commanded, commands_after, few_keys_after, next_now, served_plainly}
+use Rattle.pcef_session.proofs.KeptRules.{kept_length}
+use Rattle.pcef_session.proofs.PlainJournals.{attach_accepted, plain_after, plain_attach, plain_first}
+
+-- a worker comes
+pub sound_attached : (s t : Inside) → IsSound s → s.attached < 16 → t.profile ≡ s.profile → t.listing ≡ s.listing → t.counted.journal ≡ entry.Attach s.attached ∷ s.counted.journal →
+    t.counted.states ≡ s.counted.states → t.active ≡ s.active → t.bearers ≡ s.bearers → t.table ≡ s.table → t.subscribed ≡ s.subscribed → t.attached ≡ suc s.attached → IsSound t
+sound_attached s t sound few profile listing journal states active bearers table subscribed attached =
+    let p : Setting = setting_of s.profile s.listing in
+    let q : Setting = setting_of t.profile t.listing in
+    let j : Journal = s.counted.journal in
+    let same : q ≡ p = rw (profile, listing) refl in
+    let parts : parts_of t ≡ parts_of s = rw (states, active, bearers, table, subscribed) refl in
+    let count : entry.Attach s.attached ∷ j ≡ entry.Attach (attach_count j) ∷ j = ap (λ n. entry.Attach n ∷ j) (sym sound.plain.counted) in
+    let after : Agrees p (entry.Attach s.attached ∷ j) (parts_of s) =
+    subst (λ (k : Journal). Agrees p k (parts_of s)) (sym count) (agrees_attached p j (parts_of s) sound.agrees (attach_accepted j s.attached sound.plain few)) in
+    record {
+      agrees = rw (same, parts, journal) after;
+      plain = rw (journal, attached) (plain_attach j s.attached sound.plain);
+      limited = record {
+        few_commands = rw (journal, profile) sound.limited.few_commands;
+        most_commands = rw profile sound.limited.most_commands;
+        few_rows = rw (journal, profile) sound.limited.few_rows;
+        most_rows = rw profile sound.limited.most_rows;
+        octets = rw journal sound.limited.octets;
+      };
+      small = record { few_rules = rw active sound.small.few_rules; few_keys = rw states sound.small.few_keys };
+    }
+
+-- a session that is opened
+pub sound_opened : (s : Inside) → s.counted.journal ≡ [] → s.counted.states ≡ [] → s.active.entries ≡ [] → s.bearers ≡ binding_of (setting_of s.profile s.listing) before_all →
+    (arc_value s.table).number ≡ 0 → (arc_value s.table).entries ≡ [] → s.subscribed ≡ no_triggers → s.attached ≡ 0 → s.profile.commands ≤ 1000000 → s.profile.rows ≤ 4294967295 → IsSound s
+sound_opened s journal states active bearers number entries subscribed attached most_commands most_rows =
+    let p : Setting = setting_of s.profile s.listing in
+    record {
+      agrees = rw journal (agrees_first p (parts_of s) active bearers states subscribed number entries);
+      plain = rw (journal, attached) plain_first;
+      limited = record {
+        few_commands = rw journal (omega arith);
+        most_commands = most_commands;
+        few_rows = rw journal (omega arith);
+        most_rows = most_rows;
+        octets = rw journal (All-nil (λ (r : Row). r.header.octets < 2 ^ 32));
+      };
+      small = record { few_rules = rw active (omega arith); few_keys = rw states (omega arith) };
+    }
+
+-- a command is done
+few_rules_after : (p : Setting) (j : Journal) (c : Command) → p.most_rules ≡ 64 → IsServed c → first_of (refusals p j c) ≡ None → length (now p j).rules ≤ 64 → length (rules_after p (now p j) c) ≤ 64
+few_rules_after p j (Install rule) most served accepted few = few_put p j rule most few accepted
+few_rules_after p j (Remove name) most served accepted few = omega (arith, few, filter_length (λ r. not (is_named name r)) (now p j).rules)
+few_rules_after p j (Monitor key amount) most served accepted few = few
+few_rules_after p j (Activate name) most served accepted few = absurd served
+few_rules_after p j (Stop key) most served accepted few = absurd served
+few_rules_after p j (ReportNow key) most served accepted few = absurd served
+few_rules_after p j (Triggers set) most served accepted few = absurd served
+few_rules_after p j (Notice kind value) most served accepted few = absurd served
+few_rules_after p j (LoseBearer id) most served accepted few = absurd served
+few_rules_after p j Close most served accepted few = absurd served
+few_rules_after p j Terminate most served accepted few = absurd served
+
+served_key : (p : Setting) (c : Command) → IsServed c → key_named p c ≡ key_of c
+served_key p (Install rule) served = refl
+served_key p (Remove name) served = refl
+served_key p (Monitor key amount) served = refl
+served_key p (Activate name) served = absurd served
+served_key p (Stop key) served = absurd served
+served_key p (ReportNow key) served = absurd served
+served_key p (Triggers set) served = absurd served
+served_key p (Notice kind value) served = absurd served
+served_key p (LoseBearer id) served = absurd served
+served_key p Close served = absurd served
+served_key p Terminate served = absurd served
+
+rows_after : (p : Setting) (j : Journal) (c : Command) → rows (after_command p j c) ≡ rows j
+unfolding after_command
+rows_after p j c = tell_rows p (thresholds p (tell p (plan p j c) (entry.Command c ∷ j))) (tell p (plan p j c) (entry.Command c ∷ j)) ∙ tell_rows p (plan p j c) (entry.Command c ∷ j)
+
+pub sound_commanded : (s t : Inside) (c : Command) (bearer : Option BearerId) → IsSound s → IsCommanded (setting_of s.profile s.listing) s.counted.journal c (parts_of s) (parts_of t) bearer →
+    t.profile ≡ s.profile → t.listing ≡ s.listing → t.attached ≡ s.attached → t.counted.journal ≡ after_command (setting_of s.profile s.listing) s.counted.journal c → IsSound t
+sound_commanded s t c bearer sound is profile listing attached journal =
+    let p : Setting = setting_of s.profile s.listing in
+    let q : Setting = setting_of t.profile t.listing in
+    let j : Journal = s.counted.journal in
+    let same : q ≡ p = rw (profile, listing) refl in
+    let agrees : Agrees p (after_command p j c) (parts_of t) = agrees_commanded p j c (parts_of s) (parts_of t) bearer refl sound.agrees is in
+    let budget : length (commands j) < s.profile.commands = served_budget p j s.attached c sound.plain is.served is.accepted in
+    let slot : slotless (key_named p c) s.counted.states ≡ false =
+    ap (λ (key : Option (List ℕ)). slotless key s.counted.states) (served_key p c is.served) ∙ served_slot p j c s.counted.states refl sound.agrees.keys_are is.served is.accepted in
+    let before : length (now p j).rules ≤ 64 = omega (arith, sound.small.few_rules, kept_length s.listing s.active.entries (now p j).rules sound.agrees.rules_are) in
+    let after_rules : (now p (after_command p j c)).rules ≡ rules_after p (now p j) c = ap (λ (g : Generation). g.rules) (next_now p j c (served_plainly p j c is.served).table) in
+    let few : length (rules_after p (now p j) c) ≤ 64 = few_rules_after p j c refl is.served is.accepted before in
+    let kept : length t.active.entries ≡ length (now p (after_command p j c)).rules = kept_length p.catalog t.active.entries (now p (after_command p j c)).rules agrees.rules_are in
+    record {
+      agrees = rw (same, journal) agrees;
+      plain = rw (journal, attached) (plain_after p j s.attached c is.served sound.plain);
+      limited = record {
+        few_commands = rw (journal, profile, commands_after p j c) (omega (arith, budget));
+        most_commands = rw profile sound.limited.most_commands;
+        few_rows = rw (journal, profile, rows_after p j c) sound.limited.few_rows;
+        most_rows = rw profile sound.limited.most_rows;
+        octets = rw (journal, rows_after p j c) sound.limited.octets;
+      };
+      small = record {
+        few_rules = omega (arith, few, kept, ap length after_rules);
+        few_keys = few_keys_after p j c t.counted.states s.counted.states sound.agrees.keys_are agrees.keys_are slot sound.small.few_keys;
+      };
+    }
+
+pub few_entered_by : (p : Setting) (j : Journal) (c : Command) (states : List KeyState) → p.most_keys ≡ 8 → keys_of states ≡ slots p j → IsServed c → first_of (refusals p j c) ≡ None →
+    length states ≤ 8 → length (entered_by c states) ≤ 8
+few_entered_by p j c states most keys served accepted few =
+    let fits = few_entered p c states (ap (λ (key : Option (List ℕ)). slotless key states) (served_key p c served) ∙ served_slot p j c states most keys served accepted) few in
+    omega (arith, fits, ap (λ (ss : List KeyState). length ss) ((served_plainly p j c served).entering states))

@@ -1,0 +1,15 @@
+use Rattle.std.proofs.Common.{◌≡◌, ◌∙◌, subst, ap}
+use Rattle.std.specs.List.{list_any}
+use Rattle.pcef_bearer.specs.Bindings.{Binding, is_named}
+use Rattle.pcef_journal.specs.Journals.{now}
+use Rattle.pcef_session.specs.Core.{Core, setting_in}
+use Rattle.pcef_session.specs.Refusals.{is_active}
+use Rattle.pcef_session.specs.Terms.{setting_of}
+use Rattle.pcef_session.proofs.BoundBearers.{named_bound}
+use Rattle.pcef_session.proofs.state.SessionState.is_active.Goals as goal
+
+pub returns : goal.returns
+returns c =
+    let g = now (setting_of c.self.inside.profile c.self.inside.listing) c.self.inside.counted.journal in
+    subst (λ (v : Core). c.is_bound.result ≡ is_active (setting_in v) v.journal c.args.name.now) c.self.view_is
+    (c.is_bound.ensures ∙ ap (λ (b : Binding). list_any (is_named c.args.name.now) b.bound) c.self.invariant.agrees.binding_is ∙ named_bound c.args.name.now g g.rules)

@@ -1,0 +1,54 @@
+//! The slots of keys, and which of them are on.
+
+ghost use Rattle.std.specs.Prelude.{◌≡◌};
+ghost use Rattle.std.specs.List.{list_any};
+ghost use Rattle.std.specs.Option.{option_copied, option_map};
+ghost use Rattle.pcef_usage.specs.Keys.{place_of};
+ghost use Rattle.pcef_session.specs.Kept.{is_on, is_on_there};
+
+use pcef_rule::{KeyName, Slot};
+use pcef_usage::{KeyState, Usage};
+
+/// The slot of a key, or the one that it gets next.
+pub(crate) fn place_of(usage: &Usage, key: &KeyName) -> Slot
+    ensures { result.0 ≡ place_of key.now usage.now }
+{
+    match usage.find(key) {
+        Some(slot) => slot,
+        None => Slot(usage.states().len() as u8),
+    }
+}
+
+/// The slot of a key, if there is one.
+pub(crate) fn slot_of(usage: &Usage, key: Option<&KeyName>) -> Option<Slot>
+    ensures { option_map (λ s. s.0) result ≡ option_map (λ k. place_of k usage.now) (option_copied key.entry) }
+{
+    match key {
+        Some(key) => Some(place_of(usage, key)),
+        None => None,
+    }
+}
+
+/// Whether a state is that of a key, and it is on.
+fn is_on_there(key: &KeyName, state: &KeyState) -> bool
+    ensures { result ≡ is_on_there key.now state.now }
+{
+    state.key == *key && state.on
+}
+
+/// Whether a key is on.
+fn is_on_in(states: &[KeyState], key: &KeyName) -> bool
+    ensures { result ≡ list_any (is_on_there key.now) states.now }
+{
+    states.iter().any(|state| is_on_there(key, state))
+}
+
+/// Whether a key is on, if there is one.
+pub(crate) fn is_on(usage: &Usage, key: Option<&KeyName>) -> bool
+    ensures { result ≡ is_on (option_copied key.entry) usage.now }
+{
+    match key {
+        Some(key) => is_on_in(usage.states(), key),
+        None => false,
+    }
+}

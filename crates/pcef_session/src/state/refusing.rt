@@ -1,0 +1,164 @@
+//! Why commands are refused.
+
+ghost use Rattle.std.specs.Prelude.{◌≡◌, ◌==◌, ◌&&◌, ◌∷◌, [], Some, is_some, length, nat_le, not};
+ghost use Rattle.std.specs.List.{list_any};
+ghost use Rattle.std.specs.Option.{option_copied, option_map};
+ghost use Rattle.pcef_journal.specs.ActiveRules.{without};
+ghost use Rattle.pcef_journal.specs.Journals.{now};
+ghost use Rattle.pcef_journal.specs.Setting.{offer_named, same_name};
+ghost use Rattle.pcef_usage.specs.Keys.{finds_no_slot as slotless};
+ghost use Rattle.pcef_bearer.specs.Bindings as binding;
+ghost use Rattle.pcef_session.specs.declared.answer.Refusal.TheVariants as refusal;
+ghost use Rattle.pcef_session.specs.Bound.{refusal_of};
+ghost use Rattle.pcef_session.specs.Core.{IsServed, setting_in};
+ghost use Rattle.pcef_session.specs.Refusals.{becoming_active, bindings, common_refusals, finds_no_slot, first_of, is_active, refusals};
+
+use super::{MAX_RULES, SessionState};
+use crate::answer::Refusal;
+use crate::profile::Profile;
+use pcef_bearer::BindRefusal;
+use pcef_journal::Command;
+use pcef_rule::{KeyName, Properties, RuleName};
+use pcef_table::Listing;
+use pcef_usage::{MAX_KEYS, Usage};
+
+/// How many commands a journal takes.
+fn commands_of(profile: &Profile) -> u64
+    ensures { result ≡ profile.now.commands }
+{
+    u64::from(profile.commands)
+}
+
+/// How the session names a refusal of a binding.
+fn refusal_of(refusal: BindRefusal) -> Refusal
+    ensures { result ≡ refusal_of refusal }
+{
+    match refusal {
+        BindRefusal::UnknownQci => Refusal::UnknownQci,
+        BindRefusal::RatesMissing => Refusal::RatesMissing,
+        BindRefusal::RatesNotWanted => Refusal::RatesNotWanted,
+        BindRefusal::TooManyBearers => Refusal::TooManyBearers,
+        BindRefusal::OverCapacityUp => Refusal::OverCapacityUp,
+        BindRefusal::OverCapacityDown => Refusal::OverCapacityDown,
+    }
+}
+
+/// Whether a predefined rule has this name.
+fn is_offered(listing: &Listing, name: &RuleName) -> bool
+    ensures { result ≡ list_any (λ o. same_name o.properties.name name.now) listing.now }
+{
+    listing
+        .offers()
+        .iter()
+        .any(|offer| offer.properties.name == *name)
+}
+
+/// Whether a key has no slot, and there is none left.
+fn finds_no_slot(usage: &Usage, key: Option<&KeyName>) -> bool
+    ensures { result ≡ slotless (option_copied key.entry) usage.now }
+{
+    match key {
+        None => false,
+        Some(key) => usage.find(key).is_none() && usage.states().len() >= MAX_KEYS,
+    }
+}
+
+impl SessionState {
+    fn common_refusal(&self) -> Option<Refusal>
+        ensures { result ≡ first_of (common_refusals (setting_in self.now) self.now.journal) }
+    {
+        if self.counted.journal().commands_len() >= commands_of(&self.profile) {
+            return Some(Refusal::CommandsFull);
+        }
+        None
+    }
+
+    fn finds_no_slot(&self, key: Option<&KeyName>) -> bool
+        ensures { result ≡ finds_no_slot (setting_in self.now) self.now.journal (option_copied key.entry) }
+    {
+        finds_no_slot(self.counted.usage(), key)
+    }
+
+    fn is_active(&self, name: &RuleName) -> bool
+        ensures { result ≡ is_active (setting_in self.now) self.now.journal name.now }
+    {
+        self.bearers.is_bound(name)
+    }
+
+    /// Whether a rule is new, and there is no place for one more.
+    fn finds_no_place(&self, name: &RuleName) -> bool
+        ensures { result ≡ (not (is_active (setting_in self.now) self.now.journal name.now) && nat_le (setting_in self.now).most_rules (length (now (setting_in self.now) self.now.journal).rules)) }
+    {
+        !self.is_active(name) && self.active.len() >= MAX_RULES
+    }
+
+    /// Why a rule can't be bound.
+    fn bind_refusal(&self, rule: &Properties) -> Option<Refusal>
+        ensures { result ≡ first_of (bindings (setting_in self.now) (now (setting_in self.now) self.now.journal) rule.now (without rule.now.name (now (setting_in self.now) self.now.journal).rules)) }
+    {
+        match self.bearers.refusal(&rule.name, rule.qos, rule.rates) {
+            Some(refusal) => Some(refusal_of(refusal)),
+            None => None,
+        }
+    }
+
+    /// Why a rule can't become active.
+    fn becoming_active(&self, rule: &Properties) -> Option<Refusal>
+        ensures { result ≡ first_of (becoming_active (setting_in self.now) self.now.journal rule.now) }
+    {
+        if self.finds_no_place(&rule.name) {
+            return Some(Refusal::RulesFull);
+        }
+        if self.finds_no_slot(rule.key.as_ref()) {
+            return Some(Refusal::KeysFull);
+        }
+        self.bind_refusal(rule)
+    }
+
+    fn install_refusal(&self, rule: &Properties) -> Option<Refusal>
+        ensures { result ≡ first_of ((is_some (offer_named (setting_in self.now) rule.now.name), refusal.NameIsPredefined) ∷ becoming_active (setting_in self.now) self.now.journal rule.now) }
+    {
+        if is_offered(&self.listing, &rule.name) {
+            return Some(Refusal::NameIsPredefined);
+        }
+        self.becoming_active(rule)
+    }
+
+    fn remove_refusal(&self, name: &RuleName) -> Option<Refusal>
+        ensures { result ≡ first_of ((not (is_active (setting_in self.now) self.now.journal name.now), refusal.UnknownRule) ∷ []) }
+    {
+        if self.is_active(name) {
+            None
+        } else {
+            Some(Refusal::UnknownRule)
+        }
+    }
+
+    fn monitor_refusal(&self, key: &KeyName, grant: u64) -> Option<Refusal>
+        ensures { result ≡ first_of ((grant == 0, refusal.ZeroGrant) ∷ (finds_no_slot (setting_in self.now) self.now.journal (Some key.now), refusal.KeysFull) ∷ []) }
+    {
+        if grant == 0 {
+            return Some(Refusal::ZeroGrant);
+        }
+        if self.finds_no_slot(Some(key)) {
+            return Some(Refusal::KeysFull);
+        }
+        None
+    }
+
+    /// Why a command is refused, want of memory aside: the first reason in the order of [`Refusal`].
+    pub(crate) fn refusal(&self, command: &Command) -> Option<Refusal>
+        requires { IsServed command.now }
+        ensures { result ≡ first_of (refusals (setting_in self.now) self.now.journal command.now) }
+    {
+        if let Some(refusal) = self.common_refusal() {
+            return Some(refusal);
+        }
+        match command {
+            Command::Install(rule) => self.install_refusal(rule.properties()),
+            Command::Remove(name) => self.remove_refusal(name),
+            Command::Monitor { key, grant } => self.monitor_refusal(key, *grant),
+            _ => unreachable!(),
+        }
+    }
+}
