@@ -31,7 +31,7 @@ fn fault(alloc: Global, fault: LineFault) -> Result<Answer, AllocError> {
 
 fn command(alloc: Global, world: &mut WorldState, command: Command) -> Result<String, AllocError>
     requires { IsServed command }
-    ensures { world.new.offers ≡ world.old.offers }
+    ensures { world.new.core.offers ≡ world.old.core.offers }
 {
     let answer = world.command(command);
     command_answer(alloc, world.session().journal(), answer)
@@ -43,8 +43,8 @@ fn step<C: Offers>(
     world: &mut WorldState,
     line: Line,
 ) -> Result<String, AllocError>
-    requires { C.offers catalog.now ≡ world.old.offers }
-    ensures { world.new.offers ≡ world.old.offers }
+    requires { C.offers catalog.now ≡ world.old.core.offers }
+    ensures { world.new.core.offers ≡ world.old.core.offers }
 {
     match line {
         Line::Install(rule) => command(alloc, world, Command::Install(rule)),
@@ -69,8 +69,8 @@ pub(crate) fn answer_line<C: Offers>(
     world: &mut WorldState,
     line: &[u8],
 ) -> Result<Answer, AllocError>
-    requires { C.offers catalog.now ≡ world.old.offers }
-    ensures { world.new.offers ≡ world.old.offers }
+    requires { C.offers catalog.now ≡ world.old.core.offers }
+    ensures { world.new.core.offers ≡ world.old.core.offers }
 {
     let Ok(text) = str::from_utf8(line) else {
         return fault(alloc, LineFault::NotUtf8);
