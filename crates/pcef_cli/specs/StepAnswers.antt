@@ -68,6 +68,16 @@ taken_text (Ok waiting) = compact_text (taken_data waiting)
 taken_text (Err NoWorker) = no_worker_text
 taken_text (Err (Refused full)) = batch_full_text
 
+-- a worker that takes the newest generation
+abbrev pub refreshed_data : ℕ → Data
+refreshed_data generation =
+    object (member (codes "generation") (count generation)
+    (member (codes "ok") (boolean true) no_members))
+
+unfoldable pub refreshed_text : Option ℕ → List ℕ
+refreshed_text (Some generation) = compact_text (refreshed_data generation)
+refreshed_text None = no_worker_text
+
 -- ---- rows that are taken over
 abbrev pub verdict_data : ℕ → Verdict → Data
 verdict_data generation Stray =

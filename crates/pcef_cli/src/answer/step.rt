@@ -2,7 +2,7 @@
 
 ghost use Rattle.std.specs.Prelude.{◌≡◌, IfOk, string_bytes};
 ghost use Rattle.serde_json.specs.View.{view};
-ghost use Rattle.pcef_cli.specs.StepAnswers.{accepted_data, command_text, attached_data, attached_text, taken_data, taken_text, judged_data, verdicts_data, flushed_data, flushed_text};
+ghost use Rattle.pcef_cli.specs.StepAnswers.{accepted_data, command_text, attached_data, attached_text, taken_data, taken_text, refreshed_data, refreshed_text, judged_data, verdicts_data, flushed_data, flushed_text};
 
 use super::refusal::{
     attach_fault_answer, flush_refusal_answer, no_worker_answer, refusal_answer, refused_answer,
@@ -93,6 +93,22 @@ fn taken_value(alloc: Global, waiting: u8) -> Result<Value, AllocError>
     ensures { IfOk result (λ v. view v ≡ taken_data waiting) }
 {
     json!(in alloc; { "ok": true, "waiting": waiting })
+}
+
+/// The answer to `refresh`, with the generation that the worker holds then.
+pub fn refreshed_answer(alloc: Global, answer: Option<u32>) -> Result<String, AllocError>
+    ensures { IfOk result (λ text. string_bytes text ≡ refreshed_text answer) }
+{
+    match answer {
+        None => no_worker_answer(alloc),
+        Some(generation) => refreshed_value(alloc, generation)?.to_string(alloc),
+    }
+}
+
+fn refreshed_value(alloc: Global, generation: u32) -> Result<Value, AllocError>
+    ensures { IfOk result (λ v. view v ≡ refreshed_data generation) }
+{
+    json!(in alloc; { "generation": generation, "ok": true })
 }
 
 /// The answer to `flush`: the verdicts, with the reports that the journal has for them.

@@ -148,7 +148,7 @@ fn answers_to_accepted_commands(rt: HostRuntime) -> Result<(), Fail> {
 }
 
 #[test]
-fn answers_to_attaches_and_takes(rt: HostRuntime) -> Result<(), AllocError> {
+fn answers_to_attaches_refreshes_and_takes(rt: HostRuntime) -> Result<(), AllocError> {
     let alloc = rt.alloc();
     for (answer, text) in [
         (
@@ -158,6 +158,14 @@ fn answers_to_attaches_and_takes(rt: HostRuntime) -> Result<(), AllocError> {
         (
             attached_answer(alloc, 2, Err(AttachFault::NoPlace))?,
             "{\"name\":\"NoPlace\",\"refused\":1}",
+        ),
+        (
+            refreshed_answer(alloc, Some(2))?,
+            "{\"generation\":2,\"ok\":true}",
+        ),
+        (
+            refreshed_answer(alloc, None)?,
+            "{\"name\":\"NoWorker\",\"refused\":0}",
         ),
         (taken_answer(alloc, Ok(32))?, "{\"ok\":true,\"waiting\":32}"),
         (

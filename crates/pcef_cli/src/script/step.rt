@@ -4,7 +4,8 @@ ghost use Rattle.std.specs.Prelude.{◌≡◌};
 ghost use Rattle.pcef_session.specs.Core.{IsServed};
 
 use crate::answer::{
-    attached_answer, command_answer, fault_text, flushed_answer, show_answer, taken_answer,
+    attached_answer, command_answer, fault_text, flushed_answer, refreshed_answer, show_answer,
+    taken_answer,
 };
 use crate::line::{Line, LineFault, read_line};
 use pcef_journal::Command;
@@ -48,12 +49,14 @@ fn step<C: Offers>(
 {
     match line {
         Line::Install(rule) => command(alloc, world, Command::Install(rule)),
+        Line::Remove(name) => command(alloc, world, Command::Remove(name)),
         Line::Monitor { key, grant } => command(alloc, world, Command::Monitor { key, grant }),
         Line::Attach => {
             let answer = world.attach();
             attached_answer(alloc, world.session().generation(), answer)
         }
         Line::Take { worker, header } => taken_answer(alloc, world.take(catalog, worker, &header)),
+        Line::Refresh { worker } => refreshed_answer(alloc, world.refresh(worker)),
         Line::Flush { worker } => {
             let answer = world.flush(worker);
             flushed_answer(alloc, world.session().journal(), &answer)

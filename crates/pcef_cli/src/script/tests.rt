@@ -20,6 +20,12 @@ const INSTALL: &str =
 const INSTALL_UPLINK: &str =
     "{\"do\":\"install\",\"rule\":{\"name\":\"web\",\"precedence\":100,\"filters\":[{\"text\":\"permit out 17 from any 53 to assigned\"}],\"qci\":9,\"arp\":{\"level\":8,\"capability\":false,\"vulnerability\":true},\"gate\":\"ENABLED-UPLINK\",\"key\":\"vid\"}}\n";
 
+/// A rule with guaranteed rates.
+const INSTALL_VOICE: &str =
+    "{\"do\":\"install\",\"rule\":{\"name\":\"voice\",\"precedence\":10,\"filters\":[{\"text\":\"permit out 17 from any 53 to assigned\"}],\"qci\":1,\"arp\":{\"level\":2,\"capability\":true,\"vulnerability\":false},\"gbr\":{\"up\":100,\"down\":200},\"gate\":\"ENABLED\"}}\n";
+
+const REMOVE_VOICE: &str = "{\"do\":\"remove\",\"name\":\"voice\"}\n";
+
 const MONITOR: &str = "{\"do\":\"monitor\",\"key\":\"vid\",\"grant\":1000}\n";
 
 const ATTACH: &str = "{\"do\":\"attach\"}\n";
@@ -59,6 +65,31 @@ fn a_packet_is_counted(rt: HostRuntime) -> Result<(), Fail> {
     assert_eq!(rt;
         text.as_str(),
         "{\"bearer\":5,\"generation\":1,\"ok\":true,\"reports\":[]}\n{\"generation\":2,\"ok\":true,\"reports\":[]}\n{\"generation\":2,\"ok\":true,\"worker\":0}\n{\"ok\":true,\"waiting\":1}\n{\"ok\":true,\"reports\":[],\"verdicts\":[{\"bearer\":5,\"generation\":2,\"rule\":\"web\",\"verdict\":\"Passed\"}]}\n{\"active\":[\"web\"],\"bearers\":[{\"down\":0,\"id\":5,\"rules\":1,\"up\":0}],\"generation\":2,\"keys\":[{\"key\":\"vid\",\"on\":true,\"reported\":0,\"unreported\":28}]}\n"
+    );
+    assert_eq!(rt; faults, 0);
+    Ok(())
+}
+
+#[test]
+fn a_rule_is_removed_and_a_worker_takes_the_newest_generation(rt: HostRuntime) -> Result<(), Fail> {
+    let (text, faults) = run(
+        rt.alloc(),
+        &[
+            ATTACH,
+            INSTALL_VOICE,
+            SHOW,
+            REMOVE_VOICE,
+            TAKE,
+            "{\"do\":\"refresh\",\"worker\":0}\n",
+            "{\"do\":\"refresh\",\"worker\":1}\n",
+            REMOVE_VOICE,
+            FLUSH,
+            SHOW,
+        ],
+    )?;
+    assert_eq!(rt;
+        text.as_str(),
+        "{\"generation\":0,\"ok\":true,\"worker\":0}\n{\"bearer\":6,\"generation\":1,\"ok\":true,\"reports\":[]}\n{\"active\":[\"voice\"],\"bearers\":[{\"down\":0,\"id\":5,\"rules\":0,\"up\":0},{\"down\":200,\"id\":6,\"rules\":1,\"up\":100}],\"generation\":1,\"keys\":[]}\n{\"generation\":2,\"ok\":true,\"reports\":[]}\n{\"ok\":true,\"waiting\":1}\n{\"generation\":2,\"ok\":true}\n{\"name\":\"NoWorker\",\"refused\":0}\n{\"name\":\"UnknownRule\",\"refused\":5}\n{\"ok\":true,\"reports\":[],\"verdicts\":[{\"generation\":0,\"verdict\":\"Unmatched\"}]}\n{\"active\":[],\"bearers\":[{\"down\":0,\"id\":5,\"rules\":0,\"up\":0}],\"generation\":2,\"keys\":[]}\n"
     );
     assert_eq!(rt; faults, 0);
     Ok(())
@@ -146,13 +177,13 @@ fn lines_at_fault_and_blank_lines(rt: HostRuntime) -> Result<(), Fail> {
 }
 
 #[test]
-fn one_rule_one_key_and_thirty_two_rows(rt: HostRuntime) -> Result<(), Fail> {
+fn a_rule_again_another_key_and_thirty_two_rows(rt: HostRuntime) -> Result<(), Fail> {
     let other_key = "{\"do\":\"monitor\",\"key\":\"aud\",\"grant\":1}\n";
     let no_grant = "{\"do\":\"monitor\",\"key\":\"vid\",\"grant\":0}\n";
     let (text, _) = run(rt.alloc(), &[INSTALL, INSTALL, other_key, no_grant])?;
     assert_eq!(rt;
         text.as_str(),
-        "{\"bearer\":5,\"generation\":1,\"ok\":true,\"reports\":[]}\n{\"name\":\"RulesFull\",\"refused\":11}\n{\"name\":\"KeysFull\",\"refused\":12}\n{\"name\":\"ZeroGrant\",\"refused\":7}\n"
+        "{\"bearer\":5,\"generation\":1,\"ok\":true,\"reports\":[]}\n{\"bearer\":5,\"generation\":2,\"ok\":true,\"reports\":[]}\n{\"generation\":3,\"ok\":true,\"reports\":[]}\n{\"name\":\"ZeroGrant\",\"refused\":7}\n"
     );
     let mut lines = Vec::new(rt.alloc());
     lines.push(ATTACH)?;
