@@ -1,5 +1,7 @@
+pub mod AnswerTexts
 pub mod Digits
 pub mod FilterLists
+pub mod KeptLines
 pub mod NameTests
 pub mod NoFloats
 pub mod Objects

@@ -10,3 +10,7 @@ pub mod ProfileKeys
 pub mod ProfileOf
 pub mod ProfileValues
 pub mod Readings
+pub mod RefusalAnswers
+pub mod ReportAnswers
+pub mod ScriptLines
+pub mod StepAnswers

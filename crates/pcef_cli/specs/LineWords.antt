@@ -34,9 +34,11 @@ field_text field.Gate = codes "gate"
 abbrev pub word_of : List ℕ → Option Word
 word_of text =
     if bytes_eq text (codes "install") then Some word.Install
+    else if bytes_eq text (codes "remove") then Some word.Remove
     else if bytes_eq text (codes "monitor") then Some word.Monitor
     else if bytes_eq text (codes "attach") then Some word.Attach
     else if bytes_eq text (codes "take") then Some word.Take
+    else if bytes_eq text (codes "refresh") then Some word.Refresh
     else if bytes_eq text (codes "flush") then Some word.Flush
     else if bytes_eq text (codes "show") then Some word.Show
     else None
@@ -44,9 +46,11 @@ word_of text =
 -- the fields that a line may have
 abbrev pub fields_of : Word → List Field
 fields_of word.Install = field.Do ∷ field.Rule ∷ []
+fields_of word.Remove = field.Do ∷ field.Name ∷ []
 fields_of word.Monitor = field.Do ∷ field.Key ∷ field.Grant ∷ []
 fields_of word.Attach = field.Do ∷ []
 fields_of word.Take = field.Do ∷ field.Worker ∷ field.Dir ∷ field.Packet ∷ []
+fields_of word.Refresh = field.Do ∷ field.Worker ∷ []
 fields_of word.Flush = field.Do ∷ field.Worker ∷ []
 fields_of word.Show = field.Do ∷ []
 

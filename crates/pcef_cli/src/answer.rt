@@ -9,7 +9,7 @@ mod step;
 
 pub use fault::fault_text;
 pub use show::show_answer;
-pub use step::{attached_answer, command_answer, flushed_answer, taken_answer};
+pub use step::{attached_answer, command_answer, flushed_answer, refreshed_answer, taken_answer};
 
 #[cfg(test)]
 mod tests;

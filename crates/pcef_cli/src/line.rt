@@ -11,7 +11,7 @@ mod word;
 pub use fault::LineFault;
 pub use field::Field;
 use pcef_packet::Header;
-use pcef_rule::{KeyName, Rule};
+use pcef_rule::{KeyName, Rule, RuleName};
 pub use reading::read_line;
 
 /// What a line asks for.
@@ -19,6 +19,8 @@ pub use reading::read_line;
 pub enum Line {
     /// `install`: a dynamic rule is put in.
     Install(Rule),
+    /// `remove`: the dynamic rule of this name is taken out.
+    Remove(RuleName),
     /// `monitor`: the usage of a key is reported at each grant.
     Monitor {
         /// The monitoring key.
@@ -34,6 +36,11 @@ pub enum Line {
         worker: u8,
         /// The header of the packet.
         header: Header,
+    },
+    /// `refresh`: a worker takes the newest generation.
+    Refresh {
+        /// The number of the worker, 0 to 15.
+        worker: u8,
     },
     /// `flush`: what a worker took is written down.
     Flush {

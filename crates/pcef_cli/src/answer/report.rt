@@ -1,10 +1,16 @@
 //! Reports in answers.
 
-use pcef_journal::{AccessKind, Body, Cause, InactiveCause, Journal, Report};
+ghost use Rattle.std.specs.Prelude.{◌≡◌, IfOk};
+ghost use Rattle.serde_json.specs.View.{view};
+ghost use Rattle.pcef_cli.specs.ReportAnswers.{cause_text, kind_text, inactive_text, report_data, reports_told, reports_data};
+
+use pcef_journal::{AccessKind, Body, Cause, InactiveCause, Journal, Report, Reports};
 use serde_json::{Value, json};
 use std::alloc::{AllocError, Global};
 
-fn cause_text(cause: Cause) -> &'static str {
+fn cause_text(cause: Cause) -> &'static str
+    ensures { result.now ≡ cause_text cause }
+{
     match cause {
         Cause::Threshold => "Threshold",
         Cause::Requested => "Requested",
@@ -14,7 +20,9 @@ fn cause_text(cause: Cause) -> &'static str {
     }
 }
 
-fn kind_text(kind: AccessKind) -> &'static str {
+fn kind_text(kind: AccessKind) -> &'static str
+    ensures { result.now ≡ kind_text kind }
+{
     match kind {
         AccessKind::RatChange => "RAT_CHANGE",
         AccessKind::PlmnChange => "PLMN_CHANGE",
@@ -23,13 +31,17 @@ fn kind_text(kind: AccessKind) -> &'static str {
     }
 }
 
-fn inactive_text(cause: InactiveCause) -> &'static str {
+fn inactive_text(cause: InactiveCause) -> &'static str
+    ensures { result.now ≡ inactive_text cause }
+{
     match cause {
         InactiveCause::BearerLost => "BearerLost",
     }
 }
 
-fn report_value(alloc: Global, report: &Report) -> Result<Value, AllocError> {
+fn report_value(alloc: Global, report: &Report) -> Result<Value, AllocError>
+    ensures { IfOk result (λ v. view v ≡ report_data report.now) }
+{
     let number = report.number;
     match &report.body {
         Body::Usage { key, octets, cause } => {
@@ -44,18 +56,28 @@ fn report_value(alloc: Global, report: &Report) -> Result<Value, AllocError> {
     }
 }
 
-/// The reports of a journal from a number on, up to another one.
+fn report_values(alloc: Global, reports: Reports<'_>) -> Result<Value, AllocError>
+    ensures { IfOk result (λ v. view v ≡ reports_data reports.entry) }
+{
+    let mut list = Vec::new(alloc);
+    for report in reports {
+        list.push(report_value(alloc, report)?)?;
+    }
+    Ok(Value::Array(list))
+}
+
+/// The reports of a journal from a number on, if it is before the other one, else none.
 pub(crate) fn report_list(
     alloc: Global,
     journal: &Journal,
     first: u64,
     past_last: u64,
-) -> Result<Value, AllocError> {
-    let mut list = Vec::new(alloc);
+) -> Result<Value, AllocError>
+    ensures { IfOk result (λ v. view v ≡ reports_data (reports_told journal.now.entries first past_last)) }
+{
     if first < past_last {
-        for report in journal.reports_from(first) {
-            list.push(report_value(alloc, report)?)?;
-        }
+        report_values(alloc, journal.reports_from(first))
+    } else {
+        Ok(Value::Array(Vec::new(alloc)))
     }
-    Ok(Value::Array(list))
 }

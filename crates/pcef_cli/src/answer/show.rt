@@ -1,7 +1,10 @@
 //! The answer to `show`.
 
-use pcef_session::{Bearers, DEFAULT_BEARER, KeyState, SessionState};
+use pcef_bearer::Bearers;
+use pcef_rule::{BearerId, Sums};
+use pcef_session::SessionState;
 use pcef_table::Source;
+use pcef_usage::KeyState;
 use serde_json::{Value, json};
 use std::alloc::{AllocError, Global};
 
@@ -26,12 +29,21 @@ fn active_list(alloc: Global, session: &SessionState) -> Result<Value, AllocErro
     Ok(Value::Array(list))
 }
 
+/// The ids that a bearer may have.
+const IDS: &[u8] = &[5, 6, 7, 8, 9, 10, 11, 12, 13, 14, 15];
+
+fn bearer_value(alloc: Global, id: u8, rules: u8, sums: Sums) -> Result<Value, AllocError> {
+    json!(in alloc; { "down": sums.down, "id": id, "rules": rules, "up": sums.up })
+}
+
 fn bearer_list(alloc: Global, bearers: &Bearers) -> Result<Value, AllocError> {
-    let sums = bearers.guaranteed();
-    let default =
-        json!(in alloc; { "down": sums.down, "id": DEFAULT_BEARER.0, "rules": bearers.rules(), "up": sums.up })?;
     let mut list = Vec::new(alloc);
-    list.push(default)?;
+    for id in IDS {
+        if let Some(sums) = bearers.guaranteed(BearerId(*id)) {
+            let rules = bearers.rules_on(BearerId(*id));
+            list.push(bearer_value(alloc, *id, rules, sums)?)?;
+        }
+    }
     Ok(Value::Array(list))
 }
 

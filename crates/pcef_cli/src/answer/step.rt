@@ -1,5 +1,9 @@
 //! The answers to commands and to the steps of workers.
 
+ghost use Rattle.std.specs.Prelude.{◌≡◌, IfOk, string_bytes};
+ghost use Rattle.serde_json.specs.View.{view};
+ghost use Rattle.pcef_cli.specs.StepAnswers.{accepted_data, command_text, attached_data, attached_text, taken_data, taken_text, refreshed_data, refreshed_text, judged_data, verdicts_data, flushed_data, flushed_text};
+
 use super::refusal::{
     attach_fault_answer, flush_refusal_answer, no_worker_answer, refusal_answer, refused_answer,
 };
@@ -17,18 +21,18 @@ pub fn command_answer(
     alloc: Global,
     journal: &Journal,
     answer: Result<Accepted, Refusal>,
-) -> Result<String, AllocError> {
+) -> Result<String, AllocError>
+    ensures { IfOk result (λ text. string_bytes text ≡ command_text journal.now.entries answer) }
+{
     match answer {
         Err(refusal) => refusal_answer(alloc, refusal),
         Ok(accepted) => accepted_value(alloc, journal, accepted)?.to_string(alloc),
     }
 }
 
-fn accepted_value(
-    alloc: Global,
-    journal: &Journal,
-    accepted: Accepted,
-) -> Result<Value, AllocError> {
+fn accepted_value(alloc: Global, journal: &Journal, accepted: Accepted) -> Result<Value, AllocError>
+    ensures { IfOk result (λ v. view v ≡ accepted_data journal.now.entries accepted) }
+{
     let reports = report_list(
         alloc,
         journal,
@@ -56,27 +60,55 @@ pub fn attached_answer(
     alloc: Global,
     generation: u32,
     answer: Result<u8, AttachFault>,
-) -> Result<String, AllocError> {
+) -> Result<String, AllocError>
+    ensures { IfOk result (λ text. string_bytes text ≡ attached_text generation answer) }
+{
     match answer {
         Err(fault) => attach_fault_answer(alloc, fault),
-        Ok(worker) => {
-            json!(in alloc; { "generation": generation, "ok": true, "worker": worker })?.to_string(
-                alloc,
-            )
-        }
+        Ok(worker) => attached_value(alloc, generation, worker)?.to_string(alloc),
     }
+}
+
+fn attached_value(alloc: Global, generation: u32, worker: u8) -> Result<Value, AllocError>
+    ensures { IfOk result (λ v. view v ≡ attached_data generation worker) }
+{
+    json!(in alloc; { "generation": generation, "ok": true, "worker": worker })
 }
 
 /// The answer to `take`.
 pub fn taken_answer(
     alloc: Global,
     answer: Result<u8, StepRefusal<BatchFull>>,
-) -> Result<String, AllocError> {
+) -> Result<String, AllocError>
+    ensures { IfOk result (λ text. string_bytes text ≡ taken_text answer) }
+{
     match answer {
         Err(StepRefusal::NoWorker) => no_worker_answer(alloc),
         Err(StepRefusal::Refused(BatchFull)) => refused_answer(alloc, "BatchFull", 1),
-        Ok(waiting) => json!(in alloc; { "ok": true, "waiting": waiting })?.to_string(alloc),
+        Ok(waiting) => taken_value(alloc, waiting)?.to_string(alloc),
     }
+}
+
+fn taken_value(alloc: Global, waiting: u8) -> Result<Value, AllocError>
+    ensures { IfOk result (λ v. view v ≡ taken_data waiting) }
+{
+    json!(in alloc; { "ok": true, "waiting": waiting })
+}
+
+/// The answer to `refresh`, with the generation that the worker holds then.
+pub fn refreshed_answer(alloc: Global, answer: Option<u32>) -> Result<String, AllocError>
+    ensures { IfOk result (λ text. string_bytes text ≡ refreshed_text answer) }
+{
+    match answer {
+        None => no_worker_answer(alloc),
+        Some(generation) => refreshed_value(alloc, generation)?.to_string(alloc),
+    }
+}
+
+fn refreshed_value(alloc: Global, generation: u32) -> Result<Value, AllocError>
+    ensures { IfOk result (λ v. view v ≡ refreshed_data generation) }
+{
+    json!(in alloc; { "generation": generation, "ok": true })
 }
 
 /// The answer to `flush`: the verdicts, with the reports that the journal has for them.
@@ -84,24 +116,32 @@ pub fn flushed_answer(
     alloc: Global,
     journal: &Journal,
     answer: &Result<Verdicts, StepRefusal<FlushRefusal>>,
-) -> Result<String, AllocError> {
+) -> Result<String, AllocError>
+    ensures { IfOk result (λ text. string_bytes text ≡ flushed_text journal.now.entries answer.now) }
+{
     match answer {
         Err(StepRefusal::NoWorker) => no_worker_answer(alloc),
         Err(StepRefusal::Refused(refusal)) => flush_refusal_answer(alloc, *refusal),
-        Ok(verdicts) => {
-            let reports = report_list(
-                alloc,
-                journal,
-                verdicts.first_report,
-                verdicts.past_last_report,
-            )?;
-            let rows = verdict_list(alloc, &verdicts.rows)?;
-            json!(in alloc; { "ok": true, "reports": reports, "verdicts": rows })?.to_string(alloc)
-        }
+        Ok(verdicts) => flushed_value(alloc, journal, verdicts)?.to_string(alloc),
     }
 }
 
-fn verdict_list(alloc: Global, rows: &[Judged]) -> Result<Value, AllocError> {
+fn flushed_value(alloc: Global, journal: &Journal, verdicts: &Verdicts) -> Result<Value, AllocError>
+    ensures { IfOk result (λ v. view v ≡ flushed_data journal.now.entries verdicts.now) }
+{
+    let reports = report_list(
+        alloc,
+        journal,
+        verdicts.first_report,
+        verdicts.past_last_report,
+    )?;
+    let rows = verdict_list(alloc, &verdicts.rows)?;
+    json!(in alloc; { "ok": true, "reports": reports, "verdicts": rows })
+}
+
+fn verdict_list(alloc: Global, rows: &[Judged]) -> Result<Value, AllocError>
+    ensures { IfOk result (λ v. view v ≡ verdicts_data rows.now) }
+{
     let mut list = Vec::with_capacity(alloc, rows.len())?;
     for judged in rows {
         list.push(judged_value(alloc, judged)?)?;
@@ -109,7 +149,9 @@ fn verdict_list(alloc: Global, rows: &[Judged]) -> Result<Value, AllocError> {
     Ok(Value::Array(list))
 }
 
-fn judged_value(alloc: Global, judged: &Judged) -> Result<Value, AllocError> {
+fn judged_value(alloc: Global, judged: &Judged) -> Result<Value, AllocError>
+    ensures { IfOk result (λ v. view v ≡ judged_data judged.now) }
+{
     let generation = judged.generation;
     match &judged.verdict {
         Verdict::Stray => json!(in alloc; { "generation": generation, "verdict": "Stray" }),

@@ -64,9 +64,17 @@ fn fields(alloc: Global, word: Word, line: &Value) -> Result<Line, LineFault>
 {
     match word {
         Word::Install => Ok(Line::Install(rule(alloc, object_field(line, Field::Rule)?)?)),
+        Word::Remove => {
+            let name = name_field(line, Field::Name)?;
+            Ok(Line::Remove(name))
+        }
         Word::Monitor => monitor(line),
         Word::Attach => Ok(Line::Attach),
         Word::Take => take(alloc, line),
+        Word::Refresh => {
+            let worker = worker_field(line)?;
+            Ok(Line::Refresh { worker })
+        }
         Word::Flush => {
             let worker = worker_field(line)?;
             Ok(Line::Flush { worker })

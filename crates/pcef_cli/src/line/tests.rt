@@ -35,7 +35,7 @@ fn faults_of_whole_lines(rt: HostRuntime) {
         ),
         ("{}", LineFault::UnknownDo),
         ("{\"do\":7}", LineFault::UnknownDo),
-        ("{\"do\":\"remove\",\"name\":\"web\"}", LineFault::UnknownDo),
+        ("{\"do\":\"fly\",\"name\":\"web\"}", LineFault::UnknownDo),
         ("{\"do\":\"Show\"}", LineFault::UnknownDo),
         ("{\"do\":\"show\",\"do\":\"shew\"}", LineFault::UnknownDo),
         ("{\"do\":\"shew\",\"x\":1}", LineFault::UnknownDo),
@@ -90,6 +90,47 @@ fn faults_of_fields(rt: HostRuntime) {
         (
             "{\"do\":\"monitor\",\"key\":\"vid\",\"grant\":5,\"grant\":null}",
             LineFault::BadField(Field::Grant),
+        ),
+        ("{\"do\":\"remove\"}", LineFault::MissingField(Field::Name)),
+        (
+            "{\"do\":\"remove\",\"name\":7}",
+            LineFault::BadField(Field::Name),
+        ),
+        (
+            "{\"do\":\"remove\",\"name\":null}",
+            LineFault::BadField(Field::Name),
+        ),
+        (
+            "{\"do\":\"remove\",\"name\":\"\"}",
+            LineFault::BadName(Field::Name),
+        ),
+        (
+            "{\"do\":\"remove\",\"name\":\"a b\"}",
+            LineFault::BadName(Field::Name),
+        ),
+        (
+            "{\"do\":\"remove\",\"name\":\"web\",\"key\":\"vid\"}",
+            LineFault::UnknownField,
+        ),
+        (
+            "{\"do\":\"refresh\"}",
+            LineFault::MissingField(Field::Worker),
+        ),
+        (
+            "{\"do\":\"refresh\",\"worker\":\"0\"}",
+            LineFault::BadField(Field::Worker),
+        ),
+        (
+            "{\"do\":\"refresh\",\"worker\":-1}",
+            LineFault::BadField(Field::Worker),
+        ),
+        (
+            "{\"do\":\"refresh\",\"worker\":16}",
+            LineFault::BadField(Field::Worker),
+        ),
+        (
+            "{\"do\":\"refresh\",\"worker\":0,\"name\":\"web\"}",
+            LineFault::UnknownField,
         ),
         ("{\"do\":\"flush\"}", LineFault::MissingField(Field::Worker)),
         (
@@ -267,7 +308,9 @@ fn lines_without_fault(rt: HostRuntime) {
     for text in [
         "{\"do\":\"install\",\"rule\":{\"name\":\"web\",\"precedence\":100,\"filters\":[{\"text\":\"permit out 17 from any 53 to assigned\"}],\"qci\":9,\"arp\":{\"level\":8,\"capability\":false,\"vulnerability\":true},\"gate\":\"ENABLED\",\"key\":\"vid\"}}",
         "{\"do\":\"monitor\",\"key\":\"vid\",\"grant\":1000}",
+        "{\"do\":\"remove\",\"name\":\"web\"}",
         "{\"do\":\"attach\"}",
+        "{\"do\":\"refresh\",\"worker\":15}",
         "{\"do\":\"take\",\"worker\":0,\"dir\":\"down\",\"packet\":\"4500001c0000000040110000c63364070a0000020035138800080000\"}",
         "{\"do\":\"flush\",\"worker\":0}",
         "{\"do\":\"show\"}",

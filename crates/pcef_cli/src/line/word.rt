@@ -9,9 +9,11 @@ use super::field::Field;
 #[derive(Clone, Copy, Debug, PartialEq, Eq)]
 pub enum Word {
     Install,
+    Remove,
     Monitor,
     Attach,
     Take,
+    Refresh,
     Flush,
     Show,
 }
@@ -23,9 +25,11 @@ impl Word {
     {
         match text {
             "install" => Some(Word::Install),
+            "remove" => Some(Word::Remove),
             "monitor" => Some(Word::Monitor),
             "attach" => Some(Word::Attach),
             "take" => Some(Word::Take),
+            "refresh" => Some(Word::Refresh),
             "flush" => Some(Word::Flush),
             "show" => Some(Word::Show),
             _ => None,
@@ -38,10 +42,11 @@ impl Word {
     {
         match self {
             Word::Install => &[Field::Do, Field::Rule],
+            Word::Remove => &[Field::Do, Field::Name],
             Word::Monitor => &[Field::Do, Field::Key, Field::Grant],
             Word::Attach | Word::Show => &[Field::Do],
             Word::Take => &[Field::Do, Field::Worker, Field::Dir, Field::Packet],
-            Word::Flush => &[Field::Do, Field::Worker],
+            Word::Refresh | Word::Flush => &[Field::Do, Field::Worker],
         }
     }
 }

@@ -24,13 +24,12 @@ fn answer_of<C: Offers>(
     world: &mut WorldState,
     line: &Pending,
 ) -> Result<Answer, AllocError>
-    requires { C.offers catalog.now ≡ world.old.offers }
-    ensures { world.new.offers ≡ world.old.offers }
+    requires { C.offers catalog.now ≡ world.old.core.offers }
+    ensures { world.new.core.offers ≡ world.old.core.offers }
 {
-    if line.is_too_long {
-        answer_too_long(alloc)
-    } else {
-        answer_line(alloc, catalog, world, &line.bytes)
+    match line.bytes() {
+        None => answer_too_long(alloc),
+        Some(bytes) => answer_line(alloc, catalog, world, bytes),
     }
 }
 
@@ -43,8 +42,8 @@ fn end_line<C: Offers, W: Write>(
     faults: u64,
     writer: &mut W,
 ) -> Result<u64, ScriptFault>
-    requires { C.offers catalog.now ≡ world.old.offers }
-    ensures { world.new.offers ≡ world.old.offers }
+    requires { C.offers catalog.now ≡ world.old.core.offers }
+    ensures { world.new.core.offers ≡ world.old.core.offers }
 {
     if line.is_blank() {
         return Ok(faults);
@@ -70,8 +69,8 @@ fn take_block<C: Offers, W: Write>(
     writer: &mut W,
     block: &[u8],
 ) -> Result<u64, ScriptFault>
-    requires { C.offers catalog.now ≡ world.old.offers }
-    ensures { world.new.offers ≡ world.old.offers }
+    requires { C.offers catalog.now ≡ world.old.core.offers }
+    ensures { world.new.core.offers ≡ world.old.core.offers }
 {
     let mut faults = faults;
     for byte in block {
@@ -84,7 +83,7 @@ fn take_block<C: Offers, W: Write>(
 }
 
 fn open(alloc: Global, profile: Profile, catalog: &Catalog) -> Result<WorldState, ScriptFault>
-    ensures { IfOk result (λ w. offers_of catalog.now ≡ w.offers) }
+    ensures { IfOk result (λ w. offers_of catalog.now ≡ w.core.offers) }
 {
     let Ok(listing) = catalog.listing().share() else {
         return Err(ScriptFault::NoMemory);

@@ -4,7 +4,8 @@ ghost use Rattle.std.specs.Prelude.{◌≡◌};
 ghost use Rattle.pcef_session.specs.Core.{IsServed};
 
 use crate::answer::{
-    attached_answer, command_answer, fault_text, flushed_answer, show_answer, taken_answer,
+    attached_answer, command_answer, fault_text, flushed_answer, refreshed_answer, show_answer,
+    taken_answer,
 };
 use crate::line::{Line, LineFault, read_line};
 use pcef_journal::Command;
@@ -31,7 +32,7 @@ fn fault(alloc: Global, fault: LineFault) -> Result<Answer, AllocError> {
 
 fn command(alloc: Global, world: &mut WorldState, command: Command) -> Result<String, AllocError>
     requires { IsServed command }
-    ensures { world.new.offers ≡ world.old.offers }
+    ensures { world.new.core.offers ≡ world.old.core.offers }
 {
     let answer = world.command(command);
     command_answer(alloc, world.session().journal(), answer)
@@ -43,17 +44,19 @@ fn step<C: Offers>(
     world: &mut WorldState,
     line: Line,
 ) -> Result<String, AllocError>
-    requires { C.offers catalog.now ≡ world.old.offers }
-    ensures { world.new.offers ≡ world.old.offers }
+    requires { C.offers catalog.now ≡ world.old.core.offers }
+    ensures { world.new.core.offers ≡ world.old.core.offers }
 {
     match line {
         Line::Install(rule) => command(alloc, world, Command::Install(rule)),
+        Line::Remove(name) => command(alloc, world, Command::Remove(name)),
         Line::Monitor { key, grant } => command(alloc, world, Command::Monitor { key, grant }),
         Line::Attach => {
             let answer = world.attach();
             attached_answer(alloc, world.session().generation(), answer)
         }
         Line::Take { worker, header } => taken_answer(alloc, world.take(catalog, worker, &header)),
+        Line::Refresh { worker } => refreshed_answer(alloc, world.refresh(worker)),
         Line::Flush { worker } => {
             let answer = world.flush(worker);
             flushed_answer(alloc, world.session().journal(), &answer)
@@ -69,8 +72,8 @@ pub(crate) fn answer_line<C: Offers>(
     world: &mut WorldState,
     line: &[u8],
 ) -> Result<Answer, AllocError>
-    requires { C.offers catalog.now ≡ world.old.offers }
-    ensures { world.new.offers ≡ world.old.offers }
+    requires { C.offers catalog.now ≡ world.old.core.offers }
+    ensures { world.new.core.offers ≡ world.old.core.offers }
 {
     let Ok(text) = str::from_utf8(line) else {
         return fault(alloc, LineFault::NotUtf8);

@@ -1,8 +1,11 @@
 //! Scripts and their answers, worked out by hand.
-use super::run_script;
+use super::writing::put_all;
+use super::{ScriptFault, run_script};
 use crate::profile::read_profile;
 use pcef_table::Catalog;
 use std::alloc::Global;
+use std::io;
+use std::io::Write;
 use std::sync::Arc;
 use std::test::Fail;
 
@@ -16,6 +19,12 @@ const INSTALL: &str =
 /// The same with its gate open in uplink alone.
 const INSTALL_UPLINK: &str =
     "{\"do\":\"install\",\"rule\":{\"name\":\"web\",\"precedence\":100,\"filters\":[{\"text\":\"permit out 17 from any 53 to assigned\"}],\"qci\":9,\"arp\":{\"level\":8,\"capability\":false,\"vulnerability\":true},\"gate\":\"ENABLED-UPLINK\",\"key\":\"vid\"}}\n";
+
+/// A rule with guaranteed rates.
+const INSTALL_VOICE: &str =
+    "{\"do\":\"install\",\"rule\":{\"name\":\"voice\",\"precedence\":10,\"filters\":[{\"text\":\"permit out 17 from any 53 to assigned\"}],\"qci\":1,\"arp\":{\"level\":2,\"capability\":true,\"vulnerability\":false},\"gbr\":{\"up\":100,\"down\":200},\"gate\":\"ENABLED\"}}\n";
+
+const REMOVE_VOICE: &str = "{\"do\":\"remove\",\"name\":\"voice\"}\n";
 
 const MONITOR: &str = "{\"do\":\"monitor\",\"key\":\"vid\",\"grant\":1000}\n";
 
@@ -56,6 +65,31 @@ fn a_packet_is_counted(rt: HostRuntime) -> Result<(), Fail> {
     assert_eq!(rt;
         text.as_str(),
         "{\"bearer\":5,\"generation\":1,\"ok\":true,\"reports\":[]}\n{\"generation\":2,\"ok\":true,\"reports\":[]}\n{\"generation\":2,\"ok\":true,\"worker\":0}\n{\"ok\":true,\"waiting\":1}\n{\"ok\":true,\"reports\":[],\"verdicts\":[{\"bearer\":5,\"generation\":2,\"rule\":\"web\",\"verdict\":\"Passed\"}]}\n{\"active\":[\"web\"],\"bearers\":[{\"down\":0,\"id\":5,\"rules\":1,\"up\":0}],\"generation\":2,\"keys\":[{\"key\":\"vid\",\"on\":true,\"reported\":0,\"unreported\":28}]}\n"
+    );
+    assert_eq!(rt; faults, 0);
+    Ok(())
+}
+
+#[test]
+fn a_rule_is_removed_and_a_worker_takes_the_newest_generation(rt: HostRuntime) -> Result<(), Fail> {
+    let (text, faults) = run(
+        rt.alloc(),
+        &[
+            ATTACH,
+            INSTALL_VOICE,
+            SHOW,
+            REMOVE_VOICE,
+            TAKE,
+            "{\"do\":\"refresh\",\"worker\":0}\n",
+            "{\"do\":\"refresh\",\"worker\":1}\n",
+            REMOVE_VOICE,
+            FLUSH,
+            SHOW,
+        ],
+    )?;
+    assert_eq!(rt;
+        text.as_str(),
+        "{\"generation\":0,\"ok\":true,\"worker\":0}\n{\"bearer\":6,\"generation\":1,\"ok\":true,\"reports\":[]}\n{\"active\":[\"voice\"],\"bearers\":[{\"down\":0,\"id\":5,\"rules\":0,\"up\":0},{\"down\":200,\"id\":6,\"rules\":1,\"up\":100}],\"generation\":1,\"keys\":[]}\n{\"generation\":2,\"ok\":true,\"reports\":[]}\n{\"ok\":true,\"waiting\":1}\n{\"generation\":2,\"ok\":true}\n{\"name\":\"NoWorker\",\"refused\":0}\n{\"name\":\"UnknownRule\",\"refused\":5}\n{\"ok\":true,\"reports\":[],\"verdicts\":[{\"generation\":0,\"verdict\":\"Unmatched\"}]}\n{\"active\":[],\"bearers\":[{\"down\":0,\"id\":5,\"rules\":0,\"up\":0}],\"generation\":2,\"keys\":[]}\n"
     );
     assert_eq!(rt; faults, 0);
     Ok(())
@@ -143,13 +177,13 @@ fn lines_at_fault_and_blank_lines(rt: HostRuntime) -> Result<(), Fail> {
 }
 
 #[test]
-fn one_rule_one_key_and_thirty_two_rows(rt: HostRuntime) -> Result<(), Fail> {
+fn a_rule_again_another_key_and_thirty_two_rows(rt: HostRuntime) -> Result<(), Fail> {
     let other_key = "{\"do\":\"monitor\",\"key\":\"aud\",\"grant\":1}\n";
     let no_grant = "{\"do\":\"monitor\",\"key\":\"vid\",\"grant\":0}\n";
     let (text, _) = run(rt.alloc(), &[INSTALL, INSTALL, other_key, no_grant])?;
     assert_eq!(rt;
         text.as_str(),
-        "{\"bearer\":5,\"generation\":1,\"ok\":true,\"reports\":[]}\n{\"name\":\"RulesFull\",\"refused\":11}\n{\"name\":\"KeysFull\",\"refused\":12}\n{\"name\":\"ZeroGrant\",\"refused\":7}\n"
+        "{\"bearer\":5,\"generation\":1,\"ok\":true,\"reports\":[]}\n{\"bearer\":5,\"generation\":2,\"ok\":true,\"reports\":[]}\n{\"generation\":3,\"ok\":true,\"reports\":[]}\n{\"name\":\"ZeroGrant\",\"refused\":7}\n"
     );
     let mut lines = Vec::new(rt.alloc());
     lines.push(ATTACH)?;
@@ -163,5 +197,67 @@ fn one_rule_one_key_and_thirty_two_rows(rt: HostRuntime) -> Result<(), Fail> {
         )
     );
     assert_eq!(rt; faults, 0);
+    Ok(())
+}
+
+#[test]
+fn a_line_has_262_144_bytes_at_most(rt: HostRuntime) -> Result<(), Fail> {
+    let alloc = rt.alloc();
+    let mut script = String::new(alloc);
+    for _ in 0..262_144 {
+        script.push(' ')?;
+    }
+    let (text, faults) = run(alloc, &[script.as_str(), "\n"])?;
+    assert_eq!(rt; text.as_str(), "");
+    assert_eq!(rt; faults, 0);
+    let (text, faults) = run(alloc, &[script.as_str(), " \n", SHOW])?;
+    assert_eq!(rt;
+        text.as_str(),
+        "{\"fault\":1,\"name\":\"LineTooLong\"}\n{\"active\":[],\"bearers\":[{\"down\":0,\"id\":5,\"rules\":0,\"up\":0}],\"generation\":0,\"keys\":[]}\n"
+    );
+    assert_eq!(rt; faults, 1);
+    Ok(())
+}
+
+/// Takes a byte at a time while there is room, and then is interrupted, or takes none.
+#[derive(Drop)]
+struct Failing {
+    taken: usize,
+    room: usize,
+    is_interrupted: bool,
+}
+
+impl Write for Failing {
+    fn write(&mut self, bytes: &[u8]) -> io::Result<usize> {
+        if self.taken < self.room && !bytes.is_empty() {
+            self.taken += 1;
+            Ok(1)
+        } else if self.is_interrupted {
+            Err(io::Error::from(io::ErrorKind::Interrupted))
+        } else {
+            Ok(0)
+        }
+    }
+
+    fn flush(&mut self) -> io::Result<()> {
+        Ok(())
+    }
+}
+
+#[test]
+fn a_writer_that_fails_ends_it(rt: HostRuntime) -> Result<(), Fail> {
+    for (room, is_interrupted, expected) in [
+        (4, true, Err(ScriptFault::Write)),
+        (4, false, Err(ScriptFault::Write)),
+        (6, true, Ok(())),
+    ] {
+        let mut writer = Failing {
+            taken: 0,
+            room,
+            is_interrupted,
+        };
+        assert_eq!(rt; put_all(&mut writer, b"answer"), expected);
+        assert_eq!(rt; writer.taken, room);
+    }
     Ok(())
 }

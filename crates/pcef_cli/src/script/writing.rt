@@ -1,11 +1,19 @@
 //! Writes answers.
 
+ghost use Rattle.std.specs.Prelude.{◌≡◌, OnOk, IfErr};
+ghost use Rattle.std.specs.Io.KnownBytes.{Appends};
+ghost use Rattle.pcef_cli.specs.declared.script.fault.ScriptFault.TheVariants.{Write as WriteFault};
+ghost use Rattle.pcef_cli.specs.ScriptLines.{AppendsFront};
+
 use super::fault::ScriptFault;
 use std::io::Write;
 
 /// Writes all of some bytes. Every error of the writer ends it, an interruption too, and so does a
 /// write that takes no byte.
-pub(crate) fn put_all<W: Write>(writer: &mut W, bytes: &[u8]) -> Result<(), ScriptFault> {
+pub(crate) fn put_all<W: Write>(writer: &mut W, bytes: &[u8]) -> Result<(), ScriptFault>
+    ensures all { OnOk result (Appends (W.contents writer.old) (W.contents writer.new) bytes.now) }
+    ensures front { IfErr result (λ e. (e ≡ WriteFault) × AppendsFront (W.contents writer.old) (W.contents writer.new) bytes.now) }
+{
     let mut rest = bytes;
     while !rest.is_empty() {
         match writer.write(rest) {

@@ -1,0 +1,64 @@
+-- Answers have no float, so that their text is known.
+use Rattle.std.proofs.Common.{◌≡◌, ◌∙◌, ℕ, List, [], ◌∷◌, Bool, true, false, Option, Some, None, Result, IfOk, refl, ap, string_bytes}
+use Rattle.std.specs.Prelude.{String}
+use Rattle.std.specs.declared.alloc.AllocError.{AllocError}
+use Rattle.std.specs.declared.alloc.Global.{Global}
+use Rattle.std.proofs.lemmas.Result.{IfOk-weaker}
+use Rattle.serde_json.specs.Data.{Data}
+use Rattle.serde_json.specs.Written.{has_float, members_have_float, compact_text}
+use Rattle.pcef_rule.specs.declared.quantity.BearerId.{BearerId}
+use Rattle.pcef_table.specs.declared.verdict.Verdict.{Verdict}
+use Rattle.pcef_table.specs.declared.verdict.Verdict.TheVariants.{Stray, Unmatched, Gated, Passed}
+use Rattle.pcef_journal.specs.declared.report.Body.{Body}
+use Rattle.pcef_journal.specs.declared.report.Body.TheVariants.{Usage, Access, Inactive}
+use Rattle.pcef_journal.specs.declared.report.Report.{Report}
+use Rattle.pcef_journal.specs.Entries.{Journal}
+use Rattle.pcef_session.specs.declared.answer.Accepted.{Accepted}
+use Rattle.pcef_session.specs.declared.answer.Judged.{Judged}
+use Rattle.pcef_session.specs.declared.answer.Verdicts.{Verdicts}
+use Rattle.pcef_cli.specs.RefusalAnswers.{data_of}
+use Rattle.pcef_cli.specs.ReportAnswers.{body_data, reports_data, reports_told}
+use Rattle.pcef_cli.specs.StepAnswers.{accepted_data, flushed_data, members_told, verdict_data, verdicts_data}
+
+-- what is written for a value is the text of its data
+pub text_known : (r : Result (String Global) AllocError) (seen due : Data) → seen ≡ due → has_float due ≡ false
+    → IfOk r (λ text. has_float seen ≡ false → string_bytes text ≡ compact_text seen) → IfOk r (λ text. string_bytes text ≡ compact_text due)
+text_known r seen due same none written =
+    IfOk-weaker r _ _ (λ text known. known (ap has_float same ∙ none) ∙ ap compact_text same) written
+
+pub refusal : (workers : Option ℕ) (name : List ℕ) (number : ℕ) → has_float (data_of workers name number) ≡ false
+refusal None name number = refl
+refusal (Some workers) name number = refl
+
+body : (number : ℕ) (b : Body) → has_float (body_data number b) ≡ false
+body number (Usage key octets cause) = refl
+body number (Access kind value) = refl
+body number (Inactive rule cause) = refl
+
+pub reports : (rs : List Report) → has_float (reports_data rs) ≡ false
+reports [] = refl
+reports (r ∷ rs) = rw (body r.number r.body) (reports rs)
+
+verdict : (generation : ℕ) (v : Verdict) → has_float (verdict_data generation v) ≡ false
+verdict generation Stray = refl
+verdict generation Unmatched = refl
+verdict generation (Gated rule) = refl
+verdict generation (Passed rule bearer) = refl
+
+pub verdicts : (js : List Judged) → has_float (verdicts_data js) ≡ false
+verdicts [] = refl
+verdicts (j ∷ js) = rw (verdict j.generation j.verdict) (verdicts js)
+
+members : (told : Data) → has_float told ≡ false → (bearer : Option BearerId) (generation : ℕ) (unchanged : Bool) → members_have_float (members_told told bearer generation unchanged) ≡ false
+members told none None generation true = rw none refl
+members told none None generation false = rw none refl
+members told none (Some b) generation true = rw none refl
+members told none (Some b) generation false = rw none refl
+
+pub accepted : (journal : Journal) (a : Accepted) → has_float (accepted_data journal a) ≡ false
+accepted journal a =
+    let rs = reports_told journal a.first_report a.past_last_report in
+    members (reports_data rs) (reports rs) a.bearer a.generation a.unchanged
+
+pub flushed : (journal : Journal) (v : Verdicts) → has_float (flushed_data journal v) ≡ false
+flushed journal v = rw (reports (reports_told journal v.first_report v.past_last_report), verdicts v.rows.items) refl
