@@ -60,7 +60,7 @@ fn refused_commands_leave_no_trace(rt: HostRuntime) -> Result<(), Fail> {
             };
             match obey(&mut world, line) {
                 Ok(_) => {
-                    done += 1;
+                    done = done.saturating_add(1);
                     break;
                 }
                 Err(refusal) => {
