@@ -1,6 +1,7 @@
 //! Commands that are accepted, with the memory that they take.
 
-ghost use Rattle.std.specs.Prelude.{◌≡◌, IfOk};
+ghost use Rattle.std.specs.Prelude.{◌≡◌, IfOk, Some};
+ghost use Rattle.std.specs.Option.{option_copied};
 ghost use Rattle.pcef_session.specs.Core.{IsServed, source_of};
 
 use pcef_journal::{Command, Telling};
@@ -23,7 +24,9 @@ pub struct Prepared {
 
 impl Prepared {
     /// The table of the generation that the command makes, if it makes one.
-    pub fn table(&self) -> Option<&Arc<Table>> {
+    pub fn table(&self) -> Option<&Arc<Table>>
+        ensures { option_copied result ≡ Some self.now.table }
+    {
         Some(&self.table)
     }
 }
