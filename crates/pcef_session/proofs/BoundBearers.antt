@@ -12,15 +12,14 @@ use Rattle.pcef_rule.specs.declared.qci.Kind.TheVariants.{Gbr, NonGbr}
 use Rattle.pcef_rule.specs.declared.quantity.Qos.{Qos}
 use Rattle.pcef_rule.specs.declared.quantity.Rates.{Rates}
 use Rattle.pcef_rule.specs.declared.rule.Properties.{Properties}
-use Rattle.pcef_rule.specs.Definition.{Definition}
 use Rattle.pcef_rule.specs.QciKinds.{kind_of}
 use Rattle.pcef_table.specs.declared.listing.Offer.{Offer}
 use Rattle.pcef_table.proofs.Alternatives.{list_any_map}
 use Rattle.pcef_table.proofs.Foremost.{found_is_foremost, none_passes}
 use Rattle.pcef_journal.specs.declared.command.Command.{Command}
-use Rattle.pcef_journal.specs.declared.command.Command.TheVariants.{Install, Monitor, Remove}
+use Rattle.pcef_journal.specs.declared.command.Command.TheVariants.{Monitor, Remove}
 use Rattle.pcef_journal.specs.Setting.{Setting, same_qos}
-use Rattle.pcef_journal.specs.ActiveRules.{Active, dynamic, is_named, put, without}
+use Rattle.pcef_journal.specs.ActiveRules.{Active, is_named, put, without}
 use Rattle.pcef_journal.specs.Generations.{Generation, has_bearer, id_after, kept_ids, least_free, next, rules_after}
 use Rattle.pcef_bearer.specs.declared.bearers.Bound.{Bound}
 use Rattle.pcef_bearer.specs.declared.refusal.BindRefusal.TheVariants as bind
@@ -28,6 +27,7 @@ use Rattle.pcef_bearer.specs.Bindings.{IsBinding, bound_at, id_beside, id_or_new
 use Rattle.pcef_bearer.specs.Bindings.{finds_no_bearer as bound_finds_none, first_of as first_bound, has_bearer as bound_has, is_gbr as bound_gbr, is_named as bound_named, is_non_gbr as bound_non_gbr, least_free as bound_free, put as bound_put, rate_down as bound_rate_down, rate_up as bound_rate_up, refusals as bound_refusals, total_down as bound_down, total_up as bound_up, without as bound_without}
 use Rattle.pcef_session.specs.declared.answer.Refusal.TheVariants as refusal
 use Rattle.pcef_session.specs.Bound.{HasOtherIds, binding_of, bound_of, refusal_of}
+use Rattle.pcef_session.specs.Changes.{MakesActive}
 use Rattle.pcef_session.specs.Laws.{HasBearerIds}
 use Rattle.pcef_session.specs.Refusals.{bindings, finds_no_bearer, first_of, is_gbr, is_non_gbr, rate_down, rate_up, total_down, total_up}
 use Rattle.pcef_session.specs.Terms.{Terms, setting_of}
@@ -388,20 +388,20 @@ same_bound p g after bound are keep =
     ap (bound_of after) are ∙ bound_kept g after g.rules (λ r there. keep r.properties.qos ∙ kept_id p g g.rules r bound there)
 
 -- ---- the binding of the next generation
--- a rule is installed
-pub next_install : (p : Setting) (g : Generation) (rule : Definition) (id : ℕ) → IsBound p g → HasOtherIds p →
-    id_beside (binding_of p g).default_qos (binding_of p g).bound (bound_without rule.properties.name (binding_of p g).bound) rule.properties.qos ≡ Some id →
-    binding_of p (next p g (Install rule))
-    ≡ with_rules (binding_of p g) (bound_put (bound_at rule.properties.name rule.properties.qos rule.properties.rates id) (binding_of p g).bound)
-next_install p g rule id bound ids found =
-    ap (with_rules (binding_of p g)) (put_bound p g (next p g (Install rule)) (dynamic rule) id bound ids found refl (λ q. refl)).0
+-- a rule becomes active
+pub next_put : (p : Setting) (g : Generation) (c : Command) (r : Active) (id : ℕ) → MakesActive p c r → IsBound p g → HasOtherIds p →
+    id_beside (binding_of p g).default_qos (binding_of p g).bound (bound_without r.properties.name (binding_of p g).bound) r.properties.qos ≡ Some id →
+    binding_of p (next p g c) ≡ with_rules (binding_of p g) (bound_put (bound_at r.properties.name r.properties.qos r.properties.rates id) (binding_of p g).bound)
+next_put p g c r id makes bound ids found =
+    ap (with_rules (binding_of p g))
+    (put_bound p g (next p g c) r id bound ids found (makes.rules_are g) (λ q. ap (λ (rules : List Active). id_after p g rules q) (makes.rules_are g))).0
 
 -- the id that it gets
-pub next_id : (p : Setting) (g : Generation) (rule : Definition) (id : ℕ) → IsBound p g → HasOtherIds p →
-    id_beside (binding_of p g).default_qos (binding_of p g).bound (bound_without rule.properties.name (binding_of p g).bound) rule.properties.qos ≡ Some id →
-    (next p g (Install rule)).id_of rule.properties.qos ≡ id
-next_id p g rule id bound ids found =
-    (put_bound p g (next p g (Install rule)) (dynamic rule) id bound ids found refl (λ q. refl)).1
+pub next_id : (p : Setting) (g : Generation) (c : Command) (r : Active) (id : ℕ) → MakesActive p c r → IsBound p g → HasOtherIds p →
+    id_beside (binding_of p g).default_qos (binding_of p g).bound (bound_without r.properties.name (binding_of p g).bound) r.properties.qos ≡ Some id →
+    (next p g c).id_of r.properties.qos ≡ id
+next_id p g c r id makes bound ids found =
+    (put_bound p g (next p g c) r id bound ids found (makes.rules_are g) (λ q. ap (λ (rules : List Active). id_after p g rules q) (makes.rules_are g))).1
 
 -- a rule is removed
 pub next_remove : (p : Setting) (g : Generation) (name : List ℕ) → IsBound p g →

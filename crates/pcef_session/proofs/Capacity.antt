@@ -20,7 +20,7 @@ use Rattle.pcef_session.specs.declared.answer.Refusal.TheVariants as refusal
 use Rattle.pcef_session.specs.Answers.{changes}
 use Rattle.pcef_session.specs.Lawful.{Lawful, at_first, by_attach, by_command, by_flush, by_leave}
 use Rattle.pcef_session.specs.Refusals.{Conditions, becoming_active, becoming_active_if, bindings, common_refusals, finds_no_bearer, finds_no_slot, first_of, is_active, is_gbr, is_non_gbr, rate_down, rate_up, refusals, total_down, total_up}
-use Rattle.pcef_session.proofs.Acceptance.{condition_none, conditions_none, install_accepted}
+use Rattle.pcef_session.proofs.Acceptance.{can_become, condition_none, conditions_none, install_accepted}
 use Rattle.pcef_session.proofs.BoundRules.{NamesOnce, same_name_is, without_none}
 use Rattle.pcef_session.proofs.ShownVerdicts.{made_once}
 use Rattle.pcef_session.proofs.Taking.{tables_flushed}
@@ -94,18 +94,12 @@ within_put p g new rules once none =
     record { up = omega (arith, fits.0, put_up new rules once); down = omega (arith, fits.1, put_down new rules once) }
 
 -- ---- commands
-becoming_binds : (p : Setting) (j : Journal) (rule : Properties) → first_of (becoming_active p j rule) ≡ None → first_of (bindings p (now p j) rule (without rule.name (now p j).rules)) ≡ None
-becoming_binds p j rule none =
-    let last : Conditions Refusal = bindings p (now p j) rule (without rule.name (now p j).rules) in
-    let first = condition_none (not (is_active p j rule.name) && nat_le p.most_rules (length (now p j).rules)) refusal.RulesFull ((finds_no_slot p j rule.key, refusal.KeysFull) ∷ last) none in
-    (condition_none (finds_no_slot p j rule.key) refusal.KeysFull last first.1).1
-
 offered_within : (p : Setting) (j : Journal) (o : Option Offer) → IsWithin p (now p j).rules → first_of (becoming_active_if p j o) ≡ None → IsWithin p (put_if_offered o (now p j).rules)
 offered_within p j None within none = within
-offered_within p j (Some o) within none = within_put p (now p j) (predefined o) (now p j).rules (made_once p (tables j)) (becoming_binds p j o.properties none)
+offered_within p j (Some o) within none = within_put p (now p j) (predefined o) (now p j).rules (made_once p (tables j)) (can_become p j o.properties none).binds
 
 after_within : (p : Setting) (j : Journal) (c : Command) → IsWithin p (now p j).rules → first_of (refusals p j c) ≡ None → changes p j c ≡ true → IsWithin p (rules_after p (now p j) c)
-after_within p j (Install rule) within accepted changing = within_put p (now p j) (dynamic rule) (now p j).rules (made_once p (tables j)) (install_accepted p j rule accepted).binds
+after_within p j (Install rule) within accepted changing = within_put p (now p j) (dynamic rule) (now p j).rules (made_once p (tables j)) (can_become p j rule.properties (install_accepted p j rule accepted)).binds
 after_within p j (Activate name) within accepted changing =
     elim (cases_Bool (is_active p j name)) [
       | inl is ↦ absurd (let none : not true ≡ true = rw is at changing in cc)

@@ -1,16 +1,15 @@
 -- The rules that are kept by name, as commands change them.
-use Rattle.std.proofs.Common.{◌≡◌, ◌∙◌, ℕ, suc, Bool, true, false, List, [], ◌∷◌, length, refl, ap, inl, inr}
+use Rattle.std.proofs.Common.{◌≡◌, ◌∙◌, ℕ, suc, Bool, true, false, List, [], ◌∷◌, length, refl, ap, inl, inr, Some}
 use Rattle.std.specs.List.{list_any}
 use Rattle.std.proofs.lemmas.Bool.{cases_Bool}
 use Rattle.indexmap.specs.IndexMap.{insert_entry, shift_remove_entry}
-use Rattle.pcef_rule.specs.Definition.{Definition}
 use Rattle.pcef_table.specs.declared.entry.Source.{Source}
-use Rattle.pcef_table.specs.declared.entry.Source.TheVariants.{Dynamic}
 use Rattle.pcef_table.specs.declared.listing.Offer.{Offer}
 use Rattle.pcef_journal.specs.Setting.{same_name}
-use Rattle.pcef_journal.specs.ActiveRules.{Active, dynamic, is_named, put, without}
+use Rattle.pcef_journal.specs.ActiveRules.{Active, is_named, put, without}
 use Rattle.pcef_usage.proofs.Names.{same_name_not, same_name_turned}
 use Rattle.pcef_session.specs.Agreement.{AreKept}
+use Rattle.pcef_session.specs.Shown.{rule_of}
 use Rattle.pcef_session.proofs.BoundRules.{NamesOnce, same_name_is, without_none}
 
 -- as many are kept as there are
@@ -25,20 +24,20 @@ turned : (name : List ℕ) (e : List ℕ × Source) (r : Active) (b : Bool) → 
 turned name e r true is named = ap (same_name name) is ∙ same_name_turned r.properties.name name named
 turned name e r false is named = ap (same_name name) is ∙ same_name_not r.properties.name name named
 
--- a rule is installed
-pub kept_put : (offers : List Offer) (d : Definition) (kept : List (List ℕ × Source)) (rules : List Active) → AreKept offers kept rules →
-    AreKept offers (insert_entry same_name kept d.properties.name (Dynamic d)) (put (dynamic d) rules)
-kept_put offers d [] [] are = (refl, refl, tt)
-kept_put offers d [] (r ∷ rules) are = absurd are
-kept_put offers d (e ∷ kept) [] are = absurd are
-kept_put offers d (e ∷ kept) (r ∷ rules) are =
-    elim (cases_Bool (is_named d.properties.name r)) [
+-- a rule becomes active
+pub kept_put : (offers : List Offer) (new : Active) (source : Source) (kept : List (List ℕ × Source)) (rules : List Active) → rule_of offers source ≡ Some new → AreKept offers kept rules →
+    AreKept offers (insert_entry same_name kept new.properties.name source) (put new rules)
+kept_put offers new source [] [] stands are = (refl, stands, tt)
+kept_put offers new source [] (r ∷ rules) stands are = absurd are
+kept_put offers new source (e ∷ kept) [] stands are = absurd are
+kept_put offers new source (e ∷ kept) (r ∷ rules) stands are =
+    elim (cases_Bool (is_named new.properties.name r)) [
       | inl is ↦
-          let hit : same_name d.properties.name e.0 ≡ true = turned d.properties.name e r true are.0 is in
-          rw (is, hit) (are.0 ∙ same_name_is r.properties.name d.properties.name is, refl, are.2)
+          let hit : same_name new.properties.name e.0 ≡ true = turned new.properties.name e r true are.0 is in
+          rw (is, hit) (are.0 ∙ same_name_is r.properties.name new.properties.name is, stands, are.2)
       | inr isnt ↦
-          let miss : same_name d.properties.name e.0 ≡ false = turned d.properties.name e r false are.0 isnt in
-          rw (isnt, miss) (are.0, are.1, kept_put offers d kept rules are.2)
+          let miss : same_name new.properties.name e.0 ≡ false = turned new.properties.name e r false are.0 isnt in
+          rw (isnt, miss) (are.0, are.1, kept_put offers new source kept rules stands are.2)
     ]
 
 -- a rule is removed

@@ -1,22 +1,21 @@
 -- Which keys lose their last rule: what a table's entries say of it, and what the journal's rules say.
-use Rattle.std.proofs.Common.{◌≡◌, ◌∙◌, Bool, true, false, ◌&&◌, ◌||◌, not, ℕ, List, [], ◌∷◌, refl, sym, ap, inl, inr, filter, Contains, None}
+use Rattle.std.proofs.Common.{◌≡◌, ◌∙◌, Bool, true, false, ◌&&◌, ◌||◌, not, ℕ, List, [], ◌∷◌, refl, sym, ap, inl, inr, filter, Contains, None, Some}
 use Rattle.std.specs.Prelude.{Option}
 use Rattle.std.specs.List.{list_any, AllByRecursion}
 use Rattle.std.specs.Option.{option_map_or}
 use Rattle.std.proofs.lemmas.Bool.{cases_Bool, or_cases, or_parts}
 use Rattle.pcef_rule.specs.declared.rule.Properties.{Properties}
-use Rattle.pcef_rule.specs.Definition.{Definition}
 use Rattle.pcef_table.specs.declared.entry.Entry.{Entry}
 use Rattle.pcef_table.specs.Sources.{properties_of}
 use Rattle.pcef_table.specs.Tables.{TableValue}
 use Rattle.pcef_journal.specs.declared.command.Command.{Command}
-use Rattle.pcef_journal.specs.declared.command.Command.TheVariants.{Install, Remove}
+use Rattle.pcef_journal.specs.declared.command.Command.TheVariants.{Install, Activate, Remove, Monitor, Stop, ReportNow, Triggers, Notice, LoseBearer, Close, Terminate}
 use Rattle.pcef_journal.specs.declared.report.Cause.{Cause}
 use Rattle.pcef_journal.specs.declared.report.Cause.TheVariants.{RulesGone}
 use Rattle.pcef_journal.specs.declared.telling.Telling.{Telling}
 use Rattle.pcef_journal.specs.declared.telling.Telling.TheVariants.{Usage}
 use Rattle.pcef_journal.specs.Setting.{Setting, same_name}
-use Rattle.pcef_journal.specs.ActiveRules.{Active, dynamic, has_key, is_key, is_named, put, without}
+use Rattle.pcef_journal.specs.ActiveRules.{Active, has_key, is_key, is_named, put, without}
 use Rattle.pcef_journal.specs.Generations.{Generation, rules_after}
 use Rattle.pcef_journal.specs.Entries.{Journal}
 use Rattle.pcef_journal.specs.Journals.{at, gen, now, slots, tables}
@@ -26,11 +25,14 @@ use Rattle.pcef_usage.specs.declared.usage.KeyState.{KeyState}
 use Rattle.pcef_usage.specs.Commands.{loses_rules, usage_of}
 use Rattle.pcef_usage.specs.Keys.{keys_of}
 use Rattle.pcef_usage.specs.Tellings.{AllOn}
-use Rattle.pcef_usage.proofs.Plans.{plan_install, plan_remove}
+use Rattle.pcef_usage.proofs.Plans.{plan_activate, plan_install, plan_remove, rules_gone}
 use Rattle.pcef_session.specs.Agreement.{Agrees, KeyAgrees, Parts}
+use Rattle.pcef_session.specs.declared.prepared.Coming.{Coming}
+use Rattle.pcef_session.specs.Changes.{MakesActive, becoming}
 use Rattle.pcef_session.specs.Kept.{is_gone, is_other_with_key, some_entry}
 use Rattle.pcef_session.specs.Kept as kept
 use Rattle.pcef_session.specs.Shown.{Shows, StandsFor}
+use Rattle.pcef_session.proofs.Becoming.{IsBrought, makes_becoming}
 use Rattle.pcef_session.proofs.BoundRules.{NamesOnce, same_name_is}
 use Rattle.pcef_session.proofs.Found.{any_from}
 use Rattle.pcef_session.proofs.Members.{first_there, later_there}
@@ -139,12 +141,12 @@ others_now : (p : Setting) (j : Journal) (t : TableValue) (name k : List ℕ) �
     some_entry p.catalog (is_other_with_key name k) t.entries ≡ has_key k (without name (now p j).rules)
 others_now p j t name k shows = some_now p j t (is_other_with_key name k) shows ∙ sym (has_key_without k name (now p j).rules)
 
--- by an Install
-pub install_gone : (p : Setting) (j : Journal) (t : TableValue) (rule : Definition) (s : KeyState) → Shows p j (gen j) t → NamesOnce (now p j).rules →
-    is_gone p.catalog t.entries rule.properties.name rule.properties.key s ≡ loses_rules (now p j).rules (rules_after p (now p j) (Install rule)) s
-install_gone p j t rule s shows once =
-    rw (some_now p j t (kept.has_key s.key) shows, others_now p j t rule.properties.name s.key shows, has_key_put s.key (dynamic rule) (now p j).rules once)
-    (neither (s.on && has_key s.key (now p j).rules) (is_key s.key rule.properties.key) (has_key s.key (without rule.properties.name (now p j).rules)))
+-- by a rule that becomes active
+pub put_gone : (p : Setting) (j : Journal) (t : TableValue) (c : Command) (r : Active) (s : KeyState) → MakesActive p c r → Shows p j (gen j) t → NamesOnce (now p j).rules →
+    is_gone p.catalog t.entries r.properties.name r.properties.key s ≡ loses_rules (now p j).rules (rules_after p (now p j) c) s
+put_gone p j t c r s makes shows once =
+    rw (makes.rules_are (now p j), some_now p j t (kept.has_key s.key) shows, others_now p j t r.properties.name s.key shows, has_key_put s.key r (now p j).rules once)
+    (neither (s.on && has_key s.key (now p j).rules) (is_key s.key r.properties.key) (has_key s.key (without r.properties.name (now p j).rules)))
 
 -- by a Remove
 pub remove_gone : (p : Setting) (j : Journal) (t : TableValue) (name : List ℕ) (s : KeyState) → Shows p j (gen j) t →
@@ -163,15 +165,28 @@ usage_alike cause mine other (s ∷ states) same =
       | inr isnt ↦ let here : mine s ≡ false = same s ∙ isnt in rw (isnt, here) (usage_alike cause mine other states same)
     ]
 
--- what an Install reports by itself
-pub plan_installed : (p : Setting) (j : Journal) (t : TableValue) (rule : Definition) (states : List KeyState) (v : List Telling) →
-    v ≡ usage_of RulesGone (is_gone p.catalog t.entries rule.properties.name rule.properties.key) states → keys_of states ≡ slots p j → AllOn p j states →
-    Shows p j (gen j) t → NamesOnce (now p j).rules → v ≡ plan p j (Install rule)
-plan_installed p j t rule states v v_is keys on shows once =
+-- what a rule reports that becomes active
+plan_put : (p : Setting) (j : Journal) (c : Command) (r : Active) (states : List KeyState) → becoming p c ≡ Some r → keys_of states ≡ slots p j → AllOn p j states → rules_gone p j c states ≡ plan p j c
+plan_put p j (Install rule) r states is keys on = plan_install p j rule states keys on
+plan_put p j (Activate name) r states is keys on = plan_activate p j name states keys on
+plan_put p j (Remove name) r states is keys on = absurd cc
+plan_put p j (Monitor key amount) r states is keys on = absurd cc
+plan_put p j (Stop key) r states is keys on = absurd cc
+plan_put p j (ReportNow key) r states is keys on = absurd cc
+plan_put p j (Triggers set) r states is keys on = absurd cc
+plan_put p j (Notice kind value) r states is keys on = absurd cc
+plan_put p j (LoseBearer id) r states is keys on = absurd cc
+plan_put p j Close r states is keys on = absurd cc
+plan_put p j Terminate r states is keys on = absurd cc
+
+pub plan_coming : (p : Setting) (j : Journal) (t : TableValue) (c : Command) (r : Active) (states : List KeyState) (v : List Telling) → becoming p c ≡ Some r →
+    v ≡ usage_of RulesGone (is_gone p.catalog t.entries r.properties.name r.properties.key) states → keys_of states ≡ slots p j → AllOn p j states →
+    Shows p j (gen j) t → NamesOnce (now p j).rules → v ≡ plan p j c
+plan_coming p j t c r states v is v_is keys on shows once =
     v_is
-    ∙ usage_alike RulesGone (is_gone p.catalog t.entries rule.properties.name rule.properties.key) (loses_rules (now p j).rules (rules_after p (now p j) (Install rule))) states
-    (λ s. install_gone p j t rule s shows once)
-    ∙ plan_install p j rule states keys on
+    ∙ usage_alike RulesGone (is_gone p.catalog t.entries r.properties.name r.properties.key) (loses_rules (now p j).rules (rules_after p (now p j) c)) states
+    (λ s. put_gone p j t c r s (makes_becoming p c r is) shows once)
+    ∙ plan_put p j c r states is keys on
 
 -- what a Remove reports by itself
 pub plan_removed : (p : Setting) (j : Journal) (t : TableValue) (name : List ℕ) (states : List KeyState) (v : List Telling) →
@@ -190,16 +205,15 @@ unfolding AllOn
 keys_on p j [] agree = tt
 keys_on p j (s ∷ states) agree = (record { on_is = agree.0.on_is }, keys_on p j states agree.1)
 
--- what is told of the properties of a rule that is installed
-pub agreed_install : (p : Setting) (j : Journal) (parts : Parts) (c : Command) (rule : Definition) (properties : Properties) (key : Option (List ℕ)) (v : List Telling) → Agrees p j parts →
-    c ≡ Install rule → properties ≡ rule.properties → key ≡ properties.key → v ≡ usage_of RulesGone (is_gone p.catalog parts.table.entries properties.name key) parts.keys → v ≡ plan p j c
-agreed_install p j parts c rule properties key v agrees c_is properties_are key_is v_is =
-    plan_installed p j parts.table rule parts.keys v
+-- what is told of a rule that becomes active
+pub agreed_coming : (p : Setting) (j : Journal) (parts : Parts) (c : Command) (x : Coming) (key : Option (List ℕ)) (v : List Telling) → Agrees p j parts → IsBrought p c x →
+    key ≡ x.properties.key → v ≡ usage_of RulesGone (is_gone p.catalog parts.table.entries x.properties.name key) parts.keys → v ≡ plan p j c
+agreed_coming p j parts c x key v agrees b key_is v_is =
+    plan_coming p j parts.table c b.rule parts.keys v b.becomes
     (v_is
-    ∙ ap (λ (k : Option (List ℕ)). usage_of RulesGone (is_gone p.catalog parts.table.entries properties.name k) parts.keys) key_is
-    ∙ ap (λ (q : Properties). usage_of RulesGone (is_gone p.catalog parts.table.entries q.name q.key) parts.keys) properties_are)
+    ∙ ap (λ (k : Option (List ℕ)). usage_of RulesGone (is_gone p.catalog parts.table.entries x.properties.name k) parts.keys) key_is
+    ∙ ap (λ (q : Properties). usage_of RulesGone (is_gone p.catalog parts.table.entries q.name q.key) parts.keys) b.is_of.properties_are)
     agrees.keys_are (keys_on p j parts.keys agrees.usage_is) agrees.table_shows (made_once p (tables j))
-    ∙ ap (plan p j) (sym c_is)
 
 -- and of the name of one that is removed
 pub agreed_remove : (p : Setting) (j : Journal) (parts : Parts) (c : Command) (name : List ℕ) (v : List Telling) → Agrees p j parts →

@@ -1,4 +1,5 @@
 pub mod Acceptance
+pub mod Becoming
 pub mod BearerIds
 pub mod BearerLaws
 pub mod BoundBearers

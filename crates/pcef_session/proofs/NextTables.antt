@@ -1,7 +1,8 @@
 -- The tables that commands make show their generations, with at most one entry for each rule.
 use Rattle.std.proofs.Common.{◌≡◌, ◌∙◌, ◌≤◌, ◌<◌, ◌+◌, ℕ, suc, Bool, true, false, ◌&&◌, ◌||◌, List, [], ◌∷◌, ◌++◌, length, refl, sym, ap, subst, arith, inl, inr, map, Contains, Some, None, All, AllPairs, IsTrue}
-use Rattle.std.specs.Prelude.{Option, Result, Ok, Err, IfOk}
+use Rattle.std.specs.Prelude.{Option, Result, Ok, Err, IfOk, slice_get}
 use Rattle.std.specs.Option.{option_map}
+use Rattle.std.proofs.lemmas.Option.{slice_get_within}
 use Rattle.std.specs.List.{AllByRecursion, IsDistinct, list_any}
 use Rattle.std.proofs.lemmas.Bool.{cases_Bool, false_from_ne_true}
 use Rattle.std.proofs.lemmas.List.{length-map}
@@ -9,10 +10,11 @@ use Rattle.std.proofs.lemmas.List.Elements.{All-head, All-tail}
 use Rattle.std.proofs.lemmas.Map.Made.{length-le_from_is_member}
 use Rattle.std.specs.Cmp.Lexicographic.{nat_list_eq_equiv}
 use Rattle.pcef_rule.specs.declared.quantity.Slot.{Slot}
-use Rattle.pcef_rule.specs.Definition.{Definition}
+use Rattle.pcef_rule.specs.declared.rule.Properties.{Properties}
 use Rattle.pcef_rule.specs.Precedence.{Rank, goes_before}
 use Rattle.pcef_table.specs.declared.entry.Entry.{Entry}
-use Rattle.pcef_table.specs.declared.entry.Source.TheVariants.{Dynamic}
+use Rattle.pcef_table.specs.declared.entry.Source.{Source}
+use Rattle.pcef_table.specs.declared.entry.Source.TheVariants.{Dynamic, Predefined}
 use Rattle.pcef_table.specs.declared.listing.Offer.{Offer}
 use Rattle.pcef_table.specs.Sources.{IsKnown, name_of, rank_of}
 use Rattle.pcef_table.specs.Tables.{GoesBefore, IsTable, TableValue, placed, with_counting, without}
@@ -20,11 +22,11 @@ use Rattle.pcef_table.proofs.Foremost.{ordered_head, ordered_tail}
 use Rattle.pcef_table.proofs.Ordered.{apart, counting_is_table, placed_is_table, without_is_table}
 use Rattle.pcef_journal.specs.declared.entry.Entry.TheVariants as entry
 use Rattle.pcef_journal.specs.declared.command.Command.{Command}
-use Rattle.pcef_journal.specs.declared.command.Command.TheVariants.{Install, Monitor, Remove}
+use Rattle.pcef_journal.specs.declared.command.Command.TheVariants.{Monitor, Remove}
 use Rattle.pcef_journal.specs.Setting.{Setting, same_name}
-use Rattle.pcef_journal.specs.ActiveRules.{Active, dynamic, put}
+use Rattle.pcef_journal.specs.ActiveRules.{Active, predefined, put}
 use Rattle.pcef_journal.specs.ActiveRules as rules
-use Rattle.pcef_journal.specs.Generations.{Generation, add_if_some, add_key, is_among, key_named, slots_of}
+use Rattle.pcef_journal.specs.Generations.{Generation, add_if_some, add_key, is_among, key_named, next, rules_after, slots_of, switched}
 use Rattle.pcef_journal.specs.Entries.{Journal}
 use Rattle.pcef_journal.specs.Journals.{at, gen, is_table, now, slots, tables}
 use Rattle.pcef_journal.proofs.Growth.{at_newest, tables_of_table}
@@ -35,18 +37,23 @@ use Rattle.pcef_usage.proofs.Names.{same_name_turned, same_name_not}
 use Rattle.pcef_usage.proofs.Slots.{slot_of_on}
 use Rattle.pcef_usage.proofs.Tells.{all_same}
 use Rattle.pcef_session.specs.Agreement.{KeyAgrees}
-use Rattle.pcef_session.specs.Core.{Core, setting_in, with_command}
+use Rattle.pcef_bearer.specs.Bindings.{Binding, id_beside, without as bound_without}
+use Rattle.pcef_session.specs.declared.prepared.Coming.{Coming}
+use Rattle.pcef_session.specs.Bound.{binding_of}
+use Rattle.pcef_session.specs.Changes.{IsMadeActive, IsOf, MakesActive}
+use Rattle.pcef_session.specs.Core.{Core, IsEntryOf, setting_in, with_command}
 use Rattle.pcef_session.specs.Kept.{is_on}
-use Rattle.pcef_session.specs.Refusals.{first_of, refusals}
-use Rattle.pcef_session.specs.Shown.{Shows, StandsFor, counts_now, place_of, slot_of}
+use Rattle.pcef_session.specs.Refusals.{becoming_active, first_of}
+use Rattle.pcef_session.specs.Shown.{Shows, StandsFor, counts_now, place_of, rule_of, slot_of}
 use Rattle.pcef_session.proofs.Acceptance.{few_put}
-use Rattle.pcef_session.proofs.BoundBearers.{has_bearer_ids}
+use Rattle.pcef_session.proofs.BearerIds.{lawful_bound}
+use Rattle.pcef_session.proofs.BoundBearers.{has_bearer_ids, next_id}
 use Rattle.pcef_session.proofs.CoreSound.{IsSoundCore, few_generations}
 use Rattle.pcef_session.proofs.KeptRules.{kept_length}
 use Rattle.pcef_session.proofs.BoundRules.{NamesOnce, contrary, same_name_is, same_name_of}
 use Rattle.pcef_session.proofs.Found.{any_from}
 use Rattle.pcef_session.proofs.Members.{first_there, later_there, map_to, put_new}
-use Rattle.pcef_session.proofs.ShownChanges.{Fives, after_is, lawful_fives, name_is, shows_install, shows_monitor, shows_remove, still}
+use Rattle.pcef_session.proofs.ShownChanges.{Fives, after_is, lawful_fives, name_is, shows_monitor, shows_put, shows_remove, still}
 use Rattle.pcef_session.proofs.ShownVerdicts.{made_once, once_is, rule_is}
 
 -- ---- slots
@@ -87,11 +94,11 @@ pub slots_next : (p : Setting) (j : Journal) (c : Command) → is_table c ≡ tr
 unfolding slots_of
 slots_next p j c is = ap (slots_of p) (tables_of_table j c is)
 
-slot_named : (p : Setting) (j : Journal) (rule : Definition) (states : List KeyState) (key : Option (List ℕ)) → rule.properties.key ≡ key → keys_of states ≡ slots p j →
-    option_map (λ k. place_in k states) key ≡ slot_of (slots p (entry.Command (Install rule) ∷ j)) key
-slot_named p j rule states None is keys = refl
-slot_named p j rule states (Some k) is keys =
-    sym (key_place k states) ∙ ap (place_of k) (ap (add_key k) keys ∙ ap (λ o. add_if_some o (slots p j)) (sym is) ∙ sym (slots_next p j (Install rule) refl))
+slot_named : (p : Setting) (j : Journal) (c : Command) (states : List KeyState) (key : Option (List ℕ)) → is_table c ≡ true → key_named p c ≡ key → keys_of states ≡ slots p j →
+    option_map (λ k. place_in k states) key ≡ slot_of (slots p (entry.Command c ∷ j)) key
+slot_named p j c states None table is keys = refl
+slot_named p j c states (Some k) table is keys =
+    sym (key_place k states) ∙ ap (place_of k) (ap (add_key k) keys ∙ ap (λ o. add_if_some o (slots p j)) (sym is) ∙ sym (slots_next p j c table))
 
 -- ---- keys that are on
 pub all_on_from : (p : Setting) (j : Journal) (states : List KeyState) → AllByRecursion (KeyAgrees p j) states → AllOn p j states
@@ -141,17 +148,18 @@ on_is p j states (Some k) keys all =
         none true = refl
         none false = refl
 
--- ---- the entry of a rule that is installed
-pub stands_installed : (p : Setting) (j : Journal) (rule : Definition) (e : Entry) (states : List KeyState) → keys_of states ≡ slots p j → e.source ≡ Dynamic rule →
-    e.bearer.0 ≡ (now p (entry.Command (Install rule) ∷ j)).id_of rule.properties.qos →
-    option_map (λ (s : Slot). s.0) e.slot ≡ option_map (λ k. place_in k states) rule.properties.key → e.counted ≡ counts_now (now p j).on rule.properties.key →
-    StandsFor p (entry.Command (Install rule) ∷ j) (gen (entry.Command (Install rule) ∷ j)) e (dynamic rule)
-stands_installed p j rule e states keys source bearer slot counted = record {
-  rule_is = rw source refl;
-  bearer_is = bearer ∙ sym (ap (λ (g : Generation). g.id_of rule.properties.qos) (at_newest p (entry.Command (Install rule) ∷ j)));
-  slot_is = slot ∙ slot_named p j rule states rule.properties.key refl keys;
-  counted_is = rw (after_is p j (Install rule) refl)
-      (counted ∙ sym (still (now p j).rules (put (dynamic rule) (now p j).rules) (now p j).on (dynamic rule) (put_new (dynamic rule) (now p j).rules)));
+-- ---- the entry of a rule that becomes active
+pub stands_new : (p : Setting) (j : Journal) (c : Command) (r : Active) (e : Entry) (states : List KeyState) → MakesActive p c r → keys_of states ≡ slots p j → rule_of p.catalog e.source ≡ Some r →
+    e.bearer.0 ≡ (next p (now p j) c).id_of r.properties.qos →
+    option_map (λ (s : Slot). s.0) e.slot ≡ option_map (λ k. place_in k states) r.properties.key → e.counted ≡ counts_now (now p j).on r.properties.key →
+    StandsFor p (entry.Command c ∷ j) (gen (entry.Command c ∷ j)) e r
+stands_new p j c r e states makes keys source bearer slot counted = record {
+  rule_is = source;
+  bearer_is = bearer ∙ sym (ap (λ (g : Generation). g.id_of r.properties.qos) (after_is p j c makes.is_table));
+  slot_is = slot ∙ slot_named p j c states r.properties.key makes.is_table makes.key_is keys;
+  counted_is = rw (after_is p j c makes.is_table)
+      (counted ∙ sym (still (now p j).rules (rules_after p (now p j) c) (switched c (now p j).on) r
+      (subst (λ rs. Contains rs r) (sym (makes.rules_are (now p j))) (put_new r (now p j).rules)) ∙ ap (λ on. counts_now on r.properties.key) (makes.on_is (now p j).on)));
 }
 
 -- ---- one entry for each rule
@@ -213,22 +221,22 @@ few_entries p j g t shows once =
     any_from (same_name q) all v.0.properties.name (map_to (λ (r : Active). r.properties.name) (at p j g).rules v.0 v.1) same) in
     omega (arith, fewer, length-map t.entries (λ (e : Entry). name_of p.catalog e.source), length-map (at p j g).rules (λ (r : Active). r.properties.name))
 
--- ---- the table after an Install
-pub install_shows : (p : Setting) (j : Journal) (rule : Definition) (e : Entry) (t : TableValue) → Fives p (now p j) → Shows p j (gen j) t →
-    StandsFor p (entry.Command (Install rule) ∷ j) (gen (entry.Command (Install rule) ∷ j)) e (dynamic rule) → IsKnown p.catalog e.source →
-    Shows p (entry.Command (Install rule) ∷ j) (gen (entry.Command (Install rule) ∷ j)) (record { number = t.number + 1; entries = placed p.catalog e t.entries })
-install_shows p j rule e t fives shows stands known =
-    shows_install p j rule e t (t.number + 1) (placed p.catalog e t.entries) fives shows stands refl refl (placed_is_table p.catalog e t.entries known shows.ordered)
+-- ---- the table with a rule that becomes active
+pub put_shows : (p : Setting) (j : Journal) (c : Command) (r : Active) (e : Entry) (t : TableValue) → MakesActive p c r → Fives p (now p j) → Shows p j (gen j) t →
+    StandsFor p (entry.Command c ∷ j) (gen (entry.Command c ∷ j)) e r → IsKnown p.catalog e.source →
+    Shows p (entry.Command c ∷ j) (gen (entry.Command c ∷ j)) (record { number = t.number + 1; entries = placed p.catalog e t.entries })
+put_shows p j c r e t makes fives shows stands known =
+    shows_put p j c r e t (t.number + 1) (placed p.catalog e t.entries) makes fives shows stands refl refl (placed_is_table p.catalog e t.entries known shows.ordered)
 
 -- it has room for the entry
-pub room_installed : (p : Setting) (j : Journal) (rule : Definition) (e : Entry) (t : TableValue) → Fives p (now p j) → Shows p j (gen j) t →
-    StandsFor p (entry.Command (Install rule) ∷ j) (gen (entry.Command (Install rule) ∷ j)) e (dynamic rule) → IsKnown p.catalog e.source →
-    length (put (dynamic rule) (now p j).rules) ≤ 64 → length (placed p.catalog e t.entries) ≤ 64
-room_installed p j rule e t fives shows stands known few =
-    let k : Journal = entry.Command (Install rule) ∷ j in
-    let next_rules : (at p k (gen k)).rules ≡ put (dynamic rule) (now p j).rules = ap (λ (g : Generation). g.rules) (after_is p j (Install rule) refl) in
+pub room_put : (p : Setting) (j : Journal) (c : Command) (r : Active) (e : Entry) (t : TableValue) → MakesActive p c r → Fives p (now p j) → Shows p j (gen j) t →
+    StandsFor p (entry.Command c ∷ j) (gen (entry.Command c ∷ j)) e r → IsKnown p.catalog e.source →
+    length (put r (now p j).rules) ≤ 64 → length (placed p.catalog e t.entries) ≤ 64
+room_put p j c r e t makes fives shows stands known few =
+    let k : Journal = entry.Command c ∷ j in
+    let next_rules : (at p k (gen k)).rules ≡ put r (now p j).rules = ap (λ (g : Generation). g.rules) (after_is p j c makes.is_table) ∙ makes.rules_are (now p j) in
     let once : NamesOnce (at p k (gen k)).rules = subst (λ (g : Generation). NamesOnce g.rules) (sym (at_newest p k)) (made_once p (tables k)) in
-    let fewer = few_entries p k (gen k) (record { number = t.number + 1; entries = placed p.catalog e t.entries }) (install_shows p j rule e t fives shows stands known) once in
+    let fewer = few_entries p k (gen k) (record { number = t.number + 1; entries = placed p.catalog e t.entries }) (put_shows p j c r e t makes fives shows stands known) once in
     omega (arith, fewer, ap length next_rules, few)
 
 -- ---- a table with these fields
@@ -261,22 +269,54 @@ shows_now v t sound is = subst (Shows (setting_in v) v.journal (gen v.journal)) 
 few_active : (v : Core) → IsSoundCore v → length (now (setting_in v) v.journal).rules ≤ 64
 few_active v sound = omega (arith, sound.few_rules, kept_length v.offers v.parts.rules (now (setting_in v) v.journal).rules sound.agrees.rules_are)
 
-pub room_for_rule : (v : Core) (rule : Definition) (e : Entry) (t : TableValue) (offers : List Offer) → IsSoundCore v → first_of (refusals (setting_in v) v.journal (Install rule)) ≡ None →
-    StandsFor (setting_in v) (with_command (Install rule) v.journal) (gen (with_command (Install rule) v.journal)) e (dynamic rule) → IsKnown offers e.source → t ≡ v.parts.table → offers ≡ v.offers →
-    length (placed offers e t.entries) ≤ 64
-room_for_rule v rule e t offers sound accepted stands known is offers_are =
-    subst (λ (os : List Offer). length (placed os e t.entries) ≤ 64) (sym offers_are)
-    (room_installed (setting_in v) v.journal rule e t (fives_now v sound) (shows_now v t sound is) stands (subst (λ (os : List Offer). IsKnown os e.source) offers_are known)
-    (few_put (setting_in v) v.journal rule refl (few_active v sound) accepted))
-
-pub table_with : (v : Core) (rule : Definition) (e : Entry) (t : TableValue) (offers : List Offer) → IsSoundCore v →
-    StandsFor (setting_in v) (with_command (Install rule) v.journal) (gen (with_command (Install rule) v.journal)) e (dynamic rule) → IsKnown offers e.source → t ≡ v.parts.table → offers ≡ v.offers →
-    (new : TableValue) → new.number ≡ t.number + 1 → new.entries ≡ placed offers e t.entries → Shows (setting_in v) (with_command (Install rule) v.journal) (gen (with_command (Install rule) v.journal)) new
-table_with v rule e t offers sound stands known is offers_are new number entries =
+-- the entry that was made for a rule stands for it, whichever command makes it active
+entry_stands : (v : Core) (c : Command) (r : Active) (x : Coming) (e : Entry) → IsSoundCore v → MakesActive (setting_in v) c r → IsOf (setting_in v) r x → IsEntryOf v x e →
+    StandsFor (setting_in v) (with_command c v.journal) (gen (with_command c v.journal)) e r
+entry_stands v c r x e sound makes is_of is =
     let p : Setting = setting_in v in
-    shows_as p (with_command (Install rule) v.journal) (gen (with_command (Install rule) v.journal)) new (t.number + 1) (placed p.catalog e t.entries) number
+    let g : Generation = now p v.journal in
+    let same : x.properties ≡ r.properties = is_of.properties_are in
+    let bound : id_beside (binding_of p g).default_qos (binding_of p g).bound (bound_without r.properties.name (binding_of p g).bound) r.properties.qos ≡ Some e.bearer.0 =
+    subst (λ (q : Properties). id_beside (binding_of p g).default_qos (binding_of p g).bound (bound_without q.name (binding_of p g).bound) q.qos ≡ Some e.bearer.0) same
+    (subst (λ (b : Binding). id_beside b.default_qos b.bound (bound_without x.properties.name b.bound) x.properties.qos ≡ Some e.bearer.0) sound.agrees.binding_is is.bearer_is) in
+    stands_new p v.journal c r e v.parts.keys makes sound.agrees.keys_are (ap (rule_of p.catalog) is.source_is ∙ is_of.rule_is)
+    (sym (next_id p g c r e.bearer.0 makes (lawful_bound p (has_bearer_ids p refl) v.journal sound.agrees.lawful) refl bound))
+    (is.slot_is ∙ ap (λ (q : Properties). option_map (λ k. place_in k v.parts.keys) q.key) same)
+    (is.counted_is ∙ on_is p v.journal v.parts.keys x.properties.key sound.agrees.keys_are sound.agrees.usage_is ∙ ap (λ (q : Properties). counts_now g.on q.key) same)
+
+-- the place of a rule is in the catalog
+known_of : (offers : List Offer) (source : Source) (r : Active) → rule_of offers source ≡ Some r → IsKnown offers source
+known_of offers (Dynamic d) r is = tt
+known_of offers (Predefined index) r is = from (slice_get offers index) refl is
+  where
+    from : (o : Option Offer) → slice_get offers index ≡ o → option_map predefined o ≡ Some r → index < length offers
+    from None there is = absurd cc
+    from (Some o) there is = slice_get_within offers index o there
+
+entry_known : (v : Core) (r : Active) (x : Coming) (e : Entry) → IsOf (setting_in v) r x → IsEntryOf v x e → IsKnown v.offers e.source
+entry_known v r x e is_of is = known_of v.offers e.source r (ap (rule_of v.offers) is.source_is ∙ is_of.rule_is)
+
+pub known_made : (v : Core) (x : Coming) (e : Entry) (offers : List Offer) → IsMadeActive (setting_in v) x → IsEntryOf v x e → offers ≡ v.offers → IsKnown offers e.source
+known_made v x e offers made is offers_are = subst (λ (os : List Offer). IsKnown os e.source) (sym offers_are) (entry_known v made.rule x e made.is_of is)
+
+pub room_for_rule : (v : Core) (x : Coming) (e : Entry) (t : TableValue) (offers : List Offer) → IsSoundCore v → first_of (becoming_active (setting_in v) v.journal x.properties) ≡ None →
+    IsMadeActive (setting_in v) x → IsEntryOf v x e → t ≡ v.parts.table → offers ≡ v.offers → length (placed offers e t.entries) ≤ 64
+room_for_rule v x e t offers sound accepted made is t_is offers_are =
+    let p : Setting = setting_in v in
+    let r : Active = made.rule in
+    let can : first_of (becoming_active p v.journal r.properties) ≡ None = subst (λ (q : Properties). first_of (becoming_active p v.journal q) ≡ None) made.is_of.properties_are accepted in
+    subst (λ (os : List Offer). length (placed os e t.entries) ≤ 64) (sym offers_are)
+    (room_put p v.journal made.command r e t made.makes (fives_now v sound) (shows_now v t sound t_is) (entry_stands v made.command r x e sound made.makes made.is_of is) (entry_known v r x e made.is_of is)
+    (few_put p v.journal r refl (few_active v sound) can))
+
+pub table_with : (v : Core) (x : Coming) (e : Entry) (t : TableValue) (offers : List Offer) → IsSoundCore v → IsEntryOf v x e → t ≡ v.parts.table → offers ≡ v.offers →
+    (new : TableValue) → new.number ≡ t.number + 1 → new.entries ≡ placed offers e t.entries → (c : Command) (r : Active) → MakesActive (setting_in v) c r → IsOf (setting_in v) r x →
+    Shows (setting_in v) (with_command c v.journal) (gen (with_command c v.journal)) new
+table_with v x e t offers sound is t_is offers_are new number entries c r makes is_of =
+    let p : Setting = setting_in v in
+    shows_as p (with_command c v.journal) (gen (with_command c v.journal)) new (t.number + 1) (placed p.catalog e t.entries) number
     (entries ∙ ap (λ (os : List Offer). placed os e t.entries) offers_are)
-    (install_shows p v.journal rule e t (fives_now v sound) (shows_now v t sound is) stands (subst (λ (os : List Offer). IsKnown os e.source) offers_are known))
+    (put_shows p v.journal c r e t makes (fives_now v sound) (shows_now v t sound t_is) (entry_stands v c r x e sound makes is_of is) (entry_known v r x e is_of is))
 
 pub table_without : (v : Core) (name : List ℕ) (t : TableValue) (offers : List Offer) → IsSoundCore v → t ≡ v.parts.table → offers ≡ v.offers →
     (new : TableValue) → new.number ≡ t.number + 1 → new.entries ≡ without offers name t.entries → Shows (setting_in v) (with_command (Remove name) v.journal) (gen (with_command (Remove name) v.journal)) new
@@ -298,7 +338,3 @@ table_counting v key amount slot states t sound is slot_is states_are new number
     ap (λ n. Some n) (ap (place_in key) (sym states_are) ∙ sym slot_is) in
     shows_as p (with_command (Monitor key amount) v.journal) (gen (with_command (Monitor key amount) v.journal)) new (t.number + 1) (map (with_counting slot true) t.entries) number entries
     (shows_monitor p v.journal key amount slot t (t.number + 1) (map (with_counting slot true) t.entries) (fives_now v sound) shows place refl refl (counting_is_table p.catalog slot true t.entries shows.ordered))
-
--- a key is on, by what a session keeps
-pub counts_is : (v : Core) (key : Option (List ℕ)) (states : List KeyState) → IsSoundCore v → states ≡ v.parts.keys → is_on key states ≡ counts_now (now (setting_in v) v.journal).on key
-counts_is v key states sound is = ap (is_on key) is ∙ on_is (setting_in v) v.journal v.parts.keys key sound.agrees.keys_are sound.agrees.usage_is

@@ -119,7 +119,7 @@ pub plain_command : (j : Journal) (n : ℕ) (c : Command) → IsServed c → IsP
 unfolding attach_count attached
 plain_command j n (Install rule) served plain = record { counted = plain.counted; attached_are = plain.attached_are; not_closed = plain.not_closed; not_terminated = plain.not_terminated }
 plain_command j n (Monitor key amount) served plain = record { counted = plain.counted; attached_are = plain.attached_are; not_closed = plain.not_closed; not_terminated = plain.not_terminated }
-plain_command j n (Activate name) served plain = absurd served
+plain_command j n (Activate name) served plain = record { counted = plain.counted; attached_are = plain.attached_are; not_closed = plain.not_closed; not_terminated = plain.not_terminated }
 plain_command j n (Remove name) served plain = record { counted = plain.counted; attached_are = plain.attached_are; not_closed = plain.not_closed; not_terminated = plain.not_terminated }
 plain_command j n (Stop key) served plain = absurd served
 plain_command j n (ReportNow key) served plain = absurd served

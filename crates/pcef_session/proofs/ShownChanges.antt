@@ -9,7 +9,6 @@ use Rattle.pcef_rule.specs.declared.quantity.BearerId.{BearerId}
 use Rattle.pcef_rule.specs.declared.quantity.Qos.{Qos}
 use Rattle.pcef_rule.specs.declared.quantity.Slot.{Slot}
 use Rattle.pcef_rule.specs.declared.rule.Properties.{Properties}
-use Rattle.pcef_rule.specs.Definition.{Definition}
 use Rattle.pcef_rule.specs.Precedence.{rank_by}
 use Rattle.pcef_rule.proofs.OrderOfRules.{one_goes_first}
 use Rattle.pcef_table.specs.declared.entry.Entry.{Entry}
@@ -18,15 +17,16 @@ use Rattle.pcef_table.specs.Sources.{name_of, no_rank, origin_of, properties_of,
 use Rattle.pcef_table.specs.Tables.{IsTable, TableValue, has_other_name, is_before, is_behind, is_slot, placed, with_counting, without}
 use Rattle.pcef_journal.specs.declared.entry.Entry.TheVariants as entry
 use Rattle.pcef_journal.specs.declared.command.Command.{Command}
-use Rattle.pcef_journal.specs.declared.command.Command.TheVariants.{Install, Remove, Monitor}
+use Rattle.pcef_journal.specs.declared.command.Command.TheVariants.{Remove, Monitor}
 use Rattle.pcef_journal.specs.Setting.{Setting, same_name, same_qos}
-use Rattle.pcef_journal.specs.ActiveRules.{Active, dynamic, has_key, is_key, put}
+use Rattle.pcef_journal.specs.ActiveRules.{Active, has_key, is_key, put}
 use Rattle.pcef_journal.specs.ActiveRules as rules
-use Rattle.pcef_journal.specs.Generations.{Generation, add_key, default_id, id_after, is_among, next, rules_after, slots_of, still_on}
+use Rattle.pcef_journal.specs.Generations.{Generation, add_key, default_id, id_after, is_among, next, rules_after, slots_of, still_on, switched}
 use Rattle.pcef_journal.specs.Entries.{Journal}
 use Rattle.pcef_journal.specs.Journals.{at, gen, is_table, now, slots, tables}
 use Rattle.pcef_journal.proofs.Growth.{at_newest, gen_after_table, now_after_table, tables_of_table}
 use Rattle.pcef_usage.proofs.Slots.{is_among_add}
+use Rattle.pcef_session.specs.Changes.{MakesActive}
 use Rattle.pcef_session.specs.Shown.{Shows, StandsFor, counts_now, place_of, rule_of, slot_of}
 use Rattle.pcef_session.specs.Laws.{HasBearerIds}
 use Rattle.pcef_session.specs.Lawful.{Lawful}
@@ -154,7 +154,7 @@ shows_remove p j name t number entries fives shows number_is entries_are table =
     let after = filter_to (λ x. not (rules.is_named name x)) (now p j).rules w.0 w.1 other in
     (w.0, after, stands_next p j (Remove name) e w.0 refl fives w.1 (still (now p j).rules (rules_after p (now p j) (Remove name)) (now p j).on w.0 after) w.2))
 
--- ---- Install
+-- ---- a rule that becomes active
 rank_name : (offers : List Offer) (e : Entry) → (rank_of offers e.source).name ≡ name_of offers e.source
 rank_name offers e = from (properties_of offers e.source)
   where
@@ -207,18 +207,20 @@ placed_cases offers x entries e there =
     ]
 
 -- the entry of the new rule stands for it, and those of other rules for theirs
-pub shows_install : (p : Setting) (j : Journal) (rule : Definition) (x : Entry) (t : TableValue) (number : ℕ) (entries : List Entry) → Fives p (now p j) → Shows p j (gen j) t →
-    StandsFor p (entry.Command (Install rule) ∷ j) (gen (entry.Command (Install rule) ∷ j)) x (dynamic rule) →
+pub shows_put : (p : Setting) (j : Journal) (c : Command) (new : Active) (x : Entry) (t : TableValue) (number : ℕ) (entries : List Entry) → MakesActive p c new → Fives p (now p j) → Shows p j (gen j) t →
+    StandsFor p (entry.Command c ∷ j) (gen (entry.Command c ∷ j)) x new →
     number ≡ t.number + 1 → entries ≡ placed p.catalog x t.entries → IsTable p.catalog entries →
-    Shows p (entry.Command (Install rule) ∷ j) (gen (entry.Command (Install rule) ∷ j)) (record { number = number; entries = entries })
-shows_install p j rule x t number entries fives shows stands number_is entries_are table =
-    let c : Command = Install rule in
+    Shows p (entry.Command c ∷ j) (gen (entry.Command c ∷ j)) (record { number = number; entries = entries })
+shows_put p j c new x t number entries makes fives shows stands number_is entries_are table =
     let k : Journal = entry.Command c ∷ j in
-    let new : List Active = rules_after p (now p j) c in
+    let is = makes.is_table in
+    let rules_are : rules_after p (now p j) c ≡ put new (now p j).rules = makes.rules_are (now p j) in
+    let on : (r : Active) → Contains (rules_after p (now p j) c) r → counts_now (next p (now p j) c).on r.properties.key ≡ counts_now (now p j).on r.properties.key =
+    λ r there. still (now p j).rules (rules_after p (now p j) c) (switched c (now p j).on) r there ∙ ap (λ keys. counts_now keys r.properties.key) (makes.on_is (now p j).on) in
     let once : NamesOnce (now p j).rules = made_once p (tables j) in
-    let x_name : name_of p.catalog x.source ≡ rule.properties.name = name_is p k (gen k) x (dynamic rule) stands in
-    shows_next p j c (record { number = number; entries = entries }) refl (omega (arith, number_is, shows.number_is)) table
-    (λ r there. elim (put_cases (dynamic rule) (now p j).rules r once there) [
+    let x_name : name_of p.catalog x.source ≡ new.properties.name = name_is p k (gen k) x new stands in
+    shows_next p j c (record { number = number; entries = entries }) is (omega (arith, number_is, shows.number_is)) table
+    (λ r there. elim (put_cases new (now p j).rules r once (subst (λ rs. Contains rs r) rules_are there)) [
       | inl same ↦ (x, subst (λ es. Contains es x) (sym entries_are) (placed_new p.catalog x t.entries), subst (StandsFor p k (gen k) x) same stands)
       | inr old ↦
           let w = each_now p j t shows r old.0 in
@@ -226,20 +228,20 @@ shows_install p j rule x t number entries fives shows stands number_is entries_a
           ap (λ n. same_name n (name_of p.catalog x.source)) (name_is p j (gen j) w.0 r w.2) ∙ ap (same_name r.properties.name) x_name ∙ old.1 in (
             w.0,
             subst (λ es. Contains es w.0) (sym entries_are) (placed_old p.catalog x t.entries w.0 w.1 (not_from_false (same_name (name_of p.catalog w.0.source) (name_of p.catalog x.source)) differs)),
-            stands_next p j c w.0 r refl fives old.0 (still (now p j).rules new (now p j).on r there) w.2,
+            stands_next p j c w.0 r is fives old.0 (on r there) w.2,
           )
     ])
     (λ e there. elim (placed_cases p.catalog x t.entries e (subst (λ es. Contains es e) entries_are there)) [
-      | inl same ↦ (dynamic rule, put_new (dynamic rule) (now p j).rules, subst (λ (y : Entry). StandsFor p k (gen k) y (dynamic rule)) same stands)
+      | inl same ↦ (new, subst (λ rs. Contains rs new) (sym rules_are) (put_new new (now p j).rules), subst (λ (y : Entry). StandsFor p k (gen k) y new) same stands)
       | inr old ↦
           let w = only_now p j t shows e old.0 in
-          let differs : same_name w.0.properties.name rule.properties.name ≡ false =
-          false_from_ne_true (same_name w.0.properties.name rule.properties.name) (λ same.
+          let differs : same_name w.0.properties.name new.properties.name ≡ false =
+          false_from_ne_true (same_name w.0.properties.name new.properties.name) (λ same.
           contrary (has_other_name p.catalog (name_of p.catalog x.source) e) old.1
           (not_from_true (same_name (name_of p.catalog e.source) (name_of p.catalog x.source))
           (ap (λ n. same_name n (name_of p.catalog x.source)) (name_is p j (gen j) e w.0 w.2) ∙ ap (same_name w.0.properties.name) x_name ∙ same))) in
-          let after = put_old (dynamic rule) (now p j).rules w.0 w.1 differs in
-          (w.0, after, stands_next p j c e w.0 refl fives w.1 (still (now p j).rules new (now p j).on w.0 after) w.2)
+          let after = subst (λ rs. Contains rs w.0) (sym rules_are) (put_old new (now p j).rules w.0 w.1 differs) in
+          (w.0, after, stands_next p j c e w.0 is fives w.1 (on w.0 after) w.2)
     ])
 
 -- ---- Monitor

@@ -1,5 +1,5 @@
 -- A session stays sound as it changes.
-use Rattle.std.proofs.Common.{◌≡◌, ◌∙◌, ◌≤◌, ◌<◌, ◌^◌, ℕ, suc, List, [], ◌∷◌, length, refl, sym, ap, subst, arith, None, false}
+use Rattle.std.proofs.Common.{◌≡◌, ◌∙◌, ◌≤◌, ◌<◌, ◌^◌, ℕ, suc, List, [], ◌∷◌, length, refl, sym, ap, subst, arith, None, Some, true, false}
 use Rattle.std.specs.Arc.{arc_value}
 use Rattle.std.proofs.lemmas.List.Elements.{All-nil}
 use Rattle.std.specs.Prelude.{Option, not}
@@ -13,8 +13,10 @@ use Rattle.pcef_journal.specs.Reports.{after_command, plan, tell, thresholds}
 use Rattle.pcef_usage.specs.Keys.{finds_no_slot as slotless, keys_of}
 use Rattle.pcef_usage.proofs.Afterwards.{few_entered}
 use Rattle.pcef_usage.proofs.Reports.{tell_rows}
-use Rattle.pcef_session.specs.Changes.{entered_by, key_of}
-use Rattle.pcef_session.specs.Core.{IsServed}
+use Rattle.pcef_session.specs.declared.prepared.Coming.{Coming}
+use Rattle.pcef_session.specs.Answers.{changes}
+use Rattle.pcef_session.specs.Changes.{Brings, becoming, entered_by, rule_key}
+use Rattle.pcef_session.specs.Core.{IsBeside, IsServed}
 use Rattle.pcef_session.specs.Refusals.{first_of, refusals}
 use Rattle.pcef_journal.specs.declared.row.Row.{Row}
 use Rattle.pcef_journal.specs.Setting.{Setting}
@@ -28,8 +30,9 @@ use Rattle.pcef_session.specs.Soundness.{IsSound, parts_of}
 use Rattle.pcef_session.specs.Terms.{setting_of}
 use Rattle.pcef_session.specs.declared.state.SessionState.TheInside.{Inside}
 use Rattle.pcef_session.proofs.FirstSession.{agrees_attached, agrees_first}
-use Rattle.pcef_session.proofs.Acceptance.{few_put, served_budget, served_slot}
-use Rattle.pcef_session.proofs.Commanding.{IsCommanded, agrees_commanded, commands_after, few_keys_after, next_now, served_plainly}
+use Rattle.pcef_session.proofs.Acceptance.{brings_none, brought_accepted, few_put, served_budget, served_slot}
+use Rattle.pcef_session.proofs.Becoming.{brought, brought_none, makes_becoming}
+use Rattle.pcef_session.proofs.Commanding.{IsCommanded, agrees_commanded, commands_after, entering, few_keys_after, next_now, served_plainly}
 use Rattle.pcef_session.proofs.KeptRules.{kept_length}
 use Rattle.pcef_session.proofs.PlainJournals.{attach_accepted, plain_after, plain_attach, plain_first}
 
@@ -77,50 +80,44 @@ sound_opened s journal states active bearers number entries subscribed attached 
     }
 
 -- a command is done
-few_rules_after : (p : Setting) (j : Journal) (c : Command) → p.most_rules ≡ 64 → IsServed c → first_of (refusals p j c) ≡ None → length (now p j).rules ≤ 64 → length (rules_after p (now p j) c) ≤ 64
-few_rules_after p j (Install rule) most served accepted few = few_put p j rule most few accepted
-few_rules_after p j (Remove name) most served accepted few = omega (arith, few, filter_length (λ r. not (is_named name r)) (now p j).rules)
-few_rules_after p j (Monitor key amount) most served accepted few = few
-few_rules_after p j (Activate name) most served accepted few = absurd served
-few_rules_after p j (Stop key) most served accepted few = absurd served
-few_rules_after p j (ReportNow key) most served accepted few = absurd served
-few_rules_after p j (Triggers set) most served accepted few = absurd served
-few_rules_after p j (Notice kind value) most served accepted few = absurd served
-few_rules_after p j (LoseBearer id) most served accepted few = absurd served
-few_rules_after p j Close most served accepted few = absurd served
-few_rules_after p j Terminate most served accepted few = absurd served
+few_beside : (p : Setting) (j : Journal) (c : Command) → IsBeside c → length (now p j).rules ≤ 64 → length (rules_after p (now p j) c) ≤ 64
+few_beside p j (Remove name) beside few = omega (arith, few, filter_length (λ r. not (is_named name r)) (now p j).rules)
+few_beside p j (Monitor key amount) beside few = few
+few_beside p j (Install rule) beside few = absurd beside
+few_beside p j (Activate name) beside few = absurd beside
+few_beside p j (Stop key) beside few = absurd beside
+few_beside p j (ReportNow key) beside few = absurd beside
+few_beside p j (Triggers set) beside few = absurd beside
+few_beside p j (Notice kind value) beside few = absurd beside
+few_beside p j (LoseBearer id) beside few = absurd beside
+few_beside p j Close beside few = absurd beside
+few_beside p j Terminate beside few = absurd beside
 
-served_key : (p : Setting) (c : Command) → IsServed c → key_named p c ≡ key_of c
-served_key p (Install rule) served = refl
-served_key p (Remove name) served = refl
-served_key p (Monitor key amount) served = refl
-served_key p (Activate name) served = absurd served
-served_key p (Stop key) served = absurd served
-served_key p (ReportNow key) served = absurd served
-served_key p (Triggers set) served = absurd served
-served_key p (Notice kind value) served = absurd served
-served_key p (LoseBearer id) served = absurd served
-served_key p Close served = absurd served
-served_key p Terminate served = absurd served
+few_rules_after : (p : Setting) (j : Journal) (c : Command) (x : Option Coming) → p.most_rules ≡ 64 → IsServed c → first_of (refusals p j c) ≡ None → changes p j c ≡ true → Brings p (becoming p c) x →
+    length (now p j).rules ≤ 64 → length (rules_after p (now p j) c) ≤ 64
+few_rules_after p j c None most served accepted changing brings few = few_beside p j c (brings_none p j c served accepted (brought_none p c None refl brings)) few
+few_rules_after p j c (Some x) most served accepted changing brings few =
+    let b = brought p c (Some x) x refl brings in
+    let same = ap length ((makes_becoming p c b.rule b.becomes).rules_are (now p j)) in
+    omega (arith, same, few_put p j b.rule most few (brought_accepted p j c b.rule accepted changing b.becomes))
 
 rows_after : (p : Setting) (j : Journal) (c : Command) → rows (after_command p j c) ≡ rows j
 unfolding after_command
 rows_after p j c = tell_rows p (thresholds p (tell p (plan p j c) (entry.Command c ∷ j))) (tell p (plan p j c) (entry.Command c ∷ j)) ∙ tell_rows p (plan p j c) (entry.Command c ∷ j)
 
-pub sound_commanded : (s t : Inside) (c : Command) (bearer : Option BearerId) → IsSound s → IsCommanded (setting_of s.profile s.listing) s.counted.journal c (parts_of s) (parts_of t) bearer →
+pub sound_commanded : (s t : Inside) (c : Command) (x : Option Coming) (bearer : Option BearerId) → IsSound s → IsCommanded (setting_of s.profile s.listing) s.counted.journal c x (parts_of s) (parts_of t) bearer →
     t.profile ≡ s.profile → t.listing ≡ s.listing → t.attached ≡ s.attached → t.counted.journal ≡ after_command (setting_of s.profile s.listing) s.counted.journal c → IsSound t
-sound_commanded s t c bearer sound is profile listing attached journal =
+sound_commanded s t c x bearer sound is profile listing attached journal =
     let p : Setting = setting_of s.profile s.listing in
     let q : Setting = setting_of t.profile t.listing in
     let j : Journal = s.counted.journal in
     let same : q ≡ p = rw (profile, listing) refl in
-    let agrees : Agrees p (after_command p j c) (parts_of t) = agrees_commanded p j c (parts_of s) (parts_of t) bearer refl sound.agrees is in
+    let agrees : Agrees p (after_command p j c) (parts_of t) = agrees_commanded p j c x (parts_of s) (parts_of t) bearer refl sound.agrees is in
     let budget : length (commands j) < s.profile.commands = served_budget p j s.attached c sound.plain is.served is.accepted in
-    let slot : slotless (key_named p c) s.counted.states ≡ false =
-    ap (λ (key : Option (List ℕ)). slotless key s.counted.states) (served_key p c is.served) ∙ served_slot p j c s.counted.states refl sound.agrees.keys_are is.served is.accepted in
+    let slot : slotless (key_named p c) s.counted.states ≡ false = served_slot p j c s.counted.states refl sound.agrees.keys_are is.served is.accepted is.changing in
     let before : length (now p j).rules ≤ 64 = omega (arith, sound.small.few_rules, kept_length s.listing s.active.entries (now p j).rules sound.agrees.rules_are) in
     let after_rules : (now p (after_command p j c)).rules ≡ rules_after p (now p j) c = ap (λ (g : Generation). g.rules) (next_now p j c (served_plainly p j c is.served).table) in
-    let few : length (rules_after p (now p j) c) ≤ 64 = few_rules_after p j c refl is.served is.accepted before in
+    let few : length (rules_after p (now p j) c) ≤ 64 = few_rules_after p j c x refl is.served is.accepted is.changing is.brings before in
     let kept : length t.active.entries ≡ length (now p (after_command p j c)).rules = kept_length p.catalog t.active.entries (now p (after_command p j c)).rules agrees.rules_are in
     record {
       agrees = rw (same, journal) agrees;
@@ -138,8 +135,8 @@ sound_commanded s t c bearer sound is profile listing attached journal =
       };
     }
 
-pub few_entered_by : (p : Setting) (j : Journal) (c : Command) (states : List KeyState) → p.most_keys ≡ 8 → keys_of states ≡ slots p j → IsServed c → first_of (refusals p j c) ≡ None →
-    length states ≤ 8 → length (entered_by c states) ≤ 8
-few_entered_by p j c states most keys served accepted few =
-    let fits = few_entered p c states (ap (λ (key : Option (List ℕ)). slotless key states) (served_key p c served) ∙ served_slot p j c states most keys served accepted) few in
-    omega (arith, fits, ap (λ (ss : List KeyState). length ss) ((served_plainly p j c served).entering states))
+pub few_entered_by : (p : Setting) (j : Journal) (c : Command) (x : Option Coming) (states : List KeyState) → p.most_keys ≡ 8 → keys_of states ≡ slots p j → IsServed c → first_of (refusals p j c) ≡ None →
+    changes p j c ≡ true → Brings p (becoming p c) x → length states ≤ 8 → length (entered_by (rule_key x) c states) ≤ 8
+few_entered_by p j c x states most keys served accepted changing brings few =
+    let fits = few_entered p c states (served_slot p j c states most keys served accepted changing) few in
+    omega (arith, fits, ap (λ (ss : List KeyState). length ss) (entering p c x states served brings))

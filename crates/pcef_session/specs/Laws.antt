@@ -64,12 +64,18 @@ ShownTablesCount = (p : Setting) (j : Journal) (g : ℕ) (t : TableValue) (heade
     IsVerdict p.catalog t.entries p.ue header v →
     counts_in p (at p j g) key header ≡ has_this_slot (slots p j) (slot_for p.catalog t.entries v) key
 
--- the tables that Install, Remove and Monitor make of one that shows the newest generation show the next one
+-- the tables that Install, Activate, Remove and Monitor make of one that shows the newest generation show the next one
 abbrev pub InstalledTablesShow : Type 0
 InstalledTablesShow = (p : Setting) → HasBearerIds p → (j : Journal) → Lawful p j → (rule : Definition) (x : Entry) (t new : TableValue) → Shows p j (gen j) t →
     StandsFor p (entry.Command (Install rule) ∷ j) (gen (entry.Command (Install rule) ∷ j)) x (dynamic rule) →
     new.number ≡ t.number + 1 → new.entries ≡ placed p.catalog x t.entries → IsTable p.catalog new.entries →
     Shows p (entry.Command (Install rule) ∷ j) (gen (entry.Command (Install rule) ∷ j)) new
+
+abbrev pub ActivatedTablesShow : Type 0
+ActivatedTablesShow = (p : Setting) → HasBearerIds p → (j : Journal) → Lawful p j → (name : List ℕ) (o : Offer) (x : Entry) (t new : TableValue) → offer_named p name ≡ Some o → Shows p j (gen j) t →
+    StandsFor p (entry.Command (Activate name) ∷ j) (gen (entry.Command (Activate name) ∷ j)) x (predefined o) →
+    new.number ≡ t.number + 1 → new.entries ≡ placed p.catalog x t.entries → IsTable p.catalog new.entries →
+    Shows p (entry.Command (Activate name) ∷ j) (gen (entry.Command (Activate name) ∷ j)) new
 
 abbrev pub RemovedTablesShow : Type 0
 RemovedTablesShow = (p : Setting) → HasBearerIds p → (j : Journal) → Lawful p j → (name : List ℕ) (t new : TableValue) → Shows p j (gen j) t →

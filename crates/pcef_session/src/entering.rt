@@ -2,50 +2,57 @@
 
 ghost use Rattle.std.specs.Prelude.{◌≡◌, ◌<◌, ◌≤◌, ◌+◌, ◌∷◌, length, true, false, None, Some};
 ghost use Rattle.std.specs.List.{list_any};
+ghost use Rattle.std.specs.Option.{option_copied};
 ghost use Rattle.indexmap.specs.IndexMap.{insert_entry, shift_remove_entry, spare};
 ghost use Rattle.pcef_journal.specs.Setting.{same_name};
 ghost use Rattle.pcef_bearer.specs.Bindings as binding;
 ghost use Rattle.pcef_usage.specs.Keys.{finds_no_slot, keys_of};
 ghost use Rattle.pcef_usage.specs.Tellings.{KnowsAll, settled_states, settled_tellings, states_stopped, states_told, told};
-ghost use Rattle.pcef_session.specs.Core.{IsServed, source_of};
-ghost use Rattle.pcef_session.specs.Changes.{CanBind, IsRebound, active_after, entered_by, key_of};
+ghost use Rattle.pcef_session.specs.Changes.{CanBind, IsRebound, active_after, entered_by, key_of, rule_key};
 
+use crate::prepared::Coming;
 use indexmap::IndexMap;
 use pcef_bearer::Bearers;
 use pcef_journal::{Command, Entry, Telling};
-use pcef_rule::{BearerId, Properties, RuleName};
+use pcef_rule::{BearerId, KeyName, Properties, RuleName};
 use pcef_table::Source;
 use pcef_usage::CountedJournal;
 
+/// The key of the rule that becomes active.
+pub(crate) fn rule_key(rule: Option<&Coming>) -> Option<KeyName>
+    ensures { result ≡ rule_key (option_copied rule.entry) }
+{
+    match &rule?.properties.key {
+        Some(key) => Some(key.copy()),
+        None => None,
+    }
+}
+
 /// Gives the key that a command names a slot, and switches on that of a Monitor.
-fn enter_key(counted: &mut CountedJournal, command: &Command)
-    requires served { IsServed command.now }
-    requires slot { finds_no_slot (key_of command.now) counted.old.states ≡ false }
+fn enter_key(counted: &mut CountedJournal, command: &Command, of_rule: Option<&KeyName>)
+    requires { finds_no_slot (key_of (option_copied of_rule.entry) command.now) counted.old.states ≡ false }
     ensures journal { counted.new.journal ≡ counted.old.journal }
-    ensures states { counted.new.states ≡ entered_by command.now counted.old.states }
+    ensures states { counted.new.states ≡ entered_by (option_copied of_rule.entry) command.now counted.old.states }
     ensures room { counted.new.room ≡ counted.old.room }
 {
     match command {
-        Command::Install(rule) => counted.keep_slot(rule.properties().key.as_ref()),
         Command::Monitor { key, grant } => {
             counted.keep_slot(Some(key));
             counted.start(key, *grant);
         }
-        Command::Remove(_) => {}
-        _ => unreachable!(),
+        _ => counted.keep_slot(of_rule),
     }
 }
 
-/// Adds a command to the journal, with its key.
-pub(crate) fn enter(counted: &mut CountedJournal, command: Command)
-    requires served { IsServed command }
-    requires slot { finds_no_slot (key_of command) counted.old.states ≡ false }
+/// Adds a command to the journal, with the key that it names.
+pub(crate) fn enter(counted: &mut CountedJournal, command: Command, of_rule: Option<KeyName>)
+    requires slot { finds_no_slot (key_of of_rule command) counted.old.states ≡ false }
     requires room { 0 < counted.old.room }
     ensures journal { counted.new.journal ≡ Entry.Command command ∷ counted.old.journal }
-    ensures states { counted.new.states ≡ entered_by command counted.old.states }
+    ensures states { counted.new.states ≡ entered_by of_rule command counted.old.states }
     ensures room { counted.old.room ≤ counted.new.room + 1 }
 {
-    enter_key(counted, &command);
+    enter_key(counted, &command, of_rule.as_ref());
     counted.enter(Entry::Command(command));
 }
 
@@ -96,26 +103,33 @@ pub(crate) fn change_rules(
     active: &mut IndexMap<RuleName, Source>,
     bearers: &mut Bearers,
     command: &Command,
-    source: Option<Source>,
+    rule: Option<Coming>,
 ) -> Option<BearerId>
-    requires served { IsServed command.now }
-    requires source { source ≡ source_of command.now }
     requires place { 0 < spare active.old }
-    requires can { CanBind command.now bearers.old }
-    ensures active { active.new.entries ≡ active_after command.now active.old.entries }
-    ensures bearers { IsRebound command.now bearers.old bearers.new result }
+    requires can { CanBind rule bearers.old }
+    ensures active { active.new.entries ≡ active_after rule command.now active.old.entries }
+    ensures bearers { IsRebound rule command.now bearers.old bearers.new result }
 {
-    match (command, source) {
-        (Command::Install(rule), Some(source)) => {
-            keep_rule(active, rule.properties().name.copy(), source);
-            Some(bind(bearers, rule.properties()))
+    match rule {
+        Some(rule) => {
+            let bearer = bind(bearers, &rule.properties);
+            keep_rule(active, rule.properties.name.copy(), rule.source);
+            Some(bearer)
         }
-        (Command::Remove(name), _) => {
-            let _removed = active.shift_remove(name);
-            let _released = bearers.unbind(name);
+        None => {
+            take_away(active, bearers, command);
             None
         }
-        (Command::Monitor { .. }, _) => None,
-        _ => unreachable!(),
+    }
+}
+
+/// Takes the rule away that a Remove names.
+fn take_away(active: &mut IndexMap<RuleName, Source>, bearers: &mut Bearers, command: &Command)
+    ensures active { active.new.entries ≡ active_after None command.now active.old.entries }
+    ensures bearers { IsRebound None command.now bearers.old bearers.new None }
+{
+    if let Command::Remove(name) = command {
+        let _removed = active.shift_remove(name);
+        let _released = bearers.unbind(name);
     }
 }

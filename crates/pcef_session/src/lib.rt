@@ -22,7 +22,7 @@ pub use laws::{
     bearers_have_their_own_ids, rules_have_their_bearers, shown_tables_judge,
     tables_follow_commands, usage_is_exact, waiting_rows_stay,
 };
-pub use prepared::Prepared;
+pub use prepared::{Coming, Prepared, PreparedChange};
 pub use profile::{MAX_CAPACITY, MAX_COMMANDS, Profile};
 pub use session::Session;
 pub use state::{MAX_RULES, MAX_WORKERS, SessionState};

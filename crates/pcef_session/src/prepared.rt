@@ -1,45 +1,54 @@
 //! Commands that are accepted, with the memory that they take.
 
-ghost use Rattle.std.specs.Prelude.{◌≡◌, IfOk, Some};
-ghost use Rattle.std.specs.Option.{option_copied};
-ghost use Rattle.pcef_session.specs.Core.{IsServed, source_of};
+ghost use Rattle.std.specs.Prelude.{◌≡◌};
+ghost use Rattle.std.specs.Arc.{arc_value};
+ghost use Rattle.std.specs.Option.{option_copied, option_map};
+ghost use Rattle.pcef_session.specs.Core.{table_made};
 
 use pcef_journal::{Command, Telling};
+use pcef_rule::{Properties, RuleName};
 use pcef_table::{Source, Table};
-use std::alloc::AllocError;
 use std::sync::Arc;
 
-/// A command that a session accepts next, with the memory that it takes.
+/// A rule that becomes active.
 #[derive(Drop)]
-pub struct Prepared {
+pub struct Coming {
+    /// Its properties.
+    pub properties: Properties,
+    /// Where it comes from.
+    pub source: Source,
+}
+
+/// A command that changes something, with the memory that it takes.
+#[derive(Drop)]
+pub struct PreparedChange {
     /// The command.
     pub command: Command,
     /// The table of the generation that the command makes.
     pub table: Arc<Table>,
     /// The rule that the command makes active.
-    pub source: Option<Source>,
+    pub rule: Option<Coming>,
     /// What the command reports by itself, in order.
     pub tellings: Vec<Telling>,
+}
+
+/// A command that a session accepts next.
+#[derive(Drop)]
+pub enum Prepared {
+    /// It changes something.
+    Changing(PreparedChange),
+    /// It activates the rule of this name, which is active, and so changes nothing.
+    Unchanged(RuleName),
 }
 
 impl Prepared {
     /// The table of the generation that the command makes, if it makes one.
     pub fn table(&self) -> Option<&Arc<Table>>
-        ensures { option_copied result ≡ Some self.now.table }
+        ensures { option_map (λ t. arc_value t) (option_copied result) ≡ table_made self.now }
     {
-        Some(&self.table)
-    }
-}
-
-/// The rule that a command makes active.
-pub(crate) fn source_of(command: &Command) -> Result<Option<Source>, AllocError>
-    requires { IsServed command.now }
-    ensures { IfOk result (λ source. source ≡ source_of command.now) }
-{
-    match command {
-        Command::Install(rule) => Ok(Some(Source::Dynamic(rule.copy()?))),
-        Command::Remove(_) => Ok(None),
-        Command::Monitor { .. } => Ok(None),
-        _ => unreachable!(),
+        match self {
+            Prepared::Changing(change) => Some(&change.table),
+            Prepared::Unchanged(_) => None,
+        }
     }
 }

@@ -1,33 +1,36 @@
 //! Commands.
 
 ghost use Rattle.std.specs.Prelude.{◌≡◌, Ok};
+ghost use Rattle.pcef_journal.specs.declared.command.Command.TheVariants as of;
 ghost use Rattle.pcef_session.specs.Answers.{Does, Gives, command_outcome};
-ghost use Rattle.pcef_session.specs.Core.{IsPreparedFor, IsServed, setting_in};
+ghost use Rattle.pcef_session.specs.Core.{IsIdle, IsPreparedFor, IsReady, IsServed, command_of, setting_in};
 
 use super::SessionState;
 use crate::answer::{Accepted, Refusal};
-use crate::entering::{change_rules, enter, tell};
-use crate::prepared::Prepared;
+use crate::entering::{change_rules, enter, rule_key, tell};
+use crate::prepared::{Prepared, PreparedChange};
 use pcef_journal::Command;
+use pcef_rule::RuleName;
 
 impl SessionState {
-    /// Does what was prepared since the session last changed. Takes no memory.
-    pub fn settle(&mut self, prepared: Prepared) -> Accepted
-        requires { IsPreparedFor self.old prepared }
-        ensures answer { Gives (command_outcome (setting_in self.old) self.old.journal prepared.command) (Ok result) self.new.journal }
+    /// Does a command that changes something.
+    fn change(&mut self, change: PreparedChange) -> Accepted
+        requires { IsReady self.old change }
+        ensures answer { Gives (command_outcome (setting_in self.old) self.old.journal change.command) (Ok result) self.new.journal }
         ensures terms { self.new.terms ≡ self.old.terms }
         ensures offers { self.new.offers ≡ self.old.offers }
     {
-        let Prepared {
+        let PreparedChange {
             command,
             table,
-            source,
+            rule,
             tellings,
-        } = prepared;
+        } = change;
         let first_report = self.counted.journal().reports_len();
-        let bearer = change_rules(&mut self.active, &mut self.bearers, &command, source);
+        let key = rule_key(rule.as_ref());
+        let bearer = change_rules(&mut self.active, &mut self.bearers, &command, rule);
         self.table = table;
-        enter(&mut self.counted, command);
+        enter(&mut self.counted, command, key);
         tell(&mut self.counted, &tellings, self.subscribed.usage_report);
         Accepted {
             generation: self.table.generation(),
@@ -35,6 +38,34 @@ impl SessionState {
             first_report,
             past_last_report: self.counted.journal().reports_len(),
             unchanged: false,
+        }
+    }
+
+    /// What is answered to an Activate of an active rule.
+    fn unchanged(&self, name: &RuleName) -> Accepted
+        requires { IsIdle self.now name.now }
+        ensures { Gives (command_outcome (setting_in self.now) self.now.journal (of.Activate name.now)) (Ok result) self.now.journal }
+    {
+        let reports = self.counted.journal().reports_len();
+        Accepted {
+            generation: self.table.generation(),
+            bearer: self.bearers.bearer_of(name),
+            first_report: reports,
+            past_last_report: reports,
+            unchanged: true,
+        }
+    }
+
+    /// Does what was prepared since the session last changed. Takes no memory.
+    pub fn settle(&mut self, prepared: Prepared) -> Accepted
+        requires { IsPreparedFor self.old prepared }
+        ensures answer { Gives (command_outcome (setting_in self.old) self.old.journal (command_of prepared)) (Ok result) self.new.journal }
+        ensures terms { self.new.terms ≡ self.old.terms }
+        ensures offers { self.new.offers ≡ self.old.offers }
+    {
+        match prepared {
+            Prepared::Changing(change) => self.change(change),
+            Prepared::Unchanged(name) => self.unchanged(&name),
         }
     }
 

@@ -1,6 +1,6 @@
 //! Why commands are refused.
 
-ghost use Rattle.std.specs.Prelude.{◌≡◌, ◌==◌, ◌&&◌, ◌∷◌, [], Some, is_some, length, nat_le, not};
+ghost use Rattle.std.specs.Prelude.{◌≡◌, ◌==◌, ◌&&◌, ◌∷◌, [], Some, if◌then◌else◌, is_none, is_some, length, nat_le, not};
 ghost use Rattle.std.specs.List.{list_any};
 ghost use Rattle.std.specs.Option.{option_copied, option_map};
 ghost use Rattle.pcef_journal.specs.ActiveRules.{without};
@@ -11,7 +11,7 @@ ghost use Rattle.pcef_bearer.specs.Bindings as binding;
 ghost use Rattle.pcef_session.specs.declared.answer.Refusal.TheVariants as refusal;
 ghost use Rattle.pcef_session.specs.Bound.{refusal_of};
 ghost use Rattle.pcef_session.specs.Core.{IsServed, setting_in};
-ghost use Rattle.pcef_session.specs.Refusals.{becoming_active, bindings, common_refusals, finds_no_slot, first_of, is_active, refusals};
+ghost use Rattle.pcef_session.specs.Refusals.{becoming_active, becoming_active_if, bindings, common_refusals, finds_no_slot, first_of, is_active, refusals};
 
 use super::{MAX_RULES, SessionState};
 use crate::answer::Refusal;
@@ -124,6 +124,18 @@ impl SessionState {
         self.becoming_active(rule)
     }
 
+    fn activate_refusal(&self, name: &RuleName) -> Option<Refusal>
+        ensures { result ≡ first_of ((is_none (offer_named (setting_in self.now) name.now), refusal.UnknownRule) ∷ (if is_active (setting_in self.now) self.now.journal name.now then [] else becoming_active_if (setting_in self.now) self.now.journal (offer_named (setting_in self.now) name.now))) }
+    {
+        let Some(index) = index_of(&self.listing, name) else {
+            return Some(Refusal::UnknownRule);
+        };
+        if self.is_active(name) {
+            return None;
+        }
+        self.becoming_active(&self.listing.offers()[usize::from(index)].properties)
+    }
+
     fn remove_refusal(&self, name: &RuleName) -> Option<Refusal>
         ensures { result ≡ first_of ((not (is_active (setting_in self.now) self.now.journal name.now), refusal.UnknownRule) ∷ []) }
     {
@@ -156,6 +168,7 @@ impl SessionState {
         }
         match command {
             Command::Install(rule) => self.install_refusal(rule.properties()),
+            Command::Activate(name) => self.activate_refusal(name),
             Command::Remove(name) => self.remove_refusal(name),
             Command::Monitor { key, grant } => self.monitor_refusal(key, *grant),
             _ => unreachable!(),
