@@ -10,7 +10,7 @@ use Rattle.pcef_journal.specs.Journals.{gen}
 use Rattle.pcef_journal.specs.Reports.{plan}
 use Rattle.pcef_table.specs.declared.entry.Source.{Source}
 use Rattle.pcef_table.specs.declared.entry.Source.TheVariants.{Dynamic}
-use Rattle.pcef_table.specs.declared.listing.Offer.{Offer}
+use Rattle.pcef_catalog.specs.declared.listing.Offer.{Offer}
 use Rattle.pcef_session.specs.Agreement.{Parts}
 use Rattle.pcef_session.specs.Refusals.{first_of, refusals}
 use Rattle.pcef_session.specs.Shown.{Shows}

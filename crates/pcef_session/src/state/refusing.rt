@@ -19,7 +19,7 @@ use crate::profile::Profile;
 use pcef_bearer::BindRefusal;
 use pcef_journal::Command;
 use pcef_rule::{KeyName, Properties, RuleName};
-use pcef_table::Listing;
+use pcef_catalog::Listing;
 use pcef_usage::{MAX_KEYS, Usage};
 
 /// How many commands a journal takes.

@@ -3,7 +3,7 @@
 ghost use Rattle.std.specs.Prelude.{◌≡◌, map};
 ghost use Rattle.std.specs.List.{list_all, list_any};
 ghost use Rattle.pcef_packet.specs.Addresses.{remote_side};
-ghost use Rattle.pcef_table.specs.Shapes.{local_port, port_between, remote_port, shape_holds, test_holds};
+ghost use Rattle.pcef_catalog.specs.Shapes.{local_port, port_between, remote_port, shape_holds, test_holds};
 
 use arrayvec::ArrayVec;
 use pcef_filter::Net;
@@ -46,6 +46,19 @@ pub struct Alternative {
     pub tests: ArrayVec<Test, 8>,
 }
 
+impl Alternative {
+    /// Another one that is equal. Takes no memory.
+    fn copy(&self) -> Alternative
+        ensures { result ≡ self.now }
+    {
+        let mut tests = ArrayVec::new();
+        for test in &self.tests {
+            tests.push(*test);
+        }
+        Alternative { tests }
+    }
+}
+
 /// At most 8 alternatives, of which one is to be true. With none, the shape never holds.
 #[derive(Debug, Drop)]
 pub struct Shape {
@@ -54,7 +67,7 @@ pub struct Shape {
 
 impl Model for Shape {
     ghost use Rattle.std.specs.Prelude.{List, map};
-    ghost use Rattle.pcef_table.specs.declared.shape.Test.{Test};
+    ghost use Rattle.pcef_catalog.specs.declared.shape.Test.{Test};
 
     ghost Value = { List (List Test) };
 
@@ -66,6 +79,17 @@ impl Shape {
     pub fn new(alternatives: ArrayVec<Alternative, 8>) -> Shape
         ensures { result ≡ map (λ a. a.tests.items) alternatives.items }
     {
+        Shape { alternatives }
+    }
+
+    /// Another one that is equal. Takes no memory.
+    pub fn copy(&self) -> Shape
+        ensures { result ≡ self.now }
+    {
+        let mut alternatives = ArrayVec::new();
+        for alternative in &self.alternatives {
+            alternatives.push(alternative.copy());
+        }
         Shape { alternatives }
     }
 

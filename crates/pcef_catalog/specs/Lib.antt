@@ -1,0 +1,3 @@
+pub mod Catalogs
+pub mod Offers
+pub mod Shapes
