@@ -3,12 +3,13 @@
 ghost use Rattle.std.specs.Prelude.{◌≡◌, ◌<◌, ◌↔◌, IfOk, IfSome, IsTrue, List, find, length, map, slice_get};
 ghost use Rattle.std.specs.Option.{option_and_then};
 ghost use Rattle.std.specs.Result.{result_err};
-ghost use Rattle.pcef_catalog.specs.Catalogs.{offers_in};
+ghost use Rattle.pcef_catalog.specs.PlainRules.{offers_in};
 ghost use Rattle.pcef_catalog.specs.Offers.{AreDistinct, Makes, is_offer_of, names_of};
 ghost use Rattle.pcef_catalog.specs.Shapes.{detected};
 ghost use Rattle.pcef_catalog.specs.declared.listing.Offer.{Offer};
 
-use crate::listing::{Listing, MAX_OFFERS, Offer};
+use crate::listing::{Listing, MAX_OFFERS};
+use crate::places::{are_distinct, listing_of};
 use crate::predefined::Predefined;
 use pcef_packet::Header;
 use pcef_rule::RuleName;
@@ -53,7 +54,7 @@ pub struct Catalog {
 }
 
 impl Catalog {
-    ghost use Rattle.pcef_catalog.specs.Catalogs.{offers_in, offers_of};
+    ghost use Rattle.pcef_catalog.specs.Catalogs.{offers_of};
 
     /// The catalog of these rules, in their order, or the first fault in the order of [`CatalogFault`].
     /// Takes memory for the listing.
@@ -67,10 +68,7 @@ impl Catalog {
         if rules.len() > MAX_OFFERS {
             return Err(CatalogFault::TooMany);
         }
-        let Ok(offers) = offers(alloc, &rules) else {
-            return Err(CatalogFault::NoMemory);
-        };
-        let Ok(listing) = Listing::new(alloc, offers) else {
+        let Ok(listing) = listing_of(alloc, &rules) else {
             return Err(CatalogFault::NoMemory);
         };
         Ok(Catalog { rules, listing })
@@ -97,27 +95,4 @@ impl Offers for Catalog {
     fn detects(&self, index: u8, header: &Header) -> bool {
         self.rules[usize::from(index)].detects(header)
     }
-}
-
-/// Whether no two rules have one name.
-fn are_distinct(rules: &[Predefined]) -> bool
-    ensures { IsTrue result ↔ AreDistinct (names_of (offers_in rules.now)) }
-{
-    for (place, rule) in rules.iter().enumerate() {
-        if rules[..place].iter().any(|other| other.properties().name == rule.properties().name) {
-            return false;
-        }
-    }
-    true
-}
-
-/// The rules without their closures.
-fn offers(alloc: Global, rules: &[Predefined]) -> Result<Vec<Offer>, AllocError>
-    ensures { IfOk result (λ v. v.items ≡ offers_in rules.now) }
-{
-    let mut offers = Vec::with_capacity(alloc, rules.len())?;
-    for rule in rules {
-        offers.push(rule.offer())?;
-    }
-    Ok(offers)
 }

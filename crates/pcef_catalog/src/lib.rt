@@ -3,6 +3,7 @@
 
 mod catalog;
 mod listing;
+mod places;
 mod predefined;
 mod shape;
 

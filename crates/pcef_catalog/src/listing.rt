@@ -1,6 +1,6 @@
 //! What a catalog offers, with no closure to be seen.
 
-ghost use Rattle.std.specs.Prelude.{◌≡◌, ◌≤◌, IfOk, IfSome, find, length, slice_get};
+ghost use Rattle.std.specs.Prelude.{◌≡◌, ◌<◌, ◌≤◌, IfOk, IfSome, find, length, slice_get};
 ghost use Rattle.std.specs.Option.{option_and_then};
 ghost use Rattle.pcef_catalog.specs.Offers.{is_offer_of, most_offers};
 
@@ -83,13 +83,19 @@ impl Listing {
     }
 }
 
+fn has_name(offer: &Offer, name: &RuleName) -> bool
+    ensures { result ≡ is_offer_of name.now offer.now }
+{
+    offer.properties.name == *name
+}
+
 /// The first place of a name among rules.
 fn place_of(offers: &[Offer], name: &RuleName) -> Option<usize>
     ensures offer { option_and_then (λ place. slice_get offers.now place) result ≡ find (is_offer_of name.now) offers.now }
     ensures within { IfSome result (λ place. place < length offers.now) }
 {
     for (place, offer) in offers.iter().enumerate() {
-        if offer.properties.name == *name {
+        if has_name(offer, name) {
             return Some(place);
         }
     }

@@ -1,10 +1,8 @@
 //! Predefined rules.
 
 ghost use Rattle.std.specs.Prelude.{◌≡◌, Bool};
-ghost use Rattle.pcef_catalog.specs.Catalogs.{offer_of};
 ghost use Rattle.pcef_catalog.specs.Shapes.{shape_holds};
 
-use crate::listing::Offer;
 use crate::shape::Shape;
 use pcef_packet::Header;
 use pcef_rule::Properties;
@@ -57,15 +55,5 @@ impl Predefined {
         ensures { result.now ≡ self.now.shape }
     {
         &self.shape
-    }
-
-    /// The rule without its closure. Takes no memory.
-    pub(crate) fn offer(&self) -> Offer
-        ensures { result ≡ offer_of self.now }
-    {
-        Offer {
-            properties: self.properties.copy(),
-            shape: self.shape.copy(),
-        }
     }
 }

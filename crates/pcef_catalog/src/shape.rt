@@ -1,6 +1,6 @@
 //! Shapes: what a predefined rule detects.
 
-ghost use Rattle.std.specs.Prelude.{◌≡◌, map};
+ghost use Rattle.std.specs.Prelude.{◌≡◌, ◌≤◌, length, map};
 ghost use Rattle.std.specs.List.{list_all, list_any};
 ghost use Rattle.pcef_packet.specs.Addresses.{remote_side};
 ghost use Rattle.pcef_catalog.specs.Shapes.{local_port, port_between, remote_port, shape_holds, test_holds};
@@ -51,11 +51,9 @@ impl Alternative {
     fn copy(&self) -> Alternative
         ensures { result ≡ self.now }
     {
-        let mut tests = ArrayVec::new();
-        for test in &self.tests {
-            tests.push(*test);
+        Alternative {
+            tests: copy_tests(&self.tests),
         }
-        Alternative { tests }
     }
 }
 
@@ -86,11 +84,9 @@ impl Shape {
     pub fn copy(&self) -> Shape
         ensures { result ≡ self.now }
     {
-        let mut alternatives = ArrayVec::new();
-        for alternative in &self.alternatives {
-            alternatives.push(alternative.copy());
+        Shape {
+            alternatives: copy_alternatives(&self.alternatives),
         }
-        Shape { alternatives }
     }
 
     /// Whether all tests of some alternative are true of a header.
@@ -99,6 +95,28 @@ impl Shape {
     {
         any_holds(self.alternatives.as_slice(), header)
     }
+}
+
+fn copy_tests(tests: &[Test]) -> ArrayVec<Test, 8>
+    requires { length tests.now ≤ 8 }
+    ensures { result.items ≡ tests.now }
+{
+    let mut copy = ArrayVec::new();
+    for test in tests {
+        copy.push(*test);
+    }
+    copy
+}
+
+fn copy_alternatives(alternatives: &[Alternative]) -> ArrayVec<Alternative, 8>
+    requires { length alternatives.now ≤ 8 }
+    ensures { result.items ≡ alternatives.now }
+{
+    let mut copy = ArrayVec::new();
+    for alternative in alternatives {
+        copy.push(alternative.copy());
+    }
+    copy
 }
 
 fn any_holds(alternatives: &[Alternative], header: &Header) -> bool
