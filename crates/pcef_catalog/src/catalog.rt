@@ -1,10 +1,10 @@
 //! The catalog of predefined rules.
 
-ghost use Rattle.std.specs.Prelude.{◌≡◌, ◌<◌, ◌↔◌, IfOk, IfSome, IsTrue, List, find, length, map, slice_get};
+ghost use Rattle.std.specs.Prelude.{◌≡◌, ◌<◌, IfOk, IfSome, List, find, length, slice_get};
 ghost use Rattle.std.specs.Option.{option_and_then};
 ghost use Rattle.std.specs.Result.{result_err};
 ghost use Rattle.pcef_catalog.specs.PlainRules.{offers_in};
-ghost use Rattle.pcef_catalog.specs.Offers.{AreDistinct, Makes, is_offer_of, names_of};
+ghost use Rattle.pcef_catalog.specs.Offers.{Makes, is_offer_of};
 ghost use Rattle.pcef_catalog.specs.Shapes.{detected};
 ghost use Rattle.pcef_catalog.specs.declared.listing.Offer.{Offer};
 
