@@ -12,7 +12,7 @@ mod rules;
 
 use packets::{Tally, judge_all, without_count, write_verdicts};
 use pcef_packet::Addr;
-use pcef_table::Catalog;
+use pcef_catalog::Catalog;
 use std::io::{self, BufWriter, Write};
 use std::process::ExitCode;
 use std::{env, fs};

@@ -1,10 +1,11 @@
 //! Recorded packets.
 
-ghost use Rattle.pcef_table.specs.Catalogs.{offers_of};
+ghost use Rattle.pcef_catalog.specs.Catalogs.{offers_of};
 ghost use Rattle.pcef_table.specs.Tables.{IsTable};
 
 use pcef_packet::{Addr, Dir, read_header};
-use pcef_table::{Catalog, Table, Verdict};
+use pcef_catalog::Catalog;
+use pcef_table::{Table, Verdict};
 use std::io::{self, Write};
 
 /// How many packets went which way.

@@ -1,14 +1,15 @@
 //! Rules from a text.
 
 ghost use Rattle.std.specs.Prelude.{IfOk, List};
-ghost use Rattle.pcef_table.specs.Catalogs.{offers_of};
+ghost use Rattle.pcef_catalog.specs.Catalogs.{offers_of};
 ghost use Rattle.pcef_table.specs.Sources.{IsKnown};
 ghost use Rattle.pcef_table.specs.Tables.{IsTable};
-ghost use Rattle.pcef_table.specs.declared.listing.Offer.{Offer};
+ghost use Rattle.pcef_catalog.specs.declared.listing.Offer.{Offer};
 
 use pcef_filter::{Filter, Flow, read_filter};
 use pcef_rule::{Arp, BearerId, Gate, Properties, Qci, Qos, Rule, RuleName};
-use pcef_table::{Catalog, Entry, MAX_ENTRIES, Source, Table};
+use pcef_catalog::Catalog;
+use pcef_table::{Entry, MAX_ENTRIES, Source, Table};
 use std::alloc::Global;
 
 /// The text isn't one of rules, there are too many of them, or there is no memory for them.

@@ -3,7 +3,7 @@
 use crate::profile::{ReadProfileFault, read_profile};
 use crate::script::{ScriptFault, run_script};
 use pcef_session::{OpenFault, Profile};
-use pcef_table::Catalog;
+use pcef_catalog::Catalog;
 use std::alloc::Global;
 use std::io::{Read, Write};
 use std::sync::Arc;

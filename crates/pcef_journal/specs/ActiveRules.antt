@@ -10,9 +10,9 @@ use Rattle.pcef_rule.specs.declared.rule.Origin.TheVariants as origin
 use Rattle.pcef_rule.specs.declared.rule.Properties.{Properties}
 use Rattle.pcef_rule.specs.Definition.{Definition}
 use Rattle.pcef_rule.specs.Precedence.{Rank, goes_before, rank_by}
-use Rattle.pcef_table.specs.declared.listing.Offer.{Offer}
-use Rattle.pcef_table.specs.declared.shape.Test.{Test}
-use Rattle.pcef_table.specs.Shapes.{shape_holds}
+use Rattle.pcef_catalog.specs.declared.listing.Offer.{Offer}
+use Rattle.pcef_catalog.specs.declared.shape.Test.{Test}
+use Rattle.pcef_catalog.specs.Shapes.{shape_holds}
 use Rattle.pcef_journal.specs.Setting.{same_name}
 
 -- how a rule finds its packets: by the filters of its definition, or by the shape of the catalog

@@ -6,7 +6,7 @@ ghost use Rattle.pcef_replay.specs.Rules.{active_of, rules_in};
 
 use crate::setting::is_same_name;
 use pcef_rule::{KeyName, Properties, Rule, RuleName};
-use pcef_table::Offer;
+use pcef_catalog::Offer;
 use std::alloc::{AllocError, Global};
 
 /// An active rule, which stands in a command or in the catalog.

@@ -10,7 +10,7 @@ use crate::setting::{Setting, is_same_name};
 use crate::usage::is_table;
 use pcef_journal::{Command, Entry};
 use pcef_rule::KeyName;
-use pcef_table::Offer;
+use pcef_catalog::Offer;
 use std::alloc::{AllocError, Global};
 
 /// Whether a key is among others.

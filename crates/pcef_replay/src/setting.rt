@@ -6,7 +6,7 @@ ghost use Rattle.pcef_journal.specs.Setting.{offer_named, same_flag, same_name, 
 
 use pcef_packet::Addr;
 use pcef_rule::{Name, QciTable, Qos, RuleName, Sums};
-use pcef_table::Offer;
+use pcef_catalog::Offer;
 use std::marker::Model;
 
 /// What is fixed for a session: its profile, its catalog, and the limits of the gateway.

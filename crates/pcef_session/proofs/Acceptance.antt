@@ -6,7 +6,7 @@ use Rattle.std.specs.List.{list_any}
 use Rattle.std.proofs.lemmas.Bool.{cases_Bool, leb-false}
 use Rattle.pcef_rule.specs.declared.rule.Properties.{Properties}
 use Rattle.pcef_rule.specs.Definition.{Definition}
-use Rattle.pcef_table.specs.declared.listing.Offer.{Offer}
+use Rattle.pcef_catalog.specs.declared.listing.Offer.{Offer}
 use Rattle.pcef_bearer.specs.declared.refusal.BindRefusal.{BindRefusal}
 use Rattle.pcef_bearer.specs.Bindings.{first_of as first_bound, refusals as bound_refusals, without as bound_without}
 use Rattle.pcef_journal.specs.declared.command.Command.{Command}

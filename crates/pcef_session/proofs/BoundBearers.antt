@@ -13,8 +13,8 @@ use Rattle.pcef_rule.specs.declared.quantity.Qos.{Qos}
 use Rattle.pcef_rule.specs.declared.quantity.Rates.{Rates}
 use Rattle.pcef_rule.specs.declared.rule.Properties.{Properties}
 use Rattle.pcef_rule.specs.QciKinds.{kind_of}
-use Rattle.pcef_table.specs.declared.listing.Offer.{Offer}
-use Rattle.pcef_table.proofs.Alternatives.{list_any_map}
+use Rattle.pcef_catalog.specs.declared.listing.Offer.{Offer}
+use Rattle.pcef_catalog.proofs.Alternatives.{list_any_map}
 use Rattle.pcef_table.proofs.Foremost.{found_is_foremost, none_passes}
 use Rattle.pcef_journal.specs.declared.command.Command.{Command}
 use Rattle.pcef_journal.specs.declared.command.Command.TheVariants.{Monitor, Remove}

@@ -4,7 +4,7 @@ use Rattle.std.specs.List.{list_any}
 use Rattle.std.proofs.lemmas.Bool.{cases_Bool}
 use Rattle.indexmap.specs.IndexMap.{insert_entry, shift_remove_entry}
 use Rattle.pcef_table.specs.declared.entry.Source.{Source}
-use Rattle.pcef_table.specs.declared.listing.Offer.{Offer}
+use Rattle.pcef_catalog.specs.declared.listing.Offer.{Offer}
 use Rattle.pcef_journal.specs.Setting.{same_name}
 use Rattle.pcef_journal.specs.ActiveRules.{Active, is_named, put, without}
 use Rattle.pcef_usage.proofs.Names.{same_name_not, same_name_turned}

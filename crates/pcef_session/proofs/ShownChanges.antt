@@ -12,7 +12,7 @@ use Rattle.pcef_rule.specs.declared.rule.Properties.{Properties}
 use Rattle.pcef_rule.specs.Precedence.{rank_by}
 use Rattle.pcef_rule.proofs.OrderOfRules.{one_goes_first}
 use Rattle.pcef_table.specs.declared.entry.Entry.{Entry}
-use Rattle.pcef_table.specs.declared.listing.Offer.{Offer}
+use Rattle.pcef_catalog.specs.declared.listing.Offer.{Offer}
 use Rattle.pcef_table.specs.Sources.{name_of, no_rank, origin_of, properties_of, rank_of}
 use Rattle.pcef_table.specs.Tables.{IsTable, TableValue, has_other_name, is_before, is_behind, is_slot, placed, with_counting, without}
 use Rattle.pcef_journal.specs.declared.entry.Entry.TheVariants as entry

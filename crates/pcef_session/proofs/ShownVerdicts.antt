@@ -15,7 +15,7 @@ use Rattle.pcef_rule.proofs.OrderOfRules.{one_goes_first}
 use Rattle.pcef_table.specs.declared.entry.Entry.{Entry}
 use Rattle.pcef_table.specs.declared.entry.Source.{Source}
 use Rattle.pcef_table.specs.declared.entry.Source.TheVariants.{Dynamic, Predefined}
-use Rattle.pcef_table.specs.declared.listing.Offer.{Offer}
+use Rattle.pcef_catalog.specs.declared.listing.Offer.{Offer}
 use Rattle.pcef_table.specs.declared.verdict.Verdict.{Verdict}
 use Rattle.pcef_table.specs.declared.verdict.Verdict.TheVariants.{Stray, Unmatched, Gated, Passed}
 use Rattle.pcef_table.specs.Sources.{properties_of}

@@ -9,7 +9,7 @@ use Rattle.pcef_journal.specs.Generations.{is_among}
 use Rattle.pcef_journal.specs.Entries.{Journal}
 use Rattle.pcef_journal.specs.Journals.{counted, gen, grant, now, reported, slots, subscribed}
 use Rattle.pcef_table.specs.declared.entry.Source.{Source}
-use Rattle.pcef_table.specs.declared.listing.Offer.{Offer}
+use Rattle.pcef_catalog.specs.declared.listing.Offer.{Offer}
 use Rattle.pcef_table.specs.Tables.{TableValue}
 use Rattle.pcef_usage.specs.declared.usage.KeyState.{KeyState}
 use Rattle.pcef_session.specs.Bound.{binding_of}

@@ -9,7 +9,7 @@ use Rattle.pcef_journal.specs.declared.entry.Entry.TheVariants as entry
 use Rattle.pcef_journal.specs.Setting.{Setting}
 use Rattle.pcef_journal.specs.Journals.{gen}
 use Rattle.pcef_journal.specs.Reports.{plan}
-use Rattle.pcef_table.specs.declared.listing.Offer.{Offer}
+use Rattle.pcef_catalog.specs.declared.listing.Offer.{Offer}
 use Rattle.pcef_table.specs.declared.entry.Entry.{Entry}
 use Rattle.pcef_table.specs.Tables.{TableValue}
 use Rattle.pcef_bearer.specs.Bindings.{id_beside, without}

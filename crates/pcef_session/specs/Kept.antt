@@ -7,7 +7,7 @@ use Rattle.pcef_rule.specs.declared.rule.Properties.{Properties}
 use Rattle.pcef_journal.specs.ActiveRules.{is_key}
 use Rattle.pcef_journal.specs.Setting.{same_name}
 use Rattle.pcef_table.specs.declared.entry.Entry.{Entry}
-use Rattle.pcef_table.specs.declared.listing.Offer.{Offer}
+use Rattle.pcef_catalog.specs.declared.listing.Offer.{Offer}
 use Rattle.pcef_table.specs.Sources.{properties_of}
 use Rattle.pcef_usage.specs.declared.usage.KeyState.{KeyState}
 

@@ -4,7 +4,7 @@ use Rattle.pcef_packet.specs.declared.header.Addr.{Addr}
 use Rattle.pcef_rule.specs.declared.qci.Kind.{Kind}
 use Rattle.pcef_rule.specs.declared.quantity.Qos.{Qos}
 use Rattle.pcef_rule.specs.declared.quantity.Sums.{Sums}
-use Rattle.pcef_table.specs.declared.listing.Offer.{Offer}
+use Rattle.pcef_catalog.specs.declared.listing.Offer.{Offer}
 use Rattle.pcef_journal.specs.Setting.{Setting}
 
 -- the address of the user equipment, QCI and ARP of the default bearer, the capacity that guaranteed

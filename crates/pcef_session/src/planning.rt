@@ -12,7 +12,8 @@ ghost use Rattle.pcef_session.specs.Kept.{has_key, is_gone, is_other_with_key, s
 
 use pcef_journal::{Cause, Telling};
 use pcef_rule::{KeyName, Properties, RuleName};
-use pcef_table::{Entry, Listing};
+use pcef_catalog::Listing;
+use pcef_table::Entry;
 use pcef_usage::KeyState;
 use std::alloc::{AllocError, Global};
 

@@ -3,7 +3,7 @@
 ghost use Rattle.std.specs.Prelude.{◌≡◌, [], IfErr, IfOk, Ok, map};
 ghost use Rattle.std.specs.Arc.{arc_value};
 ghost use Rattle.std.specs.Result.{result_err, result_map_both};
-ghost use Rattle.pcef_table.specs.Catalogs.{offers_of};
+ghost use Rattle.pcef_catalog.specs.Catalogs.{offers_of};
 
 use crate::answer::{Accepted, AttachFault, FlushRefusal, OpenFault, Refusal, Verdicts};
 use crate::batch::Batch;
@@ -14,7 +14,8 @@ use indexmap::IndexMap;
 use pcef_bearer::Bearers;
 use pcef_journal::{Command, Journal};
 use pcef_rule::RuleName;
-use pcef_table::{Catalog, Offers, Source, Table};
+use pcef_catalog::{Catalog, Offers};
+use pcef_table::{Source, Table};
 use pcef_usage::Usage;
 use std::alloc::Global;
 use std::sync::Arc;

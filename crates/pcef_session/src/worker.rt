@@ -14,7 +14,8 @@ use crate::batch::{Batch, BatchFull, Item, MAX_WAITING};
 use crate::state::SessionState;
 use pcef_journal::Row;
 use pcef_packet::{Addr, Header};
-use pcef_table::{Offers, Table};
+use pcef_catalog::Offers;
+use pcef_table::Table;
 use std::sync::Arc;
 
 /// A worker: the table of the generation that it holds, and its waiting rows.

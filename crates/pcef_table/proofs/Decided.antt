@@ -7,7 +7,7 @@ use Rattle.pcef_packet.specs.Addresses.{same_addr, ue_side}
 use Rattle.pcef_rule.specs.declared.rule.Properties.{Properties}
 use Rattle.pcef_rule.specs.Gate.{opens}
 use Rattle.pcef_table.specs.declared.entry.Entry.{Entry}
-use Rattle.pcef_table.specs.declared.listing.Offer.{Offer}
+use Rattle.pcef_catalog.specs.declared.listing.Offer.{Offer}
 use Rattle.pcef_table.specs.declared.verdict.Verdict.{Verdict}
 use Rattle.pcef_table.specs.declared.verdict.Verdict.TheVariants.{Gated, Passed}
 use Rattle.pcef_table.specs.Sources.{fits, properties_of}

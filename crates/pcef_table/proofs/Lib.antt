@@ -2,4 +2,3 @@ pub mod Decided
 pub mod Foremost
 pub mod Keeping
 pub mod Ordered
-pub mod Alternatives

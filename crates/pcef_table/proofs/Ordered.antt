@@ -13,7 +13,7 @@ use Rattle.pcef_rule.specs.Precedence.{Rank, goes_before, rank_cmp}
 use Rattle.pcef_rule.specs.declared.quantity.Slot.{Slot}
 use Rattle.pcef_table.specs.declared.entry.Entry.{Entry}
 use Rattle.pcef_table.specs.declared.entry.Source.{Source}
-use Rattle.pcef_table.specs.declared.listing.Offer.{Offer}
+use Rattle.pcef_catalog.specs.declared.listing.Offer.{Offer}
 use Rattle.pcef_table.specs.Sources.{IsKnown, name_of, rank_of}
 use Rattle.pcef_table.specs.Tables.{GoesBefore, IsTable, has_other_name, is_before, is_behind, is_slot, most_entries, placed, with_counting, without}
 use Rattle.pcef_table.proofs.Keeping.{filter_length, filters_apart}

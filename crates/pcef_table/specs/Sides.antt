@@ -3,7 +3,7 @@ use Rattle.std.specs.Prelude.{Bool, ◌&&◌, List}
 use Rattle.pcef_table.specs.declared.change.Side.{Side}
 use Rattle.pcef_table.specs.declared.change.Side.TheVariants.{Before, Behind}
 use Rattle.pcef_table.specs.declared.entry.Entry.{Entry}
-use Rattle.pcef_table.specs.declared.listing.Offer.{Offer}
+use Rattle.pcef_catalog.specs.declared.listing.Offer.{Offer}
 use Rattle.pcef_table.specs.Sources.{name_of}
 use Rattle.pcef_table.specs.Tables.{has_other_name, is_before, is_behind}
 

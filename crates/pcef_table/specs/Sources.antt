@@ -10,10 +10,10 @@ use Rattle.pcef_rule.specs.declared.rule.Origin.{Origin}
 use Rattle.pcef_rule.specs.declared.rule.Origin.TheVariants as origin
 use Rattle.pcef_rule.specs.declared.rule.Properties.{Properties}
 use Rattle.pcef_rule.specs.Precedence.{Rank, rank_by}
-use Rattle.pcef_table.specs.declared.listing.Offer.{Offer}
+use Rattle.pcef_catalog.specs.declared.listing.Offer.{Offer}
 use Rattle.pcef_table.specs.declared.entry.Source.{Source}
 use Rattle.pcef_table.specs.declared.entry.Source.TheVariants.{Dynamic, Predefined}
-use Rattle.pcef_table.specs.Shapes.{detected}
+use Rattle.pcef_catalog.specs.Shapes.{detected}
 
 -- a place of the catalog that is named is there
 abbrev pub IsKnown : List Offer → Source → Type 0

@@ -2,7 +2,7 @@
 use Rattle.std.specs.Prelude.{ℕ, ◌==◌, Bool, false, not, List, ◌∷◌, ◌++◌, Option, Some, None, All, AllPairs, filter, if◌then◌else◌, IsTrue}
 use Rattle.pcef_rule.specs.declared.quantity.Slot.{Slot}
 use Rattle.pcef_rule.specs.Precedence.{goes_before}
-use Rattle.pcef_table.specs.declared.listing.Offer.{Offer}
+use Rattle.pcef_catalog.specs.declared.listing.Offer.{Offer}
 use Rattle.pcef_table.specs.declared.entry.Entry.{Entry}
 use Rattle.pcef_table.specs.Sources.{IsKnown, is_named, name_of, rank_of}
 

@@ -1,9 +1,9 @@
 //! Small tables, whose verdicts were worked out by hand from TS 23.203, clause 6.2.2.2.
 ghost use Rattle.std.specs.Prelude.{IfOk, List};
-ghost use Rattle.pcef_table.specs.Catalogs.{offers_of};
+ghost use Rattle.pcef_catalog.specs.Catalogs.{offers_of};
 ghost use Rattle.pcef_table.specs.Sources.{IsKnown};
 ghost use Rattle.pcef_table.specs.Tables.{IsTable};
-ghost use Rattle.pcef_table.specs.declared.listing.Offer.{Offer};
+ghost use Rattle.pcef_catalog.specs.declared.listing.Offer.{Offer};
 
 use super::*;
 use arrayvec::ArrayVec;

@@ -1,14 +1,14 @@
 //! The loop over the lines of a script.
 
 ghost use Rattle.std.specs.Prelude.{◌≡◌, IfOk};
-ghost use Rattle.pcef_table.specs.Catalogs.{offers_of};
+ghost use Rattle.pcef_catalog.specs.Catalogs.{offers_of};
 
 use super::fault::ScriptFault;
 use super::input::Pending;
 use super::step::{Answer, answer_line, answer_too_long};
 use super::writing::put_all;
 use pcef_session::{OpenFault, Profile, WorldState};
-use pcef_table::{Catalog, Offers};
+use pcef_catalog::{Catalog, Offers};
 use std::alloc::{AllocError, Global};
 use std::io::{Read, Write};
 use std::sync::Arc;

@@ -2,7 +2,7 @@
 
 use super::run_script;
 use crate::profile::read_profile;
-use pcef_table::Catalog;
+use pcef_catalog::Catalog;
 use std::alloc::Global;
 use std::sync::Arc;
 use std::test::Fail;

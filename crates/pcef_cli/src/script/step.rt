@@ -10,7 +10,7 @@ use crate::answer::{
 use crate::line::{Line, LineFault, read_line};
 use pcef_journal::Command;
 use pcef_session::WorldState;
-use pcef_table::Offers;
+use pcef_catalog::Offers;
 use std::alloc::{AllocError, Global};
 use std::str;
 

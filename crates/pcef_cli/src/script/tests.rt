@@ -2,7 +2,7 @@
 use super::writing::put_all;
 use super::{ScriptFault, run_script};
 use crate::profile::read_profile;
-use pcef_table::Catalog;
+use pcef_catalog::Catalog;
 use std::alloc::Global;
 use std::io;
 use std::io::Write;

@@ -34,7 +34,7 @@ impl SessionState {
     fn offered(&self, name: &RuleName) -> Option<Coming>
         ensures { Brings (setting_in self.now) (option_map predefined (offer_named (setting_in self.now) name.now)) result }
     {
-        match index_of(&self.listing, name) {
+        match self.listing.index_of(name) {
             Some(index) => Some(Coming {
                 properties: self.listing.offers()[usize::from(index)].properties.copy(),
                 source: Source::Predefined(index),

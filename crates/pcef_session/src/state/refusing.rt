@@ -19,7 +19,7 @@ use crate::profile::Profile;
 use pcef_bearer::BindRefusal;
 use pcef_journal::Command;
 use pcef_rule::{KeyName, Properties, RuleName};
-use pcef_table::Listing;
+use pcef_catalog::Listing;
 use pcef_usage::{MAX_KEYS, Usage};
 
 /// How many commands a journal takes.
@@ -79,7 +79,7 @@ impl SessionState {
         finds_no_slot(self.counted.usage(), key)
     }
 
-    fn is_active(&self, name: &RuleName) -> bool
+    pub(super) fn is_active(&self, name: &RuleName) -> bool
         ensures { result ≡ is_active (setting_in self.now) self.now.journal name.now }
     {
         self.bearers.is_bound(name)
@@ -127,7 +127,7 @@ impl SessionState {
     fn activate_refusal(&self, name: &RuleName) -> Option<Refusal>
         ensures { result ≡ first_of ((is_none (offer_named (setting_in self.now) name.now), refusal.UnknownRule) ∷ (if is_active (setting_in self.now) self.now.journal name.now then [] else becoming_active_if (setting_in self.now) self.now.journal (offer_named (setting_in self.now) name.now))) }
     {
-        let Some(index) = index_of(&self.listing, name) else {
+        let Some(index) = self.listing.index_of(name) else {
             return Some(Refusal::UnknownRule);
         };
         if self.is_active(name) {

@@ -1,5 +1,5 @@
 use Rattle.std.proofs.Common.{◌≡◌}
-use Rattle.pcef_table.specs.Catalogs.{offers_of}
+use Rattle.pcef_catalog.specs.Catalogs.{offers_of}
 use Rattle.pcef_table.specs.Tables.{IsTable}
 use Rattle.pcef_bench.proofs.rules.table.Given as goal
 

@@ -1,6 +1,6 @@
 use Rattle.std.proofs.Common.{◌≡◌, drop, find}
 use Rattle.pcef_journal.specs.Setting.{same_name}
-use Rattle.pcef_table.specs.declared.listing.Offer.{Offer}
+use Rattle.pcef_catalog.specs.declared.listing.Offer.{Offer}
 use Rattle.pcef_replay.proofs.setting.offer_among.Given as goal
 
 abbrev pub invariant-loop-offer : goal.invariant-loop-offer

@@ -1,4 +1,4 @@
-use Rattle.pcef_table.specs.Catalogs.{offers_of}
+use Rattle.pcef_catalog.specs.Catalogs.{offers_of}
 use Rattle.pcef_table.specs.Tables.{IsTable}
 use Rattle.pcef_table.proofs.tests.table_of.Given as goal
 

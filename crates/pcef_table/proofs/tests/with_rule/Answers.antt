@@ -1,5 +1,5 @@
 use Rattle.std.proofs.Common.{ap, arith, length}
-use Rattle.pcef_table.specs.Catalogs.{offers_of}
+use Rattle.pcef_catalog.specs.Catalogs.{offers_of}
 use Rattle.pcef_table.specs.declared.entry.Entry.{Entry}
 use Rattle.pcef_table.proofs.Ordered.{has_room}
 use Rattle.pcef_table.proofs.tests.with_rule.Goals as goal

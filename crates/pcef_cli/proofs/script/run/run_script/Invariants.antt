@@ -1,5 +1,5 @@
 use Rattle.std.proofs.Common.{◌≡◌}
-use Rattle.pcef_table.specs.Catalogs.{offers_of}
+use Rattle.pcef_catalog.specs.Catalogs.{offers_of}
 use Rattle.pcef_cli.proofs.script.run.run_script.Given as goal
 
 abbrev pub invariant-blocks-2 : goal.invariant-blocks-2

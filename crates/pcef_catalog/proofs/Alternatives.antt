@@ -1,5 +1,5 @@
 -- A test of mapped values.
-use Rattle.std.proofs.Common.{◌≡◌, ap, refl, Bool, true, List, [], ◌∷◌, map}
+use Rattle.std.proofs.Common.{◌≡◌, ap, refl, Bool, List, [], ◌∷◌, map}
 use Rattle.std.specs.Prelude.{◌||◌}
 use Rattle.std.specs.List.{list_any}
 

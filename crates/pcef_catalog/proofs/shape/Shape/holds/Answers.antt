@@ -1,8 +1,8 @@
 use Rattle.std.proofs.Common.{◌∙◌, sym, ap}
 use Rattle.std.specs.List.{list_all, list_any}
-use Rattle.pcef_table.specs.Shapes.{test_holds}
-use Rattle.pcef_table.proofs.Alternatives.{list_any_map}
-use Rattle.pcef_table.proofs.shape.Shape.holds.Goals as goal
+use Rattle.pcef_catalog.specs.Shapes.{test_holds}
+use Rattle.pcef_catalog.proofs.Alternatives.{list_any_map}
+use Rattle.pcef_catalog.proofs.shape.Shape.holds.Goals as goal
 
 pub returns : goal.returns
 returns c =

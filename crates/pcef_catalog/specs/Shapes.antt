@@ -8,9 +8,9 @@ use Rattle.pcef_packet.specs.declared.header.Dir.TheVariants.{Up, Down}
 use Rattle.pcef_packet.specs.declared.header.Header.{Header}
 use Rattle.pcef_packet.specs.declared.header.Ports.{Ports}
 use Rattle.pcef_packet.specs.Addresses.{agrees_in, remote_side, same_dir}
-use Rattle.pcef_table.specs.declared.listing.Offer.{Offer}
-use Rattle.pcef_table.specs.declared.shape.Test.{Test}
-use Rattle.pcef_table.specs.declared.shape.Test.TheVariants.{Proto, Dscp, RemotePort, LocalPort, RemoteIn, OctetsAtMost, Going}
+use Rattle.pcef_catalog.specs.declared.listing.Offer.{Offer}
+use Rattle.pcef_catalog.specs.declared.shape.Test.{Test}
+use Rattle.pcef_catalog.specs.declared.shape.Test.TheVariants.{Proto, Dscp, RemotePort, LocalPort, RemoteIn, OctetsAtMost, Going}
 
 -- the local side is that of the user equipment
 abbrev pub local_port : Dir → Ports → ℕ

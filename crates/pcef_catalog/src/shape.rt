@@ -1,9 +1,9 @@
 //! Shapes: what a predefined rule detects.
 
-ghost use Rattle.std.specs.Prelude.{◌≡◌, map};
+ghost use Rattle.std.specs.Prelude.{◌≡◌, ◌≤◌, length, map};
 ghost use Rattle.std.specs.List.{list_all, list_any};
 ghost use Rattle.pcef_packet.specs.Addresses.{remote_side};
-ghost use Rattle.pcef_table.specs.Shapes.{local_port, port_between, remote_port, shape_holds, test_holds};
+ghost use Rattle.pcef_catalog.specs.Shapes.{local_port, port_between, remote_port, shape_holds, test_holds};
 
 use arrayvec::ArrayVec;
 use pcef_filter::Net;
@@ -46,6 +46,17 @@ pub struct Alternative {
     pub tests: ArrayVec<Test, 8>,
 }
 
+impl Alternative {
+    /// Another one that is equal. Takes no memory.
+    fn copy(&self) -> Alternative
+        ensures { result ≡ self.now }
+    {
+        Alternative {
+            tests: copy_tests(&self.tests),
+        }
+    }
+}
+
 /// At most 8 alternatives, of which one is to be true. With none, the shape never holds.
 #[derive(Debug, Drop)]
 pub struct Shape {
@@ -54,7 +65,7 @@ pub struct Shape {
 
 impl Model for Shape {
     ghost use Rattle.std.specs.Prelude.{List, map};
-    ghost use Rattle.pcef_table.specs.declared.shape.Test.{Test};
+    ghost use Rattle.pcef_catalog.specs.declared.shape.Test.{Test};
 
     ghost Value = { List (List Test) };
 
@@ -69,12 +80,43 @@ impl Shape {
         Shape { alternatives }
     }
 
+    /// Another one that is equal. Takes no memory.
+    pub fn copy(&self) -> Shape
+        ensures { result ≡ self.now }
+    {
+        Shape {
+            alternatives: copy_alternatives(&self.alternatives),
+        }
+    }
+
     /// Whether all tests of some alternative are true of a header.
     pub fn holds(&self, header: &Header) -> bool
         ensures { result ≡ shape_holds self.now header.now }
     {
         any_holds(self.alternatives.as_slice(), header)
     }
+}
+
+fn copy_tests(tests: &[Test]) -> ArrayVec<Test, 8>
+    requires { length tests.now ≤ 8 }
+    ensures { result.items ≡ tests.now }
+{
+    let mut copy = ArrayVec::new();
+    for test in tests {
+        copy.push(*test);
+    }
+    copy
+}
+
+fn copy_alternatives(alternatives: &[Alternative]) -> ArrayVec<Alternative, 8>
+    requires { length alternatives.now ≤ 8 }
+    ensures { result.items ≡ alternatives.now }
+{
+    let mut copy = ArrayVec::new();
+    for alternative in alternatives {
+        copy.push(alternative.copy());
+    }
+    copy
 }
 
 fn any_holds(alternatives: &[Alternative], header: &Header) -> bool

@@ -1,0 +1,4 @@
+pub mod Catalogs
+pub mod Offers
+pub mod PlainRules
+pub mod Shapes

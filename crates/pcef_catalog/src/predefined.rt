@@ -1,0 +1,59 @@
+//! Predefined rules.
+
+ghost use Rattle.std.specs.Prelude.{◌≡◌, Bool};
+ghost use Rattle.pcef_catalog.specs.Shapes.{shape_holds};
+
+use crate::shape::Shape;
+use pcef_packet::Header;
+use pcef_rule::Properties;
+
+/// Answers whether a packet is of a rule's traffic.
+pub type Detect = Box<dyn Fn(&Header) -> bool + Send + Sync>;
+
+/// A rule that stands in the catalog, with the closure that detects its packets (TS 23.203, clause 6.2.2.2).
+#[derive(Drop)]
+pub struct Predefined {
+    properties: Properties,
+    shape: Shape,
+    detect: Detect,
+    ghost callable: { Detect.IsAlwaysCallable detect },
+    ghost exact: { (at : _) (r : Bool) → Detect.post detect at r → r ≡ shape_holds shape at.now },
+}
+
+impl Predefined {
+    /// The rule of these parts. It is the caller's condition that the closure may be called on every
+    /// header, and answers yes exactly where the shape holds. Takes no memory.
+    pub fn new(properties: Properties, shape: Shape, detect: Detect) -> Predefined
+        requires callable { Detect.IsAlwaysCallable detect }
+        requires exact { (at : _) (r : Bool) → Detect.post detect at r → r ≡ shape_holds shape at.now }
+        ensures properties { result.properties ≡ properties }
+        ensures shape { result.shape ≡ shape }
+    {
+        Predefined {
+            properties,
+            shape,
+            detect,
+        }
+    }
+
+    /// Calls the closure.
+    pub fn detects(&self, header: &Header) -> bool
+        ensures { result ≡ shape_holds self.now.shape header.now }
+    {
+        (self.detect)(header)
+    }
+
+    /// The properties.
+    pub fn properties(&self) -> &Properties
+        ensures { result.now ≡ self.now.properties }
+    {
+        &self.properties
+    }
+
+    /// The shape that the closure answers by.
+    pub fn shape(&self) -> &Shape
+        ensures { result.now ≡ self.now.shape }
+    {
+        &self.shape
+    }
+}
