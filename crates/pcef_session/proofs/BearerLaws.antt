@@ -1,5 +1,5 @@
 -- What a session's bearers are, rule by rule.
-use Rattle.std.proofs.Common.{◌≡◌, ◌∙◌, ℕ, Bool, true, false, List, [], ◌∷◌, refl, sym, ap, arith, inl, inr, filter, Contains, Some, None, ◌==◌}
+use Rattle.std.proofs.Common.{◌≡◌, ◌∙◌, ℕ, Bool, true, false, List, [], ◌∷◌, refl, sym, ap, arith, inl, inr, filter, Contains, Some, None, find, ◌==◌}
 use Rattle.std.specs.Prelude.{if◌then◌else◌}
 use Rattle.std.specs.List.{list_any}
 use Rattle.std.proofs.lemmas.Bool.{cases_Bool}
@@ -11,6 +11,7 @@ use Rattle.pcef_journal.specs.Generations.{Generation}
 use Rattle.pcef_journal.specs.Entries.{Journal}
 use Rattle.pcef_journal.specs.Journals.{now, tables}
 use Rattle.pcef_session.specs.Agreement.{Agrees, Parts}
+use Rattle.pcef_session.specs.Answers.{bearer_of as told_bearer}
 use Rattle.pcef_session.specs.Bound.{bound_of}
 use Rattle.pcef_session.specs.Refusals.{total_down, total_up}
 use Rattle.pcef_session.proofs.BoundBearers.{total_down_bound, total_up_bound}
@@ -35,6 +36,15 @@ found_bearer g (x ∷ rules) r once there =
             (any_from (is_named x.properties.name) rules r later (same_name_of r.properties.name x.properties.name (sym (same_name_is x.properties.name r.properties.name named)))) once.0
         | inr differs ↦ rw differs (found_bearer g rules r once.1 later)
       ]
+    ]
+
+-- the bearer of a name is that of the rule of the name
+pub bearer_bound : (name : List ℕ) (g : Generation) (rules : List Active) → bearer_of name (bound_of g rules) ≡ told_bearer g (find (is_named name) rules)
+bearer_bound name g [] = refl
+bearer_bound name g (r ∷ rules) =
+    elim (cases_Bool (is_named name r)) [
+      | inl is ↦ rw is refl
+      | inr isnt ↦ rw isnt (bearer_bound name g rules)
     ]
 
 pub stands_on : (p : Setting) (j : Journal) (parts : Parts) → Agrees p j parts → (r : Active) → Contains (now p j).rules r →

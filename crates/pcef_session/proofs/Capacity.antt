@@ -1,6 +1,6 @@
 -- In every lawful journal the guaranteed rates of the active rules are within the capacity.
-use Rattle.std.proofs.Common.{◌≡◌, ◌≤◌, ◌+◌, Bool, true, false, not, ◌&&◌, List, [], ◌∷◌, ◌++◌, length, sym, ap, subst, arith, inl, inr, filter, Some, None, nat_lt, ◌==◌}
-use Rattle.std.specs.Prelude.{Option, is_none, is_some, nat_le}
+use Rattle.std.proofs.Common.{◌≡◌, ◌≤◌, ◌+◌, Bool, true, false, not, ◌&&◌, List, [], ◌∷◌, ◌++◌, sym, ap, subst, arith, inl, inr, filter, Some, None, nat_lt, ◌==◌}
+use Rattle.std.specs.Prelude.{Option, is_none, is_some}
 use Rattle.std.specs.List.{list_any}
 use Rattle.std.proofs.lemmas.Bool.{cases_Bool, ltb-false}
 use Rattle.pcef_rule.specs.declared.rule.Properties.{Properties}
@@ -19,7 +19,7 @@ use Rattle.pcef_session.specs.declared.answer.Refusal.{Refusal}
 use Rattle.pcef_session.specs.declared.answer.Refusal.TheVariants as refusal
 use Rattle.pcef_session.specs.Answers.{changes}
 use Rattle.pcef_session.specs.Lawful.{Lawful, at_first, by_attach, by_command, by_flush, by_leave}
-use Rattle.pcef_session.specs.Refusals.{Conditions, becoming_active, becoming_active_if, bindings, common_refusals, finds_no_bearer, finds_no_slot, first_of, is_active, is_gbr, is_non_gbr, rate_down, rate_up, refusals, total_down, total_up}
+use Rattle.pcef_session.specs.Refusals.{Conditions, becoming_active_if, bindings, common_refusals, finds_no_bearer, first_of, is_active, is_gbr, is_non_gbr, rate_down, rate_up, refusals, total_down, total_up}
 use Rattle.pcef_session.proofs.Acceptance.{can_become, condition_none, conditions_none, install_accepted}
 use Rattle.pcef_session.proofs.BoundRules.{NamesOnce, same_name_is, without_none}
 use Rattle.pcef_session.proofs.ShownVerdicts.{made_once}

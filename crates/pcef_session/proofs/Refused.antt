@@ -1,13 +1,15 @@
 -- What the refusals of commands come to in a journal that nothing ended.
 use Rattle.std.proofs.Common.{◌≡◌, ◌∙◌, ◌≤◌, ◌<◌, ℕ, Bool, true, false, not, ◌&&◌, List, [], ◌∷◌, ◌++◌, length, refl, sym, ap, arith, Some, None, nat_le, true≢false, inl, inr}
-use Rattle.std.specs.Prelude.{Option, find, is_some}
+use Rattle.std.specs.Prelude.{Option, find, is_none, is_some, if◌then◌else◌}
 use Rattle.std.specs.List.{list_any}
+use Rattle.std.specs.Option.{option_map}
 use Rattle.std.proofs.lemmas.Bool.{cases_Bool, le-leb, lt-leb}
 use Rattle.pcef_rule.specs.declared.rule.Properties.{Properties}
+use Rattle.pcef_catalog.specs.declared.listing.Offer.{Offer}
 use Rattle.pcef_journal.specs.declared.command.Command.TheVariants.{Install, Activate, Remove, Monitor, Stop, ReportNow, Triggers, Notice, LoseBearer, Close, Terminate}
 use Rattle.pcef_journal.specs.declared.entry.Entry.TheVariants as entry
 use Rattle.pcef_journal.specs.Setting.{Setting, offer_named, same_name}
-use Rattle.pcef_journal.specs.ActiveRules.{without}
+use Rattle.pcef_journal.specs.ActiveRules.{predefined, without}
 use Rattle.pcef_journal.specs.Generations.{is_among}
 use Rattle.pcef_journal.specs.Entries.{Journal, commands}
 use Rattle.pcef_journal.specs.Journals.{now, slots}
@@ -15,8 +17,10 @@ use Rattle.pcef_usage.specs.declared.usage.KeyState.{KeyState}
 use Rattle.pcef_usage.specs.Keys.{finds_no_slot as slotless, keys_of}
 use Rattle.pcef_usage.proofs.Monitors.{finds_no_slot_is}
 use Rattle.pcef_session.specs.declared.answer.Refusal.{Refusal}
-use Rattle.pcef_session.specs.declared.answer.Refusal.TheVariants.{CommandsFull, RulesFull, KeysFull}
-use Rattle.pcef_session.specs.Refusals.{Conditions, becoming_active, bindings, common_refusals, finds_no_slot, first_of, is_active, limited_count, was_closed, was_terminated}
+use Rattle.pcef_session.specs.declared.answer.Refusal.TheVariants.{CommandsFull, RulesFull, KeysFull, UnknownRule}
+use Rattle.pcef_session.specs.Refusals.{Conditions, becoming_active, becoming_active_if, bindings, common_refusals, finds_no_slot, first_of, is_active, limited_count, was_closed, was_terminated}
+use Rattle.pcef_session.specs.declared.prepared.Coming.{Coming}
+use Rattle.pcef_session.specs.Changes.{Brings}
 use Rattle.pcef_session.specs.Soundness.{IsPlain}
 
 -- ---- conditions one after the other
@@ -90,3 +94,30 @@ becoming_slotless p j rule place lacks = rw (← place, ← lacks) refl
 pub becoming_bound : (p : Setting) (j : Journal) (rule : Properties) (o : Option Refusal) → false ≡ (not (is_active p j rule.name) && nat_le p.most_rules (length (now p j).rules)) →
     false ≡ finds_no_slot p j rule.key → o ≡ first_of (bindings p (now p j) rule (without rule.name (now p j).rules)) → o ≡ first_of (becoming_active p j rule)
 becoming_bound p j rule o place has is = is ∙ rw (← place, ← has) refl
+
+-- ---- Activate
+abbrev activations : Setting → Journal → List ℕ → Option Offer → Conditions Refusal
+activations p j name o = (is_none o, UnknownRule) ∷ (if is_active p j name then [] else becoming_active_if p j o)
+
+pub activate_unknown : (p : Setting) (j : Journal) (name : List ℕ) → Brings p (option_map predefined (offer_named p name)) None → Some UnknownRule ≡ first_of (activations p j name (offer_named p name))
+activate_unknown p j name brings = from (offer_named p name) brings
+  where
+    from : (o : Option Offer) → Brings p (option_map predefined o) None → Some UnknownRule ≡ first_of (activations p j name o)
+    from None brings = refl
+    from (Some o) brings = absurd brings
+
+pub activate_again : (p : Setting) (j : Journal) (name : List ℕ) (x : Coming) → Brings p (option_map predefined (offer_named p name)) (Some x) → is_active p j name ≡ true →
+    None ≡ first_of (activations p j name (offer_named p name))
+activate_again p j name x brings is = from (offer_named p name) brings
+  where
+    from : (o : Option Offer) → Brings p (option_map predefined o) (Some x) → None ≡ first_of (activations p j name o)
+    from None brings = absurd brings
+    from (Some o) brings = rw is refl
+
+pub activate_new : (p : Setting) (j : Journal) (name : List ℕ) (x : Coming) (r : Option Refusal) → Brings p (option_map predefined (offer_named p name)) (Some x) → is_active p j name ≡ false →
+    r ≡ first_of (becoming_active p j x.properties) → r ≡ first_of (activations p j name (offer_named p name))
+activate_new p j name x r brings isnt is = from (offer_named p name) brings
+  where
+    from : (o : Option Offer) → Brings p (option_map predefined o) (Some x) → r ≡ first_of (activations p j name o)
+    from None brings = absurd brings
+    from (Some o) brings = rw isnt (is ∙ ap (λ (q : Properties). first_of (becoming_active p j q)) brings.properties_are)

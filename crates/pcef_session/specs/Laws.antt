@@ -11,11 +11,12 @@ use Rattle.pcef_table.specs.declared.entry.Entry.{Entry}
 use Rattle.pcef_table.specs.Tables.{IsTable, TableValue, placed, with_counting, without}
 use Rattle.pcef_table.specs.Verdicts.{IsVerdict, slot_for}
 use Rattle.pcef_journal.specs.declared.command.Command.{Command}
-use Rattle.pcef_journal.specs.declared.command.Command.TheVariants.{Install, Monitor, Remove}
+use Rattle.pcef_journal.specs.declared.command.Command.TheVariants.{Activate, Install, Monitor, Remove}
 use Rattle.pcef_journal.specs.declared.entry.Entry.TheVariants as entry
 use Rattle.pcef_journal.specs.declared.row.Row.{Row}
-use Rattle.pcef_journal.specs.ActiveRules.{Active, dynamic}
-use Rattle.pcef_journal.specs.Setting.{Setting, same_qos}
+use Rattle.pcef_journal.specs.ActiveRules.{Active, dynamic, predefined}
+use Rattle.pcef_catalog.specs.declared.listing.Offer.{Offer}
+use Rattle.pcef_journal.specs.Setting.{Setting, offer_named, same_qos}
 use Rattle.pcef_journal.specs.Generations.{has_bearer}
 use Rattle.pcef_journal.specs.Entries.{Journal}
 use Rattle.pcef_journal.specs.Journals.{at, counted, counts_in, gen, judged, now, reported, slots, unreported}

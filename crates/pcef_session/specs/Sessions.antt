@@ -2,5 +2,5 @@
 use Rattle.pcef_session.specs.Core.{Core}
 use Rattle.pcef_session.specs.declared.session.Session.{Session}
 
-abbrev pub state_of : Session → Core
+abbrev pub state_of : {d h g : _} → Session d h g → Core
 state_of s = s.state

@@ -30,7 +30,7 @@ pub(crate) fn rule_key(rule: Option<&Coming>) -> Option<KeyName>
 
 /// Gives the key that a command names a slot, and switches on that of a Monitor.
 fn enter_key(counted: &mut CountedJournal, command: &Command, of_rule: Option<&KeyName>)
-    requires { finds_no_slot (key_of (option_copied of_rule.entry) command.now) counted.old.states ≡ false }
+    requires { finds_no_slot (key_of (option_copied of_rule) command.now) counted.old.states ≡ false }
     ensures journal { counted.new.journal ≡ counted.old.journal }
     ensures states { counted.new.states ≡ entered_by (option_copied of_rule.entry) command.now counted.old.states }
     ensures room { counted.new.room ≡ counted.old.room }

@@ -1,6 +1,6 @@
 //! Laws of lawful journals, proved for whoever reads the definitions.
 
-ghost use Rattle.pcef_session.specs.Laws.{InstalledTablesShow, MonitoredTablesShow, RemovedTablesShow, SlotsStay, RatesAreSums, RatesAreWithinCapacity, RulesStandOnTheirBearers, WaitingRowsStay, WaitingRowsStayBesideOthers, IdsAreDistinct, IdsAreInRange, NothingIsLost, NothingIsReportedTwice, ShownTablesCount, ShownTablesJudge, ShownTablesStay};
+ghost use Rattle.pcef_session.specs.Laws.{ActivatedTablesShow, InstalledTablesShow, MonitoredTablesShow, RemovedTablesShow, SlotsStay, RatesAreSums, RatesAreWithinCapacity, RulesStandOnTheirBearers, WaitingRowsStay, WaitingRowsStayBesideOthers, IdsAreDistinct, IdsAreInRange, NothingIsLost, NothingIsReportedTwice, ShownTablesCount, ShownTablesJudge, ShownTablesStay};
 
 /// What usage reports tell: each counted octet once at most, and none is lost.
 pub fn usage_is_exact()
@@ -25,6 +25,7 @@ pub fn shown_tables_judge()
 /// The table that Install, Remove or Monitor makes of one that shows the newest generation shows the next.
 pub fn tables_follow_commands()
     ensures installed { InstalledTablesShow }
+    ensures activated { ActivatedTablesShow }
     ensures removed { RemovedTablesShow }
     ensures monitored { MonitoredTablesShow }
 {}

@@ -31,7 +31,7 @@ pub struct Session {
 impl Session {
     ghost use Rattle.pcef_session.specs.Agreement.{Agrees};
     ghost use Rattle.pcef_session.specs.Answers.{Attaches, Does, Flushes, Gives, IsRefused, Opens, command_outcome, told_of};
-    ghost use Rattle.pcef_session.specs.Core.{IsPreparedFor, IsServed, setting_in};
+    ghost use Rattle.pcef_session.specs.Core.{IsPreparedFor, IsServed, command_of, setting_in};
     ghost use Rattle.pcef_session.specs.Following.{HasItsSlots, row_of};
     ghost use Rattle.pcef_session.specs.Lawful.{BatchFollows};
     ghost use Rattle.pcef_session.specs.Sessions.{state_of};
@@ -62,7 +62,7 @@ impl Session {
         ensures parts { (state_of self.new).parts ≡ (state_of self.old).parts }
         ensures refused { IfErr result (IsRefused (setting_in (state_of self.old)) (state_of self.old).journal command) }
         ensures ready { IfOk result (λ d. IsPreparedFor (state_of self.new) d) }
-        ensures command { IfOk result (λ d. d.command ≡ command) }
+        ensures command { IfOk result (λ d. command_of d ≡ command) }
     {
         self.state.prepare(command)
     }
@@ -70,7 +70,7 @@ impl Session {
     /// As [`SessionState::settle`].
     pub fn settle(&mut self, prepared: Prepared) -> Accepted
         requires { IsPreparedFor (state_of self.old) prepared }
-        ensures answer { Gives (command_outcome (setting_in (state_of self.old)) (state_of self.old).journal prepared.command) (Ok result) (state_of self.new).journal }
+        ensures answer { Gives (command_outcome (setting_in (state_of self.old)) (state_of self.old).journal (command_of prepared)) (Ok result) (state_of self.new).journal }
         ensures terms { (state_of self.new).terms ≡ (state_of self.old).terms }
         ensures offers { (state_of self.new).offers ≡ (state_of self.old).offers }
     {

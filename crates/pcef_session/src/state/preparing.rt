@@ -11,6 +11,7 @@ ghost use Rattle.pcef_journal.specs.Reports.{plan};
 ghost use Rattle.pcef_journal.specs.Setting.{offer_named};
 ghost use Rattle.pcef_table.specs.Sources.{properties_of};
 ghost use Rattle.pcef_usage.specs.Commands.{usage_of};
+ghost use Rattle.pcef_session.specs.Agreement.{Agrees};
 ghost use Rattle.pcef_session.specs.Answers.{IsRefused, changes};
 ghost use Rattle.pcef_session.specs.Changes.{Brings, IsMadeActive, IsOf, MakesActive, becoming};
 ghost use Rattle.pcef_session.specs.Core.{IsBeside, IsEntryOf, IsPreparedFor, IsReady, IsServed, command_of, setting_in, with_command};
@@ -31,7 +32,7 @@ use std::sync::Arc;
 
 impl SessionState {
     /// The predefined rule of a name, if there is one.
-    fn offered(&self, name: &RuleName) -> Option<Coming>
+    pub(super) fn offered(&self, name: &RuleName) -> Option<Coming>
         ensures { Brings (setting_in self.now) (option_map predefined (offer_named (setting_in self.now) name.now)) result }
     {
         match self.listing.index_of(name) {
@@ -122,7 +123,7 @@ impl SessionState {
         requires served { IsServed command.now }
         requires accepted { first_of (refusals (setting_in self.now) self.now.journal command.now) ≡ None }
         requires changing { changes (setting_in self.now) self.now.journal command.now ≡ true }
-        requires brings { Brings (setting_in self.now) (becoming (setting_in self.now) command.now) (option_copied rule.entry) }
+        requires brings { Brings (setting_in self.now) (becoming (setting_in self.now) command.now) (option_copied rule) }
         ensures { IfOk result (λ t. Shows (setting_in self.now) (with_command command.now self.now.journal) (gen (with_command command.now self.now.journal)) t) }
     {
         match rule {
@@ -133,7 +134,8 @@ impl SessionState {
 
     /// The reports of the keys that lose their last rule where a rule goes and one with this key comes.
     fn keys_gone(&self, name: &RuleName, new: Option<&KeyName>) -> Result<Vec<Telling>, AllocError>
-        ensures { IfOk result (λ v. v.items ≡ usage_of cause.RulesGone (is_gone self.now.offers self.now.parts.table.entries name.now (option_copied new.entry)) self.now.parts.keys) }
+        ensures gone { IfOk result (λ v. v.items ≡ usage_of cause.RulesGone (is_gone self.now.offers self.now.parts.table.entries name.now (option_copied new.entry)) self.now.parts.keys) }
+        ensures agrees { Agrees (setting_in self.now) self.now.journal self.now.parts }
     {
         keys_gone(
             self.alloc,
@@ -161,7 +163,7 @@ impl SessionState {
     fn tellings_of(&self, command: &Command, rule: Option<&Coming>) -> Result<Vec<Telling>, AllocError>
         requires served { IsServed command.now }
         requires accepted { first_of (refusals (setting_in self.now) self.now.journal command.now) ≡ None }
-        requires brings { Brings (setting_in self.now) (becoming (setting_in self.now) command.now) (option_copied rule.entry) }
+        requires brings { Brings (setting_in self.now) (becoming (setting_in self.now) command.now) (option_copied rule) }
         ensures { IfOk result (λ v. v.items ≡ plan (setting_in self.now) self.now.journal command.now) }
     {
         match rule {

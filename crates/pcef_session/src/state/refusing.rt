@@ -127,13 +127,13 @@ impl SessionState {
     fn activate_refusal(&self, name: &RuleName) -> Option<Refusal>
         ensures { result ≡ first_of ((is_none (offer_named (setting_in self.now) name.now), refusal.UnknownRule) ∷ (if is_active (setting_in self.now) self.now.journal name.now then [] else becoming_active_if (setting_in self.now) self.now.journal (offer_named (setting_in self.now) name.now))) }
     {
-        let Some(index) = self.listing.index_of(name) else {
+        let Some(rule) = self.offered(name) else {
             return Some(Refusal::UnknownRule);
         };
         if self.is_active(name) {
             return None;
         }
-        self.becoming_active(&self.listing.offers()[usize::from(index)].properties)
+        self.becoming_active(&rule.properties)
     }
 
     fn remove_refusal(&self, name: &RuleName) -> Option<Refusal>
