@@ -4,6 +4,7 @@ pub mod DeclaredKinds
 pub mod Digits
 pub mod FilterLists
 pub mod KeptLines
+pub mod ListReadings
 pub mod NameTests
 pub mod NoFloats
 pub mod Objects
