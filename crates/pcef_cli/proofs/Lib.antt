@@ -1,9 +1,11 @@
 pub mod AnswerTexts
+pub mod Declarations
+pub mod DeclaredKinds
 pub mod Digits
 pub mod FilterLists
 pub mod KeptLines
+pub mod ListReadings
 pub mod NameTests
 pub mod NoFloats
 pub mod Objects
-pub mod StandardKinds
 pub mod Tables

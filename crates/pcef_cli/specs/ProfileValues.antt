@@ -1,7 +1,10 @@
 -- The values of a profile. Each that has a wrong kind or is out of range is `BadValue` (own choice).
-use Rattle.std.specs.Prelude.{ℕ, ℤ, pos, negsuc, List, Bool, Option, Some, None, option_and_then, Result, Ok}
-use Rattle.toml.specs.Data.{Data, Members, get_member, as_str, as_integer, as_bool, as_table}
+use Rattle.std.specs.Prelude.{ℕ, ℤ, pos, negsuc, List, [], ◌∷◌, codes, Bool, Option, Some, None, option_and_then, Result, Ok, if◌then◌else◌}
+use Rattle.std.specs.Str.{bytes_eq}
+use Rattle.toml.specs.Data.{Data, Items, no_items, item, Members, get_member, as_str, as_integer, as_bool, as_array, as_table}
 use Rattle.pcef_packet.specs.declared.header.Addr.{Addr}
+use Rattle.pcef_rule.specs.declared.qci.Kind.{Kind}
+use Rattle.pcef_rule.specs.declared.qci.Kind.TheVariants.{Gbr, NonGbr}
 use Rattle.pcef_rule.specs.declared.quantity.Qos.{Qos}
 use Rattle.pcef_rule.specs.declared.quantity.Sums.{Sums}
 use Rattle.pcef_cli.specs.declared.profile.fault.ReadProfileFault.{ReadProfileFault}
@@ -64,3 +67,35 @@ capacity_at name most ms = do
   up ← number_at key.Up 0 most inner
   down ← number_at key.Down 0 most inner
   Ok (record { up = up; down = down })
+
+-- TS 23.203, table 6.1.7
+abbrev pub kind_of : List ℕ → Option Kind
+kind_of text =
+    if bytes_eq text (codes "GBR") then Some Gbr
+    else if bytes_eq text (codes "NON-GBR") then Some NonGbr
+    else None
+
+unfoldable pub kind_at : Key → Members → Result Kind ReadProfileFault
+kind_at name ms = do
+  text ← text_at name ms
+  or_fault BadValue (kind_of text)
+
+-- a QCI and the kind that is declared for it
+unfoldable pub declaration_of : Data → Result (ℕ × Kind) ReadProfileFault
+declaration_of d = do
+  inner ← or_fault BadValue (as_table d)
+  qci ← number_at key.Qci 0 255 inner
+  kind ← kind_at key.Kind inner
+  Ok (qci, kind)
+
+abbrev pub declarations_of : Items → Result (List (ℕ × Kind)) ReadProfileFault
+declarations_of no_items = Ok []
+declarations_of (item d ds) = declaration_of d >>= λ first. declarations_of ds >>= λ others. Ok (first ∷ others)
+
+-- none where there is no such array
+abbrev pub declarations_there : Option Data → Result (List (ℕ × Kind)) ReadProfileFault
+declarations_there None = Ok []
+declarations_there (Some d) = or_fault BadValue (as_array d) >>= declarations_of
+
+unfoldable pub declarations_at : Key → Members → Result (List (ℕ × Kind)) ReadProfileFault
+declarations_at name ms = declarations_there (get_member (key_text name) ms)

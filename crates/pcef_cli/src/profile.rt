@@ -11,4 +11,6 @@ pub use fault::ReadProfileFault;
 pub use reading::read_profile;
 
 #[cfg(test)]
+mod declared_tests;
+#[cfg(test)]
 mod tests;

@@ -2,7 +2,9 @@
 
 ghost use Rattle.std.specs.Prelude.{◌≡◌};
 ghost use Rattle.pcef_cli.specs.ProfileOf.{fault_number};
+ghost use Rattle.pcef_cli.specs.declared.profile.fault.ReadProfileFault.TheVariants.{NoMemory};
 
+use std::alloc::AllocFailed;
 use thiserror::Error;
 
 /// Why a profile can't be read. Of several faults the first in this order is answered, wherever in the
@@ -30,6 +32,14 @@ pub enum ReadProfileFault {
     /// There is no memory left.
     #[error("there is no memory left")]
     NoMemory,
+}
+
+impl<T: Drop> From<AllocFailed<T>> for ReadProfileFault {
+    ghost from_gives = { λ _ fault. fault ≡ NoMemory };
+
+    fn from(_refused: AllocFailed<T>) -> ReadProfileFault {
+        ReadProfileFault::NoMemory
+    }
 }
 
 impl ReadProfileFault {

@@ -11,12 +11,14 @@ pub enum Key {
     Commands,
     Default,
     Capacity,
+    Declared,
     Qci,
     Level,
     Capability,
     Vulnerability,
     Up,
     Down,
+    Kind,
 }
 
 impl Key {
@@ -30,12 +32,14 @@ impl Key {
             Key::Commands => "commands",
             Key::Default => "default",
             Key::Capacity => "capacity",
+            Key::Declared => "declared",
             Key::Qci => "qci",
             Key::Level => "level",
             Key::Capability => "capability",
             Key::Vulnerability => "vulnerability",
             Key::Up => "up",
             Key::Down => "down",
+            Key::Kind => "kind",
         }
     }
 }

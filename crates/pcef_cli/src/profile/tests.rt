@@ -74,10 +74,6 @@ fn faults_of_profiles(rt: HostRuntime) {
             "ue = \"10.0.0.2\"\nrows = 1000\ncommands = 1000\n\n[default]\nqci = 9\nlevel = 8\ncapability = false\nvulnerability = true\n\n[capacity]\nleft = 1000000\ndown = 2000000\n",
             ReadProfileFault::UnknownKey,
         ),
-        (
-            "ue = \"10.0.0.2\"\nrows = 1000\ncommands = 1000\n\n[default]\nqci = 9\nlevel = 8\ncapability = false\nvulnerability = true\n\n[capacity]\nup = 1000000\ndown = 2000000\n[[declared]]\nqci = 10\nkind = \"GBR\"\n",
-            ReadProfileFault::UnknownKey,
-        ),
         ("x = 1\n", ReadProfileFault::UnknownKey),
         (
             "ue = \"10.0.0.2\"\ncommands = 1000\n\n[default]\nqci = \"9\"\nlevel = 8\ncapability = false\nvulnerability = true\n\n[capacity]\nup = 1000000\ndown = 2000000\n",

@@ -1,15 +1,16 @@
 //! The values of a profile.
 
 ghost use Rattle.std.specs.Prelude.{◌≡◌, ◌≤◌, IfOk};
-ghost use Rattle.toml.specs.View.{view, table_view};
-ghost use Rattle.pcef_cli.specs.ProfileValues.{Gives, value_at, number_at, flag_at, table_at, text_at, address_at, qos_at, capacity_at};
+ghost use Rattle.toml.specs.View.{view, table_view, items_view};
+ghost use Rattle.pcef_cli.specs.ProfileValues.{Gives, value_at, number_at, flag_at, table_at, text_at, address_at, qos_at, capacity_at, kind_of, kind_at, declaration_of, declarations_of, declarations_at};
 
 use super::address::address;
 use super::fault::ReadProfileFault;
 use super::key::Key;
 use super::shape::entry;
 use pcef_packet::Addr;
-use pcef_rule::{Arp, Qci, Qos, Sums};
+use pcef_rule::{Arp, Kind, Qci, Qos, Sums};
+use std::alloc::Global;
 use toml::{Table, Value};
 
 /// The value of a key.
@@ -116,4 +117,64 @@ pub(crate) fn capacity_at(table: &Table, key: Key, most: u64) -> Result<Sums, Re
     let up = number_at(inner, Key::Up, 0, most)?;
     let down = number_at(inner, Key::Down, 0, most)?;
     Ok(Sums { up, down })
+}
+
+fn kind_of(text: &str) -> Option<Kind>
+    ensures { result ≡ kind_of text.now }
+{
+    match text {
+        "GBR" => Some(Kind::Gbr),
+        "NON-GBR" => Some(Kind::NonGbr),
+        _ => None,
+    }
+}
+
+#[tactic(auto, unfolding(crate::specs::ProfileValues::kind_at))]
+fn kind_at(table: &Table, key: Key) -> Result<Kind, ReadProfileFault>
+    ensures { Gives (λ k. k) result (kind_at key (table_view table.now)) }
+{
+    match kind_of(text_at(table, key)?) {
+        Some(kind) => Ok(kind),
+        None => Err(ReadProfileFault::BadValue),
+    }
+}
+
+#[tactic(auto, unfolding(crate::specs::ProfileValues::declaration_of))]
+fn declaration(value: &Value) -> Result<(u8, Kind), ReadProfileFault>
+    ensures { Gives (λ d. d) result (declaration_of (view value.now)) }
+{
+    let Some(inner) = value.as_table() else {
+        return Err(ReadProfileFault::BadValue);
+    };
+    let qci = number_at(inner, Key::Qci, 0, 255)? as u8;
+    let kind = kind_at(inner, Key::Kind)?;
+    Ok((qci, kind))
+}
+
+fn declarations(alloc: Global, values: &[Value]) -> Result<Vec<(u8, Kind)>, ReadProfileFault>
+    ensures { Gives (λ ds. ds.items) result (declarations_of (items_view values.now)) }
+{
+    let mut declared = Vec::new(alloc);
+    for value in values {
+        declared.push(declaration(value)?)?;
+    }
+    Ok(declared)
+}
+
+/// The QCIs that the array at a key declares, each with its kind. Without that array there are none.
+#[tactic(auto, unfolding(crate::specs::ProfileValues::declarations_at))]
+pub(crate) fn declarations_at(
+    alloc: Global,
+    table: &Table,
+    key: Key,
+) -> Result<Vec<(u8, Kind)>, ReadProfileFault>
+    ensures { Gives (λ ds. ds.items) result (declarations_at key (table_view table.now)) }
+{
+    let Some(value) = entry(table, key) else {
+        return Ok(Vec::new(alloc));
+    };
+    match value.as_array() {
+        Some(values) => declarations(alloc, values.as_slice()),
+        None => Err(ReadProfileFault::BadValue),
+    }
 }
