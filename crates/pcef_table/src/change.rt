@@ -5,8 +5,8 @@ ghost use Rattle.pcef_table.specs.Sides.{stays};
 ghost use Rattle.pcef_table.specs.Sources.{IsKnown};
 ghost use Rattle.pcef_table.specs.Tables.{placed, with_counting, without};
 
-use pcef_catalog::Offers;
 use crate::entry::Entry;
+use pcef_catalog::Offers;
 use pcef_rule::{RuleName, Slot};
 use std::alloc::{AllocError, Global};
 

@@ -6,9 +6,9 @@ ghost use Rattle.pcef_packet.specs.Addresses.{same_addr, ue_side};
 ghost use Rattle.pcef_table.specs.Sources.{IsKnown, fits, is_named};
 ghost use Rattle.pcef_table.specs.Verdicts.{counted_slot, gate_verdict};
 
-use pcef_catalog::Offers;
 use crate::entry::Entry;
 use crate::verdict::Verdict;
+use pcef_catalog::Offers;
 use pcef_packet::{Addr, Dir, Header};
 use pcef_rule::{BearerId, Properties, RuleName, Slot};
 

@@ -4,8 +4,8 @@ ghost use Rattle.std.specs.Prelude.{◌≡◌, Some};
 ghost use Rattle.pcef_rule.specs.Precedence.{rank_cmp};
 ghost use Rattle.pcef_table.specs.Sources.{IsKnown, fits, is_named, origin_of, properties_of, rank_of};
 
-use pcef_catalog::Offers;
 use crate::entry::Source;
+use pcef_catalog::Offers;
 use pcef_filter::any_matches;
 use pcef_packet::{Addr, Header};
 use pcef_rule::{Origin, Properties, RuleName, compare_rules};

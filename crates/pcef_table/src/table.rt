@@ -6,11 +6,11 @@ ghost use Rattle.pcef_table.specs.Sources.{IsKnown};
 ghost use Rattle.pcef_table.specs.Tables.{IsTable, most_entries, placed, with_counting, without};
 ghost use Rattle.pcef_table.specs.Verdicts.{IsVerdict, slot_for};
 
-use pcef_catalog::Offers;
 use crate::change::{copy_counting, copy_with, copy_without};
 use crate::deciding::{first_fitting, gate_verdict, is_own, slot_of};
 use crate::entry::Entry;
 use crate::verdict::Verdict;
+use pcef_catalog::Offers;
 use pcef_packet::{Addr, Header};
 use pcef_rule::{RuleName, Slot};
 use std::alloc::{AllocError, Global};

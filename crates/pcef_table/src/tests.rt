@@ -1,12 +1,14 @@
 //! Small tables, whose verdicts were worked out by hand from TS 23.203, clause 6.2.2.2.
-ghost use Rattle.std.specs.Prelude.{IfOk, List};
-ghost use Rattle.pcef_catalog.specs.Catalogs.{offers_of};
+ghost use Rattle.std.specs.Prelude.{◌≡◌, [], ◌∷◌, IfOk, List};
+ghost use Rattle.pcef_catalog.specs.Shapes.{test_holds};
+ghost use Rattle.pcef_catalog.specs.declared.listing.Offer.{Offer};
+ghost use Rattle.pcef_catalog.specs.declared.shape.Test.TheVariants.{Proto};
 ghost use Rattle.pcef_table.specs.Sources.{IsKnown};
 ghost use Rattle.pcef_table.specs.Tables.{IsTable};
-ghost use Rattle.pcef_catalog.specs.declared.listing.Offer.{Offer};
 
 use super::*;
 use arrayvec::ArrayVec;
+use pcef_catalog::{Alternative, Catalog, Detect, Offers, Predefined, Shape, Test};
 use pcef_filter::{Direction, Endpoint, Filter, Place, PortRange};
 use pcef_packet::{Addr, Dir, Header, Ports};
 use pcef_rule::{Arp, BearerId, Gate, Properties, Qci, Qos, Rule, RuleName, Slot};
@@ -53,12 +55,9 @@ fn dns_answers() -> Filter {
 /// What the tests vary of a rule: its name, its precedence, its gate and its bearer.
 type Variant<'a> = (&'a str, u32, Gate, u8);
 
-/// An entry of a rule of DNS answers, whose key has slot 3.
-fn entry_of(alloc: Global, variant: Variant<'_>) -> Result<Entry, Fail>
-    ensures { IfOk result (λ e. (offers : List Offer) → IsKnown offers e.source) }
-{
-    let (name, precedence, gate, bearer) = variant;
-    let properties = Properties {
+fn properties_of(variant: Variant<'_>) -> Result<Properties, Fail> {
+    let (name, precedence, gate, _) = variant;
+    Ok(Properties {
         name: RuleName::new(name)?,
         precedence,
         qos: Qos {
@@ -68,41 +67,77 @@ fn entry_of(alloc: Global, variant: Variant<'_>) -> Result<Entry, Fail>
         rates: None,
         gate,
         key: None,
-    };
+    })
+}
+
+/// An entry of a rule of DNS answers, whose key has slot 3.
+fn entry_of(alloc: Global, variant: Variant<'_>) -> Result<Entry, Fail>
+    ensures { IfOk result (λ e. (offers : List Offer) → IsKnown offers e.source) }
+{
+    let properties = properties_of(variant)?;
     Ok(Entry {
         source: Source::Dynamic(Rule::new(alloc, properties, &[dns_answers()])?),
-        bearer: BearerId(bearer),
+        bearer: BearerId(variant.3),
         slot: Some(Slot(3)),
         counted: false,
     })
 }
 
-/// The next generation with one more rule.
-fn with_rule(
+/// The next generation with one more entry.
+fn with_entry<C: Offers>(
     rt: &impl Abort,
-    alloc: Global,
-    catalog: &Catalog,
+    catalog: &C,
     table: &Table,
-    variant: Variant<'_>,
+    entry: Entry,
 ) -> Result<Table, Fail>
-    requires { IsTable (offers_of catalog.now) table.now.entries }
-    ensures { IfOk result (λ t. IsTable (offers_of catalog.now) t.entries) }
+    requires table { IsTable (C.offers catalog.now) table.now.entries }
+    requires known { IsKnown (C.offers catalog.now) entry.source }
+    ensures { IfOk result (λ t. IsTable (C.offers catalog.now) t.entries) }
 {
-    let entry = entry_of(alloc, variant)?;
     assert!(rt; table.generation() < 100);
     assert!(rt; table.entries().len() < 8);
     Ok(table.with(catalog, entry)?)
 }
 
-/// The table of these rules, installed in order.
-#[tactic(auto, using(crate::proofs::Ordered::empty_is_table))]
-fn table_of(
+/// The next generation with one more rule.
+fn with_rule<C: Offers>(
     rt: &impl Abort,
     alloc: Global,
-    catalog: &Catalog,
+    catalog: &C,
+    table: &Table,
+    variant: Variant<'_>,
+) -> Result<Table, Fail>
+    requires { IsTable (C.offers catalog.now) table.now.entries }
+    ensures { IfOk result (λ t. IsTable (C.offers catalog.now) t.entries) }
+{
+    let entry = entry_of(alloc, variant)?;
+    with_entry(rt, catalog, table, entry)
+}
+
+/// The next generation with the first predefined rule, on bearer 6.
+fn with_predefined<C: Offers>(rt: &impl Abort, catalog: &C, table: &Table) -> Result<Table, Fail>
+    requires { IsTable (C.offers catalog.now) table.now.entries }
+    ensures { IfOk result (λ t. IsTable (C.offers catalog.now) t.entries) }
+{
+    assert!(rt; catalog.listing().offers().len() > 0);
+    let entry = Entry {
+        source: Source::Predefined(0),
+        bearer: BearerId(6),
+        slot: None,
+        counted: false,
+    };
+    with_entry(rt, catalog, table, entry)
+}
+
+/// The table of these rules, installed in order.
+#[tactic(auto, using(crate::proofs::Ordered::empty_is_table))]
+fn table_of<C: Offers>(
+    rt: &impl Abort,
+    alloc: Global,
+    catalog: &C,
     rules: &[Variant<'_>],
 ) -> Result<Table, Fail>
-    ensures { IfOk result (λ t. IsTable (offers_of catalog.now) t.entries) }
+    ensures { IfOk result (λ t. IsTable (C.offers catalog.now) t.entries) }
 {
     let mut table = Table::empty(alloc, 0)?;
     for variant in rules {
@@ -151,7 +186,7 @@ fn verdicts_of_a_dns_answer(rt: HostRuntime) -> Result<(), Fail> {
             passed("web", 6)?,
         ),
     ];
-    let catalog = Catalog::none();
+    let catalog = Catalog::new(rt.alloc(), Vec::new(rt.alloc()))?;
     for (what, rules, verdict) in &rows {
         let table = table_of(&rt, rt.alloc(), &catalog, rules)?;
         assert_eq!(rt;
@@ -165,7 +200,7 @@ fn verdicts_of_a_dns_answer(rt: HostRuntime) -> Result<(), Fail> {
 
 #[test]
 fn a_packet_of_another_address_is_a_stray(rt: HostRuntime) -> Result<(), Fail> {
-    let catalog = Catalog::none();
+    let catalog = Catalog::new(rt.alloc(), Vec::new(rt.alloc()))?;
     let table = table_of(&rt, rt.alloc(), &catalog, &[("web", 50, Gate::Enabled, 5)])?;
     let uplink = Header {
         dir: Dir::Up,
@@ -177,7 +212,7 @@ fn a_packet_of_another_address_is_a_stray(rt: HostRuntime) -> Result<(), Fail> {
 
 #[test]
 fn a_generation_after_another(rt: HostRuntime) -> Result<(), Fail> {
-    let catalog = Catalog::none();
+    let catalog = Catalog::new(rt.alloc(), Vec::new(rt.alloc()))?;
     let rules = [("a", 50, Gate::Enabled, 5), ("b", 60, Gate::Disabled, 6)];
     let table = table_of(&rt, rt.alloc(), &catalog, &rules)?;
     assert_eq!(rt; table.generation(), 2);
@@ -193,7 +228,7 @@ fn a_generation_after_another(rt: HostRuntime) -> Result<(), Fail> {
 
 #[test]
 fn counting_of_a_slot(rt: HostRuntime) -> Result<(), Fail> {
-    let catalog = Catalog::none();
+    let catalog = Catalog::new(rt.alloc(), Vec::new(rt.alloc()))?;
     let table = table_of(&rt, rt.alloc(), &catalog, &[("web", 50, Gate::Enabled, 5)])?;
     let verdict = passed("web", 5)?;
     assert_eq!(rt; table.counts(&catalog, &verdict), None);
@@ -208,20 +243,46 @@ fn counting_of_a_slot(rt: HostRuntime) -> Result<(), Fail> {
     Ok(())
 }
 
-#[test]
-fn no_predefined_rules(rt: HostRuntime) -> Result<(), Fail> {
-    let catalog = Catalog::none();
-    assert_eq!(rt; catalog.listing().share()?.offers().len(), 0);
-    Ok(())
+/// A shape of one test.
+fn one(test: Test) -> Shape
+    ensures { result ≡ (test ∷ []) ∷ [] }
+{
+    let mut tests = ArrayVec::new();
+    tests.push(test);
+    let mut alternatives = ArrayVec::new();
+    alternatives.push(Alternative { tests });
+    Shape::new(alternatives)
 }
 
 #[test]
-fn shapes(rt: HostRuntime) {
-    // An alternative without tests is true of every packet, and a shape without alternatives of none.
-    let mut alternatives = ArrayVec::new();
-    alternatives.push(Alternative::default());
-    assert!(rt; Shape::new(alternatives).holds(&DNS_ANSWER));
-    assert!(rt; !Shape::new(ArrayVec::new()).holds(&DNS_ANSWER));
-    assert!(rt; Test::Proto(17).holds(&DNS_ANSWER));
-    assert!(rt; !Test::default().holds(&DNS_ANSWER));
+fn an_installed_rule_goes_before_a_predefined_one_of_its_precedence(
+    rt: HostRuntime,
+) -> Result<(), Fail> {
+    // By its name the predefined rule would go first.
+    let installed = ("b", 50, Gate::Enabled, 5);
+    let detect: Detect = Box::new(
+        rt.alloc(),
+        |h: &Header| -> bool
+            ensures { result ≡ test_holds h.now (Proto 17) }
+        { h.proto == 17 },
+    )?;
+    let properties = properties_of(("a", 50, Gate::Enabled, 6))?;
+    let mut rules = Vec::new(rt.alloc());
+    rules.push(Predefined::new(properties, one(Test::Proto(17)), detect))?;
+    let catalog = Catalog::new(rt.alloc(), rules)?;
+    let none = table_of(&rt, rt.alloc(), &catalog, &[])?;
+    let only = with_predefined(&rt, &catalog, &none)?;
+    assert_eq!(rt; only.classify(&catalog, UE, &DNS_ANSWER), passed("a", 6)?);
+    let installed_later = with_rule(&rt, rt.alloc(), &catalog, &only, installed)?;
+    let first = table_of(&rt, rt.alloc(), &catalog, &[installed])?;
+    let activated_later = with_predefined(&rt, &catalog, &first)?;
+    assert_eq!(rt;
+        installed_later.classify(&catalog, UE, &DNS_ANSWER),
+        passed("b", 5)?
+    );
+    assert_eq!(rt;
+        activated_later.classify(&catalog, UE, &DNS_ANSWER),
+        passed("b", 5)?
+    );
+    Ok(())
 }

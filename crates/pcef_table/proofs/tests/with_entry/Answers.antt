@@ -1,10 +1,9 @@
 use Rattle.std.proofs.Common.{ap, arith, length}
-use Rattle.pcef_catalog.specs.Catalogs.{offers_of}
 use Rattle.pcef_table.specs.declared.entry.Entry.{Entry}
 use Rattle.pcef_table.proofs.Ordered.{has_room}
-use Rattle.pcef_table.proofs.tests.with_rule.Goals as goal
+use Rattle.pcef_table.proofs.tests.with_entry.Goals as goal
 
 pub with-requires-clause-room : goal.with-requires-clause-room
 with-requires-clause-room g c =
     let same = ap (length {A = Entry}) c.entries.ensures in
-    has_room (offers_of c.args.catalog.now) c.in_ok-entry.entry c.args.table.now.entries (omega arith)
+    has_room (g.C.Offers.offers c.args.catalog.now) c.args.entry c.args.table.now.entries (omega arith)
