@@ -1,3 +1,4 @@
+pub mod BuiltIn
 pub mod DottedDecimal
 pub mod FaultAnswers
 pub mod LineFaults

@@ -2,14 +2,27 @@
 #![tactic(auto)]
 
 pub mod answer;
+pub mod built_in;
 pub mod line;
 pub mod profile;
 pub mod program;
 pub mod script;
 
+ghost use Rattle.std.specs.Prelude.{◌≡◌};
+ghost use Rattle.pcef_catalog.specs.Shapes.{shape_holds};
+ghost use Rattle.pcef_cli.specs.BuiltIn.{dns_shape, expedited_shape, remaining_shape};
+
+use built_in::{
+    dns_properties, dns_shape, expedited_properties, expedited_shape, is_dns, is_expedited,
+    remaining_properties, remaining_shape,
+};
+use pcef_catalog::{Catalog, Detect, Predefined};
+use pcef_packet::Header;
 use program::program;
+use std::alloc::AllocError;
 use std::io::{self, BufReader, BufWriter};
 use std::process::ExitCode;
+use std::sync::Arc;
 use std::{env, fs};
 
 /// The arguments after the program's name.
@@ -30,10 +43,37 @@ fn profiles(rt: &HostRuntime, words: &[String]) -> io::Result<Vec<Option<String>
     Ok(texts)
 }
 
+/// Runs the program with the built-in catalog.
 fn run(rt: &HostRuntime) -> io::Result<u8> {
     let alloc = rt.alloc();
     let words = words(rt)?;
     let profiles = profiles(rt, &words)?;
+    let dns: Detect = Box::new(
+        alloc,
+        |header: &Header| -> bool
+            ensures { result ≡ shape_holds dns_shape header.now }
+        { is_dns(header) },
+    )?;
+    let expedited: Detect = Box::new(
+        alloc,
+        |header: &Header| -> bool
+            ensures { result ≡ shape_holds expedited_shape header.now }
+        { is_expedited(header) },
+    )?;
+    let remaining: Detect = Box::new(
+        alloc,
+        |header: &Header| -> bool
+            ensures { result ≡ shape_holds remaining_shape header.now }
+        { true },
+    )?;
+    let mut rules = Vec::with_capacity(alloc, 3)?;
+    rules.push(Predefined::new(dns_properties(), dns_shape(), dns))?;
+    rules.push(Predefined::new(expedited_properties(), expedited_shape(), expedited))?;
+    rules.push(Predefined::new(remaining_properties(), remaining_shape(), remaining))?;
+    let Ok(catalog) = Catalog::new(alloc, rules) else {
+        return Err(AllocError.into());
+    };
+    let catalog = Arc::new(alloc, catalog)?;
     let mut reader = rt.stdin();
     let mut writer = BufWriter::new(alloc, io::writer(rt))?;
     let mut faults = rt.stderr();
@@ -41,6 +81,7 @@ fn run(rt: &HostRuntime) -> io::Result<u8> {
         alloc,
         &words,
         &profiles,
+        catalog,
         &mut reader,
         &mut writer,
         &mut faults,

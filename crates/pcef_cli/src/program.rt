@@ -2,8 +2,8 @@
 
 use crate::profile::{ReadProfileFault, read_profile};
 use crate::script::{ScriptFault, run_script};
-use pcef_session::{OpenFault, Profile};
 use pcef_catalog::Catalog;
+use pcef_session::{OpenFault, Profile};
 use std::alloc::Global;
 use std::io::{Read, Write};
 use std::sync::Arc;
@@ -78,15 +78,13 @@ fn end_of(fault: ScriptFault) -> End {
 fn script<R: Read, W: Write>(
     alloc: Global,
     profile: &Option<String>,
+    catalog: Arc<Catalog>,
     reader: &mut R,
     writer: &mut W,
 ) -> End {
     let profile = match profile_of(alloc, profile) {
         Ok(profile) => profile,
         Err(end) => return end,
-    };
-    let Ok(catalog) = Arc::new(alloc, Catalog::none()) else {
-        return End::NoMemory;
     };
     let end = match run_script(alloc, reader, writer, profile, catalog) {
         Ok(0) => End::Done,
@@ -111,17 +109,18 @@ fn asks_for_script(words: &[String]) -> bool {
 /// arguments; 3 for want of memory; 4 for a failing end.
 ///
 /// `words` are the arguments after the program's name, `profiles` the texts of the files that they name
-/// as profiles, `faults` is told why the program ends early.
+/// as profiles, `catalog` has the predefined rules, `faults` is told why the program ends early.
 pub fn program<R: Read, W: Write, E: Write>(
     alloc: Global,
     words: &[String],
     profiles: &[Option<String>],
+    catalog: Arc<Catalog>,
     reader: &mut R,
     writer: &mut W,
     faults: &mut E,
 ) -> u8 {
     let end = match profiles {
-        [profile] if asks_for_script(words) => script(alloc, profile, reader, writer),
+        [profile] if asks_for_script(words) => script(alloc, profile, catalog, reader, writer),
         _ => End::Usage,
     };
     tell(faults, &end);
