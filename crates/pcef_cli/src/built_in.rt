@@ -142,3 +142,5 @@ pub fn is_expedited(header: &Header) -> bool
     header.dscp == 46
 }
 
+#[cfg(test)]
+mod tests;

@@ -1,6 +1,8 @@
 //! Exit statuses, and what is said of faults.
 use super::program;
+use pcef_catalog::Catalog;
 use std::alloc::Global;
+use std::sync::Arc;
 use std::test::Fail;
 
 const PROFILE: &str =
@@ -23,12 +25,14 @@ fn run(
         Some(text) => Some(String::from_str(alloc, text)?),
         None => None,
     })?;
+    let catalog = Arc::new(alloc, Catalog::new(alloc, Vec::new(alloc))?)?;
     let mut answers = Vec::new(alloc);
     let mut faults = Vec::new(alloc);
     let status = program(
         alloc,
         &arguments,
         &profiles,
+        catalog,
         &mut input.as_bytes(),
         &mut answers,
         &mut faults,

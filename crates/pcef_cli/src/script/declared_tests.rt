@@ -2,7 +2,7 @@
 
 use super::run_script;
 use crate::profile::read_profile;
-use pcef_table::Catalog;
+use pcef_catalog::Catalog;
 use std::sync::Arc;
 use std::test::Fail;
 
@@ -16,7 +16,7 @@ const SCRIPT: &str =
 #[test]
 fn a_declared_qci_is_known(rt: HostRuntime) -> Result<(), Fail> {
     let alloc = rt.alloc();
-    let catalog = Arc::new(alloc, Catalog::none())?;
+    let catalog = Arc::new(alloc, Catalog::new(alloc, Vec::new(alloc))?)?;
     let mut written = Vec::new(alloc);
     let faults = run_script(
         alloc,

@@ -40,7 +40,10 @@ fn open(alloc: Global) -> Result<WorldState, Fail> {
         let Ok(profile) = read_profile(alloc, PROFILE) else {
             continue;
         };
-        if let Ok(world) = WorldState::open(alloc, profile, Listing::none()) {
+        let Ok(listing) = Listing::new(alloc, Vec::new(alloc)) else {
+            continue;
+        };
+        if let Ok(world) = WorldState::open(alloc, profile, listing) {
             return Ok(world);
         }
     }

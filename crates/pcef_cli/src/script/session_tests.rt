@@ -85,7 +85,7 @@ fn answers(alloc: Global, profile: &str, lines: &[&str]) -> Result<String, Fail>
         script.push_str(*line)?;
         script.push('\n')?;
     }
-    let catalog = Arc::new(alloc, Catalog::none())?;
+    let catalog = Arc::new(alloc, Catalog::new(alloc, Vec::new(alloc))?)?;
     let mut written = Vec::new(alloc);
     let _faults = run_script(
         alloc,

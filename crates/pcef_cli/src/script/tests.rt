@@ -47,7 +47,7 @@ fn run(alloc: Global, lines: &[&str]) -> Result<(String, u64), Fail> {
     for line in lines {
         script.push_str(*line)?;
     }
-    let catalog = Arc::new(alloc, Catalog::none())?;
+    let catalog = Arc::new(alloc, Catalog::new(alloc, Vec::new(alloc))?)?;
     let mut written = Vec::new(alloc);
     let faults = run_script(
         alloc,
