@@ -4,7 +4,7 @@ use Rattle.serde_json.specs.Data.{Data}
 use Rattle.serde_json.specs.Find.{get, as_str, as_object}
 use Rattle.serde_json.specs.Read.{read}
 use Rattle.pcef_cli.specs.declared.line.Line.{Line}
-use Rattle.pcef_cli.specs.declared.line.Line.TheVariants.{Install, Remove, Monitor, Attach, Take, Refresh, Flush, Show}
+use Rattle.pcef_cli.specs.declared.line.Line.TheVariants.{Install, Activate, Remove, Monitor, Attach, Take, Refresh, Flush, Show}
 use Rattle.pcef_cli.specs.declared.line.fault.LineFault.{LineFault}
 use Rattle.pcef_cli.specs.declared.line.fault.LineFault.TheVariants.{NotJson, NotObject, UnknownDo, UnknownField}
 use Rattle.pcef_cli.specs.declared.line.field.Field.TheVariants as field
@@ -28,6 +28,9 @@ fields_at word.Install d = do
   whole ← object_at field.Rule d
   rule ← rule_at whole
   Ok (Install rule)
+fields_at word.Activate d = do
+  name ← name_at field.Name d
+  Ok (Activate name)
 fields_at word.Remove d = do
   name ← name_at field.Name d
   Ok (Remove name)

@@ -34,6 +34,7 @@ field_text field.Gate = codes "gate"
 abbrev pub word_of : List ℕ → Option Word
 word_of text =
     if bytes_eq text (codes "install") then Some word.Install
+    else if bytes_eq text (codes "activate") then Some word.Activate
     else if bytes_eq text (codes "remove") then Some word.Remove
     else if bytes_eq text (codes "monitor") then Some word.Monitor
     else if bytes_eq text (codes "attach") then Some word.Attach
@@ -46,6 +47,7 @@ word_of text =
 -- the fields that a line may have
 abbrev pub fields_of : Word → List Field
 fields_of word.Install = field.Do ∷ field.Rule ∷ []
+fields_of word.Activate = field.Do ∷ field.Name ∷ []
 fields_of word.Remove = field.Do ∷ field.Name ∷ []
 fields_of word.Monitor = field.Do ∷ field.Key ∷ field.Grant ∷ []
 fields_of word.Attach = field.Do ∷ []

@@ -19,6 +19,8 @@ pub use reading::read_line;
 pub enum Line {
     /// `install`: a dynamic rule is put in.
     Install(Rule),
+    /// `activate`: the predefined rule of this name is put in.
+    Activate(RuleName),
     /// `remove`: the dynamic rule of this name is taken out.
     Remove(RuleName),
     /// `monitor`: the usage of a key is reported at each grant.

@@ -64,6 +64,10 @@ fn fields(alloc: Global, word: Word, line: &Value) -> Result<Line, LineFault>
 {
     match word {
         Word::Install => Ok(Line::Install(rule(alloc, object_field(line, Field::Rule)?)?)),
+        Word::Activate => {
+            let rule = name_field(line, Field::Name)?;
+            Ok(Line::Activate(rule))
+        }
         Word::Remove => {
             let name = name_field(line, Field::Name)?;
             Ok(Line::Remove(name))

@@ -91,6 +91,26 @@ fn faults_of_fields(rt: HostRuntime) {
             "{\"do\":\"monitor\",\"key\":\"vid\",\"grant\":5,\"grant\":null}",
             LineFault::BadField(Field::Grant),
         ),
+        (
+            "{\"do\":\"activate\"}",
+            LineFault::MissingField(Field::Name),
+        ),
+        (
+            "{\"do\":\"activate\",\"name\":7}",
+            LineFault::BadField(Field::Name),
+        ),
+        (
+            "{\"do\":\"activate\",\"name\":null}",
+            LineFault::BadField(Field::Name),
+        ),
+        (
+            "{\"do\":\"activate\",\"name\":\"a b\"}",
+            LineFault::BadName(Field::Name),
+        ),
+        (
+            "{\"do\":\"activate\",\"rule\":\"web\"}",
+            LineFault::UnknownField,
+        ),
         ("{\"do\":\"remove\"}", LineFault::MissingField(Field::Name)),
         (
             "{\"do\":\"remove\",\"name\":7}",
@@ -308,6 +328,7 @@ fn lines_without_fault(rt: HostRuntime) {
     for text in [
         "{\"do\":\"install\",\"rule\":{\"name\":\"web\",\"precedence\":100,\"filters\":[{\"text\":\"permit out 17 from any 53 to assigned\"}],\"qci\":9,\"arp\":{\"level\":8,\"capability\":false,\"vulnerability\":true},\"gate\":\"ENABLED\",\"key\":\"vid\"}}",
         "{\"do\":\"monitor\",\"key\":\"vid\",\"grant\":1000}",
+        "{\"do\":\"activate\",\"name\":\"web\"}",
         "{\"do\":\"remove\",\"name\":\"web\"}",
         "{\"do\":\"attach\"}",
         "{\"do\":\"refresh\",\"worker\":15}",
@@ -367,6 +388,15 @@ fn an_install_has_its_rule(rt: HostRuntime) {
         Some("vid")
     );
     assert_eq!(rt; rule.filters().len(), 1);
+}
+
+#[test]
+fn an_activate_has_its_name(rt: HostRuntime) {
+    let text = "{\"name\":\"video\",\"do\":\"activate\"}";
+    let Ok(Line::Activate(name)) = read_line(rt.alloc(), text) else {
+        panic!(rt; "no activate line");
+    };
+    assert_eq!(rt; name.as_str(), "video");
 }
 
 #[test]

@@ -9,6 +9,7 @@ use super::field::Field;
 #[derive(Clone, Copy, Debug, PartialEq, Eq)]
 pub enum Word {
     Install,
+    Activate,
     Remove,
     Monitor,
     Attach,
@@ -25,6 +26,7 @@ impl Word {
     {
         match text {
             "install" => Some(Word::Install),
+            "activate" => Some(Word::Activate),
             "remove" => Some(Word::Remove),
             "monitor" => Some(Word::Monitor),
             "attach" => Some(Word::Attach),
@@ -42,7 +44,7 @@ impl Word {
     {
         match self {
             Word::Install => &[Field::Do, Field::Rule],
-            Word::Remove => &[Field::Do, Field::Name],
+            Word::Activate | Word::Remove => &[Field::Do, Field::Name],
             Word::Monitor => &[Field::Do, Field::Key, Field::Grant],
             Word::Attach | Word::Show => &[Field::Do],
             Word::Take => &[Field::Do, Field::Worker, Field::Dir, Field::Packet],
