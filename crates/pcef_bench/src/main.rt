@@ -11,8 +11,8 @@ mod packets;
 mod rules;
 
 use packets::{Tally, judge_all, without_count, write_verdicts};
-use pcef_packet::Addr;
 use pcef_catalog::Catalog;
+use pcef_packet::Addr;
 use std::io::{self, BufWriter, Write};
 use std::process::ExitCode;
 use std::{env, fs};
@@ -35,7 +35,9 @@ fn run(rt: &HostRuntime, rules: &str, packets: &str, passes: u32) -> io::Result<
     let file = fs::read(rt, packets)?;
     let recorded = without_count(&file);
     let mut writer = BufWriter::new(rt.alloc(), io::writer(rt))?;
-    let catalog = Catalog::none();
+    let Ok(catalog) = Catalog::new(rt.alloc(), Vec::new(rt.alloc())) else {
+        return Err(io::Error::from(io::ErrorKind::OutOfMemory));
+    };
     let Ok(table) = rules::table(rt.alloc(), &catalog, text.as_str()) else {
         return Ok(false);
     };

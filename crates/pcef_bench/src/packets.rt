@@ -3,8 +3,8 @@
 ghost use Rattle.pcef_catalog.specs.Catalogs.{offers_of};
 ghost use Rattle.pcef_table.specs.Tables.{IsTable};
 
-use pcef_packet::{Addr, Dir, read_header};
 use pcef_catalog::Catalog;
+use pcef_packet::{Addr, Dir, read_header};
 use pcef_table::{Table, Verdict};
 use std::io::{self, Write};
 
