@@ -74,16 +74,8 @@ fn run(
     let said = [dns(header), expedited(header), remaining(header)];
     let mut rules = Vec::new(alloc);
     rules.push(Predefined::new(dns_properties(), dns_shape(), dns))?;
-    rules.push(Predefined::new(
-        expedited_properties(),
-        expedited_shape(),
-        expedited,
-    ))?;
-    rules.push(Predefined::new(
-        remaining_properties(),
-        remaining_shape(),
-        remaining,
-    ))?;
+    rules.push(Predefined::new(expedited_properties(), expedited_shape(), expedited))?;
+    rules.push(Predefined::new(remaining_properties(), remaining_shape(), remaining))?;
     let catalog = Arc::new(alloc, Catalog::new(alloc, rules)?)?;
     let mut script = String::new(alloc);
     for line in lines {

@@ -5,9 +5,9 @@
 
 use crate::line::{Line, read_line};
 use crate::profile::read_profile;
+use pcef_catalog::Listing;
 use pcef_journal::Command;
 use pcef_session::{Accepted, AttachFault, Refusal, WorldState};
-use pcef_catalog::Listing;
 use std::alloc::{AllocError, Global};
 use std::test::Fail;
 

@@ -8,9 +8,9 @@ use crate::answer::{
     taken_answer,
 };
 use crate::line::{Line, LineFault, read_line};
+use pcef_catalog::Offers;
 use pcef_journal::Command;
 use pcef_session::WorldState;
-use pcef_catalog::Offers;
 use std::alloc::{AllocError, Global};
 use std::str;
 
@@ -49,6 +49,7 @@ fn step<C: Offers>(
 {
     match line {
         Line::Install(rule) => command(alloc, world, Command::Install(rule)),
+        Line::Activate(name) => command(alloc, world, Command::Activate(name)),
         Line::Remove(name) => command(alloc, world, Command::Remove(name)),
         Line::Monitor { key, grant } => command(alloc, world, Command::Monitor { key, grant }),
         Line::Attach => {
