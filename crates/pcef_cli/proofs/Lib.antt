@@ -1,9 +1,13 @@
 pub mod AnswerTexts
+pub mod Answering
+pub mod Cuts
 pub mod Digits
 pub mod FilterLists
 pub mod KeptLines
+pub mod LineReads
 pub mod NameTests
 pub mod NoFloats
 pub mod Objects
+pub mod ScriptSteps
 pub mod StandardKinds
 pub mod Tables
