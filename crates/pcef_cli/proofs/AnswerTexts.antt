@@ -1,23 +1,34 @@
 -- Answers have no float, so that their text is known.
-use Rattle.std.proofs.Common.{◌≡◌, ◌∙◌, ℕ, List, [], ◌∷◌, Bool, true, false, Option, Some, None, Result, IfOk, refl, ap, string_bytes}
+use Rattle.std.proofs.Common.{◌≡◌, ◌∙◌, ℕ, List, [], ◌∷◌, Bool, true, false, Option, Some, None, Result, IfOk, filter_map, length, refl, ap, string_bytes}
+use Rattle.std.specs.List.{cons_option}
+use Rattle.std.specs.Option.{option_map}
 use Rattle.std.specs.Prelude.{String}
 use Rattle.std.specs.declared.alloc.AllocError.{AllocError}
 use Rattle.std.specs.declared.alloc.Global.{Global}
 use Rattle.std.proofs.lemmas.Result.{IfOk-weaker}
-use Rattle.serde_json.specs.Data.{Data}
+use Rattle.serde_json.specs.Data.{Data, array}
+use Rattle.serde_json.specs.View.{items_of}
 use Rattle.serde_json.specs.Written.{has_float, members_have_float, compact_text}
 use Rattle.pcef_rule.specs.declared.quantity.BearerId.{BearerId}
+use Rattle.pcef_rule.specs.declared.quantity.Sums.{Sums}
+use Rattle.pcef_table.specs.declared.entry.Entry.{Entry}
+use Rattle.pcef_catalog.specs.declared.listing.Offer.{Offer}
 use Rattle.pcef_table.specs.declared.verdict.Verdict.{Verdict}
 use Rattle.pcef_table.specs.declared.verdict.Verdict.TheVariants.{Stray, Unmatched, Gated, Passed}
 use Rattle.pcef_journal.specs.declared.report.Body.{Body}
 use Rattle.pcef_journal.specs.declared.report.Body.TheVariants.{Usage, Access, Inactive}
 use Rattle.pcef_journal.specs.declared.report.Report.{Report}
 use Rattle.pcef_journal.specs.Entries.{Journal}
+use Rattle.pcef_bearer.specs.declared.bearers.Bound.{Bound}
+use Rattle.pcef_bearer.specs.Bindings.{guaranteed, rules_on}
+use Rattle.pcef_usage.specs.declared.usage.KeyState.{KeyState}
+use Rattle.pcef_session.specs.Agreement.{Parts}
 use Rattle.pcef_session.specs.declared.answer.Accepted.{Accepted}
 use Rattle.pcef_session.specs.declared.answer.Judged.{Judged}
 use Rattle.pcef_session.specs.declared.answer.Verdicts.{Verdicts}
 use Rattle.pcef_cli.specs.RefusalAnswers.{data_of}
 use Rattle.pcef_cli.specs.ReportAnswers.{body_data, reports_data, reports_told}
+use Rattle.pcef_cli.specs.ShowAnswers.{active_data, bearer_data, bearer_ids, bearer_told, bearers_told, keys_data, show_data}
 use Rattle.pcef_cli.specs.StepAnswers.{accepted_data, flushed_data, members_told, verdict_data, verdicts_data}
 
 -- what is written for a value is the text of its data
@@ -62,3 +73,25 @@ accepted journal a =
 
 pub flushed : (journal : Journal) (v : Verdicts) → has_float (flushed_data journal v) ≡ false
 flushed journal v = rw (reports (reports_told journal v.first_report v.past_last_report), verdicts v.rows.items) refl
+
+-- ---- what is shown
+entries : (offers : List Offer) (es : List Entry) → has_float (active_data offers es) ≡ false
+entries offers [] = refl
+entries offers (e ∷ es) = entries offers es
+
+bearer : (id rules : ℕ) (found : Option Sums) (rest : List Data) → has_float (array (items_of rest)) ≡ false
+    → has_float (array (items_of (cons_option (option_map (bearer_data id rules) found) rest))) ≡ false
+bearer id rules None rest none = none
+bearer id rules (Some sums) rest none = none
+
+bearers : (bound : List Bound) (ids : List ℕ) → has_float (bearers_told bound ids) ≡ false
+bearers bound [] = refl
+bearers bound (id ∷ ids) =
+    bearer id (length (rules_on id bound)) (guaranteed id bound) (filter_map (bearer_told bound) ids) (bearers bound ids)
+
+keys : (states : List KeyState) → has_float (keys_data states) ≡ false
+keys [] = refl
+keys (s ∷ states) = keys states
+
+pub shown : (offers : List Offer) (parts : Parts) → has_float (show_data offers parts) ≡ false
+shown offers parts = rw (entries offers parts.table.entries, bearers parts.binding.bound bearer_ids, keys parts.keys) refl

@@ -1,11 +1,15 @@
 pub mod AnswerTexts
+pub mod Answering
+pub mod Cuts
 pub mod Declarations
 pub mod DeclaredKinds
 pub mod Digits
 pub mod FilterLists
 pub mod KeptLines
+pub mod LineReads
 pub mod ListReadings
 pub mod NameTests
 pub mod NoFloats
 pub mod Objects
+pub mod ScriptSteps
 pub mod Tables

@@ -13,5 +13,8 @@ pub mod ProfileValues
 pub mod Readings
 pub mod RefusalAnswers
 pub mod ReportAnswers
+pub mod ScriptAnswers
 pub mod ScriptLines
+pub mod Scripts
+pub mod ShowAnswers
 pub mod StepAnswers

@@ -3,6 +3,7 @@
 mod fault;
 mod input;
 mod run;
+mod running;
 mod step;
 mod writing;
 

@@ -1,89 +1,27 @@
-//! The loop over the lines of a script.
+//! Runs a script from a reader to a writer.
 
-ghost use Rattle.std.specs.Prelude.{◌≡◌, IfOk};
+ghost use Rattle.std.specs.Prelude.{◌≡◌, [], IfErr, IfOk, List, None, ℕ};
+ghost use Rattle.std.specs.Arc.{arc_value};
+ghost use Rattle.std.specs.Io.KnownBytes.{Consumes};
+ghost use Rattle.pcef_journal.specs.Setting.{Setting};
+ghost use Rattle.pcef_session.specs.Core.{setting_in};
+ghost use Rattle.pcef_session.specs.Refusals.{first_of, open_faults};
+ghost use Rattle.pcef_session.specs.Terms.{setting_of};
 ghost use Rattle.pcef_catalog.specs.Catalogs.{offers_of};
+ghost use Rattle.pcef_cli.specs.Scripts.{Opened, OpenFails, Ran};
 
 use super::fault::ScriptFault;
-use super::input::Pending;
-use super::step::{Answer, answer_line, answer_too_long};
-use super::writing::put_all;
-use pcef_catalog::{Catalog, Offers};
+use super::running::{Running, end_line, take_block};
 use pcef_session::{OpenFault, Profile, WorldState};
-use std::alloc::{AllocError, Global};
+use pcef_catalog::{Catalog, Offers};
+use std::alloc::Global;
 use std::io::{Read, Write};
 use std::sync::Arc;
 
-fn write_answer<W: Write>(writer: &mut W, answer: &Answer) -> Result<(), ScriptFault> {
-    put_all(writer, answer.text.as_bytes())?;
-    put_all(writer, b"\n")
-}
-
-fn answer_of<C: Offers>(
-    alloc: Global,
-    catalog: &C,
-    world: &mut WorldState,
-    line: &Pending,
-) -> Result<Answer, AllocError>
-    requires { C.offers catalog.now ≡ world.old.core.offers }
-    ensures { world.new.core.offers ≡ world.old.core.offers }
-{
-    match line.bytes() {
-        None => answer_too_long(alloc),
-        Some(bytes) => answer_line(alloc, catalog, world, bytes),
-    }
-}
-
-/// Answers a line that has ended, and gives how many lines are at fault then.
-fn end_line<C: Offers, W: Write>(
-    alloc: Global,
-    catalog: &C,
-    world: &mut WorldState,
-    line: &Pending,
-    faults: u64,
-    writer: &mut W,
-) -> Result<u64, ScriptFault>
-    requires { C.offers catalog.now ≡ world.old.core.offers }
-    ensures { world.new.core.offers ≡ world.old.core.offers }
-{
-    if line.is_blank() {
-        return Ok(faults);
-    }
-    let Ok(answer) = answer_of(alloc, catalog, world, line) else {
-        return Err(ScriptFault::NoMemory);
-    };
-    write_answer(writer, &answer)?;
-    if answer.is_fault {
-        Ok(faults.saturating_add(1))
-    } else {
-        Ok(faults)
-    }
-}
-
-/// Takes a block of the script, and gives how many lines are at fault then.
-fn take_block<C: Offers, W: Write>(
-    alloc: Global,
-    catalog: &C,
-    world: &mut WorldState,
-    line: &mut Pending,
-    faults: u64,
-    writer: &mut W,
-    block: &[u8],
-) -> Result<u64, ScriptFault>
-    requires { C.offers catalog.now ≡ world.old.core.offers }
-    ensures { world.new.core.offers ≡ world.old.core.offers }
-{
-    let mut faults = faults;
-    for byte in block {
-        if line.take(*byte)? {
-            faults = end_line(alloc, catalog, world, line, faults, writer)?;
-            line.clear();
-        }
-    }
-    Ok(faults)
-}
-
 fn open(alloc: Global, profile: Profile, catalog: &Catalog) -> Result<WorldState, ScriptFault>
-    ensures { IfOk result (λ w. offers_of catalog.now ≡ w.core.offers) }
+    ensures made { IfOk result (λ w. (w.core.terms ≡ profile) × (w.core.offers ≡ offers_of catalog.now) × (w.core.journal ≡ []) × (w.workers ≡ [])) }
+    ensures opened { Opened (setting_of profile (offers_of catalog.now)) result }
+    ensures fault { IfErr result OpenFails }
 {
     let Ok(listing) = catalog.listing().share() else {
         return Err(ScriptFault::NoMemory);
@@ -92,6 +30,40 @@ fn open(alloc: Global, profile: Profile, catalog: &Catalog) -> Result<WorldState
         Ok(world) => Ok(world),
         Err(OpenFault::NoMemory) => Err(ScriptFault::NoMemory),
         Err(fault) => Err(ScriptFault::Profile(fault)),
+    }
+}
+
+fn run<C: Offers, R: Read, W: Write>(
+    alloc: Global,
+    catalog: &C,
+    world: WorldState,
+    reader: &mut R,
+    writer: &mut W,
+) -> Result<u64, ScriptFault>
+    requires offered { C.offers catalog.now ≡ world.core.offers }
+    requires journal { world.core.journal ≡ [] }
+    requires workers { world.workers ≡ [] }
+    ensures opened { (p : Setting) → first_of (open_faults p) ≡ None → Opened p result }
+    ensures answers { (input : List ℕ) × Consumes (R.remaining reader.old) (R.remaining reader.new) input
+        × Ran (setting_in world.core) result (W.contents writer.old) (W.contents writer.new) (R.remaining reader.new) input }
+{
+    let mut script = Running::new(alloc, world);
+    let mut block = [0u8; 8192];
+    loop {
+        match reader.read(&mut block) {
+            Ok(0) => {
+                return end_line(
+                    alloc,
+                    catalog,
+                    &mut script.world,
+                    &script.line,
+                    script.faults,
+                    writer,
+                );
+            }
+            Ok(n) => take_block(alloc, catalog, &mut script, writer, &block[..n])?,
+            Err(_) => return Err(ScriptFault::Read),
+        }
     }
 }
 
@@ -105,27 +77,11 @@ pub fn run_script<R: Read, W: Write>(
     writer: &mut W,
     profile: Profile,
     catalog: Arc<Catalog>,
-) -> Result<u64, ScriptFault> {
-    let mut world = open(alloc, profile, &catalog)?;
-    let mut line = Pending::new(alloc);
-    let mut faults = 0;
-    let mut block = [0u8; 8192];
-    'blocks: for _ in 0..u64::MAX {
-        match reader.read(&mut block) {
-            Ok(0) => break,
-            Ok(n) => {
-                faults = take_block(
-                    alloc,
-                    &*catalog,
-                    &mut world,
-                    &mut line,
-                    faults,
-                    writer,
-                    &block[..n],
-                )?;
-            }
-            Err(_) => return Err(ScriptFault::Read),
-        }
-    }
-    end_line(alloc, &*catalog, &mut world, &line, faults, writer)
+) -> Result<u64, ScriptFault>
+    ensures opened { Opened (setting_of profile (offers_of (arc_value catalog))) result }
+    ensures answers { (input : List ℕ) × Consumes (R.remaining reader.old) (R.remaining reader.new) input
+        × Ran (setting_of profile (offers_of (arc_value catalog))) result (W.contents writer.old) (W.contents writer.new) (R.remaining reader.new) input }
+{
+    let world = open(alloc, profile, &catalog)?;
+    run(alloc, &*catalog, world, reader, writer)
 }
