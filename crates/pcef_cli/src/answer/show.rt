@@ -6,9 +6,9 @@ ghost use Rattle.pcef_table.specs.Sources.{IsKnown};
 ghost use Rattle.pcef_cli.specs.ShowAnswers.{active_data, bearer_data, bearer_told, bearers_data, bearers_told, entry_data, key_data, keys_data, show_data, show_text};
 
 use pcef_bearer::Bearers;
+use pcef_catalog::Listing;
 use pcef_rule::{BearerId, Sums};
 use pcef_session::SessionState;
-use pcef_catalog::Listing;
 use pcef_table::Entry;
 use pcef_usage::KeyState;
 use serde_json::{Value, json};

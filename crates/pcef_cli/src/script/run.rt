@@ -12,8 +12,8 @@ ghost use Rattle.pcef_cli.specs.Scripts.{Opened, OpenFails, Ran};
 
 use super::fault::ScriptFault;
 use super::running::{Running, end_line, take_block};
-use pcef_session::{OpenFault, Profile, WorldState};
 use pcef_catalog::{Catalog, Offers};
+use pcef_session::{OpenFault, Profile, WorldState};
 use std::alloc::Global;
 use std::io::{Read, Write};
 use std::sync::Arc;

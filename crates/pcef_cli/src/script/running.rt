@@ -13,8 +13,8 @@ use super::fault::ScriptFault;
 use super::input::Pending;
 use super::step::{Answer, answer_line, answer_too_long};
 use super::writing::put_all;
-use pcef_session::WorldState;
 use pcef_catalog::Offers;
+use pcef_session::WorldState;
 use std::alloc::{AllocError, Global};
 use std::io::Write;
 

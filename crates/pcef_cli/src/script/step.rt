@@ -14,10 +14,10 @@ use crate::answer::{
     taken_answer,
 };
 use crate::line::{Line, LineFault, read_line};
+use pcef_catalog::Offers;
 use pcef_journal::Command;
 use pcef_packet::Header;
 use pcef_session::{SessionState, WorldState};
-use pcef_catalog::Offers;
 use std::alloc::{AllocError, Global};
 use std::str;
 
