@@ -1,6 +1,5 @@
 -- Workers that are attached, without one that left.
-use Rattle.std.proofs.Common.{◌≡◌, ◌&&◌, ℕ, ◌==◌, Bool, true, false, not, List, [], ◌∷◌, filter, refl, ap, sym, arith, inl, inr}
-use Rattle.std.proofs.lemmas.Bool.{cases_Bool}
+use Rattle.std.proofs.Common.{◌≡◌, ◌&&◌, ℕ, ◌==◌, not, List, [], ◌∷◌, filter, refl, arith}
 use Rattle.std.proofs.lemmas.Grind.{common_steps}
 use Rattle.pcef_replay.specs.Attached.{is_among}
 

@@ -1,10 +1,9 @@
 -- The ids of bearers, from one generation to the next.
-use Rattle.std.proofs.Common.{◌≡◌, ◌∙◌, ◌&&◌, ◌||◌, ℕ, ◌==◌, Bool, true, false, not, List, [], ◌∷◌, map, refl, ap, sym, arith, inl, inr}
+use Rattle.std.proofs.Common.{◌≡◌, ◌∙◌, ◌&&◌, ◌||◌, ℕ, ◌==◌, Bool, true, false, List, [], ◌∷◌, refl, ap, sym, inl, inr}
 use Rattle.std.specs.Prelude.{if◌then◌else◌}
 use Rattle.std.specs.List.{list_any}
 use Rattle.std.proofs.Math.Path.{fun_ext}
 use Rattle.std.proofs.lemmas.Bool.{and_parts, cases_Bool, eqb-true}
-use Rattle.std.proofs.lemmas.Grind.{common_steps}
 use Rattle.pcef_rule.specs.declared.quantity.Qos.{Qos}
 use Rattle.pcef_journal.specs.Setting.{Setting, same_flag, same_qos}
 use Rattle.pcef_journal.specs.ActiveRules.{Active}

@@ -3,7 +3,7 @@ use Rattle.std.specs.Prelude.{ℕ, List, [], ◌∷◌, map, if◌then◌else◌
 use Rattle.pcef_rule.specs.declared.quantity.Qos.{Qos}
 use Rattle.pcef_journal.specs.Setting.{Setting, same_qos}
 use Rattle.pcef_journal.specs.ActiveRules.{Active}
-use Rattle.pcef_journal.specs.Generations.{Generation, default_id}
+use Rattle.pcef_journal.specs.Generations.{default_id}
 use Rattle.pcef_replay.specs.declared.bearers.Bearers.{Bearers}
 use Rattle.pcef_replay.specs.declared.bearers.Binding.{Binding}
 

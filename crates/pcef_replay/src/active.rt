@@ -5,8 +5,8 @@ ghost use Rattle.pcef_journal.specs.ActiveRules.{has_key, is_key, is_named, put,
 ghost use Rattle.pcef_replay.specs.Rules.{active_of, rules_in};
 
 use crate::setting::is_same_name;
-use pcef_rule::{KeyName, Properties, Rule, RuleName};
 use pcef_catalog::Offer;
+use pcef_rule::{KeyName, Properties, Rule, RuleName};
 use std::alloc::{AllocError, Global};
 
 /// An active rule, which stands in a command or in the catalog.

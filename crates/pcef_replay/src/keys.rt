@@ -8,9 +8,9 @@ ghost use Rattle.pcef_journal.specs.Journals.{is_table, slots};
 
 use crate::setting::{Setting, is_same_name};
 use crate::usage::is_table;
+use pcef_catalog::Offer;
 use pcef_journal::{Command, Entry};
 use pcef_rule::KeyName;
-use pcef_catalog::Offer;
 use std::alloc::{AllocError, Global};
 
 /// Whether a key is among others.

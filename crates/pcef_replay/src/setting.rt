@@ -4,9 +4,9 @@ ghost use Rattle.std.specs.Prelude.{◌≡◌, find};
 ghost use Rattle.std.specs.Option.{option_copied};
 ghost use Rattle.pcef_journal.specs.Setting.{offer_named, same_flag, same_name, same_qos};
 
+use pcef_catalog::Offer;
 use pcef_packet::Addr;
 use pcef_rule::{Name, QciTable, Qos, RuleName, Sums};
-use pcef_catalog::Offer;
 use std::marker::Model;
 
 /// What is fixed for a session: its profile, its catalog, and the limits of the gateway.

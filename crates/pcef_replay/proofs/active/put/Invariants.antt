@@ -1,4 +1,4 @@
-use Rattle.std.proofs.Common.{◌≡◌, ◌≤◌, ◌++◌, ◌∷◌, [], take, drop, filter, map, find}
+use Rattle.std.proofs.Common.{◌≡◌, ◌++◌, drop}
 use Rattle.std.specs.Prelude.{if◌then◌else◌}
 use Rattle.pcef_journal.specs.ActiveRules.{put}
 use Rattle.pcef_replay.specs.Rules.{active_of, rules_in}

@@ -1,7 +1,5 @@
-use Rattle.std.proofs.Common.{◌≡◌, ◌≤◌, ◌++◌, ◌∷◌, [], take, drop, filter, map, find}
-use Rattle.std.specs.Prelude.{if◌then◌else◌}
+use Rattle.std.proofs.Common.{◌≡◌, drop}
 use Rattle.pcef_replay.specs.Bindings.{bound_id}
-use Rattle.pcef_replay.specs.Rules.{active_of, rules_in}
 use Rattle.pcef_replay.proofs.bearers.bound_id.Given as goal
 
 abbrev pub invariant-loop-binding : goal.invariant-loop-binding

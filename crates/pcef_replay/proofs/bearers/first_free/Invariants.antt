@@ -1,8 +1,6 @@
-use Rattle.std.proofs.Common.{◌≡◌, ◌≤◌, ◌++◌, ◌∷◌, [], take, drop, filter, map, find}
-use Rattle.std.specs.Prelude.{if◌then◌else◌}
+use Rattle.std.proofs.Common.{◌≡◌, drop, find}
 use Rattle.std.specs.Prelude.{ℕ, ◌==◌, not}
 use Rattle.std.specs.List.{list_any}
-use Rattle.pcef_replay.specs.Rules.{active_of, rules_in}
 use Rattle.pcef_replay.proofs.bearers.first_free.Given as goal
 
 abbrev pub invariant-loop-id : goal.invariant-loop-id

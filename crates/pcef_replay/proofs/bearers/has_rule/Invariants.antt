@@ -1,9 +1,8 @@
-use Rattle.std.proofs.Common.{◌≡◌, ◌≤◌, ◌++◌, ◌∷◌, [], take, drop, filter, map, find}
-use Rattle.std.specs.Prelude.{if◌then◌else◌}
+use Rattle.std.proofs.Common.{◌≡◌, drop}
 use Rattle.std.specs.List.{list_any}
 use Rattle.pcef_journal.specs.ActiveRules.{Active}
 use Rattle.pcef_journal.specs.Setting.{same_qos}
-use Rattle.pcef_replay.specs.Rules.{active_of, rules_in}
+use Rattle.pcef_replay.specs.Rules.{rules_in}
 use Rattle.pcef_replay.proofs.bearers.has_rule.Given as goal
 
 abbrev pub invariant-loop-rule : goal.invariant-loop-rule

@@ -1,5 +1,4 @@
-use Rattle.std.proofs.Common.{◌≡◌, ◌≤◌, ◌<◌, ◌-◌, ◌++◌, ◌∷◌, [], ℕ, List, take, drop, filter, map, length}
-use Rattle.std.specs.Prelude.{if◌then◌else◌}
+use Rattle.std.proofs.Common.{◌≡◌, take, filter}
 use Rattle.std.specs.Prelude.{reverse}
 use Rattle.pcef_journal.specs.Reports.{is_reached}
 use Rattle.pcef_replay.proofs.grants.reached_keys.Given as goal

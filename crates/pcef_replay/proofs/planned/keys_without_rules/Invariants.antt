@@ -1,5 +1,4 @@
-use Rattle.std.proofs.Common.{◌≡◌, ◌≤◌, ◌<◌, ◌-◌, ◌++◌, ◌∷◌, [], ℕ, List, take, drop, filter, map, length}
-use Rattle.std.specs.Prelude.{if◌then◌else◌}
+use Rattle.std.proofs.Common.{◌≡◌, ℕ, List, take, filter}
 use Rattle.std.specs.Prelude.{◌&&◌, not}
 use Rattle.pcef_journal.specs.ActiveRules.{has_key}
 use Rattle.pcef_journal.specs.Generations.{is_among}

@@ -1,5 +1,4 @@
-use Rattle.std.proofs.Common.{◌≡◌, ◌≤◌, ◌<◌, ◌-◌, ◌++◌, ◌∷◌, [], ℕ, List, take, drop, filter, map, length}
-use Rattle.std.specs.Prelude.{if◌then◌else◌}
+use Rattle.std.proofs.Common.{◌≡◌, ℕ, List, take, filter}
 use Rattle.std.specs.Prelude.{◌||◌, nat_lt, reverse}
 use Rattle.pcef_journal.specs.Generations.{is_among}
 use Rattle.pcef_journal.specs.Journals.{now, unreported}

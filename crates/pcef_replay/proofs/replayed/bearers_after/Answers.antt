@@ -1,4 +1,4 @@
-use Rattle.std.proofs.Common.{◌≡◌, ◌∙◌, List, ap, map, filter}
+use Rattle.std.proofs.Common.{◌∙◌, List, ap, map, filter}
 use Rattle.pcef_journal.specs.ActiveRules.{Active}
 use Rattle.pcef_journal.specs.Generations.{has_bearer, least_free}
 use Rattle.pcef_replay.proofs.Bound.{next_ids}

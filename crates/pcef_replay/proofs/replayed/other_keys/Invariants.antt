@@ -1,8 +1,6 @@
-use Rattle.std.proofs.Common.{◌≡◌, ◌≤◌, ◌++◌, ◌∷◌, [], take, drop, filter, map, find}
-use Rattle.std.specs.Prelude.{if◌then◌else◌}
+use Rattle.std.proofs.Common.{◌≡◌, take, filter}
 use Rattle.std.specs.Prelude.{ℕ, List, not}
 use Rattle.pcef_journal.specs.Setting.{same_name}
-use Rattle.pcef_replay.specs.Rules.{active_of, rules_in}
 use Rattle.pcef_replay.proofs.replayed.other_keys.Given as goal
 
 abbrev pub invariant-loop-other : goal.invariant-loop-other

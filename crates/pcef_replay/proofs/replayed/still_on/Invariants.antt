@@ -1,7 +1,6 @@
-use Rattle.std.proofs.Common.{◌≡◌, ◌≤◌, ◌++◌, ◌∷◌, [], take, drop, filter, map, find}
-use Rattle.std.specs.Prelude.{if◌then◌else◌}
+use Rattle.std.proofs.Common.{◌≡◌, take}
 use Rattle.pcef_journal.specs.Generations.{still_on}
-use Rattle.pcef_replay.specs.Rules.{active_of, rules_in}
+use Rattle.pcef_replay.specs.Rules.{rules_in}
 use Rattle.pcef_replay.proofs.replayed.still_on.Given as goal
 
 abbrev pub invariant-loop-key : goal.invariant-loop-key

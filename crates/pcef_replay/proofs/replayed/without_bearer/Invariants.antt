@@ -1,9 +1,8 @@
-use Rattle.std.proofs.Common.{◌≡◌, ◌≤◌, ◌++◌, ◌∷◌, [], take, drop, filter, map, find}
-use Rattle.std.specs.Prelude.{if◌then◌else◌}
+use Rattle.std.proofs.Common.{◌≡◌, take, filter}
 use Rattle.std.specs.Prelude.{◌==◌, not}
 use Rattle.pcef_journal.specs.ActiveRules.{Active}
 use Rattle.pcef_replay.specs.Bindings.{id_by}
-use Rattle.pcef_replay.specs.Rules.{active_of, rules_in}
+use Rattle.pcef_replay.specs.Rules.{rules_in}
 use Rattle.pcef_replay.proofs.replayed.without_bearer.Given as goal
 
 abbrev pub invariant-loop-rule : goal.invariant-loop-rule

@@ -1,4 +1,4 @@
-use Rattle.std.proofs.Common.{◌≡◌, ◌≤◌, take}
+use Rattle.std.proofs.Common.{◌≡◌, take}
 use Rattle.std.specs.Prelude.{reverse}
 use Rattle.pcef_journal.specs.Journals.{subscribed}
 use Rattle.pcef_replay.proofs.workers.subscribed.Given as goal

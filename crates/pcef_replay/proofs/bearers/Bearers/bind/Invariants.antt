@@ -1,7 +1,6 @@
-use Rattle.std.proofs.Common.{◌≡◌, ◌≤◌, ◌++◌, ◌∷◌, [], take, drop, filter, map, find}
-use Rattle.std.specs.Prelude.{if◌then◌else◌}
+use Rattle.std.proofs.Common.{◌≡◌, take}
 use Rattle.pcef_replay.specs.Bindings.{bindings, id_by}
-use Rattle.pcef_replay.specs.Rules.{active_of, rules_in}
+use Rattle.pcef_replay.specs.Rules.{rules_in}
 use Rattle.pcef_replay.proofs.bearers.Bearers.bind.Given as goal
 
 abbrev pub invariant-loop-rule : goal.invariant-loop-rule
