@@ -9,7 +9,7 @@ ghost use Rattle.pcef_catalog.specs.Shapes.{detected};
 ghost use Rattle.pcef_catalog.specs.declared.listing.Offer.{Offer};
 
 use crate::listing::{Listing, MAX_OFFERS};
-use crate::places::{are_distinct, listing_of};
+use crate::places::{are_distinct, detects_at, listing_of};
 use crate::predefined::Predefined;
 use pcef_packet::Header;
 use pcef_rule::RuleName;
@@ -93,6 +93,6 @@ impl Offers for Catalog {
     }
 
     fn detects(&self, index: u8, header: &Header) -> bool {
-        self.rules[usize::from(index)].detects(header)
+        detects_at(&self.rules, index, header)
     }
 }

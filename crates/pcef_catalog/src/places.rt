@@ -2,10 +2,12 @@
 
 ghost use Rattle.std.specs.Prelude.{◌≡◌, ◌≢◌, ◌<◌, ◌≤◌, ◌↔◌, ℕ, IfNone, IfOk, IfSome, IsTrue, Some, length, slice_get};
 ghost use Rattle.pcef_catalog.specs.PlainRules.{offer_of, offers_in};
+ghost use Rattle.pcef_catalog.specs.Shapes.{detected};
 ghost use Rattle.pcef_catalog.specs.Offers.{AreDistinct, most_offers, names_of};
 
 use crate::listing::{Listing, Offer};
 use crate::predefined::Predefined;
+use pcef_packet::Header;
 use pcef_rule::RuleName;
 use std::alloc::{AllocError, Global};
 
@@ -40,6 +42,14 @@ pub(crate) fn are_distinct(rules: &[Predefined]) -> bool
         }
     }
     true
+}
+
+/// Whether the closure of the rule at a place answers yes to a header.
+pub(crate) fn detects_at(rules: &[Predefined], index: u8, header: &Header) -> bool
+    requires { index < length (offers_in rules.now) }
+    ensures { result ≡ detected (offers_in rules.now) index header.now }
+{
+    rules[usize::from(index)].detects(header)
 }
 
 /// A rule without its closure.
