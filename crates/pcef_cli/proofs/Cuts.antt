@@ -1,6 +1,8 @@
 -- The lines of an input, as its bytes come.
-use Rattle.std.proofs.Common.{◌≡◌, ◌≢◌, ℕ, Bool, true, false, cond, eqb, List, [], ◌∷◌, ◌++◌, refl}
-use Rattle.std.proofs.lemmas.Bool.{ne_eqb}
+use Rattle.std.proofs.Common.{◌≡◌, ◌≢◌, ℕ, Bool, true, false, cond, eqb, List, [], ◌∷◌, ◌++◌, refl, sym, ap, ◌∙◌, append_assoc, append-nil}
+use Rattle.std.specs.Prelude.{◌==◌}
+use Rattle.std.proofs.lemmas.Bool.{eqb-false, ne_eqb, or_parts}
+use Rattle.pcef_cli.specs.ScriptLines.{has_feed}
 use Rattle.pcef_cli.specs.Scripts.{cut, ended_lines, joined, last_line}
 
 before_plain : (is_end : Bool) (x : ℕ) (lines : List (List ℕ)) (last : List ℕ) (b : ℕ)
@@ -28,3 +30,14 @@ pub cut_end : (input : List ℕ) → cut (input ++ 10 ∷ []) ≡ (ended_lines i
 unfolding cut
 cut_end [] = refl
 cut_end (x ∷ input) = rw (cut_end input) (before_end (eqb x 10) x (cut input).0 (cut input).1)
+
+-- and so do many of them
+pub cut_run : (input run : List ℕ) → has_feed run ≡ false → cut (input ++ run) ≡ (ended_lines input, last_line input ++ run)
+unfolding cut
+cut_run input [] none = rw (append-nil input, append-nil (last_line input)) refl
+cut_run input (b ∷ run) none =
+    let parts = or_parts (b == 10) (has_feed run) none in
+    let one = cut_plain input b (eqb-false b 10 parts.0) in
+    ap cut (sym (append_assoc input (b ∷ []) run)) ∙ cut_run (input ++ b ∷ []) run parts.1
+    ∙ ap (λ (c : List (List ℕ) × List ℕ). (c.0, c.1 ++ run)) one
+    ∙ ap (λ l. (ended_lines input, l)) (append_assoc (last_line input) (b ∷ []) run)

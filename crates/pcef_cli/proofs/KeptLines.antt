@@ -1,11 +1,14 @@
 -- What is kept of a line as its bytes come.
-use Rattle.std.proofs.Common.{◌≡◌, ◌∙◌, ℕ, ◌<◌, ◌≤◌, Bool, true, false, List, [], ◌∷◌, ◌++◌, length, take, nat_lt, min, refl, sym, ap, arith}
+use Rattle.std.proofs.Common.{◌≡◌, ◌∙◌, ℕ, ◌<◌, ◌≤◌, ◌-◌, Bool, true, false, List, [], ◌∷◌, ◌++◌, length, take, nat_lt, min, refl, sym, ap, arith, append-nil}
 use Rattle.std.specs.Prelude.{Some}
 use Rattle.std.specs.List.{list_all}
 use Rattle.std.proofs.lemmas.Bool.{false≢true}
 use Rattle.std.proofs.lemmas.Bool.Decides.{nat_tests}
 use Rattle.std.proofs.lemmas.List.{length-append, length-take, take_all, take-append-le}
-use Rattle.pcef_cli.specs.ScriptLines.{Kept, IsKept, kept_of, line_most, is_blank, is_space, within_limit}
+use Rattle.pcef_cli.specs.ScriptLines.{Kept, IsKept, kept_of, line_most, is_blank, is_too_long, is_space, within_limit}
+
+abbrev pub kept_at_read : List ℕ → Bool → ℕ → Kept
+kept_at_read bytes flag n = record { bytes = bytes; is_too_long = flag; read = n }
 
 below : (most n : ℕ) → n ≤ most → nat_lt most n ≡ false
 below most n le = grind (arith, nat_tests)
@@ -29,6 +32,20 @@ one_more bytes line flag b kept lt =
       ap (λ l. l ++ b ∷ []) same ∙ sym (take_all line_most (line ++ b ∷ []) short),
       kept.1 ∙ below line_most (length line) (omega (arith, lt, ap length same)) ∙ sym (below line_most (length (line ++ b ∷ [])) short),
     )
+
+-- so many more bytes as there is room for
+pub some_more : (bytes line run : List ℕ) (flag : Bool) → IsKept bytes flag line → length run ≤ line_most - length bytes → IsKept (bytes ++ run) flag (line ++ run)
+some_more bytes line [] flag kept le = (append-nil bytes ∙ kept.0 ∙ ap (take line_most) (sym (append-nil line)), kept.1 ∙ ap is_too_long (sym (append-nil line)))
+some_more bytes line (b ∷ run) flag kept le =
+    let lt : length bytes < line_most = omega (arith, le) in
+    let same = whole line_most bytes line kept.0 lt in
+    let short : length (line ++ b ∷ run) ≤ line_most = omega (arith, le, ap length same, length-append line (b ∷ run)) in (
+      ap (λ l. l ++ b ∷ run) same ∙ sym (take_all line_most (line ++ b ∷ run) short),
+      kept.1 ∙ below line_most (length line) (omega (arith, lt, ap length same)) ∙ sym (below line_most (length (line ++ b ∷ run)) short),
+    )
+
+pub kept_by : (bytes line : List ℕ) (flag : Bool) (n : ℕ) → IsKept bytes flag line → kept_at_read bytes flag n ≡ kept_of line n
+kept_by bytes line flag n kept = rw (kept.0, kept.1) refl
 
 pub no_more : (bytes line : List ℕ) (flag : Bool) (b : ℕ) → IsKept bytes flag line → line_most ≤ length bytes → IsKept bytes true (line ++ b ∷ [])
 no_more bytes line flag b kept le =

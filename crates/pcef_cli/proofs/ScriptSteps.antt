@@ -1,10 +1,10 @@
 -- How a script goes on.
-use Rattle.std.proofs.Common.{◌≡◌, ◌≢◌, ℕ, suc, ◌+◌, ◌-◌, ◌<◌, ◌≤◌, ◌^◌, Bool, true, false, None, nat_lt, add-one, take-suc, List, [], ◌∷◌, ◌++◌, length, Option, refl, sym, ap, ◌∙◌, subst, append_assoc, append-nil, arith, length-append, take, drop, get_or, take-append-drop}
+use Rattle.std.proofs.Common.{◌≡◌, ◌≢◌, ℕ, suc, ◌+◌, ◌-◌, ◌<◌, ◌≤◌, ◌^◌, Bool, true, false, None, nat_lt, add-one, take-suc, List, [], ◌∷◌, ◌++◌, length, Option, refl, sym, ap, ◌∙◌, subst, append_assoc, append-nil, arith, length-append, take, drop, get_or, take-append-drop, inl, inr}
 use Rattle.std.specs.Result.{is_ok}
 use Rattle.std.specs.Prelude.{IfErr, IfOk, Result, Ok, Err}
 use Rattle.std.specs.Io.KnownBytes.{Appends, IsAtEnd}
 use Rattle.std.proofs.KnownBytes.{Appends-nil, Appends-trans}
-use Rattle.std.proofs.lemmas.List.{at_drop_more, take_all, take_at}
+use Rattle.std.proofs.lemmas.List.{at_drop_more, length-take, take_all, take_at}
 use Rattle.std.proofs.lemmas.Bool.{false≢true}
 use Rattle.std.proofs.lemmas.Bool.Decides.{nat_tests}
 use Rattle.pcef_journal.specs.Setting.{Setting}
@@ -15,10 +15,10 @@ use Rattle.pcef_session.specs.Worlds.{World}
 use Rattle.pcef_cli.specs.declared.script.fault.ScriptFault.{ScriptFault}
 use Rattle.pcef_cli.specs.declared.script.fault.ScriptFault.TheVariants as fault
 use Rattle.pcef_cli.specs.ScriptAnswers.{Answers, Standing, answered, at_start, standing_of}
-use Rattle.pcef_cli.specs.ScriptLines.{Kept, Takes, kept_of, script_most}
+use Rattle.pcef_cli.specs.ScriptLines.{Kept, Takes, has_feed, kept_of, script_most}
 use Rattle.pcef_cli.specs.Scripts.{EndFails, EndsLine, IsAfter, OpenFails, Opened, Ran, Stopped, StoppedIn, Wrote, all_lines, cut, ended_lines, last_line}
 use Rattle.pcef_cli.proofs.Answering.{answered_more, answers_more, front_after}
-use Rattle.pcef_cli.proofs.Cuts.{cut_end, cut_plain}
+use Rattle.pcef_cli.proofs.Cuts.{cut_end, cut_plain, cut_run}
 
 one_longer : (input : List ℕ) (b : ℕ) → length (input ++ b ∷ []) ≡ length input + 1
 one_longer input b = length-append input (b ∷ [])
@@ -62,6 +62,24 @@ goes_on p start now old new faults w input b h lt ne is =
       written = h.written;
     }
 
+-- bytes among which is no line feed
+pub goes_on_run : (p : Setting) (start now : Option (List ℕ)) (old new : Kept) (faults : ℕ) (w : World) (input run : List ℕ) → IsAfter p start now old faults w input → length input + length run ≤ script_most → has_feed run ≡ false
+    → new ≡ kept_of (last_line input ++ run) (old.read + length run) → IsAfter p start now new faults w (input ++ run)
+goes_on_run p start now old new faults w input run h most none is =
+    let len : length (input ++ run) ≡ length input + length run = length-append input run in
+    let lines : ended_lines (input ++ run) ≡ ended_lines input = ap (λ (c : List (List ℕ) × List ℕ). c.0) (cut_run input run none) in
+    let last : last_line (input ++ run) ≡ last_line input ++ run = ap (λ (c : List (List ℕ) × List ℕ). c.1) (cut_run input run none) in
+    let read : old.read + length run ≡ length (input ++ run) = ap (λ (k : Kept). k.read + length run) h.kept ∙ sym len in
+    record {
+      kept = is ∙ ap (λ l. kept_of l (old.read + length run)) (sym last) ∙ ap (kept_of (last_line (input ++ run))) read;
+      most = omega (arith, len, most);
+      few = omega (arith, len, h.few);
+      setting = h.setting;
+      text = h.text;
+      answers = subst (λ ls. Answers p at_start (answered ls) h.text faults (standing_of w)) (sym lines) h.answers;
+      written = h.written;
+    }
+
 -- the answers so far, and the one to the last line
 answers_on : (p : Setting) (lines : List (List ℕ)) (line x y : List ℕ) (n k : ℕ) (s t : Standing) → Answers p at_start (answered lines) x n s → Answers p s (answered (line ∷ [])) y k t
     → Answers p at_start (answered (lines ++ line ∷ [])) (x ++ y) (n + k) t
@@ -93,10 +111,10 @@ wrote p start now line faults w input h = (h.text, standing_of w, h.answers, h.w
 
 -- a line's answer wasn't written whole
 pub line_fails : (p : Setting) (start a b : Option (List ℕ)) (line : Kept) (faults : ℕ) (w : World) (input : List ℕ) (e : ScriptFault) → IsAfter p start a line faults w input → EndFails p w (last_line input) e a b
-    → Stopped p e start b input
+    → Stopped p e 10 start b input
 line_fails p start a b line faults w input fault.Write h f =
     let joined = answers_on p (ended_lines input) (last_line input) h.text f.0 faults f.1 (standing_of w) f.2 h.answers f.3 in
-    (h.text ++ f.0, faults + f.1, f.2, joined, front_after start a b h.text f.0 h.written f.4)
+    (refl, (h.text ++ f.0, faults + f.1, f.2, joined, front_after start a b h.text f.0 h.written f.4))
 line_fails p start a b line faults w input fault.NoMemory h f =
     (faults, (h.text, standing_of w, h.answers, subst (Appends start b) (append-nil h.text) (Appends-trans start a b h.text [] h.written f)))
 line_fails p start a b line faults w input fault.Read h f = absurd f
@@ -145,7 +163,7 @@ took_end true b line old new is t = t
 
 -- the byte wasn't taken
 pub take_fails : (p : Setting) (start now : Option (List ℕ)) (old new : Kept) (faults : ℕ) (w : World) (input : List ℕ) (b : ℕ) (e : ScriptFault) → IsAfter p start now old faults w input
-    → Takes b (last_line input) old (Err e) new → (failed e ≡ failed fault.TooMuch → script_most ≤ old.read) → Stopped p e start now input
+    → Takes b (last_line input) old (Err e) new → (failed e ≡ failed fault.TooMuch → script_most ≤ old.read) → Stopped p e b start now input
 take_fails p start now old new faults w input b fault.TooMuch h t much =
     let most : length input ≡ script_most = omega (arith, h.most, much refl, read_is old input h.kept) in
     (most, faults, wrote p start now old faults w input h)
@@ -179,7 +197,7 @@ at_end (Ok n) p start a b left line faults v w input h end ok err =
       ),
     )
 at_end (Err fault.Write) p start a b left line faults v w input h end ok err =
-    (input, [], sym (append-nil input), line_fails p start a b line faults v input fault.Write h err)
+    inr (end, (line_fails p start a b line faults v input fault.Write h err).1)
 at_end (Err fault.NoMemory) p start a b left line faults v w input h end ok err =
     let f = line_fails p start a b line faults v input fault.NoMemory h err in
     (input, [], f.0, sym (append-nil input), f.1)
@@ -196,7 +214,7 @@ longer n m k e f = omega (arith, e, f)
 -- a byte of the block ended it
 pub stopped_in : (p : Setting) (e : ScriptFault) (start b left : Option (List ℕ)) (input block : List ℕ) → StoppedIn p e start b input block → Ran p (Err e) start b left (input ++ block)
 stopped_in p fault.Write start b left input block h =
-    (input ++ h.0, h.1 ∷ h.2, ap (λ t. input ++ t) h.3 ∙ regroup input h.0 h.2 h.1, h.4)
+    inl (input ++ h.0, h.2, ap (λ t. input ++ t) h.3 ∙ regroup input h.0 h.2 h.1 ∙ ap (λ x. (input ++ h.0) ++ x ∷ h.2) h.4.0, h.4.1)
 stopped_in p fault.NoMemory start b left input block h =
     (input ++ h.0, h.1 ∷ h.2, h.4.0, ap (λ t. input ++ t) h.3 ∙ regroup input h.0 h.2 h.1, h.4.1)
 stopped_in p fault.TooMuch start b left input block h =
@@ -236,3 +254,17 @@ open_fails p fault.NoMemory old left fails = ([], [], 0, refl, ([], at_start, (r
 open_fails p fault.Read old left fails = absurd fails
 open_fails p fault.Write old left fails = absurd fails
 open_fails p fault.TooMuch old left fails = absurd fails
+
+-- a byte after some bytes of the block ended it
+pub stopped_later : (p : Setting) (e : ScriptFault) (start now : Option (List ℕ)) (input front rest block : List ℕ) → block ≡ front ++ rest → StoppedIn p e start now (input ++ front) rest → StoppedIn p e start now input block
+stopped_later p e start now input front rest block is h =
+    (front ++ h.0, h.1, h.2, is ∙ ap (λ t. front ++ t) h.3 ∙ sym (append_assoc front h.0 (h.1 ∷ h.2)), subst (Stopped p e h.1 start now) (append_assoc input front h.0) h.4)
+
+-- so many bytes of a block, among which is no line feed
+pub ran_on : (p : Setting) (start now : Option (List ℕ)) (old new : Kept) (faults : ℕ) (w : World) (input block : List ℕ) (n : ℕ) → IsAfter p start now old faults w input → n ≤ length block → has_feed (take n block) ≡ false
+    → (old.read ≤ script_most → old.read + n ≤ script_most) → new ≡ kept_of (last_line input ++ take n block) (old.read + n) → IsAfter p start now new faults w (input ++ take n block)
+ran_on p start now old new faults w input block n h le none most is =
+    let len : length (take n block) ≡ n = omega (arith, length-take n block, le) in
+    let read : old.read ≡ length input = ap (λ (k : Kept). k.read) h.kept in
+    let fits : length input + length (take n block) ≤ script_most = omega (arith, len, read, most (omega (arith, read, h.most))) in
+    goes_on_run p start now old new faults w input (take n block) h fits none (is ∙ ap (λ k. kept_of (last_line input ++ take n block) (old.read + k)) (sym len))

@@ -1,6 +1,6 @@
 -- The lines of a script while their bytes come, and answers that are written (own choice).
 use Rattle.std.specs.Prelude.{◌≡◌, ◌≢◌, ◌+◌, ◌==◌, ◌||◌, ◌&&◌, ℕ, nat_lt, Bool, true, false, not, List, [], ◌∷◌, ◌++◌, length, take, Option, Some, None, Result, Ok, Err, if◌then◌else◌}
-use Rattle.std.specs.List.{list_all}
+use Rattle.std.specs.List.{list_all, list_any}
 use Rattle.std.specs.Io.KnownBytes.{Appends}
 use Rattle.pcef_cli.specs.declared.script.fault.ScriptFault.{ScriptFault}
 use Rattle.pcef_cli.specs.declared.script.fault.ScriptFault.TheVariants as fault
@@ -50,5 +50,9 @@ abbrev pub AppendsFront : Option (List ℕ) → Option (List ℕ) → List ℕ �
 AppendsFront old new bytes = (front rest : List ℕ) × (bytes ≡ front ++ rest) × Appends old new front
 
 -- ---- for private clauses
+-- a line feed is among the bytes
+abbrev pub has_feed : List ℕ → Bool
+has_feed bytes = list_any (λ b. b == 10) bytes
+
 abbrev pub IsKept : List ℕ → Bool → List ℕ → Type 0
 IsKept bytes flag line = (bytes ≡ take line_most line) × (flag ≡ is_too_long line)

@@ -1,5 +1,5 @@
 -- What is written for a script (own choice).
-use Rattle.std.specs.Prelude.{◌≡◌, ◌<◌, ◌≤◌, ◌+◌, ◌==◌, ℕ, List, [], ◌∷◌, ◌++◌, length, take, Option, Some, None, Result, Ok, Err, if◌then◌else◌}
+use Rattle.std.specs.Prelude.{◌≡◌, ◌⊎◌, ◌<◌, ◌≤◌, ◌+◌, ◌==◌, ℕ, List, [], ◌∷◌, ◌++◌, length, take, Option, Some, None, Result, Ok, Err, if◌then◌else◌}
 use Rattle.std.specs.Io.KnownBytes.{Appends, IsAtEnd}
 use Rattle.pcef_journal.specs.Setting.{Setting}
 use Rattle.pcef_session.specs.Core.{setting_in}
@@ -45,7 +45,7 @@ WroteFront p lines old new =
 -- What was written for the input that was read. At its end the answers to all lines are, and the lines at
 -- fault are counted. Where the reader fails, or the script is too long, the answers to the whole lines
 -- before are; where memory runs out, those to the lines before that one; where the writer fails, some of
--- their bytes. Without a session nothing is read or written.
+-- the bytes of the answers up to a line that ended. Without a session nothing is read or written.
 abbrev pub Ran : Setting → Result ℕ ScriptFault → Option (List ℕ) → Option (List ℕ) → Option (List ℕ) → List ℕ → Type 0
 Ran p (Ok faults) old new left input = IsAtEnd left × Wrote p (all_lines input) faults old new
 Ran p (Err fault.Read) old new left input = (faults : ℕ) × Wrote p (ended_lines input) faults old new
@@ -54,7 +54,8 @@ Ran p (Err fault.TooMuch) old new left input =
 Ran p (Err fault.NoMemory) old new left input =
     (front rest : List ℕ) × (faults : ℕ) × (input ≡ front ++ rest) × Wrote p (ended_lines front) faults old new
 Ran p (Err fault.Write) old new left input =
-    (front rest : List ℕ) × (input ≡ front ++ rest) × WroteFront p (all_lines front) old new
+    ((front rest : List ℕ) × (input ≡ front ++ 10 ∷ rest) × WroteFront p (all_lines front) old new)
+    ⊎ (IsAtEnd left × WroteFront p (all_lines input) old new)
 Ran p (Err (fault.Profile f)) old new left input = (input ≡ []) × Appends old new []
 
 -- whether the session could be opened
@@ -94,13 +95,13 @@ pub record IsAfter (p : Setting) (start now : Option (List ℕ)) (line : Kept) (
   pub written : Appends start now text
 
 -- the next byte ended it
-abbrev pub Stopped : Setting → ScriptFault → Option (List ℕ) → Option (List ℕ) → List ℕ → Type 0
-Stopped p fault.Write start now input = WroteFront p (all_lines input) start now
-Stopped p fault.TooMuch start now input = (length input ≡ script_most) × (faults : ℕ) × Wrote p (ended_lines input) faults start now
-Stopped p fault.NoMemory start now input = (faults : ℕ) × Wrote p (ended_lines input) faults start now
-Stopped p other start now input = ⊥
+abbrev pub Stopped : Setting → ScriptFault → ℕ → Option (List ℕ) → Option (List ℕ) → List ℕ → Type 0
+Stopped p fault.Write b start now input = (b ≡ 10) × WroteFront p (all_lines input) start now
+Stopped p fault.TooMuch b start now input = (length input ≡ script_most) × (faults : ℕ) × Wrote p (ended_lines input) faults start now
+Stopped p fault.NoMemory b start now input = (faults : ℕ) × Wrote p (ended_lines input) faults start now
+Stopped p other b start now input = ⊥
 
 -- one of the bytes ended it
 abbrev pub StoppedIn : Setting → ScriptFault → Option (List ℕ) → Option (List ℕ) → List ℕ → List ℕ → Type 0
 StoppedIn p e start now input block =
-    (front : List ℕ) × (b : ℕ) × (rest : List ℕ) × (block ≡ front ++ b ∷ rest) × Stopped p e start now (input ++ front)
+    (front : List ℕ) × (b : ℕ) × (rest : List ℕ) × (block ≡ front ++ b ∷ rest) × Stopped p e b start now (input ++ front)

@@ -1,9 +1,9 @@
 //! What is read of a script, line by line.
 
-ghost use Rattle.std.specs.Prelude.{◌≡◌, ◌≤◌, ◌↔◌, ◌++◌, ◌∷◌, ℕ, List, [], Err, IfErr, OnOk, option_map};
+ghost use Rattle.std.specs.Prelude.{◌≡◌, ◌≤◌, ◌+◌, ◌↔◌, ◌++◌, ◌∷◌, ℕ, List, [], Err, IfErr, OnOk, false, length, option_map, take};
 ghost use Rattle.std.specs.List.{list_all};
 ghost use Rattle.pcef_cli.specs.declared.script.fault.ScriptFault.TheVariants.{NoMemory, TooMuch};
-ghost use Rattle.pcef_cli.specs.ScriptLines.{script_most, kept_of, IsKept, Takes, is_blank, is_space, within_limit};
+ghost use Rattle.pcef_cli.specs.ScriptLines.{script_most, kept_of, IsKept, Takes, has_feed, is_blank, is_space, within_limit};
 
 use super::fault::ScriptFault;
 use std::alloc::Global;
@@ -54,6 +54,21 @@ fn is_space(bytes: &[u8]) -> bool
         .all(|byte| *byte == b' ' || *byte == b'\t' || *byte == b'\r')
 }
 
+/// How many bytes stand before the first line feed, at most so many.
+fn plain_len(bytes: &[u8], most: usize) -> usize
+    ensures within { result ≤ length bytes.now }
+    ensures most { result ≤ most }
+    ensures plain { has_feed (take result bytes.now) ≡ false }
+{
+    let most = most.min(bytes.len());
+    for n in 0..most {
+        if bytes[n] == b'\n' {
+            return n;
+        }
+    }
+    most
+}
+
 impl Pending {
     /// Nothing read yet.
     pub(crate) fn new(alloc: Global) -> Pending
@@ -63,6 +78,26 @@ impl Pending {
             bytes: Vec::new(alloc),
             is_too_long: false,
             read: 0,
+        }
+    }
+
+    /// Takes bytes up to the next line feed, fewer where they would pass a limit or find no memory, and gives how
+    /// many. [`Pending::take`] takes the next one, or tells why not.
+    pub(crate) fn take_plain(&mut self, bytes: &[u8]) -> usize
+        ensures within { result ≤ length bytes.now }
+        ensures plain { has_feed (take result bytes.now) ≡ false }
+        ensures most { self.old.read ≤ script_most → self.old.read + result ≤ script_most }
+        ensures line { (line : List ℕ) → self.old ≡ kept_of line self.old.read → self.new ≡ kept_of (line ++ take result bytes.now) (self.old.read + result) }
+    {
+        let line_left = MAX_LINE.saturating_sub(self.bytes.len());
+        let script_left = MAX_SCRIPT.saturating_sub(self.read) as usize;
+        let taken = plain_len(bytes, line_left.min(script_left));
+        match self.bytes.extend_from_slice(bytes.split_at(taken).0) {
+            Ok(()) => {
+                self.read += taken as u64;
+                taken
+            }
+            Err(_) => 0,
         }
     }
 

@@ -1,6 +1,6 @@
-//! A script that runs, byte by byte.
+//! A script that runs, line by line.
 
-ghost use Rattle.std.specs.Prelude.{◌≡◌, ◌<◌, ◌+◌, ◌++◌, ◌∷◌, ◌^◌, [], IfErr, IfOk, List, OnOk, Option, string_bytes, ℕ};
+ghost use Rattle.std.specs.Prelude.{◌≡◌, ◌<◌, ◌≤◌, ◌+◌, ◌++◌, ◌∷◌, ◌^◌, [], IfErr, IfOk, List, OnOk, Option, length, string_bytes, take, ℕ};
 ghost use Rattle.std.specs.Io.KnownBytes.{Appends};
 ghost use Rattle.pcef_journal.specs.Setting.{Setting};
 ghost use Rattle.pcef_session.specs.Core.{setting_in};
@@ -102,7 +102,7 @@ fn take_byte<C: Offers, W: Write>(
 ) -> Result<(), ScriptFault>
     requires { C.offers catalog.now ≡ script.old.world.core.offers }
     ensures ok { (p : Setting) (start : Option (List ℕ)) (input : List ℕ) → IsAfter p start (W.contents writer.old) script.old.line script.old.faults script.old.world input → OnOk result (IsAfter p start (W.contents writer.new) script.new.line script.new.faults script.new.world (input ++ byte ∷ [])) }
-    ensures err { (p : Setting) (start : Option (List ℕ)) (input : List ℕ) → IsAfter p start (W.contents writer.old) script.old.line script.old.faults script.old.world input → IfErr result (λ e. Stopped p e start (W.contents writer.new) input) }
+    ensures err { (p : Setting) (start : Option (List ℕ)) (input : List ℕ) → IsAfter p start (W.contents writer.old) script.old.line script.old.faults script.old.world input → IfErr result (λ e. Stopped p e byte start (W.contents writer.new) input) }
     ensures offers { script.new.world.core.offers ≡ script.old.world.core.offers }
 {
     if !script.line.take(byte)? {
@@ -120,7 +120,31 @@ fn take_byte<C: Offers, W: Write>(
     Ok(())
 }
 
-/// Takes bytes of the script, one after the other.
+/// Takes the bytes up to the next line feed at once, then the next byte, if there is one, and gives how many
+/// these are.
+fn take_some<C: Offers, W: Write>(
+    alloc: Global,
+    catalog: &C,
+    script: &mut Running,
+    writer: &mut W,
+    bytes: &[u8],
+) -> Result<usize, ScriptFault>
+    requires offered { C.offers catalog.now ≡ script.old.world.core.offers }
+    requires some { 0 < length bytes.now }
+    ensures ok { (p : Setting) (start : Option (List ℕ)) (input : List ℕ) → IsAfter p start (W.contents writer.old) script.old.line script.old.faults script.old.world input → IfOk result (λ n. IsAfter p start (W.contents writer.new) script.new.line script.new.faults script.new.world (input ++ take n bytes.now)) }
+    ensures goes_on { IfOk result (λ n. (0 < n) × (n ≤ length bytes.now)) }
+    ensures err { (p : Setting) (start : Option (List ℕ)) (input : List ℕ) → IsAfter p start (W.contents writer.old) script.old.line script.old.faults script.old.world input → IfErr result (λ e. StoppedIn p e start (W.contents writer.new) input bytes.now) }
+    ensures offers { script.new.world.core.offers ≡ script.old.world.core.offers }
+{
+    let taken = script.line.take_plain(bytes);
+    if taken == bytes.len() {
+        return Ok(taken);
+    }
+    take_byte(alloc, catalog, script, writer, bytes[taken])?;
+    Ok(taken + 1)
+}
+
+/// Takes bytes of the script.
 pub(crate) fn take_block<C: Offers, W: Write>(
     alloc: Global,
     catalog: &C,
@@ -133,8 +157,10 @@ pub(crate) fn take_block<C: Offers, W: Write>(
     ensures err { (p : Setting) (start : Option (List ℕ)) (input : List ℕ) → IsAfter p start (W.contents writer.old) script.old.line script.old.faults script.old.world input → IfErr result (λ e. StoppedIn p e start (W.contents writer.new) input block.now) }
     ensures offers { script.new.world.core.offers ≡ script.old.world.core.offers }
 {
-    for byte in block {
-        take_byte(alloc, catalog, script, writer, *byte)?;
+    let mut rest = block;
+    while !rest.is_empty() {
+        let taken = take_some(alloc, catalog, script, writer, rest)?;
+        rest = rest.split_at(taken).1;
     }
     Ok(())
 }

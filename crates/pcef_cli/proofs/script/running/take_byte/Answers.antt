@@ -27,7 +27,7 @@ returns-in_err-script-clause-err g c = λ p start input h.
     let contents = g.W.Write.contents in
     let took = took_end c.in_ok-take.field-0 c.args.byte (last_line input) script.line c.take.new.self c.if-not-branch.false (c.in_ok-take.ensures.line (last_line input) (kept_now script.line input h.kept)) in
     let fails = c.in_err-script.ensures.err (last_line input) (kept_at c.take.new.self (last_line input) (script.line.read + 1) took.1) in
-    rw (q.1, q.2) (line_fails p start (contents c.args.writer.now) (contents c.end_line.new.writer) script.line script.faults script.world input c.in_err-script.field-0.0 h
+    rw (q.1, q.2, took.0) (line_fails p start (contents c.args.writer.now) (contents c.end_line.new.writer) script.line script.faults script.world input c.in_err-script.field-0.0 h
     (subst (λ s. EndFails s script.world (last_line input) c.in_err-script.field-0.0 (contents c.args.writer.now) (contents c.end_line.new.writer)) h.setting fails))
 
 pub returns-clause-ok : goal.returns-clause-ok
