@@ -1,5 +1,5 @@
 -- What is answered to the lines of a script (own choice).
-use Rattle.std.specs.Prelude.{ℕ, ◌≡◌, ◌+◌, Bool, true, false, not, List, [], ◌∷◌, ◌++◌, Option, Some, None, Result, Ok, Err, filter, if◌then◌else◌}
+use Rattle.std.specs.Prelude.{ℕ, ◌≡◌, ◌≢◌, ◌+◌, Bool, true, false, not, List, [], ◌∷◌, ◌++◌, Option, Some, None, Result, Ok, Err, filter, if◌then◌else◌}
 use Rattle.std.specs.Result.{result_map_both}
 use Rattle.std.specs.Str.{is_utf8}
 use Rattle.pcef_journal.specs.declared.command.Command.{Command}
@@ -9,11 +9,15 @@ use Rattle.pcef_journal.specs.Entries.{Journal}
 use Rattle.pcef_journal.specs.Journals.{gen}
 use Rattle.pcef_session.specs.declared.answer.Accepted.{Accepted}
 use Rattle.pcef_session.specs.declared.answer.AttachFault.{AttachFault}
+use Rattle.pcef_session.specs.declared.answer.AttachFault.TheVariants as attach
 use Rattle.pcef_session.specs.declared.answer.FlushRefusal.{FlushRefusal}
+use Rattle.pcef_session.specs.declared.answer.FlushRefusal.TheVariants as flush
 use Rattle.pcef_session.specs.declared.answer.Refusal.{Refusal}
+use Rattle.pcef_session.specs.declared.answer.Refusal.TheVariants as refusal
 use Rattle.pcef_session.specs.declared.answer.Verdicts.{Verdicts}
 use Rattle.pcef_session.specs.declared.batch.BatchFull.{BatchFull}
 use Rattle.pcef_session.specs.declared.world.StepRefusal.{StepRefusal}
+use Rattle.pcef_session.specs.declared.world.StepRefusal.TheVariants.{Refused}
 use Rattle.pcef_session.specs.Agreement.{Agrees, Parts}
 use Rattle.pcef_session.specs.Answers.{Attaches, Does, told_of}
 use Rattle.pcef_session.specs.Worlds.{HandsOver, Refreshes, Takes, Waiting, World, after_attaching}
@@ -39,15 +43,15 @@ abbrev pub standing_of : World → Standing
 standing_of w = record { journal = w.core.journal; workers = w.workers }
 
 -- ---- what a line asks for is done
--- a command, with the reports that the journal has for it
+-- a command, with the reports that the journal has for it; want of memory is no answer, but ends the script
 abbrev pub Commands : Setting → Standing → Command → List ℕ → Standing → Type 0
 Commands p before c text after =
-    (answer : Result Accepted Refusal) × Does p c before.journal answer after.journal
+    (answer : Result Accepted Refusal) × Does p c before.journal answer after.journal × (answer ≢ Err refusal.NoMemory)
     × (after.workers ≡ before.workers) × (text ≡ command_text after.journal answer)
 
 abbrev pub Comes : Standing → List ℕ → Standing → Type 0
 Comes before text after =
-    (answer : Result ℕ AttachFault) × Attaches before.journal answer after.journal
+    (answer : Result ℕ AttachFault) × Attaches before.journal answer after.journal × (answer ≢ Err attach.NoMemory)
     × (after.workers ≡ after_attaching before.journal answer before.workers) × (text ≡ attached_text (gen after.journal) answer)
 
 -- what is kept beside the journal, as it agrees with it, is shown
@@ -71,7 +75,7 @@ Steps p before (Refresh worker) text after =
 Steps p before (Flush worker) text after =
     (answer : Result Verdicts (StepRefusal FlushRefusal))
     × HandsOver p worker before.journal before.workers (result_map_both told_of (λ e. e) answer) after.journal after.workers
-    × (text ≡ flushed_text after.journal answer)
+    × (answer ≢ Err (Refused flush.NoMemory)) × (text ≡ flushed_text after.journal answer)
 Steps p before Show text after = Tells p before text after
 
 -- ---- lines

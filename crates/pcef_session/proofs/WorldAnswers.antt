@@ -108,12 +108,6 @@ pub refreshes_nowhere : (j : Journal) (workers : List Worker) (i : ℕ) → leng
 unfolding Refreshes
 refreshes_nowhere j workers i past = rw (seen_past workers i past) (refl, refl)
 
-pub refreshes_not : (j : Journal) (workers : List Worker) (i : ℕ) (w new : Worker) (generation : ℕ) → i < length workers → w ≡ get_or workers i w → new ≡ w → generation ≡ (held_by new).number →
-    Refreshes j i (map seen workers) (Some generation) (map seen (slice_set workers i new))
-unfolding Refreshes
-refreshes_not j workers i w new generation within is same held =
-    rw (seen_at workers i w within is) (inr (held ∙ ap (λ (v : Worker). (held_by v).number) same, seen_same workers i w new is same))
-
 -- by a worker of the list
 pub refreshes_answer : (s : Core) (workers : List Worker) (i : ℕ) (w new : Worker) (generation : ℕ) → Agrees (setting_in s) s.journal s.parts → i < length workers → w ≡ get_or workers i w →
     held_by new ≡ s.parts.table → new.waiting ≡ w.waiting → generation ≡ (held_by new).number → Refreshes s.journal i (map seen workers) (Some generation) (map seen (slice_set workers i new))
@@ -122,7 +116,7 @@ refreshes_answer s workers i w new generation agrees within is table waiting_is 
     let newest : (held_by new).number ≡ gen s.journal = ap (λ t. t.number) table ∙ agrees.table_shows.number_is in
     let looks : seen new ≡ with_generation (gen s.journal) (seen w) = ap (λ g. record { generation = g; rows = map row_of new.waiting }) newest
     ∙ ap (λ items. record { generation = gen s.journal; rows = map row_of items }) waiting_is in
-    rw (seen_at workers i w within is) (inl (generation_is ∙ newest, map-set seen workers i new ∙ ap (slice_set (map seen workers) i) looks))
+    rw (seen_at workers i w within is) (ap (λ n. Some n) (generation_is ∙ newest), map-set seen workers i new ∙ ap (slice_set (map seen workers) i) looks)
 
 -- ---- rows are handed over
 -- by no worker

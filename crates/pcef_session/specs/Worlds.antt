@@ -75,13 +75,10 @@ Takes p j worker header before result after =
 abbrev pub with_generation : ℕ → Waiting → Waiting
 with_generation g w = record w { generation = g }
 
--- its rows go on waiting; where the table finds no place to be counted in, the worker keeps the one that
--- it holds
+-- its rows go on waiting
 abbrev pub RefreshesBy : Journal → ℕ → List Waiting → Option Waiting → Option ℕ → List Waiting → Type 0
 RefreshesBy j worker before None result after = (result ≡ None) × (after ≡ before)
-RefreshesBy j worker before (Some w) None after = ⊥
-RefreshesBy j worker before (Some w) (Some generation) after =
-    ((generation ≡ gen j) × (after ≡ slice_set before worker (with_generation (gen j) w))) ⊎ ((generation ≡ w.generation) × (after ≡ before))
+RefreshesBy j worker before (Some w) result after = (result ≡ Some (gen j)) × (after ≡ slice_set before worker (with_generation (gen j) w))
 
 unfoldable pub Refreshes : Journal → ℕ → List Waiting → Option ℕ → List Waiting → Type 0
 Refreshes j worker before result after = RefreshesBy j worker before (slice_get before worker) result after

@@ -1,6 +1,6 @@
 //! What a script works on: a session and its workers.
 
-ghost use Rattle.std.specs.Prelude.{◌≡◌, ◌≤◌, [], IfOk, length};
+ghost use Rattle.std.specs.Prelude.{◌≡◌, ◌≤◌, [], IfOk, OnErr, length};
 ghost use Rattle.std.specs.Arc.{arc_value};
 ghost use Rattle.std.specs.Result.{result_err, result_map_both};
 ghost use Rattle.pcef_journal.specs.Journals.{attach_count, gen};
@@ -144,21 +144,21 @@ impl WorldState {
             .map_err(StepRefusal::Refused)
     }
 
-    /// A worker takes the newest generation, by which it judges from then on, and the number of the one
-    /// that it holds then is given. Its rows go on waiting. Where the table finds no place to be counted
-    /// in, it keeps the one that it holds. `None` where the worker isn't attached. Takes no memory.
-    pub fn refresh(&mut self, worker: u8) -> Option<u32>
-        ensures answer { Refreshes self.old.core.journal worker self.old.workers result self.new.workers }
+    /// A worker takes the newest generation, by which it judges from then on, and its number is given. Its rows
+    /// go on waiting. `None` where the worker isn't attached; want of memory, which changes nothing, where the
+    /// table can't be shared.
+    pub fn refresh(&mut self, worker: u8) -> Result<Option<u32>, AllocError>
+        ensures answer { IfOk result (λ answer. Refreshes self.old.core.journal worker self.old.workers answer self.new.workers) }
+        ensures kept { OnErr result (self.new.workers ≡ self.old.workers) }
         ensures core { self.new.core ≡ self.old.core }
     {
-        let Some(worker) = self.workers.get_mut(usize::from(worker)) else {
-            return None;
-        };
-        let Ok(table) = newest(&self.session) else {
-            return Some(worker.table.generation());
-        };
+        if usize::from(worker) >= self.workers.len() {
+            return Ok(None);
+        }
+        let table = newest(&self.session)?;
+        let worker = &mut self.workers[usize::from(worker)];
         worker.table = table;
-        Some(worker.table.generation())
+        Ok(Some(worker.table.generation()))
     }
 
     /// Hands the waiting rows of a worker over. A refusal keeps them.

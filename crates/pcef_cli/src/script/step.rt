@@ -17,7 +17,7 @@ use crate::line::{Line, LineFault, read_line};
 use pcef_catalog::Offers;
 use pcef_journal::Command;
 use pcef_packet::Header;
-use pcef_session::{SessionState, WorldState};
+use pcef_session::{AttachFault, FlushRefusal, Refusal, SessionState, StepRefusal, WorldState};
 use std::alloc::{AllocError, Global};
 use std::str;
 
@@ -47,14 +47,17 @@ fn generation(session: &SessionState) -> u32
     session.generation()
 }
 
+/// Does a command. Where memory is wanting there is no answer, for this step and for the next ones.
 fn command(alloc: Global, world: &mut WorldState, command: Command) -> Result<String, AllocError>
     requires { IsServed command }
     ensures answer { IfOk result (λ text. Commands (setting_in world.old.core) (standing_of world.old) command (string_bytes text) (standing_of world.new)) }
     ensures terms { world.new.core.terms ≡ world.old.core.terms }
     ensures offers { world.new.core.offers ≡ world.old.core.offers }
 {
-    let answer = world.command(command);
-    command_answer(alloc, world.session().journal(), answer)
+    match world.command(command) {
+        Err(Refusal::NoMemory) => Err(AllocError),
+        answer => command_answer(alloc, world.session().journal(), answer),
+    }
 }
 
 fn attach(alloc: Global, world: &mut WorldState) -> Result<String, AllocError>
@@ -62,8 +65,10 @@ fn attach(alloc: Global, world: &mut WorldState) -> Result<String, AllocError>
     ensures terms { world.new.core.terms ≡ world.old.core.terms }
     ensures offers { world.new.core.offers ≡ world.old.core.offers }
 {
-    let answer = world.attach();
-    attached_answer(alloc, generation(world.session()), answer)
+    match world.attach() {
+        Err(AttachFault::NoMemory) => Err(AllocError),
+        answer => attached_answer(alloc, generation(world.session()), answer),
+    }
 }
 
 fn take<C: Offers>(
@@ -85,7 +90,7 @@ fn refresh(alloc: Global, world: &mut WorldState, worker: u8) -> Result<String, 
     ensures answer { IfOk result (λ text. Steps (setting_in world.old.core) (standing_of world.old) (Refresh worker) (string_bytes text) (standing_of world.new)) }
     ensures core { world.new.core ≡ world.old.core }
 {
-    let answer = world.refresh(worker);
+    let answer = world.refresh(worker)?;
     refreshed_answer(alloc, answer)
 }
 
@@ -94,8 +99,10 @@ fn flush(alloc: Global, world: &mut WorldState, worker: u8) -> Result<String, Al
     ensures terms { world.new.core.terms ≡ world.old.core.terms }
     ensures offers { world.new.core.offers ≡ world.old.core.offers }
 {
-    let answer = world.flush(worker);
-    flushed_answer(alloc, world.session().journal(), &answer)
+    match world.flush(worker) {
+        Err(StepRefusal::Refused(FlushRefusal::NoMemory)) => Err(AllocError),
+        answer => flushed_answer(alloc, world.session().journal(), &answer),
+    }
 }
 
 fn show(alloc: Global, world: &WorldState) -> Result<String, AllocError>
