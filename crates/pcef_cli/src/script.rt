@@ -11,6 +11,8 @@ pub use fault::ScriptFault;
 pub use run::run_script;
 
 #[cfg(test)]
+mod end_tests;
+#[cfg(test)]
 mod memory_tests;
 #[cfg(test)]
 mod session_tests;
