@@ -9,5 +9,6 @@ pub mod NameTests
 pub mod NoFloats
 pub mod Objects
 pub mod ScriptSteps
+pub mod Showing
 pub mod StandardKinds
 pub mod Tables
