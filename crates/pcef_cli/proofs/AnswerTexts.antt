@@ -28,7 +28,7 @@ use Rattle.pcef_session.specs.declared.answer.Judged.{Judged}
 use Rattle.pcef_session.specs.declared.answer.Verdicts.{Verdicts}
 use Rattle.pcef_cli.specs.RefusalAnswers.{data_of}
 use Rattle.pcef_cli.specs.ReportAnswers.{body_data, reports_data, reports_told}
-use Rattle.pcef_cli.specs.ShowAnswers.{active_data, bearer_data, bearer_ids, bearer_told, bearers_told, keys_data, show_data}
+use Rattle.pcef_cli.specs.ShowAnswers.{active_data, bearer_data, bearer_ids, bearer_told, bearers_told, kept_data, states_data}
 use Rattle.pcef_cli.specs.StepAnswers.{accepted_data, flushed_data, members_told, verdict_data, verdicts_data}
 
 -- what is written for a value is the text of its data
@@ -89,9 +89,9 @@ bearers bound [] = refl
 bearers bound (id ∷ ids) =
     bearer id (length (rules_on id bound)) (guaranteed id bound) (filter_map (bearer_told bound) ids) (bearers bound ids)
 
-keys : (states : List KeyState) → has_float (keys_data states) ≡ false
+keys : (states : List KeyState) → has_float (states_data states) ≡ false
 keys [] = refl
 keys (s ∷ states) = keys states
 
-pub shown : (offers : List Offer) (parts : Parts) → has_float (show_data offers parts) ≡ false
+pub shown : (offers : List Offer) (parts : Parts) → has_float (kept_data offers parts) ≡ false
 shown offers parts = rw (entries offers parts.table.entries, bearers parts.binding.bound bearer_ids, keys parts.keys) refl

@@ -12,4 +12,5 @@ pub mod NameTests
 pub mod NoFloats
 pub mod Objects
 pub mod ScriptSteps
+pub mod Showing
 pub mod Tables

@@ -18,7 +18,6 @@ use Rattle.pcef_session.specs.declared.answer.Verdicts.{Verdicts}
 use Rattle.pcef_session.specs.declared.batch.BatchFull.{BatchFull}
 use Rattle.pcef_session.specs.declared.world.StepRefusal.{StepRefusal}
 use Rattle.pcef_session.specs.declared.world.StepRefusal.TheVariants.{Refused}
-use Rattle.pcef_session.specs.Agreement.{Agrees, Parts}
 use Rattle.pcef_session.specs.Answers.{Attaches, Does, told_of}
 use Rattle.pcef_session.specs.Worlds.{HandsOver, Refreshes, Takes, Waiting, World, after_attaching}
 use Rattle.pcef_cli.specs.declared.line.Line.{Line}
@@ -28,7 +27,7 @@ use Rattle.pcef_cli.specs.declared.line.fault.LineFault.TheVariants.{LineTooLong
 use Rattle.pcef_cli.specs.FaultAnswers.{fault_text}
 use Rattle.pcef_cli.specs.LineOf.{LineOf}
 use Rattle.pcef_cli.specs.ScriptLines.{is_blank, within_limit}
-use Rattle.pcef_cli.specs.ShowAnswers.{show_text}
+use Rattle.pcef_cli.specs.ShowAnswers.{TellsSession}
 use Rattle.pcef_cli.specs.StepAnswers.{attached_text, command_text, flushed_text, refreshed_text, taken_text}
 
 -- how a session stands between two lines: its journal, and its workers
@@ -54,11 +53,6 @@ Comes before text after =
     (answer : Result ℕ AttachFault) × Attaches before.journal answer after.journal × (answer ≢ Err attach.NoMemory)
     × (after.workers ≡ after_attaching before.journal answer before.workers) × (text ≡ attached_text (gen after.journal) answer)
 
--- what is kept beside the journal, as it agrees with it, is shown
-abbrev pub Tells : Setting → Standing → List ℕ → Standing → Type 0
-Tells p before text after =
-    (parts : Parts) × Agrees p before.journal parts × (text ≡ show_text p.catalog parts) × (after ≡ before)
-
 -- each step is the session's own, and its answer is told
 abbrev pub Steps : Setting → Standing → Line → List ℕ → Standing → Type 0
 Steps p before (Install rule) text after = Commands p before (command.Install rule) text after
@@ -76,7 +70,7 @@ Steps p before (Flush worker) text after =
     (answer : Result Verdicts (StepRefusal FlushRefusal))
     × HandsOver p worker before.journal before.workers (result_map_both told_of (λ e. e) answer) after.journal after.workers
     × (answer ≢ Err (Refused flush.NoMemory)) × (text ≡ flushed_text after.journal answer)
-Steps p before Show text after = Tells p before text after
+Steps p before Show text after = TellsSession p before.journal text × (after ≡ before)
 
 -- ---- lines
 -- what a line asks for, or its first fault: a line within the limit is UTF-8 (RFC 3629)

@@ -1,5 +1,5 @@
 -- The answer to `show`: a JSON object (RFC 8259), its members in the order of their keys (own choice).
-use Rattle.std.specs.Prelude.{ℕ, List, [], ◌∷◌, codes, length, map, Option}
+use Rattle.std.specs.Prelude.{ℕ, ◌≡◌, Bool, List, [], ◌∷◌, codes, length, map, Option}
 use Rattle.std.specs.List.{filter_map}
 use Rattle.std.specs.Option.{option_map}
 use Rattle.serde_json.specs.Data.{Data, string, boolean, array, object, member, no_members}
@@ -9,10 +9,17 @@ use Rattle.pcef_rule.specs.declared.quantity.Sums.{Sums}
 use Rattle.pcef_table.specs.declared.entry.Entry.{Entry}
 use Rattle.pcef_catalog.specs.declared.listing.Offer.{Offer}
 use Rattle.pcef_table.specs.Sources.{name_of}
+use Rattle.pcef_table.specs.Tables.{TableValue}
+use Rattle.pcef_journal.specs.Entries.{Journal}
+use Rattle.pcef_journal.specs.Generations.{is_among}
+use Rattle.pcef_journal.specs.Journals.{gen, now, reported, slots, unreported}
+use Rattle.pcef_journal.specs.Setting.{Setting}
 use Rattle.pcef_bearer.specs.declared.bearers.Bound.{Bound}
 use Rattle.pcef_bearer.specs.Bindings.{guaranteed, rules_on}
 use Rattle.pcef_usage.specs.declared.usage.KeyState.{KeyState}
 use Rattle.pcef_session.specs.Agreement.{Parts}
+use Rattle.pcef_session.specs.Bound.{bound_of}
+use Rattle.pcef_session.specs.Shown.{Shows}
 use Rattle.pcef_cli.specs.FaultAnswers.{count}
 
 -- ---- rules
@@ -47,25 +54,43 @@ abbrev pub bearers_data : List Bound → Data
 bearers_data bound = bearers_told bound bearer_ids
 
 -- ---- keys
-abbrev pub key_data : KeyState → Data
-key_data s =
-    object (member (codes "key") (string s.key)
-    (member (codes "on") (boolean s.on)
-    (member (codes "reported") (count s.reported)
-    (member (codes "unreported") (count s.unreported) no_members))))
+-- a key: whether it is on, and its octets
+abbrev pub key_data : List ℕ → Bool → ℕ → ℕ → Data
+key_data key on reported unreported =
+    object (member (codes "key") (string key)
+    (member (codes "on") (boolean on)
+    (member (codes "reported") (count reported)
+    (member (codes "unreported") (count unreported) no_members))))
 
-abbrev pub keys_data : List KeyState → Data
-keys_data states = array (items_of (map key_data states))
+abbrev pub key_told : Setting → Journal → List ℕ → Data
+key_told p j key = key_data key (is_among key (now p j).on) (reported j key) (unreported p j key)
 
 -- ---- a session
--- the active rules in precedence order, the bearers by id, the number of the newest generation, and the
--- keys in slot order
-abbrev pub show_data : List Offer → Parts → Data
-show_data offers parts =
-    object (member (codes "active") (active_data offers parts.table.entries)
-    (member (codes "bearers") (bearers_data parts.binding.bound)
-    (member (codes "generation") (count parts.table.number)
-    (member (codes "keys") (keys_data parts.keys) no_members))))
+abbrev pub session_data : Data → Data → ℕ → Data → Data
+session_data active bearers generation keys =
+    object (member (codes "active") active
+    (member (codes "bearers") bearers
+    (member (codes "generation") (count generation)
+    (member (codes "keys") keys no_members))))
 
-unfoldable pub show_text : List Offer → Parts → List ℕ
-show_text offers parts = compact_text (show_data offers parts)
+-- the active rules in the order of a table, the bearers by id, the number of the newest generation, and
+-- the keys in slot order
+abbrev pub told_data : Setting → Journal → List Entry → Data
+told_data p j entries =
+    session_data (active_data p.catalog entries) (bearers_data (bound_of (now p j) (now p j).rules)) (gen j)
+    (array (items_of (map (key_told p j) (slots p j))))
+
+-- the rules are in precedence order: that of the table that shows the newest generation
+abbrev pub TellsSession : Setting → Journal → List ℕ → Type 0
+TellsSession p j text = (table : TableValue) × Shows p j (gen j) table × (text ≡ compact_text (told_data p j table.entries))
+
+-- ---- for private clauses: the same from what a session keeps beside its journal
+abbrev pub state_data : KeyState → Data
+state_data s = key_data s.key s.on s.reported s.unreported
+
+abbrev pub states_data : List KeyState → Data
+states_data states = array (items_of (map state_data states))
+
+abbrev pub kept_data : List Offer → Parts → Data
+kept_data offers parts =
+    session_data (active_data offers parts.table.entries) (bearers_data parts.binding.bound) parts.table.number (states_data parts.keys)

@@ -13,6 +13,8 @@ pub use run::run_script;
 #[cfg(test)]
 mod declared_tests;
 #[cfg(test)]
+mod end_tests;
+#[cfg(test)]
 mod memory_tests;
 #[cfg(test)]
 mod session_tests;

@@ -3,7 +3,8 @@
 ghost use Rattle.std.specs.Prelude.{◌≡◌, ◌++◌, ◌∷◌, [], All, IfOk, OnOk, filter_map, map, string_bytes};
 ghost use Rattle.serde_json.specs.View.{view};
 ghost use Rattle.pcef_table.specs.Sources.{IsKnown};
-ghost use Rattle.pcef_cli.specs.ShowAnswers.{active_data, bearer_data, bearer_told, bearers_data, bearers_told, entry_data, key_data, keys_data, show_data, show_text};
+ghost use Rattle.pcef_session.specs.Core.{setting_in};
+ghost use Rattle.pcef_cli.specs.ShowAnswers.{TellsSession, active_data, bearer_data, bearer_told, bearers_data, bearers_told, entry_data, kept_data, state_data, states_data};
 
 use pcef_bearer::Bearers;
 use pcef_catalog::Listing;
@@ -16,13 +17,14 @@ use std::alloc::{AllocError, Global};
 
 /// The active rules in precedence order, the bearers by id, the generation, and the keys in slot order.
 pub fn show_answer(alloc: Global, session: &SessionState) -> Result<String, AllocError>
-    ensures { IfOk result (λ text. string_bytes text ≡ show_text session.now.offers session.now.parts) }
+    ensures { IfOk result (λ text. TellsSession (setting_in session.now) session.now.journal (string_bytes text)) }
 {
+    let _journal = session.journal();
     show_value(alloc, session)?.to_string(alloc)
 }
 
 fn show_value(alloc: Global, session: &SessionState) -> Result<Value, AllocError>
-    ensures { IfOk result (λ v. view v ≡ show_data session.now.offers session.now.parts) }
+    ensures { IfOk result (λ v. view v ≡ kept_data session.now.offers session.now.parts) }
 {
     let _journal = session.journal();
     let active = active_list(alloc, session.listing(), session.table().entries())?;
@@ -92,7 +94,7 @@ fn bearer_list(alloc: Global, bearers: &Bearers) -> Result<Value, AllocError>
 }
 
 fn key_list(alloc: Global, states: &[KeyState]) -> Result<Value, AllocError>
-    ensures { IfOk result (λ v. view v ≡ keys_data states.now) }
+    ensures { IfOk result (λ v. view v ≡ states_data states.now) }
 {
     let mut list = Vec::with_capacity(alloc, states.len())?;
     for state in states {
@@ -102,7 +104,7 @@ fn key_list(alloc: Global, states: &[KeyState]) -> Result<Value, AllocError>
 }
 
 fn key_value(alloc: Global, state: &KeyState) -> Result<Value, AllocError>
-    ensures { IfOk result (λ v. view v ≡ key_data state.now) }
+    ensures { IfOk result (λ v. view v ≡ state_data state.now) }
 {
     json!(in alloc; { "key": state.key.as_str(), "on": state.on, "reported": state.reported, "unreported": state.unreported })
 }

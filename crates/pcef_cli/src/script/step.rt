@@ -5,9 +5,9 @@ ghost use Rattle.pcef_journal.specs.Journals.{gen};
 ghost use Rattle.pcef_journal.specs.Setting.{Setting};
 ghost use Rattle.pcef_session.specs.Core.{IsServed, setting_in};
 ghost use Rattle.pcef_cli.specs.LineOf.{LineOf};
-ghost use Rattle.pcef_cli.specs.ScriptAnswers.{AnswersAs, Comes, Commands, Standing, Steps, Tells, standing_of, text_read};
+ghost use Rattle.pcef_cli.specs.ScriptAnswers.{AnswersAs, Comes, Commands, Standing, Steps, standing_of, text_read};
 ghost use Rattle.pcef_cli.specs.declared.line.fault.LineFault.TheVariants.{LineTooLong, NoMemory};
-ghost use Rattle.pcef_cli.specs.declared.line.Line.TheVariants.{Take, Refresh, Flush};
+ghost use Rattle.pcef_cli.specs.declared.line.Line.TheVariants.{Flush, Refresh, Show, Take};
 
 use crate::answer::{
     attached_answer, command_answer, fault_text, flushed_answer, refreshed_answer, show_answer,
@@ -106,11 +106,9 @@ fn flush(alloc: Global, world: &mut WorldState, worker: u8) -> Result<String, Al
 }
 
 fn show(alloc: Global, world: &WorldState) -> Result<String, AllocError>
-    ensures { IfOk result (λ text. Tells (setting_in world.now.core) (standing_of world.now) (string_bytes text) (standing_of world.now)) }
+    ensures { IfOk result (λ text. Steps (setting_in world.now.core) (standing_of world.now) Show (string_bytes text) (standing_of world.now)) }
 {
-    let session = world.session();
-    let _journal = session.journal();
-    show_answer(alloc, session)
+    show_answer(alloc, world.session())
 }
 
 fn step<C: Offers>(
