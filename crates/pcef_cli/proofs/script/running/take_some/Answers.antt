@@ -1,8 +1,6 @@
-use Rattle.std.proofs.Common.{◌≡◌, ◌∙◌, ◌+◌, ◌++◌, ◌≤◌, ◌<◌, ◌∷◌, [], ap, arith, drop, get_or, length, subst, sym, take}
-use Rattle.std.proofs.lemmas.List.{length-take}
+use Rattle.std.proofs.Common.{◌+◌, ◌++◌, ◌<◌, arith, drop, get_or, length, subst, take}
 use Rattle.std.proofs.lemmas.Result.{err_from_is_err_and}
-use Rattle.pcef_cli.specs.ScriptLines.{kept_of, script_most}
-use Rattle.pcef_cli.specs.Scripts.{IsAfter, Stopped, last_line}
+use Rattle.pcef_cli.specs.Scripts.{IsAfter, last_line}
 use Rattle.pcef_cli.proofs.ScriptSteps.{around, kept_now, one_on, ran_on}
 use Rattle.pcef_cli.proofs.script.running.take_some.Goals as goal
 
