@@ -268,3 +268,8 @@ ran_on p start now old new faults w input block n h le none most is =
     let read : old.read ≡ length input = ap (λ (k : Kept). k.read) h.kept in
     let fits : length input + length (take n block) ≤ script_most = omega (arith, len, read, most (omega (arith, read, h.most))) in
     goes_on_run p start now old new faults w input (take n block) h fits none (is ∙ ap (λ k. kept_of (last_line input ++ take n block) (old.read + k)) (sym len))
+
+-- a part of what is left goes to the front
+pub front_more : (block front left back : List ℕ) (n : ℕ) → block ≡ front ++ left → back ≡ drop n left → block ≡ (front ++ take n left) ++ back
+front_more block front left back n is rest =
+    is ∙ ap (λ t. front ++ t) (sym (take-append-drop n left) ∙ ap (λ t. take n left ++ t) (sym rest)) ∙ sym (append_assoc front (take n left) back)

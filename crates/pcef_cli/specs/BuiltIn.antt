@@ -1,5 +1,6 @@
 -- The predefined rules of the program (own choice; DNS: RFC 1035, clause 4.2; code point 46: RFC 3246).
 use Rattle.std.specs.Prelude.{ℕ, List, [], ◌∷◌, codes, Bool, true, false, None, Some}
+use Rattle.pcef_catalog.specs.declared.listing.Offer.{Offer}
 use Rattle.pcef_catalog.specs.declared.shape.Test.{Test}
 use Rattle.pcef_catalog.specs.declared.shape.Test.TheVariants.{Proto, Dscp, RemotePort}
 use Rattle.pcef_rule.specs.declared.gate.Gate.TheVariants.{Enabled}
@@ -29,3 +30,10 @@ remaining_shape = [] ∷ []
 
 abbrev pub remaining_properties : Properties
 remaining_properties = record { name = codes "pre-rest"; precedence = 4294967295; qos = qos_of 9 8 true; rates = None; gate = Enabled; key = None }
+
+-- the catalog
+abbrev pub built_in_offers : List Offer
+built_in_offers =
+    record { properties = dns_properties; shape = dns_shape } ∷
+    record { properties = expedited_properties; shape = expedited_shape } ∷
+    record { properties = remaining_properties; shape = remaining_shape } ∷ []

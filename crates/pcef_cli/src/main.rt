@@ -2,19 +2,21 @@
 #![tactic(auto)]
 
 pub mod answer;
-pub mod built_in;
+mod built_in;
 pub mod line;
 pub mod profile;
 pub mod program;
 pub mod script;
 
 ghost use Rattle.std.specs.Prelude.{◌≡◌};
+ghost use Rattle.std.specs.Arc.{arc_value};
+ghost use Rattle.pcef_catalog.specs.Catalogs.{offers_of};
 ghost use Rattle.pcef_catalog.specs.Shapes.{shape_holds};
-ghost use Rattle.pcef_cli.specs.BuiltIn.{dns_shape, expedited_shape, remaining_shape};
+ghost use Rattle.pcef_cli.specs.BuiltIn.{built_in_offers, dns_shape, expedited_shape, remaining_shape};
 
 use built_in::{
     dns_properties, dns_shape, expedited_properties, expedited_shape, is_dns, is_expedited,
-    remaining_properties, remaining_shape,
+    is_remaining, remaining_properties, remaining_shape,
 };
 use pcef_catalog::{Catalog, Detect, Predefined};
 use pcef_packet::Header;
@@ -43,11 +45,30 @@ fn profiles(rt: &HostRuntime, words: &[String]) -> io::Result<Vec<Option<String>
     Ok(texts)
 }
 
-/// Runs the program with the built-in catalog.
-fn run(rt: &HostRuntime) -> io::Result<u8> {
+/// Runs the program, whose catalog has the built-in rules.
+fn run_with(rt: &HostRuntime, catalog: Arc<Catalog>) -> io::Result<u8>
+    requires { offers_of (arc_value catalog) ≡ built_in_offers }
+{
     let alloc = rt.alloc();
     let words = words(rt)?;
     let profiles = profiles(rt, &words)?;
+    let mut reader = rt.stdin();
+    let mut writer = BufWriter::new(alloc, io::writer(rt))?;
+    let mut faults = rt.stderr();
+    Ok(program(
+        alloc,
+        &words,
+        &profiles,
+        catalog,
+        &mut reader,
+        &mut writer,
+        &mut faults,
+    ))
+}
+
+/// Makes the built-in catalog, and runs the program with it.
+fn run(rt: &HostRuntime) -> io::Result<u8> {
+    let alloc = rt.alloc();
     let dns: Detect = Box::new(
         alloc,
         |header: &Header| -> bool
@@ -64,7 +85,7 @@ fn run(rt: &HostRuntime) -> io::Result<u8> {
         alloc,
         |header: &Header| -> bool
             ensures { result ≡ shape_holds remaining_shape header.now }
-        { true },
+        { is_remaining(header) },
     )?;
     let mut rules = Vec::with_capacity(alloc, 3)?;
     rules.push(Predefined::new(dns_properties(), dns_shape(), dns))?;
@@ -73,19 +94,7 @@ fn run(rt: &HostRuntime) -> io::Result<u8> {
     let Ok(catalog) = Catalog::new(alloc, rules) else {
         return Err(AllocError.into());
     };
-    let catalog = Arc::new(alloc, catalog)?;
-    let mut reader = rt.stdin();
-    let mut writer = BufWriter::new(alloc, io::writer(rt))?;
-    let mut faults = rt.stderr();
-    Ok(program(
-        alloc,
-        &words,
-        &profiles,
-        catalog,
-        &mut reader,
-        &mut writer,
-        &mut faults,
-    ))
+    run_with(rt, Arc::new(alloc, catalog)?)
 }
 
 fn main(rt: HostRuntime) -> ExitCode {

@@ -7,7 +7,7 @@ ghost use Rattle.pcef_cli.specs.BuiltIn.{dns_shape, expedited_shape, remaining_s
 
 use super::{
     dns_properties, dns_shape, expedited_properties, expedited_shape, is_dns, is_expedited,
-    remaining_properties, remaining_shape,
+    is_remaining, remaining_properties, remaining_shape,
 };
 use crate::profile::read_profile;
 use crate::script::run_script;
@@ -69,7 +69,7 @@ fn run(
         alloc,
         |header: &Header| -> bool
             ensures { result ≡ shape_holds remaining_shape header.now }
-        { true },
+        { is_remaining(header) },
     )?;
     let said = [dns(header), expedited(header), remaining(header)];
     let mut rules = Vec::new(alloc);
@@ -257,6 +257,85 @@ fn predefined_rules_judge_and_count(rt: HostRuntime) -> Result<(), Fail> {
     assert_eq!(rt;
         text.as_str(),
         "{\"bearer\":5,\"generation\":1,\"ok\":true,\"reports\":[]}\n{\"bearer\":6,\"generation\":2,\"ok\":true,\"reports\":[]}\n{\"bearer\":5,\"generation\":3,\"ok\":true,\"reports\":[]}\n{\"generation\":4,\"ok\":true,\"reports\":[]}\n{\"generation\":4,\"ok\":true,\"worker\":0}\n{\"ok\":true,\"waiting\":1}\n{\"ok\":true,\"waiting\":2}\n{\"ok\":true,\"reports\":[],\"verdicts\":[{\"bearer\":5,\"generation\":4,\"rule\":\"pre-dns\",\"verdict\":\"Passed\"},{\"bearer\":6,\"generation\":4,\"rule\":\"pre-ef\",\"verdict\":\"Passed\"}]}\n{\"generation\":5,\"ok\":true,\"reports\":[{\"cause\":\"RulesGone\",\"key\":\"dns\",\"number\":0,\"octets\":28}]}\n{\"active\":[\"pre-ef\",\"pre-rest\"],\"bearers\":[{\"down\":0,\"id\":5,\"rules\":1,\"up\":0},{\"down\":0,\"id\":6,\"rules\":1,\"up\":0}],\"generation\":5,\"keys\":[{\"key\":\"dns\",\"on\":false,\"reported\":28,\"unreported\":0}]}\n"
+    );
+    Ok(())
+}
+
+/// What a script answers to lines that were made.
+fn answers(alloc: Global, script: &[String]) -> Result<String, Fail> {
+    let mut lines = Vec::new(alloc);
+    for line in script {
+        lines.push(line.as_str())?;
+    }
+    let (_, text) = run(alloc, &DNS_ANSWER, PROFILE, lines.as_slice())?;
+    Ok(text)
+}
+
+#[test]
+fn where_no_more_rules_can_be_active(rt: HostRuntime) -> Result<(), Fail> {
+    let alloc = rt.alloc();
+    let mut script = Vec::new(alloc);
+    for number in 1..65u8 {
+        let name = format!(in alloc; "n{number}")?;
+        script.push(install(alloc, name.as_str(), 100)?)?;
+    }
+    script.push(String::from_str(alloc, ACTIVATE_DNS)?)?;
+    let text = answers(alloc, script.as_slice())?;
+    assert!(rt;
+        text.as_str().ends_with(
+            "{\"bearer\":5,\"generation\":64,\"ok\":true,\"reports\":[]}\n{\"name\":\"RulesFull\",\"refused\":11}\n"
+        )
+    );
+    Ok(())
+}
+
+#[test]
+fn where_every_slot_has_a_key(rt: HostRuntime) -> Result<(), Fail> {
+    let alloc = rt.alloc();
+    let mut script = Vec::new(alloc);
+    for number in 1..9u8 {
+        script.push(format!(in alloc;
+            "{{\"do\":\"monitor\",\"key\":\"k{number}\",\"grant\":1}}"
+        )?)?;
+    }
+    script.push(String::from_str(alloc, ACTIVATE_DNS)?)?;
+    script.push(String::from_str(alloc, ACTIVATE_REMAINING)?)?;
+    let text = answers(alloc, script.as_slice())?;
+    assert!(rt;
+        text.as_str().ends_with(
+            "{\"name\":\"KeysFull\",\"refused\":12}\n{\"bearer\":5,\"generation\":9,\"ok\":true,\"reports\":[]}\n"
+        )
+    );
+    Ok(())
+}
+
+#[test]
+fn where_no_bearer_is_free(rt: HostRuntime) -> Result<(), Fail> {
+    let alloc = rt.alloc();
+    let mut script = Vec::new(alloc);
+    for level in 1..11u8 {
+        script.push(format!(in alloc;
+            "{{\"do\":\"install\",\"rule\":{{\"name\":\"r{level}\",\"precedence\":100,\"filters\":[{{\"text\":\"permit out ip from any to any\"}}],\"qci\":8,\"arp\":{{\"level\":{level},\"capability\":false,\"vulnerability\":true}},\"gate\":\"ENABLED\"}}}}"
+        )?)?;
+    }
+    script.push(String::from_str(alloc, ACTIVATE_EXPEDITED)?)?;
+    let text = answers(alloc, script.as_slice())?;
+    assert!(rt;
+        text.as_str().ends_with(
+            "{\"bearer\":15,\"generation\":10,\"ok\":true,\"reports\":[]}\n{\"name\":\"TooManyBearers\",\"refused\":16}\n"
+        )
+    );
+    Ok(())
+}
+
+#[test]
+fn a_predefined_name_is_never_installed(rt: HostRuntime) -> Result<(), Fail> {
+    let alloc = rt.alloc();
+    let line = install(alloc, "pre-ef", 100)?;
+    let (_, text) = run(alloc, &DNS_ANSWER, PROFILE, &[line.as_str(), SHOW])?;
+    assert_eq!(rt;
+        text.as_str(),
+        "{\"name\":\"NameIsPredefined\",\"refused\":4}\n{\"active\":[],\"bearers\":[{\"down\":0,\"id\":5,\"rules\":0,\"up\":0}],\"generation\":0,\"keys\":[]}\n"
     );
     Ok(())
 }

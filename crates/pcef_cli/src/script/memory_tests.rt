@@ -28,6 +28,7 @@ const LINES: [&str; 6] = [
 fn obey(world: &mut WorldState, line: Line) -> Result<Accepted, Refusal> {
     match line {
         Line::Install(rule) => world.command(Command::Install(rule)),
+        Line::Activate(name) => world.command(Command::Activate(name)),
         Line::Remove(name) => world.command(Command::Remove(name)),
         Line::Monitor { key, grant } => world.command(Command::Monitor { key, grant }),
         _ => Err(Refusal::Closed),

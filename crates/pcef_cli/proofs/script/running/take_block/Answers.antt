@@ -3,7 +3,7 @@ use Rattle.std.proofs.lemmas.Bool.{eqb-true}
 use Rattle.std.proofs.lemmas.List.{length-drop, nil_from_length}
 use Rattle.std.proofs.lemmas.Result.{err_from_is_err_and}
 use Rattle.pcef_cli.specs.Scripts.{IsAfter}
-use Rattle.pcef_cli.proofs.ScriptSteps.{stopped_later}
+use Rattle.pcef_cli.proofs.ScriptSteps.{front_more, stopped_later}
 use Rattle.pcef_cli.proofs.script.running.take_block.Goals as goal
 
 pub loop-rest-init : goal.loop-rest-init
@@ -35,7 +35,7 @@ loop-rest-preserved g c =
     let script = c.take_some.new.script in
     record {
       front = i.front ++ take n r;
-      whole = i.whole ∙ ap (λ t. i.front ++ t) (sym (take-append-drop n r) ∙ ap (λ t. take n r ++ t) (sym c.split_at.ensures.back)) ∙ sym (append_assoc i.front (take n r) c.split_at.result.1.now);
+      whole = front_more c.args.block.now i.front r c.split_at.result.1.now n i.whole c.split_at.ensures.back;
       after = λ p start input h.
           subst (IsAfter p start (g.W.Write.contents c.take_some.new.writer) script.line script.faults script.world) (append_assoc input i.front (take n r))
           (c.in_ok-taken.ensures.ok p start (input ++ i.front) (i.after p start input h));
