@@ -22,7 +22,7 @@ use pcef_catalog::{Catalog, Detect, Predefined};
 use pcef_packet::Header;
 use program::program;
 use std::alloc::AllocError;
-use std::io::{self, BufReader, BufWriter};
+use std::io::{self, BufWriter, ErrorKind};
 use std::process::ExitCode;
 use std::sync::Arc;
 use std::{env, fs};
@@ -36,11 +36,20 @@ fn words(rt: &HostRuntime) -> io::Result<Vec<String>> {
     Ok(words)
 }
 
-/// The texts of the files that the arguments name as profiles, or none for one that can't be read.
+/// The text of a file, or none where it can't be read as text. Want of memory ends the program.
+fn text_of(rt: &HostRuntime, path: &str) -> io::Result<Option<String>> {
+    match fs::read_to_string(rt, path) {
+        Ok(text) => Ok(Some(text)),
+        Err(error) if error.kind() == ErrorKind::OutOfMemory => Err(error),
+        Err(_) => Ok(None),
+    }
+}
+
+/// The texts of the files that the arguments name as profiles.
 fn profiles(rt: &HostRuntime, words: &[String]) -> io::Result<Vec<Option<String>>> {
     let mut texts = Vec::new(rt.alloc());
     if let [_, path] = words {
-        texts.push(fs::read_to_string(rt, path.as_str()).ok())?;
+        texts.push(text_of(rt, path.as_str())?)?;
     }
     Ok(texts)
 }
