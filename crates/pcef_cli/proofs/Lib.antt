@@ -13,3 +13,4 @@ pub mod NoFloats
 pub mod Objects
 pub mod ScriptSteps
 pub mod Tables
+pub mod WrittenTexts
