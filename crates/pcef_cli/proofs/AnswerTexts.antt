@@ -13,8 +13,6 @@ use Rattle.pcef_rule.specs.declared.quantity.BearerId.{BearerId}
 use Rattle.pcef_rule.specs.declared.quantity.Sums.{Sums}
 use Rattle.pcef_table.specs.declared.entry.Entry.{Entry}
 use Rattle.pcef_catalog.specs.declared.listing.Offer.{Offer}
-use Rattle.pcef_table.specs.declared.verdict.Verdict.{Verdict}
-use Rattle.pcef_table.specs.declared.verdict.Verdict.TheVariants.{Stray, Unmatched, Gated, Passed}
 use Rattle.pcef_journal.specs.declared.report.Body.{Body}
 use Rattle.pcef_journal.specs.declared.report.Body.TheVariants.{Usage, Access, Inactive}
 use Rattle.pcef_journal.specs.declared.report.Report.{Report}
@@ -24,12 +22,10 @@ use Rattle.pcef_bearer.specs.Bindings.{guaranteed, rules_on}
 use Rattle.pcef_usage.specs.declared.usage.KeyState.{KeyState}
 use Rattle.pcef_session.specs.Agreement.{Parts}
 use Rattle.pcef_session.specs.declared.answer.Accepted.{Accepted}
-use Rattle.pcef_session.specs.declared.answer.Judged.{Judged}
-use Rattle.pcef_session.specs.declared.answer.Verdicts.{Verdicts}
 use Rattle.pcef_cli.specs.RefusalAnswers.{data_of}
 use Rattle.pcef_cli.specs.ReportAnswers.{body_data, reports_data, reports_told}
 use Rattle.pcef_cli.specs.ShowAnswers.{active_data, bearer_data, bearer_ids, bearer_told, bearers_told, kept_data, states_data}
-use Rattle.pcef_cli.specs.StepAnswers.{accepted_data, flushed_data, members_told, verdict_data, verdicts_data}
+use Rattle.pcef_cli.specs.StepAnswers.{accepted_data, members_told}
 
 -- what is written for a value is the text of its data
 pub text_known : (r : Result (String Global) AllocError) (seen due : Data) → seen ≡ due → has_float due ≡ false
@@ -50,16 +46,6 @@ pub reports : (rs : List Report) → has_float (reports_data rs) ≡ false
 reports [] = refl
 reports (r ∷ rs) = rw (body r.number r.body) (reports rs)
 
-verdict : (generation : ℕ) (v : Verdict) → has_float (verdict_data generation v) ≡ false
-verdict generation Stray = refl
-verdict generation Unmatched = refl
-verdict generation (Gated rule) = refl
-verdict generation (Passed rule bearer) = refl
-
-pub verdicts : (js : List Judged) → has_float (verdicts_data js) ≡ false
-verdicts [] = refl
-verdicts (j ∷ js) = rw (verdict j.generation j.verdict) (verdicts js)
-
 members : (told : Data) → has_float told ≡ false → (bearer : Option BearerId) (generation : ℕ) (unchanged : Bool) → members_have_float (members_told told bearer generation unchanged) ≡ false
 members told none None generation true = rw none refl
 members told none None generation false = rw none refl
@@ -70,9 +56,6 @@ pub accepted : (journal : Journal) (a : Accepted) → has_float (accepted_data j
 accepted journal a =
     let rs = reports_told journal a.first_report a.past_last_report in
     members (reports_data rs) (reports rs) a.bearer a.generation a.unchanged
-
-pub flushed : (journal : Journal) (v : Verdicts) → has_float (flushed_data journal v) ≡ false
-flushed journal v = rw (reports (reports_told journal v.first_report v.past_last_report), verdicts v.rows.items) refl
 
 -- ---- what is shown
 entries : (offers : List Offer) (es : List Entry) → has_float (active_data offers es) ≡ false

@@ -14,3 +14,4 @@ pub mod Objects
 pub mod ScriptSteps
 pub mod Showing
 pub mod Tables
+pub mod WrittenTexts

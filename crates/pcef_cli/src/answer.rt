@@ -6,6 +6,7 @@ mod refusal;
 mod report;
 mod show;
 mod step;
+mod written;
 
 pub use fault::fault_text;
 pub use show::show_answer;

@@ -2,17 +2,17 @@
 
 ghost use Rattle.std.specs.Prelude.{◌≡◌, IfOk, string_bytes};
 ghost use Rattle.serde_json.specs.View.{view};
-ghost use Rattle.pcef_cli.specs.StepAnswers.{accepted_data, command_text, attached_data, attached_text, taken_data, taken_text, refreshed_data, refreshed_text, judged_data, verdicts_data, flushed_data, flushed_text};
+ghost use Rattle.pcef_cli.specs.StepAnswers.{accepted_data, command_text, attached_data, attached_text, taken_text, refreshed_data, refreshed_text, flushed_text};
 
 use super::refusal::{
     attach_fault_answer, flush_refusal_answer, no_worker_answer, refusal_answer, refused_answer,
 };
 use super::report::report_list;
+use super::written;
 use pcef_journal::Journal;
 use pcef_session::{
-    Accepted, AttachFault, BatchFull, FlushRefusal, Judged, Refusal, StepRefusal, Verdicts,
+    Accepted, AttachFault, BatchFull, FlushRefusal, Refusal, StepRefusal, Verdicts,
 };
-use pcef_table::Verdict;
 use serde_json::{Value, json};
 use std::alloc::{AllocError, Global};
 
@@ -85,14 +85,8 @@ pub fn taken_answer(
     match answer {
         Err(StepRefusal::NoWorker) => no_worker_answer(alloc),
         Err(StepRefusal::Refused(BatchFull)) => refused_answer(alloc, "BatchFull", 1),
-        Ok(waiting) => taken_value(alloc, waiting)?.to_string(alloc),
+        Ok(waiting) => written::taken(alloc, waiting),
     }
-}
-
-fn taken_value(alloc: Global, waiting: u8) -> Result<Value, AllocError>
-    ensures { IfOk result (λ v. view v ≡ taken_data waiting) }
-{
-    json!(in alloc; { "ok": true, "waiting": waiting })
 }
 
 /// The answer to `refresh`, with the generation that the worker holds then.
@@ -122,45 +116,6 @@ pub fn flushed_answer(
     match answer {
         Err(StepRefusal::NoWorker) => no_worker_answer(alloc),
         Err(StepRefusal::Refused(refusal)) => flush_refusal_answer(alloc, *refusal),
-        Ok(verdicts) => flushed_value(alloc, journal, verdicts)?.to_string(alloc),
-    }
-}
-
-fn flushed_value(alloc: Global, journal: &Journal, verdicts: &Verdicts) -> Result<Value, AllocError>
-    ensures { IfOk result (λ v. view v ≡ flushed_data journal.now.entries verdicts.now) }
-{
-    let reports = report_list(
-        alloc,
-        journal,
-        verdicts.first_report,
-        verdicts.past_last_report,
-    )?;
-    let rows = verdict_list(alloc, &verdicts.rows)?;
-    json!(in alloc; { "ok": true, "reports": reports, "verdicts": rows })
-}
-
-fn verdict_list(alloc: Global, rows: &[Judged]) -> Result<Value, AllocError>
-    ensures { IfOk result (λ v. view v ≡ verdicts_data rows.now) }
-{
-    let mut list = Vec::with_capacity(alloc, rows.len())?;
-    for judged in rows {
-        list.push(judged_value(alloc, judged)?)?;
-    }
-    Ok(Value::Array(list))
-}
-
-fn judged_value(alloc: Global, judged: &Judged) -> Result<Value, AllocError>
-    ensures { IfOk result (λ v. view v ≡ judged_data judged.now) }
-{
-    let generation = judged.generation;
-    match &judged.verdict {
-        Verdict::Stray => json!(in alloc; { "generation": generation, "verdict": "Stray" }),
-        Verdict::Unmatched => json!(in alloc; { "generation": generation, "verdict": "Unmatched" }),
-        Verdict::Gated { rule } => {
-            json!(in alloc; { "generation": generation, "rule": rule.as_str(), "verdict": "Gated" })
-        }
-        Verdict::Passed { rule, bearer } => {
-            json!(in alloc; { "bearer": bearer.0, "generation": generation, "rule": rule.as_str(), "verdict": "Passed" })
-        }
+        Ok(verdicts) => written::flushed(alloc, journal, verdicts),
     }
 }

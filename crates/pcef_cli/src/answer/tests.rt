@@ -245,3 +245,38 @@ fn answers_to_flushes_escape_names(rt: HostRuntime) -> Result<(), Fail> {
     );
     Ok(())
 }
+
+#[test]
+fn answers_to_flushes_of_nothing_and_of_large_numbers(rt: HostRuntime) -> Result<(), Fail> {
+    let alloc = rt.alloc();
+    let journal = told(alloc)?;
+    let nothing = Verdicts {
+        rows: Vec::new(alloc),
+        first_report: 3,
+        past_last_report: 3,
+    };
+    let large = Verdicts {
+        rows: vec![in alloc;
+            Judged {
+                generation: 4_294_967_295,
+                verdict: Verdict::Passed {
+                    rule: RuleName::new("\\a\"")?,
+                    bearer: BearerId(15),
+                },
+            },
+        ]?,
+        first_report: 2,
+        past_last_report: 3,
+    };
+    for (verdicts, text) in [
+        (nothing, "{\"ok\":true,\"reports\":[],\"verdicts\":[]}"),
+        (
+            large,
+            "{\"ok\":true,\"reports\":[{\"cause\":\"BearerLost\",\"number\":2,\"rule\":\"voice\"}],\"verdicts\":[{\"bearer\":15,\"generation\":4294967295,\"rule\":\"\\\\a\\\"\",\"verdict\":\"Passed\"}]}",
+        ),
+    ] {
+        let answer = flushed_answer(alloc, &journal, &Ok(verdicts))?;
+        assert_eq!(rt; answer.as_str(), text);
+    }
+    Ok(())
+}

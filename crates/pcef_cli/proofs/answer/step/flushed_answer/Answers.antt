@@ -1,5 +1,4 @@
 use Rattle.pcef_cli.specs.StepAnswers.{flushed_text}
-use Rattle.pcef_cli.proofs.AnswerTexts.{text_known, flushed}
 use Rattle.pcef_cli.proofs.answer.step.flushed_answer.Goals as goal
 
 pub returns-in-Err-NoWorker : goal.returns-in-Err-NoWorker
@@ -10,8 +9,6 @@ pub returns-in-Err-Refused : goal.returns-in-Err-Refused
 unfolding flushed_text
 returns-in-Err-Refused c = rw (c.in-Err-Refused.is, rw c.in-Err-Refused.is at c.in-Err-Refused.field-0-is) c.flush_refusal_answer.ensures
 
-pub returns-in_ok-flushed_value-in-Ok : goal.returns-in_ok-flushed_value-in-Ok
+pub returns-in-Ok : goal.returns-in-Ok
 unfolding flushed_text
-returns-in_ok-flushed_value-in-Ok c =
-    let none = flushed c.args.journal.now.entries c.in-Ok.verdicts in
-    rw c.in-Ok.is (text_known c.to_string.result _ _ c.in_ok-flushed_value-in-Ok.ensures none c.to_string.ensures.text)
+returns-in-Ok c = rw c.in-Ok.is c.flushed.ensures

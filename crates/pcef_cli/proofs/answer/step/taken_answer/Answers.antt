@@ -1,7 +1,5 @@
-use Rattle.std.proofs.Common.{refl}
 use Rattle.pcef_cli.specs.RefusalAnswers.{batch_full_text}
 use Rattle.pcef_cli.specs.StepAnswers.{taken_text}
-use Rattle.pcef_cli.proofs.AnswerTexts.{text_known}
 use Rattle.pcef_cli.proofs.answer.step.taken_answer.Goals as goal
 
 pub returns-in-Err-NoWorker : goal.returns-in-Err-NoWorker
@@ -12,7 +10,6 @@ pub returns-in-Err-Refused : goal.returns-in-Err-Refused
 unfolding taken_text batch_full_text
 returns-in-Err-Refused c = rw (c.in-Err-Refused.is, rw c.in-Err-Refused.is at c.in-Err-Refused.field-0-is) c.refused_answer.ensures
 
-pub returns-in_ok-taken_value-in-Ok : goal.returns-in_ok-taken_value-in-Ok
+pub returns-in-Ok : goal.returns-in-Ok
 unfolding taken_text
-returns-in_ok-taken_value-in-Ok c =
-    rw c.in-Ok.is (text_known c.to_string.result _ _ c.in_ok-taken_value-in-Ok.ensures refl c.to_string.ensures.text)
+returns-in-Ok c = rw c.in-Ok.is c.taken.ensures
