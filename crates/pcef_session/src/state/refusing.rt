@@ -17,9 +17,9 @@ use super::{MAX_RULES, SessionState};
 use crate::answer::Refusal;
 use crate::profile::Profile;
 use pcef_bearer::BindRefusal;
+use pcef_catalog::Listing;
 use pcef_journal::Command;
 use pcef_rule::{KeyName, Properties, RuleName};
-use pcef_catalog::Listing;
 use pcef_usage::{MAX_KEYS, Usage};
 
 /// How many commands a journal takes.
