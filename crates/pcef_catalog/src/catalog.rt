@@ -25,9 +25,9 @@ pub trait Offers {
     fn listing(&self) -> &Listing
         ensures { result.now ≡ offers self.now };
 
-    /// Whether the closure of a rule answers yes to a header.
+    /// Whether the closure of the rule at this place of the listing answers yes to a header. Places count
+    /// from 0; where no rule stands at one, the answer is no.
     fn detects(&self, index: u8, header: &Header) -> bool
-        requires { index < length (offers self.now) }
         ensures { result ≡ detected (offers self.now) index header.now };
 }
 

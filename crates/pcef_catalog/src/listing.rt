@@ -111,6 +111,9 @@ impl Offers for Listing {
     }
 
     fn detects(&self, index: u8, header: &Header) -> bool {
-        self.offers()[usize::from(index)].shape.holds(header)
+        match self.offers().get(usize::from(index)) {
+            Some(offer) => offer.shape.holds(header),
+            None => false,
+        }
     }
 }

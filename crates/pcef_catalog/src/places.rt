@@ -44,12 +44,14 @@ pub(crate) fn are_distinct(rules: &[Predefined]) -> bool
     true
 }
 
-/// Whether the closure of the rule at a place answers yes to a header.
+/// Whether the closure of the rule at a place answers yes to a header; no where there is no such place.
 pub(crate) fn detects_at(rules: &[Predefined], index: u8, header: &Header) -> bool
-    requires { index < length (offers_in rules.now) }
     ensures { result ≡ detected (offers_in rules.now) index header.now }
 {
-    rules[usize::from(index)].detects(header)
+    match rules.get(usize::from(index)) {
+        Some(rule) => rule.detects(header),
+        None => false,
+    }
 }
 
 /// A rule without its closure.

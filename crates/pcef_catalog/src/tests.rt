@@ -171,6 +171,9 @@ fn the_closure_is_called(rt: HostRuntime) -> Result<(), Fail> {
     };
     assert!(rt; !catalog.detects(0, &plain));
     assert_eq!(rt; calls.load(Ordering::SeqCst), 3);
+    // No rule stands at the next place.
+    assert!(rt; !catalog.detects(1, &DNS_ANSWER));
+    assert_eq!(rt; calls.load(Ordering::SeqCst), 3);
     Ok(())
 }
 
@@ -198,6 +201,7 @@ fn a_listing_answers_by_the_shape(rt: HostRuntime) -> Result<(), Fail> {
     for (header, wanted) in [(&DNS_ANSWER, true), (&plain, false)] {
         assert_eq!(rt; listing.detects(0, header), wanted);
         assert_eq!(rt; listing.listing().share()?.detects(0, header), wanted);
+        assert!(rt; !listing.detects(1, header));
     }
     Ok(())
 }

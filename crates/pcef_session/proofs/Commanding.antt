@@ -25,7 +25,7 @@ use Rattle.pcef_usage.specs.declared.usage.KeyState.{KeyState}
 use Rattle.pcef_usage.specs.Commands.{Asks, entered, started_by, subscribed_by}
 use Rattle.pcef_usage.specs.Keys.{finds_no_slot, keys_of, with_slot}
 use Rattle.pcef_usage.specs.Tellings.{AllCount, AllOn, settled_states, settled_tellings, states_stopped, states_told, told}
-use Rattle.pcef_usage.proofs.Afterwards.{few_entered, now_after, slots_after, subscribed_after, subscribed_after_command, tables_after}
+use Rattle.pcef_usage.proofs.Afterwards.{few_entered, now_after, slots_after, subscribed_after, subscribed_after_command}
 use Rattle.pcef_usage.proofs.Commanded.{command_ended, keys_entered}
 use Rattle.pcef_usage.proofs.Endings.{Ended}
 use Rattle.pcef_session.specs.Agreement.{Agrees, AreKept, KeyAgrees, Parts}
@@ -47,7 +47,6 @@ use Rattle.pcef_session.proofs.BoundRules.{same_name_of}
 use Rattle.pcef_session.proofs.Exactness.{lawful_exact}
 use Rattle.pcef_session.proofs.KeptRules.{kept_put, kept_without}
 use Rattle.pcef_session.proofs.NextTables.{all_count_from, all_on_from}
-use Rattle.pcef_session.proofs.ShownLater.{shows_same}
 use Rattle.pcef_session.proofs.ShownVerdicts.{made_once}
 
 -- ---- commands that are served
@@ -197,7 +196,7 @@ pub record IsCommanded (p : Setting) (j : Journal) (c : Command) (x : Option Com
   pub rebound : IsRebound x c old.binding new.binding bearer
   pub keys_are : new.keys ≡ left_by old.triggers.usage_report (plan p j c) (entered_by (rule_key x) c old.keys)
   pub triggers_are : new.triggers ≡ old.triggers
-  pub shows : Shows p (entry.Command c ∷ j) (gen (entry.Command c ∷ j)) new.table
+  pub shows : Shows p (after_command p j c) (gen (after_command p j c)) new.table
 
 pub journal_commanded : (p : Setting) (j : Journal) (c : Command) (x : Option Coming) (parts : Parts) (after : Journal) → Agrees p j parts → IsServed c → Brings p (becoming p c) x →
     after ≡ told_by parts.triggers.usage_report (plan p j c) (entered_by (rule_key x) c parts.keys) (entry.Command c ∷ j) → after ≡ after_command p j c
@@ -235,8 +234,7 @@ agrees_commanded p j c x old new bearer ids agrees is =
           (subst (λ (k : Journal). AllByRecursion (KeyAgrees p k) (left_by old.triggers.usage_report (plan p j c) (entered p c old.keys))) journal
           (all_agree p (told_by old.triggers.usage_report (plan p j c) (entered p c old.keys) (entry.Command c ∷ j)) (left_by old.triggers.usage_report (plan p j c) (entered p c old.keys)) ended.counts ended.on));
       triggers_are = is.triggers_are ∙ agrees.triggers_are ∙ sym plainly.triggers ∙ sym (subscribed_after_command p j c);
-      table_shows = subst (λ n. Shows p after n new.table) (sym (ap length (tables_after p j c)))
-          (shows_same p (entry.Command c ∷ j) after (gen (entry.Command c ∷ j)) new.table (tables_after p j c) is.shows);
+      table_shows = is.shows;
     }
 
 pub bearer_commanded : (p : Setting) (j : Journal) (c : Command) (x : Option Coming) (old new : Parts) (bearer : Option BearerId) → HasOtherIds p → Agrees p j old → IsCommanded p j c x old new bearer →

@@ -1,14 +1,13 @@
 -- What the refusals of commands come to in a journal that nothing ended.
-use Rattle.std.proofs.Common.{◌≡◌, ◌∙◌, ◌≤◌, ◌<◌, ℕ, Bool, true, false, not, ◌&&◌, List, [], ◌∷◌, ◌++◌, length, refl, sym, ap, arith, Some, None, nat_le, true≢false, inl, inr}
-use Rattle.std.specs.Prelude.{Option, find, is_none, is_some, if◌then◌else◌}
-use Rattle.std.specs.List.{list_any}
+use Rattle.std.proofs.Common.{◌≡◌, ◌∙◌, ◌≤◌, ◌<◌, ℕ, true, false, not, ◌&&◌, List, [], ◌∷◌, ◌++◌, length, refl, sym, ap, arith, Some, None, nat_le, true≢false, inl, inr}
+use Rattle.std.specs.Prelude.{Option, is_none, is_some, if◌then◌else◌}
 use Rattle.std.specs.Option.{option_map}
 use Rattle.std.proofs.lemmas.Bool.{cases_Bool, le-leb, lt-leb}
 use Rattle.pcef_rule.specs.declared.rule.Properties.{Properties}
 use Rattle.pcef_catalog.specs.declared.listing.Offer.{Offer}
 use Rattle.pcef_journal.specs.declared.command.Command.TheVariants.{Install, Activate, Remove, Monitor, Stop, ReportNow, Triggers, Notice, LoseBearer, Close, Terminate}
 use Rattle.pcef_journal.specs.declared.entry.Entry.TheVariants as entry
-use Rattle.pcef_journal.specs.Setting.{Setting, offer_named, same_name}
+use Rattle.pcef_journal.specs.Setting.{Setting, offer_named}
 use Rattle.pcef_journal.specs.ActiveRules.{predefined, without}
 use Rattle.pcef_journal.specs.Generations.{is_among}
 use Rattle.pcef_journal.specs.Entries.{Journal, commands}
@@ -17,7 +16,7 @@ use Rattle.pcef_usage.specs.declared.usage.KeyState.{KeyState}
 use Rattle.pcef_usage.specs.Keys.{finds_no_slot as slotless, keys_of}
 use Rattle.pcef_usage.proofs.Monitors.{finds_no_slot_is}
 use Rattle.pcef_session.specs.declared.answer.Refusal.{Refusal}
-use Rattle.pcef_session.specs.declared.answer.Refusal.TheVariants.{CommandsFull, RulesFull, KeysFull, UnknownRule}
+use Rattle.pcef_session.specs.declared.answer.Refusal.TheVariants.{CommandsFull, RulesFull, KeysFull, NameIsPredefined, UnknownRule}
 use Rattle.pcef_session.specs.Refusals.{Conditions, becoming_active, becoming_active_if, bindings, common_refusals, finds_no_slot, first_of, is_active, limited_count, was_closed, was_terminated}
 use Rattle.pcef_session.specs.declared.prepared.Coming.{Coming}
 use Rattle.pcef_session.specs.Changes.{Brings}
@@ -68,14 +67,6 @@ pub common_none : (p : Setting) (j : Journal) (n : ℕ) → IsPlain j n → leng
 common_none p j n plain few =
     let count = limited_plain j plain.not_closed plain.not_terminated in rw (plain.not_terminated, plain.not_closed, count, lt-leb p.commands (length (commands j)) few) refl
 
--- ---- names of the catalog
-find_any : {X : Type 0} (test : X → Bool) (xs : List X) → list_any test xs ≡ is_some (find test xs)
-find_any test [] = refl
-find_any test (x ∷ xs) = elim (cases_Bool (test x)) [ inl is ↦ rw is refl | inr isnt ↦ rw isnt (find_any test xs) ]
-
-pub offered : (p : Setting) (name : List ℕ) (b : Bool) → b ≡ list_any (λ o. same_name o.properties.name name) p.catalog → b ≡ is_some (offer_named p name)
-offered p name b is = is ∙ find_any (λ o. same_name o.properties.name name) p.catalog
-
 -- ---- slots
 pub slotless_is : (p : Setting) (j : Journal) (key : Option (List ℕ)) (states : List KeyState) → p.most_keys ≡ 8 → keys_of states ≡ slots p j → slotless key states ≡ finds_no_slot p j key
 slotless_is p j None states most keys = refl
@@ -95,16 +86,29 @@ pub becoming_bound : (p : Setting) (j : Journal) (rule : Properties) (o : Option
     false ≡ finds_no_slot p j rule.key → o ≡ first_of (bindings p (now p j) rule (without rule.name (now p j).rules)) → o ≡ first_of (becoming_active p j rule)
 becoming_bound p j rule o place has is = is ∙ rw (← place, ← has) refl
 
+-- ---- Install
+abbrev installations : Setting → Journal → Properties → Option Offer → Conditions Refusal
+installations p j rule o = (is_some o, NameIsPredefined) ∷ becoming_active p j rule
+
+pub install_offered : (p : Setting) (j : Journal) (rule : Properties) (x : Coming) → Brings p (option_map predefined (offer_named p rule.name)) (Some x) →
+    Some NameIsPredefined ≡ first_of (installations p j rule (offer_named p rule.name))
+install_offered p j rule x brings = from (offer_named p rule.name) brings
+  where
+    from : (o : Option Offer) → Brings p (option_map predefined o) (Some x) → Some NameIsPredefined ≡ first_of (installations p j rule o)
+    from None brings = absurd brings
+    from (Some o) brings = refl
+
+pub install_free : (p : Setting) (j : Journal) (rule : Properties) (r : Option Refusal) → Brings p (option_map predefined (offer_named p rule.name)) None → r ≡ first_of (becoming_active p j rule) →
+    r ≡ first_of (installations p j rule (offer_named p rule.name))
+install_free p j rule r brings is = from (offer_named p rule.name) brings
+  where
+    from : (o : Option Offer) → Brings p (option_map predefined o) None → r ≡ first_of (installations p j rule o)
+    from None brings = is
+    from (Some o) brings = absurd brings
+
 -- ---- Activate
 abbrev activations : Setting → Journal → List ℕ → Option Offer → Conditions Refusal
 activations p j name o = (is_none o, UnknownRule) ∷ (if is_active p j name then [] else becoming_active_if p j o)
-
-pub activate_unknown : (p : Setting) (j : Journal) (name : List ℕ) → Brings p (option_map predefined (offer_named p name)) None → Some UnknownRule ≡ first_of (activations p j name (offer_named p name))
-activate_unknown p j name brings = from (offer_named p name) brings
-  where
-    from : (o : Option Offer) → Brings p (option_map predefined o) None → Some UnknownRule ≡ first_of (activations p j name o)
-    from None brings = refl
-    from (Some o) brings = absurd brings
 
 pub activate_again : (p : Setting) (j : Journal) (name : List ℕ) (x : Coming) → Brings p (option_map predefined (offer_named p name)) (Some x) → is_active p j name ≡ true →
     None ≡ first_of (activations p j name (offer_named p name))

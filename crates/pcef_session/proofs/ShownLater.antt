@@ -13,7 +13,9 @@ use Rattle.pcef_journal.specs.ActiveRules.{Active, dynamic, is_named, predefined
 use Rattle.pcef_journal.specs.Generations.{Generation, add_if_some, is_among, key_named, key_offered, made_by, oldest, rules_after, slots_of}
 use Rattle.pcef_journal.specs.Entries.{Journal}
 use Rattle.pcef_journal.specs.Journals.{at, gen, is_table, slots, tables}
+use Rattle.pcef_journal.specs.Reports.{after_command}
 use Rattle.pcef_journal.proofs.Growth.{at_after_command, tables_of_other, tables_of_table}
+use Rattle.pcef_usage.proofs.Afterwards.{tables_after}
 use Rattle.pcef_session.specs.Shown.{Shows, StandsFor, place_of, slot_of}
 use Rattle.pcef_session.proofs.BoundRules.{NamesOnce}
 use Rattle.pcef_session.proofs.Members.{filter_from, put_cases}
@@ -122,3 +124,9 @@ slots_grow_by p j c =
 pub shows_after_command : (p : Setting) (j : Journal) (c : Command) (g : ℕ) (t : TableValue) → g ≤ gen j → Shows p j g t → Shows p (entry.Command c ∷ j) g t
 shows_after_command p j c g t within shows =
     shows_later p j (entry.Command c ∷ j) g t (at_after_command p j c g within) (slots_grow_by p j c) shows
+
+-- the reports of a command leave the table that it makes
+pub shows_after : (p : Setting) (j : Journal) (c : Command) (t : TableValue) → Shows p (entry.Command c ∷ j) (gen (entry.Command c ∷ j)) t → Shows p (after_command p j c) (gen (after_command p j c)) t
+shows_after p j c t shows =
+    subst (λ n. Shows p (after_command p j c) n t) (sym (ap length (tables_after p j c)))
+    (shows_same p (entry.Command c ∷ j) (after_command p j c) (gen (entry.Command c ∷ j)) t (tables_after p j c) shows)

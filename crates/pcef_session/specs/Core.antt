@@ -8,7 +8,7 @@ use Rattle.pcef_journal.specs.declared.entry.Entry.{Entry as Said}
 use Rattle.pcef_journal.specs.declared.entry.Entry.TheVariants as entry
 use Rattle.pcef_journal.specs.Setting.{Setting}
 use Rattle.pcef_journal.specs.Journals.{gen}
-use Rattle.pcef_journal.specs.Reports.{plan}
+use Rattle.pcef_journal.specs.Reports.{after_command, plan}
 use Rattle.pcef_catalog.specs.declared.listing.Offer.{Offer}
 use Rattle.pcef_table.specs.declared.entry.Entry.{Entry}
 use Rattle.pcef_table.specs.Tables.{TableValue}
@@ -47,17 +47,14 @@ IsServed (Remove name) = Unit {0}
 IsServed (Monitor key grant) = Unit {0}
 IsServed _ = ⊥
 
-abbrev pub with_command : Command → List Said → List Said
-with_command c j = entry.Command c ∷ j
-
--- a command that the session accepts next and that changes something, with the table of its generation, the
+-- a command that the session accepts next and that changes something, with the table of the journal after it, the
 -- rule that it makes active, what it tells by itself, room in the journal for that and for the thresholds of
 -- eight keys, and a place for a rule
 pub record IsReady (s : Core) (d : PreparedChange) : Type 0 where
   pub served : IsServed d.command
   pub accepted : first_of (refusals (setting_in s) s.journal d.command) ≡ None
   pub changing : changes (setting_in s) s.journal d.command ≡ true
-  pub table : Shows (setting_in s) (with_command d.command s.journal) (gen (with_command d.command s.journal)) (arc_value d.table)
+  pub table : Shows (setting_in s) (after_command (setting_in s) s.journal d.command) (gen (after_command (setting_in s) s.journal d.command)) (arc_value d.table)
   pub rule : Brings (setting_in s) (becoming (setting_in s) d.command) d.rule
   pub plan_is : d.tellings.items ≡ plan (setting_in s) s.journal d.command
   pub has_room : length d.tellings.items + 9 ≤ s.room
@@ -83,6 +80,10 @@ table_made (Changing change) = Some (arc_value change.table)
 table_made (Unchanged name) = None
 
 -- ---- for private clauses
+-- the journal with a command, before its reports
+abbrev pub with_command : Command → List Said → List Said
+with_command c j = entry.Command c ∷ j
+
 -- the commands that are served and make no rule active
 abbrev pub IsBeside : Command → Type 0
 IsBeside (Remove name) = Unit {0}

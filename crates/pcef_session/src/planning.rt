@@ -10,9 +10,9 @@ ghost use Rattle.pcef_table.specs.Sources.{IsKnown};
 ghost use Rattle.pcef_usage.specs.Commands.{usage_of};
 ghost use Rattle.pcef_session.specs.Kept.{has_key, is_gone, is_other_with_key, some_entry};
 
+use pcef_catalog::Listing;
 use pcef_journal::{Cause, Telling};
 use pcef_rule::{KeyName, Properties, RuleName};
-use pcef_catalog::Listing;
 use pcef_table::Entry;
 use pcef_usage::KeyState;
 use std::alloc::{AllocError, Global};

@@ -24,7 +24,7 @@ pub struct Coming {
 pub struct PreparedChange {
     /// The command.
     pub command: Command,
-    /// The table of the generation that the command makes.
+    /// The table of the journal after the command and all that is reported with it.
     pub table: Arc<Table>,
     /// The rule that the command makes active.
     pub rule: Option<Coming>,
@@ -42,7 +42,7 @@ pub enum Prepared {
 }
 
 impl Prepared {
-    /// The table of the generation that the command makes, if it makes one.
+    /// The table of the journal after the command and all that is reported with it, if the command makes one.
     pub fn table(&self) -> Option<&Arc<Table>>
         ensures { option_map (λ t. arc_value t) (option_copied result) ≡ table_made self.now }
     {

@@ -14,9 +14,9 @@ use crate::answer::{AttachFault, OpenFault};
 use crate::profile::Profile;
 use indexmap::IndexMap;
 use pcef_bearer::{Bearers, BearersFault};
+use pcef_catalog::Listing;
 use pcef_journal::{Entry, Journal, TriggerSet};
 use pcef_rule::RuleName;
-use pcef_catalog::Listing;
 use pcef_table::{Source, Table};
 use pcef_usage::{CountedJournal, Usage};
 use std::alloc::Global;
@@ -91,7 +91,8 @@ impl SessionState {
         let Ok(counted) = CountedJournal::new(alloc) else {
             return Err(OpenFault::NoMemory);
         };
-        let Ok(active) = IndexMap::with_capacity(alloc, MAX_RULES) else {
+        // One place more than rules: a command is given a free one before it is known to want it.
+        let Ok(active) = IndexMap::with_capacity(alloc, MAX_RULES + 1) else {
             return Err(OpenFault::NoMemory);
         };
         let Ok(table) = Table::empty(alloc, 0) else {

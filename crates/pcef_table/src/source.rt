@@ -45,7 +45,6 @@ impl Source {
 
     /// Whether the rule fits a packet.
     pub(crate) fn fits<C: Offers>(&self, catalog: &C, ue: Addr, header: &Header) -> bool
-        requires { IsKnown (C.offers catalog.now) self.now }
         ensures { result ≡ fits (C.offers catalog.now) ue header.now self.now }
     {
         match self {

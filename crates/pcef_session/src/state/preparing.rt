@@ -7,7 +7,7 @@ ghost use Rattle.pcef_journal.specs.ActiveRules.{Active, predefined};
 ghost use Rattle.pcef_journal.specs.declared.command.Command.TheVariants as of;
 ghost use Rattle.pcef_journal.specs.declared.report.Cause.TheVariants as cause;
 ghost use Rattle.pcef_journal.specs.Journals.{gen};
-ghost use Rattle.pcef_journal.specs.Reports.{plan};
+ghost use Rattle.pcef_journal.specs.Reports.{after_command, plan};
 ghost use Rattle.pcef_journal.specs.Setting.{offer_named};
 ghost use Rattle.pcef_table.specs.Sources.{properties_of};
 ghost use Rattle.pcef_usage.specs.Commands.{usage_of};
@@ -118,13 +118,13 @@ impl SessionState {
         }
     }
 
-    /// The table that a command makes.
+    /// The table of the journal after a command.
     fn next_table(&self, command: &Command, rule: Option<&Coming>) -> Result<Table, AllocError>
         requires served { IsServed command.now }
         requires accepted { first_of (refusals (setting_in self.now) self.now.journal command.now) ≡ None }
         requires changing { changes (setting_in self.now) self.now.journal command.now ≡ true }
         requires brings { Brings (setting_in self.now) (becoming (setting_in self.now) command.now) (option_copied rule) }
-        ensures { IfOk result (λ t. Shows (setting_in self.now) (with_command command.now self.now.journal) (gen (with_command command.now self.now.journal)) t) }
+        ensures { IfOk result (λ t. Shows (setting_in self.now) (after_command (setting_in self.now) self.now.journal command.now) (gen (after_command (setting_in self.now) self.now.journal command.now)) t) }
     {
         match rule {
             Some(rule) => self.table_with(rule),
@@ -160,7 +160,11 @@ impl SessionState {
     }
 
     /// What a command reports by itself.
-    fn tellings_of(&self, command: &Command, rule: Option<&Coming>) -> Result<Vec<Telling>, AllocError>
+    fn tellings_of(
+        &self,
+        command: &Command,
+        rule: Option<&Coming>,
+    ) -> Result<Vec<Telling>, AllocError>
         requires served { IsServed command.now }
         requires accepted { first_of (refusals (setting_in self.now) self.now.journal command.now) ≡ None }
         requires brings { Brings (setting_in self.now) (becoming (setting_in self.now) command.now) (option_copied rule) }

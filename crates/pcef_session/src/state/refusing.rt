@@ -1,11 +1,10 @@
 //! Why commands are refused.
 
 ghost use Rattle.std.specs.Prelude.{◌≡◌, ◌==◌, ◌&&◌, ◌∷◌, [], Some, if◌then◌else◌, is_none, is_some, length, nat_le, not};
-ghost use Rattle.std.specs.List.{list_any};
-ghost use Rattle.std.specs.Option.{option_copied, option_map};
+ghost use Rattle.std.specs.Option.{option_copied};
 ghost use Rattle.pcef_journal.specs.ActiveRules.{without};
 ghost use Rattle.pcef_journal.specs.Journals.{now};
-ghost use Rattle.pcef_journal.specs.Setting.{offer_named, same_name};
+ghost use Rattle.pcef_journal.specs.Setting.{offer_named};
 ghost use Rattle.pcef_usage.specs.Keys.{finds_no_slot as slotless};
 ghost use Rattle.pcef_bearer.specs.Bindings as binding;
 ghost use Rattle.pcef_session.specs.declared.answer.Refusal.TheVariants as refusal;
@@ -19,7 +18,6 @@ use crate::profile::Profile;
 use pcef_bearer::BindRefusal;
 use pcef_journal::Command;
 use pcef_rule::{KeyName, Properties, RuleName};
-use pcef_catalog::Listing;
 use pcef_usage::{MAX_KEYS, Usage};
 
 /// How many commands a journal takes.
@@ -41,16 +39,6 @@ fn refusal_of(refusal: BindRefusal) -> Refusal
         BindRefusal::OverCapacityUp => Refusal::OverCapacityUp,
         BindRefusal::OverCapacityDown => Refusal::OverCapacityDown,
     }
-}
-
-/// Whether a predefined rule has this name.
-fn is_offered(listing: &Listing, name: &RuleName) -> bool
-    ensures { result ≡ list_any (λ o. same_name o.properties.name name.now) listing.now }
-{
-    listing
-        .offers()
-        .iter()
-        .any(|offer| offer.properties.name == *name)
 }
 
 /// Whether a key has no slot, and there is none left.
@@ -118,7 +106,7 @@ impl SessionState {
     fn install_refusal(&self, rule: &Properties) -> Option<Refusal>
         ensures { result ≡ first_of ((is_some (offer_named (setting_in self.now) rule.now.name), refusal.NameIsPredefined) ∷ becoming_active (setting_in self.now) self.now.journal rule.now) }
     {
-        if is_offered(&self.listing, &rule.name) {
+        if let Some(_rule) = self.offered(&rule.name) {
             return Some(Refusal::NameIsPredefined);
         }
         self.becoming_active(rule)

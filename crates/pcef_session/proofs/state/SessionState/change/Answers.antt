@@ -10,7 +10,6 @@ use Rattle.pcef_table.specs.Tables.{TableValue}
 use Rattle.pcef_usage.specs.declared.usage.KeyState.{KeyState}
 use Rattle.pcef_usage.specs.Keys.{finds_no_slot, keys_of}
 use Rattle.pcef_usage.specs.Tellings.{KnowsAll}
-use Rattle.pcef_usage.proofs.Afterwards.{tables_after}
 use Rattle.pcef_usage.proofs.Commanded.{keys_entered}
 use Rattle.pcef_usage.proofs.Planned.{knows_plan}
 use Rattle.pcef_session.specs.declared.answer.Accepted.{Accepted}
@@ -139,7 +138,7 @@ returns-clause-answer c =
     let a : Accepted = record { generation = c.generation.result; bearer = c.change_rules-bearer.result; first_report = c.reports_len-first_report.result; past_last_report = c.reports_len.result; unchanged = false } in
     let given : Gives (command_outcome p j command) (Ok a) c.tell.new.counted.journal =
     outcome_commanded p j command a c.tell.new.counted.journal ready.accepted ready.changing after
-    (c.generation.ensures ∙ ap (λ (t : TableValue). t.number) c.deref-2.ensures ∙ ready.table.number_is ∙ sym (ap length (tables_after p j command)) ∙ sym (ap gen after))
+    (c.generation.ensures ∙ ap (λ (t : TableValue). t.number) c.deref-2.ensures ∙ ready.table.number_is ∙ sym (ap gen after))
     (bearer_commanded p j command c.args.change.rule (parts_of s) parts c.change_rules-bearer.result refl c.self.invariant.agrees is ∙ ap (λ (k : Journal). bearer_named (now p k) command) (sym after))
     (c.reports_len-first_report.ensures ∙ ap report_count c.journal.ensures) (c.reports_len.ensures ∙ ap report_count c.journal-2.ensures) refl in
     subst (λ (v : Core). Gives (command_outcome (setting_in v) v.journal command) (Ok a) c.tell.new.counted.journal) c.self.view_is given

@@ -1,23 +1,23 @@
-use Rattle.std.proofs.Common.{◌≡◌, ◌∙◌, refl, sym, subst, true, false}
-use Rattle.std.specs.Prelude.{is_some}
+use Rattle.std.proofs.Common.{subst}
+use Rattle.std.specs.Prelude.{Option}
+use Rattle.std.specs.Option.{option_map}
+use Rattle.pcef_journal.specs.ActiveRules.{predefined}
 use Rattle.pcef_journal.specs.Setting.{offer_named}
-use Rattle.pcef_session.specs.Core.{Core, setting_in}
-use Rattle.pcef_session.specs.Terms.{setting_of}
-use Rattle.pcef_session.proofs.Refused.{offered}
+use Rattle.pcef_session.specs.declared.prepared.Coming.{Coming}
+use Rattle.pcef_session.specs.Changes.{Brings}
+use Rattle.pcef_session.specs.Core.{setting_in}
+use Rattle.pcef_session.proofs.Refused.{install_free, install_offered}
 use Rattle.pcef_session.proofs.state.SessionState.install_refusal.Goals as goal
 
-pub returns-then-is_offered : goal.returns-then-is_offered
-returns-then-is_offered c =
-    let name = c.args.rule.now.name in
-    let there : true ≡ is_some (offer_named (setting_in c.args.self.now) name) =
-    subst (λ (v : Core). true ≡ is_some (offer_named (setting_in v) name)) c.self.view_is
-    (sym c.if-is_offered.true ∙ offered (setting_of c.self.inside.profile c.self.inside.listing) name c.is_offered.result c.is_offered.ensures) in
-    rw (← there) refl
+pub returns-in-Some : goal.returns-in-Some
+returns-in-Some c =
+    let p = setting_in c.args.self.now in
+    install_offered p c.args.self.now.journal c.args.rule.now c.in-Some._rule
+    (subst (λ (x : Option Coming). Brings p (option_map predefined (offer_named p c.args.rule.now.name)) x) c.in-Some.is c.offered.ensures)
 
 pub returns : goal.returns
 returns c =
-    let name = c.args.rule.now.name in
-    let absent : false ≡ is_some (offer_named (setting_in c.args.self.now) name) =
-    subst (λ (v : Core). false ≡ is_some (offer_named (setting_in v) name)) c.self.view_is
-    (sym c.if-is_offered.false ∙ offered (setting_of c.self.inside.profile c.self.inside.listing) name c.is_offered.result c.is_offered.ensures) in
-    rw (← absent) c.becoming_active.ensures
+    let p = setting_in c.args.self.now in
+    install_free p c.args.self.now.journal c.args.rule.now c.becoming_active.result
+    (subst (λ (x : Option Coming). Brings p (option_map predefined (offer_named p c.args.rule.now.name)) x) c.in_default.is c.offered.ensures)
+    c.becoming_active.ensures
