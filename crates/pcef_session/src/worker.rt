@@ -12,9 +12,9 @@ ghost use Rattle.pcef_session.specs.Workers.{IsJudged, TakesItem, after_flushing
 use crate::answer::{FlushRefusal, Verdicts};
 use crate::batch::{Batch, BatchFull, Item, MAX_WAITING};
 use crate::state::SessionState;
+use pcef_catalog::Offers;
 use pcef_journal::Row;
 use pcef_packet::{Addr, Header};
-use pcef_catalog::Offers;
 use pcef_table::Table;
 use std::sync::Arc;
 
