@@ -21,13 +21,14 @@ pub struct Predefined {
 }
 
 impl Predefined {
-    /// The rule of these parts. It is the caller's condition that the closure may be called on every
-    /// header, and answers yes exactly where the shape holds. Takes no memory.
+    ghost use Rattle.pcef_catalog.specs.PlainRules.{offer_of};
+
+    /// The rule with these parts. Whoever makes one proves two things of its closure: any header may be
+    /// handed to it, and its answer is the shape's. Takes no memory.
     pub fn new(properties: Properties, shape: Shape, detect: Detect) -> Predefined
         requires callable { Detect.IsAlwaysCallable detect }
         requires exact { (at : _) (r : Bool) → Detect.post detect at r → r ≡ shape_holds shape at.now }
-        ensures properties { result.properties ≡ properties }
-        ensures shape { result.shape ≡ shape }
+        ensures { offer_of result ≡ record { properties = properties; shape = shape } }
     {
         Predefined {
             properties,
@@ -38,21 +39,21 @@ impl Predefined {
 
     /// Calls the closure.
     pub fn detects(&self, header: &Header) -> bool
-        ensures { result ≡ shape_holds self.now.shape header.now }
+        ensures { result ≡ shape_holds (offer_of self.now).shape header.now }
     {
         (self.detect)(header)
     }
 
     /// The properties.
     pub fn properties(&self) -> &Properties
-        ensures { result.now ≡ self.now.properties }
+        ensures { result.now ≡ (offer_of self.now).properties }
     {
         &self.properties
     }
 
     /// The shape that the closure answers by.
     pub fn shape(&self) -> &Shape
-        ensures { result.now ≡ self.now.shape }
+        ensures { result.now ≡ (offer_of self.now).shape }
     {
         &self.shape
     }
