@@ -393,7 +393,8 @@ fn an_install_has_its_rule(rt: HostRuntime) {
 #[test]
 fn an_activate_has_its_name(rt: HostRuntime) {
     let text = "{\"name\":\"video\",\"do\":\"activate\"}";
-    let Ok(Line::Activate(name)) = read_line(rt.alloc(), text) else {
+    let line = read_line(rt.alloc(), text);
+    let Ok(Line::Activate(name)) = &line else {
         panic!(rt; "no activate line");
     };
     assert_eq!(rt; name.as_str(), "video");
