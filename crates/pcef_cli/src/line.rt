@@ -17,11 +17,11 @@ pub use reading::read_line;
 /// What a line asks for.
 #[derive(Drop)]
 pub enum Line {
-    /// `install`: a dynamic rule is put in.
+    /// `install`: a dynamic rule is defined, or defined anew.
     Install(Rule),
-    /// `activate`: the predefined rule of this name is put in.
+    /// `activate`: the predefined rule of this name becomes active.
     Activate(RuleName),
-    /// `remove`: the dynamic rule of this name is taken out.
+    /// `remove`: the active rule of this name goes.
     Remove(RuleName),
     /// `monitor`: the usage of a key is reported at each grant.
     Monitor {

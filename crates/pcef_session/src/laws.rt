@@ -22,7 +22,8 @@ pub fn shown_tables_judge()
     ensures stay { ShownTablesStay }
 {}
 
-/// The table that Install, Remove or Monitor makes of one that shows the newest generation shows the next.
+/// The table that Install, Activate, Remove or Monitor makes of one that shows the newest generation shows the
+/// next.
 pub fn tables_follow_commands()
     ensures installed { InstalledTablesShow }
     ensures activated { ActivatedTablesShow }

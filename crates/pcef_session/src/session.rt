@@ -37,7 +37,8 @@ impl Session {
     ghost use Rattle.pcef_session.specs.Sessions.{state_of};
     ghost use Rattle.pcef_session.specs.Terms.{setting_of};
 
-    /// A session with an empty journal, or the first fault in the order of [`OpenFault`].
+    /// A session with an empty journal, or the first fault in the order of [`OpenFault`]. Takes memory for the rules
+    /// and keys that may come.
     pub fn open(
         alloc: Global,
         profile: Profile,

@@ -69,8 +69,14 @@ fn run<C: Offers, R: Read, W: Write>(
 
 /// Answers each line of a script on a session of its own, and gives the number of lines at fault.
 ///
-/// A line ends with LF or with the end of input; a line of spaces, tabs and CR alone gets no answer.
-/// Reads in blocks of 8,192 bytes and writes each answer when its line has ended.
+/// A line feed ends a line, and so does the end of input; there is no answer to a line of spaces, tabs and CR alone.
+/// A line has at most 262,144 bytes, of which no more are kept, and a script 1,073,741,824. Reads in blocks of 8,192
+/// bytes, and writes each answer when its line has ended, without flushing the writer. Takes memory for the line, the
+/// answer and what the session keeps.
+///
+/// Ends early with the first [`ScriptFault`] that it meets: the reader's or the writer's (an interruption too, and a
+/// write that takes no byte), a script that is too long, want of memory, or a profile that no session can have, before
+/// anything is read.
 pub fn run_script<R: Read, W: Write>(
     alloc: Global,
     reader: &mut R,
