@@ -1,12 +1,8 @@
 //! `pcef`: the policy and charging enforcement function of a mobile packet gateway.
 #![tactic(auto)]
 
-pub mod answer;
 mod built_in;
-pub mod line;
-pub mod profile;
-pub mod program;
-pub mod script;
+mod program;
 
 ghost use Rattle.std.specs.Prelude.{◌≡◌};
 ghost use Rattle.std.specs.Arc.{arc_value};

@@ -1,8 +1,8 @@
 //! The program, without its ends.
 
-use crate::profile::{ReadProfileFault, read_profile};
-use crate::script::{ScriptFault, run_script};
 use pcef_catalog::Catalog;
+use pcef_profile::{ReadProfileFault, read_profile};
+use pcef_script::{ScriptFault, run_script};
 use pcef_session::{OpenFault, Profile};
 use std::alloc::Global;
 use std::io::{Read, Write};

@@ -69,9 +69,3 @@ pub next_ids : (p : Setting) (g : Generation) (bearers : Bearers) (rules : List 
     bearers.bindings.items ≡ bindings g.id_of g.rules → bearers.other ≡ least_free p (kept_ids p g rules) →
     id_by p bearers ≡ id_after p g rules
 next_ids p g bearers rules bound other = fun_ext (id_next p g bearers rules bound other)
-
--- a generation that is made of the parts of the next one
-pub next_is : (p : Setting) (r : Replayed) (g : Generation) (c : Command) →
-    rules_in r.rules.items ≡ rules_after p g c → id_by p r.bearers ≡ id_after p g (rules_after p g c) →
-    r.on.items ≡ still_on g.rules (rules_after p g c) (switched c g.on) → generation_of p r ≡ next p g c
-next_is p r g c rules ids on = cc

@@ -13,7 +13,6 @@ use Rattle.pcef_rule.specs.declared.quantity.Qos.{Qos}
 use Rattle.pcef_rule.specs.declared.quantity.Rates.{Rates}
 use Rattle.pcef_rule.specs.declared.rule.Properties.{Properties}
 use Rattle.pcef_rule.specs.QciKinds.{kind_of}
-use Rattle.pcef_catalog.specs.declared.listing.Offer.{Offer}
 use Rattle.pcef_catalog.proofs.Alternatives.{list_any_map}
 use Rattle.pcef_table.proofs.Foremost.{found_is_foremost, none_passes}
 use Rattle.pcef_journal.specs.declared.command.Command.{Command}
@@ -30,7 +29,6 @@ use Rattle.pcef_session.specs.Bound.{HasOtherIds, binding_of, bound_of, refusal_
 use Rattle.pcef_session.specs.Changes.{MakesActive}
 use Rattle.pcef_session.specs.Laws.{HasBearerIds}
 use Rattle.pcef_session.specs.Refusals.{bindings, finds_no_bearer, first_of, is_gbr, is_non_gbr, rate_down, rate_up, total_down, total_up}
-use Rattle.pcef_session.specs.Terms.{Terms, setting_of}
 use Rattle.pcef_session.proofs.BearerIds.{IsBound, id_default, id_kept, id_new}
 use Rattle.pcef_session.proofs.BoundRules.{put_filter, same_qos_is, same_qos_self}
 use Rattle.pcef_session.proofs.Found.{any_from}
@@ -42,10 +40,6 @@ bound_by g r = bound_at r.properties.name r.properties.qos r.properties.rates (g
 
 abbrev ids_of : Generation → List Active → List ℕ
 ids_of g rules = map (λ r. g.id_of r.properties.qos) rules
-
--- the ids beside the default one, as they are for each session
-pub setting_ids : (t : Terms) (offers : List Offer) → HasOtherIds (setting_of t offers)
-setting_ids t offers = refl
 
 -- the ids 6 to 15 are from 6 to 15
 pub has_bearer_ids : (p : Setting) → HasOtherIds p → HasBearerIds p

@@ -12,9 +12,7 @@ pub mod FirstSession
 pub mod Found
 pub mod KeptRules
 pub mod KeysGone
-pub mod Lanes
 pub mod Members
-pub mod NewLanes
 pub mod NextTables
 pub mod Onward
 pub mod PlainJournals
@@ -29,6 +27,3 @@ pub mod SlotPlaces
 pub mod SlotsLater
 pub mod SoundLater
 pub mod Taking
-pub mod WorkersWait
-pub mod WorldAnswers
-pub mod WorldSteps

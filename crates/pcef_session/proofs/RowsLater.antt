@@ -26,13 +26,6 @@ later_same p worker j k lane_is same = record {
   at_is = λ g within. ap (λ cs. made_by p (oldest g cs)) same;
 }
 
-pub later_twice : (p : Setting) (worker : ℕ) (i j k : Journal) → Later p worker i j → Later p worker j k → Later p worker i k
-later_twice p worker i j k first second = record {
-  lane_is = second.lane_is ∙ first.lane_is;
-  gen_more = omega (arith, first.gen_more, second.gen_more);
-  at_is = λ g within. second.at_is g (omega (arith, within, first.gen_more)) ∙ first.at_is g within;
-}
-
 pub later_command : (p : Setting) (worker : ℕ) (j : Journal) (c : Command) → Later p worker j (entry.Command c ∷ j)
 later_command p worker j c = record {
   lane_is = refl;

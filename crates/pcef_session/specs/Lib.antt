@@ -12,6 +12,3 @@ pub mod Sessions
 pub mod Shown
 pub mod Soundness
 pub mod Terms
-pub mod Workers
-pub mod WorldSoundness
-pub mod Worlds

@@ -1,5 +1,4 @@
-//! A session of the gateway: its commands, its bearers, its usage and its journal, and the workers of
-//! a script.
+//! A session of the gateway: its commands, its bearers, its usage and its journal.
 #![tactic(auto)]
 
 mod answer;
@@ -13,8 +12,6 @@ mod profile;
 mod rows;
 mod session;
 mod state;
-mod worker;
-mod world;
 
 pub use answer::{Accepted, AttachFault, FlushRefusal, Judged, OpenFault, Refusal, Verdicts};
 pub use batch::{Batch, BatchFull, Item, MAX_WAITING};
@@ -26,4 +23,3 @@ pub use prepared::{Coming, Prepared, PreparedChange};
 pub use profile::{MAX_CAPACITY, MAX_COMMANDS, Profile};
 pub use session::Session;
 pub use state::{MAX_RULES, MAX_WORKERS, SessionState};
-pub use world::{StepRefusal, WorldState};

@@ -9,10 +9,10 @@ use super::{
     dns_properties, dns_shape, expedited_properties, expedited_shape, is_dns, is_expedited,
     is_remaining, remaining_properties, remaining_shape,
 };
-use crate::profile::read_profile;
-use crate::script::run_script;
 use pcef_catalog::{Catalog, Detect, Offers, Predefined};
 use pcef_packet::{Addr, Dir, Header, Ports};
+use pcef_profile::read_profile;
+use pcef_script::run_script;
 use std::alloc::Global;
 use std::sync::Arc;
 use std::test::Fail;
@@ -45,6 +45,39 @@ const DNS_QUESTION: Header = Header {
     dscp: 0,
 };
 
+/// What the closures of a catalog say of a header, in the order of its rules.
+fn said(catalog: &Catalog, header: &Header) -> [bool; 3] {
+    [
+        catalog.detects(0, header),
+        catalog.detects(1, header),
+        catalog.detects(2, header),
+    ]
+}
+
+/// What a script on a catalog answers to these lines.
+fn answered(
+    alloc: Global,
+    catalog: Arc<Catalog>,
+    profile: &str,
+    lines: &[&str],
+) -> Result<String, Fail> {
+    let mut script = String::new(alloc);
+    for line in lines {
+        script.push_str(*line)?;
+        script.push('\n')?;
+    }
+    let profile = read_profile(alloc, profile)?;
+    let mut written = Vec::new(alloc);
+    let _faults = run_script(
+        alloc,
+        &mut script.as_bytes(),
+        &mut written,
+        profile,
+        catalog,
+    )?;
+    Ok(String::from_utf8(written)?)
+}
+
 /// What the built-in closures say of a header, in the order of the catalog, and what a script on their catalog
 /// answers to these lines.
 fn run(
@@ -71,26 +104,16 @@ fn run(
             ensures { result ≡ shape_holds remaining_shape header.now }
         { is_remaining(header) },
     )?;
-    let said = [dns(header), expedited(header), remaining(header)];
     let mut rules = Vec::new(alloc);
     rules.push(Predefined::new(dns_properties(), dns_shape(), dns))?;
     rules.push(Predefined::new(expedited_properties(), expedited_shape(), expedited))?;
     rules.push(Predefined::new(remaining_properties(), remaining_shape(), remaining))?;
-    let catalog = Arc::new(alloc, Catalog::new(alloc, rules)?)?;
-    let mut script = String::new(alloc);
-    for line in lines {
-        script.push_str(*line)?;
-        script.push('\n')?;
-    }
-    let mut written = Vec::new(alloc);
-    let _faults = run_script(
-        alloc,
-        &mut script.as_bytes(),
-        &mut written,
-        read_profile(alloc, profile)?,
-        catalog,
-    )?;
-    Ok((said, String::from_utf8(written)?))
+    let catalog = Catalog::new(alloc, rules)?;
+    let said = said(&catalog, header);
+    Ok((
+        said,
+        answered(alloc, Arc::new(alloc, catalog)?, profile, lines)?,
+    ))
 }
 
 #[test]

@@ -1,0 +1,4 @@
+pub mod AnswerTexts
+pub mod NoFloats
+pub mod Showing
+pub mod WrittenTexts

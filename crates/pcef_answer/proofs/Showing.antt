@@ -1,0 +1,34 @@
+-- What is shown is as the journal says.
+use Rattle.std.proofs.Common.{◌≡◌, ◌∙◌, List, [], ◌∷◌, ap, arith, map, refl}
+use Rattle.std.specs.List.{AllByRecursion}
+use Rattle.serde_json.specs.Data.{array}
+use Rattle.serde_json.specs.View.{items_of}
+use Rattle.pcef_journal.specs.Entries.{Journal}
+use Rattle.pcef_journal.specs.Generations.{is_among}
+use Rattle.pcef_journal.specs.Journals.{gen, now, reported, unreported}
+use Rattle.pcef_journal.specs.Setting.{Setting}
+use Rattle.pcef_usage.specs.declared.usage.KeyState.{KeyState}
+use Rattle.pcef_session.specs.Agreement.{Agrees, KeyAgrees, Parts}
+use Rattle.pcef_session.specs.Bound.{bound_of}
+use Rattle.pcef_answer.specs.ShowAnswers.{active_data, bearers_data, key_data, key_told, kept_data, session_data, state_data, states_data, told_data}
+
+state_told : (p : Setting) (j : Journal) (s : KeyState) → KeyAgrees p j s → state_data s ≡ key_told p j s.key
+state_told p j s agrees =
+    let on = is_among s.key (now p j).on in
+    let rest : s.unreported ≡ unreported p j s.key = omega (arith, agrees.reported_is, agrees.counted_is) in
+    ap (λ on. key_data s.key on s.reported s.unreported) agrees.on_is
+    ∙ ap (λ n. key_data s.key on n s.unreported) agrees.reported_is
+    ∙ ap (λ n. key_data s.key on (reported j s.key) n) rest
+
+states_told : (p : Setting) (j : Journal) (states : List KeyState) → AllByRecursion (KeyAgrees p j) states → map state_data states ≡ map (key_told p j) (map (λ s. s.key) states)
+states_told p j [] all = refl
+states_told p j (s ∷ states) all =
+    ap (λ d. d ∷ map state_data states) (state_told p j s all.0) ∙ ap (λ ds. key_told p j s.key ∷ ds) (states_told p j states all.1)
+
+pub kept_told : (p : Setting) (j : Journal) (parts : Parts) → Agrees p j parts → kept_data p.catalog parts ≡ told_data p j parts.table.entries
+kept_told p j parts agrees =
+    let active = active_data p.catalog parts.table.entries in
+    let bearers = bearers_data (bound_of (now p j) (now p j).rules) in
+    ap (λ b. session_data active (bearers_data b.bound) parts.table.number (states_data parts.keys)) agrees.binding_is
+    ∙ ap (λ n. session_data active bearers n (states_data parts.keys)) agrees.table_shows.number_is
+    ∙ ap (λ ds. session_data active bearers (gen j) (array (items_of ds))) (states_told p j parts.keys agrees.usage_is ∙ ap (map (key_told p j)) agrees.keys_are)

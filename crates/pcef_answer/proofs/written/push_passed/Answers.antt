@@ -1,0 +1,11 @@
+use Rattle.json.specs.Print.{escape_byte}
+use Rattle.pcef_answer.proofs.WrittenTexts.{last_three}
+use Rattle.pcef_answer.proofs.written.push_passed.Goals as goal
+
+pub returns : goal.returns
+unfolding escape_byte
+returns c =
+    let bearer = rw c.from.ensures at c.in_ok-push_number.ensures in
+    let generation = rw c.from-2.ensures at c.in_ok-push_number-2.ensures in
+    let end = last_three c.push_rule.result _ _ _ _ _ _ _ c.in_ok-push_str-2.ensures.bytes generation c.push_rule.ensures in
+    last_three c.push_rule.result _ _ _ _ _ _ _ c.in_ok-push_str.ensures.bytes bearer end

@@ -1,0 +1,5 @@
+pub mod FaultAnswers
+pub mod RefusalAnswers
+pub mod ReportAnswers
+pub mod ShowAnswers
+pub mod StepAnswers

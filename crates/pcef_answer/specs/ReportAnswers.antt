@@ -1,0 +1,58 @@
+-- Reports in answers: a JSON object (RFC 8259) for each, its members in the order of their keys (own
+-- choice). The words of access events are those of TS 29.212, Event-Trigger.
+use Rattle.std.specs.Prelude.{ℕ, List, [], codes, drop, map, nat_lt, reverse, if◌then◌else◌}
+use Rattle.serde_json.specs.Data.{Data, string, array, object, member, no_members}
+use Rattle.serde_json.specs.View.{items_of}
+use Rattle.pcef_journal.specs.declared.report.Body.{Body}
+use Rattle.pcef_journal.specs.declared.report.Body.TheVariants.{Usage, Access, Inactive}
+use Rattle.pcef_journal.specs.declared.report.Cause.{Cause}
+use Rattle.pcef_journal.specs.declared.report.Cause.TheVariants.{Threshold, Requested, Disabled, RulesGone, Terminated}
+use Rattle.pcef_journal.specs.declared.report.InactiveCause.{InactiveCause}
+use Rattle.pcef_journal.specs.declared.report.InactiveCause.TheVariants.{BearerLost}
+use Rattle.pcef_journal.specs.declared.report.Report.{Report}
+use Rattle.pcef_journal.specs.declared.trigger.AccessKind.{AccessKind}
+use Rattle.pcef_journal.specs.declared.trigger.AccessKind.TheVariants.{RatChange, PlmnChange, UserLocationChange, UeTimeZoneChange}
+use Rattle.pcef_journal.specs.Entries.{Journal, reports}
+use Rattle.pcef_answer.specs.FaultAnswers.{count}
+
+abbrev pub cause_text : Cause → List ℕ
+cause_text Threshold = codes "Threshold"
+cause_text Requested = codes "Requested"
+cause_text Disabled = codes "Disabled"
+cause_text RulesGone = codes "RulesGone"
+cause_text Terminated = codes "Terminated"
+
+abbrev pub kind_text : AccessKind → List ℕ
+kind_text RatChange = codes "RAT_CHANGE"
+kind_text PlmnChange = codes "PLMN_CHANGE"
+kind_text UserLocationChange = codes "USER_LOCATION_CHANGE"
+kind_text UeTimeZoneChange = codes "UE_TIME_ZONE_CHANGE"
+
+abbrev pub inactive_text : InactiveCause → List ℕ
+inactive_text BearerLost = codes "BearerLost"
+
+-- of this number
+abbrev pub body_data : ℕ → Body → Data
+body_data number (Usage key octets cause) =
+    object (member (codes "cause") (string (cause_text cause))
+    (member (codes "key") (string key)
+    (member (codes "number") (count number)
+    (member (codes "octets") (count octets) no_members))))
+body_data number (Access kind value) =
+    object (member (codes "event") (string (kind_text kind))
+    (member (codes "number") (count number)
+    (member (codes "value") (string value) no_members)))
+body_data number (Inactive rule cause) =
+    object (member (codes "cause") (string (inactive_text cause))
+    (member (codes "number") (count number)
+    (member (codes "rule") (string rule) no_members)))
+
+abbrev pub report_data : Report → Data
+report_data report = body_data report.number report.body
+
+-- a journal's reports from the number `first` on, the oldest first; none where `past_last` is not above it
+abbrev pub reports_told : Journal → ℕ → ℕ → List Report
+reports_told journal first past_last = if nat_lt first past_last then drop first (reverse (reports journal)) else []
+
+abbrev pub reports_data : List Report → Data
+reports_data told = array (items_of (map report_data told))

@@ -1,0 +1,96 @@
+-- The answer to `show`: a JSON object (RFC 8259), its members in the order of their keys (own choice).
+use Rattle.std.specs.Prelude.{ℕ, ◌≡◌, Bool, List, [], ◌∷◌, codes, length, map, Option}
+use Rattle.std.specs.List.{filter_map}
+use Rattle.std.specs.Option.{option_map}
+use Rattle.serde_json.specs.Data.{Data, string, boolean, array, object, member, no_members}
+use Rattle.serde_json.specs.View.{items_of}
+use Rattle.serde_json.specs.Written.{compact_text}
+use Rattle.pcef_rule.specs.declared.quantity.Sums.{Sums}
+use Rattle.pcef_table.specs.declared.entry.Entry.{Entry}
+use Rattle.pcef_catalog.specs.declared.listing.Offer.{Offer}
+use Rattle.pcef_table.specs.Sources.{name_of}
+use Rattle.pcef_table.specs.Tables.{TableValue}
+use Rattle.pcef_journal.specs.Entries.{Journal}
+use Rattle.pcef_journal.specs.Generations.{is_among}
+use Rattle.pcef_journal.specs.Journals.{gen, now, reported, slots, unreported}
+use Rattle.pcef_journal.specs.Setting.{Setting}
+use Rattle.pcef_bearer.specs.declared.bearers.Bound.{Bound}
+use Rattle.pcef_bearer.specs.Bindings.{guaranteed, rules_on}
+use Rattle.pcef_usage.specs.declared.usage.KeyState.{KeyState}
+use Rattle.pcef_session.specs.Agreement.{Parts}
+use Rattle.pcef_session.specs.Bound.{bound_of}
+use Rattle.pcef_session.specs.Shown.{Shows}
+use Rattle.pcef_answer.specs.FaultAnswers.{count}
+
+-- ---- rules
+-- the name of an entry's rule
+abbrev pub entry_data : List Offer → Entry → Data
+entry_data offers e = string (name_of offers e.source)
+
+abbrev pub active_data : List Offer → List Entry → Data
+active_data offers entries = array (items_of (map (entry_data offers) entries))
+
+-- ---- bearers
+-- the ids that a bearer may have (own choice)
+abbrev pub bearer_ids : List ℕ
+bearer_ids = 5 ∷ 6 ∷ 7 ∷ 8 ∷ 9 ∷ 10 ∷ 11 ∷ 12 ∷ 13 ∷ 14 ∷ 15 ∷ []
+
+-- a bearer: the sums of its guaranteed rates, and how many rules are on it
+abbrev pub bearer_data : ℕ → ℕ → Sums → Data
+bearer_data id rules sums =
+    object (member (codes "down") (count sums.down)
+    (member (codes "id") (count id)
+    (member (codes "rules") (count rules)
+    (member (codes "up") (count sums.up) no_members))))
+
+-- the bearer of an id, where there is one
+abbrev pub bearer_told : List Bound → ℕ → Option Data
+bearer_told bound id = option_map (bearer_data id (length (rules_on id bound))) (guaranteed id bound)
+
+abbrev pub bearers_told : List Bound → List ℕ → Data
+bearers_told bound ids = array (items_of (filter_map (bearer_told bound) ids))
+
+abbrev pub bearers_data : List Bound → Data
+bearers_data bound = bearers_told bound bearer_ids
+
+-- ---- keys
+-- a key: whether it is on, and its octets
+abbrev pub key_data : List ℕ → Bool → ℕ → ℕ → Data
+key_data key on reported unreported =
+    object (member (codes "key") (string key)
+    (member (codes "on") (boolean on)
+    (member (codes "reported") (count reported)
+    (member (codes "unreported") (count unreported) no_members))))
+
+abbrev pub key_told : Setting → Journal → List ℕ → Data
+key_told p j key = key_data key (is_among key (now p j).on) (reported j key) (unreported p j key)
+
+-- ---- a session
+abbrev pub session_data : Data → Data → ℕ → Data → Data
+session_data active bearers generation keys =
+    object (member (codes "active") active
+    (member (codes "bearers") bearers
+    (member (codes "generation") (count generation)
+    (member (codes "keys") keys no_members))))
+
+-- the active rules in the order of a table, the bearers by id, the number of the newest generation, and
+-- the keys in slot order
+abbrev pub told_data : Setting → Journal → List Entry → Data
+told_data p j entries =
+    session_data (active_data p.catalog entries) (bearers_data (bound_of (now p j) (now p j).rules)) (gen j)
+    (array (items_of (map (key_told p j) (slots p j))))
+
+-- the rules are in precedence order: that of the table that shows the newest generation
+abbrev pub TellsSession : Setting → Journal → List ℕ → Type 0
+TellsSession p j text = (table : TableValue) × Shows p j (gen j) table × (text ≡ compact_text (told_data p j table.entries))
+
+-- ---- for private clauses: the same from what a session keeps beside its journal
+abbrev pub state_data : KeyState → Data
+state_data s = key_data s.key s.on s.reported s.unreported
+
+abbrev pub states_data : List KeyState → Data
+states_data states = array (items_of (map state_data states))
+
+abbrev pub kept_data : List Offer → Parts → Data
+kept_data offers parts =
+    session_data (active_data offers parts.table.entries) (bearers_data parts.binding.bound) parts.table.number (states_data parts.keys)

@@ -1,0 +1,114 @@
+-- The answers to commands and to the steps of workers: a JSON object (RFC 8259) for each, its members in
+-- the order of their keys (own choice).
+use Rattle.std.specs.Prelude.{ℕ, List, codes, map, Bool, true, false, Option, Some, None, Result, Ok, Err}
+use Rattle.serde_json.specs.Data.{Data, string, boolean, array, object, Members, member, no_members}
+use Rattle.serde_json.specs.View.{items_of}
+use Rattle.serde_json.specs.Written.{compact_text}
+use Rattle.pcef_rule.specs.declared.quantity.BearerId.{BearerId}
+use Rattle.pcef_table.specs.declared.verdict.Verdict.{Verdict}
+use Rattle.pcef_table.specs.declared.verdict.Verdict.TheVariants.{Stray, Unmatched, Gated, Passed}
+use Rattle.pcef_journal.specs.Entries.{Journal}
+use Rattle.pcef_session.specs.declared.answer.Accepted.{Accepted}
+use Rattle.pcef_session.specs.declared.answer.AttachFault.{AttachFault}
+use Rattle.pcef_session.specs.declared.answer.FlushRefusal.{FlushRefusal}
+use Rattle.pcef_session.specs.declared.answer.Judged.{Judged}
+use Rattle.pcef_session.specs.declared.answer.Refusal.{Refusal}
+use Rattle.pcef_session.specs.declared.answer.Verdicts.{Verdicts}
+use Rattle.pcef_session.specs.declared.batch.BatchFull.{BatchFull}
+use Rattle.pcef_world.specs.declared.world.StepRefusal.{StepRefusal}
+use Rattle.pcef_world.specs.declared.world.StepRefusal.TheVariants.{NoWorker, Refused}
+use Rattle.pcef_answer.specs.FaultAnswers.{count}
+use Rattle.pcef_answer.specs.RefusalAnswers.{refusal_text, attach_fault_text, batch_full_text, flush_refusal_text, no_worker_text}
+use Rattle.pcef_answer.specs.ReportAnswers.{reports_told, reports_data}
+
+-- ---- commands
+-- the bearer stands first, where there is one
+abbrev pub bearer_before : Option BearerId → Members → Members
+bearer_before None members = members
+bearer_before (Some bearer) members = member (codes "bearer") (count bearer.0) members
+
+-- that nothing changed stands last, where it is so
+abbrev pub unchanged_last : Bool → Members
+unchanged_last true = member (codes "unchanged") (boolean true) no_members
+unchanged_last false = no_members
+
+abbrev pub members_told : Data → Option BearerId → ℕ → Bool → Members
+members_told told bearer generation unchanged =
+    bearer_before bearer
+    (member (codes "generation") (count generation)
+    (member (codes "ok") (boolean true)
+    (member (codes "reports") told (unchanged_last unchanged))))
+
+abbrev pub accepted_data : Journal → Accepted → Data
+accepted_data journal accepted =
+    object (members_told (reports_data (reports_told journal accepted.first_report accepted.past_last_report)) accepted.bearer accepted.generation accepted.unchanged)
+
+unfoldable pub command_text : Journal → Result Accepted Refusal → List ℕ
+command_text journal (Ok accepted) = compact_text (accepted_data journal accepted)
+command_text journal (Err refusal) = refusal_text refusal
+
+-- ---- workers that come, and packets
+abbrev pub attached_data : ℕ → ℕ → Data
+attached_data generation worker =
+    object (member (codes "generation") (count generation)
+    (member (codes "ok") (boolean true)
+    (member (codes "worker") (count worker) no_members)))
+
+unfoldable pub attached_text : ℕ → Result ℕ AttachFault → List ℕ
+attached_text generation (Ok worker) = compact_text (attached_data generation worker)
+attached_text generation (Err fault) = attach_fault_text fault
+
+abbrev pub taken_data : ℕ → Data
+taken_data waiting =
+    object (member (codes "ok") (boolean true)
+    (member (codes "waiting") (count waiting) no_members))
+
+unfoldable pub taken_text : Result ℕ (StepRefusal BatchFull) → List ℕ
+taken_text (Ok waiting) = compact_text (taken_data waiting)
+taken_text (Err NoWorker) = no_worker_text
+taken_text (Err (Refused full)) = batch_full_text
+
+-- a worker that takes the newest generation
+abbrev pub refreshed_data : ℕ → Data
+refreshed_data generation =
+    object (member (codes "generation") (count generation)
+    (member (codes "ok") (boolean true) no_members))
+
+unfoldable pub refreshed_text : Option ℕ → List ℕ
+refreshed_text (Some generation) = compact_text (refreshed_data generation)
+refreshed_text None = no_worker_text
+
+-- ---- rows that are taken over
+abbrev pub verdict_data : ℕ → Verdict → Data
+verdict_data generation Stray =
+    object (member (codes "generation") (count generation)
+    (member (codes "verdict") (string (codes "Stray")) no_members))
+verdict_data generation Unmatched =
+    object (member (codes "generation") (count generation)
+    (member (codes "verdict") (string (codes "Unmatched")) no_members))
+verdict_data generation (Gated rule) =
+    object (member (codes "generation") (count generation)
+    (member (codes "rule") (string rule)
+    (member (codes "verdict") (string (codes "Gated")) no_members)))
+verdict_data generation (Passed rule bearer) =
+    object (member (codes "bearer") (count bearer.0)
+    (member (codes "generation") (count generation)
+    (member (codes "rule") (string rule)
+    (member (codes "verdict") (string (codes "Passed")) no_members))))
+
+abbrev pub judged_data : Judged → Data
+judged_data judged = verdict_data judged.generation judged.verdict
+
+abbrev pub verdicts_data : List Judged → Data
+verdicts_data rows = array (items_of (map judged_data rows))
+
+abbrev pub flushed_data : Journal → Verdicts → Data
+flushed_data journal verdicts =
+    object (member (codes "ok") (boolean true)
+    (member (codes "reports") (reports_data (reports_told journal verdicts.first_report verdicts.past_last_report))
+    (member (codes "verdicts") (verdicts_data verdicts.rows.items) no_members)))
+
+unfoldable pub flushed_text : Journal → Result Verdicts (StepRefusal FlushRefusal) → List ℕ
+flushed_text journal (Ok verdicts) = compact_text (flushed_data journal verdicts)
+flushed_text journal (Err NoWorker) = no_worker_text
+flushed_text journal (Err (Refused refusal)) = flush_refusal_text refusal

@@ -1,0 +1,17 @@
+//! The answers to script lines: compact JSON texts, whose keys stand in byte order, without the line
+//! feed.
+#![tactic(auto)]
+
+mod fault;
+mod refusal;
+mod report;
+mod show;
+mod step;
+mod written;
+
+pub use fault::fault_text;
+pub use show::show_answer;
+pub use step::{attached_answer, command_answer, flushed_answer, refreshed_answer, taken_answer};
+
+#[cfg(test)]
+mod tests;

@@ -1,9 +1,0 @@
-use Rattle.json.specs.Print.{escape_byte}
-use Rattle.pcef_cli.proofs.WrittenTexts.{last_three}
-use Rattle.pcef_cli.proofs.answer.written.push_gated.Goals as goal
-
-pub returns : goal.returns
-unfolding escape_byte
-returns c =
-    let number = rw c.from.ensures at c.in_ok-push_number.ensures in
-    last_three c.push_rule.result _ _ _ _ _ _ _ c.in_ok-push_str.ensures.bytes number c.push_rule.ensures

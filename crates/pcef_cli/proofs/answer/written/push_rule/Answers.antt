@@ -1,5 +1,0 @@
-use Rattle.pcef_cli.proofs.WrittenTexts.{pushed_three}
-use Rattle.pcef_cli.proofs.answer.written.push_rule.Goals as goal
-
-pub returns : goal.returns
-returns c = pushed_three c.push_str-2.result _ _ _ _ _ _ _ c.in_ok-push_str.ensures.bytes c.in_ok-push_quoted.ensures c.push_str-2.ensures.bytes

@@ -1,6 +1,0 @@
-use Rattle.std.proofs.lemmas.Result.{IfOk-weaker}
-use Rattle.pcef_cli.proofs.script.step.read_fault.Goals as goal
-
-pub returns-in_default : goal.returns-in_default
-returns-in_default c = λ p before.
-    IfOk-weaker c.fault.result _ _ (λ a told. (c.in_default.not-NoMemory, told)) (c.fault.ensures p before)

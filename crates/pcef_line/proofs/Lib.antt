@@ -1,0 +1,3 @@
+pub mod FilterLists
+pub mod NameTests
+pub mod Objects

@@ -1,0 +1,6 @@
+pub mod LineFaults
+pub mod LineOf
+pub mod LineRules
+pub mod LineShape
+pub mod LineValues
+pub mod LineWords

@@ -1,0 +1,182 @@
+//! Why a line can't be read.
+
+ghost use Rattle.std.specs.Prelude.{◌≡◌};
+ghost use Rattle.pcef_line.specs.LineFaults.{fault_number, fault_name, fault_field, fault_code, packet_code, filter_code, rule_code};
+ghost use Rattle.pcef_line.specs.declared.fault.LineFault.TheVariants.{NoMemory};
+
+use crate::field::Field;
+use pcef_filter::FilterFault;
+use pcef_packet::PacketFault;
+use pcef_rule::RuleFault;
+use std::alloc::AllocFailed;
+use thiserror::Error;
+
+/// Why a line can't be read. Of several faults that of the lowest number is answered up to
+/// [`LineFault::UnknownField`], and then that of the first field in the order of checking.
+#[derive(Clone, Copy, Debug, PartialEq, Eq, Error)]
+pub enum LineFault {
+    /// The line has more than 262,144 bytes.
+    #[error("the line is too long")]
+    LineTooLong,
+    /// The line isn't UTF-8.
+    #[error("the line isn't UTF-8")]
+    NotUtf8,
+    /// The line isn't a JSON text.
+    #[error("the line isn't JSON")]
+    NotJson,
+    /// The JSON text is no object.
+    #[error("the line is no object")]
+    NotObject,
+    /// `do` is missing or none of the known words.
+    #[error("`do` is no known word")]
+    UnknownDo,
+    /// The line, or an object in it, has a field that it may not have.
+    #[error("a field is unknown")]
+    UnknownField,
+    /// A field is missing.
+    #[error("a field is missing")]
+    MissingField(Field),
+    /// A field's value has the wrong kind, is no known word, or is out of range.
+    #[error("a field has a wrong value")]
+    BadField(Field),
+    /// A field's text is no name.
+    #[error("a field is no name")]
+    BadName(Field),
+    /// A field's text isn't hexadecimal.
+    #[error("a field isn't hexadecimal")]
+    BadHex(Field),
+    /// A field's octets are no packet.
+    #[error("a field is no packet: {1}")]
+    BadPacket(Field, PacketFault),
+    /// A field's text is no filter.
+    #[error("a field is no filter: {1}")]
+    BadFilter(Field, FilterFault),
+    /// A field's object is no rule.
+    #[error("a field is no rule: {1}")]
+    BadRule(Field, RuleFault),
+    /// There is no memory left.
+    #[error("there is no memory left")]
+    NoMemory,
+}
+
+impl<T: Drop> From<AllocFailed<T>> for LineFault {
+    ghost from_gives = { λ _ fault. fault ≡ NoMemory };
+
+    fn from(_refused: AllocFailed<T>) -> LineFault {
+        LineFault::NoMemory
+    }
+}
+
+fn packet_code(fault: PacketFault) -> u8
+    ensures { result ≡ packet_code fault }
+{
+    match fault {
+        PacketFault::Empty => 1,
+        PacketFault::Version => 2,
+        PacketFault::ShortHeader => 3,
+        PacketFault::BadHeaderLength => 4,
+        PacketFault::BadTotalLength => 5,
+    }
+}
+
+fn filter_code(fault: FilterFault) -> u8
+    ensures { result ≡ filter_code fault }
+{
+    match fault {
+        FilterFault::Action => 1,
+        FilterFault::Direction => 2,
+        FilterFault::Proto => 3,
+        FilterFault::From => 4,
+        FilterFault::Source => 5,
+        FilterFault::SourcePorts => 6,
+        FilterFault::To => 7,
+        FilterFault::Target => 8,
+        FilterFault::TargetPorts => 9,
+        FilterFault::Rest => 10,
+        FilterFault::Flow => 11,
+    }
+}
+
+fn rule_code(fault: RuleFault) -> u8
+    ensures { result ≡ rule_code fault }
+{
+    match fault {
+        RuleFault::NoFilter => 1,
+        RuleFault::TooManyFilters => 2,
+        RuleFault::NoMemory => 3,
+    }
+}
+
+impl LineFault {
+    /// The number of the fault, 1 to 14.
+    pub fn number(self) -> u8
+        ensures { result ≡ fault_number self }
+    {
+        match self {
+            LineFault::LineTooLong => 1,
+            LineFault::NotUtf8 => 2,
+            LineFault::NotJson => 3,
+            LineFault::NotObject => 4,
+            LineFault::UnknownDo => 5,
+            LineFault::UnknownField => 6,
+            LineFault::MissingField(_) => 7,
+            LineFault::BadField(_) => 8,
+            LineFault::BadName(_) => 9,
+            LineFault::BadHex(_) => 10,
+            LineFault::BadPacket(_, _) => 11,
+            LineFault::BadFilter(_, _) => 12,
+            LineFault::BadRule(_, _) => 13,
+            LineFault::NoMemory => 14,
+        }
+    }
+
+    /// The name of the fault.
+    pub fn name(self) -> &'static str
+        ensures { result.now ≡ fault_name self }
+    {
+        match self {
+            LineFault::LineTooLong => "LineTooLong",
+            LineFault::NotUtf8 => "NotUtf8",
+            LineFault::NotJson => "NotJson",
+            LineFault::NotObject => "NotObject",
+            LineFault::UnknownDo => "UnknownDo",
+            LineFault::UnknownField => "UnknownField",
+            LineFault::MissingField(_) => "MissingField",
+            LineFault::BadField(_) => "BadField",
+            LineFault::BadName(_) => "BadName",
+            LineFault::BadHex(_) => "BadHex",
+            LineFault::BadPacket(_, _) => "BadPacket",
+            LineFault::BadFilter(_, _) => "BadFilter",
+            LineFault::BadRule(_, _) => "BadRule",
+            LineFault::NoMemory => "NoMemory",
+        }
+    }
+
+    /// The field at fault, where the fault is one of a field.
+    pub fn field(self) -> Option<Field>
+        ensures { result ≡ fault_field self }
+    {
+        match self {
+            LineFault::MissingField(field)
+            | LineFault::BadField(field)
+            | LineFault::BadName(field)
+            | LineFault::BadHex(field)
+            | LineFault::BadPacket(field, _)
+            | LineFault::BadFilter(field, _)
+            | LineFault::BadRule(field, _) => Some(field),
+            _ => None,
+        }
+    }
+
+    /// The number of the inner fault, where the field's packet, filter or rule has one.
+    pub fn code(self) -> Option<u8>
+        ensures { result ≡ fault_code self }
+    {
+        match self {
+            LineFault::BadPacket(_, fault) => Some(packet_code(fault)),
+            LineFault::BadFilter(_, fault) => Some(filter_code(fault)),
+            LineFault::BadRule(_, fault) => Some(rule_code(fault)),
+            _ => None,
+        }
+    }
+}

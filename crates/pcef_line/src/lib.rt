@@ -1,0 +1,19 @@
+//! The lines of a script: one JSON object each (RFC 8259), whose `do` says what it asks for.
+#![tactic(auto)]
+
+mod fault;
+mod field;
+mod known;
+mod line;
+mod reading;
+mod rule;
+mod values;
+mod word;
+
+pub use fault::LineFault;
+pub use field::Field;
+pub use line::Line;
+pub use reading::read_line;
+
+#[cfg(test)]
+mod tests;

@@ -1,0 +1,148 @@
+//! The values of fields.
+
+ghost use Rattle.std.specs.Prelude.{◌≡◌, ◌≤◌, IfOk};
+ghost use Rattle.serde_json.specs.View.{view, items_view};
+ghost use Rattle.pcef_line.specs.declared.fault.LineFault.TheVariants.{BadName};
+ghost use Rattle.pcef_reading.specs.Readings.{passing};
+ghost use Rattle.pcef_line.specs.LineValues.{Gives, member_at, object_at, list_at, text_at, number_at, flag_at, is_name, name_at, dir_at, octets_at, packet_at};
+
+use crate::fault::LineFault;
+use crate::field::Field;
+use hex::FromHexError;
+use pcef_packet::{Dir, Header, read_header};
+use pcef_rule::Name;
+use serde_json::Value;
+use std::alloc::Global;
+
+/// The value of a field. A fault names `told`: the field itself, or that of the object it stands in.
+#[tactic(auto, unfolding(crate::specs::LineValues::member_at))]
+pub(crate) fn member(object: &Value, field: Field, told: Field) -> Result<&Value, LineFault>
+    ensures { Gives (λ v. view v.now) result (member_at field told (view object.now)) }
+{
+    match object.get(field.text()) {
+        Some(value) => Ok(value),
+        None => Err(LineFault::MissingField(told)),
+    }
+}
+
+/// A field's object.
+#[tactic(auto, unfolding(crate::specs::LineValues::object_at))]
+pub(crate) fn object_field(object: &Value, field: Field) -> Result<&Value, LineFault>
+    ensures { Gives (λ v. view v.now) result (object_at field (view object.now)) }
+{
+    let value = member(object, field, field)?;
+    if !value.is_object() {
+        return Err(LineFault::BadField(field));
+    }
+    Ok(value)
+}
+
+/// A field's list.
+#[tactic(auto, unfolding(crate::specs::LineValues::list_at))]
+pub(crate) fn list_field(object: &Value, field: Field) -> Result<&[Value], LineFault>
+    ensures { Gives (λ vs. items_view vs.now) result (list_at field (view object.now)) }
+{
+    match member(object, field, field)?.as_array() {
+        Some(list) => Ok(list.as_slice()),
+        None => Err(LineFault::BadField(field)),
+    }
+}
+
+/// A field's text.
+#[tactic(auto, unfolding(crate::specs::LineValues::text_at))]
+pub(crate) fn text_field(object: &Value, field: Field, told: Field) -> Result<&str, LineFault>
+    ensures { Gives (λ t. t.now) result (text_at field told (view object.now)) }
+{
+    match member(object, field, told)?.as_str() {
+        Some(text) => Ok(text),
+        None => Err(LineFault::BadField(told)),
+    }
+}
+
+/// A field's whole number, from `least` to `most`.
+#[tactic(auto, unfolding(crate::specs::LineValues::number_at))]
+pub(crate) fn number_field(
+    object: &Value,
+    field: Field,
+    told: Field,
+    least: u64,
+    most: u64,
+) -> Result<u64, LineFault>
+    ensures exact { Gives (λ n. n) result (number_at field told least most (view object.now)) }
+    ensures least { IfOk result (λ n. least ≤ n) }
+    ensures most { IfOk result (λ n. n ≤ most) }
+{
+    match member(object, field, told)?.as_u64() {
+        Some(number) if least <= number && number <= most => Ok(number),
+        _ => Err(LineFault::BadField(told)),
+    }
+}
+
+/// A field's truth value.
+#[tactic(auto, unfolding(crate::specs::LineValues::flag_at))]
+pub(crate) fn flag_field(object: &Value, field: Field, told: Field) -> Result<bool, LineFault>
+    ensures { Gives (λ b. b) result (flag_at field told (view object.now)) }
+{
+    match member(object, field, told)?.as_bool() {
+        Some(flag) => Ok(flag),
+        None => Err(LineFault::BadField(told)),
+    }
+}
+
+fn name_of<K>(text: &str, field: Field) -> Result<Name<K>, LineFault>
+    ensures { Gives (λ n. n) result (passing is_name (BadName field) text.now) }
+{
+    match Name::new(text) {
+        Ok(name) => Ok(name),
+        Err(_) => Err(LineFault::BadName(field)),
+    }
+}
+
+/// A field's name.
+#[tactic(auto, unfolding(crate::specs::LineValues::name_at))]
+pub(crate) fn name_field<K>(object: &Value, field: Field) -> Result<Name<K>, LineFault>
+    ensures { Gives (λ n. n) result (name_at field (view object.now)) }
+{
+    name_of(text_field(object, field, field)?, field)
+}
+
+/// A field's direction.
+#[tactic(auto, unfolding(crate::specs::LineValues::dir_at))]
+pub(crate) fn dir_field(object: &Value, field: Field) -> Result<Dir, LineFault>
+    ensures { Gives (λ d. d) result (dir_at field (view object.now)) }
+{
+    match text_field(object, field, field)? {
+        "up" => Ok(Dir::Up),
+        "down" => Ok(Dir::Down),
+        _ => Err(LineFault::BadField(field)),
+    }
+}
+
+/// The octets that a field's text spells in hexadecimal.
+#[tactic(auto, unfolding(crate::specs::LineValues::octets_at))]
+fn octets_field(alloc: Global, object: &Value, field: Field) -> Result<Vec<u8>, LineFault>
+    ensures { Gives (λ o. o.items) result (octets_at field (view object.now)) }
+{
+    match hex::decode(alloc, text_field(object, field, field)?) {
+        Ok(octets) => Ok(octets),
+        Err(FromHexError::OutOfMemory) => Err(LineFault::NoMemory),
+        Err(_) => Err(LineFault::BadHex(field)),
+    }
+}
+
+/// The header of a field's packet.
+#[tactic(auto, unfolding(crate::specs::LineValues::packet_at))]
+pub(crate) fn packet_field(
+    alloc: Global,
+    object: &Value,
+    field: Field,
+    dir: Dir,
+) -> Result<Header, LineFault>
+    ensures { Gives (λ h. h) result (packet_at field dir (view object.now)) }
+{
+    let octets = octets_field(alloc, object, field)?;
+    match read_header(dir, &octets) {
+        Ok(header) => Ok(header),
+        Err(fault) => Err(LineFault::BadPacket(field, fault)),
+    }
+}

@@ -1,0 +1,4 @@
+pub mod Declarations
+pub mod DeclaredKinds
+pub mod Digits
+pub mod Tables

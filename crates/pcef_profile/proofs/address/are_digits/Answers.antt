@@ -1,0 +1,11 @@
+use Rattle.std.proofs.Common.{rules, tests, ◌∙◌}
+use Rattle.std.specs.Char.{is_ascii_digit}
+use Rattle.std.proofs.lemmas.Iterator.{YieldsList-from_slice}
+use Rattle.std.proofs.lemmas.Iterator.Search.{all_from_yields_List}
+use Rattle.pcef_profile.proofs.Digits.{all_by_list}
+use Rattle.pcef_profile.proofs.address.are_digits.Goals as goal
+
+pub returns : goal.returns
+returns c =
+    all_from_yields_List is_ascii_digit _ _ _ c.all.ensures.ran (YieldsList-from_slice c.args.text.now cc) (λ x b q k. search (rules, tests))
+    ∙ all_by_list c.args.text.now

@@ -1,0 +1,4 @@
+pub mod DottedDecimal
+pub mod ProfileKeys
+pub mod ProfileOf
+pub mod ProfileValues

@@ -1,0 +1,60 @@
+//! Why a profile can't be read.
+
+ghost use Rattle.std.specs.Prelude.{◌≡◌};
+ghost use Rattle.pcef_profile.specs.ProfileOf.{fault_number};
+ghost use Rattle.pcef_profile.specs.declared.fault.ReadProfileFault.TheVariants.{NoMemory};
+
+use std::alloc::AllocFailed;
+use thiserror::Error;
+
+/// Why a profile can't be read. Of several faults the first in this order is answered, wherever in the
+/// text it is.
+#[derive(Clone, Copy, Debug, PartialEq, Eq, Error)]
+pub enum ReadProfileFault {
+    /// The text isn't TOML.
+    #[error("the profile isn't TOML")]
+    NotToml,
+    /// A table has a key that it may not have.
+    #[error("a key of the profile is unknown")]
+    UnknownKey,
+    /// A table lacks a key.
+    #[error("a key of the profile is missing")]
+    Missing,
+    /// A value has the wrong kind or is out of range.
+    #[error("a value of the profile is wrong")]
+    BadValue,
+    /// The QCI of the default bearer is neither standard nor declared.
+    #[error("the default QCI is unknown")]
+    UnknownQci,
+    /// The QCI of the default bearer has a guaranteed bit rate.
+    #[error("the default QCI has a guaranteed bit rate")]
+    DefaultIsGbr,
+    /// There is no memory left.
+    #[error("there is no memory left")]
+    NoMemory,
+}
+
+impl<T: Drop> From<AllocFailed<T>> for ReadProfileFault {
+    ghost from_gives = { λ _ fault. fault ≡ NoMemory };
+
+    fn from(_refused: AllocFailed<T>) -> ReadProfileFault {
+        ReadProfileFault::NoMemory
+    }
+}
+
+impl ReadProfileFault {
+    /// The number of the fault, 1 to 7.
+    pub fn number(self) -> u8
+        ensures { result ≡ fault_number self }
+    {
+        match self {
+            ReadProfileFault::NotToml => 1,
+            ReadProfileFault::UnknownKey => 2,
+            ReadProfileFault::Missing => 3,
+            ReadProfileFault::BadValue => 4,
+            ReadProfileFault::UnknownQci => 5,
+            ReadProfileFault::DefaultIsGbr => 6,
+            ReadProfileFault::NoMemory => 7,
+        }
+    }
+}

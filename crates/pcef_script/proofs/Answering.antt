@@ -1,0 +1,91 @@
+-- The answers to lines, one after the other, and what of them was written.
+use Rattle.std.proofs.Common.{◌≡◌, ℕ, ◌+◌, ◌≤◌, Bool, true, false, List, [], ◌∷◌, ◌++◌, Option, refl, sym, ap, ◌∙◌, subst, append_assoc, append-nil, arith, not}
+use Rattle.std.specs.Prelude.{IfErr, IfOk, OnOk, Result, Ok, Err}
+use Rattle.std.specs.Io.KnownBytes.{Appends}
+use Rattle.std.proofs.KnownBytes.{Appends-nil, Appends-trans}
+use Rattle.std.proofs.lemmas.List.Elements.{filter-append}
+use Rattle.pcef_journal.specs.Setting.{Setting}
+use Rattle.pcef_world.specs.Worlds.{World}
+use Rattle.pcef_script.specs.declared.fault.ScriptFault.{ScriptFault}
+use Rattle.pcef_script.specs.declared.fault.ScriptFault.TheVariants as fault
+use Rattle.pcef_script.specs.ScriptAnswers.{Answers, AnswersLine, Standing, answered, number_of, standing_of}
+use Rattle.pcef_script.specs.ScriptLines.{AppendsFront, is_blank}
+use Rattle.pcef_script.specs.Running.{EndFails, EndsLine}
+
+-- ---- some bytes of a text
+-- some bytes of a text are some of a longer one
+pub front_more : (a b : Option (List ℕ)) (xs ys : List ℕ) → AppendsFront a b xs → AppendsFront a b (xs ++ ys)
+front_more a b xs ys h = (h.0, h.1 ++ ys, ap (λ t. t ++ ys) h.2 ∙ append_assoc h.0 h.1 ys, h.3)
+
+-- a text, and then some bytes of another one
+pub front_after : (a b c : Option (List ℕ)) (xs ys : List ℕ) → Appends a b xs → AppendsFront b c ys → AppendsFront a c (xs ++ ys)
+front_after a b c xs ys w h =
+    (xs ++ h.0, h.1, ap (λ t. xs ++ t) h.2 ∙ sym (append_assoc xs h.0 h.1), Appends-trans a b c xs h.0 w h.3)
+
+-- ---- lines
+pub answered_more : (lines more : List (List ℕ)) → answered (lines ++ more) ≡ answered lines ++ answered more
+answered_more lines more = filter-append (λ line. not (is_blank line)) lines more
+
+pub answered_blank : (line : List ℕ) → is_blank line ≡ true → answered (line ∷ []) ≡ []
+answered_blank line blank = rw blank refl
+
+pub answered_one : (line : List ℕ) → is_blank line ≡ false → answered (line ∷ []) ≡ line ∷ []
+answered_one line filled = rw filled refl
+
+-- the answers to some lines, and then to others
+pub answers_more : (p : Setting) (a b c : Standing) (lines more : List (List ℕ)) (x y : List ℕ) (n k : ℕ)
+    → Answers p a lines x n b → Answers p b more y k c → Answers p a (lines ++ more) (x ++ y) (n + k) c
+answers_more p a b c [] more x y n k h g =
+    let moved : Answers p a more y k c = subst (λ s. Answers p s more y k c) h.2 g in
+    let count : n + k ≡ k = omega (arith, h.1) in
+    rw (h.0, count) moved
+answers_more p a b c (line ∷ lines) more x y n k h g =
+    let rest = answers_more p h.4 b c lines more h.1 y h.3 k h.6 g in
+    let text : x ++ y ≡ (h.0 ++ 10 ∷ []) ++ (h.1 ++ y) = ap (λ t. t ++ y) h.7 ∙ append_assoc (h.0 ++ 10 ∷ []) h.1 y in
+    let count : n + k ≡ number_of h.2 + (h.3 + k) = omega (arith, h.8) in
+    (h.0, h.1 ++ y, h.2, h.3 + k, h.4, h.5, rest, text, count)
+
+one_text : (text : List ℕ) → text ++ 10 ∷ [] ≡ (text ++ 10 ∷ []) ++ []
+one_text text = sym (append-nil (text ++ 10 ∷ []))
+
+one_count : (n : ℕ) → n ≡ n + 0
+one_count n = omega arith
+
+pub one_answer : (p : Setting) (a b : Standing) (line text : List ℕ) (at_fault : Bool) → AnswersLine p a line text at_fault b
+    → Answers p a (line ∷ []) (text ++ 10 ∷ []) (number_of at_fault) b
+one_answer p a b line text at_fault h =
+    (text, [], at_fault, 0, b, h, (refl, refl, refl), one_text text, one_count (number_of at_fault))
+
+-- ---- a line that ends
+at_most_one : (at_fault : Bool) → number_of at_fault ≤ 1
+at_most_one true = omega arith
+at_most_one false = omega arith
+
+pub blank_ends : (p : Setting) (w : World) (line : List ℕ) (faults : ℕ) (a : Option (List ℕ)) → is_blank line ≡ true → EndsLine p w w line faults faults a a
+blank_ends p w line faults a blank =
+    let none : Answers p (standing_of w) [] [] 0 (standing_of w) = (refl, refl, refl) in
+    ([], 0, subst (λ lines. Answers p (standing_of w) lines [] 0 (standing_of w)) (sym (answered_blank line blank)) none, omega arith, one_count faults, Appends-nil a)
+
+pub answer_ends : (p : Setting) (v w : World) (line text : List ℕ) (at_fault : Bool) (faults n : ℕ) (a b : Option (List ℕ)) → is_blank line ≡ false
+    → AnswersLine p (standing_of v) line text at_fault (standing_of w) → n ≡ faults + number_of at_fault → Appends a b (text ++ 10 ∷ []) → EndsLine p v w line faults n a b
+answer_ends p v w line text at_fault faults n a b filled h count wrote =
+    let one = one_answer p (standing_of v) (standing_of w) line text at_fault h in (
+      text ++ 10 ∷ [],
+      number_of at_fault,
+      subst (λ lines. Answers p (standing_of v) lines (text ++ 10 ∷ []) (number_of at_fault) (standing_of w)) (sym (answered_one line filled)) one,
+      at_most_one at_fault,
+      count,
+      wrote,
+    )
+
+pub told_ends : (r : Result ℕ ScriptFault) (p : Setting) (v w : World) (line text : List ℕ) (at_fault : Bool) (faults : ℕ) (a b : Option (List ℕ)) → is_blank line ≡ false
+    → AnswersLine p (standing_of v) line text at_fault (standing_of w) → IfOk r (λ n. n ≡ faults + number_of at_fault) → OnOk r (Appends a b (text ++ 10 ∷ [])) → IfOk r (λ n. EndsLine p v w line faults n a b)
+told_ends (Ok n) p v w line text at_fault faults a b filled h count wrote = answer_ends p v w line text at_fault faults n a b filled h count wrote
+told_ends (Err e) p v w line text at_fault faults a b filled h count wrote = tt
+
+pub told_fails : (r : Result ℕ ScriptFault) (p : Setting) (v w : World) (line text : List ℕ) (at_fault : Bool) (a b : Option (List ℕ)) → is_blank line ≡ false
+    → AnswersLine p (standing_of v) line text at_fault (standing_of w) → IfErr r (λ e. (e ≡ fault.Write) × AppendsFront a b (text ++ 10 ∷ [])) → IfErr r (λ e. EndFails p v line e a b)
+told_fails (Ok n) p v w line text at_fault a b filled h f = tt
+told_fails (Err e) p v w line text at_fault a b filled h f =
+    let one = one_answer p (standing_of v) (standing_of w) line text at_fault h in
+    rw f.0 (text ++ 10 ∷ [], number_of at_fault, standing_of w, subst (λ lines. Answers p (standing_of v) lines (text ++ 10 ∷ []) (number_of at_fault) (standing_of w)) (sym (answered_one line filled)) one, f.1)

@@ -1,0 +1,5 @@
+pub mod Answering
+pub mod Cuts
+pub mod KeptLines
+pub mod LineReads
+pub mod ScriptSteps

@@ -1,0 +1,4 @@
+pub mod Running
+pub mod ScriptAnswers
+pub mod ScriptLines
+pub mod Scripts

@@ -1,0 +1,109 @@
+-- What is answered to the lines of a script (own choice).
+use Rattle.std.specs.Prelude.{ℕ, ◌≡◌, ◌≢◌, ◌+◌, Bool, true, false, not, List, [], ◌∷◌, ◌++◌, Option, Some, None, Result, Ok, Err, filter, if◌then◌else◌}
+use Rattle.std.specs.Result.{result_map_both}
+use Rattle.std.specs.Str.{is_utf8}
+use Rattle.pcef_journal.specs.declared.command.Command.{Command}
+use Rattle.pcef_journal.specs.declared.command.Command.TheVariants as command
+use Rattle.pcef_journal.specs.Setting.{Setting}
+use Rattle.pcef_journal.specs.Entries.{Journal}
+use Rattle.pcef_journal.specs.Journals.{gen}
+use Rattle.pcef_session.specs.declared.answer.Accepted.{Accepted}
+use Rattle.pcef_session.specs.declared.answer.AttachFault.{AttachFault}
+use Rattle.pcef_session.specs.declared.answer.AttachFault.TheVariants as attach
+use Rattle.pcef_session.specs.declared.answer.FlushRefusal.{FlushRefusal}
+use Rattle.pcef_session.specs.declared.answer.FlushRefusal.TheVariants as flush
+use Rattle.pcef_session.specs.declared.answer.Refusal.{Refusal}
+use Rattle.pcef_session.specs.declared.answer.Refusal.TheVariants as refusal
+use Rattle.pcef_session.specs.declared.answer.Verdicts.{Verdicts}
+use Rattle.pcef_session.specs.declared.batch.BatchFull.{BatchFull}
+use Rattle.pcef_world.specs.declared.world.StepRefusal.{StepRefusal}
+use Rattle.pcef_world.specs.declared.world.StepRefusal.TheVariants.{Refused}
+use Rattle.pcef_session.specs.Answers.{Attaches, Does, told_of}
+use Rattle.pcef_world.specs.Worlds.{HandsOver, Refreshes, Takes, Waiting, World, after_attaching}
+use Rattle.pcef_line.specs.declared.line.Line.{Line}
+use Rattle.pcef_line.specs.declared.line.Line.TheVariants.{Install, Activate, Remove, Monitor, Attach, Take, Refresh, Flush, Show}
+use Rattle.pcef_line.specs.declared.fault.LineFault.{LineFault}
+use Rattle.pcef_line.specs.declared.fault.LineFault.TheVariants.{LineTooLong, NotUtf8}
+use Rattle.pcef_answer.specs.FaultAnswers.{fault_text}
+use Rattle.pcef_line.specs.LineOf.{LineOf}
+use Rattle.pcef_script.specs.ScriptLines.{is_blank, within_limit}
+use Rattle.pcef_answer.specs.ShowAnswers.{TellsSession}
+use Rattle.pcef_answer.specs.StepAnswers.{attached_text, command_text, flushed_text, refreshed_text, taken_text}
+
+-- how a session stands between two lines: its journal, and its workers
+pub record Standing : Type 0 where
+  pub journal : Journal
+  pub workers : List Waiting
+
+abbrev pub at_start : Standing
+at_start = record { journal = []; workers = [] }
+
+abbrev pub standing_of : World → Standing
+standing_of w = record { journal = w.core.journal; workers = w.workers }
+
+-- ---- what a line asks for is done
+-- a command, with the reports that the journal has for it; want of memory is no answer, but ends the script
+abbrev pub Commands : Setting → Standing → Command → List ℕ → Standing → Type 0
+Commands p before c text after =
+    (answer : Result Accepted Refusal) × Does p c before.journal answer after.journal × (answer ≢ Err refusal.NoMemory)
+    × (after.workers ≡ before.workers) × (text ≡ command_text after.journal answer)
+
+abbrev pub Comes : Standing → List ℕ → Standing → Type 0
+Comes before text after =
+    (answer : Result ℕ AttachFault) × Attaches before.journal answer after.journal × (answer ≢ Err attach.NoMemory)
+    × (after.workers ≡ after_attaching before.journal answer before.workers) × (text ≡ attached_text (gen after.journal) answer)
+
+-- each step is the session's own, and its answer is told
+abbrev pub Steps : Setting → Standing → Line → List ℕ → Standing → Type 0
+Steps p before (Install rule) text after = Commands p before (command.Install rule) text after
+Steps p before (Activate name) text after = Commands p before (command.Activate name) text after
+Steps p before (Remove name) text after = Commands p before (command.Remove name) text after
+Steps p before (Monitor key grant) text after = Commands p before (command.Monitor key grant) text after
+Steps p before Attach text after = Comes before text after
+Steps p before (Take worker header) text after =
+    (answer : Result ℕ (StepRefusal BatchFull)) × Takes p before.journal worker header before.workers answer after.workers
+    × (after.journal ≡ before.journal) × (text ≡ taken_text answer)
+Steps p before (Refresh worker) text after =
+    (answer : Option ℕ) × Refreshes before.journal worker before.workers answer after.workers
+    × (after.journal ≡ before.journal) × (text ≡ refreshed_text answer)
+Steps p before (Flush worker) text after =
+    (answer : Result Verdicts (StepRefusal FlushRefusal))
+    × HandsOver p worker before.journal before.workers (result_map_both told_of (λ e. e) answer) after.journal after.workers
+    × (answer ≢ Err (Refused flush.NoMemory)) × (text ≡ flushed_text after.journal answer)
+Steps p before Show text after = TellsSession p before.journal text × (after ≡ before)
+
+-- ---- lines
+-- what a line asks for, or its first fault: a line within the limit is UTF-8 (RFC 3629)
+abbrev pub text_read : List ℕ → Result Line LineFault
+text_read line = if is_utf8 line then LineOf line else Err NotUtf8
+
+abbrev pub read_within : Option (List ℕ) → Result Line LineFault
+read_within None = Err LineTooLong
+read_within (Some line) = text_read line
+
+abbrev pub line_read : List ℕ → Result Line LineFault
+line_read line = read_within (within_limit line)
+
+-- a line at fault changes nothing
+abbrev pub AnswersAs : Setting → Standing → Result Line LineFault → List ℕ → Bool → Standing → Type 0
+AnswersAs p before (Ok line) text at_fault after = Steps p before line text after × (at_fault ≡ false)
+AnswersAs p before (Err fault) text at_fault after = (text ≡ fault_text fault) × (at_fault ≡ true) × (after ≡ before)
+
+-- the answer to a line, whether the line is at fault, and how the session stands after it
+abbrev pub AnswersLine : Setting → Standing → List ℕ → List ℕ → Bool → Standing → Type 0
+AnswersLine p before line text at_fault after = AnswersAs p before (line_read line) text at_fault after
+
+-- the lines that get an answer
+abbrev pub answered : List (List ℕ) → List (List ℕ)
+answered lines = filter (λ line. not (is_blank line)) lines
+
+abbrev pub number_of : Bool → ℕ
+number_of at_fault = if at_fault then 1 else 0
+
+-- the answers to lines, each ended by a line feed, one after the other, and how many lines are at fault
+abbrev pub Answers : Setting → Standing → List (List ℕ) → List ℕ → ℕ → Standing → Type 0
+Answers p before [] text faults after = (text ≡ []) × (faults ≡ 0) × (after ≡ before)
+Answers p before (line ∷ lines) text faults after =
+    (first rest : List ℕ) × (at_fault : Bool) × (others : ℕ) × (between : Standing)
+    × AnswersLine p before line first at_fault between × Answers p between lines rest others after
+    × (text ≡ (first ++ 10 ∷ []) ++ rest) × (faults ≡ number_of at_fault + others)

@@ -1,0 +1,95 @@
+//! Runs a script from a reader to a writer.
+
+ghost use Rattle.std.specs.Prelude.{◌≡◌, [], IfErr, IfOk, List, None, ℕ};
+ghost use Rattle.std.specs.Arc.{arc_value};
+ghost use Rattle.std.specs.Io.KnownBytes.{Consumes};
+ghost use Rattle.pcef_journal.specs.Setting.{Setting};
+ghost use Rattle.pcef_session.specs.Core.{setting_in};
+ghost use Rattle.pcef_session.specs.Refusals.{first_of, open_faults};
+ghost use Rattle.pcef_session.specs.Terms.{setting_of};
+ghost use Rattle.pcef_catalog.specs.Catalogs.{offers_of};
+ghost use Rattle.pcef_script.specs.Running.{OpenFails};
+ghost use Rattle.pcef_script.specs.Scripts.{Opened, Ran};
+
+use crate::fault::ScriptFault;
+use crate::running::{Running, end_line, take_block};
+use pcef_catalog::{Catalog, Offers};
+use pcef_session::{OpenFault, Profile};
+use pcef_world::WorldState;
+use std::alloc::Global;
+use std::io::{Read, Write};
+use std::sync::Arc;
+
+fn open(alloc: Global, profile: Profile, catalog: &Catalog) -> Result<WorldState, ScriptFault>
+    ensures made { IfOk result (λ w. (w.core.terms ≡ profile) × (w.core.offers ≡ offers_of catalog.now) × (w.core.journal ≡ []) × (w.workers ≡ [])) }
+    ensures opened { Opened (setting_of profile (offers_of catalog.now)) result }
+    ensures fault { IfErr result OpenFails }
+{
+    let Ok(listing) = catalog.listing().share() else {
+        return Err(ScriptFault::NoMemory);
+    };
+    match WorldState::open(alloc, profile, listing) {
+        Ok(world) => Ok(world),
+        Err(OpenFault::NoMemory) => Err(ScriptFault::NoMemory),
+        Err(fault) => Err(ScriptFault::Profile(fault)),
+    }
+}
+
+fn run<C: Offers, R: Read, W: Write>(
+    alloc: Global,
+    catalog: &C,
+    world: WorldState,
+    reader: &mut R,
+    writer: &mut W,
+) -> Result<u64, ScriptFault>
+    requires offered { C.offers catalog.now ≡ world.core.offers }
+    requires journal { world.core.journal ≡ [] }
+    requires workers { world.workers ≡ [] }
+    ensures opened { (p : Setting) → first_of (open_faults p) ≡ None → Opened p result }
+    ensures answers { (input : List ℕ) × Consumes (R.remaining reader.old) (R.remaining reader.new) input
+        × Ran (setting_in world.core) result (W.contents writer.old) (W.contents writer.new) (R.remaining reader.new) input }
+{
+    let mut script = Running::new(alloc, world);
+    let mut block = [0u8; 8192];
+    loop {
+        match reader.read(&mut block) {
+            Ok(0) => {
+                return end_line(
+                    alloc,
+                    catalog,
+                    &mut script.world,
+                    &script.line,
+                    script.faults,
+                    writer,
+                );
+            }
+            Ok(n) => take_block(alloc, catalog, &mut script, writer, &block[..n])?,
+            Err(_) => return Err(ScriptFault::Read),
+        }
+    }
+}
+
+/// Answers each line of a script on a session of its own, and gives the number of lines at fault.
+///
+/// A line feed ends a line, and so does the end of input; there is no answer to a line of spaces, tabs and CR alone.
+/// A line has at most 262,144 bytes, of which no more are kept, and a script 1,073,741,824. Reads in blocks of 8,192
+/// bytes, and writes each answer when its line has ended, without flushing the writer. Takes memory for the line, the
+/// answer and what the session keeps.
+///
+/// Ends early with the first [`ScriptFault`] that it meets: the reader's or the writer's (an interruption too, and a
+/// write that takes no byte), a script that is too long, want of memory, or a profile that no session can have, before
+/// anything is read.
+pub fn run_script<R: Read, W: Write>(
+    alloc: Global,
+    reader: &mut R,
+    writer: &mut W,
+    profile: Profile,
+    catalog: Arc<Catalog>,
+) -> Result<u64, ScriptFault>
+    ensures opened { Opened (setting_of profile (offers_of (arc_value catalog))) result }
+    ensures answers { (input : List ℕ) × Consumes (R.remaining reader.old) (R.remaining reader.new) input
+        × Ran (setting_of profile (offers_of (arc_value catalog))) result (W.contents writer.old) (W.contents writer.new) (R.remaining reader.new) input }
+{
+    let world = open(alloc, profile, &catalog)?;
+    run(alloc, &*catalog, world, reader, writer)
+}

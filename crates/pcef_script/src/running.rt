@@ -1,0 +1,181 @@
+//! A script that runs, line by line.
+
+ghost use Rattle.std.specs.Prelude.{◌≡◌, ◌<◌, ◌≤◌, ◌+◌, ◌++◌, ◌∷◌, ◌^◌, [], IfErr, IfOk, List, OnOk, Option, length, string_bytes, take, ℕ};
+ghost use Rattle.std.specs.Io.KnownBytes.{Appends};
+ghost use Rattle.pcef_journal.specs.Setting.{Setting};
+ghost use Rattle.pcef_session.specs.Core.{setting_in};
+ghost use Rattle.pcef_script.specs.declared.fault.ScriptFault.TheVariants.{Write as WriteFault};
+ghost use Rattle.pcef_script.specs.ScriptAnswers.{AnswersLine, number_of, standing_of};
+ghost use Rattle.pcef_script.specs.ScriptLines.{AppendsFront, kept_of};
+ghost use Rattle.pcef_script.specs.Running.{EndFails, EndsLine, IsAfter, StoppedIn, Stopped};
+
+use crate::fault::ScriptFault;
+use crate::input::Pending;
+use crate::step::{Answer, answer_line, answer_too_long};
+use crate::writing::put_all;
+use pcef_catalog::Offers;
+use pcef_world::WorldState;
+use std::alloc::{AllocError, Global};
+use std::io::Write;
+
+/// A script that runs.
+#[derive(Drop)]
+pub(crate) struct Running {
+    /// The session and its workers.
+    pub world: WorldState,
+    /// The line that is being read.
+    pub line: Pending,
+    /// How many lines were at fault.
+    pub faults: u64,
+}
+
+fn write_answer<W: Write>(writer: &mut W, answer: &Answer) -> Result<(), ScriptFault>
+    ensures all { OnOk result (Appends (W.contents writer.old) (W.contents writer.new) (string_bytes answer.now.text ++ 10 ∷ [])) }
+    ensures front { IfErr result (λ e. (e ≡ WriteFault) × AppendsFront (W.contents writer.old) (W.contents writer.new) (string_bytes answer.now.text ++ 10 ∷ [])) }
+{
+    put_all(writer, answer.text.as_bytes())?;
+    put_all(writer, b"\n")
+}
+
+fn answer_of<C: Offers>(
+    alloc: Global,
+    catalog: &C,
+    world: &mut WorldState,
+    line: &Pending,
+) -> Result<Answer, AllocError>
+    requires { C.offers catalog.now ≡ world.old.core.offers }
+    ensures answer { (whole : List ℕ) → line.now ≡ kept_of whole line.now.read → IfOk result (λ a. AnswersLine (setting_in world.old.core) (standing_of world.old) whole (string_bytes a.text) a.is_fault (standing_of world.new)) }
+    ensures terms { world.new.core.terms ≡ world.old.core.terms }
+    ensures offers { world.new.core.offers ≡ world.old.core.offers }
+{
+    match line.bytes() {
+        None => answer_too_long(alloc),
+        Some(bytes) => answer_line(alloc, catalog, world, bytes),
+    }
+}
+
+/// Writes an answer, and gives how many lines are at fault then.
+fn tell<W: Write>(writer: &mut W, answer: &Answer, faults: u64) -> Result<u64, ScriptFault>
+    ensures count { faults < 2 ^ 63 → IfOk result (λ n. n ≡ faults + number_of answer.now.is_fault) }
+    ensures all { OnOk result (Appends (W.contents writer.old) (W.contents writer.new) (string_bytes answer.now.text ++ 10 ∷ [])) }
+    ensures front { IfErr result (λ e. (e ≡ WriteFault) × AppendsFront (W.contents writer.old) (W.contents writer.new) (string_bytes answer.now.text ++ 10 ∷ [])) }
+{
+    write_answer(writer, answer)?;
+    if answer.is_fault {
+        Ok(faults.saturating_add(1))
+    } else {
+        Ok(faults)
+    }
+}
+
+/// Answers a line that has ended, and gives how many lines are at fault then.
+pub(crate) fn end_line<C: Offers, W: Write>(
+    alloc: Global,
+    catalog: &C,
+    world: &mut WorldState,
+    line: &Pending,
+    faults: u64,
+    writer: &mut W,
+) -> Result<u64, ScriptFault>
+    requires { C.offers catalog.now ≡ world.old.core.offers }
+    ensures ok { (whole : List ℕ) → line.now ≡ kept_of whole line.now.read → faults < 2 ^ 63 → IfOk result (λ n. EndsLine (setting_in world.old.core) world.old world.new whole faults n (W.contents writer.old) (W.contents writer.new)) }
+    ensures err { (whole : List ℕ) → line.now ≡ kept_of whole line.now.read → IfErr result (λ e. EndFails (setting_in world.old.core) world.old whole e (W.contents writer.old) (W.contents writer.new)) }
+    ensures terms { world.new.core.terms ≡ world.old.core.terms }
+    ensures offers { world.new.core.offers ≡ world.old.core.offers }
+{
+    if line.is_blank() {
+        return Ok(faults);
+    }
+    match answer_of(alloc, catalog, world, line) {
+        Ok(answer) => tell(writer, &answer, faults),
+        Err(_) => Err(ScriptFault::NoMemory),
+    }
+}
+
+/// Takes one byte of the script: a line feed ends the line.
+fn take_byte<C: Offers, W: Write>(
+    alloc: Global,
+    catalog: &C,
+    script: &mut Running,
+    writer: &mut W,
+    byte: u8,
+) -> Result<(), ScriptFault>
+    requires { C.offers catalog.now ≡ script.old.world.core.offers }
+    ensures ok { (p : Setting) (start : Option (List ℕ)) (input : List ℕ) → IsAfter p start (W.contents writer.old) script.old.line script.old.faults script.old.world input → OnOk result (IsAfter p start (W.contents writer.new) script.new.line script.new.faults script.new.world (input ++ byte ∷ [])) }
+    ensures err { (p : Setting) (start : Option (List ℕ)) (input : List ℕ) → IsAfter p start (W.contents writer.old) script.old.line script.old.faults script.old.world input → IfErr result (λ e. Stopped p e byte start (W.contents writer.new) input) }
+    ensures offers { script.new.world.core.offers ≡ script.old.world.core.offers }
+{
+    if !script.line.take(byte)? {
+        return Ok(());
+    }
+    script.faults = end_line(
+        alloc,
+        catalog,
+        &mut script.world,
+        &script.line,
+        script.faults,
+        writer,
+    )?;
+    script.line.clear();
+    Ok(())
+}
+
+/// Takes the bytes up to the next line feed at once, then the next byte, if there is one, and gives how many
+/// these are.
+fn take_some<C: Offers, W: Write>(
+    alloc: Global,
+    catalog: &C,
+    script: &mut Running,
+    writer: &mut W,
+    bytes: &[u8],
+) -> Result<usize, ScriptFault>
+    requires offered { C.offers catalog.now ≡ script.old.world.core.offers }
+    requires some { 0 < length bytes.now }
+    ensures ok { (p : Setting) (start : Option (List ℕ)) (input : List ℕ) → IsAfter p start (W.contents writer.old) script.old.line script.old.faults script.old.world input → IfOk result (λ n. IsAfter p start (W.contents writer.new) script.new.line script.new.faults script.new.world (input ++ take n bytes.now)) }
+    ensures goes_on { IfOk result (λ n. (0 < n) × (n ≤ length bytes.now)) }
+    ensures err { (p : Setting) (start : Option (List ℕ)) (input : List ℕ) → IsAfter p start (W.contents writer.old) script.old.line script.old.faults script.old.world input → IfErr result (λ e. StoppedIn p e start (W.contents writer.new) input bytes.now) }
+    ensures offers { script.new.world.core.offers ≡ script.old.world.core.offers }
+{
+    let taken = script.line.take_plain(bytes);
+    if taken == bytes.len() {
+        return Ok(taken);
+    }
+    take_byte(alloc, catalog, script, writer, bytes[taken])?;
+    Ok(taken + 1)
+}
+
+/// Takes bytes of the script.
+pub(crate) fn take_block<C: Offers, W: Write>(
+    alloc: Global,
+    catalog: &C,
+    script: &mut Running,
+    writer: &mut W,
+    block: &[u8],
+) -> Result<(), ScriptFault>
+    requires { C.offers catalog.now ≡ script.old.world.core.offers }
+    ensures ok { (p : Setting) (start : Option (List ℕ)) (input : List ℕ) → IsAfter p start (W.contents writer.old) script.old.line script.old.faults script.old.world input → OnOk result (IsAfter p start (W.contents writer.new) script.new.line script.new.faults script.new.world (input ++ block.now)) }
+    ensures err { (p : Setting) (start : Option (List ℕ)) (input : List ℕ) → IsAfter p start (W.contents writer.old) script.old.line script.old.faults script.old.world input → IfErr result (λ e. StoppedIn p e start (W.contents writer.new) input block.now) }
+    ensures offers { script.new.world.core.offers ≡ script.old.world.core.offers }
+{
+    let mut rest = block;
+    while !rest.is_empty() {
+        let taken = take_some(alloc, catalog, script, writer, rest)?;
+        rest = rest.split_at(taken).1;
+    }
+    Ok(())
+}
+
+impl Running {
+    /// Nothing was read yet.
+    pub(crate) fn new(alloc: Global, world: WorldState) -> Running
+        ensures world { result.world ≡ world }
+        ensures line { result.line ≡ kept_of [] 0 }
+        ensures faults { result.faults ≡ 0 }
+    {
+        Running {
+            world,
+            line: Pending::new(alloc),
+            faults: 0,
+        }
+    }
+}

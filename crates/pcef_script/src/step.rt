@@ -1,0 +1,207 @@
+//! What a line does.
+
+ghost use Rattle.std.specs.Prelude.{◌≡◌, ◌≢◌, Err, IfOk, false, string_bytes};
+ghost use Rattle.pcef_journal.specs.Journals.{gen};
+ghost use Rattle.pcef_journal.specs.Setting.{Setting};
+ghost use Rattle.pcef_session.specs.Core.{IsServed, setting_in};
+ghost use Rattle.pcef_line.specs.LineOf.{LineOf};
+ghost use Rattle.pcef_script.specs.ScriptAnswers.{AnswersAs, Comes, Commands, Standing, Steps, standing_of, text_read};
+ghost use Rattle.pcef_line.specs.declared.fault.LineFault.TheVariants.{LineTooLong, NoMemory};
+ghost use Rattle.pcef_line.specs.declared.line.Line.TheVariants.{Flush, Refresh, Show, Take};
+
+use pcef_answer::{
+    attached_answer, command_answer, fault_text, flushed_answer, refreshed_answer, show_answer,
+    taken_answer,
+};
+use pcef_catalog::Offers;
+use pcef_journal::Command;
+use pcef_line::{Line, LineFault, read_line};
+use pcef_packet::Header;
+use pcef_session::{AttachFault, FlushRefusal, Refusal, SessionState};
+use pcef_world::{StepRefusal, WorldState};
+use std::alloc::{AllocError, Global};
+use std::str;
+
+/// The answer to a line, and whether the line is at fault.
+#[derive(Drop)]
+pub struct Answer {
+    /// The text, without the line feed.
+    pub text: String,
+    /// Whether the line is at fault.
+    pub is_fault: bool,
+}
+
+fn fault(alloc: Global, fault: LineFault) -> Result<Answer, AllocError>
+    ensures { (p : Setting) (before : Standing) → IfOk result (λ a. AnswersAs p before (Err fault) (string_bytes a.text) a.is_fault before) }
+{
+    Ok(Answer {
+        text: fault_text(alloc, fault)?,
+        is_fault: true,
+    })
+}
+
+/// The number of the newest generation.
+fn generation(session: &SessionState) -> u32
+    ensures { result ≡ gen session.now.journal }
+{
+    let _journal = session.journal();
+    session.generation()
+}
+
+/// Does a command. Where memory is wanting there is no answer, for this step and for the next ones.
+fn command(alloc: Global, world: &mut WorldState, command: Command) -> Result<String, AllocError>
+    requires { IsServed command }
+    ensures answer { IfOk result (λ text. Commands (setting_in world.old.core) (standing_of world.old) command (string_bytes text) (standing_of world.new)) }
+    ensures terms { world.new.core.terms ≡ world.old.core.terms }
+    ensures offers { world.new.core.offers ≡ world.old.core.offers }
+{
+    match world.command(command) {
+        Err(Refusal::NoMemory) => Err(AllocError),
+        answer => command_answer(alloc, world.session().journal(), answer),
+    }
+}
+
+fn attach(alloc: Global, world: &mut WorldState) -> Result<String, AllocError>
+    ensures answer { IfOk result (λ text. Comes (standing_of world.old) (string_bytes text) (standing_of world.new)) }
+    ensures terms { world.new.core.terms ≡ world.old.core.terms }
+    ensures offers { world.new.core.offers ≡ world.old.core.offers }
+{
+    match world.attach() {
+        Err(AttachFault::NoMemory) => Err(AllocError),
+        answer => attached_answer(alloc, generation(world.session()), answer),
+    }
+}
+
+fn take<C: Offers>(
+    alloc: Global,
+    catalog: &C,
+    world: &mut WorldState,
+    worker: u8,
+    header: &Header,
+) -> Result<String, AllocError>
+    requires { C.offers catalog.now ≡ world.old.core.offers }
+    ensures answer { IfOk result (λ text. Steps (setting_in world.old.core) (standing_of world.old) (Take worker header.now) (string_bytes text) (standing_of world.new)) }
+    ensures core { world.new.core ≡ world.old.core }
+{
+    let answer = world.take(catalog, worker, header);
+    taken_answer(alloc, answer)
+}
+
+fn refresh(alloc: Global, world: &mut WorldState, worker: u8) -> Result<String, AllocError>
+    ensures answer { IfOk result (λ text. Steps (setting_in world.old.core) (standing_of world.old) (Refresh worker) (string_bytes text) (standing_of world.new)) }
+    ensures core { world.new.core ≡ world.old.core }
+{
+    let answer = world.refresh(worker)?;
+    refreshed_answer(alloc, answer)
+}
+
+fn flush(alloc: Global, world: &mut WorldState, worker: u8) -> Result<String, AllocError>
+    ensures answer { IfOk result (λ text. Steps (setting_in world.old.core) (standing_of world.old) (Flush worker) (string_bytes text) (standing_of world.new)) }
+    ensures terms { world.new.core.terms ≡ world.old.core.terms }
+    ensures offers { world.new.core.offers ≡ world.old.core.offers }
+{
+    match world.flush(worker) {
+        Err(StepRefusal::Refused(FlushRefusal::NoMemory)) => Err(AllocError),
+        answer => flushed_answer(alloc, world.session().journal(), &answer),
+    }
+}
+
+fn show(alloc: Global, world: &WorldState) -> Result<String, AllocError>
+    ensures { IfOk result (λ text. Steps (setting_in world.now.core) (standing_of world.now) Show (string_bytes text) (standing_of world.now)) }
+{
+    show_answer(alloc, world.session())
+}
+
+fn step<C: Offers>(
+    alloc: Global,
+    catalog: &C,
+    world: &mut WorldState,
+    line: Line,
+) -> Result<String, AllocError>
+    requires { C.offers catalog.now ≡ world.old.core.offers }
+    ensures answer { IfOk result (λ text. Steps (setting_in world.old.core) (standing_of world.old) line (string_bytes text) (standing_of world.new)) }
+    ensures terms { world.new.core.terms ≡ world.old.core.terms }
+    ensures offers { world.new.core.offers ≡ world.old.core.offers }
+{
+    match line {
+        Line::Install(rule) => command(alloc, world, Command::Install(rule)),
+        Line::Activate(name) => command(alloc, world, Command::Activate(name)),
+        Line::Remove(name) => command(alloc, world, Command::Remove(name)),
+        Line::Monitor { key, grant } => command(alloc, world, Command::Monitor { key, grant }),
+        Line::Attach => attach(alloc, world),
+        Line::Take { worker, header } => take(alloc, catalog, world, worker, &header),
+        Line::Refresh { worker } => refresh(alloc, world, worker),
+        Line::Flush { worker } => flush(alloc, world, worker),
+        Line::Show => show(alloc, world),
+    }
+}
+
+fn done<C: Offers>(
+    alloc: Global,
+    catalog: &C,
+    world: &mut WorldState,
+    line: Line,
+) -> Result<Answer, AllocError>
+    requires { C.offers catalog.now ≡ world.old.core.offers }
+    ensures text { IfOk result (λ a. Steps (setting_in world.old.core) (standing_of world.old) line (string_bytes a.text) (standing_of world.new)) }
+    ensures counts { IfOk result (λ a. a.is_fault ≡ false) }
+    ensures terms { world.new.core.terms ≡ world.old.core.terms }
+    ensures offers { world.new.core.offers ≡ world.old.core.offers }
+{
+    Ok(Answer {
+        text: step(alloc, catalog, world, line)?,
+        is_fault: false,
+    })
+}
+
+/// The answer to a line with the fault that its reader met, or want of memory where it met that.
+fn read_fault(alloc: Global, at_fault: LineFault) -> Result<Answer, AllocError>
+    ensures { (p : Setting) (before : Standing) → IfOk result (λ a. (at_fault ≢ NoMemory) × AnswersAs p before (Err at_fault) (string_bytes a.text) a.is_fault before) }
+{
+    match at_fault {
+        LineFault::NoMemory => Err(AllocError),
+        _ => fault(alloc, at_fault),
+    }
+}
+
+fn answer_text<C: Offers>(
+    alloc: Global,
+    catalog: &C,
+    world: &mut WorldState,
+    text: &str,
+) -> Result<Answer, AllocError>
+    requires { C.offers catalog.now ≡ world.old.core.offers }
+    ensures answer { IfOk result (λ a. AnswersAs (setting_in world.old.core) (standing_of world.old) (LineOf text.now) (string_bytes a.text) a.is_fault (standing_of world.new)) }
+    ensures terms { world.new.core.terms ≡ world.old.core.terms }
+    ensures offers { world.new.core.offers ≡ world.old.core.offers }
+{
+    match read_line(alloc, text) {
+        Ok(line) => done(alloc, catalog, world, line),
+        Err(at_fault) => read_fault(alloc, at_fault),
+    }
+}
+
+/// Does what a line within the limit asks for, and answers. A line at fault changes nothing.
+pub(crate) fn answer_line<C: Offers>(
+    alloc: Global,
+    catalog: &C,
+    world: &mut WorldState,
+    line: &[u8],
+) -> Result<Answer, AllocError>
+    requires { C.offers catalog.now ≡ world.old.core.offers }
+    ensures answer { IfOk result (λ a. AnswersAs (setting_in world.old.core) (standing_of world.old) (text_read line.now) (string_bytes a.text) a.is_fault (standing_of world.new)) }
+    ensures terms { world.new.core.terms ≡ world.old.core.terms }
+    ensures offers { world.new.core.offers ≡ world.old.core.offers }
+{
+    match str::from_utf8(line) {
+        Ok(text) => answer_text(alloc, catalog, world, text),
+        Err(_) => fault(alloc, LineFault::NotUtf8),
+    }
+}
+
+/// The answer to a line that is too long.
+pub(crate) fn answer_too_long(alloc: Global) -> Result<Answer, AllocError>
+    ensures { (p : Setting) (before : Standing) → IfOk result (λ a. AnswersAs p before (Err LineTooLong) (string_bytes a.text) a.is_fault before) }
+{
+    fault(alloc, LineFault::LineTooLong)
+}

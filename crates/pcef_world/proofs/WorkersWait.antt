@@ -1,0 +1,220 @@
+-- What always holds of a worker stays as the journal grows, and as the worker works.
+use Rattle.std.proofs.Common.{◌≡◌, ◌∙◌, ◌≤◌, ◌<◌, ◌+◌, ℕ, Bool, true, false, ◌==◌, List, [], ◌∷◌, ◌++◌, All, length, filter, map, refl, sym, ap, subst, arith, Some, None, find, length-append}
+use Rattle.std.specs.Prelude.{Option, if◌then◌else◌, slice_index_or}
+use Rattle.std.specs.Option.{option_map, option_map_or}
+use Rattle.std.proofs.lemmas.Bool.{eq-eqb}
+use Rattle.std.proofs.lemmas.List.{length-map, map-append}
+use Rattle.std.proofs.lemmas.List.Elements.{All-cons, All-nil, All-push}
+use Rattle.pcef_packet.specs.declared.header.Header.{Header}
+use Rattle.pcef_rule.specs.declared.quantity.Slot.{Slot}
+use Rattle.pcef_table.specs.declared.entry.Entry.{Entry}
+use Rattle.pcef_table.specs.declared.verdict.Verdict.{Verdict}
+use Rattle.pcef_table.specs.declared.verdict.Verdict.TheVariants.{Stray, Unmatched, Gated, Passed}
+use Rattle.pcef_table.specs.Sources.{is_named}
+use Rattle.pcef_table.specs.Tables.{TableValue}
+use Rattle.pcef_table.specs.Verdicts.{counted_slot, slot_for}
+use Rattle.pcef_table.proofs.Foremost.{found_is_foremost}
+use Rattle.pcef_journal.specs.declared.entry.Entry.TheVariants as entry
+use Rattle.pcef_journal.specs.declared.row.Row.{Row}
+use Rattle.pcef_journal.specs.Setting.{Setting}
+use Rattle.pcef_journal.specs.Generations.{made_by, oldest}
+use Rattle.pcef_journal.specs.Entries.{Journal, lane, rows}
+use Rattle.pcef_journal.specs.Journals.{at, attach_count, gen, judged, lane_len, slots, tables}
+use Rattle.pcef_journal.specs.Reports.{after_attach, after_flush, with_rows}
+use Rattle.pcef_usage.proofs.Afterwards.{tables_after_rows}
+use Rattle.pcef_session.specs.declared.batch.Item.{Item}
+use Rattle.pcef_world.specs.declared.worker.Worker.{Worker}
+use Rattle.pcef_session.specs.Following.{CountsFor, HasItsSlots, IsWithin, row_of}
+use Rattle.pcef_session.specs.Lawful.{BatchFollows, Lawful, RowFollows, RowsFollow, newest_generation}
+use Rattle.pcef_session.specs.Refusals.{first_of, flush_refusals}
+use Rattle.pcef_session.specs.Shown.{Shows, slot_of}
+use Rattle.pcef_world.specs.Workers.{IsJudged, Waits, held_by, with_item}
+use Rattle.pcef_world.proofs.Lanes.{lane_few, lane_len_with, lane_other, lane_with, with_rows_push}
+use Rattle.pcef_world.proofs.NewLanes.{new_lane}
+use Rattle.pcef_session.proofs.Onward.{Onward, flushed_fits, onward_same, rows_after_flush, tables_after_flush}
+use Rattle.pcef_session.proofs.RowsLater.{batch_empty, batch_later, batch_push}
+use Rattle.pcef_session.proofs.ShownLater.{shows_later, shows_same}
+use Rattle.pcef_session.proofs.ShownSlots.{shown_counts}
+use Rattle.pcef_session.proofs.ShownVerdicts.{made_once, shown_judges}
+use Rattle.pcef_session.proofs.SlotPlaces.{Grows}
+use Rattle.pcef_session.proofs.SlotsLater.{counts_later, place_within}
+
+-- ---- the slots of rows that wait
+-- rows that may come are of generations that were made
+rows_known : (p : Setting) (j : Journal) (items : List Item) → RowsFollow p j (map row_of items) → All (λ i. i.row.generation ≤ gen j) items
+unfolding RowsFollow
+rows_known p j [] follow = All-nil (λ (i : Item). i.row.generation ≤ gen j)
+rows_known p j (i ∷ items) follow =
+    All-cons (λ (i : Item). i.row.generation ≤ gen j) i items follow.0.known (rows_known p _ items follow.1)
+
+-- a slot of a key stays one as keys come
+within_later : (keys all : List (List ℕ)) (slot : Option Slot) → Grows keys all → IsWithin keys slot → IsWithin all slot
+within_later keys all None grows within = tt
+within_later keys all (Some slot) grows within = omega (arith, within, ap length grows.1, length-append keys grows.0)
+
+-- items keep their slots
+slots_later : (p : Setting) (j k : Journal) (items : List Item) → Onward p j k → All (λ i. i.row.generation ≤ gen j) items → HasItsSlots p j items → HasItsSlots p k items
+slots_later p j k items onward known has = λ m d inside.
+    let i : Item = slice_index_or items m d in
+    let own : IsWithin (slots p j) i.slot × CountsFor p j i.row i.slot = has m d inside in
+    (within_later (slots p j) (slots p k) i.slot onward.grows own.0, counts_later p j k i.row i.slot (onward.at_is i.row.generation (known m d inside)) onward.grows own.0 own.1)
+
+-- ---- as the journal grows
+-- a worker whose lane is as it was
+pub waits_later : (p : Setting) (j k : Journal) (n : ℕ) (w : Worker) → Onward p j k → lane k n ≡ lane j n → Waits p j n w → Waits p k n w
+waits_later p j k n w onward lane_is waits = record {
+  number_is = waits.number_is;
+  known = omega (arith, waits.known, onward.gen_more);
+  shows = shows_later p j k (held_by w).number (held_by w) (onward.at_is (held_by w).number waits.known) onward.grows waits.shows;
+  follow = batch_later p n j k (map row_of w.waiting) (record { lane_is = lane_is; gen_more = onward.gen_more; at_is = onward.at_is }) waits.follow;
+  slots = slots_later p j k w.waiting onward (rows_known p j w.waiting waits.follow.follow) waits.slots;
+  handed_over = waits.handed_over ∙ sym (ap length lane_is);
+  few = omega (arith, waits.few, ap length lane_is);
+  not_older = subst (λ rs. newest_generation rs ≤ (held_by w).number) (sym (lane_with n (map row_of w.waiting) j k lane_is)) waits.not_older;
+}
+
+-- ---- a worker that comes
+-- its lane is empty, and nothing waits
+pub waits_new : (p : Setting) (j k : Journal) (w : Worker) → Lawful p j → k ≡ after_attach j → Shows p j (gen j) (held_by w) → w.number ≡ attach_count j →
+    w.waiting ≡ [] → w.handed_over ≡ 0 → Waits p k (attach_count j) w
+unfolding with_rows
+waits_new p j k w lawful is shows number_is none first =
+    let new : lane j (attach_count j) ≡ [] = new_lane p j lawful in
+    rw is (record {
+      number_is = number_is;
+      known = omega (arith, shows.number_is);
+      shows = subst (λ m. Shows p (after_attach j) m (held_by w)) (sym shows.number_is) (shows_same p j (after_attach j) (gen j) (held_by w) refl shows);
+      follow = rw none (batch_empty p (attach_count j) (after_attach j));
+      slots = rw none (All-nil (λ (i : Item). IsWithin (slots p (after_attach j)) i.slot × CountsFor p (after_attach j) i.row i.slot));
+      handed_over = first ∙ sym (ap length new);
+      few = omega (arith, ap length new);
+      not_older = rw (none, new) (omega arith);
+    })
+
+-- ---- a packet that is taken
+-- the slot of a verdict is one of a key
+slot_within : (p : Setting) (j : Journal) (g : ℕ) (t : TableValue) (v : Verdict) → Shows p j g t → IsWithin (slots p j) (slot_for p.catalog t.entries v)
+slot_within p j g t Stray shows = tt
+slot_within p j g t Unmatched shows = tt
+slot_within p j g t (Gated rule) shows = tt
+slot_within p j g t (Passed rule bearer) shows = from (find (λ e. is_named p.catalog rule e.source) t.entries) refl
+  where
+    keyed : (key : Option (List ℕ)) (s : Slot) → Some s.0 ≡ slot_of (slots p j) key → s.0 < length (slots p j)
+    keyed None s is = absurd cc
+    keyed (Some key) s is = place_within key (slots p j) s.0 (sym is)
+
+    slotted : (slot : Option Slot) (key : Option (List ℕ)) → option_map (λ s. s.0) slot ≡ slot_of (slots p j) key → IsWithin (slots p j) slot
+    slotted None key is = tt
+    slotted (Some s) key is = keyed key s is
+
+    counted : (b : Bool) (slot : Option Slot) → IsWithin (slots p j) slot → IsWithin (slots p j) (if b then slot else None)
+    counted true slot within = within
+    counted false slot within = tt
+
+    from : (o : Option Entry) → find (λ e. is_named p.catalog rule e.source) t.entries ≡ o → IsWithin (slots p j) (option_map_or counted_slot o None)
+    from None is = tt
+    from (Some e) is =
+        let f = found_is_foremost (λ _ _. Unit {0}) (λ (x : Entry). is_named p.catalog rule x.source) t.entries e (λ i k d below within. tt) is in
+        let r = shows.only e f.there in
+        counted e.counted e.slot (slotted e.slot r.0.properties.key r.2.slot_is)
+
+-- a row is made of its fields
+row_of_fields : (r : Row) (worker seq generation : ℕ) (header : Header) (verdict : Verdict) → r.worker ≡ worker → r.seq ≡ seq → r.generation ≡ generation → r.header ≡ header → r.verdict ≡ verdict →
+    r ≡ record { worker = worker; seq = seq; generation = generation; header = header; verdict = verdict }
+row_of_fields r worker seq generation header verdict a b c d e = rw (← a, ← b, ← c, ← d, ← e) refl
+
+-- the verdict is that of the generation that the worker holds
+pub verdict_taken : (p : Setting) (j : Journal) (n : ℕ) (w : Worker) (header : Header) (i : Item) → Waits p j n w → IsJudged p.catalog p.ue header w i →
+    i.row.verdict ≡ judged p (at p j (held_by w).number) header
+verdict_taken p j n w header i waits made =
+    shown_judges p j (held_by w).number (held_by w) header i.row.verdict waits.shows (made_once p (oldest (held_by w).number (tables j))) made.verdict_is
+
+-- the row that waits then
+pub row_made : (p : Setting) (j : Journal) (n : ℕ) (w : Worker) (header : Header) (i : Item) → Waits p j n w → IsJudged p.catalog p.ue header w i →
+    i.row ≡ record { worker = n; seq = lane_len j n + length (map row_of w.waiting); generation = (held_by w).number; header = header; verdict = judged p (at p j (held_by w).number) header }
+row_made p j n w header i waits made =
+    row_of_fields i.row n (lane_len j n + length (map row_of w.waiting)) (held_by w).number header (judged p (at p j (held_by w).number) header)
+    (made.worker_is ∙ waits.number_is) (omega (arith, made.seq_is, waits.handed_over, length-map w.waiting row_of)) made.generation_is made.header_is (verdict_taken p j n w header i waits made)
+
+-- it may come after those that wait
+taken_follows : (p : Setting) (j : Journal) (n : ℕ) (w : Worker) (header : Header) (r : Row) → Waits p j n w →
+    r ≡ record { worker = n; seq = lane_len j n + length (map row_of w.waiting); generation = (held_by w).number; header = header; verdict = judged p (at p j (held_by w).number) header } →
+    RowFollows p (with_rows (map row_of w.waiting) j) r
+taken_follows p j n w header r waits is =
+    let rs : List Row = map row_of w.waiting in
+    let same : tables (with_rows rs j) ≡ tables j = tables_after_rows rs j in
+    rw is (record {
+      in_lane = omega (arith, lane_len_with n rs j waits.follow.own);
+      not_older = waits.not_older;
+      known = omega (arith, waits.known, ap length same);
+      verdict = ap (λ cs. judged p (made_by p (oldest (held_by w).number cs)) header) (sym same);
+    })
+
+-- one more item waits
+pub waits_take : (p : Setting) (j : Journal) (n : ℕ) (w : Worker) (header : Header) (i : Item) → Waits p j n w → IsJudged p.catalog p.ue header w i → Waits p j n (with_item i w)
+waits_take p j n w header i waits made =
+    let rs : List Row = map row_of w.waiting in
+    let all : map row_of (w.waiting ++ i ∷ []) ≡ rs ++ i.row ∷ [] = map-append row_of w.waiting (i ∷ []) in
+    let own : i.row.worker ≡ n = made.worker_is ∙ waits.number_is in
+    let mine : (i.row.worker == n) ≡ true = eq-eqb i.row.worker n own in
+    let longer : with_rows (map row_of (w.waiting ++ i ∷ [])) j ≡ entry.Row i.row ∷ with_rows rs j = ap (λ xs. with_rows xs j) all ∙ with_rows_push rs i.row j in
+    let follows = taken_follows p j n w header i.row waits (row_made p j n w header i waits made) in
+    let within : IsWithin (slots p j) i.slot = rw made.slot_is (slot_within p j (held_by w).number (held_by w) i.row.verdict waits.shows) in
+    let counting : CountsFor p j i.row i.slot = λ key.
+    rw (made.generation_is, made.header_is, made.slot_is)
+    (shown_counts p j (held_by w).number (held_by w) header i.row.verdict key waits.shows (made_once p (oldest (held_by w).number (tables j))) (verdict_taken p j n w header i waits made)) in
+    record {
+      number_is = waits.number_is;
+      known = waits.known;
+      shows = waits.shows;
+      follow = subst (BatchFollows p j n) (sym all) (batch_push p n j rs i.row waits.follow own follows);
+      slots = All-push (λ (x : Item). IsWithin (slots p j) x.slot × CountsFor p j x.row x.slot) w.waiting i waits.slots (within, counting);
+      handed_over = waits.handed_over;
+      few = waits.few;
+      not_older = rw (longer, mine) (omega (arith, made.generation_is));
+    }
+
+-- ---- the newest generation is taken
+-- its rows go on waiting
+pub waits_refresh : (p : Setting) (j : Journal) (n : ℕ) (w new : Worker) → Waits p j n w → Shows p j (gen j) (held_by new) → new.number ≡ w.number → new.waiting ≡ w.waiting →
+    new.handed_over ≡ w.handed_over → Waits p j n new
+waits_refresh p j n w new waits shows number_is waiting_is handed_is = record {
+  number_is = number_is ∙ waits.number_is;
+  known = omega (arith, shows.number_is);
+  shows = subst (λ m. Shows p j m (held_by new)) (sym shows.number_is) shows;
+  follow = rw waiting_is waits.follow;
+  slots = rw waiting_is waits.slots;
+  handed_over = handed_is ∙ waits.handed_over;
+  few = waits.few;
+  not_older = rw waiting_is (omega (arith, waits.not_older, waits.known, shows.number_is));
+}
+
+-- ---- rows that are taken over
+-- those of the worker itself
+pub waits_flushed : (p : Setting) (j k : Journal) (n : ℕ) (w : Worker) → Waits p j n w → first_of (flush_refusals p j n (length (map row_of w.waiting))) ≡ None →
+    k ≡ after_flush p j (map row_of w.waiting) → Waits p k n (record w { waiting = []; handed_over = w.handed_over + length w.waiting })
+unfolding with_rows
+waits_flushed p j k n w waits accepted is =
+    let rs : List Row = map row_of w.waiting in
+    let lane_is : lane k n ≡ lane (with_rows rs j) n = ap (filter (λ (r : Row). r.worker == n)) (ap rows is ∙ rows_after_flush p j rs) in
+    let same : tables k ≡ tables j = ap tables is ∙ tables_after_flush p j rs in
+    let longer : lane_len k n ≡ length rs + lane_len j n = ap length lane_is ∙ lane_len_with n rs j waits.follow.own in
+    let fits : length (rows j) + length rs ≤ p.rows = (flushed_fits p n (length rs) j accepted).1 in
+    record {
+      number_is = waits.number_is;
+      known = omega (arith, waits.known, ap length same);
+      shows = shows_same p j k (held_by w).number (held_by w) same waits.shows;
+      follow = batch_empty p n k;
+      slots = All-nil (λ (i : Item). IsWithin (slots p k) i.slot × CountsFor p k i.row i.slot);
+      handed_over = omega (arith, waits.handed_over, longer, length-map w.waiting row_of);
+      few = omega (arith, longer, fits, lane_few n (rows j));
+      not_older = subst (λ xs. newest_generation xs ≤ (held_by w).number) (sym lane_is) waits.not_older;
+    }
+
+-- and those of another
+pub waits_beside : (p : Setting) (j k : Journal) (n m : ℕ) (rs : List Row) (w : Worker) → Waits p j n w → (m == n) ≡ false → All (λ r. r.worker ≡ m) rs → k ≡ after_flush p j rs →
+    Waits p k n w
+waits_beside p j k n m rs w waits differ own is =
+    let lane_is : lane k n ≡ lane j n = ap (filter (λ (r : Row). r.worker == n)) (ap rows is ∙ rows_after_flush p j rs) ∙ lane_other n m rs j differ own in
+    let same : tables k ≡ tables j = ap tables is ∙ tables_after_flush p j rs in
+    waits_later p j k n w (onward_same p j k same) lane_is waits

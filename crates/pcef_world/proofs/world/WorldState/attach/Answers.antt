@@ -1,0 +1,23 @@
+use Rattle.std.proofs.Common.{refl, sym, ◌∙◌}
+use Rattle.std.proofs.lemmas.List.{length-map}
+use Rattle.pcef_world.specs.WorldSoundness.{seen}
+use Rattle.pcef_world.proofs.WorldSteps.{attached_number, sound_attached, sound_attached_not}
+use Rattle.pcef_world.proofs.world.WorldState.attach.Goals as goal
+
+pub invariant_of-self-in_err-number : goal.invariant_of-self-in_err-number
+invariant_of-self-in_err-number c =
+    rw c.reserve.ensures.items
+    (sound_attached_not c.self.inside.session c.attach.new.self c.self.inside.workers.items c.in_err-number.field-0.0 c.self.invariant c.in_err-number.ensures.answer c.attach.ensures.terms
+    c.attach.ensures.offers)
+
+pub invariant_of-self-2 : goal.invariant_of-self-2
+invariant_of-self-2 c =
+    rw (c.push_reserved.ensures.items, c.reserve.ensures.items)
+    (sound_attached c.self.inside.session c.attach.new.self c.self.inside.workers.items c.in_ok-number.number _ c.self.invariant c.newest.ensures.agrees c.in_ok-number.ensures.answer
+    c.attach.ensures.terms c.attach.ensures.offers c.in-Ok-newest.ensures.table refl c.in-Ok.ensures refl)
+
+pub returns-clause-number : goal.returns-clause-number
+returns-clause-number c =
+    rw (← c.self.view_is)
+    (attached_number c.self.inside.session c.attach.new.self c.self.inside.workers.items c.in_ok-number.number c.self.invariant c.in_ok-number.ensures.answer
+    ∙ sym (length-map c.self.inside.workers.items seen))

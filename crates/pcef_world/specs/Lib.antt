@@ -1,0 +1,3 @@
+pub mod Workers
+pub mod WorldSoundness
+pub mod Worlds

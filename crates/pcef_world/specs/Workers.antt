@@ -1,0 +1,63 @@
+-- Workers, and what always holds of them.
+use Rattle.std.specs.Prelude.{ℕ, ◌≡◌, ◌≤◌, ◌<◌, ◌+◌, List, [], ◌∷◌, ◌++◌, Result, Ok, Err, length, map, slice_index_or}
+use Rattle.std.specs.Arc.{arc_value}
+use Rattle.pcef_packet.specs.declared.header.Addr.{Addr}
+use Rattle.pcef_packet.specs.declared.header.Header.{Header}
+use Rattle.pcef_catalog.specs.declared.listing.Offer.{Offer}
+use Rattle.pcef_table.specs.Tables.{TableValue}
+use Rattle.pcef_table.specs.Verdicts.{IsVerdict, slot_for}
+use Rattle.pcef_journal.specs.Setting.{Setting}
+use Rattle.pcef_journal.specs.Entries.{Journal, lane}
+use Rattle.pcef_journal.specs.Journals.{gen, lane_len}
+use Rattle.pcef_journal.specs.Reports.{with_rows}
+use Rattle.pcef_session.specs.declared.batch.BatchFull.{BatchFull}
+use Rattle.pcef_session.specs.declared.batch.Item.{Item}
+use Rattle.pcef_world.specs.declared.worker.Worker.{Worker}
+use Rattle.pcef_session.specs.Following.{HasItsSlots, row_of}
+use Rattle.pcef_session.specs.Lawful.{BatchFollows, newest_generation}
+use Rattle.pcef_session.specs.Shown.{Shows}
+
+-- the table that a worker holds
+abbrev pub held_by : Worker → TableValue
+held_by w = arc_value w.table
+
+-- ---- what a worker does
+-- an item that a worker makes of a packet
+pub record IsJudged (offers : List Offer) (ue : Addr) (header : Header) (w : Worker) (i : Item) : Type 0 where
+  pub worker_is : i.row.worker ≡ w.number
+  pub seq_is : i.row.seq ≡ w.handed_over + length w.waiting
+  pub generation_is : i.row.generation ≡ (held_by w).number
+  pub header_is : i.row.header ≡ header
+  pub verdict_is : IsVerdict offers (held_by w).entries ue header i.row.verdict
+  pub slot_is : i.slot ≡ slot_for offers (held_by w).entries i.row.verdict
+
+abbrev pub with_item : Item → Worker → Worker
+with_item i w = record w { waiting = w.waiting ++ i ∷ [] }
+
+-- a packet that a worker takes waits as an item, where fewer than 32 do
+abbrev pub TakesItem : List Offer → Addr → Header → Worker → Result ℕ BatchFull → Worker → Type 0
+TakesItem offers ue header old (Ok count) new =
+    (length old.waiting < 32) × (count ≡ length old.waiting + 1) × (i : Item) × IsJudged offers ue header old i × (new ≡ with_item i old)
+TakesItem offers ue header old (Err full) new = (32 ≤ length old.waiting) × (new ≡ old)
+
+-- rows that are handed over wait no longer
+abbrev pub after_flushing : {A E : Type 0} → Result A E → Worker → Worker
+after_flushing (Ok a) w = record w { waiting = []; handed_over = w.handed_over + length w.waiting }
+after_flushing (Err e) w = w
+
+-- ---- what always holds of a worker
+-- it has this number and holds a generation of the journal, and its rows may come next, with the
+-- slots of the keys that they count for; none of them is of a later generation than it holds
+pub record Waits (p : Setting) (j : Journal) (number : ℕ) (w : Worker) : Type 0 where
+  pub number_is : w.number ≡ number
+  pub known : (held_by w).number ≤ gen j
+  pub shows : Shows p j (held_by w).number (held_by w)
+  pub follow : BatchFollows p j number (map row_of w.waiting)
+  pub slots : HasItsSlots p j w.waiting
+  pub handed_over : w.handed_over ≡ lane_len j number
+  pub few : lane_len j number ≤ p.rows
+  pub not_older : newest_generation (lane (with_rows (map row_of w.waiting) j) number) ≤ (held_by w).number
+
+-- the workers are numbered by their places
+abbrev pub AllWait : Setting → Journal → List Worker → Type 0
+AllWait p j workers = (i : ℕ) (w : Worker) → i < length workers → Waits p j i (slice_index_or workers i w)

@@ -1,0 +1,25 @@
+-- What always holds of a world's parts.
+use Rattle.std.specs.Prelude.{◌≡◌, ◌≤◌, List, length, map}
+use Rattle.pcef_journal.specs.Journals.{attach_count}
+use Rattle.pcef_world.specs.declared.world.WorldState.TheInside.{Inside}
+use Rattle.pcef_world.specs.declared.worker.Worker.{Worker}
+use Rattle.pcef_session.specs.Core.{Core, setting_in}
+use Rattle.pcef_session.specs.Following.{row_of}
+use Rattle.pcef_world.specs.Workers.{AllWait, held_by}
+use Rattle.pcef_world.specs.Worlds.{Waiting, World}
+
+-- what callers see of a worker
+abbrev pub seen : Worker → Waiting
+seen w = record { generation = (held_by w).number; rows = map row_of w.waiting }
+
+abbrev pub world_of : Inside → World
+world_of w = record { core = w.session; workers = map seen w.workers.items }
+
+-- as many workers there are as were attached, and each of them waits with rows that may come next
+pub record IsSoundWith (s : Core) (workers : List Worker) : Type 0 where
+  pub counted : attach_count s.journal ≡ length workers
+  pub few_rows : s.terms.rows ≤ 4294967295
+  pub wait : AllWait (setting_in s) s.journal workers
+
+abbrev pub IsSoundWorld : Inside → Type 0
+IsSoundWorld w = IsSoundWith w.session w.workers.items

@@ -1,0 +1,87 @@
+//! The workers of a script.
+
+ghost use Rattle.std.specs.Prelude.{◌≡◌, ◌≤◌, map};
+ghost use Rattle.std.specs.Result.{result_map_both};
+ghost use Rattle.pcef_table.specs.Tables.{IsTable};
+ghost use Rattle.pcef_session.specs.Answers.{Flushes, told_of};
+ghost use Rattle.pcef_session.specs.Core.{setting_in};
+ghost use Rattle.pcef_session.specs.Following.{HasItsSlots, row_of};
+ghost use Rattle.pcef_session.specs.Lawful.{BatchFollows};
+ghost use Rattle.pcef_world.specs.Workers.{IsJudged, TakesItem, after_flushing, held_by};
+
+use pcef_catalog::Offers;
+use pcef_journal::Row;
+use pcef_packet::{Addr, Header};
+use pcef_session::{Batch, BatchFull, FlushRefusal, Item, MAX_WAITING, SessionState, Verdicts};
+use pcef_table::Table;
+use std::sync::Arc;
+
+/// A worker: the table of the generation that it holds, and its waiting rows.
+#[derive(Drop)]
+pub struct Worker {
+    /// Its number.
+    pub number: u8,
+    /// The table that it judges by.
+    pub table: Arc<Table>,
+    /// The rows that wait.
+    pub waiting: Batch,
+    /// How many rows it has handed over.
+    pub handed_over: u64,
+}
+
+impl Worker {
+    /// Judges a packet by the table that the worker holds.
+    fn judge<C: Offers>(&self, catalog: &C, ue: Addr, header: &Header) -> Item
+        requires table { IsTable (C.offers catalog.now) (held_by self.now).entries }
+        requires few { self.now.handed_over ≤ 4294967295 }
+        ensures { IsJudged (C.offers catalog.now) ue header.now self.now result }
+    {
+        let verdict = self.table.classify(catalog, ue, header);
+        let slot = self.table.counts(catalog, &verdict);
+        Item {
+            row: Row {
+                worker: self.number,
+                seq: self.handed_over + self.waiting.len() as u64,
+                generation: self.table.generation(),
+                header: *header,
+                verdict,
+            },
+            slot,
+        }
+    }
+
+    /// Judges a packet, lets it wait, and gives how many wait then.
+    pub(crate) fn take<C: Offers>(
+        &mut self,
+        catalog: &C,
+        ue: Addr,
+        header: &Header,
+    ) -> Result<u8, BatchFull>
+        requires table { IsTable (C.offers catalog.now) (held_by self.old).entries }
+        requires few { self.old.handed_over ≤ 4294967295 }
+        ensures { TakesItem (C.offers catalog.now) ue header.now self.old result self.new }
+    {
+        if self.waiting.len() >= MAX_WAITING {
+            return Err(BatchFull);
+        }
+        let item = self.judge(catalog, ue, header);
+        self.waiting.push(item);
+        Ok(self.waiting.len() as u8)
+    }
+
+    /// Hands the waiting rows over to the session. A refusal keeps them.
+    pub(crate) fn flush(&mut self, session: &mut SessionState) -> Result<Verdicts, FlushRefusal>
+        requires follow { BatchFollows (setting_in session.old) session.old.journal self.old.number (map row_of self.old.waiting) }
+        requires slots { HasItsSlots (setting_in session.old) session.old.journal self.old.waiting }
+        requires few { self.old.handed_over ≤ 4294967295 }
+        ensures answer { Flushes (setting_in session.old) self.old.number (map row_of self.old.waiting) session.old.journal (result_map_both told_of (λ e. e) result) session.new.journal }
+        ensures worker { self.new ≡ after_flushing result self.old }
+        ensures offers { session.new.offers ≡ session.old.offers }
+        ensures terms { session.new.terms ≡ session.old.terms }
+    {
+        let verdicts = session.flush(self.number, &self.waiting)?;
+        self.handed_over += self.waiting.len() as u64;
+        self.waiting.clear();
+        Ok(verdicts)
+    }
+}

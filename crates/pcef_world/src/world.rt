@@ -1,0 +1,177 @@
+//! What a script works on: a session and its workers.
+
+ghost use Rattle.std.specs.Prelude.{◌≡◌, ◌≤◌, [], IfOk, OnErr, length};
+ghost use Rattle.std.specs.Arc.{arc_value};
+ghost use Rattle.std.specs.Result.{result_err, result_map_both};
+ghost use Rattle.pcef_journal.specs.Journals.{attach_count, gen};
+ghost use Rattle.pcef_session.specs.Agreement.{Agrees};
+ghost use Rattle.pcef_session.specs.Answers.{Attaches, Does, Opens, told_of};
+ghost use Rattle.pcef_session.specs.Core.{IsServed, setting_in};
+ghost use Rattle.pcef_session.specs.Terms.{setting_of};
+ghost use Rattle.pcef_world.specs.Worlds.{AreReady, HandsOver, Refreshes, Takes, after_attaching};
+
+use crate::worker::Worker;
+use pcef_catalog::{Listing, Offers};
+use pcef_journal::Command;
+use pcef_packet::Header;
+use pcef_session::{
+    Accepted, AttachFault, Batch, BatchFull, FlushRefusal, OpenFault, Profile, Refusal,
+    SessionState, Verdicts,
+};
+use pcef_table::Table;
+use std::alloc::{AllocError, Global};
+use std::marker::Model;
+use std::sync::Arc;
+
+/// Why a step of a worker is refused.
+#[derive(Clone, Copy, Debug, PartialEq, Eq)]
+pub enum StepRefusal<E> {
+    /// The worker isn't attached.
+    NoWorker,
+    /// The step's own refusal.
+    Refused(E),
+}
+
+/// A session without the closures of its catalog, and its workers.
+#[derive(Drop)]
+pub struct WorldState {
+    alloc: Global,
+    session: SessionState,
+    workers: Vec<Worker>,
+}
+
+impl Model for WorldState {
+    ghost use Rattle.pcef_world.specs.Worlds.{World};
+
+    ghost Value = { World };
+
+    ghost use Rattle.pcef_world.specs.WorldSoundness.{IsSoundWorld, world_of};
+
+    ghost view = { world_of };
+
+    ghost invariant = { IsSoundWorld };
+}
+
+/// The table of a session's newest generation, for one more worker to hold.
+fn newest(session: &SessionState) -> Result<Arc<Table>, AllocError>
+    ensures table { IfOk result (λ t. arc_value t ≡ session.now.parts.table) }
+    ensures agrees { Agrees (setting_in session.now) session.now.journal session.now.parts }
+{
+    let _journal = session.journal();
+    Arc::try_clone(session.table())
+}
+
+impl WorldState {
+    /// A session with an empty journal and no workers, or the first fault in the order of [`OpenFault`].
+    pub fn open(alloc: Global, profile: Profile, listing: Listing) -> Result<WorldState, OpenFault>
+        ensures answer { Opens (setting_of profile listing) (result_err result) }
+        ensures made { IfOk result (λ w. (w.core.terms ≡ profile) × (w.core.offers ≡ listing) × (w.core.journal ≡ []) × (w.workers ≡ [])) }
+    {
+        let _rows = profile.rows;
+        let session = SessionState::open(alloc, profile, listing)?;
+        Ok(WorldState {
+            alloc,
+            session,
+            workers: Vec::new(alloc),
+        })
+    }
+
+    /// The session. As many workers there are as were attached, and the rows of each may come next.
+    pub fn session(&self) -> &SessionState
+        ensures session { result.now ≡ self.now.core }
+        ensures attached { attach_count self.now.core.journal ≡ length self.now.workers }
+        ensures ready { AreReady (setting_in self.now.core) self.now.core.journal self.now.workers }
+    {
+        &self.session
+    }
+
+    /// As [`SessionState::command`].
+    pub fn command(&mut self, command: Command) -> Result<Accepted, Refusal>
+        requires { IsServed command }
+        ensures answer { Does (setting_in self.old.core) command self.old.core.journal result self.new.core.journal }
+        ensures workers { self.new.workers ≡ self.old.workers }
+        ensures terms { self.new.core.terms ≡ self.old.core.terms }
+        ensures offers { self.new.core.offers ≡ self.old.core.offers }
+    {
+        self.session.command(command)
+    }
+
+    /// Attaches a worker, which holds the newest generation. Takes memory for its waiting rows.
+    pub fn attach(&mut self) -> Result<u8, AttachFault>
+        ensures answer { Attaches self.old.core.journal result self.new.core.journal }
+        ensures workers { self.new.workers ≡ after_attaching self.old.core.journal result self.old.workers }
+        ensures number { IfOk result (λ number. number ≡ length self.old.workers) }
+        ensures terms { self.new.core.terms ≡ self.old.core.terms }
+        ensures offers { self.new.core.offers ≡ self.old.core.offers }
+    {
+        if self.workers.reserve(1).is_err() {
+            return Err(AttachFault::NoMemory);
+        }
+        let Ok(waiting) = Batch::new(self.alloc) else {
+            return Err(AttachFault::NoMemory);
+        };
+        let Ok(table) = newest(&self.session) else {
+            return Err(AttachFault::NoMemory);
+        };
+        let number = self.session.attach()?;
+        self.workers.push_reserved(Worker {
+            number,
+            table,
+            waiting,
+            handed_over: 0,
+        });
+        Ok(number)
+    }
+
+    /// Judges a packet by the generation that a worker holds, lets it wait, and gives how many wait
+    /// then. Takes no memory.
+    pub fn take<C: Offers>(
+        &mut self,
+        catalog: &C,
+        worker: u8,
+        header: &Header,
+    ) -> Result<u8, StepRefusal<BatchFull>>
+        requires { C.offers catalog.now ≡ self.old.core.offers }
+        ensures answer { Takes (setting_in self.old.core) self.old.core.journal worker header.now self.old.workers result self.new.workers }
+        ensures core { self.new.core ≡ self.old.core }
+    {
+        let ue = self.session.profile().ue;
+        let Some(worker) = self.workers.get_mut(usize::from(worker)) else {
+            return Err(StepRefusal::NoWorker);
+        };
+        worker
+            .take(catalog, ue, header)
+            .map_err(StepRefusal::Refused)
+    }
+
+    /// A worker takes the newest generation, by which it judges from then on, and its number is given. Its rows
+    /// go on waiting. `None` where the worker isn't attached; want of memory, which changes nothing, where the
+    /// table can't be shared.
+    pub fn refresh(&mut self, worker: u8) -> Result<Option<u32>, AllocError>
+        ensures answer { IfOk result (λ answer. Refreshes self.old.core.journal worker self.old.workers answer self.new.workers) }
+        ensures kept { OnErr result (self.new.workers ≡ self.old.workers) }
+        ensures core { self.new.core ≡ self.old.core }
+    {
+        if usize::from(worker) >= self.workers.len() {
+            return Ok(None);
+        }
+        let table = newest(&self.session)?;
+        let worker = &mut self.workers[usize::from(worker)];
+        worker.table = table;
+        Ok(Some(worker.table.generation()))
+    }
+
+    /// Hands the waiting rows of a worker over. A refusal keeps them.
+    pub fn flush(&mut self, worker: u8) -> Result<Verdicts, StepRefusal<FlushRefusal>>
+        ensures answer { HandsOver (setting_in self.old.core) worker self.old.core.journal self.old.workers (result_map_both told_of (λ e. e) result) self.new.core.journal self.new.workers }
+        ensures terms { self.new.core.terms ≡ self.old.core.terms }
+        ensures offers { self.new.core.offers ≡ self.old.core.offers }
+    {
+        let Some(worker) = self.workers.get_mut(usize::from(worker)) else {
+            return Err(StepRefusal::NoWorker);
+        };
+        worker
+            .flush(&mut self.session)
+            .map_err(StepRefusal::Refused)
+    }
+}
