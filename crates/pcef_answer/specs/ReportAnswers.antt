@@ -1,5 +1,5 @@
 -- Reports in answers: a JSON object (RFC 8259) for each, its members in the order of their keys (own
--- choice). The words of access events are those of TS 29.212, Event-Trigger.
+-- choice). The words of access events are those of TS 29.212, clause 5.3.7, Event-Trigger.
 use Rattle.std.specs.Prelude.{ℕ, List, [], codes, drop, map, nat_lt, reverse, if◌then◌else◌}
 use Rattle.serde_json.specs.Data.{Data, string, array, object, member, no_members}
 use Rattle.serde_json.specs.View.{items_of}

@@ -76,7 +76,7 @@ IsPorts token ranges = AreRanges (pieces comma token) ranges × (length ranges �
 
 -- ---- the flow word
 -- which flow words may stand beside a text of this direction: beside `in` none (own choice), since a
--- flow word says for which packets an `out` text is meant (TS 29.212, Flow-Direction)
+-- flow word says for which packets an `out` text is meant (TS 29.212, clause 5.3.65, Flow-Direction)
 abbrev pub AllowsFlow : Direction → Option Flow → Type 0
 AllowsFlow In flow = flow ≡ None
 AllowsFlow Out flow = ⊤

@@ -25,7 +25,7 @@ pub data Orientation : Type 0 where
   NotApplied : Orientation
 
 -- an `in` text applies to uplink packets as written; an `out` text to downlink packets, or as its
--- flow word says (TS 29.212, Flow-Direction), with source and target exchanged on uplink packets
+-- flow word says (TS 29.212, clause 5.3.65, Flow-Direction), with source and target exchanged on uplink packets
 abbrev pub orientation_of : Direction → Option Flow → Dir → Orientation
 orientation_of In word Up = AsWritten
 orientation_of In word Down = NotApplied

@@ -15,7 +15,8 @@ pub enum Direction {
     Out,
 }
 
-/// The flow word beside a filter text: which packets an `out` text applies to (TS 29.212, Flow-Direction).
+/// The flow word beside a filter text: which packets an `out` text applies to (TS 29.212, clause 5.3.65,
+/// Flow-Direction).
 #[derive(Clone, Copy, Debug, PartialEq, Eq)]
 pub enum Flow {
     /// Downlink packets.

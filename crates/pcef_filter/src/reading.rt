@@ -136,8 +136,8 @@ fn read_allowed(text: &str, flow: Option<Flow>) -> Result<Filter, FilterFault>
     }
 }
 
-/// Reads a filter text and the flow word beside it (RFC 6733, clause 4.3.1; TS 29.212,
-/// Flow-Description and Flow-Direction).
+/// Reads a filter text and the flow word beside it (RFC 6733, clause 4.3.1; TS 29.214, clause 5.3.8,
+/// Flow-Description; TS 29.212, clause 5.3.65, Flow-Direction).
 ///
 /// ```text
 /// filter  = "permit" dir proto "from" place [ports] "to" place [ports]

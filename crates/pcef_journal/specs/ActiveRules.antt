@@ -72,7 +72,7 @@ origin_of (by_shape shape) = origin.Predefined
 abbrev pub rank_of : Active → Rank
 rank_of r = rank_by (origin_of r.detection) r.properties
 
--- TS 29.212, Precedence
+-- TS 29.212, clause 5.3.11, Precedence
 abbrev pub is_before : Active → Active → Bool
 is_before r s = goes_before (rank_of r) (rank_of s)
 

@@ -58,7 +58,7 @@ id_after p g rules q =
     else if has_bearer p g.rules q then g.id_of q
     else least_free p (kept_ids p g rules)
 
--- ---- keys (TS 29.212, usage monitoring)
+-- ---- keys (TS 29.212, clauses 4.5.16 and 4.5.17)
 abbrev pub is_among : List ℕ → List (List ℕ) → Bool
 is_among key keys = list_any (same_name key) keys
 

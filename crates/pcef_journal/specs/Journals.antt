@@ -53,7 +53,7 @@ at p j g = made_by p (oldest g (tables j))
 abbrev pub slots : Setting → Journal → List (List ℕ)
 slots p j = slots_of p (tables j)
 
--- ---- grants and subscriptions (TS 29.212, usage monitoring and Event-Trigger)
+-- ---- grants and subscriptions (TS 29.212, clauses 4.5.16 and 5.3.7)
 -- a report that was only asked for leaves the grant (own choice)
 abbrev pub ends_grant : Cause → Bool
 ends_grant Requested = false
@@ -110,7 +110,7 @@ verdict_of g (passed r) = Passed r.properties.name (record { 0 = g.id_of r.prope
 abbrev pub judged : Setting → Generation → Header → Verdict
 judged p g header = verdict_of g (decision p g header)
 
--- ---- counting (TS 29.212, usage monitoring)
+-- ---- counting (TS 29.212, clauses 4.5.16 and 4.5.17)
 abbrev pub passed_for : List ℕ → Decision → Bool
 passed_for key (passed r) = is_key key r.properties.key
 passed_for key _ = false

@@ -1,5 +1,5 @@
--- What an event reports, and the journal after it. What is reported is that of TS 29.212; the order of
--- reports is an own choice.
+-- What an event reports, and the journal after it. What is reported is that of TS 29.212, clauses 4.5.17
+-- and 5.3.7; the order of reports is an own choice.
 use Rattle.std.specs.Prelude.{ℕ, ◌==◌, Bool, true, false, not, ◌&&◌, ◌||◌, List, [], ◌∷◌, ◌++◌, Option, Some, None, filter, map, nat_le, nat_lt, if◌then◌else◌}
 use Rattle.std.specs.Ordering.{nat_cmp, is_lt}
 use Rattle.std.specs.Cmp.Lexicographic.{slice_cmp}
@@ -44,14 +44,14 @@ abbrev pub in_order : List (List ℕ) → List (List ℕ)
 in_order [] = []
 in_order (n ∷ ns) = insert_name n (in_order ns)
 
--- the rules that go with a lost bearer (TS 29.212, Charging-Rule-Report), by the bytes of their names
+-- the rules that go with a lost bearer (TS 29.212, clause 5.3.18, Charging-Rule-Report), by the bytes of their names
 abbrev pub inactive : Generation → Command → List Telling
 inactive g (LoseBearer id) =
     map Inactive (in_order (map (λ r. r.properties.name) (filter (λ r. g.id_of r.properties.qos == id.0) g.rules)))
 inactive g _ = []
 
 -- the keys that are on, had a rule and lose their last one, in slot order; or, at Terminate, all keys
--- that are on or have unreported octets (TS 29.212, usage monitoring)
+-- that are on or have unreported octets (TS 29.212, clauses 4.5.16 and 4.5.17)
 abbrev pub ended : Setting → Journal → Command → List Telling
 ended p j Terminate = map (λ k. Usage k Terminated) (filter (λ k. is_among k (now p j).on || nat_lt 0 (unreported p j k)) (slots p j))
 ended p j c =

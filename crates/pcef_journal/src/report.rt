@@ -5,7 +5,7 @@ ghost use Rattle.std.specs.Prelude.{◌≡◌};
 use crate::trigger::{AccessKind, NoticeValue};
 use pcef_rule::{KeyName, RuleName};
 
-/// Why usage is reported (TS 29.212, usage monitoring).
+/// Why usage is reported (TS 29.212, clauses 4.5.16 and 4.5.17).
 #[derive(Clone, Copy, Debug, PartialEq, Eq)]
 pub enum Cause {
     /// The grant was reached.

@@ -2,7 +2,7 @@
 
 use pcef_rule::Name;
 
-/// The kinds of access events (TS 29.212, Event-Trigger).
+/// The kinds of access events (TS 29.212, clause 5.3.7, Event-Trigger).
 #[derive(Clone, Copy, Debug, PartialEq, Eq)]
 pub enum AccessKind {
     /// `RAT_CHANGE`: the radio access technology changed.
@@ -15,7 +15,7 @@ pub enum AccessKind {
     UeTimeZoneChange,
 }
 
-/// The event triggers that are subscribed (TS 29.212, Event-Trigger).
+/// The event triggers that are subscribed (TS 29.212, clause 5.3.7, Event-Trigger).
 #[derive(Clone, Copy, Debug, Default, PartialEq, Eq)]
 pub struct TriggerSet {
     /// `USAGE_REPORT`.

@@ -44,7 +44,7 @@ both_rates_at rule = do
 unfoldable pub rates_at : Data → Result (Option Rates) LineFault
 rates_at rule = optional both_rates_at rule (get (field_text field.Gbr) rule)
 
--- TS 29.212, Flow-Status
+-- TS 29.214, clause 5.3.11, Flow-Status
 abbrev pub gate_of : List ℕ → Option Gate
 gate_of text =
     if bytes_eq text (codes "ENABLED-UPLINK") then Some EnabledUplink
@@ -61,7 +61,7 @@ gate_at rule = do
 unfoldable pub key_at : Data → Result (Option (List ℕ)) LineFault
 key_at rule = optional (name_at field.Key) rule (get (field_text field.Key) rule)
 
--- TS 29.212, Flow-Direction
+-- TS 29.212, clause 5.3.65, Flow-Direction
 abbrev pub flow_of : List ℕ → Option Flow
 flow_of text =
     if bytes_eq text (codes "downlink") then Some Downlink

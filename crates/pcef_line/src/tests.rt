@@ -2,7 +2,7 @@
 
 use super::*;
 use pcef_filter::FilterFault;
-use pcef_packet::{Addr, Dir, PacketFault, Ports};
+use pcef_packet::{Addr, Dir, Header, PacketFault, Ports};
 use pcef_rule::RuleFault;
 use std::alloc::Global;
 

@@ -1,4 +1,4 @@
--- Gates (TS 29.214, Flow-Status; REMOVED is left out, own choice).
+-- Gates (TS 29.214, clause 5.3.11, Flow-Status; REMOVED is left out, own choice).
 use Rattle.std.specs.Prelude.{Bool, true, false}
 use Rattle.pcef_packet.specs.declared.header.Dir.{Dir}
 use Rattle.pcef_packet.specs.declared.header.Dir.TheVariants.{Up, Down}

@@ -1,4 +1,4 @@
--- Which of two rules goes first (TS 29.212, Precedence; TS 23.203, clause 6.3.1).
+-- Which of two rules goes first (TS 29.212, clause 5.3.11, Precedence; TS 23.203, clause 6.3.1).
 use Rattle.std.specs.Prelude.{ℕ, ◌≡◌, ◌≢◌, ◌⊎◌, Bool, true, false, List}
 use Rattle.std.specs.Ordering.{nat_cmp, ordering_then, is_lt}
 use Rattle.std.specs.Cmp.Lexicographic.{slice_cmp}

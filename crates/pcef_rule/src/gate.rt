@@ -5,7 +5,7 @@ ghost use Rattle.pcef_rule.specs.Gate.{opens};
 
 use pcef_packet::Dir;
 
-/// In which directions a rule lets packets pass (TS 29.214, Flow-Status).
+/// In which directions a rule lets packets pass (TS 29.214, clause 5.3.11, Flow-Status).
 #[derive(Clone, Copy, Debug, PartialEq, Eq)]
 pub enum Gate {
     /// `ENABLED-UPLINK`.

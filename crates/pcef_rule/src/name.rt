@@ -37,10 +37,10 @@ pub struct Name<K> {
     of: PhantomData<K>,
 }
 
-/// The name of a rule (TS 29.212, Charging-Rule-Name).
+/// The name of a rule (TS 29.212, clause 5.3.6, Charging-Rule-Name).
 pub type RuleName = Name<OfRule>;
 
-/// The name of a monitoring key (TS 29.212, Monitoring-Key).
+/// The name of a monitoring key (TS 29.212, clause 5.3.59, Monitoring-Key).
 pub type KeyName = Name<OfKey>;
 
 impl<K> Model for Name<K> {

@@ -25,7 +25,7 @@ AreKept offers [] (r ∷ rules) = ⊥
 AreKept offers (e ∷ kept) [] = ⊥
 AreKept offers (e ∷ kept) (r ∷ rules) = (e.0 ≡ r.properties.name) × (rule_of offers e.1 ≡ Some r) × AreKept offers kept rules
 
--- ---- keys (TS 29.212, usage monitoring)
+-- ---- keys (TS 29.212, clauses 4.5.16 and 4.5.17)
 -- what is kept of a key: whether it is on, its grant, and its octets, which are those that the journal's
 -- rows passed for it
 pub record KeyAgrees (p : Setting) (j : Journal) (s : KeyState) : Type 0 where

@@ -1,4 +1,4 @@
-//! Small journals, whose counters and reports were worked out by hand from TS 29.212, usage monitoring.
+//! Small journals, whose counters and reports were worked out by hand from TS 29.212, clauses 4.5.16 and 4.5.17.
 
 ghost use Rattle.std.specs.Prelude.{◌≡◌, ◌≤◌, ◌+◌};
 

@@ -28,7 +28,7 @@ use Rattle.pcef_session.specs.Refusals.{first_of, flush_refusals}
 use Rattle.pcef_session.specs.Terms.{setting_of}
 use Rattle.pcef_world.specs.Workers.{AllWait, TakesItem, Waits, after_flushing, held_by}
 use Rattle.pcef_world.specs.WorldSoundness.{IsSoundWith, seen}
-use Rattle.pcef_world.specs.Worlds.{AreReady, IsReady}
+use Rattle.pcef_world.specs.Worlds.{AreInTurn, IsInTurn}
 use Rattle.pcef_session.proofs.Onward.{Commanded, attach_count_after_flush, attached_not, attached_once, commanded, flushed_not, flushed_once, onward_same}
 use Rattle.pcef_world.proofs.WorkersWait.{waits_beside, waits_flushed, waits_later, waits_new, waits_refresh, waits_take}
 
@@ -63,12 +63,12 @@ all_push p k workers new all here = λ m d inside.
     ]
 
 -- what callers see of workers
-pub all_ready : (p : Setting) (j : Journal) (workers : List Worker) → AllWait p j workers → AreReady p j (map seen workers)
-all_ready p j workers all = λ i x inside.
+pub all_in_turn : (p : Setting) (j : Journal) (workers : List Worker) → AllWait p j workers → AreInTurn p j (map seen workers)
+all_in_turn p j workers all = λ i x inside.
     let within : i < length workers = omega (arith, inside, length-map workers seen) in
     let w : Worker = some_worker workers i within in
     let waits : Waits p j i (get_or workers i w) = all i w within in
-    subst (IsReady p j i) (sym (get_or-map seen workers i w x within)) (record { known = waits.known; follow = waits.follow })
+    subst (IsInTurn p j i) (sym (get_or-map seen workers i w x within)) (record { known = waits.known; follow = waits.follow })
   where
     some_worker : (ws : List Worker) (i : ℕ) → i < length ws → Worker
     some_worker [] i within = absurd (omega (arith, within))

@@ -27,12 +27,12 @@ pub record World : Type 0 where
   pub workers : List Waiting
 
 -- a worker that holds a generation of the journal, and whose rows may come next
-pub record IsReady (p : Setting) (j : Journal) (number : ℕ) (w : Waiting) : Type 0 where
+pub record IsInTurn (p : Setting) (j : Journal) (number : ℕ) (w : Waiting) : Type 0 where
   pub known : w.generation ≤ gen j
   pub follow : BatchFollows p j number w.rows
 
-abbrev pub AreReady : Setting → Journal → List Waiting → Type 0
-AreReady p j workers = (i : ℕ) (w : Waiting) → i < length workers → IsReady p j i (slice_index_or workers i w)
+abbrev pub AreInTurn : Setting → Journal → List Waiting → Type 0
+AreInTurn p j workers = (i : ℕ) (w : Waiting) → i < length workers → IsInTurn p j i (slice_index_or workers i w)
 
 -- ---- a worker comes
 -- it holds the newest generation, and no row waits

@@ -8,7 +8,7 @@ ghost use Rattle.pcef_session.specs.Agreement.{Agrees};
 ghost use Rattle.pcef_session.specs.Answers.{Attaches, Does, Opens, told_of};
 ghost use Rattle.pcef_session.specs.Core.{IsServed, setting_in};
 ghost use Rattle.pcef_session.specs.Terms.{setting_of};
-ghost use Rattle.pcef_world.specs.Worlds.{AreReady, HandsOver, Refreshes, Takes, after_attaching};
+ghost use Rattle.pcef_world.specs.Worlds.{AreInTurn, HandsOver, Refreshes, Takes, after_attaching};
 
 use crate::worker::Worker;
 use pcef_catalog::{Listing, Offers};
@@ -80,7 +80,7 @@ impl WorldState {
     pub fn session(&self) -> &SessionState
         ensures session { result.now ≡ self.now.core }
         ensures attached { attach_count self.now.core.journal ≡ length self.now.workers }
-        ensures ready { AreReady (setting_in self.now.core) self.now.core.journal self.now.workers }
+        ensures in_turn { AreInTurn (setting_in self.now.core) self.now.core.journal self.now.workers }
     {
         &self.session
     }
