@@ -12,6 +12,3 @@ mod written;
 pub use fault::fault_text;
 pub use show::show_answer;
 pub use step::{attached_answer, command_answer, flushed_answer, refreshed_answer, taken_answer};
-
-#[cfg(test)]
-mod tests;

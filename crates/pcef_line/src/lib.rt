@@ -14,6 +14,3 @@ pub use fault::LineFault;
 pub use field::Field;
 pub use line::Line;
 pub use reading::read_line;
-
-#[cfg(test)]
-mod tests;

@@ -10,8 +10,3 @@ mod values;
 
 pub use fault::ReadProfileFault;
 pub use reading::read_profile;
-
-#[cfg(test)]
-mod declared_tests;
-#[cfg(test)]
-mod tests;

@@ -7,13 +7,9 @@ use Rattle.std.proofs.lemmas.Bool.{and_parts, cases_Bool, eqb-true}
 use Rattle.pcef_rule.specs.declared.quantity.Qos.{Qos}
 use Rattle.pcef_journal.specs.Setting.{Setting, same_flag, same_qos}
 use Rattle.pcef_journal.specs.ActiveRules.{Active}
-use Rattle.pcef_journal.specs.declared.command.Command.{Command}
-use Rattle.pcef_journal.specs.Generations.{Generation, default_id, id_after, kept_ids, least_free, next, rules_after, still_on, switched}
+use Rattle.pcef_journal.specs.Generations.{Generation, default_id, id_after, kept_ids, least_free}
 use Rattle.pcef_replay.specs.declared.bearers.Bearers.{Bearers}
 use Rattle.pcef_replay.specs.declared.bearers.Binding.{Binding}
-use Rattle.pcef_replay.specs.declared.replayed.Replayed.{Replayed}
-use Rattle.pcef_replay.specs.Replays.{generation_of}
-use Rattle.pcef_replay.specs.Rules.{rules_in}
 use Rattle.pcef_replay.specs.Bindings.{bindings, bound_id, id_by}
 
 same_flag_is : (a b : Bool) → same_flag a b ≡ true → a ≡ b

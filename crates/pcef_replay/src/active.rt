@@ -11,7 +11,7 @@ use std::alloc::{AllocError, Global};
 
 /// An active rule, which stands in a command or in the catalog.
 #[derive(Clone, Copy)]
-pub enum ActiveRule<'a> {
+pub(crate) enum ActiveRule<'a> {
     /// The policy function defined it.
     Dynamic(&'a Rule),
     /// It stands in the catalog.
@@ -20,7 +20,7 @@ pub enum ActiveRule<'a> {
 
 impl<'a> ActiveRule<'a> {
     /// The properties.
-    pub fn properties(self) -> &'a Properties
+    pub(crate) fn properties(self) -> &'a Properties
         ensures { result.now ≡ (active_of self.entry).properties }
     {
         match self {

@@ -14,7 +14,7 @@ use std::alloc::{AllocError, Global};
 
 /// A pair of QCI and ARP, and the id of its bearer.
 #[derive(Clone, Copy)]
-pub struct Binding {
+pub(crate) struct Binding {
     /// The pair.
     pub qos: Qos,
     /// The id.
@@ -23,7 +23,7 @@ pub struct Binding {
 
 /// The ids of all pairs but the default one.
 #[derive(Drop)]
-pub struct Bearers {
+pub(crate) struct Bearers {
     /// The ids of some pairs.
     pub bindings: Vec<Binding>,
     /// The id of each other pair.
@@ -43,7 +43,7 @@ fn bound_id(bindings: &[Binding], other: u8, qos: &Qos) -> u8
 
 impl Bearers {
     /// The id of the bearer of a pair.
-    pub fn id_of(&self, setting: &Setting, qos: &Qos) -> u8
+    pub(crate) fn id_of(&self, setting: &Setting, qos: &Qos) -> u8
         ensures { result ≡ id_by setting.now self.now qos.now }
     {
         if is_same_qos(qos, setting.default_qos()) {

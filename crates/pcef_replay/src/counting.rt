@@ -53,7 +53,7 @@ fn added_by(
 
 /// The octets that count for a key.
 #[tactic(auto, using(crate::proofs::Newest::newest), unfolding(pcef_journal::specs::Journals::octets_of))]
-pub fn counted(
+pub(crate) fn counted(
     alloc: Global,
     setting: &Setting,
     entries: &[Entry],

@@ -65,7 +65,11 @@ fn is_decisive(rules: &[ActiveRule<'_>], ue: Addr, header: &Header, rule: Active
 }
 
 /// The one rule that decides on a packet.
-pub fn decisive<'a>(rules: &[ActiveRule<'a>], ue: Addr, header: &Header) -> Option<ActiveRule<'a>>
+pub(crate) fn decisive<'a>(
+    rules: &[ActiveRule<'a>],
+    ue: Addr,
+    header: &Header,
+) -> Option<ActiveRule<'a>>
     ensures { option_map active_of result ≡ decisive (rules_in rules.now) ue header.now }
 {
     for rule in rules {

@@ -18,7 +18,7 @@ use pcef_rule::KeyName;
 use std::alloc::{AllocError, Global};
 
 /// The octets of a key that no report has told.
-pub fn unreported(
+pub(crate) fn unreported(
     alloc: Global,
     setting: &Setting,
     entries: &[Entry],
@@ -94,7 +94,7 @@ pub(crate) fn tell_usage(
 
 /// What is reported at the end of an event of the grants that are reached.
 #[tactic(auto, unfolding(pcef_journal::specs::Reports::thresholds))]
-pub fn thresholds(
+pub(crate) fn thresholds(
     alloc: Global,
     setting: &Setting,
     entries: &[Entry],

@@ -100,7 +100,7 @@ fn add_slots(setting: &Setting, entry: &Entry, keys: &mut Vec<KeyName>) -> Resul
 
 /// The keys that have a slot, in slot order.
 #[tactic(auto, using(crate::proofs::Newest::newest), unfolding(pcef_journal::specs::Generations::slots_of))]
-pub fn slots(
+pub(crate) fn slots(
     alloc: Global,
     setting: &Setting,
     entries: &[Entry],

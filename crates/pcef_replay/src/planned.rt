@@ -225,7 +225,7 @@ fn told_of_rules(
 }
 
 /// What a command reports by itself, in its order.
-pub fn plan(
+pub(crate) fn plan(
     alloc: Global,
     setting: &Setting,
     entries: &[Entry],

@@ -22,7 +22,7 @@ use std::alloc::{AllocError, Global};
 
 /// A generation: its active rules, the ids of bearers, and the keys that are on.
 #[derive(Drop)]
-pub struct Replayed<'a> {
+pub(crate) struct Replayed<'a> {
     /// The active rules.
     pub rules: Vec<ActiveRule<'a>>,
     /// The ids of bearers.
@@ -244,7 +244,7 @@ fn after<'a>(
 
 /// The newest generation.
 #[tactic(auto, using(crate::proofs::Newest::newest), unfolding(pcef_journal::specs::Generations::made_by))]
-pub fn replay<'a>(
+pub(crate) fn replay<'a>(
     alloc: Global,
     setting: &'a Setting,
     entries: &'a [Entry],
@@ -288,7 +288,7 @@ fn after_to<'a>(
 
 /// The generation of a number, or the newest one where there are fewer.
 #[tactic(auto, using(crate::proofs::Newest::newest), unfolding(pcef_journal::specs::Generations::made_by, pcef_journal::specs::Generations::oldest))]
-pub fn replay_to<'a>(
+pub(crate) fn replay_to<'a>(
     alloc: Global,
     setting: &'a Setting,
     entries: &'a [Entry],

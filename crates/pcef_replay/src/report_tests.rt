@@ -1,6 +1,12 @@
 //! What events report, worked out by hand from TS 29.212 and from the order of reports.
-use super::*;
+
+use crate::grants::{thresholds, unreported};
+use crate::planned::plan;
+use crate::replayed::replay;
+use crate::reports::{after_command, after_flush};
+use crate::setting::Setting;
 use crate::tests::{DNS_ANSWER, qos_nine, row, setting_of, web};
+use crate::usage::{generation, grant};
 use pcef_filter::read_filter;
 use pcef_journal::{
     AccessKind, Body, Cause, Command, Entry, NoticeValue, Report, Row, Telling, TriggerSet,

@@ -17,7 +17,7 @@ use std::alloc::{AllocError, Global};
 
 /// Why a journal isn't carried on.
 #[derive(Clone, Copy, Debug, PartialEq, Eq)]
-pub enum ReplayFault {
+pub(crate) enum ReplayFault {
     /// There was no memory.
     NoMemory,
     /// More octets are unreported than a report can tell.
@@ -142,7 +142,7 @@ fn settle(alloc: Global, setting: &Setting, entries: &mut Vec<Entry>) -> Result<
 
 /// Adds an accepted command and its reports. Where it fails, the entries may hold a part of them.
 #[tactic(auto, unfolding(pcef_journal::specs::Reports::after_command))]
-pub fn after_command(
+pub(crate) fn after_command(
     alloc: Global,
     setting: &Setting,
     entries: &mut Vec<Entry>,
@@ -169,7 +169,7 @@ fn add_rows(entries: &mut Vec<Entry>, rows: &[Row]) -> Result<(), AllocError>
 /// Adds the rows of an accepted flush, the oldest first, and their reports. Where it fails, the entries may
 /// hold a part of them.
 #[tactic(auto, using(crate::proofs::Flushed::of_some, crate::proofs::Flushed::of_none))]
-pub fn after_flush(
+pub(crate) fn after_flush(
     alloc: Global,
     setting: &Setting,
     entries: &mut Vec<Entry>,

@@ -11,7 +11,7 @@ use std::marker::Model;
 
 /// What is fixed for a session: its profile, its catalog, and the limits of the gateway.
 #[derive(Drop)]
-pub struct Setting {
+pub(crate) struct Setting {
     /// The address of the user equipment.
     pub ue: Addr,
     /// QCI and ARP of the default bearer.
@@ -78,28 +78,28 @@ fn offer_among<'a>(offers: &'a [Offer], name: &RuleName) -> Option<&'a Offer>
 
 impl Setting {
     /// The address of the user equipment.
-    pub fn ue(&self) -> Addr
+    pub(crate) fn ue(&self) -> Addr
         ensures { result ≡ self.now.ue }
     {
         self.ue
     }
 
     /// QCI and ARP of the default bearer.
-    pub fn default_qos(&self) -> &Qos
+    pub(crate) fn default_qos(&self) -> &Qos
         ensures { result.now ≡ self.now.default_qos }
     {
         &self.default_qos
     }
 
     /// The ids of bearers beside the default one.
-    pub fn other_ids(&self) -> &[u8]
+    pub(crate) fn other_ids(&self) -> &[u8]
         ensures { result.now ≡ self.now.other_ids }
     {
         &self.other_ids
     }
 
     /// The predefined rule of a name.
-    pub fn offer_named(&self, name: &RuleName) -> Option<&Offer>
+    pub(crate) fn offer_named(&self, name: &RuleName) -> Option<&Offer>
         ensures { option_copied result ≡ offer_named self.now name.now }
     {
         offer_among(&self.catalog, name)

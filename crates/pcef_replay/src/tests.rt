@@ -1,5 +1,13 @@
 //! A short journal, and what it says, worked out by hand from TS 29.212 and TS 23.203.
-use super::*;
+
+use crate::counting::counted;
+use crate::fitting::decisive;
+use crate::keys::slots;
+use crate::replayed::{replay, replay_to};
+use crate::setting::Setting;
+use crate::usage::{generation, grant, reported};
+use crate::verdicts::{counts_in, judged};
+use crate::workers::{attach_count, is_attached, lane_len, report_count, subscribed};
 use arrayvec::ArrayVec;
 use pcef_filter::read_filter;
 use pcef_journal::{Body, Cause, Command, Entry, Report, Row, TriggerSet};

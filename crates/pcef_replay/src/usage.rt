@@ -45,7 +45,7 @@ fn told_by(entry: &Entry, key: &KeyName) -> u64
 
 /// The octets that usage reports told of a key.
 #[tactic(auto, using(crate::proofs::Newest::newest), unfolding(pcef_journal::specs::Journals::reported))]
-pub fn reported(entries: &[Entry], key: &KeyName) -> u128
+pub(crate) fn reported(entries: &[Entry], key: &KeyName) -> u128
     ensures { result ≡ reported (reverse entries.now) key.now }
 {
     let mut total = 0u128;
@@ -129,7 +129,7 @@ fn grant_after(before: Option<u64>, entry: &Entry, key: &KeyName) -> Option<u64>
 
 /// The amount of the last Monitor of a key, unless a report has taken it since.
 #[tactic(auto, using(crate::proofs::Newest::newest), unfolding(pcef_journal::specs::Journals::grant))]
-pub fn grant(entries: &[Entry], key: &KeyName) -> Option<u64>
+pub(crate) fn grant(entries: &[Entry], key: &KeyName) -> Option<u64>
     ensures { result ≡ grant (reverse entries.now) key.now }
 {
     let mut amount = None;
@@ -173,7 +173,7 @@ pub(crate) fn makes_generation(entry: &Entry) -> bool
 
 /// The number of the newest generation.
 #[tactic(auto, using(crate::proofs::Newest::newest))]
-pub fn generation(entries: &[Entry]) -> usize
+pub(crate) fn generation(entries: &[Entry]) -> usize
     ensures { result ≡ gen (reverse entries.now) }
 {
     let mut count = 0usize;

@@ -18,7 +18,7 @@ use pcef_table::Verdict;
 
 /// How a packet is decided, and by which rule.
 #[derive(Clone, Copy)]
-pub enum Decided<'a> {
+pub(crate) enum Decided<'a> {
     /// The packet isn't the session's.
     Stray,
     /// No active rule fits.
@@ -51,7 +51,11 @@ fn is_own(header: &Header, ue: Addr) -> bool
 }
 
 /// How a generation decides a packet, and by which rule.
-pub fn decision<'a>(setting: &Setting, generation: &Replayed<'a>, header: &Header) -> Decided<'a>
+pub(crate) fn decision<'a>(
+    setting: &Setting,
+    generation: &Replayed<'a>,
+    header: &Header,
+) -> Decided<'a>
     ensures { decision_of result ≡ decision setting.now (generation_of setting.now generation.now) header.now }
 {
     if !is_own(header, setting.ue()) {
@@ -81,7 +85,7 @@ fn verdict_of(setting: &Setting, generation: &Replayed<'_>, decided: Decided<'_>
 }
 
 /// The verdict on a packet in a generation.
-pub fn judged(setting: &Setting, generation: &Replayed<'_>, header: &Header) -> Verdict
+pub(crate) fn judged(setting: &Setting, generation: &Replayed<'_>, header: &Header) -> Verdict
     ensures { result ≡ judged setting.now (generation_of setting.now generation.now) header.now }
 {
     verdict_of(setting, generation, decision(setting, generation, header))
@@ -99,7 +103,7 @@ fn passed_for(key: &KeyName, decided: Decided<'_>) -> bool
 }
 
 /// Whether a packet counts for a key in a generation.
-pub fn counts_in(
+pub(crate) fn counts_in(
     setting: &Setting,
     generation: &Replayed<'_>,
     key: &KeyName,

@@ -24,7 +24,7 @@ fn attaches(entry: &Entry) -> bool
 
 /// How many workers were ever attached.
 #[tactic(auto, using(crate::proofs::Newest::newest), unfolding(pcef_journal::specs::Journals::attach_count))]
-pub fn attach_count(entries: &[Entry]) -> usize
+pub(crate) fn attach_count(entries: &[Entry]) -> usize
     ensures { result ≡ attach_count (reverse entries.now) }
 {
     let mut count = 0usize;
@@ -52,7 +52,7 @@ fn is_attached_after(before: bool, entry: &Entry, worker: u8) -> bool
 
 /// Whether a worker is attached.
 #[tactic(auto, using(crate::proofs::Newest::newest), unfolding(pcef_journal::specs::Journals::attached))]
-pub fn is_attached(entries: &[Entry], worker: u8) -> bool
+pub(crate) fn is_attached(entries: &[Entry], worker: u8) -> bool
     ensures { result ≡ is_among worker (attached (reverse entries.now)) }
 {
     let mut attached = false;
@@ -76,7 +76,7 @@ fn is_row_of(entry: &Entry, worker: u8) -> bool
 
 /// How many rows of a worker there are.
 #[tactic(auto, using(crate::proofs::Newest::newest))]
-pub fn lane_len(entries: &[Entry], worker: u8) -> usize
+pub(crate) fn lane_len(entries: &[Entry], worker: u8) -> usize
     ensures { result ≡ lane_len (reverse entries.now) worker }
 {
     let mut count = 0usize;
@@ -102,7 +102,7 @@ fn is_report(entry: &Entry) -> bool
 
 /// How many reports were made.
 #[tactic(auto, using(crate::proofs::Newest::newest))]
-pub fn report_count(entries: &[Entry]) -> usize
+pub(crate) fn report_count(entries: &[Entry]) -> usize
     ensures { result ≡ report_count (reverse entries.now) }
 {
     let mut count = 0usize;
@@ -150,7 +150,7 @@ fn subscribed_after(before: TriggerSet, entry: &Entry) -> TriggerSet
 
 /// The set of the last Triggers.
 #[tactic(auto, using(crate::proofs::Newest::newest), unfolding(pcef_journal::specs::Journals::subscribed))]
-pub fn subscribed(entries: &[Entry]) -> TriggerSet
+pub(crate) fn subscribed(entries: &[Entry]) -> TriggerSet
     ensures { result ≡ subscribed (reverse entries.now) }
 {
     let mut set = TriggerSet {

@@ -10,14 +10,3 @@ mod writing;
 
 pub use fault::ScriptFault;
 pub use run::run_script;
-
-#[cfg(test)]
-mod declared_tests;
-#[cfg(test)]
-mod end_tests;
-#[cfg(test)]
-mod memory_tests;
-#[cfg(test)]
-mod session_tests;
-#[cfg(test)]
-mod tests;

@@ -9,6 +9,7 @@ use super::{
     dns_properties, dns_shape, expedited_properties, expedited_shape, is_dns, is_expedited,
     is_remaining, remaining_properties, remaining_shape,
 };
+use crate::tests::PROFILE;
 use pcef_catalog::{Catalog, Detect, Offers, Predefined};
 use pcef_packet::{Addr, Dir, Header, Ports};
 use pcef_profile::read_profile;
@@ -16,9 +17,6 @@ use pcef_script::run_script;
 use std::alloc::Global;
 use std::sync::Arc;
 use std::test::Fail;
-
-const PROFILE: &str =
-    "ue = \"10.0.0.2\"\nrows = 1000\ncommands = 1000\n\n[default]\nqci = 9\nlevel = 8\ncapability = false\nvulnerability = true\n\n[capacity]\nup = 1000000\ndown = 2000000\n";
 
 const PROFILE_OF_TWO_COMMANDS: &str =
     "ue = \"10.0.0.2\"\nrows = 1\ncommands = 2\n\n[default]\nqci = 9\nlevel = 8\ncapability = false\nvulnerability = true\n\n[capacity]\nup = 1000000\ndown = 2000000\n";

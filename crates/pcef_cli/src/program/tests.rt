@@ -1,12 +1,10 @@
 //! Exit statuses, and what is said of faults.
 use super::program;
+use crate::tests::PROFILE;
 use pcef_catalog::Catalog;
 use std::alloc::Global;
 use std::sync::Arc;
 use std::test::Fail;
-
-const PROFILE: &str =
-    "ue = \"10.0.0.2\"\nrows = 1000\ncommands = 1000\n\n[default]\nqci = 9\nlevel = 8\ncapability = false\nvulnerability = true\n\n[capacity]\nup = 1000000\ndown = 2000000\n";
 
 /// The exit status of the program on these words, profile and input, and what it wrote of answers and
 /// faults.

@@ -1,8 +1,8 @@
 //! Scripts of sessions whose profile declares QCIs, with answers worked out by hand.
 
-use super::run_script;
 use pcef_catalog::Catalog;
 use pcef_profile::read_profile;
+use pcef_script::run_script;
 use std::sync::Arc;
 use std::test::Fail;
 

@@ -1,6 +1,6 @@
 //! Profiles that declare QCIs, whose readings were worked out by hand.
 
-use super::*;
+use pcef_profile::{ReadProfileFault, read_profile};
 use pcef_rule::{Kind, Qci};
 use std::alloc::Global;
 use std::test::Fail;

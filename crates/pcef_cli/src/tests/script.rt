@@ -1,16 +1,12 @@
 //! Scripts and their answers, worked out by hand.
-use super::writing::put_all;
-use super::{ScriptFault, run_script};
+
+use super::PROFILE;
 use pcef_catalog::Catalog;
 use pcef_profile::read_profile;
+use pcef_script::run_script;
 use std::alloc::Global;
-use std::io;
-use std::io::Write;
 use std::sync::Arc;
 use std::test::Fail;
-
-const PROFILE: &str =
-    "ue = \"10.0.0.2\"\nrows = 1000\ncommands = 1000\n\n[default]\nqci = 9\nlevel = 8\ncapability = false\nvulnerability = true\n\n[capacity]\nup = 1000000\ndown = 2000000\n";
 
 /// The rule of the examples.
 const INSTALL: &str =
@@ -216,48 +212,5 @@ fn a_line_has_262_144_bytes_at_most(rt: HostRuntime) -> Result<(), Fail> {
         "{\"fault\":1,\"name\":\"LineTooLong\"}\n{\"active\":[],\"bearers\":[{\"down\":0,\"id\":5,\"rules\":0,\"up\":0}],\"generation\":0,\"keys\":[]}\n"
     );
     assert_eq!(rt; faults, 1);
-    Ok(())
-}
-
-/// Takes a byte at a time while there is room, and then is interrupted, or takes none.
-#[derive(Drop)]
-struct Failing {
-    taken: usize,
-    room: usize,
-    is_interrupted: bool,
-}
-
-impl Write for Failing {
-    fn write(&mut self, bytes: &[u8]) -> io::Result<usize> {
-        if self.taken < self.room && !bytes.is_empty() {
-            self.taken += 1;
-            Ok(1)
-        } else if self.is_interrupted {
-            Err(io::Error::from(io::ErrorKind::Interrupted))
-        } else {
-            Ok(0)
-        }
-    }
-
-    fn flush(&mut self) -> io::Result<()> {
-        Ok(())
-    }
-}
-
-#[test]
-fn a_writer_that_fails_ends_it(rt: HostRuntime) -> Result<(), Fail> {
-    for (room, is_interrupted, expected) in [
-        (4, true, Err(ScriptFault::Write)),
-        (4, false, Err(ScriptFault::Write)),
-        (6, true, Ok(())),
-    ] {
-        let mut writer = Failing {
-            taken: 0,
-            room,
-            is_interrupted,
-        };
-        assert_eq!(rt; put_all(&mut writer, b"answer"), expected);
-        assert_eq!(rt; writer.taken, room);
-    }
     Ok(())
 }

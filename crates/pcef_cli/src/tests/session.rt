@@ -1,14 +1,12 @@
 //! Scripts of commands, bearers and generations, with answers worked out by hand.
 
-use super::run_script;
+use super::PROFILE;
 use pcef_catalog::Catalog;
 use pcef_profile::read_profile;
+use pcef_script::run_script;
 use std::alloc::Global;
 use std::sync::Arc;
 use std::test::Fail;
-
-const PROFILE: &str =
-    "ue = \"10.0.0.2\"\nrows = 1000\ncommands = 1000\n\n[default]\nqci = 9\nlevel = 8\ncapability = false\nvulnerability = true\n\n[capacity]\nup = 1000000\ndown = 2000000\n";
 
 const PROFILE_OF_ONE_ROW: &str =
     "ue = \"10.0.0.2\"\nrows = 1\ncommands = 2\n\n[default]\nqci = 9\nlevel = 8\ncapability = false\nvulnerability = true\n\n[capacity]\nup = 1000000\ndown = 2000000\n";

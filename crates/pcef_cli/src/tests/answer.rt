@@ -1,6 +1,8 @@
 //! Answers that were written by hand.
 
-use super::*;
+use pcef_answer::{
+    attached_answer, command_answer, fault_text, flushed_answer, refreshed_answer, taken_answer,
+};
 use pcef_filter::FilterFault;
 use pcef_journal::{AccessKind, Body, Cause, Entry, InactiveCause, Journal, NoticeValue, Report};
 use pcef_line::{Field, LineFault};

@@ -1,7 +1,7 @@
 //! Lines whose readings were worked out by hand.
 
-use super::*;
 use pcef_filter::FilterFault;
+use pcef_line::{Field, Line, LineFault, read_line};
 use pcef_packet::{Addr, Dir, Header, PacketFault, Ports};
 use pcef_rule::RuleFault;
 use std::alloc::Global;

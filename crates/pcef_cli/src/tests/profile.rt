@@ -1,12 +1,9 @@
 //! Profiles whose readings were worked out by hand.
 
-use super::*;
+use super::PROFILE;
 use pcef_packet::Addr;
+use pcef_profile::{ReadProfileFault, read_profile};
 use std::alloc::Global;
-
-/// A profile without fault.
-const COMMON: &str =
-    "ue = \"10.0.0.2\"\nrows = 1000\ncommands = 1000\n\n[default]\nqci = 9\nlevel = 8\ncapability = false\nvulnerability = true\n\n[capacity]\nup = 1000000\ndown = 2000000\n";
 
 fn fault_of(alloc: Global, text: &str) -> Option<ReadProfileFault> {
     match read_profile(alloc, text) {
@@ -17,7 +14,7 @@ fn fault_of(alloc: Global, text: &str) -> Option<ReadProfileFault> {
 
 #[test]
 fn a_profile_has_its_values(rt: HostRuntime) {
-    let Ok(profile) = read_profile(rt.alloc(), COMMON) else {
+    let Ok(profile) = read_profile(rt.alloc(), PROFILE) else {
         panic!(rt; "no profile");
     };
     assert_eq!(rt; profile.ue, Addr::V4(0x0a00_0002));
@@ -38,10 +35,10 @@ fn a_profile_has_its_values(rt: HostRuntime) {
 fn a_profile_that_is_cut_lacks_a_key(rt: HostRuntime) {
     assert_eq!(rt; fault_of(rt.alloc(), ""), Some(ReadProfileFault::Missing));
     let mut lines = 0;
-    for (at, byte) in COMMON.as_bytes().iter().enumerate() {
+    for (at, byte) in PROFILE.as_bytes().iter().enumerate() {
         if *byte == b'\n' && lines < 12 {
             lines += 1;
-            let Some(text) = COMMON.get(..at) else {
+            let Some(text) = PROFILE.get(..at) else {
                 panic!(rt; "no front");
             };
             assert_eq!(rt;

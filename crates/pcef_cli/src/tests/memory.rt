@@ -3,6 +3,7 @@
 //! With memory for everything each command is done at once. `rt try --test --fail-alloc N` lets the Nth
 //! allocation fail.
 
+use super::PROFILE;
 use pcef_catalog::Listing;
 use pcef_journal::Command;
 use pcef_line::{Line, read_line};
@@ -11,9 +12,6 @@ use pcef_session::{Accepted, AttachFault, Refusal};
 use pcef_world::WorldState;
 use std::alloc::{AllocError, Global};
 use std::test::Fail;
-
-const PROFILE: &str =
-    "ue = \"10.0.0.2\"\nrows = 1000\ncommands = 1000\n\n[default]\nqci = 9\nlevel = 8\ncapability = false\nvulnerability = true\n\n[capacity]\nup = 1000000\ndown = 2000000\n";
 
 /// Two rules of one key, of which one is modified and both are removed, and the key switched on.
 const LINES: [&str; 6] = [

@@ -1,16 +1,14 @@
 //! Scripts whose reader or writer fails, after each byte in turn.
 
-use super::{ScriptFault, run_script};
+use super::PROFILE;
 use pcef_catalog::Catalog;
 use pcef_profile::read_profile;
+use pcef_script::{ScriptFault, run_script};
 use std::alloc::Global;
 use std::io;
 use std::io::{Read, Write};
 use std::sync::Arc;
 use std::test::Fail;
-
-const PROFILE: &str =
-    "ue = \"10.0.0.2\"\nrows = 1000\ncommands = 1000\n\n[default]\nqci = 9\nlevel = 8\ncapability = false\nvulnerability = true\n\n[capacity]\nup = 1000000\ndown = 2000000\n";
 
 /// The lines of a script, each with its answer.
 const LINES: [(&str, &str); 4] = [
