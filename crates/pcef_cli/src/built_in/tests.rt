@@ -9,11 +9,9 @@ use super::{
     dns_properties, dns_shape, expedited_properties, expedited_shape, is_dns, is_expedited,
     is_remaining, remaining_properties, remaining_shape,
 };
-use crate::tests::PROFILE;
+use crate::tests::{PROFILE, run_on, script_of};
 use pcef_catalog::{Catalog, Detect, Offers, Predefined};
 use pcef_packet::{Addr, Dir, Header, Ports};
-use pcef_profile::read_profile;
-use pcef_script::run_script;
 use std::alloc::Global;
 use std::sync::Arc;
 use std::test::Fail;
@@ -52,30 +50,6 @@ fn said(catalog: &Catalog, header: &Header) -> [bool; 3] {
     ]
 }
 
-/// What a script on a catalog answers to these lines.
-fn answered(
-    alloc: Global,
-    catalog: Arc<Catalog>,
-    profile: &str,
-    lines: &[&str],
-) -> Result<String, Fail> {
-    let mut script = String::new(alloc);
-    for line in lines {
-        script.push_str(*line)?;
-        script.push('\n')?;
-    }
-    let profile = read_profile(alloc, profile)?;
-    let mut written = Vec::new(alloc);
-    let _faults = run_script(
-        alloc,
-        &mut script.as_bytes(),
-        &mut written,
-        profile,
-        catalog,
-    )?;
-    Ok(String::from_utf8(written)?)
-}
-
 /// What the built-in closures say of a header, in the order of the catalog, and what a script on their catalog
 /// answers to these lines.
 fn run(
@@ -108,10 +82,9 @@ fn run(
     rules.push(Predefined::new(remaining_properties(), remaining_shape(), remaining))?;
     let catalog = Catalog::new(alloc, rules)?;
     let said = said(&catalog, header);
-    Ok((
-        said,
-        answered(alloc, Arc::new(alloc, catalog)?, profile, lines)?,
-    ))
+    let script = script_of(alloc, lines)?;
+    let (text, _) = run_on(alloc, Arc::new(alloc, catalog)?, profile, script.as_str())?;
+    Ok((said, text))
 }
 
 #[test]

@@ -1,9 +1,6 @@
 //! Scripts of sessions whose profile declares QCIs, with answers worked out by hand.
 
-use pcef_catalog::Catalog;
-use pcef_profile::read_profile;
-use pcef_script::run_script;
-use std::sync::Arc;
+use super::run;
 use std::test::Fail;
 
 const PROFILE: &str =
@@ -15,19 +12,10 @@ const SCRIPT: &str =
 
 #[test]
 fn a_declared_qci_is_known(rt: HostRuntime) -> Result<(), Fail> {
-    let alloc = rt.alloc();
-    let catalog = Arc::new(alloc, Catalog::new(alloc, Vec::new(alloc))?)?;
-    let mut written = Vec::new(alloc);
-    let faults = run_script(
-        alloc,
-        &mut SCRIPT.as_bytes(),
-        &mut written,
-        read_profile(alloc, PROFILE)?,
-        catalog,
-    )?;
+    let (text, faults) = run(rt.alloc(), PROFILE, SCRIPT)?;
     assert_eq!(rt; faults, 0);
     assert_eq!(rt;
-        String::from_utf8(written)?.as_str(),
+        text.as_str(),
         "{\"bearer\":6,\"generation\":1,\"ok\":true,\"reports\":[]}\n{\"name\":\"UnknownQci\",\"refused\":13}\n"
     );
     Ok(())

@@ -1,11 +1,7 @@
 //! Scripts and their answers, worked out by hand.
 
 use super::PROFILE;
-use pcef_catalog::Catalog;
-use pcef_profile::read_profile;
-use pcef_script::run_script;
 use std::alloc::Global;
-use std::sync::Arc;
 use std::test::Fail;
 
 /// The rule of the examples.
@@ -43,16 +39,7 @@ fn run(alloc: Global, lines: &[&str]) -> Result<(String, u64), Fail> {
     for line in lines {
         script.push_str(*line)?;
     }
-    let catalog = Arc::new(alloc, Catalog::new(alloc, Vec::new(alloc))?)?;
-    let mut written = Vec::new(alloc);
-    let faults = run_script(
-        alloc,
-        &mut script.as_bytes(),
-        &mut written,
-        read_profile(alloc, PROFILE)?,
-        catalog,
-    )?;
-    Ok((String::from_utf8(written)?, faults))
+    super::run(alloc, PROFILE, script.as_str())
 }
 
 #[test]

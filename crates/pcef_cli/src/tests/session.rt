@@ -1,11 +1,7 @@
 //! Scripts of commands, bearers and generations, with answers worked out by hand.
 
-use super::PROFILE;
-use pcef_catalog::Catalog;
-use pcef_profile::read_profile;
-use pcef_script::run_script;
+use super::{PROFILE, run, script_of};
 use std::alloc::Global;
-use std::sync::Arc;
 use std::test::Fail;
 
 const PROFILE_OF_ONE_ROW: &str =
@@ -78,21 +74,9 @@ fn pair_with_rates(alloc: Global, qci: u8, up: u32, down: u32) -> Result<String,
 
 /// What a script answers to these lines.
 fn answers(alloc: Global, profile: &str, lines: &[&str]) -> Result<String, Fail> {
-    let mut script = String::new(alloc);
-    for line in lines {
-        script.push_str(*line)?;
-        script.push('\n')?;
-    }
-    let catalog = Arc::new(alloc, Catalog::new(alloc, Vec::new(alloc))?)?;
-    let mut written = Vec::new(alloc);
-    let _faults = run_script(
-        alloc,
-        &mut script.as_bytes(),
-        &mut written,
-        read_profile(alloc, profile)?,
-        catalog,
-    )?;
-    Ok(String::from_utf8(written)?)
+    let script = script_of(alloc, lines)?;
+    let (text, _) = run(alloc, profile, script.as_str())?;
+    Ok(text)
 }
 
 #[test]
