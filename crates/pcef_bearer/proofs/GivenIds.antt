@@ -1,17 +1,18 @@
 -- The id that a binding gives.
-use Rattle.std.proofs.Common.{◌≡◌, ◌∙◌, ◌≤◌, ◌<◌, ℕ, zero, suc, ◌==◌, Bool, true, false, ◌||◌, not, List, [], ◌∷◌, find, Option, Some, None, refl, sym, ap, subst, arith, inl, inr, length, get_or, filter, rules}
-use Rattle.std.specs.Prelude.{All, AllPairs, is_none}
+use Rattle.std.proofs.Common.{◌≡◌, ◌∙◌, ◌≤◌, ◌<◌, ℕ, zero, suc, ◌==◌, Bool, true, false, not, List, [], ◌∷◌, find, Option, Some, None, refl, sym, ap, subst, arith, inl, inr, length, get_or, rules}
+use Rattle.std.specs.Prelude.{All, AllPairs}
 use Rattle.std.specs.List.{list_any}
 use Rattle.std.proofs.lemmas.Bool.{cases_Bool, cases_order, false_from_ne_true, ne_eqb, or_from}
 use Rattle.std.proofs.lemmas.Bool.Decides.{Decides-eqb}
-use Rattle.std.proofs.lemmas.List.Elements.{All-cons, All-filter, All-head, All-nil, All-tail, All-weaker, All-from_recursion}
+use Rattle.std.proofs.lemmas.List.Elements.{All-filter, All-head, All-tail, All-weaker, All-from_recursion}
 use Rattle.std.proofs.lemmas.List.Folds.{list_any_none}
 use Rattle.pcef_rule.specs.declared.quantity.Qos.{Qos}
+use Rattle.pcef_table.proofs.Foremost.{none_passes}
 use Rattle.pcef_journal.specs.Setting.{same_qos}
+use Rattle.pcef_journal.proofs.Sameness.{contrary, same_qos_is, same_qos_of, same_qos_self, same_qos_sym}
 use Rattle.pcef_bearer.specs.declared.bearers.Bound.{Bound}
 use Rattle.pcef_bearer.specs.Bindings.{Agree, HasItsId, default_id, finds_no_bearer, has_bearer, id_beside, id_or_new, is_named, least_free, other_ids, without}
 use Rattle.pcef_bearer.proofs.Names.{any_at}
-use Rattle.pcef_bearer.proofs.Pairs.{contrary, same_qos_is, same_qos_of, same_qos_self, same_qos_sym}
 
 -- ---- what is found
 found_passes : {X : Type 0} (t : X → Bool) (xs : List X) (x : X) → find t xs ≡ Some x → t x ≡ true
@@ -34,16 +35,6 @@ found_is P t (y ∷ xs) x all found =
           let same : y ≡ x = cc in
           subst P same (All-head P y xs all)
       | inr isnt ↦ found_is P t xs x (All-tail P y xs all) (rw isnt at found)
-    ]
-
-none_passes : {X : Type 0} (t : X → Bool) (xs : List X) → find t xs ≡ None → All (λ x. t x ≡ false) xs
-none_passes t [] none = All-nil (λ x. t x ≡ false)
-none_passes t (y ∷ xs) none =
-    elim (cases_Bool (t y)) [
-      | inl is ↦
-          let bad : Some y ≡ None = rw is at none in
-          absurd (cc)
-      | inr isnt ↦ All-cons (λ x. t x ≡ false) y xs isnt (none_passes t xs (rw isnt at none))
     ]
 
 -- ---- rules agree with one another

@@ -1,27 +1,14 @@
 -- Names, and what a put and a drop leave of them and of other facts.
-use Rattle.std.proofs.Common.{◌≡◌, ◌∙◌, ◌≤◌, ◌<◌, ◌+◌, ℕ, zero, suc, Bool, true, false, ◌||◌, not, List, [], ◌∷◌, refl, sym, ap, subst, arith, inl, inr, length, get_or, filter}
+use Rattle.std.proofs.Common.{◌≡◌, ◌+◌, ℕ, zero, suc, Bool, true, false, ◌||◌, List, [], ◌∷◌, refl, sym, ap, subst, arith, inl, inr, length, get_or}
 use Rattle.std.specs.Prelude.{◌⊎◌, All, AllPairs}
 use Rattle.std.specs.List.{list_any}
 use Rattle.std.proofs.lemmas.Bool.{cases_Bool, or_cases, or_left, or_right, or_parts, false_from_ne_true}
-use Rattle.std.proofs.lemmas.Slice.Eq.{bytes_eq-Decides}
 use Rattle.std.proofs.lemmas.List.Elements.{All-cons, All-head, All-nil, All-tail}
 use Rattle.std.proofs.lemmas.List.Folds.{list_any_at, list_any_none}
 use Rattle.std.proofs.lemmas.List.Kept.{AllPairs-cons}
-use Rattle.pcef_journal.specs.Setting.{same_name}
+use Rattle.pcef_journal.proofs.Sameness.{contrary, same_name_is, same_name_not, same_name_of}
 use Rattle.pcef_bearer.specs.declared.bearers.Bound.{Bound}
 use Rattle.pcef_bearer.specs.Bindings.{DifferInName, is_named, put, rate_down, rate_up, total_down, total_up, without}
-use Rattle.pcef_bearer.proofs.Pairs.{contrary}
-
--- ---- names
-pub same_name_is : (a b : List ℕ) → same_name a b ≡ true → a ≡ b
-same_name_is a b same = (bytes_eq-Decides a b).0 same
-
-pub same_name_of : (a b : List ℕ) → a ≡ b → same_name a b ≡ true
-same_name_of a b is = (bytes_eq-Decides a b).1 is
-
-differ_sym : (a b : List ℕ) → same_name a b ≡ false → same_name b a ≡ false
-differ_sym a b isnt =
-    false_from_ne_true (same_name b a) (λ is. contrary (same_name a b) (same_name_of a b (sym (same_name_is b a is))) isnt)
 
 -- a test that none passes
 pub any_at : (t : Bound → Bool) (bound : List Bound) → list_any t bound ≡ false → All (λ b. t b ≡ false) bound
@@ -38,7 +25,7 @@ unfolding NamesOnce
 once_from_pairs [] all = tt
 once_from_pairs (b ∷ bound) all = (
   list_any_none (is_named b.name) bound
-      (λ k d within. differ_sym b.name (get_or bound k d).name (all zero (suc k) d (omega arith) (omega (arith, within)))),
+      (λ k d within. same_name_not b.name (get_or bound k d).name (all zero (suc k) d (omega arith) (omega (arith, within)))),
   once_from_pairs bound (λ i j d below within. all (suc i) (suc j) d (omega (arith, below)) (omega (arith, within))),
 )
 
@@ -47,7 +34,7 @@ unfolding NamesOnce
 pairs_from_once [] once = λ i j d below within. absurd (omega (arith, within))
 pairs_from_once (b ∷ bound) once =
     AllPairs-cons DifferInName b bound
-    (λ k d within. differ_sym (get_or bound k d).name b.name (any_at (is_named b.name) bound once.0 k d within))
+    (λ k d within. same_name_not (get_or bound k d).name b.name (any_at (is_named b.name) bound once.0 k d within))
     (pairs_from_once bound once.1)
 
 -- where none has a name, all stay

@@ -1,11 +1,9 @@
 -- Sums of guaranteed rates over part of the rules.
-use Rattle.std.proofs.Common.{◌≡◌, ◌≤◌, ◌<◌, ◌+◌, ℕ, zero, suc, Bool, true, false, List, [], ◌∷◌, refl, sym, arith, inl, inr, drop, length, get_or, filter, add-one}
-use Rattle.std.specs.Prelude.{if◌then◌else◌, not}
-use Rattle.std.specs.List.{list_any}
+use Rattle.std.proofs.Common.{◌≡◌, ◌≤◌, ◌<◌, ◌+◌, ℕ, zero, suc, Bool, List, [], ◌∷◌, refl, arith, inl, inr, drop, length, get_or, filter, add-one}
+use Rattle.std.specs.Prelude.{if◌then◌else◌}
 use Rattle.std.proofs.lemmas.Bool.{cases_Bool}
-use Rattle.std.proofs.Math.Seq.{drop-cons}
 use Rattle.pcef_bearer.specs.declared.bearers.Bound.{Bound}
-use Rattle.pcef_bearer.specs.Bindings.{is_named, put, rate_down, rate_up, total_down, total_up, without}
+use Rattle.pcef_bearer.specs.Bindings.{rate_down, rate_up, total_down, total_up}
 
 -- one rule more or less
 cons_up : (p : Bound → Bool) (b : Bound) (bound : List Bound) →

@@ -1,3 +1,6 @@
 pub mod Counts
+pub mod ExampleSession
+pub mod Examples
 pub mod Growth
+pub mod Sameness
 pub mod Walked

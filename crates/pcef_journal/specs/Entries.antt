@@ -1,5 +1,5 @@
 -- What stands in a journal (own choice). It is the list of its entries, the newest first.
-use Rattle.std.specs.Prelude.{ℕ, ◌+◌, ◌==◌, Bool, true, false, List, [], ◌∷◌, Option, Some, None, filter, filter_map, if◌then◌else◌, length}
+use Rattle.std.specs.Prelude.{ℕ, ◌==◌, List, Option, Some, None, filter, filter_map}
 use Rattle.pcef_journal.specs.declared.command.Command.{Command}
 use Rattle.pcef_journal.specs.declared.entry.Entry.{Entry}
 use Rattle.pcef_journal.specs.declared.entry.Entry.TheVariants as entry

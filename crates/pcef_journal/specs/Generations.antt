@@ -1,7 +1,7 @@
 -- What table commands make: the active rules, the bearers and the keys that are on, generation by
 -- generation. A table command is one that makes a new generation: all but ReportNow, Triggers and
 -- Notice. Lists of commands are written newest first.
-use Rattle.std.specs.Prelude.{ℕ, ◌==◌, Bool, true, false, not, ◌&&◌, ◌||◌, List, [], ◌∷◌, ◌++◌, Option, Some, None, filter, find, map, length, nat_le, unwrap_or, if◌then◌else◌}
+use Rattle.std.specs.Prelude.{ℕ, ◌==◌, Bool, not, ◌||◌, List, [], ◌∷◌, ◌++◌, Option, Some, None, filter, find, map, length, nat_le, unwrap_or, if◌then◌else◌}
 use Rattle.std.specs.List.{list_any}
 use Rattle.pcef_rule.specs.declared.quantity.Qos.{Qos}
 use Rattle.pcef_catalog.specs.declared.listing.Offer.{Offer}

@@ -1,6 +1,5 @@
 -- A journal that is kept.
-use Rattle.std.specs.Prelude.{◌≡◌, ℕ, ◌-◌, List, length, reverse, vec_len, vec_capacity}
-use Rattle.pcef_journal.specs.declared.entry.Entry.{Entry}
+use Rattle.std.specs.Prelude.{◌≡◌, ◌-◌, length, reverse, vec_len, vec_capacity}
 use Rattle.pcef_journal.specs.declared.journal.Journal.TheInside.{Inside}
 use Rattle.pcef_journal.specs.Entries.{commands, reports, rows}
 use Rattle.pcef_journal.specs.KeptJournal.{KeptJournal}

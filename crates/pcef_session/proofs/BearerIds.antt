@@ -21,13 +21,14 @@ use Rattle.pcef_journal.specs.Entries.{Journal}
 use Rattle.pcef_journal.specs.Journals.{is_table, now}
 use Rattle.pcef_journal.specs.Reports.{after_command, after_flush, tell, thresholds, with_rows}
 use Rattle.pcef_journal.proofs.Growth.{now_after_table, tables_of_other}
+use Rattle.pcef_journal.proofs.Sameness.{contrary, same_qos_is, same_qos_self}
 use Rattle.pcef_session.specs.declared.answer.Refusal.TheVariants as refusal
 use Rattle.pcef_session.specs.Answers.{changes}
 use Rattle.pcef_session.specs.Lawful.{Lawful, at_first, by_attach, by_command, by_flush, by_leave}
 use Rattle.pcef_session.specs.Laws.{HasBearerIds}
 use Rattle.pcef_session.specs.Refusals.{Conditions, becoming_active_if, common_refusals, finds_no_bearer, first_of, is_active, refusals}
-use Rattle.pcef_session.proofs.BoundRules.{NamesOnce, contrary, filter_any, filter_once, put_any, put_filter, put_once, same_qos_is, same_qos_self}
-use Rattle.pcef_session.proofs.Exactness.{tell_tables}
+use Rattle.pcef_session.proofs.BoundRules.{NamesOnce, filter_any, filter_once, put_any, put_filter, put_once}
+use Rattle.pcef_usage.proofs.Reports.{tell_tables}
 
 -- ---- the least free id
 -- what is found passes the test

@@ -10,12 +10,13 @@ use Rattle.pcef_journal.specs.ActiveRules.{Active, is_named}
 use Rattle.pcef_journal.specs.Generations.{Generation}
 use Rattle.pcef_journal.specs.Entries.{Journal}
 use Rattle.pcef_journal.specs.Journals.{now, tables}
+use Rattle.pcef_journal.proofs.Sameness.{contrary, same_name_is, same_name_of}
 use Rattle.pcef_session.specs.Agreement.{Agrees, Parts}
 use Rattle.pcef_session.specs.Answers.{bearer_of as told_bearer}
 use Rattle.pcef_session.specs.Bound.{bound_of}
 use Rattle.pcef_session.specs.Refusals.{total_down, total_up}
 use Rattle.pcef_session.proofs.BoundBearers.{total_down_bound, total_up_bound}
-use Rattle.pcef_session.proofs.BoundRules.{NamesOnce, contrary, same_name_is, same_name_of}
+use Rattle.pcef_session.proofs.BoundRules.{NamesOnce}
 use Rattle.pcef_session.proofs.Found.{any_from}
 use Rattle.pcef_session.proofs.Members.{there_cases}
 use Rattle.pcef_session.proofs.ShownVerdicts.{made_once}

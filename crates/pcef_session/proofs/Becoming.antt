@@ -10,10 +10,10 @@ use Rattle.pcef_journal.specs.declared.command.Command.TheVariants.{Install, Act
 use Rattle.pcef_journal.specs.Setting.{Setting, offer_named, same_name}
 use Rattle.pcef_journal.specs.ActiveRules.{Active, dynamic, predefined, put_if_offered}
 use Rattle.pcef_journal.specs.Generations.{key_named, key_offered}
+use Rattle.pcef_journal.proofs.Sameness.{same_name_is}
 use Rattle.pcef_session.specs.declared.prepared.Coming.{Coming}
 use Rattle.pcef_session.specs.Changes.{Brings, IsMadeActive, IsOf, MakesActive, becoming, key_of, rule_key}
 use Rattle.pcef_session.specs.Core.{IsServed}
-use Rattle.pcef_session.proofs.BoundRules.{same_name_is}
 
 pub makes_install : (p : Setting) (d : Definition) → MakesActive p (Install d) (dynamic d)
 makes_install p d = record { is_table = refl; rules_are = λ g. refl; key_is = refl; on_is = λ on. refl }

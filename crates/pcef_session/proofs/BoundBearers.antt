@@ -20,6 +20,7 @@ use Rattle.pcef_journal.specs.declared.command.Command.TheVariants.{Monitor, Rem
 use Rattle.pcef_journal.specs.Setting.{Setting, same_qos}
 use Rattle.pcef_journal.specs.ActiveRules.{Active, is_named, put, without}
 use Rattle.pcef_journal.specs.Generations.{Generation, has_bearer, id_after, kept_ids, least_free, next, rules_after}
+use Rattle.pcef_journal.proofs.Sameness.{same_qos_is, same_qos_self}
 use Rattle.pcef_bearer.specs.declared.bearers.Bound.{Bound}
 use Rattle.pcef_bearer.specs.declared.refusal.BindRefusal.TheVariants as bind
 use Rattle.pcef_bearer.specs.Bindings.{IsBinding, bound_at, id_beside, id_or_new, other_ids, with_rules}
@@ -30,7 +31,7 @@ use Rattle.pcef_session.specs.Changes.{MakesActive}
 use Rattle.pcef_session.specs.Laws.{HasBearerIds}
 use Rattle.pcef_session.specs.Refusals.{bindings, finds_no_bearer, first_of, is_gbr, is_non_gbr, rate_down, rate_up, total_down, total_up}
 use Rattle.pcef_session.proofs.BearerIds.{IsBound, id_default, id_kept, id_new}
-use Rattle.pcef_session.proofs.BoundRules.{put_filter, same_qos_is, same_qos_self}
+use Rattle.pcef_session.proofs.BoundRules.{put_filter}
 use Rattle.pcef_session.proofs.Found.{any_from}
 use Rattle.pcef_session.proofs.Members.{filter_from, first_there, later_there, map_from}
 

@@ -1,60 +1,10 @@
--- Pairs of QCI and ARP, and lists of rules: what `put`, `without` and other filters leave of names and pairs.
-use Rattle.std.proofs.Common.{◌≡◌, ◌∙◌, ℕ, Bool, true, false, ◌&&◌, ◌||◌, List, [], ◌∷◌, refl, sym, subst, filter, inl, inr, true≢false, ◌==◌}
+-- Lists of rules: what `put`, `without` and other filters leave of names and pairs.
+use Rattle.std.proofs.Common.{◌≡◌, ℕ, Bool, true, false, ◌||◌, List, [], ◌∷◌, refl, sym, subst, filter, inl, inr}
 use Rattle.std.specs.Prelude.{◌⊎◌}
 use Rattle.std.specs.List.{list_any}
-use Rattle.std.proofs.lemmas.Bool.{cases_Bool, or_cases, or_left, or_right, or_parts, and_parts, and_from, false_from_ne_true}
-use Rattle.std.proofs.lemmas.Bool.Decides.{Decides-eqb}
-use Rattle.std.proofs.lemmas.Slice.Eq.{bytes_eq-Decides}
-use Rattle.pcef_rule.specs.declared.quantity.Qos.{Qos}
-use Rattle.pcef_journal.specs.Setting.{same_flag, same_name, same_qos}
+use Rattle.std.proofs.lemmas.Bool.{cases_Bool, or_cases, or_left, or_right, or_parts, false_from_ne_true}
 use Rattle.pcef_journal.specs.ActiveRules.{Active, is_named, put, without}
-
--- a test has one answer
-pub contrary : {A : Type 0} (b : Bool) → b ≡ true → b ≡ false → A
-contrary b is isnt = absurd (true≢false (sym is ∙ isnt))
-
--- ---- pairs of QCI and ARP
-same_flag_is : (a b : Bool) → same_flag a b ≡ true → a ≡ b
-same_flag_is true b same = sym same
-same_flag_is false true same = absurd (true≢false (sym same))
-same_flag_is false false same = refl
-
-same_flag_self : (a : Bool) → same_flag a a ≡ true
-same_flag_self true = refl
-same_flag_self false = refl
-
-abbrev pair_of : ℕ → ℕ → Bool → Bool → Qos
-pair_of q l c v = record { qci = record { 0 = q }; arp = record { level = l; capability = c; vulnerability = v } }
-
-pub same_qos_is : (a b : Qos) → same_qos a b ≡ true → a ≡ b
-same_qos_is a b same =
-    let last = and_parts (((a.qci.0 == b.qci.0) && (a.arp.level == b.arp.level)) && same_flag a.arp.capability b.arp.capability)
-    (same_flag a.arp.vulnerability b.arp.vulnerability) same in
-    let third = and_parts ((a.qci.0 == b.qci.0) && (a.arp.level == b.arp.level)) (same_flag a.arp.capability b.arp.capability) last.0 in
-    let both = and_parts (a.qci.0 == b.qci.0) (a.arp.level == b.arp.level) third.0 in
-    alike a.qci.0 b.qci.0 a.arp.level b.arp.level a.arp.capability b.arp.capability a.arp.vulnerability b.arp.vulnerability
-    ((Decides-eqb a.qci.0 b.qci.0).0 both.0) ((Decides-eqb a.arp.level b.arp.level).0 both.1)
-    (same_flag_is a.arp.capability b.arp.capability third.1) (same_flag_is a.arp.vulnerability b.arp.vulnerability last.1)
-  where
-    alike : (q q2 l l2 : ℕ) (c c2 v v2 : Bool) → q ≡ q2 → l ≡ l2 → c ≡ c2 → v ≡ v2 → pair_of q l c v ≡ pair_of q2 l2 c2 v2
-    alike q q2 l l2 c c2 v v2 qs ls cs vs = rw (qs, ls, cs, vs) refl
-
-pub same_qos_self : (a : Qos) → same_qos a a ≡ true
-same_qos_self a =
-    and_from (((a.qci.0 == a.qci.0) && (a.arp.level == a.arp.level)) && same_flag a.arp.capability a.arp.capability)
-    (same_flag a.arp.vulnerability a.arp.vulnerability)
-    (and_from ((a.qci.0 == a.qci.0) && (a.arp.level == a.arp.level)) (same_flag a.arp.capability a.arp.capability)
-    (and_from (a.qci.0 == a.qci.0) (a.arp.level == a.arp.level)
-    ((Decides-eqb a.qci.0 a.qci.0).1 refl) ((Decides-eqb a.arp.level a.arp.level).1 refl))
-    (same_flag_self a.arp.capability))
-    (same_flag_self a.arp.vulnerability)
-
--- ---- names
-pub same_name_is : (a b : List ℕ) → same_name a b ≡ true → a ≡ b
-same_name_is a b same = (bytes_eq-Decides a b).0 same
-
-pub same_name_of : (a b : List ℕ) → a ≡ b → same_name a b ≡ true
-same_name_of a b is = (bytes_eq-Decides a b).1 is
+use Rattle.pcef_journal.proofs.Sameness.{contrary, same_name_is, same_name_of}
 
 -- each name once
 unfoldable pub NamesOnce : List Active → Type 0

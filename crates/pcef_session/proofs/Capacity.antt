@@ -14,6 +14,7 @@ use Rattle.pcef_journal.specs.Generations.{Generation, made_by, rules_after}
 use Rattle.pcef_journal.specs.Entries.{Journal}
 use Rattle.pcef_journal.specs.Journals.{is_table, now, tables}
 use Rattle.pcef_journal.proofs.Growth.{now_after_table, tables_of_other}
+use Rattle.pcef_journal.proofs.Sameness.{same_name_is}
 use Rattle.pcef_usage.proofs.Afterwards.{now_after}
 use Rattle.pcef_session.specs.declared.answer.Refusal.{Refusal}
 use Rattle.pcef_session.specs.declared.answer.Refusal.TheVariants as refusal
@@ -21,9 +22,9 @@ use Rattle.pcef_session.specs.Answers.{changes}
 use Rattle.pcef_session.specs.Lawful.{Lawful, at_first, by_attach, by_command, by_flush, by_leave}
 use Rattle.pcef_session.specs.Refusals.{Conditions, becoming_active_if, bindings, common_refusals, finds_no_bearer, first_of, is_active, is_gbr, is_non_gbr, rate_down, rate_up, refusals, total_down, total_up}
 use Rattle.pcef_session.proofs.Acceptance.{can_become, condition_none, conditions_none, install_accepted}
-use Rattle.pcef_session.proofs.BoundRules.{NamesOnce, same_name_is, without_none}
+use Rattle.pcef_session.proofs.BoundRules.{NamesOnce, without_none}
 use Rattle.pcef_session.proofs.ShownVerdicts.{made_once}
-use Rattle.pcef_session.proofs.Taking.{tables_flushed}
+use Rattle.pcef_session.proofs.Onward.{tables_after_flush}
 
 -- ---- sums
 -- fewer rules have no higher sum
@@ -132,4 +133,4 @@ lawful_within p _ (by_command j c lawful accepted changing) =
 lawful_within p _ (by_attach j lawful accepted) = lawful_within p j lawful
 lawful_within p _ (by_leave j worker lawful attached) = lawful_within p j lawful
 lawful_within p _ (by_flush j worker rows lawful accepted follow) =
-    subst (λ (g : Generation). IsWithin p g.rules) (sym (ap (made_by p) (tables_flushed p j rows))) (lawful_within p j lawful)
+    subst (λ (g : Generation). IsWithin p g.rules) (sym (ap (made_by p) (tables_after_flush p j rows))) (lawful_within p j lawful)

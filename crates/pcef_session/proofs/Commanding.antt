@@ -21,6 +21,7 @@ use Rattle.pcef_journal.specs.Entries.{Journal, commands}
 use Rattle.pcef_journal.specs.Journals.{gen, is_table, now, report_count, slots, subscribed, tables}
 use Rattle.pcef_journal.specs.Reports.{after_command, body_of, plan, tell, thresholds}
 use Rattle.pcef_journal.proofs.Growth.{now_after_table}
+use Rattle.pcef_journal.proofs.Sameness.{same_name_of}
 use Rattle.pcef_usage.specs.declared.usage.KeyState.{KeyState}
 use Rattle.pcef_usage.specs.Commands.{Asks, entered, started_by, subscribed_by}
 use Rattle.pcef_usage.specs.Keys.{finds_no_slot, keys_of, with_slot}
@@ -43,7 +44,6 @@ use Rattle.pcef_session.proofs.Acceptance.{brings_none}
 use Rattle.pcef_session.proofs.Becoming.{brought, brought_none, makes_becoming, name_offered, served_key}
 use Rattle.pcef_session.proofs.BearerIds.{lawful_bound}
 use Rattle.pcef_session.proofs.BoundBearers.{has_bearer_ids, next_id, next_monitor, next_put, next_remove}
-use Rattle.pcef_session.proofs.BoundRules.{same_name_of}
 use Rattle.pcef_session.proofs.Exactness.{lawful_exact}
 use Rattle.pcef_session.proofs.KeptRules.{kept_put, kept_without}
 use Rattle.pcef_session.proofs.NextTables.{all_count_from, all_on_from}

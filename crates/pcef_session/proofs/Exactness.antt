@@ -1,65 +1,21 @@
 -- In every lawful journal no more is reported than was counted.
-use Rattle.std.proofs.Common.{◌≡◌, ◌≤◌, ◌+◌, ℕ, List, [], ◌∷◌, refl, ap, subst, arith, inl, inr}
-use Rattle.std.proofs.lemmas.Bool.{cases_Bool}
+use Rattle.std.proofs.Common.{◌≡◌, ◌≤◌, ℕ, List, [], ◌∷◌, arith}
 use Rattle.pcef_journal.specs.declared.command.Command.{Command}
 use Rattle.pcef_journal.specs.declared.entry.Entry.TheVariants as entry
 use Rattle.pcef_journal.specs.declared.row.Row.{Row}
 use Rattle.pcef_journal.specs.declared.telling.Telling.{Telling}
-use Rattle.pcef_journal.specs.declared.telling.Telling.TheVariants.{Inactive, Usage, Access}
-use Rattle.pcef_journal.specs.Setting.{Setting, same_name}
+use Rattle.pcef_journal.specs.Setting.{Setting}
 use Rattle.pcef_journal.specs.Entries.{Journal, rows}
-use Rattle.pcef_journal.specs.Journals.{counted, gen, octets_told, report_count, reported, tables}
-use Rattle.pcef_journal.specs.Reports.{after_command, after_flush, body_of, tell, thresholds, with_rows}
+use Rattle.pcef_journal.specs.Journals.{counted, gen, reported}
+use Rattle.pcef_journal.specs.Reports.{after_command, after_flush, tell, thresholds, with_rows}
 use Rattle.pcef_journal.proofs.Growth.{Known, counted_after_command, counted_after_row, gen_grows, known-more}
+use Rattle.pcef_usage.proofs.Reports.{reported_after_command, reported_after_row, tell_exact, tell_rows, tell_tables}
 use Rattle.pcef_session.specs.Lawful.{Lawful, RowsFollow, at_first, by_attach, by_command, by_flush, by_leave}
-use Rattle.pcef_session.proofs.BoundRules.{same_name_is}
-
--- ---- reports
-pub tell_tables : (p : Setting) (ts : List Telling) (j : Journal) → tables (tell p ts j) ≡ tables j
-unfolding tell
-tell_tables p [] j = refl
-tell_tables p (t ∷ ts) j = tell_tables p ts (entry.Report (record { number = report_count j; body = body_of p j t }) ∷ j)
-
-pub tell_rows : (p : Setting) (ts : List Telling) (j : Journal) → rows (tell p ts j) ≡ rows j
-unfolding tell
-tell_rows p [] j = refl
-tell_rows p (t ∷ ts) j = tell_rows p ts (entry.Report (record { number = report_count j; body = body_of p j t }) ∷ j)
-
--- a report tells no more than is unreported
-one_exact : (p : Setting) (t : Telling) (j : Journal) (key : List ℕ) → reported j key ≤ counted p j key →
-    octets_told key (body_of p j t) + reported j key ≤ counted p j key
-one_exact p (Inactive rule) j key exact = omega arith
-one_exact p (Access kind value) j key exact = omega arith
-one_exact p (Usage other cause) j key exact =
-    elim (cases_Bool (same_name key other)) [
-      | inl same ↦
-          let is : key ≡ other = same_name_is key other same in
-          let other_exact : reported j other ≤ counted p j other = subst (λ k. reported j k ≤ counted p j k) is exact in
-          let reported_is : reported j key ≡ reported j other = ap (reported j) is in
-          let counted_is : counted p j key ≡ counted p j other = ap (counted p j) is in
-          rw same (omega arith)
-      | inr differs ↦ rw differs (omega arith)
-    ]
-
-pub tell_exact : (p : Setting) (ts : List Telling) (j : Journal) (key : List ℕ) → reported j key ≤ counted p j key →
-    reported (tell p ts j) key ≤ counted p (tell p ts j) key
-unfolding tell reported
-tell_exact p [] j key exact = exact
-tell_exact p (t ∷ ts) j key exact =
-    tell_exact p ts (entry.Report (record { number = report_count j; body = body_of p j t }) ∷ j) key (one_exact p t j key exact)
 
 -- ---- what holds of every lawful journal
 pub record IsExact (p : Setting) (j : Journal) : Type 0 where
   pub known : Known (gen j) (rows j)
   pub exact : (key : List ℕ) → reported j key ≤ counted p j key
-
-reported_after_command : (j : Journal) (key : List ℕ) (c : Command) → reported (entry.Command c ∷ j) key ≡ reported j key
-unfolding reported
-reported_after_command j key c = refl
-
-reported_after_row : (j : Journal) (key : List ℕ) (r : Row) → reported (entry.Row r ∷ j) key ≡ reported j key
-unfolding reported
-reported_after_row j key r = refl
 
 exact_after_command : (p : Setting) (j : Journal) (c : Command) → IsExact p j → IsExact p (entry.Command c ∷ j)
 unfolding reported

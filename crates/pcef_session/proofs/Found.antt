@@ -5,7 +5,7 @@ use Rattle.std.specs.List.{list_any, list_all}
 use Rattle.std.proofs.lemmas.Bool.{or_left, or_right, and_parts, and_from}
 use Rattle.std.proofs.lemmas.List.Elements.{All-contains}
 use Rattle.pcef_table.proofs.Foremost.{found_is_foremost, none_passes}
-use Rattle.pcef_session.proofs.BoundRules.{contrary}
+use Rattle.pcef_journal.proofs.Sameness.{contrary}
 
 -- an element that passes a test is seen by it
 pub any_from : {X : Type 0} (test : X → Bool) (xs : List X) (x : X) → Contains xs x → test x ≡ true → list_any test xs ≡ true
@@ -23,15 +23,18 @@ find_none {X} test xs none = from (find test xs) refl
         let f = found_is_foremost (λ _ _. Unit {0}) test xs x (λ i j d below within. tt) is in
         contrary (test x) f.passes (none x f.there)
 
--- the one element that passes is found
-pub find_one : {X : Type 0} (test : X → Bool) (xs : List X) (x : X) → Contains xs x → test x ≡ true → ((y : X) → Contains xs y → test y ≡ true → y ≡ x) → find test xs ≡ Some x
-find_one {X} test xs x there passes one = from (find test xs) refl
+-- an element that passes is found, or another one before it
+pub find_some : {X : Type 0} (test : X → Bool) (xs : List X) (x : X) → Contains xs x → test x ≡ true → (y : X) × (find test xs ≡ Some y) × Contains xs y × (test y ≡ true)
+find_some {X} test xs x there passes = from (find test xs) refl
   where
-    from : (o : Option X) → find test xs ≡ o → find test xs ≡ Some x
+    from : (o : Option X) → find test xs ≡ o → (y : X) × (find test xs ≡ Some y) × Contains xs y × (test y ≡ true)
     from None is = contrary (test x) passes (All-contains (λ y. test y ≡ false) xs x (none_passes test xs is) there)
     from (Some y) is =
-        let f = found_is_foremost (λ _ _. Unit {0}) test xs y (λ i j d below within. tt) is in
-        is ∙ ap (λ z. Some z) (one y f.there f.passes)
+        let f = found_is_foremost (λ _ _. Unit {0}) test xs y (λ i j d below within. tt) is in (y, is, f.there, f.passes)
+
+-- the one element that passes is found
+pub find_one : {X : Type 0} (test : X → Bool) (xs : List X) (x : X) → Contains xs x → test x ≡ true → ((y : X) → Contains xs y → test y ≡ true → y ≡ x) → find test xs ≡ Some x
+find_one test xs x there passes one = let f = find_some test xs x there passes in f.1 ∙ ap (λ y. Some y) (one f.0 f.2 f.3)
 
 -- where all pass, each does
 pub all_at : {X : Type 0} (test : X → Bool) (xs : List X) (x : X) → list_all test xs ≡ true → Contains xs x → test x ≡ true

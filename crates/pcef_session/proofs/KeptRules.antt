@@ -7,10 +7,10 @@ use Rattle.pcef_table.specs.declared.entry.Source.{Source}
 use Rattle.pcef_catalog.specs.declared.listing.Offer.{Offer}
 use Rattle.pcef_journal.specs.Setting.{same_name}
 use Rattle.pcef_journal.specs.ActiveRules.{Active, is_named, put, without}
-use Rattle.pcef_usage.proofs.Names.{same_name_not, same_name_turned}
+use Rattle.pcef_journal.proofs.Sameness.{same_name_is, same_name_not, same_name_turned}
 use Rattle.pcef_session.specs.Agreement.{AreKept}
 use Rattle.pcef_session.specs.Shown.{rule_of}
-use Rattle.pcef_session.proofs.BoundRules.{NamesOnce, same_name_is, without_none}
+use Rattle.pcef_session.proofs.BoundRules.{NamesOnce, without_none}
 
 -- as many are kept as there are
 pub kept_length : (offers : List Offer) (kept : List (List ℕ × Source)) (rules : List Active) → AreKept offers kept rules → length kept ≡ length rules

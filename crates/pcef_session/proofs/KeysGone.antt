@@ -1,7 +1,7 @@
 -- Which keys lose their last rule: what a table's entries say of it, and what the journal's rules say.
 use Rattle.std.proofs.Common.{◌≡◌, ◌∙◌, Bool, true, false, ◌&&◌, ◌||◌, not, ℕ, List, [], ◌∷◌, refl, sym, ap, inl, inr, filter, Contains, None, Some}
 use Rattle.std.specs.Prelude.{Option}
-use Rattle.std.specs.List.{list_any, AllByRecursion}
+use Rattle.std.specs.List.{list_any}
 use Rattle.std.specs.Option.{option_map_or}
 use Rattle.std.proofs.lemmas.Bool.{cases_Bool, or_cases, or_parts}
 use Rattle.pcef_rule.specs.declared.rule.Properties.{Properties}
@@ -21,22 +21,24 @@ use Rattle.pcef_journal.specs.Entries.{Journal}
 use Rattle.pcef_journal.specs.Journals.{at, gen, now, slots, tables}
 use Rattle.pcef_journal.specs.Reports.{plan}
 use Rattle.pcef_journal.proofs.Growth.{at_newest}
+use Rattle.pcef_journal.proofs.Sameness.{same_name_is}
 use Rattle.pcef_usage.specs.declared.usage.KeyState.{KeyState}
 use Rattle.pcef_usage.specs.Commands.{loses_rules, usage_of}
 use Rattle.pcef_usage.specs.Keys.{keys_of}
 use Rattle.pcef_usage.specs.Tellings.{AllOn}
 use Rattle.pcef_usage.proofs.Plans.{plan_activate, plan_install, plan_remove, rules_gone}
-use Rattle.pcef_session.specs.Agreement.{Agrees, KeyAgrees, Parts}
+use Rattle.pcef_session.specs.Agreement.{Agrees, Parts}
 use Rattle.pcef_session.specs.declared.prepared.Coming.{Coming}
 use Rattle.pcef_session.specs.Changes.{MakesActive, becoming}
 use Rattle.pcef_session.specs.Kept.{is_gone, is_other_with_key, some_entry}
 use Rattle.pcef_session.specs.Kept as kept
 use Rattle.pcef_session.specs.Shown.{Shows, StandsFor}
 use Rattle.pcef_session.proofs.Becoming.{IsBrought, makes_becoming}
-use Rattle.pcef_session.proofs.BoundRules.{NamesOnce, same_name_is}
+use Rattle.pcef_session.proofs.BoundRules.{NamesOnce}
 use Rattle.pcef_session.proofs.Found.{any_from}
 use Rattle.pcef_session.proofs.Members.{first_there, later_there}
 use Rattle.pcef_session.proofs.ShownVerdicts.{made_once, rule_is}
+use Rattle.pcef_session.proofs.NextTables.{all_on_from}
 
 -- ---- tests
 -- two tests that imply each other are one
@@ -199,12 +201,6 @@ plan_removed p j t name states v v_is keys on shows =
     ∙ plan_remove p j name states keys on
 
 -- ---- in a session that agrees with its journal
--- each key that has a slot is on where the journal says so
-pub keys_on : (p : Setting) (j : Journal) (states : List KeyState) → AllByRecursion (KeyAgrees p j) states → AllOn p j states
-unfolding AllOn
-keys_on p j [] agree = tt
-keys_on p j (s ∷ states) agree = (record { on_is = agree.0.on_is }, keys_on p j states agree.1)
-
 -- what is told of a rule that becomes active
 pub agreed_coming : (p : Setting) (j : Journal) (parts : Parts) (c : Command) (x : Coming) (key : Option (List ℕ)) (v : List Telling) → Agrees p j parts → IsBrought p c x →
     key ≡ x.properties.key → v ≡ usage_of RulesGone (is_gone p.catalog parts.table.entries x.properties.name key) parts.keys → v ≡ plan p j c
@@ -213,10 +209,10 @@ agreed_coming p j parts c x key v agrees b key_is v_is =
     (v_is
     ∙ ap (λ (k : Option (List ℕ)). usage_of RulesGone (is_gone p.catalog parts.table.entries x.properties.name k) parts.keys) key_is
     ∙ ap (λ (q : Properties). usage_of RulesGone (is_gone p.catalog parts.table.entries q.name q.key) parts.keys) b.is_of.properties_are)
-    agrees.keys_are (keys_on p j parts.keys agrees.usage_is) agrees.table_shows (made_once p (tables j))
+    agrees.keys_are (all_on_from p j parts.keys agrees.usage_is) agrees.table_shows (made_once p (tables j))
 
 -- and of the name of one that is removed
 pub agreed_remove : (p : Setting) (j : Journal) (parts : Parts) (c : Command) (name : List ℕ) (v : List Telling) → Agrees p j parts →
     c ≡ Remove name → v ≡ usage_of RulesGone (is_gone p.catalog parts.table.entries name None) parts.keys → v ≡ plan p j c
 agreed_remove p j parts c name v agrees c_is v_is =
-    plan_removed p j parts.table name parts.keys v v_is agrees.keys_are (keys_on p j parts.keys agrees.usage_is) agrees.table_shows ∙ ap (plan p j) (sym c_is)
+    plan_removed p j parts.table name parts.keys v v_is agrees.keys_are (all_on_from p j parts.keys agrees.usage_is) agrees.table_shows ∙ ap (plan p j) (sym c_is)

@@ -4,7 +4,8 @@ use Rattle.std.specs.Prelude.{◌⊎◌}
 use Rattle.std.specs.List.{list_any}
 use Rattle.std.proofs.lemmas.Bool.{cases_Bool}
 use Rattle.pcef_journal.specs.ActiveRules.{Active, is_named, put}
-use Rattle.pcef_session.proofs.BoundRules.{NamesOnce, contrary, same_name_is, same_name_of}
+use Rattle.pcef_journal.proofs.Sameness.{contrary, same_name_is, same_name_of}
+use Rattle.pcef_session.proofs.BoundRules.{NamesOnce}
 use Rattle.pcef_session.proofs.Found.{any_from}
 
 pub first_there : {X : Type 0} (x : X) (xs : List X) → Contains (x ∷ xs) x

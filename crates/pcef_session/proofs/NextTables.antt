@@ -30,10 +30,10 @@ use Rattle.pcef_journal.specs.Generations.{Generation, add_if_some, add_key, is_
 use Rattle.pcef_journal.specs.Entries.{Journal}
 use Rattle.pcef_journal.specs.Journals.{at, gen, is_table, now, slots, tables}
 use Rattle.pcef_journal.proofs.Growth.{at_newest, tables_of_table}
+use Rattle.pcef_journal.proofs.Sameness.{contrary, same_name_is, same_name_not, same_name_of, same_name_turned}
 use Rattle.pcef_usage.specs.declared.usage.KeyState.{KeyState}
 use Rattle.pcef_usage.specs.Keys.{has_slot, keys_of, place_of as place_in}
 use Rattle.pcef_usage.specs.Tellings.{AllCount, AllOn, Counts, OnIs}
-use Rattle.pcef_usage.proofs.Names.{same_name_turned, same_name_not}
 use Rattle.pcef_usage.proofs.Slots.{slot_of_on}
 use Rattle.pcef_usage.proofs.Tells.{all_same}
 use Rattle.pcef_session.specs.Agreement.{KeyAgrees}
@@ -50,7 +50,7 @@ use Rattle.pcef_session.proofs.BearerIds.{lawful_bound}
 use Rattle.pcef_session.proofs.BoundBearers.{has_bearer_ids, next_id}
 use Rattle.pcef_session.proofs.CoreSound.{IsSoundCore, few_generations}
 use Rattle.pcef_session.proofs.KeptRules.{kept_length}
-use Rattle.pcef_session.proofs.BoundRules.{NamesOnce, contrary, same_name_is, same_name_of}
+use Rattle.pcef_session.proofs.BoundRules.{NamesOnce}
 use Rattle.pcef_session.proofs.Found.{any_from}
 use Rattle.pcef_session.proofs.Members.{first_there, later_there, map_to, put_new}
 use Rattle.pcef_session.proofs.ShownChanges.{Fives, after_is, lawful_fives, name_is, shows_monitor, shows_put, shows_remove, still}

@@ -13,6 +13,7 @@ use Rattle.pcef_journal.specs.Journals.{at, attach_count, attached, gen, report_
 use Rattle.pcef_journal.specs.Reports.{after_attach, after_command, after_flush, body_of, plan, tell, thresholds, with_rows}
 use Rattle.pcef_journal.proofs.Growth.{at_after_command, gen_grows}
 use Rattle.pcef_usage.proofs.Afterwards.{tables_after, tables_after_rows}
+use Rattle.pcef_usage.proofs.Reports.{tell_rows, tell_tables}
 use Rattle.pcef_session.specs.declared.answer.Accepted.{Accepted}
 use Rattle.pcef_session.specs.declared.answer.AttachFault.{AttachFault}
 use Rattle.pcef_session.specs.declared.answer.FlushRefusal.{FlushRefusal}
@@ -20,7 +21,6 @@ use Rattle.pcef_session.specs.declared.answer.FlushRefusal.TheVariants.{NotAttac
 use Rattle.pcef_session.specs.declared.answer.Refusal.{Refusal}
 use Rattle.pcef_session.specs.Answers.{Attaches, Does, Flushes, Told, attach_outcome, attach_outcome_by, changes, command_outcome, command_outcome_by, flush_outcome, flush_outcome_by}
 use Rattle.pcef_session.specs.Refusals.{attach_faults, first_of, flush_refusals, is_attached, refusals}
-use Rattle.pcef_session.proofs.Exactness.{tell_rows, tell_tables}
 use Rattle.pcef_session.proofs.ShownLater.{grows_all, slots_grow_by}
 use Rattle.pcef_session.proofs.SlotPlaces.{Grows}
 

@@ -12,6 +12,7 @@ use Rattle.pcef_journal.specs.Setting.{Setting}
 use Rattle.pcef_journal.specs.Entries.{Journal, commands, rows}
 use Rattle.pcef_journal.specs.Journals.{attach_count, attached, report_count}
 use Rattle.pcef_journal.specs.Reports.{after_command, after_flush, body_of, plan, tell, thresholds, with_rows}
+use Rattle.pcef_journal.proofs.Sameness.{contrary}
 use Rattle.pcef_session.specs.declared.answer.AttachFault.TheVariants.{NoPlace}
 use Rattle.pcef_session.specs.declared.answer.FlushRefusal.{FlushRefusal}
 use Rattle.pcef_session.specs.declared.answer.FlushRefusal.TheVariants.{NotAttached, RowsFull}
@@ -21,7 +22,6 @@ use Rattle.pcef_session.specs.Core.{IsServed}
 use Rattle.pcef_session.specs.Following.{row_of}
 use Rattle.pcef_session.specs.Refusals.{attach_faults, first_of, flush_refusals}
 use Rattle.pcef_session.specs.Soundness.{IsPlain, below}
-use Rattle.pcef_session.proofs.BoundRules.{contrary}
 
 pub plain_row : (j : Journal) (n : ℕ) (r : Row) → IsPlain j n → IsPlain (entry.Row r ∷ j) n
 unfolding attach_count attached

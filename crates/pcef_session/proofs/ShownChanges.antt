@@ -25,13 +25,14 @@ use Rattle.pcef_journal.specs.Generations.{Generation, add_key, default_id, id_a
 use Rattle.pcef_journal.specs.Entries.{Journal}
 use Rattle.pcef_journal.specs.Journals.{at, gen, is_table, now, slots, tables}
 use Rattle.pcef_journal.proofs.Growth.{at_newest, gen_after_table, now_after_table, tables_of_table}
+use Rattle.pcef_journal.proofs.Sameness.{contrary, same_name_is, same_name_of, same_qos_self}
 use Rattle.pcef_usage.proofs.Slots.{is_among_add}
 use Rattle.pcef_session.specs.Changes.{MakesActive}
 use Rattle.pcef_session.specs.Shown.{Shows, StandsFor, counts_now, place_of, rule_of, slot_of}
 use Rattle.pcef_session.specs.Laws.{HasBearerIds}
 use Rattle.pcef_session.specs.Lawful.{Lawful}
 use Rattle.pcef_session.proofs.BearerIds.{lawful_bound}
-use Rattle.pcef_session.proofs.BoundRules.{NamesOnce, contrary, same_name_is, same_name_of, same_qos_self}
+use Rattle.pcef_session.proofs.BoundRules.{NamesOnce}
 use Rattle.pcef_session.proofs.Found.{any_from}
 use Rattle.pcef_session.proofs.Members.{filter_from, filter_to, first_there, later_there, map_from, map_to, put_cases, put_new, put_old, there_cases}
 use Rattle.pcef_session.proofs.ShownLater.{shown_slots, slot_stays}

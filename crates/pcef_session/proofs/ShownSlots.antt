@@ -3,7 +3,6 @@ use Rattle.std.proofs.Common.{◌≡◌, ◌∙◌, ℕ, Bool, true, false, ◌&
 use Rattle.std.specs.Prelude.{Option}
 use Rattle.std.specs.Option.{option_map, option_map_or}
 use Rattle.std.proofs.lemmas.Bool.{cases_Bool, eqb-true, eq-eqb, false_from_ne_true, and_left, and_right}
-use Rattle.std.proofs.lemmas.List.Elements.{All-contains}
 use Rattle.pcef_packet.specs.declared.header.Header.{Header}
 use Rattle.pcef_packet.specs.Addresses.{same_addr, ue_side}
 use Rattle.pcef_rule.specs.declared.quantity.Slot.{Slot}
@@ -13,27 +12,20 @@ use Rattle.pcef_table.specs.declared.verdict.Verdict.{Verdict}
 use Rattle.pcef_table.specs.Sources.{is_named}
 use Rattle.pcef_table.specs.Tables.{TableValue}
 use Rattle.pcef_table.specs.Verdicts.{slot_for}
-use Rattle.pcef_table.proofs.Foremost.{found_is_foremost, none_passes}
+use Rattle.pcef_table.proofs.Foremost.{found_is_foremost}
 use Rattle.pcef_journal.specs.Setting.{Setting, same_name}
 use Rattle.pcef_journal.specs.ActiveRules.{Active, decisive, is_decisive, is_key}
 use Rattle.pcef_journal.specs.Generations.{Generation, is_among}
 use Rattle.pcef_journal.specs.Entries.{Journal}
 use Rattle.pcef_journal.specs.Journals.{Decision, at, counts_in, decided_by, decision, gated, judged, passed, slots, stray, unmatched, verdict_of, passed_for}
+use Rattle.pcef_journal.proofs.Sameness.{contrary, same_name_is, same_name_of}
 use Rattle.pcef_session.specs.Following.{has_this_slot, is_at}
 use Rattle.pcef_session.specs.Shown.{Shows, StandsFor, counts_now, place_of, slot_of}
-use Rattle.pcef_session.proofs.BoundRules.{NamesOnce, contrary, same_name_is, same_name_of}
+use Rattle.pcef_session.proofs.BoundRules.{NamesOnce}
 use Rattle.pcef_session.proofs.ShownLater.{HasSlot, shown_slots}
 use Rattle.pcef_session.proofs.ShownVerdicts.{once_is, rule_is}
 use Rattle.pcef_session.proofs.SlotPlaces.{place_once, place_there}
-
--- an element that passes is found, or another one before it
-pub find_some : {X : Type 0} (test : X → Bool) (xs : List X) (x : X) → Contains xs x → test x ≡ true → (y : X) × (find test xs ≡ Some y) × Contains xs y × (test y ≡ true)
-find_some {X} test xs x there passes = from (find test xs) refl
-  where
-    from : (o : Option X) → find test xs ≡ o → (y : X) × (find test xs ≡ Some y) × Contains xs y × (test y ≡ true)
-    from None is = contrary (test x) passes (All-contains (λ y. test y ≡ false) xs x (none_passes test xs is) there)
-    from (Some y) is =
-        let f = found_is_foremost (λ _ _. Unit {0}) test xs y (λ i j d below within. tt) is in (y, is, f.there, f.passes)
+use Rattle.pcef_session.proofs.Found.{find_some}
 
 -- ---- the slot of an entry
 place_at : (key k : List ℕ) (keys : List (List ℕ)) (n : ℕ) → place_of k keys ≡ Some n → same_name key k ≡ false → is_at (place_of key keys) n ≡ false

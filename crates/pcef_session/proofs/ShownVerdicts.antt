@@ -29,8 +29,9 @@ use Rattle.pcef_journal.specs.Generations.{Generation, made_by, rules_after}
 use Rattle.pcef_journal.specs.ActiveRules.{Active, decisive, dynamic, fits, goes_ahead_of, is_before, is_decisive, is_named, predefined, put_if_offered, rank_of}
 use Rattle.pcef_journal.specs.Entries.{Journal}
 use Rattle.pcef_journal.specs.Journals.{at, judged}
+use Rattle.pcef_journal.proofs.Sameness.{contrary, same_name_is, same_name_of}
 use Rattle.pcef_session.specs.Shown.{Shows, StandsFor, rule_of}
-use Rattle.pcef_session.proofs.BoundRules.{NamesOnce, contrary, filter_once, put_once, same_name_is, same_name_of}
+use Rattle.pcef_session.proofs.BoundRules.{NamesOnce, filter_once, put_once}
 use Rattle.pcef_session.proofs.Found.{all_at, all_from, any_from, find_none, find_one}
 
 -- ---- an entry and the rule that it stands for

@@ -6,8 +6,8 @@ use Rattle.std.proofs.lemmas.Bool.{cases_Bool, or_left}
 use Rattle.pcef_journal.specs.declared.command.Command.{Command}
 use Rattle.pcef_journal.specs.Setting.{Setting, same_name}
 use Rattle.pcef_journal.specs.Generations.{add_if_some, add_key, is_among, key_named, slots_of}
+use Rattle.pcef_journal.proofs.Sameness.{same_name_is, same_name_of}
 use Rattle.pcef_session.specs.Shown.{place_of}
-use Rattle.pcef_session.proofs.BoundRules.{same_name_is, same_name_of}
 
 -- ---- places in a list of keys
 pub place_there : (key : List ℕ) (keys : List (List ℕ)) → is_among key keys ≡ true → (n : ℕ) × (place_of key keys ≡ Some n)

@@ -1,5 +1,5 @@
 -- A session stays sound as it changes.
-use Rattle.std.proofs.Common.{◌≡◌, ◌∙◌, ◌≤◌, ◌<◌, ◌^◌, suc, List, [], ◌∷◌, length, refl, sym, ap, subst, arith, None, Some, true, false}
+use Rattle.std.proofs.Common.{◌≡◌, ◌≤◌, ◌<◌, ◌^◌, suc, List, [], ◌∷◌, length, refl, sym, ap, subst, arith, None, Some, true, false}
 use Rattle.std.specs.Arc.{arc_value}
 use Rattle.std.proofs.lemmas.List.Elements.{All-nil}
 use Rattle.std.specs.Prelude.{Option, not}
@@ -9,10 +9,9 @@ use Rattle.pcef_journal.specs.declared.command.Command.{Command}
 use Rattle.pcef_journal.specs.declared.command.Command.TheVariants.{Install, Activate, Remove, Monitor, Stop, ReportNow, Triggers, Notice, LoseBearer, Close, Terminate}
 use Rattle.pcef_journal.specs.declared.entry.Entry.TheVariants as entry
 use Rattle.pcef_journal.specs.ActiveRules.{is_named}
-use Rattle.pcef_journal.specs.Reports.{after_command, plan, tell, thresholds}
+use Rattle.pcef_journal.specs.Reports.{after_command}
 use Rattle.pcef_usage.specs.Keys.{finds_no_slot as slotless, keys_of}
 use Rattle.pcef_usage.proofs.Afterwards.{few_entered}
-use Rattle.pcef_usage.proofs.Reports.{tell_rows}
 use Rattle.pcef_session.specs.declared.prepared.Coming.{Coming}
 use Rattle.pcef_session.specs.Answers.{changes}
 use Rattle.pcef_session.specs.Changes.{Brings, becoming, entered_by, rule_key}
@@ -20,7 +19,7 @@ use Rattle.pcef_session.specs.Core.{IsBeside, IsServed}
 use Rattle.pcef_session.specs.Refusals.{first_of, refusals}
 use Rattle.pcef_journal.specs.declared.row.Row.{Row}
 use Rattle.pcef_journal.specs.Setting.{Setting}
-use Rattle.pcef_journal.specs.Entries.{Journal, commands, rows}
+use Rattle.pcef_journal.specs.Entries.{Journal, commands}
 use Rattle.pcef_journal.specs.Generations.{Generation, at_first as before_all, key_named, rules_after}
 use Rattle.pcef_journal.specs.Journals.{attach_count, no_triggers, now, slots}
 use Rattle.pcef_usage.specs.declared.usage.KeyState.{KeyState}
@@ -35,6 +34,7 @@ use Rattle.pcef_session.proofs.Becoming.{brought, brought_none, makes_becoming}
 use Rattle.pcef_session.proofs.Commanding.{IsCommanded, agrees_commanded, commands_after, entering, few_keys_after, next_now, served_plainly}
 use Rattle.pcef_session.proofs.KeptRules.{kept_length}
 use Rattle.pcef_session.proofs.PlainJournals.{attach_accepted, plain_after, plain_attach, plain_first}
+use Rattle.pcef_session.proofs.Onward.{rows_after_command}
 
 -- a worker comes
 pub sound_attached : (s t : Inside) → IsSound s → s.attached < 16 → t.profile ≡ s.profile → t.listing ≡ s.listing → t.counted.journal ≡ entry.Attach s.attached ∷ s.counted.journal →
@@ -101,10 +101,6 @@ few_rules_after p j c (Some x) most served accepted changing brings few =
     let same = ap length ((makes_becoming p c b.rule b.becomes).rules_are (now p j)) in
     omega (arith, same, few_put p j b.rule most few (brought_accepted p j c b.rule accepted changing b.becomes))
 
-rows_after : (p : Setting) (j : Journal) (c : Command) → rows (after_command p j c) ≡ rows j
-unfolding after_command
-rows_after p j c = tell_rows p (thresholds p (tell p (plan p j c) (entry.Command c ∷ j))) (tell p (plan p j c) (entry.Command c ∷ j)) ∙ tell_rows p (plan p j c) (entry.Command c ∷ j)
-
 pub sound_commanded : (s t : Inside) (c : Command) (x : Option Coming) (bearer : Option BearerId) → IsSound s → IsCommanded (setting_of s.profile s.listing) s.counted.journal c x (parts_of s) (parts_of t) bearer →
     t.profile ≡ s.profile → t.listing ≡ s.listing → t.attached ≡ s.attached → t.counted.journal ≡ after_command (setting_of s.profile s.listing) s.counted.journal c → IsSound t
 sound_commanded s t c x bearer sound is profile listing attached journal =
@@ -125,9 +121,9 @@ sound_commanded s t c x bearer sound is profile listing attached journal =
       limited = record {
         few_commands = rw (journal, profile, commands_after p j c) (omega (arith, budget));
         most_commands = rw profile sound.limited.most_commands;
-        few_rows = rw (journal, profile, rows_after p j c) sound.limited.few_rows;
+        few_rows = rw (journal, profile, rows_after_command p j c) sound.limited.few_rows;
         most_rows = rw profile sound.limited.most_rows;
-        octets = rw (journal, rows_after p j c) sound.limited.octets;
+        octets = rw (journal, rows_after_command p j c) sound.limited.octets;
       };
       small = record {
         few_rules = omega (arith, few, kept, ap length after_rules);

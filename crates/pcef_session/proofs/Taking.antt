@@ -19,11 +19,10 @@ use Rattle.pcef_usage.specs.Flushes.{rows_counted}
 use Rattle.pcef_usage.specs.Keys.{keys_of, state_at, with_octets}
 use Rattle.pcef_usage.specs.Counted.{Counted}
 use Rattle.pcef_usage.specs.Tellings.{Distinct, settled_states, settled_tellings, states_told, told}
-use Rattle.pcef_usage.proofs.Afterwards.{subscribed_settled, tables_after_rows, tables_settled}
+use Rattle.pcef_usage.proofs.Afterwards.{subscribed_settled}
 use Rattle.pcef_usage.proofs.Endings.{Ended}
 use Rattle.pcef_usage.proofs.Flushed.{StatesAgree, can_count, flush_is, row_agrees, rows_ended, subscribed_after_rows}
 use Rattle.pcef_usage.proofs.Loops.{key_among}
-use Rattle.pcef_usage.proofs.Names.{same_name_is}
 use Rattle.pcef_usage.proofs.Rows as usage
 use Rattle.pcef_usage.proofs.Slots.{distinct_slots}
 use Rattle.pcef_session.specs.declared.batch.Item.{Item}
@@ -32,6 +31,7 @@ use Rattle.pcef_session.specs.Following.{CanCountAll, CountsFor, HasItsSlots, Ha
 use Rattle.pcef_session.specs.Bound.{binding_of}
 use Rattle.pcef_session.specs.Lawful.{BatchFollows, Lawful, by_flush}
 use Rattle.pcef_journal.specs.declared.trigger.TriggerSet.{TriggerSet}
+use Rattle.pcef_journal.proofs.Sameness.{contrary, same_name_is}
 use Rattle.pcef_session.specs.declared.answer.FlushRefusal.TheVariants as flush
 use Rattle.pcef_session.specs.declared.state.SessionState.TheInside.{Inside}
 use Rattle.pcef_session.specs.Refusals.{first_of, flush_refusals, is_attached}
@@ -39,12 +39,11 @@ use Rattle.pcef_session.specs.Soundness.{IsPlain, IsSound, parts_of}
 use Rattle.pcef_session.specs.Terms.{setting_of}
 use Rattle.pcef_session.proofs.Acceptance.{condition_none}
 use Rattle.pcef_session.proofs.PlainJournals.{commands_with, plain_rows, plain_told, rows_with}
-use Rattle.pcef_usage.proofs.Reports.{tell_rows}
 use Rattle.pcef_session.specs.Shown.{Shows, place_of}
-use Rattle.pcef_session.proofs.BoundRules.{contrary}
 use Rattle.pcef_session.proofs.Commanding.{all_agree, commands_told}
 use Rattle.pcef_session.proofs.NextTables.{all_count_from, all_on_from}
 use Rattle.pcef_session.proofs.ShownLater.{shows_same}
+use Rattle.pcef_session.proofs.Onward.{rows_after_flush, tables_after_flush}
 
 -- ---- slots and the keys that have them
 eq_later : (m n : ℕ) → (suc m == suc n) ≡ (m == n)
@@ -120,10 +119,6 @@ can_count_all p j (i ∷ items) states agrees its small old few =
     )
 
 -- ---- the journal after rows
-pub tables_flushed : (p : Setting) (j : Journal) (rs : List Row) → tables (after_flush p j rs) ≡ tables j
-tables_flushed p j [] = refl
-tables_flushed p j (r ∷ rs) = tables_settled p (with_rows (r ∷ rs) j) ∙ tables_after_rows (r ∷ rs) j
-
 pub subscribed_flushed : (p : Setting) (j : Journal) (rs : List Row) → subscribed (after_flush p j rs) ≡ subscribed j
 subscribed_flushed p j [] = refl
 subscribed_flushed p j (r ∷ rs) = subscribed_settled p (with_rows (r ∷ rs) j) ∙ subscribed_after_rows (r ∷ rs) j
@@ -189,7 +184,7 @@ pub agrees_flushed : (p : Setting) (j : Journal) (worker : ℕ) (items : List It
     after.states ≡ new.keys → IsTaken parts.triggers.usage_report items before after → IsFlushed p j worker items parts new after.journal → Agrees p after.journal new
 agrees_flushed p j worker items parts new before after agrees keys is left taken flushed =
     let done = are_counted p j items parts.triggers.usage_report before after (subst (StatesAgree p j) (sym keys) (states_agree p j parts agrees)) is (ap (λ (t : TriggerSet). t.usage_report) agrees.triggers_are) flushed.its taken in
-    let same : tables after.journal ≡ tables j = ap tables done.journal_is ∙ tables_flushed p j (map row_of items) in
+    let same : tables after.journal ≡ tables j = ap tables done.journal_is ∙ tables_after_flush p j (map row_of items) in
     let generation : now p after.journal ≡ now p j = ap (made_by p) same in
     record {
       lawful = subst (Lawful p) (sym done.journal_is) (by_flush j worker (map row_of items) agrees.lawful flushed.accepted flushed.follow);
@@ -210,11 +205,6 @@ plain_flushed p j n (r ∷ rs) plain = plain_told p (thresholds p (with_rows (r 
 commands_flushed : (p : Setting) (j : Journal) (rs : List Row) → commands (after_flush p j rs) ≡ commands j
 commands_flushed p j [] = refl
 commands_flushed p j (r ∷ rs) = commands_told p (thresholds p (with_rows (r ∷ rs) j)) (with_rows (r ∷ rs) j) ∙ commands_with j (r ∷ rs)
-
-pub rows_flushed : (p : Setting) (j : Journal) (rs : List Row) → rows (after_flush p j rs) ≡ rows (with_rows rs j)
-unfolding with_rows
-rows_flushed p j [] = refl
-rows_flushed p j (r ∷ rs) = tell_rows p (thresholds p (with_rows (r ∷ rs) j)) (with_rows (r ∷ rs) j)
 
 small_with : (rs : List Row) (j : Journal) → All (λ (r : Row). r.header.octets < 2 ^ 32) rs → All (λ (r : Row). r.header.octets < 2 ^ 32) (rows j) → All (λ (r : Row). r.header.octets < 2 ^ 32) (rows (with_rows rs j))
 unfolding with_rows
@@ -258,10 +248,10 @@ sound_flushed s t worker items before sound accepted follow its small states_are
     } in
     let agrees : Agrees p t.counted.journal (parts_of t) = agrees_flushed p j worker items (parts_of s) (parts_of t) before t.counted sound.agrees states_are journal_is refl taken flushed in
     let after : t.counted.journal ≡ after_flush p j rs = flushed_journal p j items (parts_of s) before t.counted sound.agrees states_are journal_is its taken in
-    let row_count : length (rows t.counted.journal) ≡ length items + length (rows j) = ap (λ (k : Journal). length (rows k)) after ∙ ap length (rows_flushed p j rs) ∙ rows_with j rs ∙ ap (λ n. n + length (rows j)) count in
+    let row_count : length (rows t.counted.journal) ≡ length items + length (rows j) = ap (λ (k : Journal). length (rows k)) after ∙ ap length (rows_after_flush p j rs) ∙ rows_with j rs ∙ ap (λ n. n + length (rows j)) count in
     let within = within_rows p j worker (length items) accepted in
     let keys_same : length (keys_of t.counted.states) ≡ length (keys_of s.counted.states) =
-    ap length (agrees.keys_are ∙ ap (slots_of p) (ap tables after ∙ tables_flushed p j rs) ∙ sym sound.agrees.keys_are) in
+    ap length (agrees.keys_are ∙ ap (slots_of p) (ap tables after ∙ tables_after_flush p j rs) ∙ sym sound.agrees.keys_are) in
     record {
       agrees = rw same agrees;
       plain = rw (after, attached) (plain_flushed p j s.attached rs sound.plain);
@@ -270,7 +260,7 @@ sound_flushed s t worker items before sound accepted follow its small states_are
         most_commands = rw profile sound.limited.most_commands;
         few_rows = rw profile (omega (arith, row_count, within));
         most_rows = rw profile sound.limited.most_rows;
-        octets = rw (after, rows_flushed p j rs) (small_with rs j (small_rows items small) sound.limited.octets);
+        octets = rw (after, rows_after_flush p j rs) (small_with rs j (small_rows items small) sound.limited.octets);
       };
       small = record {
         few_rules = rw active sound.small.few_rules;

@@ -12,6 +12,7 @@ use Rattle.pcef_journal.specs.Entries.{Journal, rows}
 use Rattle.pcef_journal.specs.Journals.{counted, gen, grant, now, reported, slots, subscribed, tables}
 use Rattle.pcef_journal.specs.Reports.{plan}
 use Rattle.pcef_journal.proofs.Growth.{Known, counted_after_command}
+use Rattle.pcef_journal.proofs.Sameness.{same_name_self}
 use Rattle.pcef_usage.specs.declared.usage.KeyState.{KeyState}
 use Rattle.pcef_usage.specs.Commands.{Asks, OnAfter, entered, switched_on}
 use Rattle.pcef_usage.specs.Keys.{keys_of, place_of, started, with_slot}
@@ -19,7 +20,6 @@ use Rattle.pcef_usage.specs.Tellings.{AllCount, AllOn, Counts, Distinct, OnIs, e
 use Rattle.pcef_usage.proofs.Endings.{Ended, ending, from_on, keys_all_stopped}
 use Rattle.pcef_usage.proofs.Gone.{on_after}
 use Rattle.pcef_usage.proofs.Monitors.{monitor_counts, monitor_on, slot_counts, slot_on}
-use Rattle.pcef_usage.proofs.Names.{same_name_self}
 use Rattle.pcef_usage.proofs.Places.{or_more}
 use Rattle.pcef_usage.proofs.Planned.{knows_plan}
 use Rattle.pcef_usage.proofs.Reports.{reported_after_command}

@@ -15,9 +15,9 @@ use Rattle.pcef_journal.specs.Generations.{Generation, add_key, is_among, made_b
 use Rattle.pcef_journal.specs.Entries.{Journal}
 use Rattle.pcef_journal.specs.Journals.{ends_grant, is_table, now, slots, subscribed, tables, unreported}
 use Rattle.pcef_journal.specs.Reports.{asked, ended as keys_ended, in_order, inactive, is_subscribed, noticed, plan}
+use Rattle.pcef_journal.proofs.Sameness.{same_name_is, same_name_not, same_name_turned}
 use Rattle.pcef_usage.specs.Commands.{OnAfter, switched_on}
 use Rattle.pcef_usage.specs.Tellings.{ended, ends}
-use Rattle.pcef_usage.proofs.Names.{same_name_is, same_name_not, same_name_turned}
 use Rattle.pcef_usage.proofs.Slots.{and_no, or_assoc, or_false, stranger_off}
 
 and_true : (a : Bool) → (a && true) ≡ a

@@ -6,7 +6,6 @@ pub mod Flushed
 pub mod Gone
 pub mod Loops
 pub mod Monitors
-pub mod Names
 pub mod Places
 pub mod Planned
 pub mod Plans

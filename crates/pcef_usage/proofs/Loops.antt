@@ -11,11 +11,11 @@ use Rattle.pcef_journal.specs.Setting.{same_name}
 use Rattle.pcef_journal.specs.Generations.{is_among}
 use Rattle.pcef_journal.specs.Entries.{Journal}
 use Rattle.pcef_journal.specs.Journals.{report_count, ends_grant}
+use Rattle.pcef_journal.proofs.Sameness.{same_name_self}
 use Rattle.pcef_usage.specs.declared.usage.KeyState.{KeyState}
 use Rattle.pcef_usage.specs.Keys.{keys_of, has_slot, place_of, state_at, stopped}
 use Rattle.pcef_usage.specs.Tellings.{body_by, after_telling, told, states_told, Knows, KnowsAll, after_stop, states_stopped, threshold}
 use Rattle.pcef_usage.proofs.Places.{or_more, place_below}
-use Rattle.pcef_usage.proofs.Names.{same_name_self}
 use Rattle.pcef_usage.proofs.Tells.{has_slot_is, keys_after, keys_at_place}
 
 pub place_known : (k : List ℕ) (states : List KeyState) → is_among k (keys_of states) ≡ true → place_of k states < length states

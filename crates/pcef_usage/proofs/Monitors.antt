@@ -12,10 +12,10 @@ use Rattle.pcef_journal.specs.Generations.{add_key, is_among, key_named, slots_o
 use Rattle.pcef_journal.specs.Entries.{Journal, rows}
 use Rattle.pcef_journal.specs.Journals.{counted, gen, grant, is_table, reported, slots, tables, takes_grant}
 use Rattle.pcef_journal.proofs.Growth.{Known, counted_after_command}
+use Rattle.pcef_journal.proofs.Sameness.{same_name_not, same_name_turned}
 use Rattle.pcef_usage.specs.declared.usage.KeyState.{KeyState}
 use Rattle.pcef_usage.specs.Keys.{at_place, finds_no_slot, fresh, has_slot, keys_of, most_keys, place_of, started, with_slot}
 use Rattle.pcef_usage.specs.Tellings.{AllCount, AllOn, Counts, Distinct, OnIs}
-use Rattle.pcef_usage.proofs.Names.{same_name_not, same_name_turned}
 use Rattle.pcef_usage.proofs.Places.{or_no}
 use Rattle.pcef_usage.proofs.Reports.{reported_after_command}
 use Rattle.pcef_usage.proofs.Slots.{is_among_add, off_before_add, or_false, stranger_counted, stranger_off}

@@ -14,11 +14,11 @@ use Rattle.pcef_journal.specs.Generations.{Generation, is_among}
 use Rattle.pcef_journal.specs.Entries.{Journal}
 use Rattle.pcef_journal.specs.Journals.{now, slots, subscribed, unreported}
 use Rattle.pcef_journal.specs.Reports.{asked, ended as keys_ended, in_order, inactive, is_subscribed, noticed, plan}
+use Rattle.pcef_journal.proofs.Sameness.{same_name_self}
 use Rattle.pcef_usage.specs.Commands.{Asks}
 use Rattle.pcef_usage.specs.Tellings.{KnowsAll}
 use Rattle.pcef_usage.proofs.Gone.{is_gone}
 use Rattle.pcef_usage.proofs.Monitors.{slots_before}
-use Rattle.pcef_usage.proofs.Names.{same_name_self}
 use Rattle.pcef_usage.proofs.Places.{or_more}
 use Rattle.pcef_usage.proofs.Slots.{slot_of_on}
 

@@ -9,9 +9,9 @@ use Rattle.pcef_journal.specs.Generations.{is_among}
 use Rattle.pcef_journal.specs.Entries.{Journal}
 use Rattle.pcef_journal.specs.Journals.{grant, now, report_count, reported, slots, subscribed, unreported}
 use Rattle.pcef_journal.specs.Reports.{after_command, body_of, is_reached, is_reached_by, plan, settled, tell, thresholds}
+use Rattle.pcef_journal.proofs.Sameness.{same_name_self}
 use Rattle.pcef_usage.specs.Tellings.{threshold}
 use Rattle.pcef_usage.proofs.Gone.{among_filter}
-use Rattle.pcef_usage.proofs.Names.{same_name_self}
 use Rattle.pcef_usage.proofs.Places.{or_more, or_no, or_rest}
 use Rattle.pcef_usage.proofs.Reports.{tell_now, tell_slots, tell_subscribed}
 use Rattle.pcef_usage.proofs.Slots.{and_no}

@@ -11,7 +11,7 @@ use Rattle.pcef_journal.specs.Generations.{made_by, oldest, slots_of}
 use Rattle.pcef_journal.specs.Entries.{Journal, rows}
 use Rattle.pcef_journal.specs.Journals.{counted, counts, counts_in, grant, now, octets_of, octets_told, report_count, reported, slots, subscribed, tables}
 use Rattle.pcef_journal.specs.Reports.{body_of, tell}
-use Rattle.pcef_usage.proofs.Names.{same_name_is}
+use Rattle.pcef_journal.proofs.Sameness.{same_name_is}
 
 -- ---- reports change neither generations nor rows nor what is subscribed
 pub tell_tables : (p : Setting) (ts : List Telling) (j : Journal) → tables (tell p ts j) ≡ tables j

@@ -11,12 +11,12 @@ use Rattle.pcef_journal.specs.Generations.{is_among}
 use Rattle.pcef_journal.specs.Entries.{Journal}
 use Rattle.pcef_journal.specs.Journals.{slots, subscribed, unreported, ends_grant}
 use Rattle.pcef_journal.specs.Reports.{is_reached as is_key_reached, thresholds}
+use Rattle.pcef_journal.proofs.Sameness.{same_name_is, same_name_not, same_name_self, same_name_turned}
 use Rattle.pcef_usage.specs.declared.usage.KeyState.{KeyState}
 use Rattle.pcef_rule.specs.declared.quantity.Slot.{Slot}
 use Rattle.pcef_usage.specs.Keys.{keys_of, place_of, at_place, state_at, stopped, is_reached, reached_places, ungranted_if_reached}
 use Rattle.pcef_usage.specs.Tellings.{ends, ended, KnowsAll, Distinct, Counts, AllCount, after_stop, states_stopped, OnIs, AllOn, reached_tellings, threshold, settled_tellings, settled_states}
 use Rattle.pcef_usage.proofs.Places.{or_more, or_rest}
-use Rattle.pcef_usage.proofs.Names.{same_name_is, same_name_self, same_name_turned, same_name_not}
 use Rattle.pcef_usage.proofs.Tells.{at_place_maps, all_mapped}
 use Rattle.pcef_usage.proofs.Loops.{keys_stopped, threshold_at}
 use Rattle.std.proofs.lemmas.List.{length-map}

@@ -11,10 +11,10 @@ use Rattle.pcef_journal.specs.ActiveRules.{has_key}
 use Rattle.pcef_journal.specs.Generations.{add_if_some, add_key, is_among, key_named, made_by, oldest, rules_after, slots_of, switched}
 use Rattle.pcef_journal.specs.Entries.{Journal, rows}
 use Rattle.pcef_journal.specs.Journals.{at, counted, counts, decision, now, octets_of, passed_for, slots, tables}
+use Rattle.pcef_journal.proofs.Sameness.{same_name_is, same_name_not}
 use Rattle.pcef_usage.specs.declared.usage.KeyState.{KeyState}
 use Rattle.pcef_usage.specs.Keys.{fresh, has_slot, keys_of, with_slot}
 use Rattle.pcef_usage.specs.Tellings.{Distinct}
-use Rattle.pcef_usage.proofs.Names.{same_name_is, same_name_not}
 use Rattle.pcef_usage.proofs.Places.{or_no}
 use Rattle.pcef_usage.proofs.Tells.{has_slot_is}
 

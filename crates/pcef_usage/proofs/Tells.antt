@@ -14,10 +14,10 @@ use Rattle.pcef_journal.specs.Generations.{is_among}
 use Rattle.pcef_journal.specs.Entries.{Journal}
 use Rattle.pcef_journal.specs.Journals.{grant, reported, unreported, report_count, ends_grant}
 use Rattle.pcef_journal.specs.Reports.{tell, body_of}
+use Rattle.pcef_journal.proofs.Sameness.{same_name_is, same_name_not, same_name_turned}
 use Rattle.pcef_usage.specs.declared.usage.KeyState.{KeyState}
 use Rattle.pcef_usage.specs.Keys.{keys_of, has_slot, place_of, at_place, state_at, reported_on}
 use Rattle.pcef_usage.specs.Tellings.{body_by, after_telling, told, states_told, ended, Knows, KnowsAll, Distinct, Counts, AllCount}
-use Rattle.pcef_usage.proofs.Names.{same_name_is, same_name_not, same_name_turned}
 use Rattle.pcef_usage.proofs.Places.{or_no, or_rest}
 
 -- keys

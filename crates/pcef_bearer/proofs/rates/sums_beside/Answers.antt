@@ -1,4 +1,4 @@
-use Rattle.std.proofs.Common.{◌≡◌, ◌+◌, ◌==◌, ℕ, Bool, arith, drop, not}
+use Rattle.std.proofs.Common.{arith, not}
 use Rattle.pcef_bearer.specs.declared.bearers.Bound.{Bound}
 use Rattle.pcef_bearer.specs.Bindings.{is_named}
 use Rattle.pcef_bearer.proofs.Sums.{on_down, on_up, part_down, part_up, past_down, past_up}

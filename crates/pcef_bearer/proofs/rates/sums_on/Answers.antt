@@ -1,6 +1,5 @@
-use Rattle.std.proofs.Common.{◌≡◌, ◌+◌, ◌==◌, ℕ, Bool, arith, drop, not}
+use Rattle.std.proofs.Common.{◌==◌, arith}
 use Rattle.pcef_bearer.specs.declared.bearers.Bound.{Bound}
-use Rattle.pcef_bearer.specs.Bindings.{is_named}
 use Rattle.pcef_bearer.proofs.Sums.{on_down, on_up, part_down, part_up, past_down, past_up}
 use Rattle.pcef_bearer.proofs.rates.sums_on.Goals as goal
 

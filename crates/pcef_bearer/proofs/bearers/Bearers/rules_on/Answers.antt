@@ -1,4 +1,4 @@
-use Rattle.std.proofs.Common.{◌≡◌, ◌==◌, ap, arith, length}
+use Rattle.std.proofs.Common.{◌≡◌, ◌==◌, arith, length}
 use Rattle.pcef_bearer.specs.declared.bearers.Bound.{Bound}
 use Rattle.pcef_bearer.specs.Bindings.{rules_on}
 use Rattle.pcef_bearer.proofs.Sums.{part_length}

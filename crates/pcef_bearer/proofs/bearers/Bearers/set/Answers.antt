@@ -1,5 +1,5 @@
 use Rattle.std.proofs.Common.{◌≡◌, ◌∙◌, None, arith, sym}
-use Rattle.pcef_bearer.specs.Bindings.{first_of, id_beside, refusals, without}
+use Rattle.pcef_bearer.specs.Bindings.{id_beside, without}
 use Rattle.pcef_bearer.proofs.GivenIds.{gets_id}
 use Rattle.pcef_bearer.proofs.Kept.{accepted, kept_put_at}
 use Rattle.pcef_bearer.proofs.bearers.Bearers.set.Goals as goal
