@@ -2,6 +2,7 @@
 //! with tests is proved twice.
 
 mod answer;
+mod catalog_session;
 mod declared_profile;
 mod declared_script;
 mod ends;

@@ -68,10 +68,10 @@ to_assigned proto = record {
   target = record { place = Assigned; ports = record { items = [] } };
 }
 
--- a rule of QCI 9 for packets of a protocol
-abbrev pub rule_of : Gate → List ℕ → ℕ → List ℕ → Definition
-rule_of gate name proto key = record {
-  properties = record { name = name; precedence = 100; qos = qos_of 9; rates = None; gate = gate; key = Some key };
+-- a rule with a QCI for packets of a protocol
+abbrev pub rule_of : ℕ → Gate → List ℕ → ℕ → List ℕ → Definition
+rule_of qci gate name proto key = record {
+  properties = record { name = name; precedence = 100; qos = qos_of qci; rates = None; gate = gate; key = Some key };
   filters = to_assigned proto ∷ [];
 }
 

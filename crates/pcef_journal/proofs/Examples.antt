@@ -15,14 +15,14 @@ use Rattle.pcef_journal.specs.declared.report.Report.{Report}
 use Rattle.pcef_journal.specs.declared.trigger.AccessKind.TheVariants.{RatChange}
 use Rattle.pcef_journal.specs.Entries.{Journal}
 use Rattle.pcef_journal.specs.Journals.{at, attach_count, attached, counted, counts_in, gen, grant, judged, no_triggers, now, slots, unreported}
-use Rattle.pcef_journal.proofs.ExampleSession.{Event, accept, flush, history, on_default, packet_of, row_of, rule_of, session_on, told, vid, web, worked_out}
+use Rattle.pcef_journal.proofs.ExampleSession.{Event, accept, flush, history, on_default, packet_of, qos_of, row_of, rule_of, session_on, told, vid, web, worked_out}
 
 abbrev web_rule : Event
-web_rule = accept (Install (rule_of Enabled web 17 vid))
+web_rule = accept (Install (rule_of 9 Enabled web 17 vid))
 
 -- a rule that no packet of these examples fits
 abbrev idle : List ℕ → List ℕ → Event
-idle name key = accept (Install (rule_of Enabled name 6 key))
+idle name key = accept (Install (rule_of 9 Enabled name 6 key))
 
 abbrev monitor : List ℕ → ℕ → Event
 monitor key amount = accept (Monitor key amount)
@@ -79,7 +79,7 @@ unfolding worked_out
 another_row_counts = refl
 
 -- a gate that is open uplink alone
-a_closed_gate : judged (session_on 9) (now (session_on 9) (history (session_on 9) (accept (Install (rule_of EnabledUplink web 17 vid)) ∷ []))) (packet_of 28) ≡ Gated web
+a_closed_gate : judged (session_on 9) (now (session_on 9) (history (session_on 9) (accept (Install (rule_of 9 EnabledUplink web 17 vid)) ∷ []))) (packet_of 28) ≡ Gated web
 unfolding worked_out
 a_closed_gate = refl
 
@@ -97,6 +97,17 @@ a_rule_on_a_bearer_of_its_own :
     map (λ g. judged (session_on 8) (at (session_on 8) lost g) (packet_of 28)) (0 ∷ 1 ∷ 2 ∷ []) ≡ Unmatched ∷ Passed web (record { 0 = 6 }) ∷ Unmatched ∷ []
 unfolding worked_out
 a_rule_on_a_bearer_of_its_own = refl
+
+-- a new pair gets the least id that is free, and the others keep theirs
+abbrev on_qci : ℕ → List ℕ → Event
+on_qci qci name = accept (Install (rule_of qci Enabled name 17 vid))
+
+abbrev three_bearers : Journal
+three_bearers = history (session_on 9) (on_qci 6 (codes "a") ∷ on_qci 7 (codes "b") ∷ accept (Remove (codes "a")) ∷ on_qci 8 (codes "c") ∷ [])
+
+ids_of_bearers : map (λ q. (now (session_on 9) three_bearers).id_of (qos_of q)) (9 ∷ 7 ∷ 8 ∷ []) ≡ 5 ∷ 7 ∷ 6 ∷ []
+unfolding worked_out
+ids_of_bearers = refl
 
 -- ---- workers
 workers_of_the_short_journal : attached short_journal ≡ 0 ∷ []
