@@ -13,15 +13,15 @@ use Rattle.pcef_rule.specs.declared.quantity.BearerId.{BearerId}
 use Rattle.pcef_rule.specs.declared.quantity.Sums.{Sums}
 use Rattle.pcef_table.specs.declared.entry.Entry.{Entry}
 use Rattle.pcef_catalog.specs.declared.listing.Offer.{Offer}
-use Rattle.pcef_journal.specs.declared.report.Body.{Body}
-use Rattle.pcef_journal.specs.declared.report.Body.TheVariants.{Usage, Access, Inactive}
-use Rattle.pcef_journal.specs.declared.report.Report.{Report}
-use Rattle.pcef_journal.specs.Entries.{Journal}
+use Rattle.pcef_model.specs.declared.report.Body.{Body}
+use Rattle.pcef_model.specs.declared.report.Body.TheVariants.{Usage, Access, Inactive}
+use Rattle.pcef_model.specs.declared.report.Report.{Report}
+use Rattle.pcef_model.specs.Entries.{Journal}
 use Rattle.pcef_bearer.specs.declared.bearers.Bound.{Bound}
 use Rattle.pcef_bearer.specs.Bindings.{guaranteed, rules_on}
 use Rattle.pcef_usage.specs.declared.usage.KeyState.{KeyState}
 use Rattle.pcef_session.specs.Agreement.{Parts}
-use Rattle.pcef_session.specs.declared.answer.Accepted.{Accepted}
+use Rattle.pcef_model.specs.declared.answer.Accepted.{Accepted}
 use Rattle.pcef_answer.specs.RefusalAnswers.{data_of}
 use Rattle.pcef_answer.specs.ReportAnswers.{body_data, reports_data, reports_told}
 use Rattle.pcef_answer.specs.ShowAnswers.{active_data, bearer_data, bearer_ids, bearer_told, bearers_told, kept_data, states_data}

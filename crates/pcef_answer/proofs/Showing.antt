@@ -3,13 +3,13 @@ use Rattle.std.proofs.Common.{◌≡◌, ◌∙◌, List, [], ◌∷◌, ap, ari
 use Rattle.std.specs.List.{AllByRecursion}
 use Rattle.serde_json.specs.Data.{array}
 use Rattle.serde_json.specs.View.{items_of}
-use Rattle.pcef_journal.specs.Entries.{Journal}
-use Rattle.pcef_journal.specs.Generations.{is_among}
-use Rattle.pcef_journal.specs.Journals.{gen, now, reported, unreported}
-use Rattle.pcef_journal.specs.Setting.{Setting}
+use Rattle.pcef_model.specs.Entries.{Journal}
+use Rattle.pcef_model.specs.Generations.{is_among}
+use Rattle.pcef_model.specs.Journals.{gen, now, reported, unreported}
+use Rattle.pcef_model.specs.Setting.{Setting}
 use Rattle.pcef_usage.specs.declared.usage.KeyState.{KeyState}
 use Rattle.pcef_session.specs.Agreement.{Agrees, KeyAgrees, Parts}
-use Rattle.pcef_session.specs.Bound.{bound_of}
+use Rattle.pcef_bearer.specs.Standing.{bound_of}
 use Rattle.pcef_answer.specs.ShowAnswers.{active_data, bearers_data, key_data, key_told, kept_data, session_data, state_data, states_data, told_data}
 
 state_told : (p : Setting) (j : Journal) (s : KeyState) → KeyAgrees p j s → state_data s ≡ key_told p j s.key

@@ -3,12 +3,12 @@
 use Rattle.std.specs.Prelude.{ℕ, List, codes, Option, Some, None}
 use Rattle.serde_json.specs.Data.{Data, string, object, member, no_members}
 use Rattle.serde_json.specs.Written.{compact_text}
-use Rattle.pcef_session.specs.declared.answer.AttachFault.{AttachFault}
-use Rattle.pcef_session.specs.declared.answer.AttachFault.TheVariants as attach
-use Rattle.pcef_session.specs.declared.answer.FlushRefusal.{FlushRefusal}
-use Rattle.pcef_session.specs.declared.answer.FlushRefusal.TheVariants as flush
-use Rattle.pcef_session.specs.declared.answer.Refusal.{Refusal}
-use Rattle.pcef_session.specs.declared.answer.Refusal.TheVariants.{Terminated, Closed, CommandsFull, NameIsPredefined, UnknownRule, UnknownKey, ZeroGrant, UnknownBearer, DefaultBearer, WorkersAttached, RulesFull, KeysFull, UnknownQci, RatesMissing, RatesNotWanted, TooManyBearers, OverCapacityUp, OverCapacityDown, NoMemory}
+use Rattle.pcef_model.specs.declared.answer.AttachFault.{AttachFault}
+use Rattle.pcef_model.specs.declared.answer.AttachFault.TheVariants as attach
+use Rattle.pcef_model.specs.declared.answer.FlushRefusal.{FlushRefusal}
+use Rattle.pcef_model.specs.declared.answer.FlushRefusal.TheVariants as flush
+use Rattle.pcef_model.specs.declared.answer.Refusal.{Refusal}
+use Rattle.pcef_model.specs.declared.answer.Refusal.TheVariants.{Terminated, Closed, CommandsFull, NameIsPredefined, UnknownRule, UnknownKey, ZeroGrant, UnknownBearer, DefaultBearer, WorkersAttached, RulesFull, KeysFull, UnknownQci, RatesMissing, RatesNotWanted, TooManyBearers, OverCapacityUp, OverCapacityDown, NoMemory}
 use Rattle.pcef_answer.specs.FaultAnswers.{count}
 
 abbrev pub refused_data : List ℕ → ℕ → Data

@@ -3,16 +3,16 @@
 use Rattle.std.specs.Prelude.{ℕ, List, [], codes, drop, map, nat_lt, reverse, if◌then◌else◌}
 use Rattle.serde_json.specs.Data.{Data, string, array, object, member, no_members}
 use Rattle.serde_json.specs.View.{items_of}
-use Rattle.pcef_journal.specs.declared.report.Body.{Body}
-use Rattle.pcef_journal.specs.declared.report.Body.TheVariants.{Usage, Access, Inactive}
-use Rattle.pcef_journal.specs.declared.report.Cause.{Cause}
-use Rattle.pcef_journal.specs.declared.report.Cause.TheVariants.{Threshold, Requested, Disabled, RulesGone, Terminated}
-use Rattle.pcef_journal.specs.declared.report.InactiveCause.{InactiveCause}
-use Rattle.pcef_journal.specs.declared.report.InactiveCause.TheVariants.{BearerLost}
-use Rattle.pcef_journal.specs.declared.report.Report.{Report}
-use Rattle.pcef_journal.specs.declared.trigger.AccessKind.{AccessKind}
-use Rattle.pcef_journal.specs.declared.trigger.AccessKind.TheVariants.{RatChange, PlmnChange, UserLocationChange, UeTimeZoneChange}
-use Rattle.pcef_journal.specs.Entries.{Journal, reports}
+use Rattle.pcef_model.specs.declared.report.Body.{Body}
+use Rattle.pcef_model.specs.declared.report.Body.TheVariants.{Usage, Access, Inactive}
+use Rattle.pcef_model.specs.declared.report.Cause.{Cause}
+use Rattle.pcef_model.specs.declared.report.Cause.TheVariants.{Threshold, Requested, Disabled, RulesGone, Terminated}
+use Rattle.pcef_model.specs.declared.report.InactiveCause.{InactiveCause}
+use Rattle.pcef_model.specs.declared.report.InactiveCause.TheVariants.{BearerLost}
+use Rattle.pcef_model.specs.declared.report.Report.{Report}
+use Rattle.pcef_model.specs.declared.trigger.AccessKind.{AccessKind}
+use Rattle.pcef_model.specs.declared.trigger.AccessKind.TheVariants.{RatChange, PlmnChange, UserLocationChange, UeTimeZoneChange}
+use Rattle.pcef_model.specs.Entries.{Journal, reports}
 use Rattle.pcef_answer.specs.FaultAnswers.{count}
 
 abbrev pub cause_text : Cause → List ℕ

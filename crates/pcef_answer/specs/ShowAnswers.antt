@@ -10,15 +10,15 @@ use Rattle.pcef_table.specs.declared.entry.Entry.{Entry}
 use Rattle.pcef_catalog.specs.declared.listing.Offer.{Offer}
 use Rattle.pcef_table.specs.Sources.{name_of}
 use Rattle.pcef_table.specs.Tables.{TableValue}
-use Rattle.pcef_journal.specs.Entries.{Journal}
-use Rattle.pcef_journal.specs.Generations.{is_among}
-use Rattle.pcef_journal.specs.Journals.{gen, now, reported, slots, unreported}
-use Rattle.pcef_journal.specs.Setting.{Setting}
+use Rattle.pcef_model.specs.Entries.{Journal}
+use Rattle.pcef_model.specs.Generations.{is_among}
+use Rattle.pcef_model.specs.Journals.{gen, now, reported, slots, unreported}
+use Rattle.pcef_model.specs.Setting.{Setting}
 use Rattle.pcef_bearer.specs.declared.bearers.Bound.{Bound}
 use Rattle.pcef_bearer.specs.Bindings.{guaranteed, rules_on}
 use Rattle.pcef_usage.specs.declared.usage.KeyState.{KeyState}
 use Rattle.pcef_session.specs.Agreement.{Parts}
-use Rattle.pcef_session.specs.Bound.{bound_of}
+use Rattle.pcef_bearer.specs.Standing.{bound_of}
 use Rattle.pcef_session.specs.Shown.{Shows}
 use Rattle.pcef_answer.specs.FaultAnswers.{count}
 

@@ -5,15 +5,15 @@ use Rattle.serde_json.specs.Data.{Data, string, boolean, array, object, Members,
 use Rattle.serde_json.specs.View.{items_of}
 use Rattle.serde_json.specs.Written.{compact_text}
 use Rattle.pcef_rule.specs.declared.quantity.BearerId.{BearerId}
-use Rattle.pcef_table.specs.declared.verdict.Verdict.{Verdict}
-use Rattle.pcef_table.specs.declared.verdict.Verdict.TheVariants.{Stray, Unmatched, Gated, Passed}
-use Rattle.pcef_journal.specs.Entries.{Journal}
-use Rattle.pcef_session.specs.declared.answer.Accepted.{Accepted}
-use Rattle.pcef_session.specs.declared.answer.AttachFault.{AttachFault}
-use Rattle.pcef_session.specs.declared.answer.FlushRefusal.{FlushRefusal}
-use Rattle.pcef_session.specs.declared.answer.Judged.{Judged}
-use Rattle.pcef_session.specs.declared.answer.Refusal.{Refusal}
-use Rattle.pcef_session.specs.declared.answer.Verdicts.{Verdicts}
+use Rattle.pcef_model.specs.declared.verdict.Verdict.{Verdict}
+use Rattle.pcef_model.specs.declared.verdict.Verdict.TheVariants.{Stray, Unmatched, Gated, Passed}
+use Rattle.pcef_model.specs.Entries.{Journal}
+use Rattle.pcef_model.specs.declared.answer.Accepted.{Accepted}
+use Rattle.pcef_model.specs.declared.answer.AttachFault.{AttachFault}
+use Rattle.pcef_model.specs.declared.answer.FlushRefusal.{FlushRefusal}
+use Rattle.pcef_model.specs.declared.answer.Judged.{Judged}
+use Rattle.pcef_model.specs.declared.answer.Refusal.{Refusal}
+use Rattle.pcef_model.specs.declared.answer.Verdicts.{Verdicts}
 use Rattle.pcef_session.specs.declared.batch.BatchFull.{BatchFull}
 use Rattle.pcef_world.specs.declared.world.StepRefusal.{StepRefusal}
 use Rattle.pcef_world.specs.declared.world.StepRefusal.TheVariants.{NoWorker, Refused}

@@ -4,7 +4,7 @@ ghost use Rattle.std.specs.Prelude.{◌≡◌, IfOk, string_bytes};
 ghost use Rattle.serde_json.specs.View.{view};
 ghost use Rattle.pcef_answer.specs.RefusalAnswers.{refused_data, refused_text, refusal_name, refusal_number, refusal_count, counted_data, refusal_data, refusal_text, attach_fault_text, flush_refusal_text, no_worker_text};
 
-use pcef_session::{AttachFault, FlushRefusal, Refusal};
+use pcef_model::{AttachFault, FlushRefusal, Refusal};
 use serde_json::{Value, json};
 use std::alloc::{AllocError, Global};
 

@@ -4,7 +4,8 @@ ghost use Rattle.std.specs.Prelude.{◌≡◌, IfOk};
 ghost use Rattle.serde_json.specs.View.{view};
 ghost use Rattle.pcef_answer.specs.ReportAnswers.{cause_text, kind_text, inactive_text, report_data, reports_told, reports_data};
 
-use pcef_journal::{AccessKind, Body, Cause, InactiveCause, Journal, Report, Reports};
+use pcef_journal::{Journal, Reports};
+use pcef_model::{AccessKind, Body, Cause, InactiveCause, Report};
 use serde_json::{Value, json};
 use std::alloc::{AllocError, Global};
 

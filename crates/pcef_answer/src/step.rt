@@ -10,7 +10,8 @@ use crate::refusal::{
 use crate::report::report_list;
 use crate::written;
 use pcef_journal::Journal;
-use pcef_session::{Accepted, AttachFault, BatchFull, FlushRefusal, Refusal, Verdicts};
+use pcef_model::{Accepted, AttachFault, FlushRefusal, Refusal, Verdicts};
+use pcef_session::BatchFull;
 use pcef_world::StepRefusal;
 use serde_json::{Value, json};
 use std::alloc::{AllocError, Global};

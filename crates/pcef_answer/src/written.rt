@@ -7,14 +7,13 @@ ghost use Rattle.json.specs.Print.{escape, escape_byte, quoted};
 ghost use Rattle.serde_json.specs.Written.{comma_if, compact_text};
 ghost use Rattle.pcef_answer.specs.ReportAnswers.{reports_data, reports_told};
 ghost use Rattle.pcef_rule.specs.Name.{IsVisible};
-ghost use Rattle.pcef_table.specs.declared.verdict.Verdict.TheVariants.{Gated, Passed};
+ghost use Rattle.pcef_model.specs.declared.verdict.Verdict.TheVariants.{Gated, Passed};
 ghost use Rattle.pcef_answer.specs.StepAnswers.{flushed_data, judged_data, taken_data, verdict_data, verdicts_data};
 
 use crate::report::report_list;
 use pcef_journal::Journal;
 use pcef_rule::{BearerId, RuleName};
-use pcef_session::{Judged, Verdicts};
-use pcef_table::Verdict;
+use pcef_model::{Judged, Verdict, Verdicts};
 use std::alloc::{AllocError, Global};
 
 /// The answer to a packet that was taken.

@@ -1,41 +1,21 @@
 -- The id that a binding gives.
-use Rattle.std.proofs.Common.{◌≡◌, ◌∙◌, ◌≤◌, ◌<◌, ℕ, zero, suc, ◌==◌, Bool, true, false, not, List, [], ◌∷◌, find, Option, Some, None, refl, sym, ap, subst, arith, inl, inr, length, get_or, rules}
+use Rattle.std.proofs.Common.{◌≡◌, ◌∙◌, ◌≤◌, ◌<◌, ℕ, zero, suc, ◌==◌, true, false, not, List, [], ◌∷◌, find, Option, Some, None, refl, sym, ap, subst, arith, inl, inr, length, get_or, rules}
 use Rattle.std.specs.Prelude.{All, AllPairs}
 use Rattle.std.specs.List.{list_any}
 use Rattle.std.proofs.lemmas.Bool.{cases_Bool, cases_order, false_from_ne_true, ne_eqb, or_from}
 use Rattle.std.proofs.lemmas.Bool.Decides.{Decides-eqb}
-use Rattle.std.proofs.lemmas.List.Elements.{All-filter, All-head, All-tail, All-weaker, All-from_recursion}
+use Rattle.std.proofs.lemmas.List.Elements.{All-filter, All-weaker, All-from_recursion}
 use Rattle.std.proofs.lemmas.List.Folds.{list_any_none}
 use Rattle.pcef_rule.specs.declared.quantity.Qos.{Qos}
-use Rattle.pcef_table.proofs.Foremost.{none_passes}
-use Rattle.pcef_journal.specs.Setting.{same_qos}
-use Rattle.pcef_journal.proofs.Sameness.{contrary, same_qos_is, same_qos_of, same_qos_self, same_qos_sym}
+use Rattle.pcef_lists.proofs.Foremost.{none_passes}
+use Rattle.pcef_model.specs.Setting.{same_qos}
+use Rattle.pcef_lists.proofs.Tests.{contrary}
+use Rattle.pcef_model.proofs.Sameness.{same_qos_is, same_qos_of, same_qos_self, same_qos_sym}
 use Rattle.pcef_bearer.specs.declared.bearers.Bound.{Bound}
-use Rattle.pcef_bearer.specs.Bindings.{Agree, HasItsId, default_id, finds_no_bearer, has_bearer, id_beside, id_or_new, is_named, least_free, other_ids, without}
-use Rattle.pcef_bearer.proofs.Names.{any_at}
-
--- ---- what is found
-found_passes : {X : Type 0} (t : X → Bool) (xs : List X) (x : X) → find t xs ≡ Some x → t x ≡ true
-found_passes t [] x found = absurd (cc)
-found_passes t (y ∷ xs) x found =
-    elim (cases_Bool (t y)) [
-      | inl is ↦
-          let it : Some y ≡ Some x = rw is at found in
-          let same : y ≡ x = cc in
-          subst (λ z. t z ≡ true) same is
-      | inr isnt ↦ found_passes t xs x (rw isnt at found)
-    ]
-
-found_is : {X : Type 0} (P : X → Type 0) (t : X → Bool) (xs : List X) (x : X) → All P xs → find t xs ≡ Some x → P x
-found_is P t [] x all found = absurd (cc)
-found_is P t (y ∷ xs) x all found =
-    elim (cases_Bool (t y)) [
-      | inl is ↦
-          let it : Some y ≡ Some x = rw is at found in
-          let same : y ≡ x = cc in
-          subst P same (All-head P y xs all)
-      | inr isnt ↦ found_is P t xs x (All-tail P y xs all) (rw isnt at found)
-    ]
+use Rattle.pcef_bearer.specs.Bindings.{Agree, HasItsId, finds_no_bearer, has_bearer, id_beside, id_or_new, is_named, least_free, without}
+use Rattle.pcef_model.specs.Bearers.{default_id, other_ids}
+use Rattle.pcef_model.proofs.Names.{any_at}
+use Rattle.pcef_lists.proofs.Found.{found_is, found_passes}
 
 -- ---- rules agree with one another
 pub agree_self : (a : Bound) → Agree a a

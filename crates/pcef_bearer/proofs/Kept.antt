@@ -13,11 +13,14 @@ use Rattle.pcef_rule.specs.declared.quantity.Rates.{Rates}
 use Rattle.pcef_rule.specs.declared.quantity.Sums.{Sums}
 use Rattle.pcef_rule.specs.QciKinds.{kind_of}
 use Rattle.pcef_bearer.specs.declared.bearers.Bound.{Bound}
-use Rattle.pcef_bearer.specs.declared.refusal.BindRefusal.{BindRefusal}
-use Rattle.pcef_bearer.specs.declared.refusal.BindRefusal.TheVariants.{UnknownQci, RatesMissing, RatesNotWanted, TooManyBearers, OverCapacityUp, OverCapacityDown}
-use Rattle.pcef_bearer.specs.Bindings.{Agree, Binding, DifferInName, HasItsId, HasRoom, IsBinding, bearer_of, bound_at, finds_no_bearer, first_of, id_beside, is_gbr, is_named, is_non_gbr, put, rate_down, rate_up, refusals, total_down, total_up, with_rules, without}
+use Rattle.pcef_model.specs.declared.answer.Refusal.{Refusal}
+use Rattle.pcef_model.specs.declared.answer.Refusal.TheVariants.{UnknownQci, RatesMissing, RatesNotWanted, TooManyBearers, OverCapacityUp, OverCapacityDown}
+use Rattle.pcef_bearer.specs.Bindings.{Agree, Binding, DifferInName, HasItsId, HasRoom, IsBinding, bearer_of, bound_at, finds_no_bearer, id_beside, is_named, put, refusals, total_down, total_up, with_rules, without}
+use Rattle.pcef_model.specs.Refusals.{first_of}
+use Rattle.pcef_model.specs.Bearers.{is_gbr, is_non_gbr, rate_down, rate_up, sum_up, sum_down}
 use Rattle.pcef_bearer.proofs.GivenIds.{IsIdOf, agree_all, agree_self, agree_sym, given_id}
-use Rattle.pcef_bearer.proofs.Names.{NamesOnce, once_from_pairs, pairs_from_once, put_all, put_down, put_length, put_once, put_up}
+use Rattle.pcef_bearer.proofs.Names.{NamesOnce, put_down, put_up}
+use Rattle.pcef_model.proofs.Names.{once_from_pairs, pairs_from_once, put_all, put_length, put_once}
 use Rattle.pcef_bearer.proofs.Places.{put_behind}
 use Rattle.pcef_bearer.proofs.Sums.{part_down, part_up, part_length}
 
@@ -25,7 +28,7 @@ use Rattle.pcef_bearer.proofs.Sums.{part_down, part_up, part_length}
 pub empty_binding : (default : Qos) (capacity : Sums) (qcis : List (Option Kind)) (bound : List Bound) →
     kind_of qcis default.qci.0 ≡ Some NonGbr → bound ≡ [] →
     IsBinding (record { default_qos = default; capacity = capacity; qcis = qcis; bound = bound })
-unfolding total_up total_down
+unfolding sum_up sum_down
 empty_binding default capacity qcis bound kind empty = rw empty (record {
   default_is_non_gbr = kind;
   few = omega arith;
@@ -72,7 +75,7 @@ accepted v others q rates none =
 put_few : (new : Bound) (bound : List Bound) → length bound ≤ 64 → HasRoom new.name 64 bound → length (put new bound) ≤ 64
 put_few new bound few room =
     elim (cases_Bool (list_any (is_named new.name) bound)) [
-      | inl there ↦ rw (put_length new bound there) few
+      | inl there ↦ rw (put_length (λ (b : Bound). b.name) new bound there) few
       | inr none ↦
           let space : length bound < 64 = room none in
           rw (put_behind new bound none, length-append) (omega (arith, space))
@@ -86,11 +89,11 @@ put_pairs new bound once pairs agrees i j d below within = all i d (omega (arith
     others = AllPairs-filter Agree (λ (b : Bound). not (is_named new.name b)) bound pairs
 
     it : All (Agree new) (put new bound)
-    it = put_all (Agree new) new bound once (agree_self new) agrees
+    it = put_all (λ (b : Bound). b.name) (Agree new) new bound once (agree_self new) agrees
 
     all : All (λ (a : Bound). All (Agree a) (put new bound)) (put new bound)
-    all = put_all (λ (a : Bound). All (Agree a) (put new bound)) new bound once it
-        (λ k e inside. put_all (Agree (get_or (without new.name bound) k e)) new bound once
+    all = put_all (λ (b : Bound). b.name) (λ (a : Bound). All (Agree a) (put new bound)) new bound once it
+        (λ k e inside. put_all (λ (b : Bound). b.name) (Agree (get_or (without new.name bound) k e)) new bound once
         (agree_sym new (get_or (without new.name bound) k e) (agrees k e inside))
         (agree_all (without new.name bound) others k e inside))
 
@@ -99,7 +102,7 @@ pub kept_put : (v : Binding) (name : List ℕ) (q : Qos) (rates : Option Rates) 
     IsBinding (with_rules v (put (bound_at name q rates id) v.bound))
 kept_put v name q rates id kept room none found =
     let new : Bound = bound_at name q rates id in
-    let once : NamesOnce v.bound = once_from_pairs v.bound kept.names in
+    let once : NamesOnce v.bound = once_from_pairs (λ (b : Bound). b.name) v.bound kept.names in
     let given : IsIdOf v.default_qos (without name v.bound) q id = given_id v.default_qos name v.bound q id kept.ids kept.pairs found in
     let passes = accepted v (without name v.bound) q rates none in
     let up : total_up (without name v.bound) + rate_up rates ≤ v.capacity.up = ltb-false v.capacity.up (total_up (without name v.bound) + rate_up rates) passes.1 in
@@ -108,8 +111,8 @@ kept_put v name q rates id kept room none found =
     record {
       default_is_non_gbr = kept.default_is_non_gbr;
       few = put_few new v.bound kept.few room;
-      names = pairs_from_once (put new v.bound) (put_once new v.bound once);
-      ids = put_all (HasItsId v.default_qos) new v.bound once (given.of_default, given.of_other)
+      names = pairs_from_once (λ (b : Bound). b.name) (put new v.bound) (put_once (λ (b : Bound). b.name) new v.bound once);
+      ids = put_all (λ (b : Bound). b.name) (HasItsId v.default_qos) new v.bound once (given.of_default, given.of_other)
           (All-filter (λ (b : Bound). not (is_named name b)) (HasItsId v.default_qos) v.bound kept.ids);
       pairs = put_pairs new v.bound once kept.pairs given.agrees;
       within_up = rw (put_up new v.bound once) up;
@@ -141,7 +144,7 @@ kept_put_at v w name q rates id is kept =
     is (kept_put v name q rates id kept)
 
 -- a rule that isn't bound comes last
-pub last_put : (r : Result BearerId BindRefusal) (v w : Binding) (name : List ℕ) (q : Qos) (rates : Option Rates) →
+pub last_put : (r : Result BearerId Refusal) (v w : Binding) (name : List ℕ) (q : Qos) (rates : Option Rates) →
     list_any (is_named name) v.bound ≡ false → IfOk r (λ id. w ≡ with_rules v (put (bound_at name q rates id.0) v.bound)) →
     IfOk r (λ id. w.bound ≡ v.bound ++ bound_at name q rates id.0 ∷ [])
 last_put (Ok id) v w name q rates none is = ap (λ (x : Binding). x.bound) is ∙ put_behind (bound_at name q rates id.0) v.bound none

@@ -1,3 +1,4 @@
+pub mod BoundBearers
 pub mod GivenIds
 pub mod Kept
 pub mod Names

@@ -3,12 +3,13 @@ use Rattle.std.proofs.Common.{◌≡◌, ◌≤◌, ◌<◌, ◌+◌, ℕ, zero,
 use Rattle.std.specs.Prelude.{if◌then◌else◌}
 use Rattle.std.proofs.lemmas.Bool.{cases_Bool}
 use Rattle.pcef_bearer.specs.declared.bearers.Bound.{Bound}
-use Rattle.pcef_bearer.specs.Bindings.{rate_down, rate_up, total_down, total_up}
+use Rattle.pcef_model.specs.Bearers.{rate_down, rate_up, sum_up, sum_down}
+use Rattle.pcef_bearer.specs.Bindings.{total_down, total_up}
 
 -- one rule more or less
 cons_up : (p : Bound → Bool) (b : Bound) (bound : List Bound) →
     total_up (filter p (b ∷ bound)) ≡ (if p b then rate_up b.rates else 0) + total_up (filter p bound)
-unfolding total_up
+unfolding sum_up
 cons_up p b bound =
     elim (cases_Bool (p b)) [
       | inl is ↦ rw is refl
@@ -17,7 +18,7 @@ cons_up p b bound =
 
 cons_down : (p : Bound → Bool) (b : Bound) (bound : List Bound) →
     total_down (filter p (b ∷ bound)) ≡ (if p b then rate_down b.rates else 0) + total_down (filter p bound)
-unfolding total_down
+unfolding sum_down
 cons_down p b bound =
     elim (cases_Bool (p b)) [
       | inl is ↦ rw is refl
@@ -39,14 +40,14 @@ step_down p (x ∷ bound) (suc i) b within is = step_down p bound i b (omega (ar
 
 -- nothing is left at the end
 pub past_up : (p : Bound → Bool) (bound : List Bound) (i : ℕ) → length bound ≤ i → total_up (filter p (drop i bound)) ≡ 0
-unfolding total_up
+unfolding sum_up
 past_up p [] zero past = refl
 past_up p [] (suc i) past = refl
 past_up p (b ∷ bound) zero past = absurd (omega (arith, past))
 past_up p (b ∷ bound) (suc i) past = past_up p bound i (omega (arith, past))
 
 pub past_down : (p : Bound → Bool) (bound : List Bound) (i : ℕ) → length bound ≤ i → total_down (filter p (drop i bound)) ≡ 0
-unfolding total_down
+unfolding sum_down
 past_down p [] zero past = refl
 past_down p [] (suc i) past = refl
 past_down p (b ∷ bound) zero past = absurd (omega (arith, past))
@@ -54,7 +55,7 @@ past_down p (b ∷ bound) (suc i) past = past_down p bound i (omega (arith, past
 
 -- a part has no more than all
 pub part_up : (p : Bound → Bool) (bound : List Bound) → total_up (filter p bound) ≤ total_up bound
-unfolding total_up
+unfolding sum_up
 part_up p [] = omega arith
 part_up p (b ∷ bound) =
     let rest : total_up (filter p bound) ≤ total_up bound = part_up p bound in
@@ -64,7 +65,7 @@ part_up p (b ∷ bound) =
     ]
 
 pub part_down : (p : Bound → Bool) (bound : List Bound) → total_down (filter p bound) ≤ total_down bound
-unfolding total_down
+unfolding sum_down
 part_down p [] = omega arith
 part_down p (b ∷ bound) =
     let rest : total_down (filter p bound) ≤ total_down bound = part_down p bound in

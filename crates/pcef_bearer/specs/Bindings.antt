@@ -1,18 +1,20 @@
 -- Which bearers rules are bound to, and what may be bound (TS 23.203, clauses 6.1.1.4 and 6.2.2.2).
-use Rattle.std.specs.Prelude.{ℕ, ◌≡◌, ◌≤◌, ◌<◌, ◌+◌, ◌==◌, Bool, true, false, ◌&&◌, ◌||◌, not, List, [], ◌∷◌, Option, Some, None, Result, Ok, Err, All, AllPairs, filter, find, is_none, is_some, length, nat_lt, if◌then◌else◌}
+use Rattle.std.specs.Prelude.{ℕ, ◌≡◌, ◌≤◌, ◌<◌, ◌==◌, Bool, true, false, ◌&&◌, ◌||◌, not, List, Option, Some, None, Result, Ok, Err, All, AllPairs, filter, find, is_none, length, if◌then◌else◌}
 use Rattle.std.specs.List.{list_any}
 use Rattle.pcef_rule.specs.declared.qci.Kind.{Kind}
-use Rattle.pcef_rule.specs.declared.qci.Kind.TheVariants.{Gbr, NonGbr}
+use Rattle.pcef_rule.specs.declared.qci.Kind.TheVariants.{NonGbr}
 use Rattle.pcef_rule.specs.declared.quantity.Qos.{Qos}
 use Rattle.pcef_rule.specs.declared.quantity.Rates.{Rates}
 use Rattle.pcef_rule.specs.declared.quantity.Sums.{Sums}
 use Rattle.pcef_rule.specs.QciKinds.{kind_of}
-use Rattle.pcef_journal.specs.Setting.{same_name, same_qos}
+use Rattle.pcef_model.specs.Setting.{same_name, same_qos}
+use Rattle.pcef_model.specs.Bearers.{default_id, has_pair, least_free as free, sum_down, sum_up}
+use Rattle.pcef_model.specs.Refusals.{Conditions, bind_refusals}
+use Rattle.pcef_model.specs.declared.answer.Refusal.{Refusal}
 use Rattle.pcef_rule.specs.declared.quantity.BearerId.{BearerId}
 use Rattle.pcef_bearer.specs.declared.bearers.Bound.{Bound}
 use Rattle.pcef_bearer.specs.declared.bearers.Released.{Released}
-use Rattle.pcef_bearer.specs.declared.refusal.BindRefusal.{BindRefusal}
-use Rattle.pcef_bearer.specs.declared.refusal.BindRefusal.TheVariants.{UnknownQci, RatesMissing, RatesNotWanted, TooManyBearers, OverCapacityUp, OverCapacityDown}
+use Rattle.pcef_model.specs.Named.{has_name, put_by, without_name}
 
 -- what is fixed: the pair of the default bearer, what the guaranteed rates may sum up to, and the kind
 -- that is declared for each QCI; and the rules that are bound, in the order in which they were bound
@@ -24,32 +26,23 @@ pub record Binding : Type 0 where
 
 -- ---- rules by name
 abbrev pub is_named : List ℕ → Bound → Bool
-is_named name b = same_name b.name name
+is_named name b = has_name (λ c. c.name) name b
 
 abbrev pub without : List ℕ → List Bound → List Bound
-without name bound = filter (λ b. not (is_named name b)) bound
+without name bound = without_name (λ b. b.name) name bound
 
 -- the rules with this one: a rule that is bound anew keeps its place
 abbrev pub put : Bound → List Bound → List Bound
-put new [] = new ∷ []
-put new (b ∷ bound) = if is_named new.name b then new ∷ bound else b ∷ put new bound
+put new bound = put_by (λ b. b.name) new bound
 
 -- ---- bearers
--- own choice
-abbrev pub default_id : ℕ
-default_id = 5
-
--- the ids of bearers beside the default one (own choice)
-abbrev pub other_ids : List ℕ
-other_ids = 6 ∷ 7 ∷ 8 ∷ 9 ∷ 10 ∷ 11 ∷ 12 ∷ 13 ∷ 14 ∷ 15 ∷ []
-
 -- the default pair has a bearer, and each pair of a rule that is bound
 abbrev pub has_bearer : Qos → List Bound → Qos → Bool
-has_bearer default bound q = same_qos q default || list_any (λ b. same_qos q b.qos) bound
+has_bearer default bound q = has_pair (λ b. b.qos) default bound q
 
--- the least id that no bearer has, if there is one (own choice)
+-- the least id that no rule is on
 abbrev pub least_free : List Bound → Option ℕ
-least_free bound = find (λ id. not (list_any (λ b. id == b.bearer.0) bound)) other_ids
+least_free bound = free (λ b. b.bearer.0) bound
 
 -- the id of a bearer that is there, or a free one
 abbrev pub id_or_new : Option Bound → List Bound → Option ℕ
@@ -63,22 +56,12 @@ id_beside default before others q =
     if same_qos q default then Some default_id
     else id_or_new (find (λ b. same_qos q b.qos) before) others
 
--- ---- rates: exact sums, in which a rule without rates adds 0
-abbrev pub rate_up : Option Rates → ℕ
-rate_up None = 0
-rate_up (Some rates) = rates.up
+-- ---- rates
+abbrev pub total_up : List Bound → ℕ
+total_up bound = sum_up (λ b. b.rates) bound
 
-abbrev pub rate_down : Option Rates → ℕ
-rate_down None = 0
-rate_down (Some rates) = rates.down
-
-unfoldable pub total_up : List Bound → ℕ
-total_up [] = 0
-total_up (b ∷ bound) = rate_up b.rates + total_up bound
-
-unfoldable pub total_down : List Bound → ℕ
-total_down [] = 0
-total_down (b ∷ bound) = rate_down b.rates + total_down bound
+abbrev pub total_down : List Bound → ℕ
+total_down bound = sum_down (λ b. b.rates) bound
 
 -- the bearer of a rule
 abbrev pub bearer_in : Option Bound → Option BearerId
@@ -104,32 +87,14 @@ abbrev pub released : Option Bound → List Bound → Option Released
 released None others = None
 released (Some b) others = Some (record { bearer = b.bearer; ended = not (is_present b.bearer.0 others) })
 
--- ---- refusals, in their order: a condition, and what is answered where it holds and none before it does
-abbrev pub first_of : List (Bool × BindRefusal) → Option BindRefusal
-first_of [] = None
-first_of (c ∷ cs) = if c.0 then Some c.1 else first_of cs
-
-abbrev pub is_gbr : Option Kind → Bool
-is_gbr (Some Gbr) = true
-is_gbr _ = false
-
-abbrev pub is_non_gbr : Option Kind → Bool
-is_non_gbr (Some NonGbr) = true
-is_non_gbr _ = false
-
 -- a new pair needs a free id beside the rules that stay
 abbrev pub finds_no_bearer : Qos → List Bound → Qos → Bool
 finds_no_bearer default others q = not (has_bearer default others q) && is_none (least_free others)
 
 -- the refusals of a binding with this pair and these rates, beside the rules that stay
-abbrev pub refusals : Binding → List Bound → Qos → Option Rates → List (Bool × BindRefusal)
+abbrev pub refusals : Binding → List Bound → Qos → Option Rates → Conditions Refusal
 refusals v others q rates =
-    (is_none (kind_of v.qcis q.qci.0), UnknownQci) ∷
-    (is_gbr (kind_of v.qcis q.qci.0) && is_none rates, RatesMissing) ∷
-    (is_non_gbr (kind_of v.qcis q.qci.0) && is_some rates, RatesNotWanted) ∷
-    (finds_no_bearer v.default_qos others q, TooManyBearers) ∷
-    (nat_lt v.capacity.up (total_up others + rate_up rates), OverCapacityUp) ∷
-    (nat_lt v.capacity.down (total_down others + rate_down rates), OverCapacityDown) ∷ []
+    bind_refusals v.qcis v.capacity q rates (finds_no_bearer v.default_qos others q) (total_up others) (total_down others)
 
 -- ---- what a binding gives
 abbrev pub bound_at : List ℕ → Qos → Option Rates → ℕ → Bound
@@ -145,7 +110,7 @@ number_of None = None
 number_of (Some id) = Some id.0
 
 -- why a binding was refused, where it was
-abbrev pub refusal_in : Result BearerId BindRefusal → Option BindRefusal
+abbrev pub refusal_in : Result BearerId Refusal → Option Refusal
 refusal_in (Ok _) = None
 refusal_in (Err refusal) = Some refusal
 

@@ -4,13 +4,15 @@ ghost use Rattle.std.specs.Prelude.{◌≡◌, ◌≤◌, ◌<◌, ◌↔◌, �
 ghost use Rattle.std.specs.List.{list_any};
 ghost use Rattle.pcef_rule.specs.declared.qci.Kind.TheVariants as kind;
 ghost use Rattle.pcef_rule.specs.QciKinds.{kind_of};
-ghost use Rattle.pcef_bearer.specs.declared.refusal.BearersFault.TheVariants as fault;
-ghost use Rattle.pcef_bearer.specs.Bindings.{bearer_of, bound_at, first_of, guaranteed, id_beside, is_named, number_of, put, refusal_in, refusals, released, rules_on, with_rules, without, HasRoom, IsBinding, is_gbr, is_non_gbr};
+ghost use Rattle.pcef_model.specs.declared.answer.OpenFault.TheVariants as fault;
+ghost use Rattle.pcef_bearer.specs.Bindings.{bearer_of, bound_at, guaranteed, id_beside, is_named, number_of, put, refusal_in, refusals, released, rules_on, with_rules, without, HasRoom, IsBinding};
+ghost use Rattle.pcef_model.specs.Refusals.{first_of};
+ghost use Rattle.pcef_model.specs.Bearers.{is_gbr, is_non_gbr};
 
 use crate::ids::{count_on, finds_no_bearer, id_beside, is_present};
 use crate::lookup::{drop_named, has_name, named, put};
 use crate::rates::{is_over, sums_beside, sums_of, sums_on};
-use crate::refusal::{BearersFault, BindRefusal};
+use pcef_model::{OpenFault, Refusal};
 use pcef_rule::{BearerId, Kind, QciTable, Qos, Rates, RuleName, Sums};
 use std::alloc::Global;
 use std::marker::Model;
@@ -91,22 +93,22 @@ fn has_unwanted_rates(kind: Option<Kind>, rates: Option<Rates>) -> bool
 
 impl Bearers {
     /// The default bearer for this pair of QCI and ARP, up to this capacity, or the first fault in the
-    /// order of [`BearersFault`]. Takes memory for all rules that may be bound.
+    /// order of [`OpenFault`]. Takes memory for all rules that may be bound.
     pub fn new(
         alloc: Global,
         default_qos: Qos,
         capacity: Sums,
         qcis: QciTable,
-    ) -> Result<Bearers, BearersFault>
+    ) -> Result<Bearers, OpenFault>
         ensures unknown { (result ≡ Err fault.UnknownQci) ↔ (kind_of qcis default_qos.qci.0 ≡ None) }
         ensures gbr { (result ≡ Err fault.DefaultIsGbr) ↔ (kind_of qcis default_qos.qci.0 ≡ Some kind.Gbr) }
         ensures made { IfOk result (λ b. b ≡ record { default_qos = default_qos; capacity = capacity; qcis = qcis; bound = [] }) }
     {
         match qcis.kind_of(default_qos.qci) {
-            None => Err(BearersFault::UnknownQci),
-            Some(Kind::Gbr) => Err(BearersFault::DefaultIsGbr),
+            None => Err(OpenFault::UnknownQci),
+            Some(Kind::Gbr) => Err(OpenFault::DefaultIsGbr),
             Some(Kind::NonGbr) => match Vec::with_capacity(alloc, MAX_BOUND) {
-                Err(_) => Err(BearersFault::NoMemory),
+                Err(_) => Err(OpenFault::NoMemory),
                 Ok(bound) => Ok(Bearers {
                     default_qos,
                     capacity,
@@ -136,7 +138,7 @@ impl Bearers {
 
     /// Why a rule of this name can't be bound with this pair and these rates, if it can't. What is bound
     /// under its name doesn't count.
-    pub fn refusal(&self, name: &RuleName, qos: Qos, rates: Option<Rates>) -> Option<BindRefusal>
+    pub fn refusal(&self, name: &RuleName, qos: Qos, rates: Option<Rates>) -> Option<Refusal>
         ensures { result ≡ first_of (refusals self.now (without name.now self.now.bound) qos rates) }
     {
         self.refusal_beside(name, &qos, rates)
@@ -155,29 +157,29 @@ impl Bearers {
         name: &RuleName,
         qos: &Qos,
         rates: Option<Rates>,
-    ) -> Option<BindRefusal>
+    ) -> Option<Refusal>
         ensures { result ≡ first_of (refusals self.now (without name.now self.now.bound) qos.now rates) }
     {
         let kind = self.qcis.kind_of(qos.qci);
         if kind.is_none() {
-            return Some(BindRefusal::UnknownQci);
+            return Some(Refusal::UnknownQci);
         }
         if lacks_rates(kind, rates) {
-            return Some(BindRefusal::RatesMissing);
+            return Some(Refusal::RatesMissing);
         }
         if has_unwanted_rates(kind, rates) {
-            return Some(BindRefusal::RatesNotWanted);
+            return Some(Refusal::RatesNotWanted);
         }
         if finds_no_bearer(&self.default_qos, name, &self.bound, qos) {
-            return Some(BindRefusal::TooManyBearers);
+            return Some(Refusal::TooManyBearers);
         }
         let others = sums_beside(name, &self.bound);
         let more = sums_of(rates);
         if is_over(self.capacity.up, others.up, more.up) {
-            return Some(BindRefusal::OverCapacityUp);
+            return Some(Refusal::OverCapacityUp);
         }
         if is_over(self.capacity.down, others.down, more.down) {
-            return Some(BindRefusal::OverCapacityDown);
+            return Some(Refusal::OverCapacityDown);
         }
         None
     }
@@ -193,7 +195,7 @@ impl Bearers {
         name: RuleName,
         qos: &Qos,
         rates: Option<Rates>,
-    ) -> Result<BearerId, BindRefusal>
+    ) -> Result<BearerId, Refusal>
         requires { HasRoom name 64 self.old.bound }
         ensures refused { refusal_in result ≡ first_of (refusals self.old (without name self.old.bound) qos.now rates) }
         ensures unchanged { OnErr result (self.new ≡ self.old) }
@@ -217,13 +219,13 @@ impl Bearers {
     }
 
     /// Binds a rule that isn't bound, and gives its bearer, or the first refusal in the order of
-    /// [`BindRefusal`]. Takes no memory.
+    /// [`Refusal`]. Takes no memory.
     pub fn bind(
         &mut self,
         name: RuleName,
         qos: Qos,
         rates: Option<Rates>,
-    ) -> Result<BearerId, BindRefusal>
+    ) -> Result<BearerId, Refusal>
         requires new { list_any (is_named name) self.old.bound ≡ false }
         requires room { length self.old.bound < 64 }
         ensures refused { refusal_in result ≡ first_of (refusals self.old (without name self.old.bound) qos rates) }
@@ -236,14 +238,14 @@ impl Bearers {
     }
 
     /// Binds a rule anew that is bound, and gives its bearer, or the first refusal in the order of
-    /// [`BindRefusal`], which changes nothing. A pair that stays keeps its bearer, and a new pair may get
+    /// [`Refusal`], which changes nothing. A pair that stays keeps its bearer, and a new pair may get
     /// the bearer that the rule leaves. Takes no memory.
     pub fn rebind(
         &mut self,
         name: RuleName,
         qos: Qos,
         rates: Option<Rates>,
-    ) -> Result<BearerId, BindRefusal>
+    ) -> Result<BearerId, Refusal>
         requires { list_any (is_named name) self.old.bound ≡ true }
         ensures refused { refusal_in result ≡ first_of (refusals self.old (without name self.old.bound) qos rates) }
         ensures unchanged { OnErr result (self.new ≡ self.old) }

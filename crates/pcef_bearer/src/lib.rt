@@ -5,11 +5,9 @@ mod bearers;
 mod ids;
 mod lookup;
 mod rates;
-mod refusal;
 
 pub use bearers::{Bearers, Bound, MAX_BOUND, Released};
 pub use ids::DEFAULT_BEARER;
-pub use refusal::{BearersFault, BindRefusal};
 
 #[cfg(test)]
 mod tests;

@@ -3,7 +3,7 @@
 ghost use Rattle.std.specs.Prelude.{◌≡◌, ◌<◌, find, length, not, position, vec_capacity, true};
 ghost use Rattle.std.specs.List.{list_any};
 ghost use Rattle.std.specs.Option.{option_copied};
-ghost use Rattle.pcef_journal.specs.Setting.{same_flag, same_qos};
+ghost use Rattle.pcef_model.specs.Setting.{same_flag, same_qos};
 ghost use Rattle.pcef_bearer.specs.Bindings.{is_named, put, without, HasRoom};
 
 use crate::bearers::Bound;

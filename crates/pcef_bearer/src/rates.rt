@@ -1,7 +1,8 @@
 //! Sums of guaranteed rates.
 
 ghost use Rattle.std.specs.Prelude.{◌≡◌, ◌<◌, ◌≤◌, ◌+◌, ◌^◌, nat_lt, if◌then◌else◌};
-ghost use Rattle.pcef_bearer.specs.Bindings.{rate_down, rate_up, rules_on, total_down, total_up, without};
+ghost use Rattle.pcef_model.specs.Bearers.{rate_down, rate_up};
+ghost use Rattle.pcef_bearer.specs.Bindings.{rules_on, total_down, total_up, without};
 
 use crate::bearers::Bound;
 use crate::lookup::is_named;

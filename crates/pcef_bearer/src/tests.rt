@@ -1,5 +1,6 @@
 //! Bindings that were worked out by hand from TS 23.203, clauses 6.1.1.4 and 6.2.2.2.
 use super::*;
+use pcef_model::{OpenFault, Refusal};
 use pcef_rule::{Arp, BearerId, Kind, Qci, QciTable, Qos, Rates, RuleName, Sums};
 use std::alloc::Global;
 use std::test::Fail;
@@ -23,7 +24,7 @@ fn set(
     name: &str,
     qos: Qos,
     rates: Option<Rates>,
-) -> Result<Option<Result<BearerId, BindRefusal>>, Fail> {
+) -> Result<Option<Result<BearerId, Refusal>>, Fail> {
     let name = RuleName::new(name)?;
     if bearers.is_bound(&name) {
         return Ok(Some(bearers.rebind(name, qos, rates)));
@@ -72,12 +73,12 @@ fn an_eleventh_pair_finds_no_bearer(rt: HostRuntime) -> Result<(), Fail> {
     let name = RuleName::new("r11")?;
     assert_eq!(rt;
         bearers.refusal(&name, eleven, None),
-        Some(BindRefusal::TooManyBearers)
+        Some(Refusal::TooManyBearers)
     );
     assert_eq!(rt; bearers.bearer_for(&name, eleven), None);
     assert_eq!(rt;
         set(&mut bearers, "r11", eleven, None)?,
-        Some(Err(BindRefusal::TooManyBearers))
+        Some(Err(Refusal::TooManyBearers))
     );
     assert_eq!(rt; bearers.bound().len(), 10);
     // The fourth rule leaves its bearer to its new pair.
@@ -92,7 +93,7 @@ fn an_eleventh_pair_finds_no_bearer(rt: HostRuntime) -> Result<(), Fail> {
     assert_eq!(rt; bearers.rules_on(BearerId(9)), 2);
     assert_eq!(rt;
         set(&mut bearers, "r4", pair(8, 4)?, None)?,
-        Some(Err(BindRefusal::TooManyBearers))
+        Some(Err(Refusal::TooManyBearers))
     );
     assert_eq!(rt; bearers.bearer_of(&RuleName::new("r4")?), Some(BearerId(9)));
     Ok(())
@@ -187,9 +188,9 @@ fn rates_at_the_capacity(rt: HostRuntime) -> Result<(), Fail> {
         Some(Sums { up: 300, down: 500 })
     );
     for (up, down, refusal) in [
-        (1u32, 0u32, BindRefusal::OverCapacityUp),
-        (0, 1, BindRefusal::OverCapacityDown),
-        (1, 1, BindRefusal::OverCapacityUp),
+        (1u32, 0u32, Refusal::OverCapacityUp),
+        (0, 1, Refusal::OverCapacityDown),
+        (1, 1, Refusal::OverCapacityUp),
     ] {
         assert_eq!(rt;
             set(&mut bearers, "v3", video, Some(Rates { up, down }))?,
@@ -222,7 +223,7 @@ fn rates_at_the_capacity(rt: HostRuntime) -> Result<(), Fail> {
             video,
             Some(Rates { up: 200, down: 301 })
         )?,
-        Some(Err(BindRefusal::OverCapacityDown))
+        Some(Err(Refusal::OverCapacityDown))
     );
     assert_eq!(rt;
         bearers.guaranteed(BearerId(6)),
@@ -254,12 +255,12 @@ fn refusals_of_kinds(rt: HostRuntime) -> Result<(), Fail> {
     let name = RuleName::new("new")?;
     let rates = Some(Rates { up: 1, down: 1 });
     for (qci, rates, refusal) in [
-        (10u8, rates, BindRefusal::UnknownQci),
-        (10, None, BindRefusal::UnknownQci),
-        (1, None, BindRefusal::RatesMissing),
-        (128, None, BindRefusal::RatesMissing),
-        (5, rates, BindRefusal::RatesNotWanted),
-        (1, rates, BindRefusal::TooManyBearers),
+        (10u8, rates, Refusal::UnknownQci),
+        (10, None, Refusal::UnknownQci),
+        (1, None, Refusal::RatesMissing),
+        (128, None, Refusal::RatesMissing),
+        (5, rates, Refusal::RatesNotWanted),
+        (1, rates, Refusal::TooManyBearers),
     ] {
         assert_eq!(rt;
             bearers.refusal(&name, pair(qci, 1)?, rates),
@@ -275,8 +276,8 @@ fn refusals_of_kinds(rt: HostRuntime) -> Result<(), Fail> {
 fn faults(rt: HostRuntime) -> Result<(), Fail> {
     let capacity = Sums { up: 0, down: 0 };
     for (qci, fault) in [
-        (10u8, Some(BearersFault::UnknownQci)),
-        (1, Some(BearersFault::DefaultIsGbr)),
+        (10u8, Some(OpenFault::UnknownQci)),
+        (1, Some(OpenFault::DefaultIsGbr)),
         (9, None),
     ] {
         let made = Bearers::new(rt.alloc(), pair(qci, 1)?, capacity, QciTable::new(&[])?);
@@ -288,34 +289,34 @@ fn faults(rt: HostRuntime) -> Result<(), Fail> {
 #[test]
 fn texts(rt: HostRuntime) -> Result<(), Fail> {
     for (refusal, text) in [
-        (BindRefusal::UnknownQci, "the QCI is unknown"),
+        (Refusal::UnknownQci, "the QCI is unknown"),
         (
-            BindRefusal::RatesMissing,
+            Refusal::RatesMissing,
             "the rule has no guaranteed rates",
         ),
-        (BindRefusal::RatesNotWanted, "the rule has guaranteed rates"),
+        (Refusal::RatesNotWanted, "the rule has guaranteed rates"),
         (
-            BindRefusal::TooManyBearers,
+            Refusal::TooManyBearers,
             "no more bearers can be established",
         ),
         (
-            BindRefusal::OverCapacityUp,
+            Refusal::OverCapacityUp,
             "the uplink rates are over the capacity",
         ),
         (
-            BindRefusal::OverCapacityDown,
+            Refusal::OverCapacityDown,
             "the downlink rates are over the capacity",
         ),
     ] {
         assert_eq!(rt; format!(in rt.alloc(); "{refusal}")?.as_str(), text);
     }
     for (fault, text) in [
-        (BearersFault::UnknownQci, "the default QCI is unknown"),
+        (OpenFault::UnknownQci, "the default QCI is unknown"),
         (
-            BearersFault::DefaultIsGbr,
+            OpenFault::DefaultIsGbr,
             "the default QCI has a guaranteed bit rate",
         ),
-        (BearersFault::NoMemory, "there is no memory left"),
+        (OpenFault::NoMemory, "there is no memory left"),
     ] {
         assert_eq!(rt; format!(in rt.alloc(); "{fault}")?.as_str(), text);
     }

@@ -5,7 +5,8 @@ ghost use Rattle.pcef_table.specs.Tables.{IsTable};
 
 use pcef_catalog::Catalog;
 use pcef_packet::{Addr, Dir, read_header};
-use pcef_table::{Table, Verdict};
+use pcef_model::Verdict;
+use pcef_table::Table;
 use std::io::{self, Write};
 
 /// How many packets went which way.

@@ -3,7 +3,7 @@
 use pcef_catalog::Catalog;
 use pcef_profile::{ReadProfileFault, read_profile};
 use pcef_script::{ScriptFault, run_script};
-use pcef_session::{OpenFault, Profile};
+use pcef_model::{OpenFault, Profile};
 use std::alloc::Global;
 use std::io::{Read, Write};
 use std::sync::Arc;

@@ -5,7 +5,7 @@ use Rattle.std.specs.List.{filter_map, cons_option}
 use Rattle.std.proofs.lemmas.List.{length-reverse}
 use Rattle.std.specs.Global.{Global}
 use Rattle.std.specs.declared.vec.Vec.{Vec}
-use Rattle.pcef_journal.specs.declared.entry.Entry.{Entry}
+use Rattle.pcef_model.specs.declared.entry.Entry.{Entry}
 
 length-cons_option-le : {Y : Type 0} (o : Option Y) (ys : List Y) (n : ℕ) → length ys ≤ n → length (cons_option o ys) ≤ n + 1
 length-cons_option-le None ys n le = omega arith

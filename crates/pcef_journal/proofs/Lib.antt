@@ -1,6 +1,2 @@
 pub mod Counts
-pub mod ExampleSession
-pub mod Examples
-pub mod Growth
-pub mod Sameness
 pub mod Walked

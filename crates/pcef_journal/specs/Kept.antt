@@ -1,7 +1,7 @@
 -- A journal that is kept.
 use Rattle.std.specs.Prelude.{◌≡◌, ◌-◌, length, reverse, vec_len, vec_capacity}
 use Rattle.pcef_journal.specs.declared.journal.Journal.TheInside.{Inside}
-use Rattle.pcef_journal.specs.Entries.{commands, reports, rows}
+use Rattle.pcef_model.specs.Entries.{commands, reports, rows}
 use Rattle.pcef_journal.specs.KeptJournal.{KeptJournal}
 
 abbrev pub kept_of : Inside → KeptJournal

@@ -1,6 +1,6 @@
 -- What callers see of a journal that is kept.
 use Rattle.std.specs.Prelude.{ℕ, List}
-use Rattle.pcef_journal.specs.declared.entry.Entry.{Entry}
+use Rattle.pcef_model.specs.declared.entry.Entry.{Entry}
 
 -- the entries, the newest first, and how many more there is memory for
 pub record KeptJournal : Type 0 where

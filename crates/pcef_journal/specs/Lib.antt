@@ -1,10 +1,3 @@
-pub mod ActiveRules
-pub mod Entries
-pub mod Generations
-pub mod Journals
 pub mod Kept
 pub mod KeptJournal
-pub mod Laws
-pub mod Reports
-pub mod Setting
 pub mod Walks

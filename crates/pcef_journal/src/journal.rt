@@ -1,9 +1,9 @@
 //! The journal.
 
 ghost use Rattle.std.specs.Prelude.{◌≡◌, ◌<◌, ◌≤◌, ◌+◌, [], ◌∷◌, drop, length, reverse, OnOk};
-ghost use Rattle.pcef_journal.specs.Entries.{commands, lane, reports, rows};
+ghost use Rattle.pcef_model.specs.Entries.{commands, lane, reports, rows};
 
-use crate::entry::Entry;
+use pcef_model::Entry;
 use crate::walk::{Commands, Lane, Reports};
 use std::alloc::{AllocError, Global};
 use std::marker::Model;

@@ -3,7 +3,7 @@ use super::*;
 use pcef_filter::read_filter;
 use pcef_packet::{Addr, Dir, Header, Ports};
 use pcef_rule::{Arp, BearerId, Gate, KeyName, Properties, Qci, Qos, Rule, RuleName};
-use pcef_table::Verdict;
+use pcef_model::{AccessKind, Body, Cause, Command, Entry, InactiveCause, NoticeValue, Report, Row, TriggerSet, Verdict};
 use std::alloc::Global;
 use std::test::Fail;
 

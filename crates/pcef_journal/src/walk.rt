@@ -4,10 +4,7 @@ ghost use Rattle.std.specs.Prelude.{◌≡◌, ◌-◌, ◌≤◌, drop, length}
 ghost use Rattle.std.specs.Iterator.{YieldsFirstRef, item_count};
 ghost use Rattle.pcef_journal.specs.Walks.{commands_in, lane_in, reports_in};
 
-use crate::command::Command;
-use crate::entry::Entry;
-use crate::report::Report;
-use crate::row::Row;
+use pcef_model::{Command, Entry, Report, Row};
 use std::marker::Model;
 
 /// The rows of a worker.
@@ -19,7 +16,7 @@ pub struct Lane<'a> {
 
 impl<'a> Model for Lane<'a> {
     ghost use Rattle.std.specs.Prelude.{List};
-    ghost use Rattle.pcef_journal.specs.declared.row.Row.{Row};
+    ghost use Rattle.pcef_model.specs.declared.row.Row.{Row};
     ghost use Rattle.pcef_journal.specs.Walks.{lane_in};
 
     ghost Value = { List Row };
@@ -63,7 +60,7 @@ pub struct Commands<'a> {
 
 impl<'a> Model for Commands<'a> {
     ghost use Rattle.std.specs.Prelude.{List};
-    ghost use Rattle.pcef_journal.specs.declared.command.Command.{Command};
+    ghost use Rattle.pcef_model.specs.declared.command.Command.{Command};
     ghost use Rattle.pcef_journal.specs.Walks.{commands_in};
 
     ghost Value = { List Command };
@@ -105,7 +102,7 @@ pub struct Reports<'a> {
 
 impl<'a> Model for Reports<'a> {
     ghost use Rattle.std.specs.Prelude.{List};
-    ghost use Rattle.pcef_journal.specs.declared.report.Report.{Report};
+    ghost use Rattle.pcef_model.specs.declared.report.Report.{Report};
     ghost use Rattle.pcef_journal.specs.Walks.{reports_in};
 
     ghost Value = { List Report };

@@ -9,7 +9,7 @@ use Rattle.pcef_rule.specs.declared.qci.Kind.{Kind}
 use Rattle.pcef_rule.specs.declared.qci.Kind.TheVariants.{Gbr, NonGbr}
 use Rattle.pcef_rule.specs.declared.quantity.Qos.{Qos}
 use Rattle.pcef_rule.specs.declared.quantity.Sums.{Sums}
-use Rattle.pcef_session.specs.Terms.{Terms}
+use Rattle.pcef_model.specs.Terms.{Terms}
 use Rattle.pcef_profile.specs.declared.fault.ReadProfileFault.{ReadProfileFault}
 use Rattle.pcef_profile.specs.declared.fault.ReadProfileFault.TheVariants.{NotToml, UnknownKey, Missing, BadValue, UnknownQci, DefaultIsGbr, NoMemory}
 use Rattle.pcef_profile.specs.declared.key.Key.TheVariants as key

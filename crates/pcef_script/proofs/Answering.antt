@@ -4,7 +4,7 @@ use Rattle.std.specs.Prelude.{IfErr, IfOk, OnOk, Result, Ok, Err}
 use Rattle.std.specs.Io.KnownBytes.{Appends}
 use Rattle.std.proofs.KnownBytes.{Appends-nil, Appends-trans}
 use Rattle.std.proofs.lemmas.List.Elements.{filter-append}
-use Rattle.pcef_journal.specs.Setting.{Setting}
+use Rattle.pcef_model.specs.Setting.{Setting}
 use Rattle.pcef_world.specs.Worlds.{World}
 use Rattle.pcef_script.specs.declared.fault.ScriptFault.{ScriptFault}
 use Rattle.pcef_script.specs.declared.fault.ScriptFault.TheVariants as fault

@@ -5,7 +5,7 @@ use Rattle.std.specs.Prelude.{◌≢◌, ◌⊎◌, Result, Err, IfOk, string_by
 use Rattle.std.specs.declared.alloc.AllocError.{AllocError}
 use Rattle.std.specs.Str.{IsUtf8, is_utf8}
 use Rattle.std.proofs.lemmas.Str.{IsUtf8-from_is_utf8, is_utf8-from_IsUtf8}
-use Rattle.pcef_journal.specs.Setting.{Setting}
+use Rattle.pcef_model.specs.Setting.{Setting}
 use Rattle.pcef_line.specs.declared.line.Line.{Line}
 use Rattle.pcef_line.specs.declared.fault.LineFault.{LineFault}
 use Rattle.pcef_line.specs.declared.fault.LineFault.TheVariants.{NoMemory, NotUtf8}

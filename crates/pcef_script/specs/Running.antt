@@ -1,7 +1,7 @@
 -- How a script stands while it runs: for private clauses.
 use Rattle.std.specs.Prelude.{◌≡◌, ◌≤◌, ◌+◌, ℕ, List, [], ◌∷◌, ◌++◌, length, Option}
 use Rattle.std.specs.Io.KnownBytes.{Appends}
-use Rattle.pcef_journal.specs.Setting.{Setting}
+use Rattle.pcef_model.specs.Setting.{Setting}
 use Rattle.pcef_session.specs.Core.{setting_in}
 use Rattle.pcef_world.specs.Worlds.{World}
 use Rattle.pcef_script.specs.declared.fault.ScriptFault.{ScriptFault}

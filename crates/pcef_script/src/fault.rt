@@ -1,6 +1,6 @@
 //! Why a script ends early.
 
-use pcef_session::OpenFault;
+use pcef_model::OpenFault;
 use thiserror::Error;
 
 /// Why a script ends early.

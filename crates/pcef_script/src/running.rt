@@ -2,7 +2,7 @@
 
 ghost use Rattle.std.specs.Prelude.{◌≡◌, ◌<◌, ◌≤◌, ◌+◌, ◌++◌, ◌∷◌, ◌^◌, [], IfErr, IfOk, List, OnOk, Option, length, string_bytes, take, ℕ};
 ghost use Rattle.std.specs.Io.KnownBytes.{Appends};
-ghost use Rattle.pcef_journal.specs.Setting.{Setting};
+ghost use Rattle.pcef_model.specs.Setting.{Setting};
 ghost use Rattle.pcef_session.specs.Core.{setting_in};
 ghost use Rattle.pcef_script.specs.declared.fault.ScriptFault.TheVariants.{Write as WriteFault};
 ghost use Rattle.pcef_script.specs.ScriptAnswers.{AnswersLine, number_of, standing_of};

@@ -1,8 +1,8 @@
 //! What a line does.
 
 ghost use Rattle.std.specs.Prelude.{◌≡◌, ◌≢◌, Err, IfOk, false, string_bytes};
-ghost use Rattle.pcef_journal.specs.Journals.{gen};
-ghost use Rattle.pcef_journal.specs.Setting.{Setting};
+ghost use Rattle.pcef_model.specs.Journals.{gen};
+ghost use Rattle.pcef_model.specs.Setting.{Setting};
 ghost use Rattle.pcef_session.specs.Core.{IsServed, setting_in};
 ghost use Rattle.pcef_line.specs.LineOf.{LineOf};
 ghost use Rattle.pcef_script.specs.ScriptAnswers.{AnswersAs, Comes, Commands, Standing, Steps, standing_of, text_read};
@@ -14,10 +14,10 @@ use pcef_answer::{
     taken_answer,
 };
 use pcef_catalog::Offers;
-use pcef_journal::Command;
+use pcef_model::{AttachFault, Command, FlushRefusal, Refusal};
 use pcef_line::{Line, LineFault, read_line};
 use pcef_packet::Header;
-use pcef_session::{AttachFault, FlushRefusal, Refusal, SessionState};
+use pcef_session::SessionState;
 use pcef_world::{StepRefusal, WorldState};
 use std::alloc::{AllocError, Global};
 use std::str;

@@ -5,26 +5,28 @@ use Rattle.std.specs.List.{list_any}
 use Rattle.std.proofs.lemmas.Bool.{cases_Bool}
 use Rattle.pcef_rule.specs.declared.quantity.Sums.{Sums}
 use Rattle.pcef_bearer.specs.Bindings.{Binding, bearer_of, guaranteed, is_present, rules_on, total_down as bound_down, total_up as bound_up}
-use Rattle.pcef_journal.specs.Setting.{Setting, same_name}
-use Rattle.pcef_journal.specs.ActiveRules.{Active, is_named}
-use Rattle.pcef_journal.specs.Generations.{Generation}
-use Rattle.pcef_journal.specs.Entries.{Journal}
-use Rattle.pcef_journal.specs.Journals.{now, tables}
-use Rattle.pcef_journal.proofs.Sameness.{contrary, same_name_is, same_name_of}
+use Rattle.pcef_model.proofs.Names.{Once}
+use Rattle.pcef_model.specs.Setting.{Setting, same_name}
+use Rattle.pcef_model.specs.ActiveRules.{Active, is_named}
+use Rattle.pcef_model.specs.Generations.{Generation}
+use Rattle.pcef_model.specs.Entries.{Journal}
+use Rattle.pcef_model.specs.Journals.{now, tables}
+use Rattle.pcef_lists.proofs.Tests.{contrary}
+use Rattle.pcef_model.proofs.Sameness.{same_name_is, same_name_of}
 use Rattle.pcef_session.specs.Agreement.{Agrees, Parts}
-use Rattle.pcef_session.specs.Answers.{bearer_of as told_bearer}
-use Rattle.pcef_session.specs.Bound.{bound_of}
-use Rattle.pcef_session.specs.Refusals.{total_down, total_up}
-use Rattle.pcef_session.proofs.BoundBearers.{total_down_bound, total_up_bound}
-use Rattle.pcef_session.proofs.BoundRules.{NamesOnce}
-use Rattle.pcef_session.proofs.Found.{any_from}
-use Rattle.pcef_session.proofs.Members.{there_cases}
-use Rattle.pcef_session.proofs.ShownVerdicts.{made_once}
+use Rattle.pcef_model.specs.Answers.{bearer_of as told_bearer}
+use Rattle.pcef_bearer.specs.Standing.{bound_of}
+use Rattle.pcef_model.specs.Refusals.{total_down, total_up}
+use Rattle.pcef_bearer.proofs.BoundBearers.{total_down_bound, total_up_bound}
+use Rattle.pcef_model.proofs.BoundRules.{NamesOnce}
+use Rattle.pcef_lists.proofs.Found.{any_from}
+use Rattle.pcef_model.proofs.Members.{there_cases}
+use Rattle.pcef_model.proofs.Decisive.{made_once}
 
 -- ---- the bearer of a rule
 found_bearer : (g : Generation) (rules : List Active) (r : Active) → NamesOnce rules → Contains rules r →
     bearer_of r.properties.name (bound_of g rules) ≡ Some (record { 0 = g.id_of r.properties.qos })
-unfolding NamesOnce
+unfolding Once
 found_bearer g [] r once there = absurd (omega (arith, there.1))
 found_bearer g (x ∷ rules) r once there =
     elim (there_cases x rules r there) [

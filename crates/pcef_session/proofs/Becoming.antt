@@ -5,14 +5,15 @@ use Rattle.std.specs.Option.{option_map}
 use Rattle.std.proofs.lemmas.Bool.{cases_Bool}
 use Rattle.pcef_rule.specs.Definition.{Definition}
 use Rattle.pcef_catalog.specs.declared.listing.Offer.{Offer}
-use Rattle.pcef_journal.specs.declared.command.Command.{Command}
-use Rattle.pcef_journal.specs.declared.command.Command.TheVariants.{Install, Activate, Remove, Monitor, Stop, ReportNow, Triggers, Notice, LoseBearer, Close, Terminate}
-use Rattle.pcef_journal.specs.Setting.{Setting, offer_named, same_name}
-use Rattle.pcef_journal.specs.ActiveRules.{Active, dynamic, predefined, put_if_offered}
-use Rattle.pcef_journal.specs.Generations.{key_named, key_offered}
-use Rattle.pcef_journal.proofs.Sameness.{same_name_is}
+use Rattle.pcef_model.specs.declared.command.Command.{Command}
+use Rattle.pcef_model.specs.declared.command.Command.TheVariants.{Install, Activate, Remove, Monitor, Stop, ReportNow, Triggers, Notice, LoseBearer, Close, Terminate}
+use Rattle.pcef_model.specs.Setting.{Setting, offer_named, same_name}
+use Rattle.pcef_model.specs.ActiveRules.{Active, dynamic, predefined, put_if_offered}
+use Rattle.pcef_model.specs.Generations.{key_named, key_offered}
+use Rattle.pcef_model.proofs.Sameness.{same_name_is}
 use Rattle.pcef_session.specs.declared.prepared.Coming.{Coming}
-use Rattle.pcef_session.specs.Changes.{Brings, IsMadeActive, IsOf, MakesActive, becoming, key_of, rule_key}
+use Rattle.pcef_session.specs.Changes.{Brings, IsMadeActive, IsOf, becoming, key_of, rule_key}
+use Rattle.pcef_model.specs.Changes.{MakesActive}
 use Rattle.pcef_session.specs.Core.{IsServed}
 
 pub makes_install : (p : Setting) (d : Definition) → MakesActive p (Install d) (dynamic d)

@@ -9,45 +9,46 @@ use Rattle.indexmap.specs.IndexMap.{insert_entry}
 use Rattle.pcef_rule.specs.declared.rule.Properties.{Properties}
 use Rattle.pcef_table.specs.declared.entry.Source.{Source}
 use Rattle.pcef_bearer.specs.Bindings.{Binding}
-use Rattle.pcef_journal.specs.declared.command.Command.{Command}
-use Rattle.pcef_journal.specs.declared.command.Command.TheVariants.{Install, Activate, Remove, Monitor, Stop, ReportNow, Triggers, Notice, LoseBearer, Close, Terminate}
-use Rattle.pcef_journal.specs.declared.entry.Entry.TheVariants as entry
-use Rattle.pcef_journal.specs.declared.telling.Telling.{Telling}
-use Rattle.pcef_journal.specs.Setting.{Setting, same_name}
-use Rattle.pcef_journal.specs.ActiveRules.{Active, dynamic, is_named, put}
-use Rattle.pcef_journal.specs.Generations.{Generation, key_named, next, rules_after}
-use Rattle.pcef_journal.specs.declared.trigger.TriggerSet.{TriggerSet}
-use Rattle.pcef_journal.specs.Entries.{Journal, commands}
-use Rattle.pcef_journal.specs.Journals.{gen, is_table, now, report_count, slots, subscribed, tables}
-use Rattle.pcef_journal.specs.Reports.{after_command, body_of, plan, tell, thresholds}
-use Rattle.pcef_journal.proofs.Growth.{now_after_table}
-use Rattle.pcef_journal.proofs.Sameness.{same_name_of}
+use Rattle.pcef_model.specs.declared.command.Command.{Command}
+use Rattle.pcef_model.specs.declared.command.Command.TheVariants.{Install, Activate, Remove, Monitor, Stop, ReportNow, Triggers, Notice, LoseBearer, Close, Terminate}
+use Rattle.pcef_model.specs.declared.entry.Entry.TheVariants as entry
+use Rattle.pcef_model.specs.declared.telling.Telling.{Telling}
+use Rattle.pcef_model.specs.Setting.{Setting, same_name}
+use Rattle.pcef_model.specs.ActiveRules.{Active, dynamic, is_named, put}
+use Rattle.pcef_model.specs.Generations.{Generation, key_named, next, rules_after}
+use Rattle.pcef_model.specs.declared.trigger.TriggerSet.{TriggerSet}
+use Rattle.pcef_model.specs.Entries.{Journal, commands}
+use Rattle.pcef_model.specs.Journals.{gen, is_table, now, report_count, slots, subscribed, tables}
+use Rattle.pcef_model.specs.Reports.{after_command, body_of, plan, tell, thresholds}
+use Rattle.pcef_model.proofs.Growth.{now_after_table}
+use Rattle.pcef_model.proofs.Sameness.{same_name_of}
 use Rattle.pcef_usage.specs.declared.usage.KeyState.{KeyState}
 use Rattle.pcef_usage.specs.Commands.{Asks, entered, started_by, subscribed_by}
 use Rattle.pcef_usage.specs.Keys.{finds_no_slot, keys_of, with_slot}
 use Rattle.pcef_usage.specs.Tellings.{AllCount, AllOn, settled_states, settled_tellings, states_stopped, states_told, told}
-use Rattle.pcef_usage.proofs.Afterwards.{few_entered, now_after, slots_after, subscribed_after, subscribed_after_command}
+use Rattle.pcef_usage.proofs.Afterwards.{few_entered, subscribed_after, subscribed_after_command}
+use Rattle.pcef_model.proofs.AfterEvents.{now_after, slots_after}
 use Rattle.pcef_usage.proofs.Commanded.{command_ended, keys_entered}
 use Rattle.pcef_usage.proofs.Endings.{Ended}
 use Rattle.pcef_session.specs.Agreement.{Agrees, AreKept, KeyAgrees, Parts}
-use Rattle.pcef_session.specs.declared.answer.Accepted.{Accepted}
-use Rattle.pcef_session.specs.declared.answer.Refusal.{Refusal}
+use Rattle.pcef_model.specs.declared.answer.Accepted.{Accepted}
+use Rattle.pcef_model.specs.declared.answer.Refusal.{Refusal}
 use Rattle.pcef_session.specs.declared.prepared.Coming.{Coming}
-use Rattle.pcef_session.specs.Answers.{Does, Gives, IsRefused, bearer_named, bearer_of, changes, command_outcome}
-use Rattle.pcef_session.specs.Bound.{HasOtherIds, binding_of}
+use Rattle.pcef_model.specs.Answers.{Does, Gives, IsRefused, bearer_named, bearer_of, changes, command_outcome}
+use Rattle.pcef_bearer.specs.Standing.{binding_of}
 use Rattle.pcef_session.specs.Changes.{Brings, IsBoundTo, IsRebound, active_after, becoming, entered_by, rule_key}
 use Rattle.pcef_session.specs.Core.{IsBeside, IsServed}
-use Rattle.pcef_session.specs.Lawful.{Lawful, by_command}
-use Rattle.pcef_session.specs.Refusals.{first_of, is_active, refusals}
+use Rattle.pcef_model.specs.Lawful.{Lawful, by_command}
+use Rattle.pcef_model.specs.Refusals.{first_of, is_active, refusals}
 use Rattle.pcef_session.specs.Shown.{Shows}
 use Rattle.pcef_session.proofs.Acceptance.{brings_none}
 use Rattle.pcef_session.proofs.Becoming.{brought, brought_none, makes_becoming, name_offered, served_key}
-use Rattle.pcef_session.proofs.BearerIds.{lawful_bound}
-use Rattle.pcef_session.proofs.BoundBearers.{has_bearer_ids, next_id, next_monitor, next_put, next_remove}
-use Rattle.pcef_session.proofs.Exactness.{lawful_exact}
+use Rattle.pcef_model.proofs.BearerIds.{lawful_bound}
+use Rattle.pcef_bearer.proofs.BoundBearers.{next_id, next_monitor, next_put, next_remove}
+use Rattle.pcef_model.proofs.Exactness.{lawful_exact}
 use Rattle.pcef_session.proofs.KeptRules.{kept_put, kept_without}
 use Rattle.pcef_session.proofs.NextTables.{all_count_from, all_on_from}
-use Rattle.pcef_session.proofs.ShownVerdicts.{made_once}
+use Rattle.pcef_model.proofs.Decisive.{made_once}
 
 -- ---- commands that are served
 -- each of them makes a generation, asks for no key and leaves the triggers
@@ -102,19 +103,19 @@ kept_after p j c (Some x) kept served accepted brings are =
     (kept_put p.catalog b.rule x.source kept (now p j).rules b.is_of.rule_is are))
 
 -- ---- bearers
-bound_beside : (p : Setting) (j : Journal) (c : Command) (new : Binding) (bearer : Option BearerId) → Lawful p j → HasOtherIds p → IsBeside c → IsRebound None c (binding_of p (now p j)) new bearer →
+bound_beside : (p : Setting) (j : Journal) (c : Command) (new : Binding) (bearer : Option BearerId) → Lawful p j → IsBeside c → IsRebound None c (binding_of p (now p j)) new bearer →
     (new ≡ binding_of p (next p (now p j) c)) × (bearer ≡ bearer_named (next p (now p j) c) c)
-bound_beside p j (Remove name) new bearer lawful ids beside rebound = (rebound.1 ∙ sym (next_remove p (now p j) name (lawful_bound p (has_bearer_ids p ids) j lawful)), rebound.0)
-bound_beside p j (Monitor key amount) new bearer lawful ids beside rebound = (rebound.1 ∙ sym (next_monitor p (now p j) key amount (lawful_bound p (has_bearer_ids p ids) j lawful)), rebound.0)
-bound_beside p j (Install rule) new bearer lawful ids beside rebound = absurd beside
-bound_beside p j (Activate name) new bearer lawful ids beside rebound = absurd beside
-bound_beside p j (Stop key) new bearer lawful ids beside rebound = absurd beside
-bound_beside p j (ReportNow key) new bearer lawful ids beside rebound = absurd beside
-bound_beside p j (Triggers set) new bearer lawful ids beside rebound = absurd beside
-bound_beside p j (Notice kind value) new bearer lawful ids beside rebound = absurd beside
-bound_beside p j (LoseBearer id) new bearer lawful ids beside rebound = absurd beside
-bound_beside p j Close new bearer lawful ids beside rebound = absurd beside
-bound_beside p j Terminate new bearer lawful ids beside rebound = absurd beside
+bound_beside p j (Remove name) new bearer lawful beside rebound = (rebound.1 ∙ sym (next_remove p (now p j) name (lawful_bound p j lawful)), rebound.0)
+bound_beside p j (Monitor key amount) new bearer lawful beside rebound = (rebound.1 ∙ sym (next_monitor p (now p j) key amount (lawful_bound p j lawful)), rebound.0)
+bound_beside p j (Install rule) new bearer lawful beside rebound = absurd beside
+bound_beside p j (Activate name) new bearer lawful beside rebound = absurd beside
+bound_beside p j (Stop key) new bearer lawful beside rebound = absurd beside
+bound_beside p j (ReportNow key) new bearer lawful beside rebound = absurd beside
+bound_beside p j (Triggers set) new bearer lawful beside rebound = absurd beside
+bound_beside p j (Notice kind value) new bearer lawful beside rebound = absurd beside
+bound_beside p j (LoseBearer id) new bearer lawful beside rebound = absurd beside
+bound_beside p j Close new bearer lawful beside rebound = absurd beside
+bound_beside p j Terminate new bearer lawful beside rebound = absurd beside
 
 -- the rule that was put in is found by its name
 find_put : (new : Active) (rules : List Active) → find (is_named new.properties.name) (put new rules) ≡ Some new
@@ -146,18 +147,18 @@ bearer_told p g (LoseBearer id) r is after rules = absurd cc
 bearer_told p g Close r is after rules = absurd cc
 bearer_told p g Terminate r is after rules = absurd cc
 
-bound_after : (p : Setting) (j : Journal) (c : Command) (x : Option Coming) (new : Binding) (bearer : Option BearerId) → Lawful p j → HasOtherIds p → IsServed c → first_of (refusals p j c) ≡ None →
+bound_after : (p : Setting) (j : Journal) (c : Command) (x : Option Coming) (new : Binding) (bearer : Option BearerId) → Lawful p j → IsServed c → first_of (refusals p j c) ≡ None →
     Brings p (becoming p c) x → IsRebound x c (binding_of p (now p j)) new bearer → (new ≡ binding_of p (next p (now p j) c)) × (bearer ≡ bearer_named (next p (now p j) c) c)
-bound_after p j c None new bearer lawful ids served accepted brings rebound = bound_beside p j c new bearer lawful ids (brings_none p j c served accepted (brought_none p c None refl brings)) rebound
-bound_after p j c (Some x) new None lawful ids served accepted brings rebound = absurd rebound
-bound_after p j c (Some x) new (Some id) lawful ids served accepted brings rebound =
+bound_after p j c None new bearer lawful served accepted brings rebound = bound_beside p j c new bearer lawful (brings_none p j c served accepted (brought_none p c None refl brings)) rebound
+bound_after p j c (Some x) new None lawful served accepted brings rebound = absurd rebound
+bound_after p j c (Some x) new (Some id) lawful served accepted brings rebound =
     let g : Generation = now p j in
     let b = brought p c (Some x) x refl brings in
     let makes = makes_becoming p c b.rule b.becomes in
-    let bound = lawful_bound p (has_bearer_ids p ids) j lawful in
+    let bound = lawful_bound p j lawful in
     let is : IsBoundTo b.rule.properties (binding_of p g) new id = subst (λ (q : Properties). IsBoundTo q (binding_of p g) new id) b.is_of.properties_are rebound in
-    let gets : (next p g c).id_of b.rule.properties.qos ≡ id.0 = next_id p g c b.rule id.0 makes bound ids is.bearer_is in (
-      is.binding_is ∙ sym (next_put p g c b.rule id.0 makes bound ids is.bearer_is),
+    let gets : (next p g c).id_of b.rule.properties.qos ≡ id.0 = next_id p g c b.rule id.0 makes bound is.bearer_is in (
+      is.binding_is ∙ sym (next_put p g c b.rule id.0 makes bound is.bearer_is),
       sym (bearer_told p g c b.rule b.becomes (next p g c) (makes.rules_are g) ∙ ap (λ (n : ℕ). Some (record { 0 = n })) gets),
     )
 
@@ -206,14 +207,14 @@ journal_commanded p j c x parts after agrees served brings is =
     ∙ (ended_command p j c parts agrees (served_plainly p j c served)).journal_is
 
 -- the bearers after it, and the one that is told
-rebound_now : (p : Setting) (j : Journal) (c : Command) (x : Option Coming) (old new : Parts) (bearer : Option BearerId) → HasOtherIds p → Agrees p j old → IsCommanded p j c x old new bearer →
+rebound_now : (p : Setting) (j : Journal) (c : Command) (x : Option Coming) (old new : Parts) (bearer : Option BearerId) → Agrees p j old → IsCommanded p j c x old new bearer →
     (new.binding ≡ binding_of p (next p (now p j) c)) × (bearer ≡ bearer_named (next p (now p j) c) c)
-rebound_now p j c x old new bearer ids agrees is =
-    bound_after p j c x new.binding bearer agrees.lawful ids is.served is.accepted is.brings (subst (λ (b : Binding). IsRebound x c b new.binding bearer) agrees.binding_is is.rebound)
+rebound_now p j c x old new bearer agrees is =
+    bound_after p j c x new.binding bearer agrees.lawful is.served is.accepted is.brings (subst (λ (b : Binding). IsRebound x c b new.binding bearer) agrees.binding_is is.rebound)
 
-pub agrees_commanded : (p : Setting) (j : Journal) (c : Command) (x : Option Coming) (old new : Parts) (bearer : Option BearerId) → HasOtherIds p → Agrees p j old → IsCommanded p j c x old new bearer →
+pub agrees_commanded : (p : Setting) (j : Journal) (c : Command) (x : Option Coming) (old new : Parts) (bearer : Option BearerId) → Agrees p j old → IsCommanded p j c x old new bearer →
     Agrees p (after_command p j c) new
-agrees_commanded p j c x old new bearer ids agrees is =
+agrees_commanded p j c x old new bearer agrees is =
     let plainly = served_plainly p j c is.served in
     let ended = ended_command p j c old agrees plainly in
     let after : Journal = after_command p j c in
@@ -228,7 +229,7 @@ agrees_commanded p j c x old new bearer ids agrees is =
       lawful = by_command j c agrees.lawful is.accepted is.changing;
       rules_are = subst (λ (g : Generation). AreKept p.catalog new.rules g.rules) (sym generation)
           (subst (λ (kept : List (List ℕ × Source)). AreKept p.catalog kept (rules_after p (now p j) c)) (sym is.rules_are) (kept_after p j c x old.rules is.served is.accepted is.brings agrees.rules_are));
-      binding_is = (rebound_now p j c x old new bearer ids agrees is).0 ∙ ap (binding_of p) (sym generation);
+      binding_is = (rebound_now p j c x old new bearer agrees is).0 ∙ ap (binding_of p) (sym generation);
       keys_are = ap keys_of keys ∙ ended.keys_are ∙ ap (slots p) journal;
       usage_is = subst (AllByRecursion (KeyAgrees p after)) (sym keys)
           (subst (λ (k : Journal). AllByRecursion (KeyAgrees p k) (left_by old.triggers.usage_report (plan p j c) (entered p c old.keys))) journal
@@ -237,10 +238,10 @@ agrees_commanded p j c x old new bearer ids agrees is =
       table_shows = is.shows;
     }
 
-pub bearer_commanded : (p : Setting) (j : Journal) (c : Command) (x : Option Coming) (old new : Parts) (bearer : Option BearerId) → HasOtherIds p → Agrees p j old → IsCommanded p j c x old new bearer →
+pub bearer_commanded : (p : Setting) (j : Journal) (c : Command) (x : Option Coming) (old new : Parts) (bearer : Option BearerId) → Agrees p j old → IsCommanded p j c x old new bearer →
     bearer ≡ bearer_named (now p (after_command p j c)) c
-bearer_commanded p j c x old new bearer ids agrees is =
-    (rebound_now p j c x old new bearer ids agrees is).1 ∙ ap (λ (g : Generation). bearer_named g c) (sym (next_now p j c (served_plainly p j c is.served).table))
+bearer_commanded p j c x old new bearer agrees is =
+    (rebound_now p j c x old new bearer agrees is).1 ∙ ap (λ (g : Generation). bearer_named g c) (sym (next_now p j c (served_plainly p j c is.served).table))
 
 -- ---- what stays
 pub commands_told : (p : Setting) (ts : List Telling) (j : Journal) → commands (tell p ts j) ≡ commands j

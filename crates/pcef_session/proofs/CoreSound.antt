@@ -1,10 +1,10 @@
 -- What always holds of a session, as its callers see it.
 use Rattle.std.proofs.Common.{◌≡◌, ◌≤◌, [], ◌∷◌, length, ap, subst, arith, inl, inr}
 use Rattle.std.proofs.lemmas.Bool.{cases_Bool}
-use Rattle.pcef_journal.specs.declared.entry.Entry.TheVariants as entry
-use Rattle.pcef_journal.specs.Entries.{Journal, commands}
-use Rattle.pcef_journal.specs.Journals.{gen, is_table}
-use Rattle.pcef_journal.proofs.Growth.{tables_of_other, tables_of_table}
+use Rattle.pcef_model.specs.declared.entry.Entry.TheVariants as entry
+use Rattle.pcef_model.specs.Entries.{Journal, commands}
+use Rattle.pcef_model.specs.Journals.{gen, is_table}
+use Rattle.pcef_model.proofs.Growth.{tables_of_other, tables_of_table}
 use Rattle.pcef_session.specs.Agreement.{Agrees}
 use Rattle.pcef_session.specs.Core.{Core, setting_in}
 use Rattle.pcef_session.specs.Soundness.{IsSound, core_of}

@@ -5,18 +5,18 @@ use Rattle.pcef_table.specs.declared.entry.Entry.{Entry}
 use Rattle.pcef_table.specs.declared.entry.Source.{Source}
 use Rattle.pcef_table.specs.Tables.{TableValue}
 use Rattle.pcef_table.proofs.Ordered.{empty_is_table}
-use Rattle.pcef_journal.specs.declared.trigger.TriggerSet.{TriggerSet}
-use Rattle.pcef_journal.specs.Setting.{Setting}
-use Rattle.pcef_journal.specs.Generations.{at_first as before_all, made_by, oldest, slots_of}
-use Rattle.pcef_journal.specs.Entries.{Journal}
-use Rattle.pcef_journal.specs.Journals.{gen, grant, no_triggers, reported, subscribed}
-use Rattle.pcef_journal.specs.Reports.{after_attach}
+use Rattle.pcef_model.specs.declared.trigger.TriggerSet.{TriggerSet}
+use Rattle.pcef_model.specs.Setting.{Setting}
+use Rattle.pcef_model.specs.Generations.{at_first as before_all, made_by, oldest, slots_of}
+use Rattle.pcef_model.specs.Entries.{Journal}
+use Rattle.pcef_model.specs.Journals.{gen, grant, no_triggers, reported, subscribed}
+use Rattle.pcef_model.specs.Reports.{after_attach}
 use Rattle.pcef_usage.specs.declared.usage.KeyState.{KeyState}
 use Rattle.pcef_usage.proofs.Tells.{all_same}
 use Rattle.pcef_session.specs.Agreement.{Agrees, AreKept, KeyAgrees, Parts}
-use Rattle.pcef_session.specs.Bound.{binding_of}
-use Rattle.pcef_session.specs.Lawful.{at_first, by_attach}
-use Rattle.pcef_session.specs.Refusals.{attach_faults, first_of}
+use Rattle.pcef_bearer.specs.Standing.{binding_of}
+use Rattle.pcef_model.specs.Lawful.{at_first, by_attach}
+use Rattle.pcef_model.specs.Refusals.{attach_faults, first_of}
 use Rattle.pcef_session.specs.Shown.{Shows}
 use Rattle.pcef_session.proofs.ShownLater.{shows_same}
 

@@ -5,12 +5,13 @@ use Rattle.std.proofs.lemmas.Bool.{cases_Bool}
 use Rattle.indexmap.specs.IndexMap.{insert_entry, shift_remove_entry}
 use Rattle.pcef_table.specs.declared.entry.Source.{Source}
 use Rattle.pcef_catalog.specs.declared.listing.Offer.{Offer}
-use Rattle.pcef_journal.specs.Setting.{same_name}
-use Rattle.pcef_journal.specs.ActiveRules.{Active, is_named, put, without}
-use Rattle.pcef_journal.proofs.Sameness.{same_name_is, same_name_not, same_name_turned}
+use Rattle.pcef_model.specs.Setting.{same_name}
+use Rattle.pcef_model.specs.ActiveRules.{Active, is_named, put, without}
+use Rattle.pcef_model.proofs.Sameness.{same_name_is, same_name_not, same_name_turned}
 use Rattle.pcef_session.specs.Agreement.{AreKept}
 use Rattle.pcef_session.specs.Shown.{rule_of}
-use Rattle.pcef_session.proofs.BoundRules.{NamesOnce, without_none}
+use Rattle.pcef_model.proofs.BoundRules.{NamesOnce}
+use Rattle.pcef_model.proofs.Names.{Once, without_none}
 
 -- as many are kept as there are
 pub kept_length : (offers : List Offer) (kept : List (List ℕ × Source)) (rules : List Active) → AreKept offers kept rules → length kept ≡ length rules
@@ -43,7 +44,7 @@ kept_put offers new source (e ∷ kept) (r ∷ rules) stands are =
 -- a rule is removed
 pub kept_without : (offers : List Offer) (name : List ℕ) (kept : List (List ℕ × Source)) (rules : List Active) → NamesOnce rules → AreKept offers kept rules →
     AreKept offers (shift_remove_entry (same_name name) kept) (without name rules)
-unfolding NamesOnce
+unfolding Once
 kept_without offers name [] [] once are = tt
 kept_without offers name [] (r ∷ rules) once are = absurd are
 kept_without offers name (e ∷ kept) [] once are = absurd are
@@ -52,7 +53,7 @@ kept_without offers name (e ∷ kept) (r ∷ rules) once are =
       | inl is ↦
           let hit : same_name name e.0 ≡ true = turned name e r true are.0 is in
           let none : list_any (is_named name) rules ≡ false = rw (← same_name_is r.properties.name name is) once.0 in
-          let stay : without name rules ≡ rules = without_none name rules none in
+          let stay : without name rules ≡ rules = without_none (λ (r : Active). r.properties.name) name rules none in
           rw (is, hit, stay) are.2
       | inr isnt ↦
           let miss : same_name name e.0 ≡ false = turned name e r false are.0 isnt in

@@ -8,20 +8,21 @@ use Rattle.pcef_rule.specs.declared.rule.Properties.{Properties}
 use Rattle.pcef_table.specs.declared.entry.Entry.{Entry}
 use Rattle.pcef_table.specs.Sources.{properties_of}
 use Rattle.pcef_table.specs.Tables.{TableValue}
-use Rattle.pcef_journal.specs.declared.command.Command.{Command}
-use Rattle.pcef_journal.specs.declared.command.Command.TheVariants.{Install, Activate, Remove, Monitor, Stop, ReportNow, Triggers, Notice, LoseBearer, Close, Terminate}
-use Rattle.pcef_journal.specs.declared.report.Cause.{Cause}
-use Rattle.pcef_journal.specs.declared.report.Cause.TheVariants.{RulesGone}
-use Rattle.pcef_journal.specs.declared.telling.Telling.{Telling}
-use Rattle.pcef_journal.specs.declared.telling.Telling.TheVariants.{Usage}
-use Rattle.pcef_journal.specs.Setting.{Setting, same_name}
-use Rattle.pcef_journal.specs.ActiveRules.{Active, has_key, is_key, is_named, put, without}
-use Rattle.pcef_journal.specs.Generations.{Generation, rules_after}
-use Rattle.pcef_journal.specs.Entries.{Journal}
-use Rattle.pcef_journal.specs.Journals.{at, gen, now, slots, tables}
-use Rattle.pcef_journal.specs.Reports.{plan}
-use Rattle.pcef_journal.proofs.Growth.{at_newest}
-use Rattle.pcef_journal.proofs.Sameness.{same_name_is}
+use Rattle.pcef_model.proofs.Names.{Once}
+use Rattle.pcef_model.specs.declared.command.Command.{Command}
+use Rattle.pcef_model.specs.declared.command.Command.TheVariants.{Install, Activate, Remove, Monitor, Stop, ReportNow, Triggers, Notice, LoseBearer, Close, Terminate}
+use Rattle.pcef_model.specs.declared.report.Cause.{Cause}
+use Rattle.pcef_model.specs.declared.report.Cause.TheVariants.{RulesGone}
+use Rattle.pcef_model.specs.declared.telling.Telling.{Telling}
+use Rattle.pcef_model.specs.declared.telling.Telling.TheVariants.{Usage}
+use Rattle.pcef_model.specs.Setting.{Setting, same_name}
+use Rattle.pcef_model.specs.ActiveRules.{Active, has_key, is_key, is_named, put, without}
+use Rattle.pcef_model.specs.Generations.{Generation, rules_after}
+use Rattle.pcef_model.specs.Entries.{Journal}
+use Rattle.pcef_model.specs.Journals.{at, gen, now, slots, tables}
+use Rattle.pcef_model.specs.Reports.{plan}
+use Rattle.pcef_model.proofs.Growth.{at_newest}
+use Rattle.pcef_model.proofs.Sameness.{same_name_is}
 use Rattle.pcef_usage.specs.declared.usage.KeyState.{KeyState}
 use Rattle.pcef_usage.specs.Commands.{loses_rules, usage_of}
 use Rattle.pcef_usage.specs.Keys.{keys_of}
@@ -29,15 +30,17 @@ use Rattle.pcef_usage.specs.Tellings.{AllOn}
 use Rattle.pcef_usage.proofs.Plans.{plan_activate, plan_install, plan_remove, rules_gone}
 use Rattle.pcef_session.specs.Agreement.{Agrees, Parts}
 use Rattle.pcef_session.specs.declared.prepared.Coming.{Coming}
-use Rattle.pcef_session.specs.Changes.{MakesActive, becoming}
+use Rattle.pcef_model.specs.Changes.{MakesActive}
+use Rattle.pcef_session.specs.Changes.{becoming}
 use Rattle.pcef_session.specs.Kept.{is_gone, is_other_with_key, some_entry}
 use Rattle.pcef_session.specs.Kept as kept
 use Rattle.pcef_session.specs.Shown.{Shows, StandsFor}
 use Rattle.pcef_session.proofs.Becoming.{IsBrought, makes_becoming}
-use Rattle.pcef_session.proofs.BoundRules.{NamesOnce}
-use Rattle.pcef_session.proofs.Found.{any_from}
-use Rattle.pcef_session.proofs.Members.{first_there, later_there}
-use Rattle.pcef_session.proofs.ShownVerdicts.{made_once, rule_is}
+use Rattle.pcef_model.proofs.BoundRules.{NamesOnce}
+use Rattle.pcef_lists.proofs.Found.{any_from}
+use Rattle.pcef_model.proofs.Members.{first_there, later_there}
+use Rattle.pcef_model.proofs.Decisive.{made_once}
+use Rattle.pcef_session.proofs.ShownVerdicts.{rule_is}
 use Rattle.pcef_session.proofs.NextTables.{all_on_from}
 
 -- ---- tests
@@ -119,7 +122,7 @@ has_key_all k name (r ∷ rules) none =
 -- after a put the new rule has a key, or one of another name
 pub has_key_put : (k : List ℕ) (new : Active) (rules : List Active) → NamesOnce rules →
     has_key k (put new rules) ≡ (is_key k new.properties.key || has_key k (without new.properties.name rules))
-unfolding NamesOnce
+unfolding Once
 has_key_put k new [] once = refl
 has_key_put k new (r ∷ rules) once =
     elim (cases_Bool (is_named new.properties.name r)) [

@@ -18,19 +18,20 @@ use Rattle.pcef_table.specs.declared.entry.Source.TheVariants.{Dynamic, Predefin
 use Rattle.pcef_catalog.specs.declared.listing.Offer.{Offer}
 use Rattle.pcef_table.specs.Sources.{IsKnown, name_of, rank_of}
 use Rattle.pcef_table.specs.Tables.{GoesBefore, IsTable, TableValue, placed, with_counting, without}
-use Rattle.pcef_table.proofs.Foremost.{ordered_head, ordered_tail}
+use Rattle.pcef_lists.proofs.Foremost.{ordered_head, ordered_tail}
 use Rattle.pcef_table.proofs.Ordered.{apart, counting_is_table, placed_is_table, without_is_table}
-use Rattle.pcef_journal.specs.declared.entry.Entry.TheVariants as entry
-use Rattle.pcef_journal.specs.declared.command.Command.{Command}
-use Rattle.pcef_journal.specs.declared.command.Command.TheVariants.{Monitor, Remove}
-use Rattle.pcef_journal.specs.Setting.{Setting, same_name}
-use Rattle.pcef_journal.specs.ActiveRules.{Active, predefined, put}
-use Rattle.pcef_journal.specs.ActiveRules as rules
-use Rattle.pcef_journal.specs.Generations.{Generation, add_if_some, add_key, is_among, key_named, next, rules_after, slots_of, switched}
-use Rattle.pcef_journal.specs.Entries.{Journal}
-use Rattle.pcef_journal.specs.Journals.{at, gen, is_table, now, slots, tables}
-use Rattle.pcef_journal.proofs.Growth.{at_newest, tables_of_table}
-use Rattle.pcef_journal.proofs.Sameness.{contrary, same_name_is, same_name_not, same_name_of, same_name_turned}
+use Rattle.pcef_model.specs.declared.entry.Entry.TheVariants as entry
+use Rattle.pcef_model.specs.declared.command.Command.{Command}
+use Rattle.pcef_model.specs.declared.command.Command.TheVariants.{Monitor, Remove}
+use Rattle.pcef_model.specs.Setting.{Setting, same_name}
+use Rattle.pcef_model.specs.ActiveRules.{Active, predefined, put}
+use Rattle.pcef_model.specs.ActiveRules as rules
+use Rattle.pcef_model.specs.Generations.{Generation, add_if_some, add_key, is_among, key_named, next, rules_after, slots_of, switched}
+use Rattle.pcef_model.specs.Entries.{Journal}
+use Rattle.pcef_model.specs.Journals.{at, gen, is_table, now, slots, tables}
+use Rattle.pcef_model.proofs.Growth.{at_newest, tables_of_table}
+use Rattle.pcef_lists.proofs.Tests.{contrary}
+use Rattle.pcef_model.proofs.Sameness.{same_name_is, same_name_not, same_name_of, same_name_turned}
 use Rattle.pcef_usage.specs.declared.usage.KeyState.{KeyState}
 use Rattle.pcef_usage.specs.Keys.{has_slot, keys_of, place_of as place_in}
 use Rattle.pcef_usage.specs.Tellings.{AllCount, AllOn, Counts, OnIs}
@@ -39,22 +40,25 @@ use Rattle.pcef_usage.proofs.Tells.{all_same}
 use Rattle.pcef_session.specs.Agreement.{KeyAgrees}
 use Rattle.pcef_bearer.specs.Bindings.{Binding, id_beside, without as bound_without}
 use Rattle.pcef_session.specs.declared.prepared.Coming.{Coming}
-use Rattle.pcef_session.specs.Bound.{binding_of}
-use Rattle.pcef_session.specs.Changes.{IsMadeActive, IsOf, MakesActive}
+use Rattle.pcef_bearer.specs.Standing.{binding_of}
+use Rattle.pcef_session.specs.Changes.{IsMadeActive, IsOf}
+use Rattle.pcef_model.specs.Changes.{MakesActive}
 use Rattle.pcef_session.specs.Core.{Core, IsEntryOf, setting_in, with_command}
 use Rattle.pcef_session.specs.Kept.{is_on}
-use Rattle.pcef_session.specs.Refusals.{becoming_active, first_of}
-use Rattle.pcef_session.specs.Shown.{Shows, StandsFor, counts_now, place_of, rule_of, slot_of}
-use Rattle.pcef_session.proofs.Acceptance.{few_put}
-use Rattle.pcef_session.proofs.BearerIds.{lawful_bound}
-use Rattle.pcef_session.proofs.BoundBearers.{has_bearer_ids, next_id}
+use Rattle.pcef_model.specs.Refusals.{becoming_active, first_of}
+use Rattle.pcef_session.specs.Shown.{Shows, StandsFor, rule_of}
+use Rattle.pcef_model.specs.Slots.{counts_now, place_of, slot_of}
+use Rattle.pcef_model.proofs.Acceptance.{few_put}
+use Rattle.pcef_model.proofs.BearerIds.{lawful_bound}
+use Rattle.pcef_bearer.proofs.BoundBearers.{next_id}
 use Rattle.pcef_session.proofs.CoreSound.{IsSoundCore, few_generations}
 use Rattle.pcef_session.proofs.KeptRules.{kept_length}
-use Rattle.pcef_session.proofs.BoundRules.{NamesOnce}
-use Rattle.pcef_session.proofs.Found.{any_from}
-use Rattle.pcef_session.proofs.Members.{first_there, later_there, map_to, put_new}
+use Rattle.pcef_model.proofs.BoundRules.{NamesOnce}
+use Rattle.pcef_lists.proofs.Found.{any_from}
+use Rattle.pcef_model.proofs.Members.{first_there, later_there, map_to, put_new}
 use Rattle.pcef_session.proofs.ShownChanges.{Fives, after_is, lawful_fives, name_is, shows_monitor, shows_put, shows_remove, still}
-use Rattle.pcef_session.proofs.ShownVerdicts.{made_once, once_is, rule_is}
+use Rattle.pcef_model.proofs.Decisive.{made_once, once_is}
+use Rattle.pcef_session.proofs.ShownVerdicts.{rule_is}
 
 -- ---- slots
 here_place : (k : List ℕ) (states : List KeyState) → is_among k (keys_of states) ≡ true → place_of k (keys_of states) ≡ Some (place_in k states)
@@ -260,7 +264,7 @@ number_fits v t sound is =
     let few = few_generations v.journal in omega (arith, number, few, sound.few_commands, sound.most_commands)
 
 fives_now : (v : Core) → IsSoundCore v → Fives (setting_in v) (now (setting_in v) v.journal)
-fives_now v sound = lawful_fives (setting_in v) (has_bearer_ids (setting_in v) refl) v.journal sound.agrees.lawful
+fives_now v sound = lawful_fives (setting_in v) v.journal sound.agrees.lawful
 
 shows_now : (v : Core) (t : TableValue) → IsSoundCore v → t ≡ v.parts.table → Shows (setting_in v) v.journal (gen v.journal) t
 shows_now v t sound is = subst (Shows (setting_in v) v.journal (gen v.journal)) (sym is) sound.agrees.table_shows
@@ -280,7 +284,7 @@ entry_stands v c r x e sound makes is_of is =
     subst (λ (q : Properties). id_beside (binding_of p g).default_qos (binding_of p g).bound (bound_without q.name (binding_of p g).bound) q.qos ≡ Some e.bearer.0) same
     (subst (λ (b : Binding). id_beside b.default_qos b.bound (bound_without x.properties.name b.bound) x.properties.qos ≡ Some e.bearer.0) sound.agrees.binding_is is.bearer_is) in
     stands_new p v.journal c r e v.parts.keys makes sound.agrees.keys_are (ap (rule_of p.catalog) is.source_is ∙ is_of.rule_is)
-    (sym (next_id p g c r e.bearer.0 makes (lawful_bound p (has_bearer_ids p refl) v.journal sound.agrees.lawful) refl bound))
+    (sym (next_id p g c r e.bearer.0 makes (lawful_bound p v.journal sound.agrees.lawful) bound))
     (is.slot_is ∙ ap (λ (q : Properties). option_map (λ k. place_in k v.parts.keys) q.key) same)
     (is.counted_is ∙ on_is p v.journal v.parts.keys x.properties.key sound.agrees.keys_are sound.agrees.usage_is ∙ ap (λ (q : Properties). counts_now g.on q.key) same)
 
@@ -307,7 +311,7 @@ room_for_rule v x e t offers sound accepted made is t_is offers_are =
     let can : first_of (becoming_active p v.journal r.properties) ≡ None = subst (λ (q : Properties). first_of (becoming_active p v.journal q) ≡ None) made.is_of.properties_are accepted in
     subst (λ (os : List Offer). length (placed os e t.entries) ≤ 64) (sym offers_are)
     (room_put p v.journal made.command r e t made.makes (fives_now v sound) (shows_now v t sound t_is) (entry_stands v made.command r x e sound made.makes made.is_of is) (entry_known v r x e made.is_of is)
-    (few_put p v.journal r refl (few_active v sound) can))
+    (few_put p v.journal r (few_active v sound) can))
 
 pub table_with : (v : Core) (x : Coming) (e : Entry) (t : TableValue) (offers : List Offer) → IsSoundCore v → IsEntryOf v x e → t ≡ v.parts.table → offers ≡ v.offers →
     (new : TableValue) → new.number ≡ t.number + 1 → new.entries ≡ placed offers e t.entries → (c : Command) (r : Active) → MakesActive (setting_in v) c r → IsOf (setting_in v) r x →

@@ -3,24 +3,24 @@ use Rattle.std.proofs.Common.{◌≡◌, ◌∙◌, ◌≤◌, ◌<◌, ◌+◌,
 use Rattle.std.specs.List.{list_any}
 use Rattle.std.proofs.lemmas.List.{drop_all, drop_more}
 use Rattle.std.proofs.lemmas.Bool.{cases_Bool, eq-eqb, eqb-true, le-leb, le-ltb, lt-leb, lt-ltb, ltb-false, ltb-true, or_from, or_left, or_right}
-use Rattle.pcef_journal.specs.declared.command.Command.{Command}
-use Rattle.pcef_journal.specs.declared.command.Command.TheVariants.{Install, Activate, Remove, Monitor, Stop, ReportNow, Triggers, Notice, LoseBearer, Close, Terminate}
-use Rattle.pcef_journal.specs.declared.entry.Entry.TheVariants as entry
-use Rattle.pcef_journal.specs.declared.row.Row.{Row}
-use Rattle.pcef_journal.specs.declared.telling.Telling.{Telling}
-use Rattle.pcef_journal.specs.Setting.{Setting}
-use Rattle.pcef_journal.specs.Entries.{Journal, commands, rows}
-use Rattle.pcef_journal.specs.Journals.{attach_count, attached, report_count}
-use Rattle.pcef_journal.specs.Reports.{after_command, after_flush, body_of, plan, tell, thresholds, with_rows}
-use Rattle.pcef_journal.proofs.Sameness.{contrary}
-use Rattle.pcef_session.specs.declared.answer.AttachFault.TheVariants.{NoPlace}
-use Rattle.pcef_session.specs.declared.answer.FlushRefusal.{FlushRefusal}
-use Rattle.pcef_session.specs.declared.answer.FlushRefusal.TheVariants.{NotAttached, RowsFull}
-use Rattle.pcef_session.specs.Answers.{Attaches, Flushes, Told, attach_outcome, flush_outcome, told}
+use Rattle.pcef_model.specs.declared.command.Command.{Command}
+use Rattle.pcef_model.specs.declared.command.Command.TheVariants.{Install, Activate, Remove, Monitor, Stop, ReportNow, Triggers, Notice, LoseBearer, Close, Terminate}
+use Rattle.pcef_model.specs.declared.entry.Entry.TheVariants as entry
+use Rattle.pcef_model.specs.declared.row.Row.{Row}
+use Rattle.pcef_model.specs.declared.telling.Telling.{Telling}
+use Rattle.pcef_model.specs.Setting.{Setting}
+use Rattle.pcef_model.specs.Entries.{Journal, commands, rows}
+use Rattle.pcef_model.specs.Journals.{attach_count, attached, report_count}
+use Rattle.pcef_model.specs.Reports.{after_command, after_flush, body_of, plan, tell, thresholds, with_rows}
+use Rattle.pcef_lists.proofs.Tests.{contrary}
+use Rattle.pcef_model.specs.declared.answer.AttachFault.TheVariants.{NoPlace}
+use Rattle.pcef_model.specs.declared.answer.FlushRefusal.{FlushRefusal}
+use Rattle.pcef_model.specs.declared.answer.FlushRefusal.TheVariants.{NotAttached, RowsFull}
+use Rattle.pcef_model.specs.Answers.{Attaches, Flushes, Told, attach_outcome, flush_outcome, told}
 use Rattle.pcef_session.specs.declared.batch.Item.{Item}
 use Rattle.pcef_session.specs.Core.{IsServed}
 use Rattle.pcef_session.specs.Following.{row_of}
-use Rattle.pcef_session.specs.Refusals.{attach_faults, first_of, flush_refusals}
+use Rattle.pcef_model.specs.Refusals.{attach_faults, first_of, flush_refusals}
 use Rattle.pcef_session.specs.Soundness.{IsPlain, below}
 
 pub plain_row : (j : Journal) (n : ℕ) (r : Row) → IsPlain j n → IsPlain (entry.Row r ∷ j) n

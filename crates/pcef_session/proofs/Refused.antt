@@ -5,19 +5,19 @@ use Rattle.std.specs.Option.{option_map}
 use Rattle.std.proofs.lemmas.Bool.{cases_Bool, le-leb, lt-leb}
 use Rattle.pcef_rule.specs.declared.rule.Properties.{Properties}
 use Rattle.pcef_catalog.specs.declared.listing.Offer.{Offer}
-use Rattle.pcef_journal.specs.declared.command.Command.TheVariants.{Install, Activate, Remove, Monitor, Stop, ReportNow, Triggers, Notice, LoseBearer, Close, Terminate}
-use Rattle.pcef_journal.specs.declared.entry.Entry.TheVariants as entry
-use Rattle.pcef_journal.specs.Setting.{Setting, offer_named}
-use Rattle.pcef_journal.specs.ActiveRules.{predefined, without}
-use Rattle.pcef_journal.specs.Generations.{is_among}
-use Rattle.pcef_journal.specs.Entries.{Journal, commands}
-use Rattle.pcef_journal.specs.Journals.{now, slots}
+use Rattle.pcef_model.specs.declared.command.Command.TheVariants.{Install, Activate, Remove, Monitor, Stop, ReportNow, Triggers, Notice, LoseBearer, Close, Terminate}
+use Rattle.pcef_model.specs.declared.entry.Entry.TheVariants as entry
+use Rattle.pcef_model.specs.Setting.{most_rules, Setting, offer_named}
+use Rattle.pcef_model.specs.ActiveRules.{predefined, without}
+use Rattle.pcef_model.specs.Generations.{is_among}
+use Rattle.pcef_model.specs.Entries.{Journal, commands}
+use Rattle.pcef_model.specs.Journals.{now, slots}
 use Rattle.pcef_usage.specs.declared.usage.KeyState.{KeyState}
 use Rattle.pcef_usage.specs.Keys.{finds_no_slot as slotless, keys_of}
 use Rattle.pcef_usage.proofs.Monitors.{finds_no_slot_is}
-use Rattle.pcef_session.specs.declared.answer.Refusal.{Refusal}
-use Rattle.pcef_session.specs.declared.answer.Refusal.TheVariants.{CommandsFull, RulesFull, KeysFull, NameIsPredefined, UnknownRule}
-use Rattle.pcef_session.specs.Refusals.{Conditions, becoming_active, becoming_active_if, bindings, common_refusals, finds_no_slot, first_of, is_active, limited_count, was_closed, was_terminated}
+use Rattle.pcef_model.specs.declared.answer.Refusal.{Refusal}
+use Rattle.pcef_model.specs.declared.answer.Refusal.TheVariants.{CommandsFull, RulesFull, KeysFull, NameIsPredefined, UnknownRule}
+use Rattle.pcef_model.specs.Refusals.{Conditions, becoming_active, becoming_active_if, bindings, common_refusals, finds_no_slot, first_of, is_active, limited_count, was_closed, was_terminated}
 use Rattle.pcef_session.specs.declared.prepared.Coming.{Coming}
 use Rattle.pcef_session.specs.Changes.{Brings}
 use Rattle.pcef_session.specs.Soundness.{IsPlain}
@@ -68,21 +68,21 @@ common_none p j n plain few =
     let count = limited_plain j plain.not_closed plain.not_terminated in rw (plain.not_terminated, plain.not_closed, count, lt-leb p.commands (length (commands j)) few) refl
 
 -- ---- slots
-pub slotless_is : (p : Setting) (j : Journal) (key : Option (List ℕ)) (states : List KeyState) → p.most_keys ≡ 8 → keys_of states ≡ slots p j → slotless key states ≡ finds_no_slot p j key
-slotless_is p j None states most keys = refl
-slotless_is p j (Some key) states most keys =
-    finds_no_slot_is p j key states keys ∙ ap (λ n. not (is_among key (slots p j)) && nat_le n (length (slots p j))) (sym most)
+pub slotless_is : (p : Setting) (j : Journal) (key : Option (List ℕ)) (states : List KeyState) → keys_of states ≡ slots p j → slotless key states ≡ finds_no_slot p j key
+slotless_is p j None states keys = refl
+slotless_is p j (Some key) states keys =
+    finds_no_slot_is p j key states keys
 
 -- ---- becoming active
-pub becoming_full : (p : Setting) (j : Journal) (rule : Properties) → true ≡ (not (is_active p j rule.name) && nat_le p.most_rules (length (now p j).rules)) →
+pub becoming_full : (p : Setting) (j : Journal) (rule : Properties) → true ≡ (not (is_active p j rule.name) && nat_le most_rules (length (now p j).rules)) →
     Some RulesFull ≡ first_of (becoming_active p j rule)
 becoming_full p j rule full = rw (← full) refl
 
-pub becoming_slotless : (p : Setting) (j : Journal) (rule : Properties) → false ≡ (not (is_active p j rule.name) && nat_le p.most_rules (length (now p j).rules)) →
+pub becoming_slotless : (p : Setting) (j : Journal) (rule : Properties) → false ≡ (not (is_active p j rule.name) && nat_le most_rules (length (now p j).rules)) →
     true ≡ finds_no_slot p j rule.key → Some KeysFull ≡ first_of (becoming_active p j rule)
 becoming_slotless p j rule place lacks = rw (← place, ← lacks) refl
 
-pub becoming_bound : (p : Setting) (j : Journal) (rule : Properties) (o : Option Refusal) → false ≡ (not (is_active p j rule.name) && nat_le p.most_rules (length (now p j).rules)) →
+pub becoming_bound : (p : Setting) (j : Journal) (rule : Properties) (o : Option Refusal) → false ≡ (not (is_active p j rule.name) && nat_le most_rules (length (now p j).rules)) →
     false ≡ finds_no_slot p j rule.key → o ≡ first_of (bindings p (now p j) rule (without rule.name (now p j).rules)) → o ≡ first_of (becoming_active p j rule)
 becoming_bound p j rule o place has is = is ∙ rw (← place, ← has) refl
 

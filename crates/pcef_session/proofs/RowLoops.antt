@@ -1,7 +1,7 @@
 -- The counters in the loop over rows that are taken over.
 use Rattle.std.proofs.Common.{◌≡◌, ◌∙◌, ◌≤◌, ◌<◌, ◌+◌, ℕ, List, ◌∷◌, length, sym, ap, subst, drop, get_or}
 use Rattle.std.proofs.lemmas.List.{drop_all, drop_more}
-use Rattle.pcef_journal.specs.declared.row.Row.{Row}
+use Rattle.pcef_model.specs.declared.row.Row.{Row}
 use Rattle.pcef_usage.specs.declared.usage.KeyState.{KeyState}
 use Rattle.pcef_usage.specs.Flushes.{rows_counted}
 use Rattle.pcef_usage.specs.Keys.{CanCount, with_octets}

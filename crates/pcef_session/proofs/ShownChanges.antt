@@ -15,29 +15,32 @@ use Rattle.pcef_table.specs.declared.entry.Entry.{Entry}
 use Rattle.pcef_catalog.specs.declared.listing.Offer.{Offer}
 use Rattle.pcef_table.specs.Sources.{name_of, no_rank, origin_of, properties_of, rank_of}
 use Rattle.pcef_table.specs.Tables.{IsTable, TableValue, has_other_name, is_before, is_behind, is_slot, placed, with_counting, without}
-use Rattle.pcef_journal.specs.declared.entry.Entry.TheVariants as entry
-use Rattle.pcef_journal.specs.declared.command.Command.{Command}
-use Rattle.pcef_journal.specs.declared.command.Command.TheVariants.{Remove, Monitor}
-use Rattle.pcef_journal.specs.Setting.{Setting, same_name, same_qos}
-use Rattle.pcef_journal.specs.ActiveRules.{Active, has_key, is_key, put}
-use Rattle.pcef_journal.specs.ActiveRules as rules
-use Rattle.pcef_journal.specs.Generations.{Generation, add_key, default_id, id_after, is_among, next, rules_after, slots_of, still_on, switched}
-use Rattle.pcef_journal.specs.Entries.{Journal}
-use Rattle.pcef_journal.specs.Journals.{at, gen, is_table, now, slots, tables}
-use Rattle.pcef_journal.proofs.Growth.{at_newest, gen_after_table, now_after_table, tables_of_table}
-use Rattle.pcef_journal.proofs.Sameness.{contrary, same_name_is, same_name_of, same_qos_self}
+use Rattle.pcef_model.specs.declared.entry.Entry.TheVariants as entry
+use Rattle.pcef_model.specs.declared.command.Command.{Command}
+use Rattle.pcef_model.specs.declared.command.Command.TheVariants.{Remove, Monitor}
+use Rattle.pcef_model.specs.Setting.{Setting, same_name, same_qos}
+use Rattle.pcef_model.specs.ActiveRules.{Active, has_key, is_key, put}
+use Rattle.pcef_model.specs.ActiveRules as rules
+use Rattle.pcef_model.specs.Generations.{Generation, add_key, id_after, is_among, next, rules_after, slots_of, still_on, switched}
+use Rattle.pcef_model.specs.Bearers.{default_id}
+use Rattle.pcef_model.specs.Entries.{Journal}
+use Rattle.pcef_model.specs.Journals.{at, gen, is_table, now, slots, tables}
+use Rattle.pcef_model.proofs.Growth.{at_newest, gen_after_table, now_after_table, tables_of_table}
+use Rattle.pcef_lists.proofs.Tests.{contrary}
+use Rattle.pcef_model.proofs.Sameness.{same_name_is, same_name_of, same_qos_self}
 use Rattle.pcef_usage.proofs.Slots.{is_among_add}
-use Rattle.pcef_session.specs.Changes.{MakesActive}
-use Rattle.pcef_session.specs.Shown.{Shows, StandsFor, counts_now, place_of, rule_of, slot_of}
-use Rattle.pcef_session.specs.Laws.{HasBearerIds}
-use Rattle.pcef_session.specs.Lawful.{Lawful}
-use Rattle.pcef_session.proofs.BearerIds.{lawful_bound}
-use Rattle.pcef_session.proofs.BoundRules.{NamesOnce}
-use Rattle.pcef_session.proofs.Found.{any_from}
-use Rattle.pcef_session.proofs.Members.{filter_from, filter_to, first_there, later_there, map_from, map_to, put_cases, put_new, put_old, there_cases}
-use Rattle.pcef_session.proofs.ShownLater.{shown_slots, slot_stays}
-use Rattle.pcef_session.proofs.ShownVerdicts.{made_once, rule_is}
-use Rattle.pcef_session.proofs.SlotPlaces.{Grows, place_once, slots_grow}
+use Rattle.pcef_model.specs.Changes.{MakesActive}
+use Rattle.pcef_session.specs.Shown.{Shows, StandsFor, rule_of}
+use Rattle.pcef_model.specs.Slots.{counts_now, place_of, slot_of}
+use Rattle.pcef_model.specs.Lawful.{Lawful}
+use Rattle.pcef_model.proofs.BearerIds.{lawful_bound}
+use Rattle.pcef_model.proofs.BoundRules.{NamesOnce}
+use Rattle.pcef_lists.proofs.Found.{any_from}
+use Rattle.pcef_model.proofs.Members.{filter_from, filter_to, first_there, later_there, map_from, map_to, put_cases, put_new, put_old, there_cases}
+use Rattle.pcef_model.proofs.SlotsGrow.{shown_slots, slot_stays}
+use Rattle.pcef_model.proofs.Decisive.{made_once}
+use Rattle.pcef_session.proofs.ShownVerdicts.{rule_is}
+use Rattle.pcef_model.proofs.SlotPlaces.{Grows, place_once, slots_grow}
 
 -- ---- keys that stay on
 on_kept : (key : List ℕ) (test : List ℕ → Bool) (keys : List (List ℕ)) → test key ≡ true → is_among key (filter test keys) ≡ is_among key keys
@@ -312,6 +315,6 @@ shows_monitor p j key amount slot t number entries fives shows place number_is e
     (w.0, w.1, subst (λ (y : Entry). StandsFor p k (gen k) y w.0) v.2 (stands v.0 w.0 w.1 w.2)))
 
 -- the default pair keeps the default bearer
-pub lawful_fives : (p : Setting) → HasBearerIds p → (j : Journal) → Lawful p j → Fives p (now p j)
+pub lawful_fives : (p : Setting) (j : Journal) → Lawful p j → Fives p (now p j)
 unfolding Fives
-lawful_fives p ids j lawful q default = (lawful_bound p ids j lawful).five q default
+lawful_fives p j lawful q default = (lawful_bound p j lawful).five q default

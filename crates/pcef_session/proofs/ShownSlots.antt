@@ -8,24 +8,26 @@ use Rattle.pcef_packet.specs.Addresses.{same_addr, ue_side}
 use Rattle.pcef_rule.specs.declared.quantity.Slot.{Slot}
 use Rattle.pcef_rule.specs.Gate.{opens}
 use Rattle.pcef_table.specs.declared.entry.Entry.{Entry}
-use Rattle.pcef_table.specs.declared.verdict.Verdict.{Verdict}
+use Rattle.pcef_model.specs.declared.verdict.Verdict.{Verdict}
 use Rattle.pcef_table.specs.Sources.{is_named}
 use Rattle.pcef_table.specs.Tables.{TableValue}
 use Rattle.pcef_table.specs.Verdicts.{slot_for}
-use Rattle.pcef_table.proofs.Foremost.{found_is_foremost}
-use Rattle.pcef_journal.specs.Setting.{Setting, same_name}
-use Rattle.pcef_journal.specs.ActiveRules.{Active, decisive, is_decisive, is_key}
-use Rattle.pcef_journal.specs.Generations.{Generation, is_among}
-use Rattle.pcef_journal.specs.Entries.{Journal}
-use Rattle.pcef_journal.specs.Journals.{Decision, at, counts_in, decided_by, decision, gated, judged, passed, slots, stray, unmatched, verdict_of, passed_for}
-use Rattle.pcef_journal.proofs.Sameness.{contrary, same_name_is, same_name_of}
-use Rattle.pcef_session.specs.Following.{has_this_slot, is_at}
-use Rattle.pcef_session.specs.Shown.{Shows, StandsFor, counts_now, place_of, slot_of}
-use Rattle.pcef_session.proofs.BoundRules.{NamesOnce}
-use Rattle.pcef_session.proofs.ShownLater.{HasSlot, shown_slots}
-use Rattle.pcef_session.proofs.ShownVerdicts.{once_is, rule_is}
-use Rattle.pcef_session.proofs.SlotPlaces.{place_once, place_there}
-use Rattle.pcef_session.proofs.Found.{find_some}
+use Rattle.pcef_lists.proofs.Foremost.{found_is_foremost}
+use Rattle.pcef_model.specs.Setting.{Setting, same_name}
+use Rattle.pcef_model.specs.ActiveRules.{Active, decisive, is_decisive, is_key}
+use Rattle.pcef_model.specs.Generations.{Generation, is_among}
+use Rattle.pcef_model.specs.Entries.{Journal}
+use Rattle.pcef_model.specs.Journals.{Decision, at, counts_in, decided_by, decision, gated, judged, passed, slots, stray, unmatched, verdict_of, passed_for}
+use Rattle.pcef_lists.proofs.Tests.{contrary}
+use Rattle.pcef_model.proofs.Sameness.{same_name_is, same_name_of}
+use Rattle.pcef_model.specs.Slots.{has_this_slot, is_at, counts_now, place_of, slot_of}
+use Rattle.pcef_session.specs.Shown.{Shows, StandsFor}
+use Rattle.pcef_model.proofs.BoundRules.{NamesOnce}
+use Rattle.pcef_model.proofs.SlotsGrow.{HasSlot, shown_slots}
+use Rattle.pcef_model.proofs.Decisive.{once_is}
+use Rattle.pcef_session.proofs.ShownVerdicts.{rule_is}
+use Rattle.pcef_model.proofs.SlotPlaces.{place_once, place_there}
+use Rattle.pcef_lists.proofs.Found.{find_some}
 
 -- ---- the slot of an entry
 place_at : (key k : List ℕ) (keys : List (List ℕ)) (n : ℕ) → place_of k keys ≡ Some n → same_name key k ≡ false → is_at (place_of key keys) n ≡ false

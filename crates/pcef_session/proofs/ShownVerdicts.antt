@@ -1,38 +1,34 @@
 -- A table that shows a generation gives the generation's verdicts.
-use Rattle.std.proofs.Common.{◌≡◌, ◌∙◌, ℕ, suc, zero, true, false, ◌||◌, not, List, [], ◌∷◌, refl, sym, ap, arith, inl, inr, All, Contains, Some, None, ◌==◌}
+use Rattle.std.proofs.Common.{◌≡◌, ◌∙◌, ℕ, true, false, List, refl, sym, ap, inl, inr, All, Contains, Some, None}
 use Rattle.std.specs.Prelude.{◌⊎◌, Option, slice_get}
-use Rattle.std.specs.List.{list_any, list_all}
+use Rattle.std.specs.List.{list_all}
 use Rattle.std.specs.Option.{option_map}
-use Rattle.std.proofs.lemmas.Bool.{cases_Bool, and_parts, and_from, or_left, or_right, or_cases}
+use Rattle.std.proofs.lemmas.Bool.{cases_Bool, and_from, or_left, or_right}
 use Rattle.std.proofs.lemmas.List.Elements.{All-contains}
 use Rattle.pcef_packet.specs.declared.header.Addr.{Addr}
 use Rattle.pcef_packet.specs.declared.header.Header.{Header}
 use Rattle.pcef_rule.specs.declared.quantity.BearerId.{BearerId}
 use Rattle.pcef_rule.specs.declared.rule.Properties.{Properties}
 use Rattle.pcef_rule.specs.Gate.{opens}
-use Rattle.pcef_rule.specs.Precedence.{Rank, goes_before}
-use Rattle.pcef_rule.proofs.OrderOfRules.{one_goes_first}
 use Rattle.pcef_table.specs.declared.entry.Entry.{Entry}
 use Rattle.pcef_table.specs.declared.entry.Source.{Source}
 use Rattle.pcef_table.specs.declared.entry.Source.TheVariants.{Dynamic, Predefined}
 use Rattle.pcef_catalog.specs.declared.listing.Offer.{Offer}
-use Rattle.pcef_table.specs.declared.verdict.Verdict.{Verdict}
-use Rattle.pcef_table.specs.declared.verdict.Verdict.TheVariants.{Stray, Unmatched, Gated, Passed}
+use Rattle.pcef_model.specs.declared.verdict.Verdict.{Verdict}
+use Rattle.pcef_model.specs.declared.verdict.Verdict.TheVariants.{Stray, Unmatched, Gated, Passed}
 use Rattle.pcef_table.specs.Sources.{properties_of}
 use Rattle.pcef_table.specs.Sources as sources
 use Rattle.pcef_table.specs.Tables.{GoesBefore, TableValue}
 use Rattle.pcef_table.specs.Verdicts.{IsVerdict}
-use Rattle.pcef_journal.specs.declared.command.Command.{Command}
-use Rattle.pcef_journal.specs.declared.command.Command.TheVariants.{Install, Activate, Remove, Monitor, Stop, ReportNow, Triggers, Notice, LoseBearer, Close, Terminate}
-use Rattle.pcef_journal.specs.Setting.{Setting, offer_named, same_name}
-use Rattle.pcef_journal.specs.Generations.{Generation, made_by, rules_after}
-use Rattle.pcef_journal.specs.ActiveRules.{Active, decisive, dynamic, fits, goes_ahead_of, is_before, is_decisive, is_named, predefined, put_if_offered, rank_of}
-use Rattle.pcef_journal.specs.Entries.{Journal}
-use Rattle.pcef_journal.specs.Journals.{at, judged}
-use Rattle.pcef_journal.proofs.Sameness.{contrary, same_name_is, same_name_of}
+use Rattle.pcef_model.specs.Setting.{Setting}
+use Rattle.pcef_model.specs.ActiveRules.{Active, decisive, dynamic, fits, goes_ahead_of, is_before, is_decisive, is_named, predefined, rank_of}
+use Rattle.pcef_model.specs.Entries.{Journal}
+use Rattle.pcef_model.specs.Journals.{at, judged}
+use Rattle.pcef_model.proofs.Sameness.{same_name_of}
 use Rattle.pcef_session.specs.Shown.{Shows, StandsFor, rule_of}
-use Rattle.pcef_session.proofs.BoundRules.{NamesOnce, filter_once, put_once}
-use Rattle.pcef_session.proofs.Found.{all_at, all_from, any_from, find_none, find_one}
+use Rattle.pcef_model.proofs.BoundRules.{NamesOnce}
+use Rattle.pcef_lists.proofs.Found.{all_from, find_none, find_one}
+use Rattle.pcef_model.proofs.Decisive.{decisive_once}
 
 -- ---- an entry and the rule that it stands for
 pub record IsRule (offers : List Offer) (s : Source) (r : Active) : Type 0 where
@@ -56,79 +52,6 @@ pub rule_is : (offers : List Offer) (s : Source) (r : Active) → rule_of offers
 rule_is offers (Dynamic rule) r is =
     rw (← some_is (dynamic rule) r is) (record { properties_are = refl; rank_is = refl; fits_alike = λ ue header. refl })
 rule_is offers (Predefined index) r is = offer_is offers index (slice_get offers index) r refl is
-
--- ---- names
--- in a list with each name once, two rules of one name are one
-pub once_is : (rules : List Active) (r s : Active) → NamesOnce rules → Contains rules r → Contains rules s → r.properties.name ≡ s.properties.name → r ≡ s
-unfolding NamesOnce
-once_is [] r s once (k, within, is) there name_is = absurd (omega arith)
-once_is (x ∷ rules) r s once (zero, within, is) (zero, within2, is2) name_is = sym is ∙ is2
-once_is (x ∷ rules) r s once (zero, within, is) (suc k, within2, is2) name_is =
-    contrary (list_any (is_named x.properties.name) rules)
-    (any_from (is_named x.properties.name) rules s (k, omega arith, is2) (same_name_of s.properties.name x.properties.name (sym (ap (λ (y : Active). y.properties.name) is ∙ name_is)))) once.0
-once_is (x ∷ rules) r s once (suc k, within, is) (zero, within2, is2) name_is =
-    contrary (list_any (is_named x.properties.name) rules)
-    (any_from (is_named x.properties.name) rules r (k, omega arith, is) (same_name_of r.properties.name x.properties.name (name_is ∙ sym (ap (λ (y : Active). y.properties.name) is2)))) once.0
-once_is (x ∷ rules) r s once (suc k, within, is) (suc m, within2, is2) name_is =
-    once_is rules r s once.1 (k, omega arith, is) (m, omega arith, is2) name_is
-
--- the rules of a generation have each name once
-pub made_once : (p : Setting) (cs : List Command) → NamesOnce (made_by p cs).rules
-unfolding made_by NamesOnce
-made_once p [] = tt
-made_once p (c ∷ cs) = next_once p (made_by p cs) c (made_once p cs)
-  where
-    offered_once : (o : Option Offer) (rules : List Active) → NamesOnce rules → NamesOnce (put_if_offered o rules)
-    offered_once None rules once = once
-    offered_once (Some o) rules once = put_once (predefined o) rules once
-
-    next_once : (p : Setting) (g : Generation) (c : Command) → NamesOnce g.rules → NamesOnce (rules_after p g c)
-    next_once p g (Install rule) once = put_once (dynamic rule) g.rules once
-    next_once p g (Activate name) once = offered_once (offer_named p name) g.rules once
-    next_once p g (Remove name) once = filter_once (λ r. not (is_named name r)) g.rules once
-    next_once p g (LoseBearer id) once = filter_once (λ r. not (g.id_of r.properties.qos == id.0)) g.rules once
-    next_once p g Close once = tt
-    next_once p g Terminate once = tt
-    next_once p g (Monitor key amount) once = once
-    next_once p g (Stop key) once = once
-    next_once p g (ReportNow key) once = once
-    next_once p g (Triggers set) once = once
-    next_once p g (Notice kind value) once = once
-
--- ---- which rule decides
--- no two rules of different names go before each other
-both_ways : {A : Type 0} (a b : Rank) → same_name a.name b.name ≡ false → goes_before a b ≡ true → goes_before b a ≡ true → A
-both_ways a b differ one other =
-    elim (one_goes_first a b (λ is. contrary (same_name a.name b.name) (same_name_of a.name b.name is) differ)) [
-      | inl first ↦ contrary (goes_before b a) other first.1
-      | inr second ↦ contrary (goes_before a b) one second.0
-    ]
-
--- what a rule that fits does to a decisive one
-ahead : (rules : List Active) (ue : Addr) (header : Header) (r s : Active) → Contains rules s → is_decisive rules ue header r ≡ true → fits ue header s ≡ true →
-    (is_named r.properties.name s ≡ true) ⊎ (is_before r s ≡ true)
-ahead rules ue header r s there decisive fitting =
-    let goes : goes_ahead_of ue header r s ≡ true =
-    all_at (goes_ahead_of ue header r) rules s (and_parts (fits ue header r) (list_all (goes_ahead_of ue header r) rules) decisive).1 there in
-    let or : (is_named r.properties.name s || is_before r s) ≡ true = rw fitting at goes in
-    or_cases (is_named r.properties.name s) (is_before r s) or
-
--- two decisive rules are one
-decisive_once : (rules : List Active) (ue : Addr) (header : Header) (r s : Active) → NamesOnce rules → Contains rules r → Contains rules s →
-    is_decisive rules ue header r ≡ true → is_decisive rules ue header s ≡ true → s ≡ r
-decisive_once rules ue header r s once r_there s_there r_is s_is =
-    let r_fits : fits ue header r ≡ true = (and_parts (fits ue header r) (list_all (goes_ahead_of ue header r) rules) r_is).0 in
-    let s_fits : fits ue header s ≡ true = (and_parts (fits ue header s) (list_all (goes_ahead_of ue header s) rules) s_is).0 in
-    elim (cases_Bool (same_name r.properties.name s.properties.name)) [
-      | inl same ↦ once_is rules s r once s_there r_there (sym (same_name_is r.properties.name s.properties.name same))
-      | inr differ ↦ elim (ahead rules ue header r s s_there r_is s_fits) [
-        | inl named ↦ once_is rules s r once s_there r_there (same_name_is s.properties.name r.properties.name named)
-        | inr before ↦ elim (ahead rules ue header s r r_there s_is r_fits) [
-          | inl named ↦ once_is rules s r once s_there r_there (sym (same_name_is r.properties.name s.properties.name named))
-          | inr behind ↦ both_ways (rank_of r) (rank_of s) differ before behind
-        ]
-      ]
-    ]
 
 -- ---- the entry that decides, and its rule
 -- the rule of a decisive entry is the one that decides

@@ -3,38 +3,39 @@ use Rattle.std.proofs.Common.{◌≡◌, ◌≤◌, ◌<◌, ◌^◌, suc, List,
 use Rattle.std.specs.Arc.{arc_value}
 use Rattle.std.proofs.lemmas.List.Elements.{All-nil}
 use Rattle.std.specs.Prelude.{Option, not}
-use Rattle.pcef_table.proofs.Keeping.{filter_length}
+use Rattle.pcef_lists.proofs.Keeping.{filter_length}
 use Rattle.pcef_rule.specs.declared.quantity.BearerId.{BearerId}
-use Rattle.pcef_journal.specs.declared.command.Command.{Command}
-use Rattle.pcef_journal.specs.declared.command.Command.TheVariants.{Install, Activate, Remove, Monitor, Stop, ReportNow, Triggers, Notice, LoseBearer, Close, Terminate}
-use Rattle.pcef_journal.specs.declared.entry.Entry.TheVariants as entry
-use Rattle.pcef_journal.specs.ActiveRules.{is_named}
-use Rattle.pcef_journal.specs.Reports.{after_command}
+use Rattle.pcef_model.specs.declared.command.Command.{Command}
+use Rattle.pcef_model.specs.declared.command.Command.TheVariants.{Install, Activate, Remove, Monitor, Stop, ReportNow, Triggers, Notice, LoseBearer, Close, Terminate}
+use Rattle.pcef_model.specs.declared.entry.Entry.TheVariants as entry
+use Rattle.pcef_model.specs.ActiveRules.{is_named}
+use Rattle.pcef_model.specs.Reports.{after_command}
 use Rattle.pcef_usage.specs.Keys.{finds_no_slot as slotless, keys_of}
 use Rattle.pcef_usage.proofs.Afterwards.{few_entered}
 use Rattle.pcef_session.specs.declared.prepared.Coming.{Coming}
-use Rattle.pcef_session.specs.Answers.{changes}
+use Rattle.pcef_model.specs.Answers.{changes}
 use Rattle.pcef_session.specs.Changes.{Brings, becoming, entered_by, rule_key}
 use Rattle.pcef_session.specs.Core.{IsBeside, IsServed}
-use Rattle.pcef_session.specs.Refusals.{first_of, refusals}
-use Rattle.pcef_journal.specs.declared.row.Row.{Row}
-use Rattle.pcef_journal.specs.Setting.{Setting}
-use Rattle.pcef_journal.specs.Entries.{Journal, commands}
-use Rattle.pcef_journal.specs.Generations.{Generation, at_first as before_all, key_named, rules_after}
-use Rattle.pcef_journal.specs.Journals.{attach_count, no_triggers, now, slots}
+use Rattle.pcef_model.specs.Refusals.{first_of, refusals}
+use Rattle.pcef_model.specs.declared.row.Row.{Row}
+use Rattle.pcef_model.specs.Setting.{Setting}
+use Rattle.pcef_model.specs.Entries.{Journal, commands}
+use Rattle.pcef_model.specs.Generations.{Generation, at_first as before_all, key_named, rules_after}
+use Rattle.pcef_model.specs.Journals.{attach_count, no_triggers, now, slots}
 use Rattle.pcef_usage.specs.declared.usage.KeyState.{KeyState}
 use Rattle.pcef_session.specs.Agreement.{Agrees}
-use Rattle.pcef_session.specs.Bound.{binding_of}
+use Rattle.pcef_bearer.specs.Standing.{binding_of}
 use Rattle.pcef_session.specs.Soundness.{IsSound, parts_of}
-use Rattle.pcef_session.specs.Terms.{setting_of}
+use Rattle.pcef_model.specs.Terms.{setting_of}
 use Rattle.pcef_session.specs.declared.state.SessionState.TheInside.{Inside}
 use Rattle.pcef_session.proofs.FirstSession.{agrees_attached, agrees_first}
-use Rattle.pcef_session.proofs.Acceptance.{brings_none, brought_accepted, few_put, served_budget, served_slot}
+use Rattle.pcef_session.proofs.Acceptance.{brings_none, brought_accepted, served_budget, served_slot}
+use Rattle.pcef_model.proofs.Acceptance.{few_put}
 use Rattle.pcef_session.proofs.Becoming.{brought, brought_none, makes_becoming}
 use Rattle.pcef_session.proofs.Commanding.{IsCommanded, agrees_commanded, commands_after, entering, few_keys_after, next_now, served_plainly}
 use Rattle.pcef_session.proofs.KeptRules.{kept_length}
 use Rattle.pcef_session.proofs.PlainJournals.{attach_accepted, plain_after, plain_attach, plain_first}
-use Rattle.pcef_session.proofs.Onward.{rows_after_command}
+use Rattle.pcef_model.proofs.Onward.{rows_after_command}
 
 -- a worker comes
 pub sound_attached : (s t : Inside) → IsSound s → s.attached < 16 → t.profile ≡ s.profile → t.listing ≡ s.listing → t.counted.journal ≡ entry.Attach s.attached ∷ s.counted.journal →
@@ -52,9 +53,9 @@ sound_attached s t sound few profile listing journal states active bearers table
       agrees = rw (same, parts, journal) after;
       plain = rw (journal, attached) (plain_attach j s.attached sound.plain);
       limited = record {
-        few_commands = rw (journal, profile) sound.limited.few_commands;
+       few_commands = rw (journal, profile) sound.limited.few_commands;
         most_commands = rw profile sound.limited.most_commands;
-        few_rows = rw (journal, profile) sound.limited.few_rows;
+       few_rows = rw (journal, profile) sound.limited.few_rows;
         most_rows = rw profile sound.limited.most_rows;
         octets = rw journal sound.limited.octets;
       };
@@ -70,9 +71,9 @@ sound_opened s journal states active bearers number entries subscribed attached 
       agrees = rw journal (agrees_first p (parts_of s) active bearers states subscribed number entries);
       plain = rw (journal, attached) plain_first;
       limited = record {
-        few_commands = rw journal (omega arith);
+       few_commands = rw journal (omega arith);
         most_commands = most_commands;
-        few_rows = rw journal (omega arith);
+       few_rows = rw journal (omega arith);
         most_rows = most_rows;
         octets = rw journal (All-nil (λ (r : Row). r.header.octets < 2 ^ 32));
       };
@@ -93,13 +94,13 @@ few_beside p j (LoseBearer id) beside few = absurd beside
 few_beside p j Close beside few = absurd beside
 few_beside p j Terminate beside few = absurd beside
 
-few_rules_after : (p : Setting) (j : Journal) (c : Command) (x : Option Coming) → p.most_rules ≡ 64 → IsServed c → first_of (refusals p j c) ≡ None → changes p j c ≡ true → Brings p (becoming p c) x →
+few_rules_after : (p : Setting) (j : Journal) (c : Command) (x : Option Coming) → IsServed c → first_of (refusals p j c) ≡ None → changes p j c ≡ true → Brings p (becoming p c) x →
     length (now p j).rules ≤ 64 → length (rules_after p (now p j) c) ≤ 64
-few_rules_after p j c None most served accepted changing brings few = few_beside p j c (brings_none p j c served accepted (brought_none p c None refl brings)) few
-few_rules_after p j c (Some x) most served accepted changing brings few =
+few_rules_after p j c None served accepted changing brings few = few_beside p j c (brings_none p j c served accepted (brought_none p c None refl brings)) few
+few_rules_after p j c (Some x) served accepted changing brings few =
     let b = brought p c (Some x) x refl brings in
     let same = ap length ((makes_becoming p c b.rule b.becomes).rules_are (now p j)) in
-    omega (arith, same, few_put p j b.rule most few (brought_accepted p j c b.rule accepted changing b.becomes))
+    omega (arith, same, few_put p j b.rule few (brought_accepted p j c b.rule accepted changing b.becomes))
 
 pub sound_commanded : (s t : Inside) (c : Command) (x : Option Coming) (bearer : Option BearerId) → IsSound s → IsCommanded (setting_of s.profile s.listing) s.counted.journal c x (parts_of s) (parts_of t) bearer →
     t.profile ≡ s.profile → t.listing ≡ s.listing → t.attached ≡ s.attached → t.counted.journal ≡ after_command (setting_of s.profile s.listing) s.counted.journal c → IsSound t
@@ -108,31 +109,31 @@ sound_commanded s t c x bearer sound is profile listing attached journal =
     let q : Setting = setting_of t.profile t.listing in
     let j : Journal = s.counted.journal in
     let same : q ≡ p = rw (profile, listing) refl in
-    let agrees : Agrees p (after_command p j c) (parts_of t) = agrees_commanded p j c x (parts_of s) (parts_of t) bearer refl sound.agrees is in
+    let agrees : Agrees p (after_command p j c) (parts_of t) = agrees_commanded p j c x (parts_of s) (parts_of t) bearer sound.agrees is in
     let budget : length (commands j) < s.profile.commands = served_budget p j s.attached c sound.plain is.served is.accepted in
-    let slot : slotless (key_named p c) s.counted.states ≡ false = served_slot p j c s.counted.states refl sound.agrees.keys_are is.served is.accepted is.changing in
+    let slot : slotless (key_named p c) s.counted.states ≡ false = served_slot p j c s.counted.states sound.agrees.keys_are is.served is.accepted is.changing in
     let before : length (now p j).rules ≤ 64 = omega (arith, sound.small.few_rules, kept_length s.listing s.active.entries (now p j).rules sound.agrees.rules_are) in
     let after_rules : (now p (after_command p j c)).rules ≡ rules_after p (now p j) c = ap (λ (g : Generation). g.rules) (next_now p j c (served_plainly p j c is.served).table) in
-    let few : length (rules_after p (now p j) c) ≤ 64 = few_rules_after p j c x refl is.served is.accepted is.changing is.brings before in
+    let few : length (rules_after p (now p j) c) ≤ 64 = few_rules_after p j c x is.served is.accepted is.changing is.brings before in
     let kept : length t.active.entries ≡ length (now p (after_command p j c)).rules = kept_length p.catalog t.active.entries (now p (after_command p j c)).rules agrees.rules_are in
     record {
       agrees = rw (same, journal) agrees;
       plain = rw (journal, attached) (plain_after p j s.attached c is.served sound.plain);
       limited = record {
-        few_commands = rw (journal, profile, commands_after p j c) (omega (arith, budget));
+       few_commands = rw (journal, profile, commands_after p j c) (omega (arith, budget));
         most_commands = rw profile sound.limited.most_commands;
-        few_rows = rw (journal, profile, rows_after_command p j c) sound.limited.few_rows;
+       few_rows = rw (journal, profile, rows_after_command p j c) sound.limited.few_rows;
         most_rows = rw profile sound.limited.most_rows;
         octets = rw (journal, rows_after_command p j c) sound.limited.octets;
       };
       small = record {
-        few_rules = omega (arith, few, kept, ap length after_rules);
-        few_keys = few_keys_after p j c t.counted.states s.counted.states sound.agrees.keys_are agrees.keys_are slot sound.small.few_keys;
+       few_rules = omega (arith, few, kept, ap length after_rules);
+       few_keys = few_keys_after p j c t.counted.states s.counted.states sound.agrees.keys_are agrees.keys_are slot sound.small.few_keys;
       };
     }
 
-pub few_entered_by : (p : Setting) (j : Journal) (c : Command) (x : Option Coming) (states : List KeyState) → p.most_keys ≡ 8 → keys_of states ≡ slots p j → IsServed c → first_of (refusals p j c) ≡ None →
+pub few_entered_by : (p : Setting) (j : Journal) (c : Command) (x : Option Coming) (states : List KeyState) → keys_of states ≡ slots p j → IsServed c → first_of (refusals p j c) ≡ None →
     changes p j c ≡ true → Brings p (becoming p c) x → length states ≤ 8 → length (entered_by (rule_key x) c states) ≤ 8
-few_entered_by p j c x states most keys served accepted changing brings few =
-    let fits = few_entered p c states (served_slot p j c states most keys served accepted changing) few in
+few_entered_by p j c x states keys served accepted changing brings few =
+    let fits = few_entered p c states (served_slot p j c states keys served accepted changing) few in
     omega (arith, fits, ap (λ (ss : List KeyState). length ss) (entering p c x states served brings))

@@ -7,19 +7,19 @@ use Rattle.std.proofs.lemmas.Bool.{cases_Bool, eq-eqb, eqb-true, ltb-false, fals
 use Rattle.std.proofs.lemmas.List.{length-map}
 use Rattle.std.proofs.lemmas.List.Elements.{All-cons, All-head, All-nil, All-tail, recursion_from_All}
 use Rattle.pcef_rule.specs.declared.quantity.Slot.{Slot}
-use Rattle.pcef_journal.specs.declared.entry.Entry.TheVariants as entry
-use Rattle.pcef_journal.specs.declared.row.Row.{Row}
-use Rattle.pcef_journal.specs.Setting.{Setting, same_name}
-use Rattle.pcef_journal.specs.Generations.{is_among, made_by, slots_of}
-use Rattle.pcef_journal.specs.Entries.{Journal, commands, rows}
-use Rattle.pcef_journal.specs.Journals.{counts, gen, now, octets_of, slots, subscribed, tables}
-use Rattle.pcef_journal.specs.Reports.{after_flush, thresholds, with_rows}
+use Rattle.pcef_model.specs.declared.entry.Entry.TheVariants as entry
+use Rattle.pcef_model.specs.declared.row.Row.{Row}
+use Rattle.pcef_model.specs.Setting.{Setting, same_name}
+use Rattle.pcef_model.specs.Generations.{is_among, made_by, slots_of}
+use Rattle.pcef_model.specs.Entries.{Journal, commands, rows}
+use Rattle.pcef_model.specs.Journals.{counts, gen, now, octets_of, slots, subscribed, tables}
+use Rattle.pcef_model.specs.Reports.{after_flush, thresholds, with_rows}
 use Rattle.pcef_usage.specs.declared.usage.KeyState.{KeyState}
 use Rattle.pcef_usage.specs.Flushes.{rows_counted}
 use Rattle.pcef_usage.specs.Keys.{keys_of, state_at, with_octets}
 use Rattle.pcef_usage.specs.Counted.{Counted}
 use Rattle.pcef_usage.specs.Tellings.{Distinct, settled_states, settled_tellings, states_told, told}
-use Rattle.pcef_usage.proofs.Afterwards.{subscribed_settled}
+use Rattle.pcef_model.proofs.AfterEvents.{subscribed_settled}
 use Rattle.pcef_usage.proofs.Endings.{Ended}
 use Rattle.pcef_usage.proofs.Flushed.{StatesAgree, can_count, flush_is, row_agrees, rows_ended, subscribed_after_rows}
 use Rattle.pcef_usage.proofs.Loops.{key_among}
@@ -27,23 +27,25 @@ use Rattle.pcef_usage.proofs.Rows as usage
 use Rattle.pcef_usage.proofs.Slots.{distinct_slots}
 use Rattle.pcef_session.specs.declared.batch.Item.{Item}
 use Rattle.pcef_session.specs.Agreement.{Agrees, KeyAgrees, Parts}
-use Rattle.pcef_session.specs.Following.{CanCountAll, CountsFor, HasItsSlots, HasSmallRows, IsTaken, IsWithin, is_at, row_of, slot_of}
-use Rattle.pcef_session.specs.Bound.{binding_of}
-use Rattle.pcef_session.specs.Lawful.{BatchFollows, Lawful, by_flush}
-use Rattle.pcef_journal.specs.declared.trigger.TriggerSet.{TriggerSet}
-use Rattle.pcef_journal.proofs.Sameness.{contrary, same_name_is}
-use Rattle.pcef_session.specs.declared.answer.FlushRefusal.TheVariants as flush
+use Rattle.pcef_session.specs.Following.{CanCountAll, HasItsSlots, HasSmallRows, IsTaken, row_of, slot_of}
+use Rattle.pcef_model.specs.Slots.{CountsFor, IsWithin, is_at, place_of}
+use Rattle.pcef_bearer.specs.Standing.{binding_of}
+use Rattle.pcef_model.specs.Lawful.{BatchFollows, Lawful, by_flush}
+use Rattle.pcef_model.specs.declared.trigger.TriggerSet.{TriggerSet}
+use Rattle.pcef_lists.proofs.Tests.{contrary}
+use Rattle.pcef_model.proofs.Sameness.{same_name_is}
+use Rattle.pcef_model.specs.declared.answer.FlushRefusal.TheVariants as flush
 use Rattle.pcef_session.specs.declared.state.SessionState.TheInside.{Inside}
-use Rattle.pcef_session.specs.Refusals.{first_of, flush_refusals, is_attached}
+use Rattle.pcef_model.specs.Refusals.{first_of, flush_refusals, is_attached}
 use Rattle.pcef_session.specs.Soundness.{IsPlain, IsSound, parts_of}
-use Rattle.pcef_session.specs.Terms.{setting_of}
-use Rattle.pcef_session.proofs.Acceptance.{condition_none}
+use Rattle.pcef_model.specs.Terms.{setting_of}
+use Rattle.pcef_model.proofs.Acceptance.{condition_none}
 use Rattle.pcef_session.proofs.PlainJournals.{commands_with, plain_rows, plain_told, rows_with}
-use Rattle.pcef_session.specs.Shown.{Shows, place_of}
+use Rattle.pcef_session.specs.Shown.{Shows}
 use Rattle.pcef_session.proofs.Commanding.{all_agree, commands_told}
 use Rattle.pcef_session.proofs.NextTables.{all_count_from, all_on_from}
 use Rattle.pcef_session.proofs.ShownLater.{shows_same}
-use Rattle.pcef_session.proofs.Onward.{rows_after_flush, tables_after_flush}
+use Rattle.pcef_model.proofs.Onward.{rows_after_flush, tables_after_flush}
 
 -- ---- slots and the keys that have them
 eq_later : (m n : ℕ) → (suc m == suc n) ≡ (m == n)

@@ -1,23 +1,22 @@
 -- What a command makes of the rules that a session keeps, and of their bearers.
-use Rattle.std.specs.Prelude.{ℕ, ◌≡◌, true, List, Option, Some, None}
+use Rattle.std.specs.Prelude.{ℕ, ◌≡◌, List, Option, Some, None}
 use Rattle.std.specs.Option.{option_map}
 use Rattle.indexmap.specs.IndexMap.{insert_entry, shift_remove_entry}
 use Rattle.pcef_rule.specs.declared.quantity.BearerId.{BearerId}
 use Rattle.pcef_rule.specs.declared.rule.Properties.{Properties}
-use Rattle.pcef_bearer.specs.Bindings.{Binding, HasRoom, bound_at, first_of, id_beside, put, refusals, with_rules, without}
-use Rattle.pcef_journal.specs.declared.command.Command.{Command}
-use Rattle.pcef_journal.specs.declared.command.Command.TheVariants.{Activate, Install, Monitor, Remove}
-use Rattle.pcef_journal.specs.Setting.{Setting, offer_named, same_name}
-use Rattle.pcef_journal.specs.ActiveRules.{Active, dynamic, predefined}
-use Rattle.pcef_journal.specs.ActiveRules as rules
-use Rattle.pcef_journal.specs.Generations.{Generation, key_named, rules_after, switched}
-use Rattle.pcef_journal.specs.Journals.{is_table}
+use Rattle.pcef_bearer.specs.Bindings.{Binding, HasRoom, bound_at, id_beside, put, refusals, with_rules, without}
+use Rattle.pcef_model.specs.Refusals.{first_of}
+use Rattle.pcef_model.specs.declared.command.Command.{Command}
+use Rattle.pcef_model.specs.declared.command.Command.TheVariants.{Activate, Install, Monitor, Remove}
+use Rattle.pcef_model.specs.Setting.{Setting, offer_named, same_name}
+use Rattle.pcef_model.specs.ActiveRules.{Active, dynamic, predefined}
 use Rattle.pcef_table.specs.declared.entry.Source.{Source}
 use Rattle.pcef_usage.specs.declared.usage.KeyState.{KeyState}
 use Rattle.pcef_usage.specs.Commands.{started_by}
 use Rattle.pcef_usage.specs.Keys.{with_slot}
 use Rattle.pcef_session.specs.declared.prepared.Coming.{Coming}
 use Rattle.pcef_session.specs.Shown.{rule_of}
+use Rattle.pcef_model.specs.Changes.{MakesActive}
 
 -- ---- the rule that a command makes active
 abbrev pub becoming : Setting → Command → Option Active
@@ -77,14 +76,6 @@ IsRebound (Some x) c old new None = ⊥
 IsRebound (Some x) c old new (Some id) = IsBoundTo x.properties old new id
 IsRebound None (Remove name) old new bearer = (bearer ≡ None) × (new ≡ with_rules old (without name old.bound))
 IsRebound None _ old new bearer = (bearer ≡ None) × (new ≡ old)
-
--- ---- for private clauses
--- a command makes this rule active, and names its key
-pub record MakesActive (p : Setting) (c : Command) (r : Active) : Type 0 where
-  pub is_table : is_table c ≡ true
-  pub rules_are : (g : Generation) → rules_after p g c ≡ rules.put r g.rules
-  pub key_is : key_named p c ≡ r.properties.key
-  pub on_is : (on : List (List ℕ)) → switched c on ≡ on
 
 -- some command makes the rule active that is prepared
 pub record IsMadeActive (p : Setting) (x : Coming) : Type 0 where

@@ -2,25 +2,25 @@
 use Rattle.std.specs.Prelude.{ℕ, ◌≡◌, ◌≤◌, ◌<◌, ◌+◌, true, List, ◌∷◌, Option, Some, None, length}
 use Rattle.std.specs.Arc.{arc_value}
 use Rattle.std.specs.Option.{option_map}
-use Rattle.pcef_journal.specs.declared.command.Command.{Command}
-use Rattle.pcef_journal.specs.declared.command.Command.TheVariants.{Activate, Install, Monitor, Remove}
-use Rattle.pcef_journal.specs.declared.entry.Entry.{Entry as Said}
-use Rattle.pcef_journal.specs.declared.entry.Entry.TheVariants as entry
-use Rattle.pcef_journal.specs.Setting.{Setting}
-use Rattle.pcef_journal.specs.Journals.{gen}
-use Rattle.pcef_journal.specs.Reports.{after_command, plan}
+use Rattle.pcef_model.specs.declared.command.Command.{Command}
+use Rattle.pcef_model.specs.declared.command.Command.TheVariants.{Activate, Install, Monitor, Remove}
+use Rattle.pcef_model.specs.declared.entry.Entry.{Entry as Said}
+use Rattle.pcef_model.specs.declared.entry.Entry.TheVariants as entry
+use Rattle.pcef_model.specs.Setting.{Setting}
+use Rattle.pcef_model.specs.Journals.{gen}
+use Rattle.pcef_model.specs.Reports.{after_command, plan}
 use Rattle.pcef_catalog.specs.declared.listing.Offer.{Offer}
 use Rattle.pcef_table.specs.declared.entry.Entry.{Entry}
 use Rattle.pcef_table.specs.Tables.{TableValue}
 use Rattle.pcef_bearer.specs.Bindings.{id_beside, without}
 use Rattle.pcef_usage.specs.Keys.{place_of}
 use Rattle.pcef_session.specs.Agreement.{Parts}
-use Rattle.pcef_session.specs.Answers.{changes}
+use Rattle.pcef_model.specs.Answers.{changes}
 use Rattle.pcef_session.specs.Changes.{Brings, becoming}
 use Rattle.pcef_session.specs.Kept.{is_on}
-use Rattle.pcef_session.specs.Refusals.{first_of, is_active, refusals}
+use Rattle.pcef_model.specs.Refusals.{first_of, is_active, refusals}
 use Rattle.pcef_session.specs.Shown.{Shows}
-use Rattle.pcef_session.specs.Terms.{Terms, setting_of}
+use Rattle.pcef_model.specs.Terms.{Terms, setting_of}
 use Rattle.pcef_session.specs.declared.prepared.Coming.{Coming}
 use Rattle.pcef_session.specs.declared.prepared.Prepared.{Prepared}
 use Rattle.pcef_session.specs.declared.prepared.Prepared.TheVariants.{Changing, Unchanged}

@@ -1,42 +1,24 @@
 -- The slots that rows count for.
-use Rattle.std.specs.Prelude.{ℕ, ◌≡◌, ◌<◌, ◌==◌, Bool, false, List, [], ◌∷◌, Option, Some, None, length, All, map, ◌^◌}
+use Rattle.std.specs.Prelude.{◌≡◌, ◌<◌, Bool, List, [], ◌∷◌, Option, All, map, ◌^◌}
 use Rattle.pcef_rule.specs.declared.quantity.Slot.{Slot}
-use Rattle.pcef_journal.specs.declared.row.Row.{Row}
-use Rattle.pcef_journal.specs.Setting.{Setting}
-use Rattle.pcef_journal.specs.Entries.{Journal}
-use Rattle.pcef_journal.specs.Journals.{counts, slots}
+use Rattle.pcef_model.specs.declared.row.Row.{Row}
+use Rattle.pcef_model.specs.Setting.{Setting}
+use Rattle.pcef_model.specs.Entries.{Journal}
+use Rattle.pcef_model.specs.Journals.{counts, slots}
 use Rattle.pcef_usage.specs.declared.usage.KeyState.{KeyState}
 use Rattle.pcef_usage.specs.Counted.{Counted}
 use Rattle.pcef_usage.specs.Flushes.{rows_counted}
 use Rattle.pcef_usage.specs.Keys.{CanCount, with_octets}
 use Rattle.pcef_usage.specs.Tellings.{settled_states, settled_tellings, states_told, told}
-use Rattle.pcef_journal.specs.Reports.{with_rows}
+use Rattle.pcef_model.specs.Reports.{with_rows}
 use Rattle.pcef_session.specs.declared.batch.Item.{Item}
-use Rattle.pcef_session.specs.Shown.{place_of}
+use Rattle.pcef_model.specs.Slots.{CountsFor, IsWithin}
 
 abbrev pub row_of : Item → Row
 row_of i = i.row
 
 abbrev pub slot_of : Item → Option Slot
 slot_of i = i.slot
-
--- the key has this slot
-abbrev pub is_at : Option ℕ → ℕ → Bool
-is_at None n = false
-is_at (Some place) n = place == n
-
-abbrev pub has_this_slot : List (List ℕ) → Option Slot → List ℕ → Bool
-has_this_slot keys None key = false
-has_this_slot keys (Some slot) key = is_at (place_of key keys) slot.0
-
--- a row counts for the key of its slot, and for no other
-abbrev pub CountsFor : Setting → Journal → Row → Option Slot → Type 0
-CountsFor p j row slot = (key : List ℕ) → counts p j key row ≡ has_this_slot (slots p j) slot key
-
--- the slot of a key that has one
-abbrev pub IsWithin : List (List ℕ) → Option Slot → Type 0
-IsWithin keys None = Unit {0}
-IsWithin keys (Some slot) = slot.0 < length keys
 
 -- each row counts for the key of its slot
 abbrev pub HasItsSlots : Setting → Journal → List Item → Type 0

@@ -1,11 +1,10 @@
 -- Keys that are on, and the rules of a table's entries by their keys.
-use Rattle.std.specs.Prelude.{Bool, ℕ, not, ◌&&◌, List, Option, Some, None}
+use Rattle.std.specs.Prelude.{Bool, ℕ, not, ◌&&◌, List, Option, Some, None, false}
 use Rattle.std.specs.List.{list_any}
 use Rattle.std.specs.Option.{option_map_or}
-use Rattle.std.specs.Prelude.{false}
 use Rattle.pcef_rule.specs.declared.rule.Properties.{Properties}
-use Rattle.pcef_journal.specs.ActiveRules.{is_key}
-use Rattle.pcef_journal.specs.Setting.{same_name}
+use Rattle.pcef_model.specs.ActiveRules.{is_key}
+use Rattle.pcef_model.specs.Setting.{same_name}
 use Rattle.pcef_table.specs.declared.entry.Entry.{Entry}
 use Rattle.pcef_catalog.specs.declared.listing.Offer.{Offer}
 use Rattle.pcef_table.specs.Sources.{properties_of}

@@ -1,14 +1,9 @@
 pub mod Agreement
-pub mod Answers
-pub mod Bound
 pub mod Changes
 pub mod Core
 pub mod Following
 pub mod Kept
-pub mod Lawful
 pub mod Laws
-pub mod Refusals
 pub mod Sessions
 pub mod Shown
 pub mod Soundness
-pub mod Terms

@@ -2,13 +2,13 @@
 use Rattle.std.specs.Prelude.{ℕ, ◌≡◌, ◌≤◌, ◌<◌, ◌^◌, false, List, [], ◌∷◌, All, length, zero, suc}
 use Rattle.std.specs.Arc.{arc_value}
 use Rattle.indexmap.specs.IndexMap.{spare}
-use Rattle.pcef_journal.specs.declared.row.Row.{Row}
-use Rattle.pcef_journal.specs.Entries.{Journal, commands, rows}
-use Rattle.pcef_journal.specs.Journals.{attach_count, attached}
+use Rattle.pcef_model.specs.declared.row.Row.{Row}
+use Rattle.pcef_model.specs.Entries.{Journal, commands, rows}
+use Rattle.pcef_model.specs.Journals.{attach_count, attached}
 use Rattle.pcef_session.specs.Agreement.{Agrees, Parts}
 use Rattle.pcef_session.specs.Core.{Core}
-use Rattle.pcef_session.specs.Refusals.{was_closed, was_terminated}
-use Rattle.pcef_session.specs.Terms.{setting_of}
+use Rattle.pcef_model.specs.Refusals.{was_closed, was_terminated}
+use Rattle.pcef_model.specs.Terms.{setting_of}
 use Rattle.pcef_session.specs.declared.state.SessionState.TheInside.{Inside}
 
 abbrev pub parts_of : Inside → Parts

@@ -3,7 +3,7 @@
 ghost use Rattle.std.specs.Prelude.{◌≡◌, ◌≤◌, ◌<◌, ◌++◌, ◌∷◌, [], ◌↔◌, IfOk, IsTrue, length};
 ghost use Rattle.pcef_session.specs.Following.{HasSmallRows};
 
-use pcef_journal::Row;
+use pcef_model::Row;
 use pcef_rule::Slot;
 use std::alloc::{AllocError, Global};
 use std::marker::Model;

@@ -4,7 +4,8 @@ ghost use Rattle.std.specs.Prelude.{◌≡◌, ◌<◌, ◌≤◌, ◌+◌, ◌�
 ghost use Rattle.std.specs.List.{list_any};
 ghost use Rattle.std.specs.Option.{option_copied};
 ghost use Rattle.indexmap.specs.IndexMap.{insert_entry, shift_remove_entry, spare};
-ghost use Rattle.pcef_journal.specs.Setting.{same_name};
+ghost use Rattle.pcef_model.specs.Setting.{same_name};
+ghost use Rattle.pcef_model.specs.Refusals.{first_of};
 ghost use Rattle.pcef_bearer.specs.Bindings as binding;
 ghost use Rattle.pcef_usage.specs.Keys.{finds_no_slot, keys_of};
 ghost use Rattle.pcef_usage.specs.Tellings.{KnowsAll, settled_states, settled_tellings, states_stopped, states_told, told};
@@ -13,7 +14,7 @@ ghost use Rattle.pcef_session.specs.Changes.{CanBind, IsRebound, active_after, e
 use crate::prepared::Coming;
 use indexmap::IndexMap;
 use pcef_bearer::Bearers;
-use pcef_journal::{Command, Entry, Telling};
+use pcef_model::{Command, Entry, Telling};
 use pcef_rule::{BearerId, KeyName, Properties, RuleName};
 use pcef_table::Source;
 use pcef_usage::CountedJournal;
@@ -70,7 +71,7 @@ pub(crate) fn tell(counted: &mut CountedJournal, tellings: &[Telling], subscribe
 
 /// Binds a rule to the bearer of its pair, which was found to be possible.
 pub(crate) fn bind(bearers: &mut Bearers, rule: &Properties) -> BearerId
-    requires accepted { binding.first_of (binding.refusals bearers.old (binding.without rule.now.name bearers.old.bound) rule.now.qos rule.now.rates) ≡ None }
+    requires accepted { first_of (binding.refusals bearers.old (binding.without rule.now.name bearers.old.bound) rule.now.qos rule.now.rates) ≡ None }
     requires room { binding.HasRoom rule.now.name 64 bearers.old.bound }
     ensures bearer { binding.id_beside bearers.old.default_qos bearers.old.bound (binding.without rule.now.name bearers.old.bound) rule.now.qos ≡ Some result.0 }
     ensures bound { bearers.new ≡ binding.with_rules bearers.old (binding.put (binding.bound_at rule.now.name rule.now.qos rule.now.rates result.0) bearers.old.bound) }

@@ -3,15 +3,15 @@
 ghost use Rattle.std.specs.Prelude.{◌≡◌, ◌&&◌, ◌++◌, ◌∷◌, [], All, IfOk, OnOk, if◌then◌else◌, length, map, filter, not};
 ghost use Rattle.std.specs.List.{list_any};
 ghost use Rattle.std.specs.Option.{option_copied, option_map_or};
-ghost use Rattle.pcef_journal.specs.ActiveRules.{is_key};
-ghost use Rattle.pcef_journal.specs.declared.report.Cause.TheVariants as cause;
-ghost use Rattle.pcef_journal.specs.Setting.{same_name};
+ghost use Rattle.pcef_model.specs.ActiveRules.{is_key};
+ghost use Rattle.pcef_model.specs.declared.report.Cause.TheVariants as cause;
+ghost use Rattle.pcef_model.specs.Setting.{same_name};
 ghost use Rattle.pcef_table.specs.Sources.{IsKnown};
 ghost use Rattle.pcef_usage.specs.Commands.{usage_of};
 ghost use Rattle.pcef_session.specs.Kept.{has_key, is_gone, is_other_with_key, some_entry};
 
 use pcef_catalog::Listing;
-use pcef_journal::{Cause, Telling};
+use pcef_model::{Cause, Telling};
 use pcef_rule::{KeyName, Properties, RuleName};
 use pcef_table::Entry;
 use pcef_usage::KeyState;

@@ -5,7 +5,7 @@ ghost use Rattle.std.specs.Arc.{arc_value};
 ghost use Rattle.std.specs.Option.{option_copied, option_map};
 ghost use Rattle.pcef_session.specs.Core.{table_made};
 
-use pcef_journal::{Command, Telling};
+use pcef_model::{Command, Telling};
 use pcef_rule::{Properties, RuleName};
 use pcef_table::{Source, Table};
 use std::sync::Arc;

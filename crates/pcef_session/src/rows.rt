@@ -1,12 +1,12 @@
 //! Rows that are taken over.
 
 ghost use Rattle.std.specs.Prelude.{◌≡◌, ◌≤◌, ◌<◌, ◌+◌, ◌∷◌, length, map, IfOk};
-ghost use Rattle.pcef_journal.specs.Reports.{with_rows};
-ghost use Rattle.pcef_session.specs.Answers.{judged_of};
+ghost use Rattle.pcef_model.specs.Reports.{with_rows};
+ghost use Rattle.pcef_model.specs.Answers.{judged_of};
 ghost use Rattle.pcef_session.specs.Following.{CanCountAll, IsTaken, row_of, slot_of};
 ghost use Rattle.pcef_usage.specs.Flushes.{rows_counted};
 
-use crate::answer::Judged;
+use pcef_model::Judged;
 use crate::batch::Item;
 use pcef_usage::CountedJournal;
 use std::alloc::{AllocError, Global};

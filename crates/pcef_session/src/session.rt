@@ -5,15 +5,14 @@ ghost use Rattle.std.specs.Arc.{arc_value};
 ghost use Rattle.std.specs.Result.{result_err, result_map_both};
 ghost use Rattle.pcef_catalog.specs.Catalogs.{offers_of};
 
-use crate::answer::{Accepted, AttachFault, FlushRefusal, OpenFault, Refusal, Verdicts};
+use pcef_model::{Accepted, AttachFault, Command, FlushRefusal, OpenFault, Profile, Refusal, Verdicts};
 use crate::batch::Batch;
 use crate::prepared::Prepared;
-use crate::profile::Profile;
 use crate::state::SessionState;
 use indexmap::IndexMap;
 use pcef_bearer::Bearers;
 use pcef_catalog::{Catalog, Offers};
-use pcef_journal::{Command, Journal};
+use pcef_journal::Journal;
 use pcef_rule::RuleName;
 use pcef_table::{Source, Table};
 use pcef_usage::Usage;
@@ -30,12 +29,12 @@ pub struct Session {
 
 impl Session {
     ghost use Rattle.pcef_session.specs.Agreement.{Agrees};
-    ghost use Rattle.pcef_session.specs.Answers.{Attaches, Does, Flushes, Gives, IsRefused, Opens, command_outcome, told_of};
+    ghost use Rattle.pcef_model.specs.Answers.{Attaches, Does, Flushes, Gives, IsRefused, Opens, command_outcome, told_of};
     ghost use Rattle.pcef_session.specs.Core.{IsPreparedFor, IsServed, command_of, setting_in};
     ghost use Rattle.pcef_session.specs.Following.{HasItsSlots, row_of};
-    ghost use Rattle.pcef_session.specs.Lawful.{BatchFollows};
+    ghost use Rattle.pcef_model.specs.Lawful.{BatchFollows};
     ghost use Rattle.pcef_session.specs.Sessions.{state_of};
-    ghost use Rattle.pcef_session.specs.Terms.{setting_of};
+    ghost use Rattle.pcef_model.specs.Terms.{setting_of};
 
     /// A session with an empty journal, or the first fault in the order of [`OpenFault`]. Takes memory for the rules
     /// and keys that may come.

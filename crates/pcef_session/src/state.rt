@@ -3,19 +3,18 @@
 ghost use Rattle.std.specs.Prelude.{◌≡◌, [], IfOk};
 ghost use Rattle.std.specs.Arc.{arc_value};
 ghost use Rattle.std.specs.Result.{result_err};
-ghost use Rattle.pcef_journal.specs.Generations.{at_first};
+ghost use Rattle.pcef_model.specs.Generations.{at_first};
 ghost use Rattle.pcef_session.specs.Agreement.{Agrees};
-ghost use Rattle.pcef_session.specs.Answers.{Attaches, Opens};
-ghost use Rattle.pcef_session.specs.Bound.{binding_of};
+ghost use Rattle.pcef_model.specs.Answers.{Attaches, Opens};
+ghost use Rattle.pcef_bearer.specs.Standing.{binding_of};
 ghost use Rattle.pcef_session.specs.Core.{setting_in};
-ghost use Rattle.pcef_session.specs.Terms.{setting_of};
+ghost use Rattle.pcef_model.specs.Terms.{setting_of};
 
-use crate::answer::{AttachFault, OpenFault};
-use crate::profile::Profile;
+use pcef_model::{AttachFault, Entry, OpenFault, Profile, TriggerSet};
 use indexmap::IndexMap;
-use pcef_bearer::{Bearers, BearersFault};
+use pcef_bearer::Bearers;
 use pcef_catalog::Listing;
-use pcef_journal::{Entry, Journal, TriggerSet};
+use pcef_journal::Journal;
 use pcef_rule::RuleName;
 use pcef_table::{Source, Table};
 use pcef_usage::{CountedJournal, Usage};
@@ -67,9 +66,9 @@ fn open_bearers(alloc: Global, profile: &Profile) -> Result<Bearers, OpenFault>
 {
     match Bearers::new(alloc, profile.default_qos, profile.capacity, profile.qcis) {
         Ok(bearers) => Ok(bearers),
-        Err(BearersFault::UnknownQci) => Err(OpenFault::UnknownQci),
-        Err(BearersFault::DefaultIsGbr) => Err(OpenFault::DefaultIsGbr),
-        Err(BearersFault::NoMemory) => Err(OpenFault::NoMemory),
+        Err(OpenFault::UnknownQci) => Err(OpenFault::UnknownQci),
+        Err(OpenFault::DefaultIsGbr) => Err(OpenFault::DefaultIsGbr),
+        Err(OpenFault::NoMemory) => Err(OpenFault::NoMemory),
     }
 }
 

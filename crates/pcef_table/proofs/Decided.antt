@@ -8,12 +8,12 @@ use Rattle.pcef_rule.specs.declared.rule.Properties.{Properties}
 use Rattle.pcef_rule.specs.Gate.{opens}
 use Rattle.pcef_table.specs.declared.entry.Entry.{Entry}
 use Rattle.pcef_catalog.specs.declared.listing.Offer.{Offer}
-use Rattle.pcef_table.specs.declared.verdict.Verdict.{Verdict}
-use Rattle.pcef_table.specs.declared.verdict.Verdict.TheVariants.{Gated, Passed}
+use Rattle.pcef_model.specs.declared.verdict.Verdict.{Verdict}
+use Rattle.pcef_model.specs.declared.verdict.Verdict.TheVariants.{Gated, Passed}
 use Rattle.pcef_table.specs.Sources.{fits, properties_of}
 use Rattle.pcef_table.specs.Tables.{GoesBefore}
 use Rattle.pcef_table.specs.Verdicts.{IsDecisive, IsVerdict, gate_verdict}
-use Rattle.pcef_table.proofs.Foremost.{found_is_foremost}
+use Rattle.pcef_lists.proofs.Foremost.{found_is_foremost}
 
 -- the first entry that fits is decisive
 first_is_decisive : (offers : List Offer) (entries : List Entry) (ue : Addr) (header : Header) (e : Entry) (p : Properties) → AllPairs (GoesBefore offers) entries → find (λ (f : Entry). fits offers ue header f.source) entries ≡ Some e → properties_of offers e.source ≡ Some p → IsDecisive offers entries ue header e p

@@ -1,4 +1,2 @@
 pub mod Decided
-pub mod Foremost
-pub mod Keeping
 pub mod Ordered

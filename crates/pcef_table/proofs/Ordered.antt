@@ -14,8 +14,8 @@ use Rattle.pcef_table.specs.declared.entry.Source.{Source}
 use Rattle.pcef_catalog.specs.declared.listing.Offer.{Offer}
 use Rattle.pcef_table.specs.Sources.{IsKnown, name_of, rank_of}
 use Rattle.pcef_table.specs.Tables.{GoesBefore, IsTable, has_other_name, is_before, is_behind, is_slot, most_entries, placed, with_counting, without}
-use Rattle.pcef_table.proofs.Keeping.{filter_length, filters_apart}
-use Rattle.pcef_table.proofs.Foremost.{ordered_head, ordered_tail}
+use Rattle.pcef_lists.proofs.Keeping.{filter_length, filters_apart}
+use Rattle.pcef_lists.proofs.Foremost.{ordered_head, ordered_tail}
 
 -- an order that tests as less is less
 less_if : (o : Ordering) → is_lt o ≡ true → o ≡ Less

@@ -7,7 +7,7 @@ ghost use Rattle.pcef_table.specs.Sources.{IsKnown, fits, is_named};
 ghost use Rattle.pcef_table.specs.Verdicts.{counted_slot, gate_verdict};
 
 use crate::entry::Entry;
-use crate::verdict::Verdict;
+use pcef_model::Verdict;
 use pcef_catalog::Offers;
 use pcef_packet::{Addr, Dir, Header};
 use pcef_rule::{BearerId, Properties, RuleName, Slot};

@@ -6,11 +6,9 @@ mod deciding;
 mod entry;
 mod source;
 mod table;
-mod verdict;
 
 pub use entry::{Entry, Source};
 pub use table::{MAX_ENTRIES, Table};
-pub use verdict::Verdict;
 
 #[cfg(test)]
 mod tests;

@@ -9,7 +9,7 @@ ghost use Rattle.pcef_table.specs.Verdicts.{IsVerdict, slot_for};
 use crate::change::{copy_counting, copy_with, copy_without};
 use crate::deciding::{first_fitting, gate_verdict, is_own, slot_of};
 use crate::entry::Entry;
-use crate::verdict::Verdict;
+use pcef_model::Verdict;
 use pcef_catalog::Offers;
 use pcef_packet::{Addr, Header};
 use pcef_rule::{RuleName, Slot};

@@ -3,16 +3,16 @@ use Rattle.std.proofs.Common.{◌≡◌, ◌≤◌, ◌∙◌, ℕ, Bool, true, 
 use Rattle.std.specs.Prelude.{Some, not, ◌&&◌}
 use Rattle.std.specs.List.{AllByRecursion}
 use Rattle.std.proofs.lemmas.Bool.{cases_Bool}
-use Rattle.pcef_journal.specs.declared.command.Command.{Command}
-use Rattle.pcef_journal.specs.declared.command.Command.TheVariants.{Install, Activate, Remove, Monitor, Stop, ReportNow, Triggers, Notice, LoseBearer, Close, Terminate}
-use Rattle.pcef_journal.specs.declared.entry.Entry.TheVariants as entry
-use Rattle.pcef_journal.specs.Setting.{Setting, same_name}
-use Rattle.pcef_journal.specs.Generations.{add_if_some, add_key, is_among, key_named, slots_of}
-use Rattle.pcef_journal.specs.Entries.{Journal, rows}
-use Rattle.pcef_journal.specs.Journals.{counted, gen, grant, now, reported, slots, subscribed, tables}
-use Rattle.pcef_journal.specs.Reports.{plan}
-use Rattle.pcef_journal.proofs.Growth.{Known, counted_after_command}
-use Rattle.pcef_journal.proofs.Sameness.{same_name_self}
+use Rattle.pcef_model.specs.declared.command.Command.{Command}
+use Rattle.pcef_model.specs.declared.command.Command.TheVariants.{Install, Activate, Remove, Monitor, Stop, ReportNow, Triggers, Notice, LoseBearer, Close, Terminate}
+use Rattle.pcef_model.specs.declared.entry.Entry.TheVariants as entry
+use Rattle.pcef_model.specs.Setting.{Setting, same_name}
+use Rattle.pcef_model.specs.Generations.{add_if_some, add_key, is_among, key_named, slots_of}
+use Rattle.pcef_model.specs.Entries.{Journal, rows}
+use Rattle.pcef_model.specs.Journals.{counted, gen, grant, now, reported, slots, subscribed, tables}
+use Rattle.pcef_model.specs.Reports.{plan}
+use Rattle.pcef_model.proofs.Growth.{Known, counted_after_command}
+use Rattle.pcef_model.proofs.Sameness.{same_name_self}
 use Rattle.pcef_usage.specs.declared.usage.KeyState.{KeyState}
 use Rattle.pcef_usage.specs.Commands.{Asks, OnAfter, entered, switched_on}
 use Rattle.pcef_usage.specs.Keys.{keys_of, place_of, started, with_slot}
@@ -22,7 +22,7 @@ use Rattle.pcef_usage.proofs.Gone.{on_after}
 use Rattle.pcef_usage.proofs.Monitors.{monitor_counts, monitor_on, slot_counts, slot_on}
 use Rattle.pcef_usage.proofs.Places.{or_more}
 use Rattle.pcef_usage.proofs.Planned.{knows_plan}
-use Rattle.pcef_usage.proofs.Reports.{reported_after_command}
+use Rattle.pcef_model.proofs.Reports.{reported_after_command}
 use Rattle.pcef_usage.proofs.Settles.{all_stopped, stopped_if, stopped_is}
 use Rattle.pcef_usage.proofs.Slots.{distinct_slots, keys_with_slot}
 use Rattle.pcef_usage.proofs.Tells.{all_same, keys_at_place}

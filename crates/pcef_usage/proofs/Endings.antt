@@ -3,19 +3,19 @@ use Rattle.std.proofs.Common.{◌≡◌, ℕ, Bool, true, false, List, [], ◌�
 use Rattle.std.specs.List.{AllByRecursion}
 use Rattle.std.proofs.lemmas.Bool.{cases_Bool}
 use Rattle.std.proofs.lemmas.List.{length-map}
-use Rattle.pcef_journal.specs.declared.telling.Telling.{Telling}
-use Rattle.pcef_journal.specs.declared.telling.Telling.TheVariants.{Inactive, Usage, Access}
-use Rattle.pcef_journal.specs.declared.trigger.TriggerSet.{TriggerSet}
-use Rattle.pcef_journal.specs.Setting.{Setting}
-use Rattle.pcef_journal.specs.Generations.{Generation, is_among}
-use Rattle.pcef_journal.specs.Entries.{Journal}
-use Rattle.pcef_journal.specs.Journals.{now, slots, subscribed}
-use Rattle.pcef_journal.specs.Reports.{settled, tell, thresholds}
+use Rattle.pcef_model.specs.declared.telling.Telling.{Telling}
+use Rattle.pcef_model.specs.declared.telling.Telling.TheVariants.{Inactive, Usage, Access}
+use Rattle.pcef_model.specs.declared.trigger.TriggerSet.{TriggerSet}
+use Rattle.pcef_model.specs.Setting.{Setting}
+use Rattle.pcef_model.specs.Generations.{Generation, is_among}
+use Rattle.pcef_model.specs.Entries.{Journal}
+use Rattle.pcef_model.specs.Journals.{now, slots, subscribed}
+use Rattle.pcef_model.specs.Reports.{settled, tell, thresholds}
 use Rattle.pcef_usage.specs.declared.usage.KeyState.{KeyState}
 use Rattle.pcef_usage.specs.Keys.{at_place, is_reached, keys_of, place_of, reported_on, ungranted_if_reached}
 use Rattle.pcef_usage.specs.Tellings.{AllCount, AllOn, Distinct, KnowsAll, after_stop, after_telling, settled_states, settled_tellings, states_stopped, states_told, told}
 use Rattle.pcef_usage.proofs.Loops.{keys_stopped, many}
-use Rattle.pcef_usage.proofs.Reports.{tell_now, tell_slots, tell_subscribed}
+use Rattle.pcef_model.proofs.Reports.{tell_now, tell_slots, tell_subscribed}
 use Rattle.pcef_usage.proofs.Tells.{keys_after, told_well}
 use Rattle.pcef_usage.proofs.Settles.{all_settled, keys_settled, knows_settled, thresholds_are}
 

@@ -2,20 +2,20 @@
 use Rattle.std.proofs.Common.{◌≡◌, ◌∙◌, ℕ, Bool, true, false, List, [], ◌∷◌, ◌++◌, refl, sym, ap, map, inl, inr, nat_lt}
 use Rattle.std.specs.Prelude.{not, ◌||◌, ◌&&◌, ◌==◌, ◌≢◌, filter}
 use Rattle.std.proofs.lemmas.Bool.{cases_Bool}
-use Rattle.pcef_journal.specs.declared.command.Command.{Command}
-use Rattle.pcef_journal.specs.declared.command.Command.TheVariants.{Install, Activate, Remove, Monitor, Stop, ReportNow, Triggers, Notice, LoseBearer, Close, Terminate}
-use Rattle.pcef_journal.specs.declared.entry.Entry.TheVariants as entry
-use Rattle.pcef_journal.specs.declared.report.Cause.{Cause}
-use Rattle.pcef_journal.specs.declared.report.Cause.TheVariants.{RulesGone, Terminated}
-use Rattle.pcef_journal.specs.declared.telling.Telling.{Telling}
-use Rattle.pcef_journal.specs.declared.telling.Telling.TheVariants.{Inactive, Usage}
-use Rattle.pcef_journal.specs.Setting.{Setting, same_name}
-use Rattle.pcef_journal.specs.ActiveRules.{has_key}
-use Rattle.pcef_journal.specs.Generations.{Generation, add_key, is_among, made_by, rules_after, slots_of, switched}
-use Rattle.pcef_journal.specs.Entries.{Journal}
-use Rattle.pcef_journal.specs.Journals.{ends_grant, is_table, now, slots, subscribed, tables, unreported}
-use Rattle.pcef_journal.specs.Reports.{asked, ended as keys_ended, in_order, inactive, is_subscribed, noticed, plan}
-use Rattle.pcef_journal.proofs.Sameness.{same_name_is, same_name_not, same_name_turned}
+use Rattle.pcef_model.specs.declared.command.Command.{Command}
+use Rattle.pcef_model.specs.declared.command.Command.TheVariants.{Install, Activate, Remove, Monitor, Stop, ReportNow, Triggers, Notice, LoseBearer, Close, Terminate}
+use Rattle.pcef_model.specs.declared.entry.Entry.TheVariants as entry
+use Rattle.pcef_model.specs.declared.report.Cause.{Cause}
+use Rattle.pcef_model.specs.declared.report.Cause.TheVariants.{RulesGone, Terminated}
+use Rattle.pcef_model.specs.declared.telling.Telling.{Telling}
+use Rattle.pcef_model.specs.declared.telling.Telling.TheVariants.{Inactive, Usage}
+use Rattle.pcef_model.specs.Setting.{Setting, same_name}
+use Rattle.pcef_model.specs.ActiveRules.{has_key}
+use Rattle.pcef_model.specs.Generations.{Generation, add_key, is_among, made_by, rules_after, slots_of, switched}
+use Rattle.pcef_model.specs.Entries.{Journal}
+use Rattle.pcef_model.specs.Journals.{ends_grant, is_table, now, slots, subscribed, tables, unreported}
+use Rattle.pcef_model.specs.Reports.{asked, ended as keys_ended, in_order, inactive, is_subscribed, noticed, plan}
+use Rattle.pcef_model.proofs.Sameness.{same_name_is, same_name_not, same_name_turned}
 use Rattle.pcef_usage.specs.Commands.{OnAfter, switched_on}
 use Rattle.pcef_usage.specs.Tellings.{ended, ends}
 use Rattle.pcef_usage.proofs.Slots.{and_no, or_assoc, or_false, stranger_off}

@@ -1,5 +1,4 @@
 pub mod Afterwards
-pub mod Bounds
 pub mod Commanded
 pub mod Endings
 pub mod Flushed
@@ -10,7 +9,6 @@ pub mod Places
 pub mod Planned
 pub mod Plans
 pub mod Quiet
-pub mod Reports
 pub mod Rows
 pub mod Settles
 pub mod Slots

@@ -4,14 +4,14 @@ use Rattle.std.specs.Prelude.{All}
 use Rattle.pcef_rule.specs.declared.quantity.Slot.{Slot}
 use Rattle.std.proofs.lemmas.List.{drop_more, drop_all, get_or-map, length-map}
 use Rattle.std.proofs.lemmas.Bool.{cases_Bool}
-use Rattle.pcef_journal.specs.declared.entry.Entry.TheVariants as entry
-use Rattle.pcef_journal.specs.declared.telling.Telling.{Telling}
-use Rattle.pcef_journal.specs.declared.telling.Telling.TheVariants.{Inactive, Usage, Access}
-use Rattle.pcef_journal.specs.Setting.{same_name}
-use Rattle.pcef_journal.specs.Generations.{is_among}
-use Rattle.pcef_journal.specs.Entries.{Journal}
-use Rattle.pcef_journal.specs.Journals.{report_count, ends_grant}
-use Rattle.pcef_journal.proofs.Sameness.{same_name_self}
+use Rattle.pcef_model.specs.declared.entry.Entry.TheVariants as entry
+use Rattle.pcef_model.specs.declared.telling.Telling.{Telling}
+use Rattle.pcef_model.specs.declared.telling.Telling.TheVariants.{Inactive, Usage, Access}
+use Rattle.pcef_model.specs.Setting.{same_name}
+use Rattle.pcef_model.specs.Generations.{is_among}
+use Rattle.pcef_model.specs.Entries.{Journal}
+use Rattle.pcef_model.specs.Journals.{report_count, ends_grant}
+use Rattle.pcef_model.proofs.Sameness.{same_name_self}
 use Rattle.pcef_usage.specs.declared.usage.KeyState.{KeyState}
 use Rattle.pcef_usage.specs.Keys.{keys_of, has_slot, place_of, state_at, stopped}
 use Rattle.pcef_usage.specs.Tellings.{body_by, after_telling, told, states_told, Knows, KnowsAll, after_stop, states_stopped, threshold}

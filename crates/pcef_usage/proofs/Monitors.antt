@@ -4,20 +4,20 @@ use Rattle.std.specs.Prelude.{Option, Some, None, if◌then◌else◌, not, ◌|
 use Rattle.std.specs.List.{AllByRecursion}
 use Rattle.std.proofs.lemmas.Bool.{cases_Bool, leb-false}
 use Rattle.std.proofs.lemmas.List.{length-append, length-map}
-use Rattle.pcef_journal.specs.declared.command.Command.{Command}
-use Rattle.pcef_journal.specs.declared.command.Command.TheVariants.{Install, Activate, Remove, Monitor, Stop, ReportNow, Triggers, Notice, LoseBearer, Close, Terminate}
-use Rattle.pcef_journal.specs.declared.entry.Entry.TheVariants as entry
-use Rattle.pcef_journal.specs.Setting.{Setting, same_name}
-use Rattle.pcef_journal.specs.Generations.{add_key, is_among, key_named, slots_of}
-use Rattle.pcef_journal.specs.Entries.{Journal, rows}
-use Rattle.pcef_journal.specs.Journals.{counted, gen, grant, is_table, reported, slots, tables, takes_grant}
-use Rattle.pcef_journal.proofs.Growth.{Known, counted_after_command}
-use Rattle.pcef_journal.proofs.Sameness.{same_name_not, same_name_turned}
+use Rattle.pcef_model.specs.declared.command.Command.{Command}
+use Rattle.pcef_model.specs.declared.command.Command.TheVariants.{Install, Activate, Remove, Monitor, Stop, ReportNow, Triggers, Notice, LoseBearer, Close, Terminate}
+use Rattle.pcef_model.specs.declared.entry.Entry.TheVariants as entry
+use Rattle.pcef_model.specs.Setting.{Setting, same_name, most_keys}
+use Rattle.pcef_model.specs.Generations.{add_key, is_among, key_named, slots_of}
+use Rattle.pcef_model.specs.Entries.{Journal, rows}
+use Rattle.pcef_model.specs.Journals.{counted, gen, grant, is_table, reported, slots, tables, takes_grant}
+use Rattle.pcef_model.proofs.Growth.{Known, counted_after_command}
+use Rattle.pcef_model.proofs.Sameness.{same_name_not, same_name_turned}
 use Rattle.pcef_usage.specs.declared.usage.KeyState.{KeyState}
-use Rattle.pcef_usage.specs.Keys.{at_place, finds_no_slot, fresh, has_slot, keys_of, most_keys, place_of, started, with_slot}
+use Rattle.pcef_usage.specs.Keys.{at_place, finds_no_slot, fresh, has_slot, keys_of, place_of, started, with_slot}
 use Rattle.pcef_usage.specs.Tellings.{AllCount, AllOn, Counts, Distinct, OnIs}
 use Rattle.pcef_usage.proofs.Places.{or_no}
-use Rattle.pcef_usage.proofs.Reports.{reported_after_command}
+use Rattle.pcef_model.proofs.Reports.{reported_after_command}
 use Rattle.pcef_usage.proofs.Slots.{is_among_add, off_before_add, or_false, stranger_counted, stranger_off}
 use Rattle.pcef_usage.proofs.Tells.{all_mapped, at_place_maps, has_slot_is}
 

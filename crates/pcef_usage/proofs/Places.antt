@@ -5,7 +5,7 @@ use Rattle.std.specs.List.{AllByRecursion, refill}
 use Rattle.std.proofs.lemmas.List.{take_all, drop_all, length-set, take_more, drop_more, get_or_at, length-map, length-take-le, get_or_default}
 use Rattle.std.proofs.lemmas.Bool.{cases_Bool}
 use Rattle.std.proofs.lemmas.List.Edits.{map_over_more}
-use Rattle.pcef_journal.specs.Setting.{same_name}
+use Rattle.pcef_model.specs.Setting.{same_name}
 use Rattle.pcef_usage.specs.declared.usage.KeyState.{KeyState}
 use Rattle.pcef_usage.specs.Keys.{has_slot, place_of, at_place, state_at, AllFit, is_reached, reached_places, ungranted_if_reached}
 

@@ -2,19 +2,19 @@
 use Rattle.std.proofs.Common.{◌≡◌, ℕ, Bool, true, false, List, [], ◌∷◌, ◌++◌, refl, map, inl, inr, nat_lt}
 use Rattle.std.specs.Prelude.{◌||◌, ◌==◌, filter}
 use Rattle.std.proofs.lemmas.Bool.{cases_Bool}
-use Rattle.pcef_journal.specs.declared.command.Command.{Command}
-use Rattle.pcef_journal.specs.declared.command.Command.TheVariants.{Install, Activate, Remove, Monitor, Stop, ReportNow, Triggers, Notice, LoseBearer, Close, Terminate}
-use Rattle.pcef_journal.specs.declared.entry.Entry.TheVariants as entry
-use Rattle.pcef_journal.specs.declared.report.Cause.{Cause}
-use Rattle.pcef_journal.specs.declared.report.Cause.TheVariants.{RulesGone, Terminated}
-use Rattle.pcef_journal.specs.declared.telling.Telling.{Telling}
-use Rattle.pcef_journal.specs.declared.telling.Telling.TheVariants.{Inactive, Usage}
-use Rattle.pcef_journal.specs.Setting.{Setting, same_name}
-use Rattle.pcef_journal.specs.Generations.{Generation, is_among}
-use Rattle.pcef_journal.specs.Entries.{Journal}
-use Rattle.pcef_journal.specs.Journals.{now, slots, subscribed, unreported}
-use Rattle.pcef_journal.specs.Reports.{asked, ended as keys_ended, in_order, inactive, is_subscribed, noticed, plan}
-use Rattle.pcef_journal.proofs.Sameness.{same_name_self}
+use Rattle.pcef_model.specs.declared.command.Command.{Command}
+use Rattle.pcef_model.specs.declared.command.Command.TheVariants.{Install, Activate, Remove, Monitor, Stop, ReportNow, Triggers, Notice, LoseBearer, Close, Terminate}
+use Rattle.pcef_model.specs.declared.entry.Entry.TheVariants as entry
+use Rattle.pcef_model.specs.declared.report.Cause.{Cause}
+use Rattle.pcef_model.specs.declared.report.Cause.TheVariants.{RulesGone, Terminated}
+use Rattle.pcef_model.specs.declared.telling.Telling.{Telling}
+use Rattle.pcef_model.specs.declared.telling.Telling.TheVariants.{Inactive, Usage}
+use Rattle.pcef_model.specs.Setting.{Setting, same_name}
+use Rattle.pcef_model.specs.Generations.{Generation, is_among}
+use Rattle.pcef_model.specs.Entries.{Journal}
+use Rattle.pcef_model.specs.Journals.{now, slots, subscribed, unreported}
+use Rattle.pcef_model.specs.Reports.{asked, ended as keys_ended, in_order, inactive, is_subscribed, noticed, plan}
+use Rattle.pcef_model.proofs.Sameness.{same_name_self}
 use Rattle.pcef_usage.specs.Commands.{Asks}
 use Rattle.pcef_usage.specs.Tellings.{KnowsAll}
 use Rattle.pcef_usage.proofs.Gone.{is_gone}

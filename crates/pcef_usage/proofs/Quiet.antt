@@ -2,18 +2,18 @@
 use Rattle.std.proofs.Common.{◌≡◌, ◌∙◌, ℕ, Bool, true, false, List, [], ◌∷◌, refl, ap, arith, map, inl, inr}
 use Rattle.std.specs.Prelude.{Option, None, ◌&&◌, filter}
 use Rattle.std.proofs.lemmas.Bool.{cases_Bool}
-use Rattle.pcef_journal.specs.declared.command.Command.{Command}
-use Rattle.pcef_journal.specs.declared.entry.Entry.TheVariants as entry
-use Rattle.pcef_journal.specs.Setting.{Setting, same_name}
-use Rattle.pcef_journal.specs.Generations.{is_among}
-use Rattle.pcef_journal.specs.Entries.{Journal}
-use Rattle.pcef_journal.specs.Journals.{grant, now, report_count, reported, slots, subscribed, unreported}
-use Rattle.pcef_journal.specs.Reports.{after_command, body_of, is_reached, is_reached_by, plan, settled, tell, thresholds}
-use Rattle.pcef_journal.proofs.Sameness.{same_name_self}
+use Rattle.pcef_model.specs.declared.command.Command.{Command}
+use Rattle.pcef_model.specs.declared.entry.Entry.TheVariants as entry
+use Rattle.pcef_model.specs.Setting.{Setting, same_name}
+use Rattle.pcef_model.specs.Generations.{is_among}
+use Rattle.pcef_model.specs.Entries.{Journal}
+use Rattle.pcef_model.specs.Journals.{grant, now, report_count, reported, slots, subscribed, unreported}
+use Rattle.pcef_model.specs.Reports.{after_command, body_of, is_reached, is_reached_by, plan, settled, tell, thresholds}
+use Rattle.pcef_model.proofs.Sameness.{same_name_self}
 use Rattle.pcef_usage.specs.Tellings.{threshold}
 use Rattle.pcef_usage.proofs.Gone.{among_filter}
 use Rattle.pcef_usage.proofs.Places.{or_more, or_no, or_rest}
-use Rattle.pcef_usage.proofs.Reports.{tell_now, tell_slots, tell_subscribed}
+use Rattle.pcef_model.proofs.Reports.{tell_now, tell_slots, tell_subscribed}
 use Rattle.pcef_usage.proofs.Slots.{and_no}
 
 -- ---- keys that are told lose their grants

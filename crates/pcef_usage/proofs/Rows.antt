@@ -4,14 +4,14 @@ use Rattle.std.specs.Prelude.{Option, Some, None, if◌then◌else◌}
 use Rattle.std.specs.List.{AllByRecursion}
 use Rattle.std.proofs.lemmas.Bool.{cases_Bool}
 use Rattle.pcef_rule.specs.declared.quantity.Slot.{Slot}
-use Rattle.pcef_journal.specs.declared.entry.Entry.TheVariants as entry
-use Rattle.pcef_journal.specs.declared.row.Row.{Row}
-use Rattle.pcef_journal.specs.Setting.{Setting, same_name}
-use Rattle.pcef_journal.specs.Generations.{is_among}
-use Rattle.pcef_journal.specs.Entries.{Journal}
-use Rattle.pcef_journal.specs.Journals.{counted, counts, grant, now, reported}
-use Rattle.pcef_journal.proofs.Growth.{counted_after_row}
-use Rattle.pcef_journal.proofs.Sameness.{same_name_is, same_name_not, same_name_self, same_name_turned}
+use Rattle.pcef_model.specs.declared.entry.Entry.TheVariants as entry
+use Rattle.pcef_model.specs.declared.row.Row.{Row}
+use Rattle.pcef_model.specs.Setting.{Setting, same_name}
+use Rattle.pcef_model.specs.Generations.{is_among}
+use Rattle.pcef_model.specs.Entries.{Journal}
+use Rattle.pcef_model.specs.Journals.{counted, counts, grant, now, reported}
+use Rattle.pcef_model.proofs.Growth.{counted_after_row}
+use Rattle.pcef_model.proofs.Sameness.{same_name_is, same_name_not, same_name_self, same_name_turned}
 use Rattle.pcef_usage.specs.declared.usage.KeyState.{KeyState}
 use Rattle.pcef_usage.specs.Keys.{added, at_place, keys_of, place_of, state_at, with_octets}
 use Rattle.pcef_usage.specs.Tellings.{AllCount, AllOn, Counts, Distinct}

@@ -3,15 +3,15 @@ use Rattle.std.proofs.Common.{◌≡◌, ◌≤◌, ◌<◌, ℕ, ◌+◌, Bool,
 use Rattle.std.specs.Prelude.{◌&&◌, filter, All}
 use Rattle.std.specs.List.{AllByRecursion}
 use Rattle.std.proofs.lemmas.Bool.{cases_Bool}
-use Rattle.pcef_journal.specs.declared.report.Cause.{Cause}
-use Rattle.pcef_journal.specs.declared.telling.Telling.{Telling}
-use Rattle.pcef_journal.specs.declared.telling.Telling.TheVariants.{Inactive, Usage, Access}
-use Rattle.pcef_journal.specs.Setting.{Setting, same_name}
-use Rattle.pcef_journal.specs.Generations.{is_among}
-use Rattle.pcef_journal.specs.Entries.{Journal}
-use Rattle.pcef_journal.specs.Journals.{slots, subscribed, unreported, ends_grant}
-use Rattle.pcef_journal.specs.Reports.{is_reached as is_key_reached, thresholds}
-use Rattle.pcef_journal.proofs.Sameness.{same_name_is, same_name_not, same_name_self, same_name_turned}
+use Rattle.pcef_model.specs.declared.report.Cause.{Cause}
+use Rattle.pcef_model.specs.declared.telling.Telling.{Telling}
+use Rattle.pcef_model.specs.declared.telling.Telling.TheVariants.{Inactive, Usage, Access}
+use Rattle.pcef_model.specs.Setting.{Setting, same_name}
+use Rattle.pcef_model.specs.Generations.{is_among}
+use Rattle.pcef_model.specs.Entries.{Journal}
+use Rattle.pcef_model.specs.Journals.{slots, subscribed, unreported, ends_grant}
+use Rattle.pcef_model.specs.Reports.{is_reached as is_key_reached, thresholds}
+use Rattle.pcef_model.proofs.Sameness.{same_name_is, same_name_not, same_name_self, same_name_turned}
 use Rattle.pcef_usage.specs.declared.usage.KeyState.{KeyState}
 use Rattle.pcef_rule.specs.declared.quantity.Slot.{Slot}
 use Rattle.pcef_usage.specs.Keys.{keys_of, place_of, at_place, state_at, stopped, is_reached, reached_places, ungranted_if_reached}

@@ -3,15 +3,15 @@ use Rattle.std.proofs.Common.{◌≡◌, ◌∙◌, ℕ, Bool, true, false, List
 use Rattle.std.specs.Prelude.{Option, Some, None, not, ◌||◌, ◌&&◌, filter}
 use Rattle.std.proofs.lemmas.Bool.{cases_Bool}
 use Rattle.std.proofs.lemmas.List.{map_push}
-use Rattle.pcef_journal.specs.declared.command.Command.{Command}
-use Rattle.pcef_journal.specs.declared.command.Command.TheVariants.{Install, Activate, Remove, Monitor, Stop, ReportNow, Triggers, Notice, LoseBearer, Close, Terminate}
-use Rattle.pcef_journal.specs.declared.row.Row.{Row}
-use Rattle.pcef_journal.specs.Setting.{Setting, same_name}
-use Rattle.pcef_journal.specs.ActiveRules.{has_key}
-use Rattle.pcef_journal.specs.Generations.{add_if_some, add_key, is_among, key_named, made_by, oldest, rules_after, slots_of, switched}
-use Rattle.pcef_journal.specs.Entries.{Journal, rows}
-use Rattle.pcef_journal.specs.Journals.{at, counted, counts, decision, now, octets_of, passed_for, slots, tables}
-use Rattle.pcef_journal.proofs.Sameness.{same_name_is, same_name_not}
+use Rattle.pcef_model.specs.declared.command.Command.{Command}
+use Rattle.pcef_model.specs.declared.command.Command.TheVariants.{Install, Activate, Remove, Monitor, Stop, ReportNow, Triggers, Notice, LoseBearer, Close, Terminate}
+use Rattle.pcef_model.specs.declared.row.Row.{Row}
+use Rattle.pcef_model.specs.Setting.{Setting, same_name}
+use Rattle.pcef_model.specs.ActiveRules.{has_key}
+use Rattle.pcef_model.specs.Generations.{add_if_some, add_key, is_among, key_named, made_by, oldest, rules_after, slots_of, switched}
+use Rattle.pcef_model.specs.Entries.{Journal, rows}
+use Rattle.pcef_model.specs.Journals.{at, counted, counts, decision, now, octets_of, passed_for, slots, tables}
+use Rattle.pcef_model.proofs.Sameness.{same_name_is, same_name_not}
 use Rattle.pcef_usage.specs.declared.usage.KeyState.{KeyState}
 use Rattle.pcef_usage.specs.Keys.{fresh, has_slot, keys_of, with_slot}
 use Rattle.pcef_usage.specs.Tellings.{Distinct}

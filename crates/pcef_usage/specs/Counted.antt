@@ -1,8 +1,8 @@
 -- What callers see of a journal and its counters.
 use Rattle.std.specs.Prelude.{ℕ, List}
-use Rattle.pcef_journal.specs.declared.entry.Entry.{Entry}
-use Rattle.pcef_journal.specs.declared.entry.Entry.TheVariants as entry
-use Rattle.pcef_journal.specs.Entries.{Journal}
+use Rattle.pcef_model.specs.declared.entry.Entry.{Entry}
+use Rattle.pcef_model.specs.declared.entry.Entry.TheVariants as entry
+use Rattle.pcef_model.specs.Entries.{Journal}
 use Rattle.pcef_usage.specs.declared.usage.KeyState.{KeyState}
 
 -- the entries, the newest first, the counters in slot order, and how many more entries there is memory for

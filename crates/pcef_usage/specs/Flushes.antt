@@ -1,7 +1,7 @@
 -- What a flush does to the counters of monitoring keys.
 use Rattle.std.specs.Prelude.{List, [], ◌∷◌, Option}
 use Rattle.pcef_rule.specs.declared.quantity.Slot.{Slot}
-use Rattle.pcef_journal.specs.declared.row.Row.{Row}
+use Rattle.pcef_model.specs.declared.row.Row.{Row}
 use Rattle.pcef_usage.specs.declared.usage.KeyState.{KeyState}
 use Rattle.pcef_usage.specs.Keys.{with_octets}
 

@@ -2,8 +2,8 @@
 use Rattle.std.specs.Prelude.{ℕ, ◌+◌, ◌<◌, ◌^◌, Bool, false, true, List, [], ◌∷◌, ◌++◌, Option, Some, None, if◌then◌else◌, map, not, ◌&&◌, nat_le, length, zero, suc}
 use Rattle.std.specs.List.{list_any, AllByRecursion}
 use Rattle.pcef_rule.specs.declared.quantity.Slot.{Slot}
-use Rattle.pcef_journal.specs.Setting.{same_name}
-use Rattle.pcef_journal.specs.Reports.{is_reached_by}
+use Rattle.pcef_model.specs.Setting.{most_keys, same_name}
+use Rattle.pcef_model.specs.Reports.{is_reached_by}
 use Rattle.pcef_usage.specs.declared.usage.KeyState.{KeyState}
 
 abbrev pub keys_of : List KeyState → List (List ℕ)
@@ -59,10 +59,6 @@ abbrev pub state_at : ℕ → List KeyState → KeyState
 state_at n [] = fresh []
 state_at zero (s ∷ states) = s
 state_at (suc n) (s ∷ states) = state_at n states
-
--- own choice
-abbrev pub most_keys : ℕ
-most_keys = 8
 
 -- the states with a slot for this key
 abbrev pub with_slot : Option (List ℕ) → List KeyState → List KeyState

@@ -1,17 +1,17 @@
 -- Reports that are told one after another, by what the counters say.
 use Rattle.std.specs.Prelude.{◌≡◌, ℕ, ◌+◌, Bool, true, false, List, [], ◌∷◌, map, None, if◌then◌else◌, ◌&&◌, filter}
 use Rattle.std.specs.List.{list_any, AllByRecursion}
-use Rattle.pcef_journal.specs.declared.report.Body.{Body}
-use Rattle.pcef_journal.specs.declared.report.Body.TheVariants as body
-use Rattle.pcef_journal.specs.declared.report.Cause.TheVariants.{Threshold}
-use Rattle.pcef_journal.specs.declared.report.InactiveCause.TheVariants.{BearerLost}
-use Rattle.pcef_journal.specs.declared.telling.Telling.{Telling}
-use Rattle.pcef_journal.specs.declared.telling.Telling.TheVariants.{Inactive, Usage, Access}
-use Rattle.pcef_journal.specs.declared.entry.Entry.TheVariants as entry
-use Rattle.pcef_journal.specs.Setting.{Setting, same_name}
-use Rattle.pcef_journal.specs.Generations.{is_among}
-use Rattle.pcef_journal.specs.Entries.{Journal}
-use Rattle.pcef_journal.specs.Journals.{counted, ends_grant, grant, now, report_count, reported}
+use Rattle.pcef_model.specs.declared.report.Body.{Body}
+use Rattle.pcef_model.specs.declared.report.Body.TheVariants as body
+use Rattle.pcef_model.specs.declared.report.Cause.TheVariants.{Threshold}
+use Rattle.pcef_model.specs.declared.report.InactiveCause.TheVariants.{BearerLost}
+use Rattle.pcef_model.specs.declared.telling.Telling.{Telling}
+use Rattle.pcef_model.specs.declared.telling.Telling.TheVariants.{Inactive, Usage, Access}
+use Rattle.pcef_model.specs.declared.entry.Entry.TheVariants as entry
+use Rattle.pcef_model.specs.Setting.{Setting, same_name}
+use Rattle.pcef_model.specs.Generations.{is_among}
+use Rattle.pcef_model.specs.Entries.{Journal}
+use Rattle.pcef_model.specs.Journals.{counted, ends_grant, grant, now, report_count, reported}
 use Rattle.pcef_usage.specs.declared.usage.KeyState.{KeyState}
 use Rattle.pcef_usage.specs.Keys.{at_place, is_reached, place_of, reported_on, state_at, stopped, ungranted_if_reached}
 

@@ -2,14 +2,15 @@
 
 ghost use Rattle.std.specs.Prelude.{◌≡◌, ◌<◌, ◌≤◌, ◌+◌, [], ◌∷◌, map, length, false, true, IfOk, OnOk, All};
 ghost use Rattle.std.specs.Option.{option_copied};
-ghost use Rattle.pcef_journal.specs.Generations.{is_among};
-ghost use Rattle.pcef_journal.specs.Journals.{ends_grant, report_count};
+ghost use Rattle.pcef_model.specs.Generations.{is_among};
+ghost use Rattle.pcef_model.specs.Journals.{ends_grant, report_count};
 ghost use Rattle.pcef_usage.specs.Counted.{IsEvent};
 ghost use Rattle.pcef_usage.specs.Keys.{CanCount, at_place, finds_no_slot, keys_of, place_of, reported_on, started, state_at, stopped, with_octets, with_slot};
 ghost use Rattle.pcef_usage.specs.Tellings.{Knows, KnowsAll, after_stop, after_telling, body_by, settled_states, settled_tellings, states_stopped, states_told, threshold, told};
 
 use crate::usage::{KeyState, Usage};
-use pcef_journal::{Body, Cause, Entry, InactiveCause, Journal, Report, Row, Telling};
+use pcef_journal::Journal;
+use pcef_model::{Body, Cause, Entry, InactiveCause, Report, Row, Telling};
 use pcef_rule::{KeyName, Slot};
 use std::alloc::{AllocError, Global};
 use std::marker::Model;

@@ -3,10 +3,9 @@
 ghost use Rattle.std.specs.Prelude.{◌≡◌, ◌≤◌, ◌+◌};
 
 use super::*;
-use pcef_journal::{Body, Cause, Command, Entry, Report, Row, Telling};
+use pcef_model::{Body, Cause, Command, Entry, Report, Row, Telling, Verdict};
 use pcef_packet::{Addr, Dir, Header};
 use pcef_rule::{KeyName, Slot};
-use pcef_table::Verdict;
 use std::process::Abort;
 use std::test::Fail;
 

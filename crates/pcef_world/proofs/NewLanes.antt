@@ -3,14 +3,14 @@ use Rattle.std.proofs.Common.{◌≡◌, ◌<◌, ◌+◌, ℕ, true, false, not
 use Rattle.std.specs.List.{list_any}
 use Rattle.std.proofs.lemmas.Bool.{cases_Bool, eqb-true, ne_eqb}
 use Rattle.std.proofs.lemmas.List.Elements.{All-cons, All-filter, All-head, All-nil, All-tail, All-weaker}
-use Rattle.pcef_journal.specs.declared.entry.Entry.TheVariants as entry
-use Rattle.pcef_journal.specs.declared.row.Row.{Row}
-use Rattle.pcef_journal.specs.Setting.{Setting}
-use Rattle.pcef_journal.specs.Entries.{Journal, lane, rows}
-use Rattle.pcef_journal.specs.Journals.{attach_count, attached}
-use Rattle.pcef_journal.specs.Reports.{with_rows}
-use Rattle.pcef_session.specs.Lawful.{Lawful, at_first, by_attach, by_command, by_flush, by_leave}
-use Rattle.pcef_session.proofs.Onward.{attach_count_after_command, attach_count_after_flush, attached_after_command, attached_after_flush, flushed_fits, rows_after_command, rows_after_flush}
+use Rattle.pcef_model.specs.declared.entry.Entry.TheVariants as entry
+use Rattle.pcef_model.specs.declared.row.Row.{Row}
+use Rattle.pcef_model.specs.Setting.{Setting}
+use Rattle.pcef_model.specs.Entries.{Journal, lane, rows}
+use Rattle.pcef_model.specs.Journals.{attach_count, attached}
+use Rattle.pcef_model.specs.Reports.{with_rows}
+use Rattle.pcef_model.specs.Lawful.{Lawful, at_first, by_attach, by_command, by_flush, by_leave}
+use Rattle.pcef_model.proofs.Onward.{attach_count_after_command, attach_count_after_flush, attached_after_command, attached_after_flush, flushed_fits, rows_after_command, rows_after_flush}
 
 -- those who are attached, and those whose rows came, have numbers that were given
 pub record IsNumbered (j : Journal) : Type 0 where

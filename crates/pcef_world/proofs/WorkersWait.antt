@@ -8,36 +8,38 @@ use Rattle.std.proofs.lemmas.List.Elements.{All-cons, All-nil, All-push}
 use Rattle.pcef_packet.specs.declared.header.Header.{Header}
 use Rattle.pcef_rule.specs.declared.quantity.Slot.{Slot}
 use Rattle.pcef_table.specs.declared.entry.Entry.{Entry}
-use Rattle.pcef_table.specs.declared.verdict.Verdict.{Verdict}
-use Rattle.pcef_table.specs.declared.verdict.Verdict.TheVariants.{Stray, Unmatched, Gated, Passed}
+use Rattle.pcef_model.specs.declared.verdict.Verdict.{Verdict}
+use Rattle.pcef_model.specs.declared.verdict.Verdict.TheVariants.{Stray, Unmatched, Gated, Passed}
 use Rattle.pcef_table.specs.Sources.{is_named}
 use Rattle.pcef_table.specs.Tables.{TableValue}
 use Rattle.pcef_table.specs.Verdicts.{counted_slot, slot_for}
-use Rattle.pcef_table.proofs.Foremost.{found_is_foremost}
-use Rattle.pcef_journal.specs.declared.entry.Entry.TheVariants as entry
-use Rattle.pcef_journal.specs.declared.row.Row.{Row}
-use Rattle.pcef_journal.specs.Setting.{Setting}
-use Rattle.pcef_journal.specs.Generations.{made_by, oldest}
-use Rattle.pcef_journal.specs.Entries.{Journal, lane, rows}
-use Rattle.pcef_journal.specs.Journals.{at, attach_count, gen, judged, lane_len, slots, tables}
-use Rattle.pcef_journal.specs.Reports.{after_attach, after_flush, with_rows}
-use Rattle.pcef_usage.proofs.Afterwards.{tables_after_rows}
+use Rattle.pcef_lists.proofs.Foremost.{found_is_foremost}
+use Rattle.pcef_model.specs.declared.entry.Entry.TheVariants as entry
+use Rattle.pcef_model.specs.declared.row.Row.{Row}
+use Rattle.pcef_model.specs.Setting.{Setting}
+use Rattle.pcef_model.specs.Generations.{made_by, oldest}
+use Rattle.pcef_model.specs.Entries.{Journal, lane, rows}
+use Rattle.pcef_model.specs.Journals.{at, attach_count, gen, judged, lane_len, slots, tables}
+use Rattle.pcef_model.specs.Reports.{after_attach, after_flush, with_rows}
+use Rattle.pcef_model.proofs.AfterEvents.{tables_after_rows}
 use Rattle.pcef_session.specs.declared.batch.Item.{Item}
 use Rattle.pcef_world.specs.declared.worker.Worker.{Worker}
-use Rattle.pcef_session.specs.Following.{CountsFor, HasItsSlots, IsWithin, row_of}
-use Rattle.pcef_session.specs.Lawful.{BatchFollows, Lawful, RowFollows, RowsFollow, newest_generation}
-use Rattle.pcef_session.specs.Refusals.{first_of, flush_refusals}
-use Rattle.pcef_session.specs.Shown.{Shows, slot_of}
+use Rattle.pcef_model.specs.Slots.{CountsFor, IsWithin, slot_of}
+use Rattle.pcef_session.specs.Following.{HasItsSlots, row_of}
+use Rattle.pcef_model.specs.Lawful.{BatchFollows, Lawful, RowFollows, RowsFollow, newest_generation}
+use Rattle.pcef_model.specs.Refusals.{first_of, flush_refusals}
+use Rattle.pcef_session.specs.Shown.{Shows}
 use Rattle.pcef_world.specs.Workers.{IsJudged, Waits, held_by, with_item}
 use Rattle.pcef_world.proofs.Lanes.{lane_few, lane_len_with, lane_other, lane_with, with_rows_push}
 use Rattle.pcef_world.proofs.NewLanes.{new_lane}
-use Rattle.pcef_session.proofs.Onward.{Onward, flushed_fits, onward_same, rows_after_flush, tables_after_flush}
-use Rattle.pcef_session.proofs.RowsLater.{batch_empty, batch_later, batch_push}
+use Rattle.pcef_model.proofs.Onward.{Onward, flushed_fits, onward_same, rows_after_flush, tables_after_flush}
+use Rattle.pcef_model.proofs.RowsLater.{batch_empty, batch_later, batch_push}
 use Rattle.pcef_session.proofs.ShownLater.{shows_later, shows_same}
 use Rattle.pcef_session.proofs.ShownSlots.{shown_counts}
-use Rattle.pcef_session.proofs.ShownVerdicts.{made_once, shown_judges}
-use Rattle.pcef_session.proofs.SlotPlaces.{Grows}
-use Rattle.pcef_session.proofs.SlotsLater.{counts_later, place_within}
+use Rattle.pcef_model.proofs.Decisive.{made_once}
+use Rattle.pcef_session.proofs.ShownVerdicts.{shown_judges}
+use Rattle.pcef_model.proofs.SlotPlaces.{Grows}
+use Rattle.pcef_model.proofs.SlotsLater.{counts_later, place_within}
 
 -- ---- the slots of rows that wait
 -- rows that may come are of generations that were made

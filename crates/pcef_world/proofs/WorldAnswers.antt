@@ -10,18 +10,18 @@ use Rattle.std.proofs.Math.Seq.{map-set_same}
 use Rattle.pcef_packet.specs.declared.header.Addr.{Addr}
 use Rattle.pcef_packet.specs.declared.header.Header.{Header}
 use Rattle.pcef_catalog.specs.declared.listing.Offer.{Offer}
-use Rattle.pcef_journal.specs.Setting.{Setting}
-use Rattle.pcef_journal.specs.Entries.{Journal}
-use Rattle.pcef_journal.specs.Journals.{gen}
-use Rattle.pcef_session.specs.declared.answer.FlushRefusal.{FlushRefusal}
-use Rattle.pcef_session.specs.declared.answer.Verdicts.{Verdicts}
+use Rattle.pcef_model.specs.Setting.{Setting}
+use Rattle.pcef_model.specs.Entries.{Journal}
+use Rattle.pcef_model.specs.Journals.{gen}
+use Rattle.pcef_model.specs.declared.answer.FlushRefusal.{FlushRefusal}
+use Rattle.pcef_model.specs.declared.answer.Verdicts.{Verdicts}
 use Rattle.pcef_session.specs.declared.batch.BatchFull.{BatchFull}
 use Rattle.pcef_session.specs.declared.batch.Item.{Item}
 use Rattle.pcef_world.specs.declared.worker.Worker.{Worker}
 use Rattle.pcef_world.specs.declared.world.StepRefusal.{StepRefusal}
 use Rattle.pcef_world.specs.declared.world.StepRefusal.TheVariants.{NoWorker, Refused}
 use Rattle.pcef_session.specs.Agreement.{Agrees}
-use Rattle.pcef_session.specs.Answers.{Flushes, told_of}
+use Rattle.pcef_model.specs.Answers.{Flushes, told_of}
 use Rattle.pcef_session.specs.Core.{Core, setting_in}
 use Rattle.pcef_session.specs.Following.{row_of}
 use Rattle.pcef_world.specs.Workers.{IsJudged, TakesItem, Waits, after_flushing, held_by, with_item}

@@ -7,29 +7,29 @@ use Rattle.std.proofs.lemmas.List.{get_or-map, get_or-set_other, get_or-set_same
 use Rattle.pcef_packet.specs.declared.header.Addr.{Addr}
 use Rattle.pcef_packet.specs.declared.header.Header.{Header}
 use Rattle.pcef_catalog.specs.declared.listing.Offer.{Offer}
-use Rattle.pcef_journal.specs.declared.command.Command.{Command}
-use Rattle.pcef_journal.specs.declared.row.Row.{Row}
-use Rattle.pcef_journal.specs.Setting.{Setting}
-use Rattle.pcef_journal.specs.Entries.{Journal, lane}
-use Rattle.pcef_journal.specs.Journals.{attach_count, tables}
-use Rattle.pcef_journal.specs.Reports.{after_attach, after_flush}
-use Rattle.pcef_session.specs.declared.answer.Accepted.{Accepted}
-use Rattle.pcef_session.specs.declared.answer.AttachFault.{AttachFault}
-use Rattle.pcef_session.specs.declared.answer.FlushRefusal.{FlushRefusal}
-use Rattle.pcef_session.specs.declared.answer.Refusal.{Refusal}
-use Rattle.pcef_session.specs.declared.answer.Verdicts.{Verdicts}
+use Rattle.pcef_model.specs.declared.command.Command.{Command}
+use Rattle.pcef_model.specs.declared.row.Row.{Row}
+use Rattle.pcef_model.specs.Setting.{Setting}
+use Rattle.pcef_model.specs.Entries.{Journal, lane}
+use Rattle.pcef_model.specs.Journals.{attach_count, tables}
+use Rattle.pcef_model.specs.Reports.{after_attach, after_flush}
+use Rattle.pcef_model.specs.declared.answer.Accepted.{Accepted}
+use Rattle.pcef_model.specs.declared.answer.AttachFault.{AttachFault}
+use Rattle.pcef_model.specs.declared.answer.FlushRefusal.{FlushRefusal}
+use Rattle.pcef_model.specs.declared.answer.Refusal.{Refusal}
+use Rattle.pcef_model.specs.declared.answer.Verdicts.{Verdicts}
 use Rattle.pcef_session.specs.declared.batch.BatchFull.{BatchFull}
 use Rattle.pcef_world.specs.declared.worker.Worker.{Worker}
 use Rattle.pcef_session.specs.Agreement.{Agrees}
-use Rattle.pcef_session.specs.Answers.{Attaches, Does, Flushes, told_of}
+use Rattle.pcef_model.specs.Answers.{Attaches, Does, Flushes, told_of}
 use Rattle.pcef_session.specs.Core.{Core, setting_in}
 use Rattle.pcef_session.specs.Following.{row_of}
-use Rattle.pcef_session.specs.Refusals.{first_of, flush_refusals}
-use Rattle.pcef_session.specs.Terms.{setting_of}
+use Rattle.pcef_model.specs.Refusals.{first_of, flush_refusals}
+use Rattle.pcef_model.specs.Terms.{setting_of}
 use Rattle.pcef_world.specs.Workers.{AllWait, TakesItem, Waits, after_flushing, held_by}
 use Rattle.pcef_world.specs.WorldSoundness.{IsSoundWith, seen}
 use Rattle.pcef_world.specs.Worlds.{AreInTurn, IsInTurn}
-use Rattle.pcef_session.proofs.Onward.{Commanded, attach_count_after_flush, attached_not, attached_once, commanded, flushed_not, flushed_once, onward_same}
+use Rattle.pcef_model.proofs.Onward.{Commanded, attach_count_after_flush, attached_not, attached_once, commanded, flushed_not, flushed_once, onward_same}
 use Rattle.pcef_world.proofs.WorkersWait.{waits_beside, waits_flushed, waits_later, waits_new, waits_refresh, waits_take}
 
 -- ---- workers in their list

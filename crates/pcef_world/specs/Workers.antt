@@ -6,15 +6,15 @@ use Rattle.pcef_packet.specs.declared.header.Header.{Header}
 use Rattle.pcef_catalog.specs.declared.listing.Offer.{Offer}
 use Rattle.pcef_table.specs.Tables.{TableValue}
 use Rattle.pcef_table.specs.Verdicts.{IsVerdict, slot_for}
-use Rattle.pcef_journal.specs.Setting.{Setting}
-use Rattle.pcef_journal.specs.Entries.{Journal, lane}
-use Rattle.pcef_journal.specs.Journals.{gen, lane_len}
-use Rattle.pcef_journal.specs.Reports.{with_rows}
+use Rattle.pcef_model.specs.Setting.{Setting}
+use Rattle.pcef_model.specs.Entries.{Journal, lane}
+use Rattle.pcef_model.specs.Journals.{gen, lane_len}
+use Rattle.pcef_model.specs.Reports.{with_rows}
 use Rattle.pcef_session.specs.declared.batch.BatchFull.{BatchFull}
 use Rattle.pcef_session.specs.declared.batch.Item.{Item}
 use Rattle.pcef_world.specs.declared.worker.Worker.{Worker}
 use Rattle.pcef_session.specs.Following.{HasItsSlots, row_of}
-use Rattle.pcef_session.specs.Lawful.{BatchFollows, newest_generation}
+use Rattle.pcef_model.specs.Lawful.{BatchFollows, newest_generation}
 use Rattle.pcef_session.specs.Shown.{Shows}
 
 -- the table that a worker holds

@@ -1,6 +1,6 @@
 -- What always holds of a world's parts.
 use Rattle.std.specs.Prelude.{◌≡◌, ◌≤◌, List, length, map}
-use Rattle.pcef_journal.specs.Journals.{attach_count}
+use Rattle.pcef_model.specs.Journals.{attach_count}
 use Rattle.pcef_world.specs.declared.world.WorldState.TheInside.{Inside}
 use Rattle.pcef_world.specs.declared.worker.Worker.{Worker}
 use Rattle.pcef_session.specs.Core.{Core, setting_in}

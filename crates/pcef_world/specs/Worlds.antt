@@ -2,18 +2,18 @@
 -- choice).
 use Rattle.std.specs.Prelude.{ℕ, ◌≡◌, ◌≤◌, ◌<◌, ◌+◌, List, [], ◌∷◌, ◌++◌, Option, Some, None, Result, Ok, Err, length, nat_le, slice_get, slice_set, slice_index_or, if◌then◌else◌}
 use Rattle.pcef_packet.specs.declared.header.Header.{Header}
-use Rattle.pcef_journal.specs.declared.row.Row.{Row}
-use Rattle.pcef_journal.specs.Setting.{Setting}
-use Rattle.pcef_journal.specs.Entries.{Journal}
-use Rattle.pcef_journal.specs.Journals.{at, gen, judged, lane_len}
-use Rattle.pcef_session.specs.declared.answer.AttachFault.{AttachFault}
-use Rattle.pcef_session.specs.declared.answer.FlushRefusal.{FlushRefusal}
+use Rattle.pcef_model.specs.declared.row.Row.{Row}
+use Rattle.pcef_model.specs.Setting.{Setting}
+use Rattle.pcef_model.specs.Entries.{Journal}
+use Rattle.pcef_model.specs.Journals.{at, gen, judged, lane_len}
+use Rattle.pcef_model.specs.declared.answer.AttachFault.{AttachFault}
+use Rattle.pcef_model.specs.declared.answer.FlushRefusal.{FlushRefusal}
 use Rattle.pcef_session.specs.declared.batch.BatchFull.{BatchFull}
 use Rattle.pcef_world.specs.declared.world.StepRefusal.{StepRefusal}
 use Rattle.pcef_world.specs.declared.world.StepRefusal.TheVariants.{NoWorker, Refused}
-use Rattle.pcef_session.specs.Answers.{Flushes, Told}
+use Rattle.pcef_model.specs.Answers.{Flushes, Told}
 use Rattle.pcef_session.specs.Core.{Core}
-use Rattle.pcef_session.specs.Lawful.{BatchFollows}
+use Rattle.pcef_model.specs.Lawful.{BatchFollows}
 
 -- a worker: the generation that it holds, and its rows that wait, the oldest first. Its number is its
 -- place among the workers

@@ -3,16 +3,16 @@
 ghost use Rattle.std.specs.Prelude.{◌≡◌, ◌≤◌, map};
 ghost use Rattle.std.specs.Result.{result_map_both};
 ghost use Rattle.pcef_table.specs.Tables.{IsTable};
-ghost use Rattle.pcef_session.specs.Answers.{Flushes, told_of};
+ghost use Rattle.pcef_model.specs.Answers.{Flushes, told_of};
 ghost use Rattle.pcef_session.specs.Core.{setting_in};
 ghost use Rattle.pcef_session.specs.Following.{HasItsSlots, row_of};
-ghost use Rattle.pcef_session.specs.Lawful.{BatchFollows};
+ghost use Rattle.pcef_model.specs.Lawful.{BatchFollows};
 ghost use Rattle.pcef_world.specs.Workers.{IsJudged, TakesItem, after_flushing, held_by};
 
 use pcef_catalog::Offers;
-use pcef_journal::Row;
+use pcef_model::{FlushRefusal, Row, Verdicts};
 use pcef_packet::{Addr, Header};
-use pcef_session::{Batch, BatchFull, FlushRefusal, Item, MAX_WAITING, SessionState, Verdicts};
+use pcef_session::{Batch, BatchFull, Item, MAX_WAITING, SessionState};
 use pcef_table::Table;
 use std::sync::Arc;
 

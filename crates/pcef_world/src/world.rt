@@ -3,21 +3,18 @@
 ghost use Rattle.std.specs.Prelude.{◌≡◌, ◌≤◌, [], IfOk, OnErr, length};
 ghost use Rattle.std.specs.Arc.{arc_value};
 ghost use Rattle.std.specs.Result.{result_err, result_map_both};
-ghost use Rattle.pcef_journal.specs.Journals.{attach_count, gen};
+ghost use Rattle.pcef_model.specs.Journals.{attach_count, gen};
 ghost use Rattle.pcef_session.specs.Agreement.{Agrees};
-ghost use Rattle.pcef_session.specs.Answers.{Attaches, Does, Opens, told_of};
+ghost use Rattle.pcef_model.specs.Answers.{Attaches, Does, Opens, told_of};
 ghost use Rattle.pcef_session.specs.Core.{IsServed, setting_in};
-ghost use Rattle.pcef_session.specs.Terms.{setting_of};
+ghost use Rattle.pcef_model.specs.Terms.{setting_of};
 ghost use Rattle.pcef_world.specs.Worlds.{AreInTurn, HandsOver, Refreshes, Takes, after_attaching};
 
 use crate::worker::Worker;
 use pcef_catalog::{Listing, Offers};
-use pcef_journal::Command;
+use pcef_model::{Accepted, AttachFault, Command, FlushRefusal, OpenFault, Profile, Refusal, Verdicts};
 use pcef_packet::Header;
-use pcef_session::{
-    Accepted, AttachFault, Batch, BatchFull, FlushRefusal, OpenFault, Profile, Refusal,
-    SessionState, Verdicts,
-};
+use pcef_session::{Batch, BatchFull, SessionState};
 use pcef_table::Table;
 use std::alloc::{AllocError, Global};
 use std::marker::Model;

@@ -4,12 +4,12 @@ use pcef_answer::{
     attached_answer, command_answer, fault_text, flushed_answer, refreshed_answer, taken_answer,
 };
 use pcef_filter::FilterFault;
-use pcef_journal::{AccessKind, Body, Cause, Entry, InactiveCause, Journal, NoticeValue, Report};
+use pcef_journal::Journal;
+use pcef_model::{Accepted, AccessKind, AttachFault, Body, Cause, Entry, FlushRefusal, InactiveCause, Judged, NoticeValue, Refusal, Report, Verdict, Verdicts};
 use pcef_line::{Field, LineFault};
 use pcef_packet::PacketFault;
 use pcef_rule::{BearerId, KeyName, RuleName};
-use pcef_session::{Accepted, AttachFault, BatchFull, FlushRefusal, Judged, Refusal, Verdicts};
-use pcef_table::Verdict;
+use pcef_session::BatchFull;
 use pcef_world::StepRefusal;
 use std::alloc::{AllocError, Global};
 use std::test::Fail;

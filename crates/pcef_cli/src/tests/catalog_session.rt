@@ -2,10 +2,10 @@
 
 use super::PROFILE;
 use pcef_catalog::{Catalog, Offers};
-use pcef_journal::Command;
+use pcef_model::{Command, FlushRefusal, Refusal};
 use pcef_profile::read_profile;
 use pcef_rule::{KeyName, RuleName};
-use pcef_session::{Batch, FlushRefusal, Refusal, Session};
+use pcef_session::{Batch, Session};
 use std::sync::Arc;
 use std::test::Fail;
 

@@ -5,10 +5,9 @@
 
 use super::PROFILE;
 use pcef_catalog::Listing;
-use pcef_journal::Command;
+use pcef_model::{Accepted, AttachFault, Command, Refusal};
 use pcef_line::{Line, read_line};
 use pcef_profile::read_profile;
-use pcef_session::{Accepted, AttachFault, Refusal};
 use pcef_world::WorldState;
 use std::alloc::{AllocError, Global};
 use std::test::Fail;

@@ -1,15 +1,14 @@
 //! Commands.
 
 ghost use Rattle.std.specs.Prelude.{◌≡◌, Ok};
-ghost use Rattle.pcef_journal.specs.declared.command.Command.TheVariants as of;
-ghost use Rattle.pcef_session.specs.Answers.{Does, Gives, command_outcome};
+ghost use Rattle.pcef_model.specs.declared.command.Command.TheVariants as of;
+ghost use Rattle.pcef_model.specs.Answers.{Does, Gives, command_outcome};
 ghost use Rattle.pcef_session.specs.Core.{IsIdle, IsPreparedFor, IsReady, IsServed, command_of, setting_in};
 
 use super::SessionState;
-use crate::answer::{Accepted, Refusal};
+use pcef_model::{Accepted, Command, Refusal};
 use crate::entering::{change_rules, enter, rule_key, tell};
 use crate::prepared::{Prepared, PreparedChange};
-use pcef_journal::Command;
 use pcef_rule::RuleName;
 
 impl SessionState {

@@ -2,18 +2,17 @@
 
 ghost use Rattle.std.specs.Prelude.{◌≡◌, ◌≤◌, ◌+◌, IfOk, OnErr, OnOk, length, map};
 ghost use Rattle.std.specs.Result.{result_map_both};
-ghost use Rattle.pcef_journal.specs.Entries.{rows};
-ghost use Rattle.pcef_journal.specs.Reports.{after_flush};
-ghost use Rattle.pcef_session.specs.Answers.{Flushes, told, told_of};
+ghost use Rattle.pcef_model.specs.Entries.{rows};
+ghost use Rattle.pcef_model.specs.Reports.{after_flush};
+ghost use Rattle.pcef_model.specs.Answers.{Flushes, told, told_of};
 ghost use Rattle.pcef_session.specs.Core.{setting_in};
 ghost use Rattle.pcef_session.specs.Following.{HasItsSlots, HasSmallRows, row_of};
-ghost use Rattle.pcef_session.specs.Lawful.{BatchFollows};
-ghost use Rattle.pcef_session.specs.Refusals.{first_of, flush_refusals};
+ghost use Rattle.pcef_model.specs.Lawful.{BatchFollows};
+ghost use Rattle.pcef_model.specs.Refusals.{first_of, flush_refusals};
 
 use super::SessionState;
-use crate::answer::{FlushRefusal, Verdicts};
+use pcef_model::{FlushRefusal, Profile, Verdicts};
 use crate::batch::{Batch, Item};
-use crate::profile::Profile;
 use crate::rows::{note_rows, take_all};
 use std::alloc::AllocError;
 

@@ -2,21 +2,16 @@
 
 ghost use Rattle.std.specs.Prelude.{◌≡◌, ◌==◌, ◌&&◌, ◌∷◌, [], Some, if◌then◌else◌, is_none, is_some, length, nat_le, not};
 ghost use Rattle.std.specs.Option.{option_copied};
-ghost use Rattle.pcef_journal.specs.ActiveRules.{without};
-ghost use Rattle.pcef_journal.specs.Journals.{now};
-ghost use Rattle.pcef_journal.specs.Setting.{offer_named};
+ghost use Rattle.pcef_model.specs.ActiveRules.{without};
+ghost use Rattle.pcef_model.specs.Journals.{now};
+ghost use Rattle.pcef_model.specs.Setting.{most_rules, offer_named};
 ghost use Rattle.pcef_usage.specs.Keys.{finds_no_slot as slotless};
-ghost use Rattle.pcef_bearer.specs.Bindings as binding;
-ghost use Rattle.pcef_session.specs.declared.answer.Refusal.TheVariants as refusal;
-ghost use Rattle.pcef_session.specs.Bound.{refusal_of};
+ghost use Rattle.pcef_model.specs.declared.answer.Refusal.TheVariants as refusal;
 ghost use Rattle.pcef_session.specs.Core.{IsServed, setting_in};
-ghost use Rattle.pcef_session.specs.Refusals.{becoming_active, becoming_active_if, bindings, common_refusals, finds_no_slot, first_of, is_active, refusals};
+ghost use Rattle.pcef_model.specs.Refusals.{becoming_active, becoming_active_if, bindings, common_refusals, finds_no_slot, first_of, is_active, refusals};
 
 use super::{MAX_RULES, SessionState};
-use crate::answer::Refusal;
-use crate::profile::Profile;
-use pcef_bearer::BindRefusal;
-use pcef_journal::Command;
+use pcef_model::{Command, Profile, Refusal};
 use pcef_rule::{KeyName, Properties, RuleName};
 use pcef_usage::{MAX_KEYS, Usage};
 
@@ -25,20 +20,6 @@ fn commands_of(profile: &Profile) -> u64
     ensures { result ≡ profile.now.commands }
 {
     u64::from(profile.commands)
-}
-
-/// How the session names a refusal of a binding.
-fn refusal_of(refusal: BindRefusal) -> Refusal
-    ensures { result ≡ refusal_of refusal }
-{
-    match refusal {
-        BindRefusal::UnknownQci => Refusal::UnknownQci,
-        BindRefusal::RatesMissing => Refusal::RatesMissing,
-        BindRefusal::RatesNotWanted => Refusal::RatesNotWanted,
-        BindRefusal::TooManyBearers => Refusal::TooManyBearers,
-        BindRefusal::OverCapacityUp => Refusal::OverCapacityUp,
-        BindRefusal::OverCapacityDown => Refusal::OverCapacityDown,
-    }
 }
 
 /// Whether a key has no slot, and there is none left.
@@ -75,7 +56,7 @@ impl SessionState {
 
     /// Whether a rule is new, and there is no place for one more.
     fn finds_no_place(&self, name: &RuleName) -> bool
-        ensures { result ≡ (not (is_active (setting_in self.now) self.now.journal name.now) && nat_le (setting_in self.now).most_rules (length (now (setting_in self.now) self.now.journal).rules)) }
+        ensures { result ≡ (not (is_active (setting_in self.now) self.now.journal name.now) && nat_le most_rules (length (now (setting_in self.now) self.now.journal).rules)) }
     {
         !self.is_active(name) && self.active.len() >= MAX_RULES
     }
@@ -84,10 +65,7 @@ impl SessionState {
     fn bind_refusal(&self, rule: &Properties) -> Option<Refusal>
         ensures { result ≡ first_of (bindings (setting_in self.now) (now (setting_in self.now) self.now.journal) rule.now (without rule.now.name (now (setting_in self.now) self.now.journal).rules)) }
     {
-        match self.bearers.refusal(&rule.name, rule.qos, rule.rates) {
-            Some(refusal) => Some(refusal_of(refusal)),
-            None => None,
-        }
+        self.bearers.refusal(&rule.name, rule.qos, rule.rates)
     }
 
     /// Why a rule can't become active.

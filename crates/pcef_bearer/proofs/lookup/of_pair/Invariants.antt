@@ -1,5 +1,5 @@
 use Rattle.std.proofs.Common.{◌≡◌, drop, find}
-use Rattle.pcef_journal.specs.Setting.{same_qos}
+use Rattle.pcef_model.specs.Setting.{same_qos}
 use Rattle.pcef_bearer.specs.declared.bearers.Bound.{Bound}
 use Rattle.pcef_bearer.proofs.lookup.of_pair.Given as goal
 

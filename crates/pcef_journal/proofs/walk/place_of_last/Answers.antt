@@ -1,5 +1,5 @@
 use Rattle.std.proofs.Common.{arith, inl}
-use Rattle.pcef_journal.specs.Entries.{as_report}
+use Rattle.pcef_model.specs.Entries.{as_report}
 use Rattle.pcef_journal.proofs.Walked.{last_or_all}
 use Rattle.pcef_journal.proofs.walk.place_of_last.Goals as goal
 

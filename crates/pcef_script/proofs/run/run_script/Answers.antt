@@ -2,7 +2,7 @@ use Rattle.std.proofs.Common.{[]}
 use Rattle.std.proofs.lemmas.Result.{err_from_is_err_and}
 use Rattle.std.specs.Arc.{arc_value}
 use Rattle.std.proofs.KnownBytes.{Consumes-nil}
-use Rattle.pcef_session.specs.Terms.{setting_of}
+use Rattle.pcef_model.specs.Terms.{setting_of}
 use Rattle.pcef_catalog.specs.Catalogs.{offers_of}
 use Rattle.pcef_script.proofs.ScriptSteps.{open_fails}
 use Rattle.pcef_script.proofs.run.run_script.Goals as goal

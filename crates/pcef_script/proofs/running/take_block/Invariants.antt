@@ -1,5 +1,5 @@
 use Rattle.std.proofs.Common.{◌≡◌, ◌++◌, List, Option, ℕ, length}
-use Rattle.pcef_journal.specs.Setting.{Setting}
+use Rattle.pcef_model.specs.Setting.{Setting}
 use Rattle.pcef_script.specs.Running.{IsAfter}
 use Rattle.pcef_script.proofs.running.take_block.Given as goal
 

@@ -1,9 +1,9 @@
 use Rattle.std.proofs.Common.{◌∙◌, ap, List, Some}
-use Rattle.pcef_journal.specs.Generations.{is_among}
+use Rattle.pcef_model.specs.Generations.{is_among}
 use Rattle.pcef_usage.specs.declared.usage.KeyState.{KeyState}
 use Rattle.pcef_usage.specs.Keys.{keys_of}
 use Rattle.pcef_usage.proofs.Slots.{keys_with_slot}
-use Rattle.pcef_session.proofs.SlotPlaces.{add_among}
+use Rattle.pcef_model.proofs.SlotPlaces.{add_among}
 use Rattle.pcef_session.proofs.entering.enter_key.Goals as goal
 
 pub start-requires : goal.start-requires

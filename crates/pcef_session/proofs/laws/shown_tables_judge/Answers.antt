@@ -1,8 +1,9 @@
-use Rattle.pcef_journal.specs.Generations.{oldest}
-use Rattle.pcef_journal.specs.Journals.{tables}
+use Rattle.pcef_model.specs.Generations.{oldest}
+use Rattle.pcef_model.specs.Journals.{tables}
 use Rattle.pcef_session.proofs.ShownLater.{shows_after_command}
 use Rattle.pcef_session.proofs.ShownSlots.{shown_counts}
-use Rattle.pcef_session.proofs.ShownVerdicts.{made_once, shown_judges}
+use Rattle.pcef_model.proofs.Decisive.{made_once}
+use Rattle.pcef_session.proofs.ShownVerdicts.{shown_judges}
 use Rattle.pcef_session.proofs.laws.shown_tables_judge.Goals as goal
 
 pub returns : goal.returns

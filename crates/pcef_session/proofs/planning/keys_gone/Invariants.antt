@@ -1,6 +1,6 @@
 use Rattle.std.proofs.Common.{◌≡◌, take}
 use Rattle.std.specs.Option.{option_copied}
-use Rattle.pcef_journal.specs.declared.report.Cause.TheVariants.{RulesGone}
+use Rattle.pcef_model.specs.declared.report.Cause.TheVariants.{RulesGone}
 use Rattle.pcef_usage.specs.Commands.{usage_of}
 use Rattle.pcef_session.specs.Kept.{is_gone}
 use Rattle.pcef_session.proofs.planning.keys_gone.Given as goal

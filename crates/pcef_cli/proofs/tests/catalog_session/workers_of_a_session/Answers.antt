@@ -1,4 +1,4 @@
-use Rattle.pcef_session.proofs.RowsLater.{batch_empty}
+use Rattle.pcef_model.proofs.RowsLater.{batch_empty}
 use Rattle.pcef_cli.proofs.tests.catalog_session.workers_of_a_session.Goals as goal
 
 pub flush-requires-clause-follow : goal.flush-requires-clause-follow

@@ -1,5 +1,5 @@
 use Rattle.pcef_journal.proofs.Counts.{one_more_fits}
-use Rattle.pcef_journal.specs.Entries.{as_command, as_report, as_row}
+use Rattle.pcef_model.specs.Entries.{as_command, as_report, as_row}
 use Rattle.pcef_journal.proofs.journal.Journal.append.Goals as goal
 
 pub overflow_add-self : goal.overflow_add-self

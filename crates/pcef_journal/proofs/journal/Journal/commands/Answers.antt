@@ -1,5 +1,5 @@
 use Rattle.std.proofs.Common.{◌∙◌, sym, ap}
-use Rattle.pcef_journal.specs.Entries.{as_command}
+use Rattle.pcef_model.specs.Entries.{as_command}
 use Rattle.pcef_journal.specs.Walks.{commands_in}
 use Rattle.pcef_journal.proofs.Walked.{read_back}
 use Rattle.pcef_journal.proofs.journal.Journal.commands.Goals as goal

@@ -1,6 +1,6 @@
 use Rattle.std.proofs.Common.{◌∙◌, sym, ap}
 use Rattle.std.specs.Prelude.{◌==◌}
-use Rattle.pcef_journal.specs.Entries.{as_row}
+use Rattle.pcef_model.specs.Entries.{as_row}
 use Rattle.pcef_journal.specs.Walks.{lane_in}
 use Rattle.pcef_journal.proofs.Walked.{read_back_if}
 use Rattle.pcef_journal.proofs.journal.Journal.lane.Goals as goal

@@ -1,5 +1,5 @@
 use Rattle.std.proofs.Common.{◌∙◌, ◌-◌, sym, ap, drop, length}
-use Rattle.pcef_journal.specs.Entries.{as_report}
+use Rattle.pcef_model.specs.Entries.{as_report}
 use Rattle.pcef_journal.specs.Walks.{reports_in}
 use Rattle.pcef_journal.proofs.Walked.{drop_by_end, read_back}
 use Rattle.std.proofs.lemmas.List.{length-reverse}

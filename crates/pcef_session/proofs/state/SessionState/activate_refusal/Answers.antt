@@ -1,8 +1,8 @@
 use Rattle.std.proofs.Common.{◌∙◌, sym, subst}
 use Rattle.std.specs.Prelude.{Option}
 use Rattle.std.specs.Option.{option_map}
-use Rattle.pcef_journal.specs.ActiveRules.{predefined}
-use Rattle.pcef_journal.specs.Setting.{offer_named}
+use Rattle.pcef_model.specs.ActiveRules.{predefined}
+use Rattle.pcef_model.specs.Setting.{offer_named}
 use Rattle.pcef_session.specs.declared.prepared.Coming.{Coming}
 use Rattle.pcef_session.specs.Changes.{Brings}
 use Rattle.pcef_session.specs.Core.{setting_in}

@@ -1,9 +1,9 @@
 use Rattle.std.proofs.Common.{ap, arith, subst, refl, ◌∙◌}
-use Rattle.pcef_journal.specs.declared.entry.Entry.TheVariants as entry
+use Rattle.pcef_model.specs.declared.entry.Entry.TheVariants as entry
 use Rattle.std.specs.Prelude.{◌∷◌, Ok, Err}
-use Rattle.pcef_journal.specs.Entries.{Journal}
-use Rattle.pcef_session.specs.declared.answer.AttachFault.TheVariants.{NoPlace}
-use Rattle.pcef_session.specs.Answers.{Attaches}
+use Rattle.pcef_model.specs.Entries.{Journal}
+use Rattle.pcef_model.specs.declared.answer.AttachFault.TheVariants.{NoPlace}
+use Rattle.pcef_model.specs.Answers.{Attaches}
 use Rattle.pcef_session.specs.Core.{Core}
 use Rattle.pcef_session.proofs.PlainJournals.{attach_full, attach_next}
 use Rattle.pcef_session.proofs.SoundLater.{sound_attached}

@@ -2,8 +2,8 @@ use Rattle.std.proofs.Common.{rules, ◌≡◌, ◌∙◌, ap, sym, subst, refl}
 use Rattle.pcef_bearer.specs.Bindings.{Binding, id_beside, number_of, without}
 use Rattle.pcef_bearer.proofs.GivenIds.{gets_id}
 use Rattle.pcef_bearer.proofs.Kept.{accepted}
-use Rattle.pcef_journal.specs.Journals.{now}
-use Rattle.pcef_session.specs.Bound.{binding_of}
+use Rattle.pcef_model.specs.Journals.{now}
+use Rattle.pcef_bearer.specs.Standing.{binding_of}
 use Rattle.pcef_session.specs.Core.{Core, setting_in}
 use Rattle.pcef_session.proofs.Acceptance.{binds_rule}
 use Rattle.pcef_session.proofs.CoreSound.{sound_now}
@@ -16,7 +16,7 @@ unreachable-requires c =
     let rule = c.args.rule.now in
     let p = setting_in v in
     let b : Binding = binding_of p (now p v.journal) in
-    let can = binds_rule p v.journal rule refl refl c.requires in
+    let can = binds_rule p v.journal rule c.requires in
     let passes = accepted b (without rule.name b.bound) rule.qos rule.rates can.accepted in
     let given : number_of c.bearer_for.result ≡ id_beside b.default_qos b.bound (without rule.name b.bound) rule.qos =
     subst (λ (x : Binding). number_of c.bearer_for.result ≡ id_beside x.default_qos x.bound (without rule.name x.bound) rule.qos)

@@ -1,25 +1,25 @@
 use Rattle.std.proofs.Common.{◌≡◌, ◌∙◌, ◌≤◌, ℕ, ap, sym, subst, refl, arith, length, List, ◌∷◌, Ok, false}
 use Rattle.std.specs.Prelude.{Option}
 use Rattle.std.specs.Arc.{arc_value}
-use Rattle.pcef_journal.specs.declared.entry.Entry.TheVariants as entry
-use Rattle.pcef_journal.specs.declared.telling.Telling.{Telling}
-use Rattle.pcef_journal.specs.Entries.{Journal}
-use Rattle.pcef_journal.specs.Journals.{gen, now, report_count, slots}
-use Rattle.pcef_journal.specs.Reports.{after_command, plan}
+use Rattle.pcef_model.specs.declared.entry.Entry.TheVariants as entry
+use Rattle.pcef_model.specs.declared.telling.Telling.{Telling}
+use Rattle.pcef_model.specs.Entries.{Journal}
+use Rattle.pcef_model.specs.Journals.{gen, now, report_count, slots}
+use Rattle.pcef_model.specs.Reports.{after_command, plan}
 use Rattle.pcef_table.specs.Tables.{TableValue}
 use Rattle.pcef_usage.specs.declared.usage.KeyState.{KeyState}
 use Rattle.pcef_usage.specs.Keys.{finds_no_slot, keys_of}
 use Rattle.pcef_usage.specs.Tellings.{KnowsAll}
 use Rattle.pcef_usage.proofs.Commanded.{keys_entered}
 use Rattle.pcef_usage.proofs.Planned.{knows_plan}
-use Rattle.pcef_session.specs.declared.answer.Accepted.{Accepted}
-use Rattle.pcef_session.specs.Answers.{Gives, bearer_named, command_outcome}
+use Rattle.pcef_model.specs.declared.answer.Accepted.{Accepted}
+use Rattle.pcef_model.specs.Answers.{Gives, bearer_named, command_outcome}
 use Rattle.pcef_session.specs.Agreement.{Parts}
 use Rattle.pcef_session.specs.Changes.{CanBind, entered_by, key_of, rule_key}
 use Rattle.pcef_session.specs.Core.{Core, IsReady, setting_in}
 use Rattle.pcef_session.specs.Soundness.{core_of, parts_of}
-use Rattle.pcef_session.specs.Terms.{setting_of}
-use Rattle.pcef_journal.specs.Generations.{key_named}
+use Rattle.pcef_model.specs.Terms.{setting_of}
+use Rattle.pcef_model.specs.Generations.{key_named}
 use Rattle.pcef_session.proofs.Becoming.{served_key}
 use Rattle.pcef_session.proofs.Acceptance.{can_bind, served_slot}
 use Rattle.pcef_session.proofs.Commanding.{IsCommanded, bearer_commanded, entering, journal_commanded, left_by, outcome_commanded, served_plainly, told_by}
@@ -31,7 +31,7 @@ change_rules-bearer-requires-clause-can c =
     let s = c.self.inside in
     let p = setting_of s.profile s.listing in
     let ready : IsReady (core_of s) c.args.change = subst (λ (v : Core). IsReady v c.args.change) (sym c.self.view_is) c.requires in
-    subst (CanBind c.args.change.rule) (sym c.self.invariant.agrees.binding_is) (can_bind p s.counted.journal c.args.change.command c.args.change.rule refl refl ready.accepted ready.changing ready.rule)
+    subst (CanBind c.args.change.rule) (sym c.self.invariant.agrees.binding_is) (can_bind p s.counted.journal c.args.change.command c.args.change.rule ready.accepted ready.changing ready.rule)
 
 pub enter-requires-clause-slot : goal.enter-requires-clause-slot
 enter-requires-clause-slot c =
@@ -41,7 +41,7 @@ enter-requires-clause-slot c =
     let key : key_of c.rule_key-key.result c.args.change.command ≡ key_named p c.args.change.command =
     ap (λ (k : Option (List ℕ)). key_of k c.args.change.command) (c.rule_key-key.ensures ∙ ap rule_key c.as_ref.ensures.value) ∙ sym (served_key p c.args.change.command c.args.change.rule ready.served ready.rule) in
     ap (λ (k : Option (List ℕ)). finds_no_slot k s.counted.states) key
-    ∙ served_slot p s.counted.journal c.args.change.command s.counted.states refl c.self.invariant.agrees.keys_are ready.served ready.accepted ready.changing
+    ∙ served_slot p s.counted.journal c.args.change.command s.counted.states c.self.invariant.agrees.keys_are ready.served ready.accepted ready.changing
 
 pub tell-requires-clause-known : goal.tell-requires-clause-known
 tell-requires-clause-known c =
@@ -67,7 +67,7 @@ tell-requires-clause-room c =
     let entered : c.enter.new.counted.states ≡ entered_by (rule_key c.args.change.rule) command s.counted.states =
     c.enter.ensures.states ∙ ap (λ (k : Option (List ℕ)). entered_by k command s.counted.states) (c.rule_key-key.ensures ∙ ap rule_key c.as_ref.ensures.value) in
     let few : length (entered_by (rule_key c.args.change.rule) command s.counted.states) ≤ 8 =
-    few_entered_by p s.counted.journal command c.args.change.rule s.counted.states refl c.self.invariant.agrees.keys_are ready.served ready.accepted ready.changing ready.rule c.self.invariant.small.few_keys in
+    few_entered_by p s.counted.journal command c.args.change.rule s.counted.states c.self.invariant.agrees.keys_are ready.served ready.accepted ready.changing ready.rule c.self.invariant.small.few_keys in
     let same : length c.enter.new.counted.states ≡ length (entered_by (rule_key c.args.change.rule) command s.counted.states) = ap (λ (states : List KeyState). length states) entered in
     let tellings : length c.deref.result.now ≡ length c.args.change.tellings.items = ap (λ (ts : List Telling). length ts) c.deref.ensures.value in
     omega (arith, few, same, tellings, ready.has_room, c.enter.ensures.room)
@@ -139,6 +139,6 @@ returns-clause-answer c =
     let given : Gives (command_outcome p j command) (Ok a) c.tell.new.counted.journal =
     outcome_commanded p j command a c.tell.new.counted.journal ready.accepted ready.changing after
     (c.generation.ensures ∙ ap (λ (t : TableValue). t.number) c.deref-2.ensures ∙ ready.table.number_is ∙ sym (ap gen after))
-    (bearer_commanded p j command c.args.change.rule (parts_of s) parts c.change_rules-bearer.result refl c.self.invariant.agrees is ∙ ap (λ (k : Journal). bearer_named (now p k) command) (sym after))
+    (bearer_commanded p j command c.args.change.rule (parts_of s) parts c.change_rules-bearer.result c.self.invariant.agrees is ∙ ap (λ (k : Journal). bearer_named (now p k) command) (sym after))
     (c.reports_len-first_report.ensures ∙ ap report_count c.journal.ensures) (c.reports_len.ensures ∙ ap report_count c.journal-2.ensures) refl in
     subst (λ (v : Core). Gives (command_outcome (setting_in v) v.journal command) (Ok a) c.tell.new.counted.journal) c.self.view_is given

@@ -1,6 +1,6 @@
 use Rattle.std.proofs.Common.{rules, subst, sym, Err}
-use Rattle.pcef_journal.specs.Entries.{Journal}
-use Rattle.pcef_session.specs.Answers.{Does}
+use Rattle.pcef_model.specs.Entries.{Journal}
+use Rattle.pcef_model.specs.Answers.{Does}
 use Rattle.pcef_session.specs.Core.{setting_in}
 use Rattle.pcef_session.proofs.Commanding.{does_refused}
 use Rattle.pcef_session.proofs.state.SessionState.command.Goals as goal

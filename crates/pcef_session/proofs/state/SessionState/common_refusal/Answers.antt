@@ -1,9 +1,9 @@
 use Rattle.std.proofs.Common.{◌≡◌, ◌∙◌, ◌≤◌, ◌<◌, subst, Some, None, length, arith, ap}
-use Rattle.pcef_journal.specs.Entries.{commands}
-use Rattle.pcef_session.specs.declared.answer.Refusal.TheVariants as refusal
+use Rattle.pcef_model.specs.Entries.{commands}
+use Rattle.pcef_model.specs.declared.answer.Refusal.TheVariants as refusal
 use Rattle.pcef_session.specs.Core.{Core, setting_in}
-use Rattle.pcef_session.specs.Refusals.{common_refusals, first_of}
-use Rattle.pcef_session.specs.Terms.{setting_of}
+use Rattle.pcef_model.specs.Refusals.{common_refusals, first_of}
+use Rattle.pcef_model.specs.Terms.{setting_of}
 use Rattle.pcef_session.proofs.Refused.{common_full, common_none}
 use Rattle.pcef_session.proofs.state.SessionState.common_refusal.Goals as goal
 

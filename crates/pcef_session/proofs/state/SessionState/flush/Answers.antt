@@ -1,10 +1,10 @@
 use Rattle.std.proofs.Common.{ap, sym, ◌∙◌, map}
 use Rattle.std.proofs.lemmas.List.{length-map}
-use Rattle.pcef_session.specs.Answers.{told}
-use Rattle.pcef_journal.specs.Reports.{after_flush}
+use Rattle.pcef_model.specs.Answers.{told}
+use Rattle.pcef_model.specs.Reports.{after_flush}
 use Rattle.pcef_session.specs.Following.{row_of}
-use Rattle.pcef_session.specs.Refusals.{first_of, flush_refusals}
-use Rattle.pcef_session.specs.Terms.{setting_of}
+use Rattle.pcef_model.specs.Refusals.{first_of, flush_refusals}
+use Rattle.pcef_model.specs.Terms.{setting_of}
 use Rattle.pcef_session.proofs.PlainJournals.{flush_refused, flush_taken}
 use Rattle.pcef_session.proofs.state.SessionState.flush.Goals as goal
 

@@ -1,10 +1,10 @@
 use Rattle.std.proofs.Common.{ap, arith, length, subst}
-use Rattle.pcef_journal.specs.Entries.{rows}
+use Rattle.pcef_model.specs.Entries.{rows}
 use Rattle.std.specs.Prelude.{Some, None, ◌≡◌}
-use Rattle.pcef_session.specs.declared.answer.FlushRefusal.TheVariants.{NotAttached, RowsFull}
+use Rattle.pcef_model.specs.declared.answer.FlushRefusal.TheVariants.{NotAttached, RowsFull}
 use Rattle.pcef_session.specs.Core.{Core}
-use Rattle.pcef_session.specs.Refusals.{first_of, flush_refusals}
-use Rattle.pcef_session.specs.Terms.{setting_of}
+use Rattle.pcef_model.specs.Refusals.{first_of, flush_refusals}
+use Rattle.pcef_model.specs.Terms.{setting_of}
 use Rattle.pcef_session.proofs.PlainJournals.{refused_by_none, refused_full, refused_unattached}
 use Rattle.pcef_session.proofs.state.SessionState.flush_refusal.Goals as goal
 

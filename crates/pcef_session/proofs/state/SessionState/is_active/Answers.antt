@@ -1,11 +1,11 @@
 use Rattle.std.proofs.Common.{◌≡◌, ◌∙◌, subst, ap}
 use Rattle.std.specs.List.{list_any}
 use Rattle.pcef_bearer.specs.Bindings.{Binding, is_named}
-use Rattle.pcef_journal.specs.Journals.{now}
+use Rattle.pcef_model.specs.Journals.{now}
 use Rattle.pcef_session.specs.Core.{Core, setting_in}
-use Rattle.pcef_session.specs.Refusals.{is_active}
-use Rattle.pcef_session.specs.Terms.{setting_of}
-use Rattle.pcef_session.proofs.BoundBearers.{named_bound}
+use Rattle.pcef_model.specs.Refusals.{is_active}
+use Rattle.pcef_model.specs.Terms.{setting_of}
+use Rattle.pcef_bearer.proofs.BoundBearers.{named_bound}
 use Rattle.pcef_session.proofs.state.SessionState.is_active.Goals as goal
 
 pub returns : goal.returns

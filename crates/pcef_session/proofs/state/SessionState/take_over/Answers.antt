@@ -1,12 +1,12 @@
 use Rattle.std.proofs.Common.{◌≡◌, ◌+◌, ◌≤◌, sym, subst, refl, arith, length, map, None}
-use Rattle.pcef_journal.specs.Entries.{rows}
-use Rattle.pcef_journal.specs.Reports.{after_flush}
+use Rattle.pcef_model.specs.Entries.{rows}
+use Rattle.pcef_model.specs.Reports.{after_flush}
 use Rattle.pcef_session.specs.Core.{Core, setting_in}
 use Rattle.pcef_session.specs.Following.{CanCountAll, HasItsSlots, row_of}
-use Rattle.pcef_session.specs.Lawful.{BatchFollows}
-use Rattle.pcef_session.specs.Refusals.{first_of, flush_refusals}
+use Rattle.pcef_model.specs.Lawful.{BatchFollows}
+use Rattle.pcef_model.specs.Refusals.{first_of, flush_refusals}
 use Rattle.pcef_session.specs.Soundness.{parts_of}
-use Rattle.pcef_session.specs.Terms.{setting_of}
+use Rattle.pcef_model.specs.Terms.{setting_of}
 use Rattle.pcef_session.proofs.Taking.{can_count_all, flushed_journal, sound_flushed, states_agree, within_rows}
 use Rattle.pcef_session.proofs.state.SessionState.take_over.Goals as goal
 

@@ -1,6 +1,6 @@
 use Rattle.std.proofs.Common.{◌∙◌, sym, ap}
 use Rattle.std.proofs.lemmas.Result.{IfOk-weaker}
-use Rattle.pcef_journal.specs.Reports.{plan}
+use Rattle.pcef_model.specs.Reports.{plan}
 use Rattle.pcef_usage.proofs.Plans.{plan_monitor}
 use Rattle.pcef_session.specs.Core.{setting_in}
 use Rattle.pcef_session.proofs.KeysGone.{agreed_remove}

@@ -1,5 +1,5 @@
 use Rattle.std.proofs.Common.{◌∙◌, ap, refl}
-use Rattle.pcef_journal.specs.Journals.{now, report_count}
+use Rattle.pcef_model.specs.Journals.{now, report_count}
 use Rattle.pcef_bearer.specs.Bindings.{Binding, bearer_of}
 use Rattle.pcef_table.specs.Tables.{TableValue}
 use Rattle.pcef_session.specs.Core.{Core, setting_in}

@@ -1,6 +1,6 @@
 use Rattle.std.proofs.Common.{◌≡◌, ◌≤◌, ap, arith, length}
 use Rattle.pcef_table.specs.Tables.{TableValue, has_other_name, without}
-use Rattle.pcef_table.proofs.Keeping.{filter_length}
+use Rattle.pcef_lists.proofs.Keeping.{filter_length}
 use Rattle.pcef_table.proofs.Ordered.{without_is_table}
 use Rattle.pcef_table.proofs.table.Table.without.Goals as goal
 

@@ -1,6 +1,6 @@
 use Rattle.std.proofs.Common.{arith, sym, ap, subst, List, ◌∙◌, ◌≡◌, ◌≤◌, ◌<◌, ◌+◌, length}
 use Rattle.std.specs.Prelude.{All}
-use Rattle.pcef_journal.specs.declared.telling.Telling.{Telling}
+use Rattle.pcef_model.specs.declared.telling.Telling.{Telling}
 use Rattle.pcef_rule.specs.declared.quantity.Slot.{Slot}
 use Rattle.pcef_usage.specs.declared.usage.KeyState.{KeyState}
 use Rattle.pcef_usage.specs.Counted.{Counted}

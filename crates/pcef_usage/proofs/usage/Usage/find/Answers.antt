@@ -1,5 +1,5 @@
 use Rattle.std.proofs.Common.{sym, ap, ◌∙◌, ◌≡◌, subst, List, true}
-use Rattle.pcef_journal.specs.Setting.{same_name}
+use Rattle.pcef_model.specs.Setting.{same_name}
 use Rattle.pcef_usage.specs.declared.usage.KeyState.{KeyState}
 use Rattle.pcef_usage.specs.Keys.{has_slot, place_of}
 use Rattle.pcef_usage.proofs.Places.{found}

@@ -1,0 +1,4 @@
+pub mod Foremost
+pub mod Found
+pub mod Keeping
+pub mod Tests

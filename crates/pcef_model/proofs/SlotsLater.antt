@@ -1,0 +1,77 @@
+-- A row goes on counting for the key of its slot as the journal grows.
+use Rattle.std.proofs.Common.{◌≡◌, ◌∙◌, ◌≤◌, ◌<◌, ℕ, suc, true, false, List, [], ◌∷◌, ◌++◌, length, refl, sym, ap, arith, inl, inr, Some, None, ◌==◌}
+use Rattle.std.specs.Prelude.{Option}
+use Rattle.std.specs.Option.{option_map}
+use Rattle.std.proofs.lemmas.Bool.{cases_Bool, eqb-true, false_from_ne_true}
+use Rattle.pcef_rule.specs.declared.quantity.Slot.{Slot}
+use Rattle.pcef_model.specs.declared.row.Row.{Row}
+use Rattle.pcef_model.specs.Setting.{Setting, same_name}
+use Rattle.pcef_model.specs.Generations.{is_among}
+use Rattle.pcef_model.specs.Entries.{Journal}
+use Rattle.pcef_model.specs.Journals.{at, counts_in, slots}
+use Rattle.pcef_model.specs.Slots.{CountsFor, IsWithin, has_this_slot, is_at, place_of}
+use Rattle.pcef_model.proofs.SlotPlaces.{Grows, place_grown}
+
+-- a key that isn't there has no place
+place_none : (key : List ℕ) (keys : List (List ℕ)) → is_among key keys ≡ false → place_of key keys ≡ None
+place_none key [] absent = refl
+place_none key (k ∷ keys) absent =
+    elim (cases_Bool (same_name key k)) [
+      | inl same ↦ let there : is_among key (k ∷ keys) ≡ true = rw same refl in cc
+      | inr differs ↦ let later : is_among key keys ≡ false = rw differs at absent in rw (differs, place_none key keys later) refl
+    ]
+
+-- its place is past those that were there before it
+place_past : (key : List ℕ) (keys more : List (List ℕ)) (n : ℕ) → is_among key keys ≡ false → place_of key (keys ++ more) ≡ Some n → length keys ≤ n
+place_past key [] more n absent is = omega arith
+place_past key (k ∷ keys) more n absent is =
+    elim (cases_Bool (same_name key k)) [
+      | inl same ↦ let there : is_among key (k ∷ keys) ≡ true = rw same refl in cc
+      | inr differs ↦
+          let later : is_among key keys ≡ false = rw differs at absent in
+          from (place_of key (keys ++ more)) (rw differs at is) (λ m some. place_past key keys more m later some)
+    ]
+  where
+    from : (o : Option ℕ) → option_map (λ m. suc m) o ≡ Some n → ((m : ℕ) → o ≡ Some m → length keys ≤ m) → suc (length keys) ≤ n
+    from None past below = absurd cc
+    from (Some m) past below =
+        let least = below m refl in
+        let next : suc m ≡ n = cc in omega (arith, least, next)
+
+pub place_within : (key : List ℕ) (keys : List (List ℕ)) (n : ℕ) → place_of key keys ≡ Some n → n < length keys
+place_within key [] n is = absurd cc
+place_within key (k ∷ keys) n is =
+    elim (cases_Bool (same_name key k)) [
+      | inl same ↦ let first : Some 0 ≡ Some n = rw same at is in (let zero_is : 0 ≡ n = cc in omega (arith, zero_is))
+      | inr differs ↦ from (place_of key keys) (rw differs at is) (λ m some. place_within key keys m some)
+    ]
+  where
+    from : (o : Option ℕ) → option_map (λ m. suc m) o ≡ Some n → ((m : ℕ) → o ≡ Some m → m < length keys) → n < suc (length keys)
+    from None past below = absurd cc
+    from (Some m) past below =
+        let most = below m refl in
+        let next : suc m ≡ n = cc in omega (arith, most, next)
+
+-- a slot stays its key's as keys come
+slot_grown : (keys more : List (List ℕ)) (n : ℕ) (key : List ℕ) → n < length keys → is_at (place_of key (keys ++ more)) n ≡ is_at (place_of key keys) n
+slot_grown keys more n key within =
+    elim (cases_Bool (is_among key keys)) [
+      | inl there ↦ ap (λ o. is_at o n) (place_grown key keys more there)
+      | inr absent ↦ from (place_of key (keys ++ more)) refl absent ∙ sym (ap (λ o. is_at o n) (place_none key keys absent))
+    ]
+  where
+    from : (o : Option ℕ) → place_of key (keys ++ more) ≡ o → is_among key keys ≡ false → is_at (place_of key (keys ++ more)) n ≡ false
+    from None none absent = ap (λ o. is_at o n) none
+    from (Some m) some absent =
+        ap (λ o. is_at o n) some ∙ false_from_ne_true (m == n) (λ same.
+        let past = place_past key keys more m absent some in
+        let is = eqb-true m n same in absurd (omega (arith, past, within, is)))
+
+pub this_slot_grown : (keys all : List (List ℕ)) (slot : Option Slot) (key : List ℕ) → Grows keys all → IsWithin keys slot → has_this_slot all slot key ≡ has_this_slot keys slot key
+this_slot_grown keys all None key grows within = refl
+this_slot_grown keys all (Some slot) key grows within = ap (λ ks. is_at (place_of key ks) slot.0) grows.1 ∙ slot_grown keys grows.0 slot.0 key within
+
+pub counts_later : (p : Setting) (j k : Journal) (r : Row) (slot : Option Slot) → at p k r.generation ≡ at p j r.generation → Grows (slots p j) (slots p k) → IsWithin (slots p j) slot →
+    CountsFor p j r slot → CountsFor p k r slot
+counts_later p j k r slot same grows within counts key =
+    ap (λ g. counts_in p g key r.header) same ∙ counts key ∙ sym (this_slot_grown (slots p j) (slots p k) slot key grows within)

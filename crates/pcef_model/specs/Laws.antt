@@ -1,0 +1,73 @@
+-- Laws of journals, for whoever reads the definitions.
+use Rattle.std.specs.Prelude.{ℕ, ◌≡◌, ◌≤◌, ◌+◌, true, List, ◌∷◌, if◌then◌else◌, ◌==◌, false, Option}
+use Rattle.pcef_model.specs.declared.command.Command.{Command}
+use Rattle.pcef_model.specs.declared.entry.Entry.TheVariants as entry
+use Rattle.pcef_model.specs.declared.report.Report.{Report}
+use Rattle.pcef_model.specs.declared.row.Row.{Row}
+use Rattle.pcef_model.specs.Setting.{Setting, same_qos}
+use Rattle.pcef_model.specs.Generations.{next, has_bearer}
+use Rattle.pcef_model.specs.Entries.{Journal}
+use Rattle.pcef_model.specs.Journals.{at, counted, counts_in, gen, is_table, now, reported, slots, unreported}
+use Rattle.pcef_rule.specs.declared.quantity.Qos.{Qos}
+use Rattle.pcef_rule.specs.declared.quantity.Slot.{Slot}
+use Rattle.pcef_model.specs.Refusals.{total_down, total_up}
+use Rattle.pcef_model.specs.Slots.{CountsFor, IsWithin}
+use Rattle.pcef_model.specs.Lawful.{BatchFollows, Lawful}
+
+-- an earlier generation stays as it was made
+abbrev pub EarlierGenerationsStay : Type 0
+EarlierGenerationsStay = (p : Setting) (j : Journal) (c : Command) (g : ℕ) → g ≤ gen j → at p (entry.Command c ∷ j) g ≡ at p j g
+
+-- a table command makes the next generation
+abbrev pub TableCommandsMakeTheNext : Type 0
+TableCommandsMakeTheNext = (p : Setting) (j : Journal) (c : Command) → is_table c ≡ true → now p (entry.Command c ∷ j) ≡ next p (now p j) c
+
+-- neither a row nor a report changes a generation
+abbrev pub RowsLeaveGenerations : Type 0
+RowsLeaveGenerations = (p : Setting) (j : Journal) (r : Row) (g : ℕ) → at p (entry.Row r ∷ j) g ≡ at p j g
+
+abbrev pub ReportsLeaveGenerations : Type 0
+ReportsLeaveGenerations = (p : Setting) (j : Journal) (r : Report) (g : ℕ) → at p (entry.Report r ∷ j) g ≡ at p j g
+
+-- a row adds its octets to a key where the generation that judged it says so, however late it comes
+abbrev pub RowsCountByTheirOwnGeneration : Type 0
+RowsCountByTheirOwnGeneration = (p : Setting) (j : Journal) (key : List ℕ) (r : Row) →
+    counted p (entry.Row r ∷ j) key ≡ (if counts_in p (at p j r.generation) key r.header then r.header.octets else 0) + counted p j key
+
+-- no octet is reported twice, nor one that was never counted
+abbrev pub NothingIsReportedTwice : Type 0
+NothingIsReportedTwice = (p : Setting) (j : Journal) → Lawful p j → (key : List ℕ) → reported j key ≤ counted p j key
+
+-- what was reported and what wasn't are together what was counted
+abbrev pub NothingIsLost : Type 0
+NothingIsLost = (p : Setting) (j : Journal) → Lawful p j → (key : List ℕ) → reported j key + unreported p j key ≡ counted p j key
+
+-- two pairs of QCI and ARP with a bearer have different ids
+abbrev pub IdsAreDistinct : Type 0
+IdsAreDistinct = (p : Setting) (j : Journal) → Lawful p j → (q r : Qos) →
+    has_bearer p (now p j).rules q ≡ true → has_bearer p (now p j).rules r ≡ true → (now p j).id_of q ≡ (now p j).id_of r →
+    same_qos q r ≡ true
+
+-- each pair with a bearer has an id of 5 to 15
+abbrev pub IdsAreInRange : Type 0
+IdsAreInRange = (p : Setting) (j : Journal) → Lawful p j → (q : Qos) → has_bearer p (now p j).rules q ≡ true →
+    (5 ≤ (now p j).id_of q) × ((now p j).id_of q ≤ 15)
+
+-- rows that wait may still come next after a command, and after a row of another worker; and a row goes on
+-- counting for the key of its slot
+abbrev pub WaitingRowsStay : Type 0
+WaitingRowsStay = (p : Setting) (j : Journal) (c : Command) (worker : ℕ) (rs : List Row) → BatchFollows p j worker rs →
+    BatchFollows p (entry.Command c ∷ j) worker rs
+
+abbrev pub WaitingRowsStayBesideOthers : Type 0
+WaitingRowsStayBesideOthers = (p : Setting) (j : Journal) (other : Row) (worker : ℕ) (rs : List Row) → (other.worker == worker) ≡ false → BatchFollows p j worker rs →
+    BatchFollows p (entry.Row other ∷ j) worker rs
+
+abbrev pub SlotsStay : Type 0
+SlotsStay = (p : Setting) (j : Journal) (c : Command) (row : Row) (slot : Option Slot) → row.generation ≤ gen j → IsWithin (slots p j) slot →
+    CountsFor p j row slot → CountsFor p (entry.Command c ∷ j) row slot
+
+-- all guaranteed rates together are within the capacity (own choice)
+abbrev pub RatesAreWithinCapacity : Type 0
+RatesAreWithinCapacity = (p : Setting) (j : Journal) → Lawful p j →
+    (total_up (now p j).rules ≤ p.capacity.up) × (total_down (now p j).rules ≤ p.capacity.down)

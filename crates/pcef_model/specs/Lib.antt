@@ -1,0 +1,15 @@
+pub mod ActiveRules
+pub mod Answers
+pub mod Bearers
+pub mod Changes
+pub mod Entries
+pub mod Generations
+pub mod Journals
+pub mod Lawful
+pub mod Laws
+pub mod Named
+pub mod Refusals
+pub mod Reports
+pub mod Setting
+pub mod Slots
+pub mod Terms

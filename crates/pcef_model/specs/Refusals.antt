@@ -1,0 +1,167 @@
+-- The refusals of each event: of the conditions that hold, the first in the order of the lists decides
+-- (own choice).
+use Rattle.std.specs.Prelude.{ℕ, ◌+◌, ◌==◌, Bool, true, false, not, ◌&&◌, ◌||◌, List, [], ◌∷◌, ◌++◌, Option, Some, None, is_none, is_some, length, nat_le, nat_lt, if◌then◌else◌}
+use Rattle.std.specs.List.{list_any}
+use Rattle.pcef_rule.specs.declared.qci.Kind.{Kind}
+use Rattle.pcef_rule.specs.declared.quantity.Qos.{Qos}
+use Rattle.pcef_rule.specs.declared.quantity.Sums.{Sums}
+use Rattle.pcef_rule.specs.declared.quantity.Rates.{Rates}
+use Rattle.pcef_rule.specs.declared.rule.Properties.{Properties}
+use Rattle.pcef_rule.specs.QciKinds.{kind_of}
+use Rattle.pcef_catalog.specs.declared.listing.Offer.{Offer}
+use Rattle.pcef_model.specs.declared.command.Command.{Command}
+use Rattle.pcef_model.specs.declared.command.Command.TheVariants.{Install, Activate, Remove, Monitor, Stop, ReportNow, Triggers, Notice, LoseBearer, Close, Terminate}
+use Rattle.pcef_model.specs.declared.entry.Entry.{Entry}
+use Rattle.pcef_model.specs.declared.entry.Entry.TheVariants as entry
+use Rattle.pcef_model.specs.Setting.{Setting, most_keys, most_rules, offer_named}
+use Rattle.pcef_model.specs.Bearers.{default_id, is_gbr, is_non_gbr, rate_down, rate_up, sum_down, sum_up}
+use Rattle.pcef_model.specs.ActiveRules.{Active, is_named, without}
+use Rattle.pcef_model.specs.Generations.{Generation, free_id, has_bearer, is_among}
+use Rattle.pcef_model.specs.Entries.{Journal, rows}
+use Rattle.pcef_model.specs.Journals.{attach_count, attached, now, slots}
+use Rattle.pcef_model.specs.declared.answer.OpenFault.{OpenFault}
+use Rattle.pcef_model.specs.declared.answer.OpenFault.TheVariants as opening
+use Rattle.pcef_model.specs.declared.answer.Refusal.{Refusal}
+use Rattle.pcef_model.specs.declared.answer.Refusal.TheVariants as refusal
+use Rattle.pcef_model.specs.declared.answer.AttachFault.{AttachFault}
+use Rattle.pcef_model.specs.declared.answer.AttachFault.TheVariants as attach
+use Rattle.pcef_model.specs.declared.answer.FlushRefusal.{FlushRefusal}
+use Rattle.pcef_model.specs.declared.answer.FlushRefusal.TheVariants as flush
+
+-- a condition, and what is answered where it holds and none before it does
+abbrev pub Conditions : Type 0 → Type 0
+Conditions R = List (Bool × R)
+
+abbrev pub first_of : {R : Type 0} → Conditions R → Option R
+first_of [] = None
+first_of (c ∷ cs) = if c.0 then Some c.1 else first_of cs
+
+-- ---- what was said before
+abbrev pub is_close : Entry → Bool
+is_close (entry.Command Close) = true
+is_close _ = false
+
+abbrev pub is_terminate : Entry → Bool
+is_terminate (entry.Command Terminate) = true
+is_terminate _ = false
+
+abbrev pub was_closed : Journal → Bool
+was_closed j = list_any is_close j
+
+abbrev pub was_terminated : Journal → Bool
+was_terminated j = list_any is_terminate j
+
+-- the commands that have a budget: all but Close and Terminate
+abbrev pub is_limited : Entry → Bool
+is_limited (entry.Command Close) = false
+is_limited (entry.Command Terminate) = false
+is_limited (entry.Command c) = true
+is_limited _ = false
+
+unfoldable pub limited_count : Journal → ℕ
+limited_count [] = 0
+limited_count (e ∷ before) = (if is_limited e then 1 else 0) + limited_count before
+
+abbrev pub ended : Journal → Conditions Refusal
+ended j = (was_terminated j, refusal.Terminated) ∷ (was_closed j, refusal.Closed) ∷ []
+
+abbrev pub common_refusals : Setting → Journal → Conditions Refusal
+common_refusals p j = ended j ++ (nat_le p.commands (limited_count j), refusal.CommandsFull) ∷ []
+
+-- ---- binding (TS 23.203, clause 6.1.1.4; capacity is an own choice)
+-- why a rule with this pair and these rates can't be bound beside others: whether it finds a bearer, and what the
+-- others' rates sum up to
+abbrev pub bind_refusals : List (Option Kind) → Sums → Qos → Option Rates → Bool → ℕ → ℕ → Conditions Refusal
+bind_refusals qcis capacity q rates finds_none up down =
+    (is_none (kind_of qcis q.qci.0), refusal.UnknownQci) ∷
+    (is_gbr (kind_of qcis q.qci.0) && is_none rates, refusal.RatesMissing) ∷
+    (is_non_gbr (kind_of qcis q.qci.0) && is_some rates, refusal.RatesNotWanted) ∷
+    (finds_none, refusal.TooManyBearers) ∷
+    (nat_lt capacity.up (up + rate_up rates), refusal.OverCapacityUp) ∷
+    (nat_lt capacity.down (down + rate_down rates), refusal.OverCapacityDown) ∷ []
+
+-- the sums of the guaranteed rates of active rules
+abbrev pub total_up : List Active → ℕ
+total_up rules = sum_up (λ r. r.properties.rates) rules
+
+abbrev pub total_down : List Active → ℕ
+total_down rules = sum_down (λ r. r.properties.rates) rules
+
+-- a new pair of QCI and ARP needs a free id, beside the rules that stay
+abbrev pub finds_no_bearer : Setting → Generation → Properties → List Active → Bool
+finds_no_bearer p g rule others = not (has_bearer p others rule.qos) && is_none (free_id p g others)
+
+-- the refusals of a binding, beside the rules that stay
+abbrev pub bindings : Setting → Generation → Properties → List Active → Conditions Refusal
+bindings p g rule others =
+    bind_refusals p.qcis p.capacity rule.qos rule.rates (finds_no_bearer p g rule others) (total_up others) (total_down others)
+
+-- ---- rules and keys
+abbrev pub is_active : Setting → Journal → List ℕ → Bool
+is_active p j name = list_any (is_named name) (now p j).rules
+
+abbrev pub is_new_key : Option (List ℕ) → List (List ℕ) → Bool
+is_new_key None keys = false
+is_new_key (Some key) keys = not (is_among key keys)
+
+-- a key that has no slot finds none
+abbrev pub finds_no_slot : Setting → Journal → Option (List ℕ) → Bool
+finds_no_slot p j key = is_new_key key (slots p j) && nat_le most_keys (length (slots p j))
+
+-- what keeps a rule from becoming active; a modification takes no further place
+abbrev pub becoming_active : Setting → Journal → Properties → Conditions Refusal
+becoming_active p j rule =
+    (not (is_active p j rule.name) && nat_le most_rules (length (now p j).rules), refusal.RulesFull) ∷
+    (finds_no_slot p j rule.key, refusal.KeysFull) ∷
+    bindings p (now p j) rule (without rule.name (now p j).rules)
+
+abbrev pub becoming_active_if : Setting → Journal → Option Offer → Conditions Refusal
+becoming_active_if p j None = []
+becoming_active_if p j (Some o) = becoming_active p j o.properties
+
+-- some active rule is bound to the bearer with this id
+abbrev pub is_bearer : Setting → Journal → ℕ → Bool
+is_bearer p j id = list_any (λ r. (now p j).id_of r.properties.qos == id) (now p j).rules
+
+-- ---- commands
+abbrev pub refusals : Setting → Journal → Command → Conditions Refusal
+refusals p j (Install rule) =
+    common_refusals p j ++ (is_some (offer_named p rule.properties.name), refusal.NameIsPredefined) ∷ becoming_active p j rule.properties
+refusals p j (Activate name) =
+    common_refusals p j ++ (is_none (offer_named p name), refusal.UnknownRule) ∷
+    (if is_active p j name then [] else becoming_active_if p j (offer_named p name))
+refusals p j (Remove name) = common_refusals p j ++ (not (is_active p j name), refusal.UnknownRule) ∷ []
+refusals p j (Stop key) = common_refusals p j ++ (not (is_among key (now p j).on), refusal.UnknownKey) ∷ []
+refusals p j (ReportNow key) = common_refusals p j ++ (not (is_among key (slots p j)), refusal.UnknownKey) ∷ []
+refusals p j (Monitor key amount) =
+    common_refusals p j ++ (amount == 0, refusal.ZeroGrant) ∷ (finds_no_slot p j (Some key), refusal.KeysFull) ∷ []
+refusals p j (Triggers set) = common_refusals p j
+refusals p j (Notice kind value) = common_refusals p j
+refusals p j (LoseBearer id) =
+    common_refusals p j ++ (not (id.0 == default_id) && not (is_bearer p j id.0), refusal.UnknownBearer) ∷
+    (id.0 == default_id, refusal.DefaultBearer) ∷ []
+refusals p j Close = ended j
+refusals p j Terminate =
+    (was_terminated j, refusal.Terminated) ∷
+    (nat_lt 0 (length (attached j)), refusal.WorkersAttached (length (attached j))) ∷ []
+
+-- ---- workers (own choice)
+abbrev pub is_attached : Journal → ℕ → Bool
+is_attached j worker = list_any (λ w. w == worker) (attached j)
+
+abbrev pub most_workers : ℕ
+most_workers = 16
+
+abbrev pub attach_faults : Journal → Conditions AttachFault
+attach_faults j = (nat_le most_workers (attach_count j), attach.NoPlace) ∷ (was_closed j || was_terminated j, attach.Closed) ∷ []
+
+-- rows to be taken over, so many of them
+abbrev pub flush_refusals : Setting → Journal → ℕ → ℕ → Conditions FlushRefusal
+flush_refusals p j worker count =
+    (not (is_attached j worker), flush.NotAttached) ∷ (nat_lt p.rows (length (rows j) + count), flush.RowsFull) ∷ []
+
+-- ---- opening: the default bearer is non-GBR (TS 23.203, clause 6.1.1.4)
+abbrev pub open_faults : Setting → Conditions OpenFault
+open_faults p =
+    (is_none (kind_of p.qcis p.default_qos.qci.0), opening.UnknownQci) ∷
+    (is_gbr (kind_of p.qcis p.default_qos.qci.0), opening.DefaultIsGbr) ∷ []

@@ -1,0 +1,144 @@
+//! What a session answers.
+
+use crate::verdict::Verdict;
+use pcef_rule::BearerId;
+use thiserror::Error;
+
+/// Why a session can't be opened. Of several faults the first in this order is answered.
+#[derive(Clone, Copy, Debug, PartialEq, Eq, Error)]
+pub enum OpenFault {
+    /// The default QCI is neither standard nor declared.
+    #[error("the default QCI is unknown")]
+    UnknownQci,
+    /// The default QCI has a guaranteed bit rate.
+    #[error("the default QCI has a guaranteed bit rate")]
+    DefaultIsGbr,
+    /// There is no memory left.
+    #[error("there is no memory left")]
+    NoMemory,
+}
+
+/// Why a command is refused. Of several refusals the first in this order is answered.
+#[derive(Clone, Copy, Debug, PartialEq, Eq, Error)]
+pub enum Refusal {
+    /// The session was terminated.
+    #[error("the session was terminated")]
+    Terminated,
+    /// The session was closed.
+    #[error("the session was closed")]
+    Closed,
+    /// The journal holds as many commands as the profile allows.
+    #[error("the journal takes no more commands")]
+    CommandsFull,
+    /// A predefined rule has the name.
+    #[error("a predefined rule has this name")]
+    NameIsPredefined,
+    /// No rule of the catalog, or no active rule, has the name.
+    #[error("there is no rule of this name")]
+    UnknownRule,
+    /// The key isn't on, or has no slot.
+    #[error("the key is unknown")]
+    UnknownKey,
+    /// The grant is 0.
+    #[error("the grant is 0")]
+    ZeroGrant,
+    /// No bearer has the id.
+    #[error("there is no bearer of this id")]
+    UnknownBearer,
+    /// The default bearer can't be lost.
+    #[error("the default bearer can't be lost")]
+    DefaultBearer,
+    /// So many workers are still attached.
+    #[error("{0} workers are still attached")]
+    WorkersAttached(u8),
+    /// As many rules are active as may be.
+    #[error("no more rules can be active")]
+    RulesFull,
+    /// Every slot has a key.
+    #[error("no more keys can have a slot")]
+    KeysFull,
+    /// The QCI is neither standard nor declared.
+    #[error("the QCI is unknown")]
+    UnknownQci,
+    /// A rule of a GBR QCI has no rates.
+    #[error("the rule has no guaranteed rates")]
+    RatesMissing,
+    /// A rule of a non-GBR QCI has rates.
+    #[error("the rule has guaranteed rates")]
+    RatesNotWanted,
+    /// A new pair of QCI and ARP finds no free bearer.
+    #[error("no more bearers can be established")]
+    TooManyBearers,
+    /// The sum of uplink rates would be over the capacity.
+    #[error("the uplink rates are over the capacity")]
+    OverCapacityUp,
+    /// The sum of downlink rates would be over the capacity.
+    #[error("the downlink rates are over the capacity")]
+    OverCapacityDown,
+    /// There is no memory left.
+    #[error("there is no memory left")]
+    NoMemory,
+}
+
+/// What is told of an accepted command.
+#[derive(Clone, Copy, Debug, PartialEq, Eq)]
+pub struct Accepted {
+    /// The generation after the command.
+    pub generation: u32,
+    /// The bearer of the rule that the command makes active.
+    pub bearer: Option<BearerId>,
+    /// The number of the command's first report.
+    pub first_report: u64,
+    /// The number after its last report.
+    pub past_last_report: u64,
+    /// Whether the command left everything as it was.
+    pub unchanged: bool,
+}
+
+/// Why a worker can't be attached. Of several faults the first in this order is answered.
+#[derive(Clone, Copy, Debug, PartialEq, Eq, Error)]
+pub enum AttachFault {
+    /// Sixteen workers were attached.
+    #[error("all places of workers are used")]
+    NoPlace,
+    /// The session was closed or terminated.
+    #[error("the session was closed")]
+    Closed,
+    /// There is no memory left.
+    #[error("there is no memory left")]
+    NoMemory,
+}
+
+/// Why rows aren't taken over. Of several refusals the first in this order is answered.
+#[derive(Clone, Copy, Debug, PartialEq, Eq, Error)]
+pub enum FlushRefusal {
+    /// The worker isn't attached.
+    #[error("the worker isn't attached")]
+    NotAttached,
+    /// The journal would hold more rows than the profile allows.
+    #[error("the journal takes no more rows")]
+    RowsFull,
+    /// There is no memory left.
+    #[error("there is no memory left")]
+    NoMemory,
+}
+
+/// The verdict on a row that was taken over.
+#[derive(Debug, PartialEq, Eq, Drop)]
+pub struct Judged {
+    /// The generation that judged the row.
+    pub generation: u32,
+    /// What it decided.
+    pub verdict: Verdict,
+}
+
+/// What is told of rows that were taken over.
+#[derive(Drop)]
+pub struct Verdicts {
+    /// The verdicts of the rows, in order.
+    pub rows: Vec<Judged>,
+    /// The number of the first report that they made.
+    pub first_report: u64,
+    /// The number after the last one.
+    pub past_last_report: u64,
+}

@@ -1,0 +1,33 @@
+//! Laws of the definitions, proved for whoever reads them.
+
+ghost use Rattle.pcef_model.specs.Laws.{EarlierGenerationsStay, IdsAreDistinct, IdsAreInRange, NothingIsLost, NothingIsReportedTwice, RatesAreWithinCapacity, ReportsLeaveGenerations, RowsCountByTheirOwnGeneration, RowsLeaveGenerations, SlotsStay, TableCommandsMakeTheNext, WaitingRowsStay, WaitingRowsStayBesideOthers};
+
+/// How journals grow: earlier generations stay, and each row counts by its own.
+pub fn journals_grow()
+    ensures earlier { EarlierGenerationsStay }
+    ensures next { TableCommandsMakeTheNext }
+    ensures rows { RowsLeaveGenerations }
+    ensures reports { ReportsLeaveGenerations }
+    ensures counted { RowsCountByTheirOwnGeneration }
+{}
+
+/// What usage reports tell: each counted octet once at most, and none is lost.
+pub fn usage_is_exact()
+    ensures twice { NothingIsReportedTwice }
+    ensures lost { NothingIsLost }
+{}
+
+/// The ids of bearers: 5 to 15, and no two bearers have the same. The guaranteed rates of all rules are within
+/// the capacity.
+pub fn bearers_have_their_own_ids()
+    ensures distinct { IdsAreDistinct }
+    ensures in_range { IdsAreInRange }
+    ensures capacity { RatesAreWithinCapacity }
+{}
+
+/// Rows that wait lose nothing while they do: they may still come next, and count for the same keys.
+pub fn waiting_rows_stay()
+    ensures commands { WaitingRowsStay }
+    ensures others { WaitingRowsStayBesideOthers }
+    ensures slots { SlotsStay }
+{}

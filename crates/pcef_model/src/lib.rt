@@ -1,0 +1,25 @@
+//! What a session says of itself: commands, packet rows, verdicts and reports, and what its journal
+//! tells of rules, bearers and usage.
+#![tactic(auto)]
+
+mod answer;
+mod command;
+mod entry;
+mod laws;
+mod profile;
+mod report;
+mod row;
+mod telling;
+mod trigger;
+mod verdict;
+
+pub use answer::{Accepted, AttachFault, FlushRefusal, Judged, OpenFault, Refusal, Verdicts};
+pub use command::Command;
+pub use entry::Entry;
+pub use laws::{bearers_have_their_own_ids, journals_grow, usage_is_exact, waiting_rows_stay};
+pub use profile::{MAX_CAPACITY, MAX_COMMANDS, Profile};
+pub use report::{Body, Cause, InactiveCause, Report};
+pub use row::Row;
+pub use telling::Telling;
+pub use trigger::{AccessKind, NoticeValue, OfNotice, TriggerSet};
+pub use verdict::Verdict;

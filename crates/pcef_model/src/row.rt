@@ -1,0 +1,36 @@
+//! Packet rows.
+
+ghost use Rattle.std.specs.Prelude.{◌≡◌};
+
+use crate::verdict::Verdict;
+use pcef_packet::Header;
+
+/// A packet that a worker judged.
+#[derive(Debug, PartialEq, Eq, Drop)]
+pub struct Row {
+    /// The worker.
+    pub worker: u8,
+    /// How many rows the worker had before.
+    pub seq: u64,
+    /// The generation that judged the packet.
+    pub generation: u32,
+    /// The packet's header.
+    pub header: Header,
+    /// What the generation decided.
+    pub verdict: Verdict,
+}
+
+impl Row {
+    /// Another one that is equal. Takes no memory.
+    pub fn copy(&self) -> Row
+        ensures { result ≡ self.now }
+    {
+        Row {
+            worker: self.worker,
+            seq: self.seq,
+            generation: self.generation,
+            header: self.header,
+            verdict: self.verdict.copy(),
+        }
+    }
+}

@@ -1,9 +1,0 @@
-use Rattle.std.proofs.Common.{arith}
-use Rattle.pcef_session.proofs.Exactness.{lawful_exact}
-use Rattle.pcef_session.proofs.laws.usage_is_exact.Goals as goal
-
-pub returns : goal.returns
-returns c = record {
-  twice = λ p j l key. (lawful_exact p j l).exact key;
-  lost = λ p j l key. omega (arith, (lawful_exact p j l).exact key);
-}
