@@ -20,7 +20,7 @@ use Rattle.pcef_model.specs.Entries.{Journal}
 use Rattle.pcef_bearer.specs.declared.bearers.Bound.{Bound}
 use Rattle.pcef_bearer.specs.Bindings.{guaranteed, rules_on}
 use Rattle.pcef_usage.specs.declared.usage.KeyState.{KeyState}
-use Rattle.pcef_session.specs.Agreement.{Parts}
+use Rattle.pcef_session.specs.private.Parts.{Parts}
 use Rattle.pcef_model.specs.declared.answer.Accepted.{Accepted}
 use Rattle.pcef_answer.specs.RefusalAnswers.{data_of}
 use Rattle.pcef_answer.specs.ReportAnswers.{body_data, reports_data, reports_told}
@@ -76,5 +76,5 @@ keys : (states : List KeyState) → has_float (states_data states) ≡ false
 keys [] = refl
 keys (s ∷ states) = keys states
 
-pub shown : (offers : List Offer) (parts : Parts) → has_float (kept_data offers parts) ≡ false
-shown offers parts = rw (entries offers parts.table.entries, bearers parts.binding.bound bearer_ids, keys parts.keys) refl
+pub shown : (offers : List Offer) (es : List Entry) (bound : List Bound) (generation : ℕ) (states : List KeyState) → has_float (kept_data offers es bound generation states) ≡ false
+shown offers es bound generation states = rw (entries offers es, bearers bound bearer_ids, keys states) refl

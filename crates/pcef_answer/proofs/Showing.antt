@@ -4,12 +4,15 @@ use Rattle.std.specs.List.{AllByRecursion}
 use Rattle.serde_json.specs.Data.{array}
 use Rattle.serde_json.specs.View.{items_of}
 use Rattle.pcef_model.specs.Entries.{Journal}
-use Rattle.pcef_model.specs.Generations.{is_among}
+use Rattle.pcef_model.specs.Commands.{is_among}
 use Rattle.pcef_model.specs.Journals.{gen, now, reported, unreported}
 use Rattle.pcef_model.specs.Setting.{Setting}
 use Rattle.pcef_usage.specs.declared.usage.KeyState.{KeyState}
-use Rattle.pcef_session.specs.Agreement.{Agrees, KeyAgrees, Parts}
-use Rattle.pcef_bearer.specs.Standing.{bound_of}
+use Rattle.pcef_session.specs.Agreement.{KeyAgrees, KeysAgree}
+use Rattle.pcef_table.specs.declared.entry.Entry.{Entry}
+use Rattle.pcef_bearer.specs.Bindings.{Binding}
+use Rattle.std.specs.Prelude.{ℕ}
+use Rattle.pcef_bearer.specs.Standing.{binding_of, bound_of}
 use Rattle.pcef_answer.specs.ShowAnswers.{active_data, bearers_data, key_data, key_told, kept_data, session_data, state_data, states_data, told_data}
 
 state_told : (p : Setting) (j : Journal) (s : KeyState) → KeyAgrees p j s → state_data s ≡ key_told p j s.key
@@ -25,10 +28,11 @@ states_told p j [] all = refl
 states_told p j (s ∷ states) all =
     ap (λ d. d ∷ map state_data states) (state_told p j s all.0) ∙ ap (λ ds. key_told p j s.key ∷ ds) (states_told p j states all.1)
 
-pub kept_told : (p : Setting) (j : Journal) (parts : Parts) → Agrees p j parts → kept_data p.catalog parts ≡ told_data p j parts.table.entries
-kept_told p j parts agrees =
-    let active = active_data p.catalog parts.table.entries in
+pub kept_told : (p : Setting) (j : Journal) (entries : List Entry) (binding : Binding) (generation : ℕ) (keys : List KeyState) → binding ≡ binding_of p (now p j) → generation ≡ gen j → KeysAgree p j keys →
+    kept_data p.catalog entries binding.bound generation keys ≡ told_data p j entries
+kept_told p j entries binding generation keys binding_is generation_is agrees =
+    let active = active_data p.catalog entries in
     let bearers = bearers_data (bound_of (now p j) (now p j).rules) in
-    ap (λ b. session_data active (bearers_data b.bound) parts.table.number (states_data parts.keys)) agrees.binding_is
-    ∙ ap (λ n. session_data active bearers n (states_data parts.keys)) agrees.table_shows.number_is
-    ∙ ap (λ ds. session_data active bearers (gen j) (array (items_of ds))) (states_told p j parts.keys agrees.usage_is ∙ ap (map (key_told p j)) agrees.keys_are)
+    ap (λ (b : Binding). session_data active (bearers_data b.bound) generation (states_data keys)) binding_is
+    ∙ ap (λ n. session_data active bearers n (states_data keys)) generation_is
+    ∙ ap (λ ds. session_data active bearers (gen j) (array (items_of ds))) (states_told p j keys agrees.usage_is ∙ ap (map (key_told p j)) agrees.keys_are)

@@ -11,13 +11,13 @@ use Rattle.pcef_catalog.specs.declared.listing.Offer.{Offer}
 use Rattle.pcef_table.specs.Sources.{name_of}
 use Rattle.pcef_table.specs.Tables.{TableValue}
 use Rattle.pcef_model.specs.Entries.{Journal}
-use Rattle.pcef_model.specs.Generations.{is_among}
+use Rattle.pcef_model.specs.Commands.{is_among}
 use Rattle.pcef_model.specs.Journals.{gen, now, reported, slots, unreported}
 use Rattle.pcef_model.specs.Setting.{Setting}
 use Rattle.pcef_bearer.specs.declared.bearers.Bound.{Bound}
 use Rattle.pcef_bearer.specs.Bindings.{guaranteed, rules_on}
 use Rattle.pcef_usage.specs.declared.usage.KeyState.{KeyState}
-use Rattle.pcef_session.specs.Agreement.{Parts}
+use Rattle.pcef_session.specs.private.Parts.{Parts}
 use Rattle.pcef_bearer.specs.Standing.{bound_of}
 use Rattle.pcef_session.specs.Shown.{Shows}
 use Rattle.pcef_answer.specs.FaultAnswers.{count}
@@ -91,6 +91,5 @@ state_data s = key_data s.key s.on s.reported s.unreported
 abbrev pub states_data : List KeyState → Data
 states_data states = array (items_of (map state_data states))
 
-abbrev pub kept_data : List Offer → Parts → Data
-kept_data offers parts =
-    session_data (active_data offers parts.table.entries) (bearers_data parts.binding.bound) parts.table.number (states_data parts.keys)
+abbrev pub kept_data : List Offer → List Entry → List Bound → ℕ → List KeyState → Data
+kept_data offers entries bound generation keys = session_data (active_data offers entries) (bearers_data bound) generation (states_data keys)

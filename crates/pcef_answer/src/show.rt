@@ -3,8 +3,7 @@
 ghost use Rattle.std.specs.Prelude.{◌≡◌, ◌++◌, ◌∷◌, [], All, IfOk, OnOk, filter_map, map, string_bytes};
 ghost use Rattle.serde_json.specs.View.{view};
 ghost use Rattle.pcef_table.specs.Sources.{IsKnown};
-ghost use Rattle.pcef_session.specs.Core.{setting_in};
-ghost use Rattle.pcef_answer.specs.ShowAnswers.{TellsSession, active_data, bearer_data, bearer_told, bearers_data, bearers_told, entry_data, kept_data, state_data, states_data};
+ghost use Rattle.pcef_answer.specs.ShowAnswers.{TellsSession, active_data, bearer_data, bearer_told, bearers_data, bearers_told, entry_data, session_data, state_data, states_data};
 
 use pcef_bearer::Bearers;
 use pcef_catalog::Listing;
@@ -17,20 +16,24 @@ use std::alloc::{AllocError, Global};
 
 /// The active rules in precedence order, the bearers by id, the generation, and the keys in slot order.
 pub fn show_answer(alloc: Global, session: &SessionState) -> Result<String, AllocError>
-    ensures { IfOk result (λ text. TellsSession (setting_in session.now) session.now.journal (string_bytes text)) }
+    ensures { IfOk result (λ text. TellsSession session.now.setting session.now.journal (string_bytes text)) }
 {
-    let _journal = session.journal();
-    show_value(alloc, session)?.to_string(alloc)
-}
-
-fn show_value(alloc: Global, session: &SessionState) -> Result<Value, AllocError>
-    ensures { IfOk result (λ v. view v ≡ kept_data session.now.offers session.now.parts) }
-{
-    let _journal = session.journal();
     let active = active_list(alloc, session.listing(), session.table().entries())?;
     let bearers = bearer_list(alloc, session.bearers())?;
     let keys = key_list(alloc, session.usage().states())?;
     let generation = session.generation();
+    show_value(alloc, active, bearers, generation, keys)?.to_string(alloc)
+}
+
+fn show_value(
+    alloc: Global,
+    active: Value,
+    bearers: Value,
+    generation: u32,
+    keys: Value,
+) -> Result<Value, AllocError>
+    ensures { IfOk result (λ v. view v ≡ session_data (view active) (view bearers) generation (view keys)) }
+{
     json!(in alloc; { "active": active, "bearers": bearers, "generation": generation, "keys": keys })
 }
 

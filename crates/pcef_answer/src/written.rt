@@ -12,8 +12,8 @@ ghost use Rattle.pcef_answer.specs.StepAnswers.{flushed_data, judged_data, taken
 
 use crate::report::report_list;
 use pcef_journal::Journal;
-use pcef_rule::{BearerId, RuleName};
 use pcef_model::{Judged, Verdict, Verdicts};
+use pcef_rule::{BearerId, RuleName};
 use std::alloc::{AllocError, Global};
 
 /// The answer to a packet that was taken.

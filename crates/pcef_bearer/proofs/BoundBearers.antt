@@ -12,7 +12,7 @@ use Rattle.pcef_model.specs.declared.command.Command.{Command}
 use Rattle.pcef_model.specs.declared.command.Command.TheVariants.{Monitor, Remove}
 use Rattle.pcef_model.specs.Setting.{Setting, same_qos}
 use Rattle.pcef_model.specs.ActiveRules.{Active, is_named, put, without}
-use Rattle.pcef_model.specs.Generations.{Generation, free_id, has_bearer, id_after, kept, next, rules_after}
+use Rattle.pcef_model.specs.Generations.{Generation, free_id, has_bearer, id_after, kept, next, rules_after, stays}
 use Rattle.pcef_model.proofs.Sameness.{same_qos_is, same_qos_self}
 use Rattle.pcef_bearer.specs.declared.bearers.Bound.{Bound}
 use Rattle.pcef_bearer.specs.Bindings.{IsBinding, bound_at, id_beside, id_or_new, with_rules, finds_no_bearer as bound_finds_none, has_bearer as bound_has, is_named as bound_named, least_free as bound_free, put as bound_put, refusals as bound_refusals, total_down as bound_down, total_up as bound_up, without as bound_without}
@@ -24,14 +24,16 @@ use Rattle.pcef_model.proofs.BearerIds.{IsBound, id_default, id_kept, id_new}
 use Rattle.pcef_model.proofs.Names.{put_filter}
 use Rattle.pcef_lists.proofs.Found.{any_from}
 use Rattle.pcef_model.proofs.Members.{filter_from, first_there, later_there, map_from}
+use Rattle.pcef_model.specs.Commands.{activated, takes_away}
+use Rattle.pcef_model.proofs.RulesAfter.{rules_left}
 
 -- one rule as it is bound, and the ids of rules' pairs
-abbrev bound_by : Generation → Active → Bound
+abbrev pub bound_by : Generation → Active → Bound
 bound_by g r = bound_at r.properties.name r.properties.qos r.properties.rates (g.id_of r.properties.qos)
 
 -- ---- lists
 -- a filter of what was mapped
-filter_map_of : {X Y : Type 0} (t : Y → Bool) (f : X → Y) (xs : List X) → filter t (map f xs) ≡ map f (filter (λ x. t (f x)) xs)
+pub filter_map_of : {X Y : Type 0} (t : Y → Bool) (f : X → Y) (xs : List X) → filter t (map f xs) ≡ map f (filter (λ x. t (f x)) xs)
 filter_map_of t f [] = refl
 filter_map_of t f (x ∷ xs) =
     elim (cases_Bool (t (f x))) [
@@ -304,11 +306,14 @@ pub next_id : (p : Setting) (g : Generation) (c : Command) (r : Active) (id : �
 next_id p g c r id makes bound found =
     (put_bound p g (next p g c) r id bound found (makes.rules_are g) (λ q. ap (λ (rules : List Active). id_after p g rules q) (makes.rules_are g))).1
 
--- a rule is removed
-pub next_remove : (p : Setting) (g : Generation) (name : List ℕ) → IsBound p g →
-    binding_of p (next p g (Remove name)) ≡ with_rules (binding_of p g) (bound_without name (binding_of p g).bound)
-next_remove p g name bound =
-    ap (with_rules (binding_of p g)) (removed_bound p g (next p g (Remove name)) name bound refl (λ q. refl))
+-- some rules are taken away, and the others stay
+pub next_left : (p : Setting) (g : Generation) (c : Command) → activated p c ≡ None → IsBound p g →
+    binding_of p (next p g c) ≡ with_rules (binding_of p g) (filter (λ b. not (takes_away c b.name b.bearer.0)) (binding_of p g).bound)
+next_left p g c none bound =
+    let left : rules_after p g c ≡ filter (stays g c) g.rules = rules_left p g c none in
+    ap (with_rules (binding_of p g))
+    (part_bound p g (next p g c) (stays g c) bound left (λ q. ap (λ rules. id_after p g rules q) left)
+    ∙ sym (filter_map_of (λ b. not (takes_away c b.name b.bearer.0)) (bound_by g) g.rules))
 
 -- the rules stay
 pub next_same : (p : Setting) (g : Generation) (c : Command) → IsBound p g → rules_after p g c ≡ g.rules →
@@ -316,8 +321,3 @@ pub next_same : (p : Setting) (g : Generation) (c : Command) → IsBound p g →
 next_same p g c bound stay =
     ap (with_rules (binding_of p g))
     (same_bound p g (next p g c) bound stay (λ q. ap (λ (rules : List Active). id_after p g rules q) stay))
-
--- a key is monitored
-pub next_monitor : (p : Setting) (g : Generation) (key : List ℕ) (grant : ℕ) → IsBound p g →
-    binding_of p (next p g (Monitor key grant)) ≡ binding_of p g
-next_monitor p g key grant bound = next_same p g (Monitor key grant) bound refl

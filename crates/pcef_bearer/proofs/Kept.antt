@@ -1,6 +1,6 @@
 -- What always holds of a binding holds after each change.
 use Rattle.std.proofs.Common.{◌≡◌, ◌∙◌, ◌≤◌, ◌<◌, ◌+◌, ℕ, Bool, true, false, ◌&&◌, not, List, [], ◌∷◌, ◌++◌, Option, Some, None, refl, ap, subst, arith, inl, inr, length, get_or, length-append}
-use Rattle.std.specs.Prelude.{All, AllPairs, Err, IfOk, Ok, Result, is_none, is_some, nat_lt}
+use Rattle.std.specs.Prelude.{All, AllPairs, Err, IfOk, Ok, Result, is_none, is_some, nat_lt, filter}
 use Rattle.std.specs.List.{list_any}
 use Rattle.std.proofs.lemmas.Bool.{cases_Bool, ltb-false}
 use Rattle.std.proofs.lemmas.List.Elements.{All-filter, All-nil}
@@ -39,16 +39,16 @@ empty_binding default capacity qcis bound kind empty = rw empty (record {
   within_down = omega arith;
 })
 
--- ---- a rule is dropped
-pub kept_without : (v : Binding) (name : List ℕ) → IsBinding v → IsBinding (with_rules v (without name v.bound))
-kept_without v name kept = record {
+-- ---- rules are dropped
+pub kept_part : (v : Binding) (test : Bound → Bool) → IsBinding v → IsBinding (with_rules v (filter test v.bound))
+kept_part v test kept = record {
   default_is_non_gbr = kept.default_is_non_gbr;
-  few = omega (arith, part_length (λ (b : Bound). not (is_named name b)) v.bound, kept.few);
-  names = AllPairs-filter DifferInName (λ (b : Bound). not (is_named name b)) v.bound kept.names;
-  ids = All-filter (λ (b : Bound). not (is_named name b)) (HasItsId v.default_qos) v.bound kept.ids;
-  pairs = AllPairs-filter Agree (λ (b : Bound). not (is_named name b)) v.bound kept.pairs;
-  within_up = omega (arith, part_up (λ (b : Bound). not (is_named name b)) v.bound, kept.within_up);
-  within_down = omega (arith, part_down (λ (b : Bound). not (is_named name b)) v.bound, kept.within_down);
+  few = omega (arith, part_length test v.bound, kept.few);
+  names = AllPairs-filter DifferInName test v.bound kept.names;
+  ids = All-filter test (HasItsId v.default_qos) v.bound kept.ids;
+  pairs = AllPairs-filter Agree test v.bound kept.pairs;
+  within_up = omega (arith, part_up test v.bound, kept.within_up);
+  within_down = omega (arith, part_down test v.bound, kept.within_down);
 }
 
 -- ---- a rule is put

@@ -1,18 +1,19 @@
 //! The bearers of a session, and the rules that are bound to them.
 
-ghost use Rattle.std.specs.Prelude.{◌≡◌, ◌≤◌, ◌<◌, ◌↔◌, ◌&&◌, is_none, is_some, [], ◌∷◌, ◌++◌, IfOk, OnErr, Err, Some, None, find, length, true, false};
+ghost use Rattle.std.specs.Prelude.{not, ◌≡◌, ◌≤◌, ◌<◌, ◌↔◌, ◌&&◌, is_none, is_some, [], ◌∷◌, ◌++◌, IfOk, OnErr, Err, Some, None, filter, find, length, true, false};
 ghost use Rattle.std.specs.List.{list_any};
 ghost use Rattle.pcef_rule.specs.declared.qci.Kind.TheVariants as kind;
 ghost use Rattle.pcef_rule.specs.QciKinds.{kind_of};
 ghost use Rattle.pcef_model.specs.declared.answer.OpenFault.TheVariants as fault;
 ghost use Rattle.pcef_bearer.specs.Bindings.{bearer_of, bound_at, guaranteed, id_beside, is_named, number_of, put, refusal_in, refusals, released, rules_on, with_rules, without, HasRoom, IsBinding};
+ghost use Rattle.pcef_model.specs.Commands.{takes_away};
 ghost use Rattle.pcef_model.specs.Refusals.{first_of};
 ghost use Rattle.pcef_model.specs.Bearers.{is_gbr, is_non_gbr};
 
 use crate::ids::{count_on, finds_no_bearer, id_beside, is_present};
-use crate::lookup::{drop_named, has_name, named, put};
+use crate::lookup::{drop_named, drop_taken, has_name, named, put};
 use crate::rates::{is_over, sums_beside, sums_of, sums_on};
-use pcef_model::{OpenFault, Refusal};
+use pcef_model::{Command, OpenFault, Refusal};
 use pcef_rule::{BearerId, Kind, QciTable, Qos, Rates, RuleName, Sums};
 use std::alloc::Global;
 use std::marker::Model;
@@ -54,7 +55,8 @@ pub struct Bearers {
 
 impl Model for Bearers {
     ghost use Rattle.std.specs.Prelude.{◌≤◌, ◌<◌, ◌^◌, vec_capacity};
-    ghost use Rattle.pcef_bearer.specs.Bindings.{Binding, IsBinding};
+    ghost use Rattle.pcef_bearer.specs.Bindings.{Binding};
+    ghost use Rattle.pcef_bearer.specs.Bindings.{IsBinding};
 
     ghost Value = { Binding };
 
@@ -152,12 +154,7 @@ impl Bearers {
         self.bearer_beside(name, &qos)
     }
 
-    fn refusal_beside(
-        &self,
-        name: &RuleName,
-        qos: &Qos,
-        rates: Option<Rates>,
-    ) -> Option<Refusal>
+    fn refusal_beside(&self, name: &RuleName, qos: &Qos, rates: Option<Rates>) -> Option<Refusal>
         ensures { result ≡ first_of (refusals self.now (without name.now self.now.bound) qos.now rates) }
     {
         let kind = self.qcis.kind_of(qos.qci);
@@ -190,12 +187,7 @@ impl Bearers {
         id_beside(&self.default_qos, name, &self.bound, qos)
     }
 
-    fn set(
-        &mut self,
-        name: RuleName,
-        qos: &Qos,
-        rates: Option<Rates>,
-    ) -> Result<BearerId, Refusal>
+    fn set(&mut self, name: RuleName, qos: &Qos, rates: Option<Rates>) -> Result<BearerId, Refusal>
         requires { HasRoom name 64 self.old.bound }
         ensures refused { refusal_in result ≡ first_of (refusals self.old (without name self.old.bound) qos.now rates) }
         ensures unchanged { OnErr result (self.new ≡ self.old) }
@@ -267,6 +259,13 @@ impl Bearers {
         drop_named(&mut self.bound, name);
         let ended = !is_present(bearer, &self.bound);
         Some(Released { bearer, ended })
+    }
+
+    /// Drops the rules that a command takes away. Takes no memory.
+    pub fn take_away(&mut self, command: &Command)
+        ensures { self.new ≡ with_rules self.old (filter (λ b. not (takes_away command.now b.name b.bearer.0)) self.old.bound) }
+    {
+        drop_taken(&mut self.bound, command);
     }
 
     /// The bearer of the rule of this name, if it is bound.

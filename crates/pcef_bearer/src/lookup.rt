@@ -1,12 +1,14 @@
 //! Rules that are bound, by their names and by their pairs of QCI and ARP.
 
-ghost use Rattle.std.specs.Prelude.{◌≡◌, ◌<◌, find, length, not, position, vec_capacity, true};
+ghost use Rattle.std.specs.Prelude.{◌≡◌, ◌<◌, filter, find, length, not, position, vec_capacity, true};
 ghost use Rattle.std.specs.List.{list_any};
 ghost use Rattle.std.specs.Option.{option_copied};
+ghost use Rattle.pcef_model.specs.Commands.{takes_away};
 ghost use Rattle.pcef_model.specs.Setting.{same_flag, same_qos};
 ghost use Rattle.pcef_bearer.specs.Bindings.{is_named, put, without, HasRoom};
 
 use crate::bearers::Bound;
+use pcef_model::Command;
 use pcef_rule::{Qos, RuleName};
 
 /// Whether a rule has this name.
@@ -91,6 +93,18 @@ pub(crate) fn drop_named(bound: &mut Vec<Bound>, name: &RuleName)
         |b: &Bound| -> bool
             ensures { result ≡ not (is_named name.entry.now b.now) }
         { !is_named(name, b) },
+    );
+}
+
+/// Drops the rules that a command takes away.
+pub(crate) fn drop_taken(bound: &mut Vec<Bound>, command: &Command)
+    ensures items { bound.new.items ≡ filter (λ b. not (takes_away command.now b.name b.bearer.0)) bound.old.items }
+    ensures capacity { vec_capacity bound.new ≡ vec_capacity bound.old }
+{
+    bound.retain(
+        |b: &Bound| -> bool
+            ensures { result ≡ not (takes_away command.entry.now b.now.name b.now.bearer.0) }
+        { !command.takes_away(&b.name, b.bearer) },
     );
 }
 

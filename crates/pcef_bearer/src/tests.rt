@@ -290,10 +290,7 @@ fn faults(rt: HostRuntime) -> Result<(), Fail> {
 fn texts(rt: HostRuntime) -> Result<(), Fail> {
     for (refusal, text) in [
         (Refusal::UnknownQci, "the QCI is unknown"),
-        (
-            Refusal::RatesMissing,
-            "the rule has no guaranteed rates",
-        ),
+        (Refusal::RatesMissing, "the rule has no guaranteed rates"),
         (Refusal::RatesNotWanted, "the rule has guaranteed rates"),
         (
             Refusal::TooManyBearers,

@@ -4,8 +4,8 @@ ghost use Rattle.pcef_catalog.specs.Catalogs.{offers_of};
 ghost use Rattle.pcef_table.specs.Tables.{IsTable};
 
 use pcef_catalog::Catalog;
-use pcef_packet::{Addr, Dir, read_header};
 use pcef_model::Verdict;
+use pcef_packet::{Addr, Dir, read_header};
 use pcef_table::Table;
 use std::io::{self, Write};
 

@@ -1,1 +1,3 @@
 pub mod BuiltIn
+pub mod Ends
+pub mod Programs

@@ -2,9 +2,10 @@
 #![tactic(auto)]
 
 mod built_in;
+mod end;
 mod program;
 
-ghost use Rattle.std.specs.Prelude.{◌≡◌};
+ghost use Rattle.std.specs.Prelude.{◌≡◌, ◌≤◌, IfOk};
 ghost use Rattle.std.specs.Arc.{arc_value};
 ghost use Rattle.pcef_catalog.specs.Catalogs.{offers_of};
 ghost use Rattle.pcef_catalog.specs.Shapes.{shape_holds};
@@ -53,6 +54,7 @@ fn profiles(rt: &HostRuntime, words: &[String]) -> io::Result<Vec<Option<String>
 /// Runs the program, whose catalog has the built-in rules.
 fn run_with(rt: &HostRuntime, catalog: Arc<Catalog>) -> io::Result<u8>
     requires { offers_of (arc_value catalog) ≡ built_in_offers }
+    ensures { IfOk result (λ status. status ≤ 4) }
 {
     let alloc = rt.alloc();
     let words = words(rt)?;
@@ -72,7 +74,9 @@ fn run_with(rt: &HostRuntime, catalog: Arc<Catalog>) -> io::Result<u8>
 }
 
 /// Makes the built-in catalog, and runs the program with it.
-fn run(rt: &HostRuntime) -> io::Result<u8> {
+fn run(rt: &HostRuntime) -> io::Result<u8>
+    ensures { IfOk result (λ status. status ≤ 4) }
+{
     let alloc = rt.alloc();
     let dns: Detect = Box::new(
         alloc,
@@ -102,14 +106,21 @@ fn run(rt: &HostRuntime) -> io::Result<u8> {
     run_with(rt, Arc::new(alloc, catalog)?)
 }
 
-fn main(rt: HostRuntime) -> ExitCode {
-    match run(&rt) {
-        Ok(status) => ExitCode::from(status),
+/// Runs the program and gives its exit status. What keeps it from starting is told as want of memory.
+fn status(rt: &HostRuntime) -> u8
+    ensures { result ≤ 4 }
+{
+    match run(rt) {
+        Ok(status) => status,
         Err(_) => {
             let _ = eprintln!(rt; "want of memory");
-            ExitCode::from(3)
+            3
         }
     }
+}
+
+fn main(rt: HostRuntime) -> ExitCode {
+    ExitCode::from(status(&rt))
 }
 
 #[cfg(test)]

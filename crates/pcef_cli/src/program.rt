@@ -1,77 +1,38 @@
 //! The program, without its ends.
 
+ghost use Rattle.std.specs.Prelude.{◌≡◌, ◌≤◌, Some, option_map};
+ghost use Rattle.std.specs.Arc.{arc_value};
+ghost use Rattle.pcef_catalog.specs.Catalogs.{offers_of};
+ghost use Rattle.pcef_model.specs.Terms.{setting_of};
+ghost use Rattle.pcef_script.specs.ScriptLines.{AppendsFront};
+ghost use Rattle.pcef_cli.specs.declared.end.End.{End};
+ghost use Rattle.pcef_cli.specs.Ends.{end_status, end_text};
+ghost use Rattle.pcef_cli.specs.Programs.{Ends, IsWhole, RanScript, asked, asks_for_script};
+
+use crate::end::{End, profile_end, script_end};
 use pcef_catalog::Catalog;
-use pcef_profile::{ReadProfileFault, read_profile};
-use pcef_script::{ScriptFault, run_script};
-use pcef_model::{OpenFault, Profile};
+use pcef_model::Profile;
+use pcef_profile::read_profile;
+use pcef_script::{put_all, run_script};
 use std::alloc::Global;
 use std::io::{Read, Write};
 use std::sync::Arc;
 
-/// What is said of wrong arguments.
-const USAGE: &str = "usage: pcef script PROFILE | pcef run PROFILE WORKERS";
-
-/// How a program ends.
-#[derive(Drop)]
-enum End {
-    /// Well.
-    Done,
-    /// A line is at fault.
-    LinesAtFault,
-    /// The arguments are wrong.
-    Usage,
-    /// The profile is at fault.
-    Profile(u8),
-    /// There is no memory left.
-    NoMemory,
-    /// The profile or the script can't be read.
-    Read,
-    /// The answers can't be written.
-    Write,
-}
-
-impl End {
-    /// The exit status.
-    fn status(&self) -> u8 {
-        match self {
-            End::Done => 0,
-            End::LinesAtFault | End::Profile(_) => 1,
-            End::Usage => 2,
-            End::NoMemory => 3,
-            End::Read | End::Write => 4,
-        }
-    }
-}
-
-fn tell<E: Write>(faults: &mut E, end: &End) {
-    let _ = match end {
-        End::Done | End::LinesAtFault => Ok(()),
-        End::Usage => writeln!(faults, "{USAGE}"),
-        End::Profile(number) => writeln!(faults, "profile fault {number}"),
-        End::NoMemory => writeln!(faults, "want of memory"),
-        End::Read => writeln!(faults, "read fault"),
-        End::Write => writeln!(faults, "write fault"),
-    };
-}
-
-fn profile_of(alloc: Global, text: &Option<String>) -> Result<Profile, End> {
-    let Some(text) = text else {
-        return Err(End::Read);
-    };
-    match read_profile(alloc, text.as_str()) {
-        Ok(profile) => Ok(profile),
-        Err(ReadProfileFault::NoMemory) => Err(End::NoMemory),
-        Err(fault) => Err(End::Profile(fault.number())),
-    }
-}
-
-fn end_of(fault: ScriptFault) -> End {
-    match fault {
-        ScriptFault::Read | ScriptFault::TooMuch => End::Read,
-        ScriptFault::Write => End::Write,
-        ScriptFault::Profile(OpenFault::UnknownQci) => End::Profile(5),
-        ScriptFault::Profile(OpenFault::DefaultIsGbr) => End::Profile(6),
-        ScriptFault::Profile(OpenFault::NoMemory) | ScriptFault::NoMemory => End::NoMemory,
+/// Runs a script on the session of a profile. The writer is flushed, also where the script ends early.
+fn run_on<R: Read, W: Write>(
+    alloc: Global,
+    profile: Profile,
+    catalog: Arc<Catalog>,
+    reader: &mut R,
+    writer: &mut W,
+) -> End
+    ensures { RanScript (setting_of profile (offers_of (arc_value catalog))) result
+        (R.remaining reader.old) (R.remaining reader.new) (W.contents writer.old) (W.contents writer.new) }
+{
+    let ended = run_script(alloc, reader, writer, profile, catalog);
+    match writer.flush() {
+        Ok(()) => script_end(ended),
+        Err(_) => End::Write,
     }
 }
 
@@ -81,27 +42,52 @@ fn script<R: Read, W: Write>(
     catalog: Arc<Catalog>,
     reader: &mut R,
     writer: &mut W,
-) -> End {
-    let profile = match profile_of(alloc, profile) {
-        Ok(profile) => profile,
-        Err(end) => return end,
+) -> End
+    ensures { Ends (offers_of (arc_value catalog)) (Some profile.now) result
+        (R.remaining reader.old) (R.remaining reader.new) (W.contents writer.old) (W.contents writer.new) }
+{
+    let Some(text) = profile else {
+        return End::Read;
     };
-    let end = match run_script(alloc, reader, writer, profile, catalog) {
-        Ok(0) => End::Done,
-        Ok(_) => End::LinesAtFault,
-        Err(fault) => end_of(fault),
-    };
-    match writer.flush() {
-        Ok(()) => end,
-        Err(_) => End::Write,
+    match read_profile(alloc, text.as_str()) {
+        Ok(profile) => run_on(alloc, profile, catalog, reader, writer),
+        Err(fault) => profile_end(fault),
     }
 }
 
 /// Whether the arguments ask for the script.
-fn asks_for_script(words: &[String]) -> bool {
+fn asks_for_script(words: &[String]) -> bool
+    ensures { result ≡ asks_for_script words.now }
+{
     match words {
         [word, _] => word.as_str() == "script",
         _ => false,
+    }
+}
+
+/// The profile of the script that the arguments ask for, if they do.
+fn asked<'a>(words: &[String], profiles: &'a [Option<String>]) -> Option<&'a Option<String>>
+    ensures { option_map (λ p. p.now) result ≡ asked words.now profiles.now }
+{
+    match profiles {
+        [profile] if asks_for_script(words) => Some(profile),
+        _ => None,
+    }
+}
+
+fn end_of<R: Read, W: Write>(
+    alloc: Global,
+    asked: Option<&Option<String>>,
+    catalog: Arc<Catalog>,
+    reader: &mut R,
+    writer: &mut W,
+) -> End
+    ensures { Ends (offers_of (arc_value catalog)) (option_map (λ p. p.now) asked.entry) result
+        (R.remaining reader.old) (R.remaining reader.new) (W.contents writer.old) (W.contents writer.new) }
+{
+    match asked {
+        Some(profile) => script(alloc, profile, catalog, reader, writer),
+        None => End::Usage,
     }
 }
 
@@ -109,7 +95,8 @@ fn asks_for_script(words: &[String]) -> bool {
 /// arguments; 3 for want of memory; 4 for a failing end.
 ///
 /// `words` are the arguments after the program's name, `profiles` the texts of the files that they name
-/// as profiles, `catalog` has the predefined rules, `faults` is told why the program ends early.
+/// as profiles, `catalog` has the predefined rules. `faults` is told why the program ends early; that it fails
+/// changes nothing else. A script is run as `run_script` does, and the writer is flushed at its end.
 pub fn program<R: Read, W: Write, E: Write>(
     alloc: Global,
     words: &[String],
@@ -118,12 +105,21 @@ pub fn program<R: Read, W: Write, E: Write>(
     reader: &mut R,
     writer: &mut W,
     faults: &mut E,
-) -> u8 {
-    let end = match profiles {
-        [profile] if asks_for_script(words) => script(alloc, profile, catalog, reader, writer),
-        _ => End::Usage,
-    };
-    tell(faults, &end);
+) -> u8
+    // The status and what is said are those of the end to which the words, the profile and the script come. Of
+    // what is said only a front is told where `faults` fails.
+    ensures ends { (end : End) × (result ≡ end_status end)
+        × AppendsFront (E.contents faults.old) (E.contents faults.new) (end_text end)
+        × Ends (offers_of (arc_value catalog)) (asked words.now profiles.now) end
+        (R.remaining reader.old) (R.remaining reader.new) (W.contents writer.old) (W.contents writer.new) }
+    ensures most { result ≤ 4 }
+    // Status 0 comes only where the whole script was read and all answers are written.
+    ensures whole { result ≡ 0 → IsWhole (offers_of (arc_value catalog)) (asked words.now profiles.now)
+        (R.remaining reader.old) (R.remaining reader.new) (W.contents writer.old) (W.contents writer.new) }
+{
+    let asked = asked(words, profiles);
+    let end = end_of(alloc, asked, catalog, reader, writer);
+    let _ = put_all(faults, end.text().as_bytes());
     end.status()
 }
 

@@ -1,16 +1,4 @@
-//! Lines, profiles, answers, and scripts on whole sessions. Their crates have no tests of their own, since a crate
-//! with tests is proved twice.
-
-mod answer;
-mod catalog_session;
-mod declared_profile;
-mod declared_script;
-mod ends;
-mod line;
-mod memory;
-mod profile;
-mod script;
-mod session;
+//! What the tests of the program share.
 
 use pcef_catalog::Catalog;
 use pcef_profile::read_profile;
@@ -50,10 +38,4 @@ pub(crate) fn run_on(
         catalog,
     )?;
     Ok((String::from_utf8(written)?, faults))
-}
-
-/// The same on a catalog without rules.
-pub(crate) fn run(alloc: Global, profile: &str, script: &str) -> Result<(String, u64), Fail> {
-    let catalog = Arc::new(alloc, Catalog::new(alloc, Vec::new(alloc))?)?;
-    run_on(alloc, catalog, profile, script)
 }

@@ -3,8 +3,8 @@
 ghost use Rattle.std.specs.Prelude.{◌≡◌, ◌<◌, ◌≤◌, ◌+◌, [], ◌∷◌, drop, length, reverse, OnOk};
 ghost use Rattle.pcef_model.specs.Entries.{commands, lane, reports, rows};
 
-use pcef_model::Entry;
 use crate::walk::{Commands, Lane, Reports};
+use pcef_model::Entry;
 use std::alloc::{AllocError, Global};
 use std::marker::Model;
 
@@ -22,7 +22,8 @@ impl Model for Journal {
 
     ghost Value = { KeptJournal };
 
-    ghost use Rattle.pcef_journal.specs.Kept.{kept_of, CountsAgree};
+    ghost use Rattle.pcef_journal.specs.Kept.{kept_of};
+    ghost use Rattle.pcef_journal.specs.Kept.{CountsAgree};
 
     ghost view = { kept_of };
 

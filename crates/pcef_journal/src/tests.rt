@@ -1,9 +1,12 @@
 //! A small journal of two workers, whose lanes, commands and reports were written out by hand.
 use super::*;
 use pcef_filter::read_filter;
+use pcef_model::{
+    AccessKind, Body, Cause, Command, Entry, InactiveCause, NoticeValue, Report, Row, TriggerSet,
+    Verdict,
+};
 use pcef_packet::{Addr, Dir, Header, Ports};
 use pcef_rule::{Arp, BearerId, Gate, KeyName, Properties, Qci, Qos, Rule, RuleName};
-use pcef_model::{AccessKind, Body, Cause, Command, Entry, InactiveCause, NoticeValue, Report, Row, TriggerSet, Verdict};
 use std::alloc::Global;
 use std::test::Fail;
 

@@ -1,3 +1,4 @@
 pub mod FilterLists
+pub mod LineLaws
 pub mod NameTests
 pub mod Objects

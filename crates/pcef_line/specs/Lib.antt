@@ -1,3 +1,4 @@
+pub mod FilterReads
 pub mod LineFaults
 pub mod LineOf
 pub mod LineRules

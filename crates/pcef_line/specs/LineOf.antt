@@ -1,8 +1,9 @@
 -- The line that a text is, or its first fault (own choice).
-use Rattle.std.specs.Prelude.{◌^◌, ◌-◌, ℕ, List, is_some, option_and_then, Result, Ok}
+use Rattle.std.specs.Prelude.{◌^◌, ◌-◌, ◌≡◌, ℕ, List, is_some, option_and_then, Result, Ok}
 use Rattle.serde_json.specs.Data.{Data}
 use Rattle.serde_json.specs.Find.{get, as_str, as_object}
 use Rattle.serde_json.specs.Read.{read}
+use Rattle.pcef_line.specs.FilterReads.{FilterReading, IsExact}
 use Rattle.pcef_line.specs.declared.line.Line.{Line}
 use Rattle.pcef_line.specs.declared.line.Line.TheVariants.{Install, Activate, Remove, Monitor, Attach, Take, Refresh, Flush, Show}
 use Rattle.pcef_line.specs.declared.fault.LineFault.{LineFault}
@@ -23,42 +24,46 @@ unfoldable pub worker_at : Data → Result ℕ LineFault
 worker_at d = number_at field.Worker field.Worker 0 15 d
 
 -- each word's fields, in the order of checking
-unfoldable pub fields_at : Word → Data → Result Line LineFault
-fields_at word.Install d = do
+unfoldable pub fields_at : FilterReading → Word → Data → Result Line LineFault
+fields_at reads word.Install d = do
   whole ← object_at field.Rule d
-  rule ← rule_at whole
+  rule ← rule_at reads whole
   Ok (Install rule)
-fields_at word.Activate d = do
+fields_at reads word.Activate d = do
   name ← name_at field.Name d
   Ok (Activate name)
-fields_at word.Remove d = do
+fields_at reads word.Remove d = do
   name ← name_at field.Name d
   Ok (Remove name)
-fields_at word.Monitor d = do
+fields_at reads word.Monitor d = do
   key ← name_at field.Key d
   grant ← number_at field.Grant field.Grant 0 (2 ^ 64 - 1) d
   Ok (Monitor key grant)
-fields_at word.Attach d = Ok Attach
-fields_at word.Take d = do
+fields_at reads word.Attach d = Ok Attach
+fields_at reads word.Take d = do
   worker ← worker_at d
   dir ← dir_at field.Dir d
   header ← packet_at field.Packet dir d
   Ok (Take worker header)
-fields_at word.Refresh d = do
+fields_at reads word.Refresh d = do
   worker ← worker_at d
   Ok (Refresh worker)
-fields_at word.Flush d = do
+fields_at reads word.Flush d = do
   worker ← worker_at d
   Ok (Flush worker)
-fields_at word.Show d = Ok Show
+fields_at reads word.Show d = Ok Show
 
-unfoldable pub line_at : Data → Result Line LineFault
-line_at d = do
+unfoldable pub line_at : FilterReading → Data → Result Line LineFault
+line_at reads d = do
   whole ← passing (λ v. is_some (as_object v)) NotObject d
   word ← word_at whole
   known ← passing (is_known word) UnknownField whole
-  fields_at word known
+  fields_at reads word known
 
 -- a JSON text (RFC 8259); of a key that stands twice in an object the last value counts
-unfoldable pub LineOf : List ℕ → Result Line LineFault
-LineOf text = or_fault NotJson (read text) >>= line_at
+unfoldable pub line_by : FilterReading → List ℕ → Result Line LineFault
+line_by reads text = or_fault NotJson (read text) >>= line_at reads
+
+-- what is due to a text: the line that it is, with each filter text read as its grammar says, or the first fault
+abbrev pub LineOf : List ℕ → Result Line LineFault → Type 0
+LineOf text due = (reads : FilterReading) × IsExact reads × (due ≡ line_by reads text)

@@ -6,7 +6,6 @@ use Rattle.serde_json.specs.Find.{get, as_object}
 use Rattle.pcef_filter.specs.declared.filter.Filter.{Filter}
 use Rattle.pcef_filter.specs.declared.filter.Flow.{Flow}
 use Rattle.pcef_filter.specs.declared.filter.Flow.TheVariants.{Downlink, Uplink, Bidirectional}
-use Rattle.pcef_filter.specs.Reading.{reading_of}
 use Rattle.pcef_rule.specs.declared.gate.Gate.{Gate}
 use Rattle.pcef_rule.specs.declared.gate.Gate.TheVariants.{EnabledUplink, EnabledDownlink, Enabled, Disabled}
 use Rattle.pcef_rule.specs.declared.quantity.Rates.{Rates}
@@ -14,6 +13,7 @@ use Rattle.pcef_rule.specs.declared.rule.Properties.{Properties}
 use Rattle.pcef_rule.specs.declared.rule.RuleFault.TheVariants.{NoFilter, TooManyFilters}
 use Rattle.pcef_rule.specs.Definition.{Definition, most_filters}
 use Rattle.pcef_rule.specs.Priority.{Priority}
+use Rattle.pcef_line.specs.FilterReads.{FilterReading}
 use Rattle.pcef_line.specs.declared.fault.LineFault.{LineFault}
 use Rattle.pcef_line.specs.declared.fault.LineFault.TheVariants.{BadField, BadFilter, BadRule}
 use Rattle.pcef_line.specs.declared.field.Field.TheVariants as field
@@ -77,19 +77,20 @@ flow_word_at filter = do
 unfoldable pub flow_at : Data → Result (Option Flow) LineFault
 flow_at filter = optional flow_word_at filter (get (field_text field.Flow) filter)
 
-unfoldable pub filter_at : Data → Result Filter LineFault
-filter_at value = do
+-- a filter, its text read by `reads`
+unfoldable pub filter_at : FilterReading → Data → Result Filter LineFault
+filter_at reads value = do
   filter ← passing (λ v. is_some (as_object v)) (BadField field.Filters) value
   text ← text_at field.Text field.Filters filter
   flow ← flow_at filter
-  under (BadFilter field.Filters) (reading_of text flow)
+  under (BadFilter field.Filters) (reads text flow)
 
-abbrev pub filters_of : Items → Result (List Filter) LineFault
-filters_of no_items = Ok []
-filters_of (item value values) = filter_at value >>= λ first. filters_of values >>= λ others. Ok (first ∷ others)
+abbrev pub filters_of : FilterReading → Items → Result (List Filter) LineFault
+filters_of reads no_items = Ok []
+filters_of reads (item value values) = filter_at reads value >>= λ first. filters_of reads values >>= λ others. Ok (first ∷ others)
 
-unfoldable pub filters_at : Data → Result (List Filter) LineFault
-filters_at rule = list_at field.Filters rule >>= filters_of
+unfoldable pub filters_at : FilterReading → Data → Result (List Filter) LineFault
+filters_at reads rule = list_at field.Filters rule >>= filters_of reads
 
 -- a rule has 1 to 16 filters
 abbrev pub rule_of : Properties → List Filter → Result Definition LineFault
@@ -98,11 +99,11 @@ rule_of properties (first ∷ others) =
     if nat_lt most_filters (length (first ∷ others)) then Err (BadRule field.Rule TooManyFilters)
     else Ok (record { properties = properties; filters = first ∷ others })
 
-unfoldable pub rule_at : Data → Result Definition LineFault
-rule_at d = do
+unfoldable pub rule_at : FilterReading → Data → Result Definition LineFault
+rule_at reads d = do
   name ← name_at field.Name d
   precedence ← number_at field.Precedence field.Precedence 0 4294967295 d
-  filters ← filters_at d
+  filters ← filters_at reads d
   qci ← number_at field.Qci field.Qci 0 255 d
   arp ← arp_at d
   rates ← rates_at d

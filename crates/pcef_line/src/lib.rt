@@ -4,6 +4,7 @@
 mod fault;
 mod field;
 mod known;
+mod laws;
 mod line;
 mod reading;
 mod rule;
@@ -12,5 +13,6 @@ mod word;
 
 pub use fault::LineFault;
 pub use field::Field;
+pub use laws::one_line;
 pub use line::Line;
 pub use reading::read_line;

@@ -1,9 +1,13 @@
 //! Reads a line.
 
+ghost use Rattle.std.specs.Prelude.{Result};
 ghost use Rattle.serde_json.specs.View.{view};
+ghost use Rattle.pcef_filter.specs.Reading.{reading_of};
+ghost use Rattle.pcef_line.specs.declared.line.Line.{Line};
+ghost use Rattle.pcef_line.specs.declared.fault.LineFault.{LineFault};
 ghost use Rattle.pcef_line.specs.declared.word.Word.TheVariants.{Monitor, Take};
 ghost use Rattle.pcef_line.specs.LineValues.{Gives};
-ghost use Rattle.pcef_line.specs.LineOf.{word_at, worker_at, fields_at, line_at, LineOf};
+ghost use Rattle.pcef_line.specs.LineOf.{word_at, worker_at, fields_at, line_at, line_by, LineOf};
 
 use crate::fault::LineFault;
 use crate::field::Field;
@@ -41,7 +45,7 @@ fn worker_field(line: &Value) -> Result<u8, LineFault>
 
 #[tactic(auto, unfolding(crate::specs::LineOf::fields_at))]
 fn monitor(line: &Value) -> Result<Line, LineFault>
-    ensures { Gives (λ l. l) result (fields_at Monitor (view line.now)) }
+    ensures { Gives (λ l. l) result (fields_at reading_of Monitor (view line.now)) }
 {
     let key = name_field(line, Field::Key)?;
     let grant = number_field(line, Field::Grant, Field::Grant, 0, u64::MAX)?;
@@ -50,7 +54,7 @@ fn monitor(line: &Value) -> Result<Line, LineFault>
 
 #[tactic(auto, unfolding(crate::specs::LineOf::fields_at))]
 fn take(alloc: Global, line: &Value) -> Result<Line, LineFault>
-    ensures { Gives (λ l. l) result (fields_at Take (view line.now)) }
+    ensures { Gives (λ l. l) result (fields_at reading_of Take (view line.now)) }
 {
     let worker = worker_field(line)?;
     let dir = dir_field(line, Field::Dir)?;
@@ -60,7 +64,7 @@ fn take(alloc: Global, line: &Value) -> Result<Line, LineFault>
 
 #[tactic(auto, unfolding(crate::specs::LineOf::fields_at))]
 fn fields(alloc: Global, word: Word, line: &Value) -> Result<Line, LineFault>
-    ensures { Gives (λ l. l) result (fields_at word (view line.now)) }
+    ensures { Gives (λ l. l) result (fields_at reading_of word (view line.now)) }
 {
     match word {
         Word::Install => Ok(Line::Install(rule(alloc, object_field(line, Field::Rule)?)?)),
@@ -89,7 +93,7 @@ fn fields(alloc: Global, word: Word, line: &Value) -> Result<Line, LineFault>
 
 #[tactic(auto, unfolding(crate::specs::LineOf::line_at))]
 fn line(alloc: Global, value: &Value) -> Result<Line, LineFault>
-    ensures { Gives (λ l. l) result (line_at (view value.now)) }
+    ensures { Gives (λ l. l) result (line_at reading_of (view value.now)) }
 {
     if !value.is_object() {
         return Err(LineFault::NotObject);
@@ -101,15 +105,22 @@ fn line(alloc: Global, value: &Value) -> Result<Line, LineFault>
     fields(alloc, word, value)
 }
 
-/// The line that a text is, or its first fault. Whole numbers are JSON numbers without fraction and
-/// exponent below 2^64; of a key that stands twice in an object the last value counts.
-#[tactic(auto, unfolding(crate::specs::LineOf::LineOf))]
-pub fn read_line(alloc: Global, text: &str) -> Result<Line, LineFault>
-    ensures { Gives (λ l. l) result (LineOf text.now) }
+#[tactic(auto, unfolding(crate::specs::LineOf::line_by))]
+fn line_of(alloc: Global, text: &str) -> Result<Line, LineFault>
+    ensures { Gives (λ l. l) result (line_by reading_of text.now) }
 {
     match Value::from_str(alloc, text) {
         Ok(value) => line(alloc, &value),
         Err(error) if error.is_memory() => Err(LineFault::NoMemory),
         Err(_) => Err(LineFault::NotJson),
     }
+}
+
+/// The line that a text is, or its first fault, of which there is one ([`one_line`](crate::one_line)). Whole
+/// numbers are JSON numbers without fraction and exponent below 2^64; of a key that stands twice in an object the
+/// last value counts. Takes memory; want of it is answered in place of any line or fault.
+pub fn read_line(alloc: Global, text: &str) -> Result<Line, LineFault>
+    ensures { (due : Result Line LineFault) × LineOf text.now due × Gives (λ l. l) result due }
+{
+    line_of(alloc, text)
 }

@@ -2,6 +2,7 @@
 
 ghost use Rattle.std.specs.Prelude.{◌≡◌};
 ghost use Rattle.serde_json.specs.View.{view, items_view};
+ghost use Rattle.pcef_filter.specs.Reading.{reading_of};
 ghost use Rattle.pcef_line.specs.LineValues.{Gives};
 ghost use Rattle.pcef_line.specs.LineRules.{arp_at, both_rates_at, rates_at, gate_of, gate_at, key_at, flow_of, flow_word_at, flow_at, filter_at, filters_of, filters_at, rule_of, rule_at};
 
@@ -115,7 +116,7 @@ fn flow_field(filter: &Value) -> Result<Option<Flow>, LineFault>
 
 #[tactic(auto, unfolding(crate::specs::LineRules::filter_at))]
 fn filter(value: &Value) -> Result<Filter, LineFault>
-    ensures { Gives (λ f. f) result (filter_at (view value.now)) }
+    ensures { Gives (λ f. f) result (filter_at reading_of (view value.now)) }
 {
     if !value.is_object() {
         return Err(LineFault::BadField(Field::Filters));
@@ -129,7 +130,7 @@ fn filter(value: &Value) -> Result<Filter, LineFault>
 }
 
 fn filters(alloc: Global, values: &[Value]) -> Result<Vec<Filter>, LineFault>
-    ensures { Gives (λ fs. fs.items) result (filters_of (items_view values.now)) }
+    ensures { Gives (λ fs. fs.items) result (filters_of reading_of (items_view values.now)) }
 {
     let mut filters = Vec::new(alloc);
     for value in values {
@@ -140,7 +141,7 @@ fn filters(alloc: Global, values: &[Value]) -> Result<Vec<Filter>, LineFault>
 
 #[tactic(auto, unfolding(crate::specs::LineRules::filters_at))]
 fn filters_field(alloc: Global, rule: &Value) -> Result<Vec<Filter>, LineFault>
-    ensures { Gives (λ fs. fs.items) result (filters_at (view rule.now)) }
+    ensures { Gives (λ fs. fs.items) result (filters_at reading_of (view rule.now)) }
 {
     filters(alloc, list_field(rule, Field::Filters)?)
 }
@@ -158,7 +159,7 @@ fn made(alloc: Global, properties: Properties, filters: &[Filter]) -> Result<Rul
 /// The rule that an object is.
 #[tactic(auto, unfolding(crate::specs::LineRules::rule_at))]
 pub(crate) fn rule(alloc: Global, object: &Value) -> Result<Rule, LineFault>
-    ensures { Gives (λ r. r) result (rule_at (view object.now)) }
+    ensures { Gives (λ r. r) result (rule_at reading_of (view object.now)) }
 {
     let name = name_field(object, Field::Name)?;
     let precedence = number_field(object, Field::Precedence, Field::Precedence, 0, MOST)? as u32;

@@ -1,20 +1,23 @@
 -- What an accepted command may do.
-use Rattle.std.proofs.Common.{◌≡◌, ◌≤◌, ◌+◌, ℕ, Bool, true, false, not, ◌&&◌, List, [], ◌∷◌, ◌++◌, length, refl, arith, Some, None, nat_le, inl, inr}
-use Rattle.std.specs.Prelude.{is_none, is_some, ◌==◌, if◌then◌else◌}
+use Rattle.std.proofs.Common.{◌≡◌, ◌≤◌, ◌+◌, ℕ, Bool, true, false, not, ◌&&◌, List, [], ◌∷◌, ◌++◌, length, refl, arith, Some, None, nat_le, inl, inr, subst}
+use Rattle.std.specs.Prelude.{is_none, is_some, ◌==◌, if◌then◌else◌, Option}
 use Rattle.std.proofs.lemmas.Bool.{cases_Bool, leb-false}
 use Rattle.pcef_rule.specs.declared.rule.Properties.{Properties}
 use Rattle.pcef_rule.specs.Definition.{Definition}
 use Rattle.pcef_catalog.specs.declared.listing.Offer.{Offer}
-use Rattle.pcef_model.specs.declared.command.Command.TheVariants.{Install, Activate, Monitor}
+use Rattle.pcef_model.specs.declared.command.Command.TheVariants.{Install, Activate, Remove, Monitor, Stop, ReportNow, Triggers, Notice, LoseBearer, Close, Terminate}
 use Rattle.pcef_model.specs.Setting.{most_rules, Setting, offer_named}
-use Rattle.pcef_model.specs.ActiveRules.{Active, is_named, put, without}
+use Rattle.pcef_model.specs.ActiveRules.{Active, is_named, put, without, dynamic, predefined}
 use Rattle.pcef_model.specs.Entries.{Journal}
-use Rattle.pcef_model.specs.Journals.{now}
+use Rattle.pcef_model.specs.Commands.{is_among, activated}
+use Rattle.pcef_model.specs.Journals.{now, slots}
 use Rattle.pcef_model.specs.Answers.{changes}
 use Rattle.pcef_model.specs.declared.answer.Refusal.{Refusal}
 use Rattle.pcef_model.specs.declared.answer.Refusal.TheVariants as refusal
 use Rattle.pcef_model.specs.Refusals.{Conditions, becoming_active, becoming_active_if, bindings, common_refusals, finds_no_slot, first_of, is_active, refusals}
 use Rattle.pcef_model.proofs.Names.{put_length}
+use Rattle.pcef_model.specs.declared.command.Command.{Command}
+use Rattle.std.specs.Option.{option_map}
 
 -- ---- no condition holds
 pub condition_none : {R : Type 0} (b : Bool) (r : R) (cs : Conditions R) → first_of ((b, r) ∷ cs) ≡ None → (b ≡ false) × (first_of cs ≡ None)
@@ -89,3 +92,39 @@ few_put p j r few accepted =
           let place : nat_le most_rules (length (now p j).rules) ≡ false = rw new at can.place in
           omega (arith, put_longer r (now p j).rules, leb-false most_rules (length (now p j).rules) place)
     ]
+
+-- a key that is stopped is on, and one that is asked for has a slot
+not_not : (b : Bool) → not b ≡ false → b ≡ true
+not_not true is = refl
+not_not false is = absurd cc
+
+pub stop_accepted : (p : Setting) (j : Journal) (key : List ℕ) → first_of (refusals p j (Stop key)) ≡ None → is_among key (now p j).on ≡ true
+stop_accepted p j key accepted =
+    let own = (conditions_none (common_refusals p j) ((not (is_among key (now p j).on), refusal.UnknownKey) ∷ []) accepted).1 in
+    not_not (is_among key (now p j).on) (condition_none (not (is_among key (now p j).on)) refusal.UnknownKey [] own).0
+
+pub report_accepted : (p : Setting) (j : Journal) (key : List ℕ) → first_of (refusals p j (ReportNow key)) ≡ None → is_among key (slots p j) ≡ true
+report_accepted p j key accepted =
+    let own = (conditions_none (common_refusals p j) ((not (is_among key (slots p j)), refusal.UnknownKey) ∷ []) accepted).1 in
+    not_not (is_among key (slots p j)) (condition_none (not (is_among key (slots p j))) refusal.UnknownKey [] own).0
+
+-- a rule that an accepted command makes active may become so
+pub activation_accepted : (p : Setting) (j : Journal) (c : Command) (r : Active) → first_of (refusals p j c) ≡ None → changes p j c ≡ true → activated p c ≡ Some r →
+    first_of (becoming_active p j r.properties) ≡ None
+activation_accepted p j (Install rule) r accepted changing is =
+    let same : dynamic rule ≡ r = cc in subst (λ (x : Active). first_of (becoming_active p j x.properties) ≡ None) same (install_accepted p j rule accepted)
+activation_accepted p j (Activate name) r accepted changing is = from (offer_named p name) refl is
+  where
+    from : (o : Option Offer) → offer_named p name ≡ o → option_map predefined o ≡ Some r → first_of (becoming_active p j r.properties) ≡ None
+    from None there is = absurd cc
+    from (Some o) there is =
+        let same : predefined o ≡ r = cc in subst (λ (x : Active). first_of (becoming_active p j x.properties) ≡ None) same (activate_accepted p j name o accepted changing there)
+activation_accepted p j (Remove name) r accepted changing is = absurd cc
+activation_accepted p j (Monitor key amount) r accepted changing is = absurd cc
+activation_accepted p j (Stop key) r accepted changing is = absurd cc
+activation_accepted p j (ReportNow key) r accepted changing is = absurd cc
+activation_accepted p j (Triggers set) r accepted changing is = absurd cc
+activation_accepted p j (Notice kind value) r accepted changing is = absurd cc
+activation_accepted p j (LoseBearer id) r accepted changing is = absurd cc
+activation_accepted p j Close r accepted changing is = absurd cc
+activation_accepted p j Terminate r accepted changing is = absurd cc

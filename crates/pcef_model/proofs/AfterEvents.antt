@@ -9,7 +9,8 @@ use Rattle.pcef_model.specs.declared.telling.Telling.{Telling}
 use Rattle.pcef_model.specs.Setting.{Setting}
 use Rattle.pcef_model.specs.Generations.{made_by, slots_of}
 use Rattle.pcef_model.specs.Entries.{Journal}
-use Rattle.pcef_model.specs.Journals.{gen, is_table, now, report_count, slots, subscribed, tables}
+use Rattle.pcef_model.specs.Journals.{gen, now, report_count, slots, subscribed, tables}
+use Rattle.pcef_model.specs.Commands.{is_table}
 use Rattle.pcef_model.specs.Reports.{after_command, body_of, plan, settled, tell, thresholds, with_rows}
 use Rattle.pcef_model.proofs.Reports.{tell_subscribed, tell_tables}
 

@@ -1,5 +1,5 @@
 -- In every lawful journal the bearers have ids of their own.
-use Rattle.std.proofs.Common.{rules, is_none, ◌≡◌, ◌≤◌, ◌∙◌, ℕ, suc, zero, ◌==◌, Bool, true, false, not, List, [], ◌∷◌, ◌++◌, filter, unwrap_or, Option, Some, None, refl, sym, ap, subst, arith, inl, inr, true≢false}
+use Rattle.std.proofs.Common.{rules, is_none, ◌≡◌, ◌≤◌, ◌∙◌, ℕ, suc, zero, ◌==◌, Bool, true, false, not, List, [], ◌∷◌, filter, unwrap_or, Option, Some, None, refl, sym, ap, subst, arith, inl, inr, true≢false}
 use Rattle.std.specs.Prelude.{All, if◌then◌else◌}
 use Rattle.std.specs.List.{list_any}
 use Rattle.std.proofs.lemmas.Bool.{cases_Bool, or_cases, or_left, or_right, or_parts, and_cases, or_from, false_from_ne_true}
@@ -7,28 +7,27 @@ use Rattle.std.proofs.lemmas.Bool.Decides.{Decides-eqb}
 use Rattle.std.proofs.lemmas.List.Elements.{All-from_recursion}
 use Rattle.pcef_rule.specs.declared.quantity.Qos.{Qos}
 use Rattle.pcef_rule.specs.declared.rule.Properties.{Properties}
-use Rattle.pcef_rule.specs.Definition.{Definition}
-use Rattle.pcef_catalog.specs.declared.listing.Offer.{Offer}
 use Rattle.pcef_model.specs.declared.command.Command.{Command}
-use Rattle.pcef_model.specs.declared.command.Command.TheVariants.{Install, Activate, Remove, Monitor, Stop, ReportNow, Triggers, Notice, LoseBearer, Close, Terminate}
 use Rattle.pcef_model.specs.declared.entry.Entry.TheVariants as entry
 use Rattle.pcef_model.specs.declared.row.Row.{Row}
 use Rattle.pcef_model.specs.declared.telling.Telling.{Telling}
 use Rattle.pcef_model.specs.Bearers.{default_id, least_free, other_ids}
 use Rattle.pcef_lists.proofs.Found.{found_is, found_passes}
-use Rattle.pcef_model.specs.Setting.{Setting, offer_named, same_qos}
-use Rattle.pcef_model.specs.ActiveRules.{Active, dynamic, is_named, predefined, put, put_if_offered, without}
-use Rattle.pcef_model.specs.Generations.{Generation, at_first as before_all, free_id, has_bearer, id_after, kept, made_by, next, rules_after}
+use Rattle.pcef_model.specs.Setting.{Setting, same_qos}
+use Rattle.pcef_model.specs.ActiveRules.{Active, is_named, put, without}
+use Rattle.pcef_model.specs.Generations.{Generation, at_first as before_all, free_id, has_bearer, id_after, kept, made_by, next, rules_after, stays}
+use Rattle.pcef_model.proofs.Acceptance.{activation_accepted, can_become}
+use Rattle.pcef_model.proofs.RulesAfter.{rule_change, rules_left, rules_put}
 use Rattle.pcef_model.specs.Entries.{Journal}
-use Rattle.pcef_model.specs.Journals.{is_table, now}
+use Rattle.pcef_model.specs.Commands.{is_table}
+use Rattle.pcef_model.specs.Journals.{now}
 use Rattle.pcef_model.specs.Reports.{after_command, after_flush, tell, thresholds, with_rows}
 use Rattle.pcef_model.proofs.Growth.{now_after_table, tables_of_other}
 use Rattle.pcef_lists.proofs.Tests.{contrary}
 use Rattle.pcef_model.proofs.Sameness.{same_qos_is, same_qos_self}
-use Rattle.pcef_model.specs.declared.answer.Refusal.TheVariants as refusal
 use Rattle.pcef_model.specs.Answers.{changes}
 use Rattle.pcef_model.specs.Lawful.{Lawful, at_first, by_attach, by_command, by_flush, by_leave}
-use Rattle.pcef_model.specs.Refusals.{Conditions, becoming_active_if, common_refusals, finds_no_bearer, first_of, is_active, refusals}
+use Rattle.pcef_model.specs.Refusals.{Conditions, finds_no_bearer, first_of, refusals, bindings}
 use Rattle.pcef_model.proofs.BoundRules.{NamesOnce}
 use Rattle.pcef_model.proofs.Names.{Once, filter_any, filter_once, put_any, put_filter, put_once}
 use Rattle.pcef_model.proofs.Reports.{tell_tables}
@@ -299,44 +298,18 @@ none_holds (suc n) (c ∷ cs) none =
     ]
 
 -- accepted commands bring rules that may come
-follows_install : (p : Setting) (j : Journal) (rule : Definition) → IsBound p (now p j) → first_of (refusals p j (Install rule)) ≡ None →
-    Follows p (now p j) (put (dynamic rule) (now p j).rules)
-unfolding nth
-follows_install p j rule bound accepted =
-    follows_put p (now p j) (dynamic rule) bound (none_holds 9 (refusals p j (Install rule)) accepted)
-
-follows_offered : (p : Setting) (j : Journal) (offer : Option Offer) → IsBound p (now p j) →
-    first_of (common_refusals p j ++ (is_none offer, refusal.UnknownRule) ∷ becoming_active_if p j offer) ≡ None →
-    Follows p (now p j) (put_if_offered offer (now p j).rules)
-unfolding nth
-follows_offered p j None bound accepted = follows_same p (now p j) bound
-follows_offered p j (Some o) bound accepted =
-    follows_put p (now p j) (predefined o) bound
-    (none_holds 9 (common_refusals p j ++ (is_none (Some o), refusal.UnknownRule) ∷ becoming_active_if p j (Some o)) accepted)
-
-follows_activate : (p : Setting) (j : Journal) (name : List ℕ) → IsBound p (now p j) → first_of (refusals p j (Activate name)) ≡ None →
-    is_active p j name ≡ false → Follows p (now p j) (put_if_offered (offer_named p name) (now p j).rules)
-follows_activate p j name bound accepted isnt =
-    follows_offered p j (offer_named p name) bound
-    (subst (λ b. first_of (common_refusals p j ++ (is_none (offer_named p name), refusal.UnknownRule) ∷
-    (if b then [] else becoming_active_if p j (offer_named p name))) ≡ None) isnt accepted)
-
 follows_command : (p : Setting) (j : Journal) (c : Command) → IsBound p (now p j) → first_of (refusals p j c) ≡ None → changes p j c ≡ true →
     Follows p (now p j) (rules_after p (now p j) c)
-follows_command p j (Install rule) bound accepted change = follows_install p j rule bound accepted
-follows_command p j (Activate name) bound accepted change =
-    follows_activate p j name bound accepted
-    (false_from_ne_true (is_active p j name) (λ is. contrary (not (is_active p j name)) change (ap not is)))
-follows_command p j (Remove name) bound accepted change = follows_filter p (now p j) (λ r. not (is_named name r)) bound
-follows_command p j (LoseBearer id) bound accepted change =
-    follows_filter p (now p j) (λ r. not ((now p j).id_of r.properties.qos == id.0)) bound
-follows_command p j Close bound accepted change = follows_none p (now p j)
-follows_command p j Terminate bound accepted change = follows_none p (now p j)
-follows_command p j (Monitor key grant) bound accepted change = follows_same p (now p j) bound
-follows_command p j (Stop key) bound accepted change = follows_same p (now p j) bound
-follows_command p j (ReportNow key) bound accepted change = follows_same p (now p j) bound
-follows_command p j (Triggers set) bound accepted change = follows_same p (now p j) bound
-follows_command p j (Notice kind value) bound accepted change = follows_same p (now p j) bound
+unfolding nth
+follows_command p j c bound accepted changing =
+    elim (rule_change p c) [
+      | inl makes ↦
+          let binds = (can_become p j makes.0.properties (activation_accepted p j c makes.0 accepted changing makes.1)).binds in
+          let others = without makes.0.properties.name (now p j).rules in
+          subst (Follows p (now p j)) (sym (rules_put p (now p j) c makes.0 makes.1))
+          (follows_put p (now p j) makes.0 bound (none_holds 3 (bindings p (now p j) makes.0.properties others) binds))
+      | inr none ↦ subst (Follows p (now p j)) (sym (rules_left p (now p j) c none)) (follows_filter p (now p j) (stays (now p j) c) bound)
+    ]
 
 -- ---- journals
 -- an accepted command

@@ -12,7 +12,8 @@ use Rattle.pcef_model.specs.declared.report.Cause.TheVariants.{RulesGone, Termin
 use Rattle.pcef_model.specs.declared.telling.Telling.TheVariants.{Inactive, Usage}
 use Rattle.pcef_model.specs.Setting.{Setting}
 use Rattle.pcef_model.specs.ActiveRules.{has_key}
-use Rattle.pcef_model.specs.Generations.{Generation, is_among, rules_after, switched}
+use Rattle.pcef_model.specs.Generations.{Generation, rules_after}
+use Rattle.pcef_model.specs.Commands.{is_among, switched}
 use Rattle.pcef_model.specs.Entries.{Journal}
 use Rattle.pcef_model.specs.Journals.{now, slots, subscribed, unreported}
 use Rattle.pcef_model.specs.Reports.{asked, ended, in_order, inactive, insert_name, is_reached, is_subscribed, noticed, plan, thresholds}

@@ -1,18 +1,17 @@
 -- In every lawful journal the guaranteed rates of the active rules are within the capacity.
-use Rattle.std.proofs.Common.{◌≡◌, ◌≤◌, ◌+◌, Bool, true, false, not, ◌&&◌, List, [], ◌∷◌, ◌++◌, sym, ap, subst, arith, inl, inr, filter, Some, None, nat_lt, ◌==◌}
-use Rattle.std.specs.Prelude.{Option, is_none, is_some}
+use Rattle.std.proofs.Common.{◌≡◌, ◌≤◌, ◌+◌, Bool, true, false, ◌&&◌, List, [], ◌∷◌, sym, ap, subst, arith, inl, inr, filter, None, nat_lt}
+use Rattle.std.specs.Prelude.{is_none, is_some}
 use Rattle.std.specs.List.{list_any}
 use Rattle.std.proofs.lemmas.Bool.{cases_Bool, ltb-false}
 use Rattle.pcef_rule.specs.declared.rule.Properties.{Properties}
 use Rattle.pcef_rule.specs.QciKinds.{kind_of}
-use Rattle.pcef_catalog.specs.declared.listing.Offer.{Offer}
 use Rattle.pcef_model.specs.declared.command.Command.{Command}
-use Rattle.pcef_model.specs.declared.command.Command.TheVariants.{Install, Activate, Remove, Monitor, Stop, ReportNow, Triggers, Notice, LoseBearer, Close, Terminate}
-use Rattle.pcef_model.specs.Setting.{Setting, offer_named}
-use Rattle.pcef_model.specs.ActiveRules.{Active, dynamic, is_named, predefined, put, put_if_offered, without}
-use Rattle.pcef_model.specs.Generations.{Generation, made_by, rules_after}
+use Rattle.pcef_model.specs.Setting.{Setting}
+use Rattle.pcef_model.specs.ActiveRules.{Active, is_named, put, without}
+use Rattle.pcef_model.specs.Generations.{Generation, made_by, rules_after, stays}
 use Rattle.pcef_model.specs.Entries.{Journal}
-use Rattle.pcef_model.specs.Journals.{is_table, now, tables}
+use Rattle.pcef_model.specs.Commands.{is_table}
+use Rattle.pcef_model.specs.Journals.{now, tables}
 use Rattle.pcef_model.proofs.Growth.{now_after_table, tables_of_other}
 use Rattle.pcef_model.proofs.Sameness.{same_name_is}
 use Rattle.pcef_model.proofs.AfterEvents.{now_after}
@@ -20,12 +19,13 @@ use Rattle.pcef_model.specs.declared.answer.Refusal.{Refusal}
 use Rattle.pcef_model.specs.declared.answer.Refusal.TheVariants as refusal
 use Rattle.pcef_model.specs.Answers.{changes}
 use Rattle.pcef_model.specs.Lawful.{Lawful, at_first, by_attach, by_command, by_flush, by_leave}
-use Rattle.pcef_model.specs.Refusals.{Conditions, becoming_active_if, bindings, common_refusals, finds_no_bearer, first_of, is_active, refusals, total_down, total_up}
+use Rattle.pcef_model.specs.Refusals.{Conditions, bindings, finds_no_bearer, first_of, refusals, total_down, total_up}
 use Rattle.pcef_model.specs.Bearers.{is_gbr, is_non_gbr, rate_down, rate_up, sum_up, sum_down}
-use Rattle.pcef_model.proofs.Acceptance.{can_become, condition_none, conditions_none, install_accepted}
+use Rattle.pcef_model.proofs.Acceptance.{activation_accepted, can_become, condition_none}
 use Rattle.pcef_model.proofs.BoundRules.{NamesOnce}
 use Rattle.pcef_model.proofs.Names.{Once, without_none}
 use Rattle.pcef_model.proofs.Decisive.{made_once}
+use Rattle.pcef_model.proofs.RulesAfter.{rule_change, rules_left, rules_put}
 use Rattle.pcef_model.proofs.Onward.{tables_after_flush}
 
 -- ---- sums
@@ -97,29 +97,14 @@ within_put p g new rules once none =
     record { up = omega (arith, fits.0, put_up new rules once); down = omega (arith, fits.1, put_down new rules once) }
 
 -- ---- commands
-offered_within : (p : Setting) (j : Journal) (o : Option Offer) → IsWithin p (now p j).rules → first_of (becoming_active_if p j o) ≡ None → IsWithin p (put_if_offered o (now p j).rules)
-offered_within p j None within none = within
-offered_within p j (Some o) within none = within_put p (now p j) (predefined o) (now p j).rules (made_once p (tables j)) (can_become p j o.properties none).binds
-
 after_within : (p : Setting) (j : Journal) (c : Command) → IsWithin p (now p j).rules → first_of (refusals p j c) ≡ None → changes p j c ≡ true → IsWithin p (rules_after p (now p j) c)
-after_within p j (Install rule) within accepted changing = within_put p (now p j) (dynamic rule) (now p j).rules (made_once p (tables j)) (can_become p j rule.properties (install_accepted p j rule accepted)).binds
-after_within p j (Activate name) within accepted changing =
-    elim (cases_Bool (is_active p j name)) [
-      | inl is ↦ absurd (let none : not true ≡ true = rw is at changing in cc)
-      | inr isnt ↦
-          let rest : first_of (common_refusals p j ++ (is_none (offer_named p name), refusal.UnknownRule) ∷ becoming_active_if p j (offer_named p name)) ≡ None = rw isnt at accepted in
-          let own = (conditions_none (common_refusals p j) ((is_none (offer_named p name), refusal.UnknownRule) ∷ becoming_active_if p j (offer_named p name)) rest).1 in
-          offered_within p j (offer_named p name) within (condition_none (is_none (offer_named p name)) refusal.UnknownRule (becoming_active_if p j (offer_named p name)) own).1
+after_within p j c within accepted changing =
+    elim (rule_change p c) [
+      | inl makes ↦
+          let binds = (can_become p j makes.0.properties (activation_accepted p j c makes.0 accepted changing makes.1)).binds in
+          subst (IsWithin p) (sym (rules_put p (now p j) c makes.0 makes.1)) (within_put p (now p j) makes.0 (now p j).rules (made_once p (tables j)) binds)
+      | inr none ↦ subst (IsWithin p) (sym (rules_left p (now p j) c none)) (within_filter p (stays (now p j) c) (now p j).rules within)
     ]
-after_within p j (Remove name) within accepted changing = within_filter p (λ r. not (is_named name r)) (now p j).rules within
-after_within p j (LoseBearer id) within accepted changing = within_filter p (λ r. not ((now p j).id_of r.properties.qos == id.0)) (now p j).rules within
-after_within p j Close within accepted changing = within_none p
-after_within p j Terminate within accepted changing = within_none p
-after_within p j (Monitor key amount) within accepted changing = within
-after_within p j (Stop key) within accepted changing = within
-after_within p j (ReportNow key) within accepted changing = within
-after_within p j (Triggers set) within accepted changing = within
-after_within p j (Notice kind value) within accepted changing = within
 
 pub lawful_within : (p : Setting) (j : Journal) → Lawful p j → IsWithin p (now p j).rules
 unfolding made_by

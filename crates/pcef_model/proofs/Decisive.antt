@@ -1,19 +1,17 @@
 -- Each active rule has a name of its own, and one rule decides on a packet.
-use Rattle.std.proofs.Common.{◌≡◌, ◌∙◌, suc, zero, true, false, ◌||◌, not, List, [], ◌∷◌, sym, ap, arith, inl, inr, Contains, Some, None, ◌==◌}
-use Rattle.std.specs.Prelude.{◌⊎◌, Option}
+use Rattle.std.proofs.Common.{◌≡◌, ◌∙◌, suc, zero, true, false, ◌||◌, List, [], ◌∷◌, sym, ap, arith, inl, inr, Contains, subst}
+use Rattle.std.specs.Prelude.{◌⊎◌}
 use Rattle.std.specs.List.{list_any, list_all}
 use Rattle.std.proofs.lemmas.Bool.{cases_Bool, and_parts, or_cases}
 use Rattle.pcef_packet.specs.declared.header.Addr.{Addr}
 use Rattle.pcef_packet.specs.declared.header.Header.{Header}
 use Rattle.pcef_rule.specs.Precedence.{Rank, goes_before}
 use Rattle.pcef_rule.proofs.OrderOfRules.{one_goes_first}
-use Rattle.pcef_catalog.specs.declared.listing.Offer.{Offer}
 use Rattle.pcef_model.specs.declared.command.Command.{Command}
-use Rattle.pcef_model.specs.declared.command.Command.TheVariants.{Install, Activate, Remove, Monitor, Stop, ReportNow, Triggers, Notice, LoseBearer, Close, Terminate}
-use Rattle.pcef_model.specs.Setting.{Setting, offer_named, same_name}
-use Rattle.pcef_model.specs.Generations.{Generation, made_by, rules_after}
-use Rattle.pcef_model.specs.ActiveRules.{Active, decisive, dynamic, fits, goes_ahead_of, is_before, is_decisive, is_named, predefined, put_if_offered, rank_of}
-use Rattle.pcef_model.specs.Journals.{at}
+use Rattle.pcef_model.specs.Setting.{Setting, same_name}
+use Rattle.pcef_model.specs.Generations.{Generation, made_by, rules_after, stays}
+use Rattle.pcef_model.proofs.RulesAfter.{rule_change, rules_left, rules_put}
+use Rattle.pcef_model.specs.ActiveRules.{Active, decisive, fits, goes_ahead_of, is_before, is_decisive, is_named, rank_of}
 use Rattle.pcef_lists.proofs.Tests.{contrary}
 use Rattle.pcef_model.proofs.Sameness.{same_name_is, same_name_of}
 use Rattle.pcef_model.proofs.BoundRules.{NamesOnce}
@@ -41,22 +39,12 @@ unfolding made_by Once
 made_once p [] = tt
 made_once p (c ∷ cs) = next_once p (made_by p cs) c (made_once p cs)
   where
-    offered_once : (o : Option Offer) (rules : List Active) → NamesOnce rules → NamesOnce (put_if_offered o rules)
-    offered_once None rules once = once
-    offered_once (Some o) rules once = put_once (λ (r : Active). r.properties.name) (predefined o) rules once
-
     next_once : (p : Setting) (g : Generation) (c : Command) → NamesOnce g.rules → NamesOnce (rules_after p g c)
-    next_once p g (Install rule) once = put_once (λ (r : Active). r.properties.name) (dynamic rule) g.rules once
-    next_once p g (Activate name) once = offered_once (offer_named p name) g.rules once
-    next_once p g (Remove name) once = filter_once (λ (r : Active). r.properties.name) (λ r. not (is_named name r)) g.rules once
-    next_once p g (LoseBearer id) once = filter_once (λ (r : Active). r.properties.name) (λ r. not (g.id_of r.properties.qos == id.0)) g.rules once
-    next_once p g Close once = tt
-    next_once p g Terminate once = tt
-    next_once p g (Monitor key amount) once = once
-    next_once p g (Stop key) once = once
-    next_once p g (ReportNow key) once = once
-    next_once p g (Triggers set) once = once
-    next_once p g (Notice kind value) once = once
+    next_once p g c once =
+        elim (rule_change p c) [
+          | inl makes ↦ subst NamesOnce (sym (rules_put p g c makes.0 makes.1)) (put_once (λ (r : Active). r.properties.name) makes.0 g.rules once)
+          | inr none ↦ subst NamesOnce (sym (rules_left p g c none)) (filter_once (λ (r : Active). r.properties.name) (stays g c) g.rules once)
+        ]
 
 -- ---- which rule decides
 -- no two rules of different names go before each other

@@ -9,7 +9,8 @@ use Rattle.pcef_model.specs.declared.row.Row.{Row}
 use Rattle.pcef_model.specs.Setting.{Setting}
 use Rattle.pcef_model.specs.Generations.{Generation, made_by, next, oldest}
 use Rattle.pcef_model.specs.Entries.{Journal, rows}
-use Rattle.pcef_model.specs.Journals.{at, counted, counts, counts_in, gen, is_table, now, octets_of, tables}
+use Rattle.pcef_model.specs.Journals.{at, counted, counts, counts_in, gen, now, octets_of, tables}
+use Rattle.pcef_model.specs.Commands.{is_table}
 
 pub tables_of_table : (j : Journal) (c : Command) → is_table c ≡ true → tables (entry.Command c ∷ j) ≡ c ∷ tables j
 tables_of_table j c is = rw is refl

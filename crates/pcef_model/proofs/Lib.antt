@@ -9,11 +9,15 @@ pub mod Exactness
 pub mod ExampleSession
 pub mod Examples
 pub mod Growth
+pub mod Lanes
 pub mod Members
 pub mod Names
+pub mod NewLanes
 pub mod Onward
 pub mod Reports
 pub mod RowsLater
+pub mod RulesAfter
+pub mod RulesNow
 pub mod Sameness
 pub mod SlotPlaces
 pub mod SlotsGrow

@@ -8,7 +8,8 @@ use Rattle.pcef_model.specs.declared.row.Row.{Row}
 use Rattle.pcef_model.specs.Setting.{Setting}
 use Rattle.pcef_model.specs.Entries.{Journal, lane}
 use Rattle.pcef_model.specs.Generations.{made_by, oldest}
-use Rattle.pcef_model.specs.Journals.{at, gen, is_table, judged, tables}
+use Rattle.pcef_model.specs.Journals.{at, gen, judged, tables}
+use Rattle.pcef_model.specs.Commands.{is_table}
 use Rattle.pcef_model.specs.Reports.{with_rows}
 use Rattle.pcef_model.proofs.Growth.{at_after_command, gen_after_table, tables_of_other}
 use Rattle.pcef_model.specs.Lawful.{BatchFollows, RowFollows, RowsFollow}

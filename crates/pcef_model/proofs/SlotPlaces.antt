@@ -5,7 +5,8 @@ use Rattle.std.specs.Option.{option_map}
 use Rattle.std.proofs.lemmas.Bool.{cases_Bool, or_left}
 use Rattle.pcef_model.specs.declared.command.Command.{Command}
 use Rattle.pcef_model.specs.Setting.{Setting, same_name}
-use Rattle.pcef_model.specs.Generations.{add_if_some, add_key, is_among, key_named, slots_of}
+use Rattle.pcef_model.specs.Generations.{add_if_some, slots_of}
+use Rattle.pcef_model.specs.Commands.{add_key, is_among, key_named}
 use Rattle.pcef_model.proofs.Sameness.{same_name_is, same_name_of}
 use Rattle.pcef_model.specs.Slots.{place_of}
 

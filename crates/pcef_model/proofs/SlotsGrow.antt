@@ -1,21 +1,21 @@
 -- Slots stay as the journal grows, and the key of each active rule has one.
-use Rattle.std.proofs.Common.{◌≡◌, ◌∙◌, ℕ, true, not, List, [], ◌∷◌, ◌++◌, length, refl, sym, ap, subst, arith, inl, inr, Contains, Some, None, append-nil, append_assoc, nat_le, ◌==◌}
+use Rattle.std.proofs.Common.{◌≡◌, ◌∙◌, ℕ, true, List, [], ◌∷◌, ◌++◌, length, refl, sym, ap, subst, arith, inl, inr, Contains, Some, None, append-nil, append_assoc, nat_le}
 use Rattle.std.specs.Prelude.{◌⊎◌, Option}
 use Rattle.std.proofs.lemmas.Bool.{cases_Bool}
-use Rattle.pcef_catalog.specs.declared.listing.Offer.{Offer}
 use Rattle.pcef_model.specs.declared.entry.Entry.TheVariants as entry
 use Rattle.pcef_model.specs.declared.command.Command.{Command}
-use Rattle.pcef_model.specs.declared.command.Command.TheVariants.{Install, Activate, Remove, Monitor, Stop, ReportNow, Triggers, Notice, LoseBearer, Close, Terminate}
-use Rattle.pcef_model.specs.Setting.{Setting, offer_named}
-use Rattle.pcef_model.specs.ActiveRules.{Active, dynamic, is_named, predefined, put_if_offered}
-use Rattle.pcef_model.specs.Generations.{Generation, add_if_some, is_among, key_named, key_offered, made_by, oldest, rules_after, slots_of}
+use Rattle.pcef_model.specs.Setting.{Setting}
+use Rattle.pcef_model.specs.ActiveRules.{Active}
+use Rattle.pcef_model.specs.Generations.{Generation, add_if_some, made_by, oldest, rules_after, slots_of, stays}
+use Rattle.pcef_model.specs.Commands.{is_among, key_named, is_table}
 use Rattle.pcef_model.specs.Entries.{Journal}
-use Rattle.pcef_model.specs.Journals.{at, is_table, slots, tables}
+use Rattle.pcef_model.specs.Journals.{at, slots, tables}
 use Rattle.pcef_model.proofs.Growth.{tables_of_other, tables_of_table}
 use Rattle.pcef_model.specs.Slots.{place_of, slot_of}
 use Rattle.pcef_model.proofs.BoundRules.{NamesOnce}
 use Rattle.pcef_model.proofs.Members.{filter_from, put_cases}
 use Rattle.pcef_model.proofs.Decisive.{made_once}
+use Rattle.pcef_model.proofs.RulesAfter.{makes_active, rule_change, rules_left, rules_put}
 use Rattle.pcef_model.proofs.SlotPlaces.{Grows, add_among, more_among, place_grown, slots_grow}
 
 -- ---- the key of each active rule has a slot
@@ -33,23 +33,16 @@ has_slot_named (Some key) keys = add_among key keys
 
 -- a rule after a command was there before, or has the key that the command names
 older : (p : Setting) (g : Generation) (c : Command) (r : Active) → NamesOnce g.rules → Contains (rules_after p g c) r → Contains g.rules r ⊎ (key_named p c ≡ r.properties.key)
-older p g (Install rule) r once there =
-    elim (put_cases (dynamic rule) g.rules r once there) [ inl new ↦ inr (ap (λ (x : Active). x.properties.key) new) | inr old ↦ inl old.0 ]
-older p g (Activate name) r once there = offered (offer_named p name) there
-  where
-    offered : (o : Option Offer) → Contains (put_if_offered o g.rules) r → Contains g.rules r ⊎ (key_offered o ≡ r.properties.key)
-    offered None there = inl there
-    offered (Some o) there =
-        elim (put_cases (predefined o) g.rules r once there) [ inl new ↦ inr (ap (λ (x : Active). x.properties.key) new) | inr old ↦ inl old.0 ]
-older p g (Remove name) r once there = inl (filter_from (λ r. not (is_named name r)) g.rules r there).0
-older p g (LoseBearer id) r once there = inl (filter_from (λ r. not (g.id_of r.properties.qos == id.0)) g.rules r there).0
-older p g Close r once there = absurd (omega (arith, there.1))
-older p g Terminate r once there = absurd (omega (arith, there.1))
-older p g (Monitor key amount) r once there = inl there
-older p g (Stop key) r once there = inl there
-older p g (ReportNow key) r once there = inl there
-older p g (Triggers set) r once there = inl there
-older p g (Notice kind value) r once there = inl there
+older p g c r once there =
+    elim (rule_change p c) [
+      | inl makes ↦
+          let named = (makes_active p c makes.0 makes.1).key_is in
+          elim (put_cases makes.0 g.rules r once (subst (λ rs. Contains rs r) (rules_put p g c makes.0 makes.1) there)) [
+            | inl new ↦ inr (named ∙ ap (λ (x : Active). x.properties.key) new)
+            | inr old ↦ inl old.0
+          ]
+      | inr none ↦ inl (filter_from (stays g c) g.rules r (subst (λ rs. Contains rs r) (rules_left p g c none) there)).0
+    ]
 
 pub rules_have_slots : (p : Setting) (cs : List Command) (r : Active) → Contains (made_by p cs).rules r → HasSlot (slots_of p cs) r.properties.key
 unfolding made_by slots_of

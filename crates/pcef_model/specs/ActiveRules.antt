@@ -42,9 +42,9 @@ without name rules = without_name (λ r. r.properties.name) name rules
 abbrev pub put : Active → List Active → List Active
 put new rules = put_by (λ r. r.properties.name) new rules
 
-abbrev pub put_if_offered : Option Offer → List Active → List Active
-put_if_offered None rules = rules
-put_if_offered (Some o) rules = put (predefined o) rules
+abbrev pub put_if_some : Option Active → List Active → List Active
+put_if_some None rules = rules
+put_if_some (Some new) rules = put new rules
 
 -- ---- rules by key
 abbrev pub is_key : List ℕ → Option (List ℕ) → Bool

@@ -4,8 +4,8 @@ use Rattle.pcef_model.specs.declared.command.Command.{Command}
 use Rattle.pcef_model.specs.Setting.{Setting}
 use Rattle.pcef_model.specs.ActiveRules.{Active}
 use Rattle.pcef_model.specs.ActiveRules as rules
-use Rattle.pcef_model.specs.Generations.{Generation, key_named, rules_after, switched}
-use Rattle.pcef_model.specs.Journals.{is_table}
+use Rattle.pcef_model.specs.Generations.{Generation, rules_after}
+use Rattle.pcef_model.specs.Commands.{key_named, switched, is_table}
 
 -- ---- for private clauses
 -- a command makes this rule active, and names its key

@@ -1,15 +1,12 @@
 -- What table commands make: the active rules, the bearers and the keys that are on, generation by
--- generation. A table command is one that makes a new generation: all but ReportNow, Triggers and
--- Notice. Lists of commands are written newest first.
-use Rattle.std.specs.Prelude.{ℕ, ◌==◌, Bool, not, ◌||◌, List, [], ◌∷◌, ◌++◌, Option, Some, None, filter, length, nat_le, unwrap_or, if◌then◌else◌}
-use Rattle.std.specs.List.{list_any}
+-- generation. Lists of commands are written newest first.
+use Rattle.std.specs.Prelude.{ℕ, Bool, not, ◌||◌, List, [], ◌∷◌, Option, Some, None, filter, length, nat_le, unwrap_or, if◌then◌else◌}
 use Rattle.pcef_rule.specs.declared.quantity.Qos.{Qos}
-use Rattle.pcef_catalog.specs.declared.listing.Offer.{Offer}
 use Rattle.pcef_model.specs.declared.command.Command.{Command}
-use Rattle.pcef_model.specs.declared.command.Command.TheVariants.{Install, Activate, Remove, Monitor, Stop, LoseBearer, Close, Terminate}
-use Rattle.pcef_model.specs.Setting.{Setting, offer_named, same_name, same_qos}
+use Rattle.pcef_model.specs.Setting.{Setting, same_qos}
 use Rattle.pcef_model.specs.Bearers.{default_id, has_pair, least_free}
-use Rattle.pcef_model.specs.ActiveRules.{Active, dynamic, has_key, put, put_if_offered, without}
+use Rattle.pcef_model.specs.ActiveRules.{Active, has_key, put_if_some}
+use Rattle.pcef_model.specs.Commands.{activated, add_key, key_named, switched, takes_away}
 
 -- one generation: its active rules, the id of the bearer of each pair of QCI and ARP that has one, and
 -- the keys that are on
@@ -23,17 +20,13 @@ abbrev pub at_first : Generation
 at_first = record { rules = []; id_of = λ q. default_id; on = [] }
 
 -- ---- rules
--- Activate takes a rule of the catalog, Remove and the loss of a bearer take rules away (TS 23.203,
--- clauses 6.2.2.1 and 6.3.2). Install defines a rule anew, and Close and Terminate take all rules away
--- (own choice)
+-- a rule that a command doesn't take away
+abbrev pub stays : Generation → Command → Active → Bool
+stays g c r = not (takes_away c r.properties.name (g.id_of r.properties.qos))
+
+-- the rules that stay, and the one that the command makes active
 abbrev pub rules_after : Setting → Generation → Command → List Active
-rules_after p g (Install rule) = put (dynamic rule) g.rules
-rules_after p g (Activate name) = put_if_offered (offer_named p name) g.rules
-rules_after p g (Remove name) = without name g.rules
-rules_after p g (LoseBearer id) = filter (λ r. not (g.id_of r.properties.qos == id.0)) g.rules
-rules_after p g Close = []
-rules_after p g Terminate = []
-rules_after p g _ = g.rules
+rules_after p g c = put_if_some (activated p c) (filter (stays g c) g.rules)
 
 -- ---- bearers (TS 23.203, clause 6.1.1.4)
 -- the default pair has a bearer, and each pair of an active rule
@@ -57,19 +50,6 @@ id_after p g rules q =
     else unwrap_or (free_id p g rules) default_id
 
 -- ---- keys (TS 29.212, clauses 4.5.16 and 4.5.17)
-abbrev pub is_among : List ℕ → List (List ℕ) → Bool
-is_among key keys = list_any (same_name key) keys
-
-abbrev pub add_key : List ℕ → List (List ℕ) → List (List ℕ)
-add_key key keys = if is_among key keys then keys else keys ++ key ∷ []
-
--- the keys that a command itself switches on or off
-abbrev pub switched : Command → List (List ℕ) → List (List ℕ)
-switched (Monitor key grant) on = add_key key on
-switched (Stop key) on = filter (λ k. not (same_name key k)) on
-switched Terminate on = []
-switched _ on = on
-
 -- a key that had a rule before goes off with its last one
 abbrev pub still_on : List Active → List Active → List (List ℕ) → List (List ℕ)
 still_on old new on = filter (λ k. not (has_key k old) || has_key k new) on
@@ -93,17 +73,6 @@ oldest n [] = []
 oldest n (x ∷ xs) = if nat_le n (length xs) then oldest n xs else x ∷ xs
 
 -- ---- slots (own choice)
-abbrev pub key_offered : Option Offer → Option (List ℕ)
-key_offered None = None
-key_offered (Some o) = o.properties.key
-
--- the key that a command names
-abbrev pub key_named : Setting → Command → Option (List ℕ)
-key_named p (Install rule) = rule.properties.key
-key_named p (Activate name) = key_offered (offer_named p name)
-key_named p (Monitor key grant) = Some key
-key_named p _ = None
-
 abbrev pub add_if_some : Option (List ℕ) → List (List ℕ) → List (List ℕ)
 add_if_some None keys = keys
 add_if_some (Some key) keys = add_key key keys

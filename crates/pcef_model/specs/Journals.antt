@@ -7,7 +7,7 @@ use Rattle.pcef_rule.specs.Gate.{opens}
 use Rattle.pcef_model.specs.declared.verdict.Verdict.{Verdict}
 use Rattle.pcef_model.specs.declared.verdict.Verdict.TheVariants.{Stray, Unmatched, Gated, Passed}
 use Rattle.pcef_model.specs.declared.command.Command.{Command}
-use Rattle.pcef_model.specs.declared.command.Command.TheVariants.{Monitor, ReportNow, Triggers, Notice}
+use Rattle.pcef_model.specs.declared.command.Command.TheVariants.{Monitor, Triggers}
 use Rattle.pcef_model.specs.declared.entry.Entry.{Entry}
 use Rattle.pcef_model.specs.declared.entry.Entry.TheVariants as entry
 use Rattle.pcef_model.specs.declared.report.Body.{Body}
@@ -18,17 +18,11 @@ use Rattle.pcef_model.specs.declared.row.Row.{Row}
 use Rattle.pcef_model.specs.declared.trigger.TriggerSet.{TriggerSet}
 use Rattle.pcef_model.specs.Setting.{Setting, same_name}
 use Rattle.pcef_model.specs.ActiveRules.{Active, decisive, is_key}
-use Rattle.pcef_model.specs.Generations.{Generation, is_among, made_by, oldest, slots_of}
+use Rattle.pcef_model.specs.Generations.{Generation, made_by, oldest, slots_of}
+use Rattle.pcef_model.specs.Commands.{is_among, is_table}
 use Rattle.pcef_model.specs.Entries.{Journal, lane, reports, rows}
 
 -- ---- generations
--- the commands that make a new generation
-abbrev pub is_table : Command → Bool
-is_table (ReportNow key) = false
-is_table (Triggers set) = false
-is_table (Notice kind value) = false
-is_table _ = true
-
 abbrev pub as_table : Entry → Option Command
 as_table (entry.Command c) = if is_table c then Some c else None
 as_table _ = None

@@ -7,7 +7,8 @@ use Rattle.pcef_model.specs.declared.row.Row.{Row}
 use Rattle.pcef_model.specs.Setting.{Setting, same_qos}
 use Rattle.pcef_model.specs.Generations.{next, has_bearer}
 use Rattle.pcef_model.specs.Entries.{Journal}
-use Rattle.pcef_model.specs.Journals.{at, counted, counts_in, gen, is_table, now, reported, slots, unreported}
+use Rattle.pcef_model.specs.Journals.{at, counted, counts_in, gen, now, reported, slots, unreported}
+use Rattle.pcef_model.specs.Commands.{is_table}
 use Rattle.pcef_rule.specs.declared.quantity.Qos.{Qos}
 use Rattle.pcef_rule.specs.declared.quantity.Slot.{Slot}
 use Rattle.pcef_model.specs.Refusals.{total_down, total_up}

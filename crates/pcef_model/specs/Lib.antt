@@ -2,6 +2,7 @@ pub mod ActiveRules
 pub mod Answers
 pub mod Bearers
 pub mod Changes
+pub mod Commands
 pub mod Entries
 pub mod Generations
 pub mod Journals

@@ -1,6 +1,6 @@
 -- The refusals of each event: of the conditions that hold, the first in the order of the lists decides
 -- (own choice).
-use Rattle.std.specs.Prelude.{ℕ, ◌+◌, ◌==◌, Bool, true, false, not, ◌&&◌, ◌||◌, List, [], ◌∷◌, ◌++◌, Option, Some, None, is_none, is_some, length, nat_le, nat_lt, if◌then◌else◌}
+use Rattle.std.specs.Prelude.{filter, ℕ, ◌+◌, ◌==◌, Bool, true, false, not, ◌&&◌, ◌||◌, List, [], ◌∷◌, ◌++◌, Option, Some, None, is_none, is_some, length, nat_le, nat_lt, if◌then◌else◌}
 use Rattle.std.specs.List.{list_any}
 use Rattle.pcef_rule.specs.declared.qci.Kind.{Kind}
 use Rattle.pcef_rule.specs.declared.quantity.Qos.{Qos}
@@ -13,10 +13,11 @@ use Rattle.pcef_model.specs.declared.command.Command.{Command}
 use Rattle.pcef_model.specs.declared.command.Command.TheVariants.{Install, Activate, Remove, Monitor, Stop, ReportNow, Triggers, Notice, LoseBearer, Close, Terminate}
 use Rattle.pcef_model.specs.declared.entry.Entry.{Entry}
 use Rattle.pcef_model.specs.declared.entry.Entry.TheVariants as entry
-use Rattle.pcef_model.specs.Setting.{Setting, most_keys, most_rules, offer_named}
+use Rattle.pcef_model.specs.Setting.{Setting, most_keys, most_rules, offer_named, same_qos}
 use Rattle.pcef_model.specs.Bearers.{default_id, is_gbr, is_non_gbr, rate_down, rate_up, sum_down, sum_up}
 use Rattle.pcef_model.specs.ActiveRules.{Active, is_named, without}
-use Rattle.pcef_model.specs.Generations.{Generation, free_id, has_bearer, is_among}
+use Rattle.pcef_model.specs.Generations.{Generation, free_id, has_bearer}
+use Rattle.pcef_model.specs.Commands.{is_among}
 use Rattle.pcef_model.specs.Entries.{Journal, rows}
 use Rattle.pcef_model.specs.Journals.{attach_count, attached, now, slots}
 use Rattle.pcef_model.specs.declared.answer.OpenFault.{OpenFault}
@@ -86,6 +87,13 @@ total_up rules = sum_up (λ r. r.properties.rates) rules
 
 abbrev pub total_down : List Active → ℕ
 total_down rules = sum_down (λ r. r.properties.rates) rules
+
+-- what the bearer of a pair guarantees: the sums over the active rules with that pair (TS 23.203, clause 6.1.1.4)
+abbrev pub rate_of : Generation → Qos → Sums
+rate_of g q = record {
+  up = total_up (filter (λ r. same_qos q r.properties.qos) g.rules);
+  down = total_down (filter (λ r. same_qos q r.properties.qos) g.rules);
+}
 
 -- a new pair of QCI and ARP needs a free id, beside the rules that stay
 abbrev pub finds_no_bearer : Setting → Generation → Properties → List Active → Bool

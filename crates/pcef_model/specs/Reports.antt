@@ -18,7 +18,8 @@ use Rattle.pcef_model.specs.declared.trigger.AccessKind.TheVariants.{RatChange, 
 use Rattle.pcef_model.specs.declared.trigger.TriggerSet.{TriggerSet}
 use Rattle.pcef_model.specs.Setting.{Setting}
 use Rattle.pcef_model.specs.ActiveRules.{has_key}
-use Rattle.pcef_model.specs.Generations.{Generation, is_among, rules_after, switched}
+use Rattle.pcef_model.specs.Generations.{Generation, rules_after}
+use Rattle.pcef_model.specs.Commands.{is_among, switched}
 use Rattle.pcef_model.specs.Entries.{Journal}
 use Rattle.pcef_model.specs.Journals.{attach_count, grant, now, report_count, slots, subscribed, unreported}
 
@@ -72,9 +73,12 @@ is_subscribed set UserLocationChange = set.user_location_change
 is_subscribed set UeTimeZoneChange = set.ue_time_zone_change
 
 -- a notice of a subscribed event
+abbrev pub noticed_by : TriggerSet → Command → List Telling
+noticed_by set (Notice kind value) = if is_subscribed set kind then Access kind value ∷ [] else []
+noticed_by set _ = []
+
 abbrev pub noticed : Journal → Command → List Telling
-noticed j (Notice kind value) = if is_subscribed (subscribed j) kind then Access kind value ∷ [] else []
-noticed j _ = []
+noticed j c = noticed_by (subscribed j) c
 
 -- all that a command reports by itself, in its order
 abbrev pub plan : Setting → Journal → Command → List Telling

@@ -2,7 +2,7 @@
 use Rattle.std.specs.Prelude.{ℕ, Bool, false, List, [], ◌∷◌, Option, Some, None, suc, if◌then◌else◌, ◌≡◌, ◌<◌, ◌==◌, length}
 use Rattle.std.specs.Option.{option_map}
 use Rattle.pcef_model.specs.Setting.{same_name, Setting}
-use Rattle.pcef_model.specs.Generations.{is_among}
+use Rattle.pcef_model.specs.Commands.{is_among}
 use Rattle.pcef_rule.specs.declared.quantity.Slot.{Slot}
 use Rattle.pcef_model.specs.declared.row.Row.{Row}
 use Rattle.pcef_model.specs.Entries.{Journal}

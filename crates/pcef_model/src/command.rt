@@ -1,6 +1,7 @@
 //! The commands of a session.
 
 ghost use Rattle.std.specs.Prelude.{◌≡◌, IfOk};
+ghost use Rattle.pcef_model.specs.Commands.{is_table, takes_away};
 
 use crate::trigger::{AccessKind, NoticeValue, TriggerSet};
 use pcef_rule::{BearerId, KeyName, Rule, RuleName};
@@ -66,6 +67,28 @@ impl Command {
             Command::LoseBearer(id) => Ok(Command::LoseBearer(*id)),
             Command::Close => Ok(Command::Close),
             Command::Terminate => Ok(Command::Terminate),
+        }
+    }
+
+    /// Whether the command makes a new generation: all do but ReportNow, Triggers and Notice.
+    pub fn is_table(&self) -> bool
+        ensures { result ≡ is_table self.now }
+    {
+        match self {
+            Command::ReportNow(_) | Command::Triggers(_) | Command::Notice { .. } => false,
+            _ => true,
+        }
+    }
+
+    /// Whether the command takes the rule of this name away, which is bound to this bearer.
+    pub fn takes_away(&self, name: &RuleName, bearer: BearerId) -> bool
+        ensures { result ≡ takes_away self.now name.now bearer.0 }
+    {
+        match self {
+            Command::Remove(removed) => *name == *removed,
+            Command::LoseBearer(lost) => bearer.0 == lost.0,
+            Command::Close | Command::Terminate => true,
+            _ => false,
         }
     }
 }

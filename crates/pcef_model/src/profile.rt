@@ -28,7 +28,8 @@ pub struct Profile {
 }
 
 impl Model for Profile {
-    ghost use Rattle.pcef_model.specs.Terms.{Terms, IsWithinLimits};
+    ghost use Rattle.pcef_model.specs.Terms.{Terms};
+    ghost use Rattle.pcef_model.specs.Terms.{IsWithinLimits};
 
     ghost Value = { Terms };
 

@@ -11,8 +11,8 @@ use crate::fault::ReadProfileFault;
 use crate::key::Key;
 use crate::shape::{is_known, is_whole};
 use crate::values::{address_at, capacity_at, declarations_at, number_at, qos_at};
-use pcef_rule::{Kind, Qci, QciFault, QciTable};
 use pcef_model::{MAX_CAPACITY, MAX_COMMANDS, Profile};
+use pcef_rule::{Kind, Qci, QciFault, QciTable};
 use std::alloc::Global;
 use toml::Table;
 

@@ -2,4 +2,5 @@ pub mod Answering
 pub mod Cuts
 pub mod KeptLines
 pub mod LineReads
+pub mod ReadBlocks
 pub mod ScriptSteps

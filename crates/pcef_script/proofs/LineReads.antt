@@ -1,7 +1,7 @@
--- What a line asks for, by whether it is UTF-8.
+-- What is due to a line, by whether it is UTF-8, and the answer to what is due.
 use Rattle.std.proofs.Common.{◌≡◌, ℕ, Bool, true, false, List, inl, inr, refl}
 use Rattle.std.proofs.lemmas.Result.{IfOk-weaker}
-use Rattle.std.specs.Prelude.{◌≢◌, ◌⊎◌, Result, Err, IfOk, string_bytes}
+use Rattle.std.specs.Prelude.{◌≢◌, Some, Result, Ok, Err, IfOk, string_bytes}
 use Rattle.std.specs.declared.alloc.AllocError.{AllocError}
 use Rattle.std.specs.Str.{IsUtf8, is_utf8}
 use Rattle.std.proofs.lemmas.Str.{IsUtf8-from_is_utf8, is_utf8-from_IsUtf8}
@@ -9,22 +9,38 @@ use Rattle.pcef_model.specs.Setting.{Setting}
 use Rattle.pcef_line.specs.declared.line.Line.{Line}
 use Rattle.pcef_line.specs.declared.fault.LineFault.{LineFault}
 use Rattle.pcef_line.specs.declared.fault.LineFault.TheVariants.{NoMemory, NotUtf8}
-use Rattle.pcef_script.specs.declared.step.Answer.{Answer}
 use Rattle.pcef_line.specs.LineOf.{LineOf}
-use Rattle.pcef_script.specs.ScriptAnswers.{AnswersAs, Standing, text_read}
+use Rattle.pcef_line.specs.LineValues.{Gives}
+use Rattle.pcef_script.specs.declared.step.Answer.{Answer}
+use Rattle.pcef_script.specs.ScriptAnswers.{AnswersAs, AnswersDue, DueWithin, Standing, Steps}
 
-pub read_text : (line : List ℕ) → IsUtf8 line → text_read line ≡ LineOf line
-read_text line holds = rw (is_utf8-from_IsUtf8 line holds) refl
+pub text_due : (line : List ℕ) (due : Result Line LineFault) → IsUtf8 line → LineOf line due → DueWithin (Some line) due
+text_due line due holds read = rw (is_utf8-from_IsUtf8 line holds) read
 
-read_by : (line : List ℕ) (test : Bool) → is_utf8 line ≡ test → ¬ (IsUtf8 line) → text_read line ≡ Err NotUtf8
-read_by line true is isnt = absurd (isnt (IsUtf8-from_is_utf8 line is))
-read_by line false is isnt = rw is refl
+other_by : (line : List ℕ) (test : Bool) → is_utf8 line ≡ test → ¬ (IsUtf8 line) → DueWithin (Some line) (Err NotUtf8)
+other_by line true is isnt = absurd (isnt (IsUtf8-from_is_utf8 line is))
+other_by line false is isnt = rw is refl
 
-pub read_other : (line : List ℕ) → ¬ (IsUtf8 line) → text_read line ≡ Err NotUtf8
-read_other line isnt = read_by line (is_utf8 line) refl isnt
+pub other_due : (line : List ℕ) → ¬ (IsUtf8 line) → DueWithin (Some line) (Err NotUtf8)
+other_due line isnt = other_by line (is_utf8 line) refl isnt
+
+-- the answer to what is due is one to the line
+pub due_answered : (r : Result Answer AllocError) (Due More : Result Line LineFault → Type 0) (p : Setting) (s t : Standing) → ((due : Result Line LineFault) → Due due → More due)
+    → IfOk r (λ a. AnswersDue Due p s (string_bytes a.text) a.is_fault t) → IfOk r (λ a. AnswersDue More p s (string_bytes a.text) a.is_fault t)
+due_answered r Due More p s t more told = IfOk-weaker r _ _ (λ a known. (known.0, more known.0 known.1, known.2)) told
+
+pub fault_answered : (r : Result Answer AllocError) (Due : Result Line LineFault → Type 0) (p : Setting) (s : Standing) (fault : LineFault) → Due (Err fault)
+    → IfOk r (λ a. AnswersAs p s (Err fault) (string_bytes a.text) a.is_fault s) → IfOk r (λ a. AnswersDue Due p s (string_bytes a.text) a.is_fault s)
+fault_answered r Due p s fault is told = IfOk-weaker r _ _ (λ a known. (Err fault, is, known)) told
+
+-- a line that was read is what is due
+pub line_answered : (r : Result Answer AllocError) (p : Setting) (s t : Standing) (text : List ℕ) (line : Line) → (due : Result Line LineFault) × LineOf text due × Gives (λ l. l) (Ok line) due
+    → IfOk r (λ a. Steps p s line (string_bytes a.text) t) → IfOk r (λ a. a.is_fault ≡ false) → IfOk r (λ a. AnswersDue (LineOf text) p s (string_bytes a.text) a.is_fault t)
+line_answered (Ok a) p s t text line read steps counts = (read.0, read.1, rw read.2 (steps, counts))
+line_answered (Err e) p s t text line read steps counts = tt
 
 -- a reader's fault that isn't want of memory is the line's first fault
-pub fault_read : (r : Result Answer AllocError) (p : Setting) (s : Standing) (due : Result Line LineFault) (fault : LineFault) → (fault ≡ NoMemory) ⊎ (due ≡ Err fault)
-    → IfOk r (λ a. (fault ≢ NoMemory) × AnswersAs p s (Err fault) (string_bytes a.text) a.is_fault s) → IfOk r (λ a. AnswersAs p s due (string_bytes a.text) a.is_fault s)
-fault_read r p s due fault (inl none) told = IfOk-weaker r _ _ (λ a known. absurd (known.0 none)) told
-fault_read r p s due fault (inr is) told = rw is (IfOk-weaker r _ _ (λ a known. known.1) told)
+pub fault_read : (r : Result Answer AllocError) (p : Setting) (s : Standing) (text : List ℕ) (fault : LineFault) → (due : Result Line LineFault) × LineOf text due × Gives (λ l. l) (Err fault) due
+    → IfOk r (λ a. (fault ≢ NoMemory) × AnswersAs p s (Err fault) (string_bytes a.text) a.is_fault s) → IfOk r (λ a. AnswersDue (LineOf text) p s (string_bytes a.text) a.is_fault s)
+fault_read r p s text fault (due, read, inl none) told = IfOk-weaker r _ _ (λ a known. absurd (known.0 none)) told
+fault_read r p s text fault (due, read, inr is) told = IfOk-weaker r _ _ (λ a known. (due, read, rw is known.1)) told

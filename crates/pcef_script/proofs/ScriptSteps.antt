@@ -8,7 +8,6 @@ use Rattle.std.proofs.lemmas.List.{at_drop_more, length-take, take_at}
 use Rattle.std.proofs.lemmas.Bool.{false≢true}
 use Rattle.std.proofs.lemmas.Bool.Decides.{nat_tests}
 use Rattle.pcef_model.specs.Setting.{Setting}
-use Rattle.pcef_session.specs.Core.{setting_in}
 use Rattle.pcef_model.specs.Refusals.{first_of, open_faults}
 use Rattle.pcef_model.specs.Terms.{setting_of}
 use Rattle.pcef_world.specs.Worlds.{World}
@@ -24,13 +23,8 @@ use Rattle.pcef_script.proofs.Cuts.{cut_end, cut_plain, cut_run}
 one_longer : (input : List ℕ) (b : ℕ) → length (input ++ b ∷ []) ≡ length input + 1
 one_longer input b = length-append input (b ∷ [])
 
--- what is fixed stays
-pub setting_stays : (v w : World) (p : Setting) → w.core.terms ≡ v.core.terms → w.core.offers ≡ v.core.offers → setting_in v.core ≡ p → setting_in w.core ≡ p
-setting_stays v w p terms offers is =
-    ap (λ t. setting_of t w.core.offers) terms ∙ ap (λ o. setting_of v.core.terms o) offers ∙ is
-
 -- the start
-pub at_first : (p : Setting) (start : Option (List ℕ)) (line : Kept) (faults : ℕ) (w : World) → line ≡ kept_of [] 0 → faults ≡ 0 → setting_in w.core ≡ p → w.core.journal ≡ [] → w.workers ≡ []
+pub at_first : (p : Setting) (start : Option (List ℕ)) (line : Kept) (faults : ℕ) (w : World) → line ≡ kept_of [] 0 → faults ≡ 0 → w.core.setting ≡ p → w.core.journal ≡ [] → w.workers ≡ []
     → IsAfter p start start line faults w []
 unfolding cut
 at_first p start line faults w is none setting journal workers =
@@ -89,7 +83,7 @@ answers_on p lines line x y n k s t h g =
 
 -- a line feed
 pub line_ends : (p : Setting) (start a b : Option (List ℕ)) (old new : Kept) (faults n : ℕ) (v w : World) (input : List ℕ) → IsAfter p start a old faults v input → length input < script_most
-    → new ≡ kept_of [] (old.read + 1) → setting_in w.core ≡ p → EndsLine p v w (last_line input) faults n a b → IsAfter p start b new n w (input ++ 10 ∷ [])
+    → new ≡ kept_of [] (old.read + 1) → w.core.setting ≡ p → EndsLine p v w (last_line input) faults n a b → IsAfter p start b new n w (input ++ 10 ∷ [])
 line_ends p start a b old new faults n v w input h lt is setting e =
     let len = one_longer input 10 in
     let lines : ended_lines (input ++ 10 ∷ []) ≡ all_lines input = ap (λ (c : List (List ℕ) × List ℕ). c.0) (cut_end input) in

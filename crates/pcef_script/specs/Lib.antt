@@ -1,4 +1,5 @@
 pub mod Running
+pub mod Runs
 pub mod ScriptAnswers
 pub mod ScriptLines
 pub mod Scripts

@@ -2,7 +2,6 @@
 use Rattle.std.specs.Prelude.{◌≡◌, ◌≤◌, ◌+◌, ℕ, List, [], ◌∷◌, ◌++◌, length, Option}
 use Rattle.std.specs.Io.KnownBytes.{Appends}
 use Rattle.pcef_model.specs.Setting.{Setting}
-use Rattle.pcef_session.specs.Core.{setting_in}
 use Rattle.pcef_world.specs.Worlds.{World}
 use Rattle.pcef_script.specs.declared.fault.ScriptFault.{ScriptFault}
 use Rattle.pcef_script.specs.declared.fault.ScriptFault.TheVariants as fault
@@ -34,7 +33,7 @@ pub record IsAfter (p : Setting) (start now : Option (List ℕ)) (line : Kept) (
   pub kept : line ≡ kept_of (last_line input) (length input)
   pub most : length input ≤ script_most
   pub few : faults ≤ length input
-  pub setting : setting_in world.core ≡ p
+  pub setting : world.core.setting ≡ p
   pub text : List ℕ
   pub answers : Answers p at_start (answered (ended_lines input)) text faults (standing_of world)
   pub written : Appends start now text

@@ -73,25 +73,29 @@ Steps p before (Flush worker) text after =
 Steps p before Show text after = TellsSession p before.journal text × (after ≡ before)
 
 -- ---- lines
--- what a line asks for, or its first fault: a line within the limit is UTF-8 (RFC 3629)
-abbrev pub text_read : List ℕ → Result Line LineFault
-text_read line = if is_utf8 line then LineOf line else Err NotUtf8
+-- what is due to a line: what it asks for, or its first fault. A line within the limit is UTF-8 (RFC 3629).
+abbrev pub TextDue : Bool → List ℕ → Result Line LineFault → Type 0
+TextDue true line due = LineOf line due
+TextDue false line due = due ≡ Err NotUtf8
 
-abbrev pub read_within : Option (List ℕ) → Result Line LineFault
-read_within None = Err LineTooLong
-read_within (Some line) = text_read line
+abbrev pub DueWithin : Option (List ℕ) → Result Line LineFault → Type 0
+DueWithin None due = due ≡ Err LineTooLong
+DueWithin (Some line) due = TextDue (is_utf8 line) line due
 
-abbrev pub line_read : List ℕ → Result Line LineFault
-line_read line = read_within (within_limit line)
+abbrev pub LineDue : List ℕ → Result Line LineFault → Type 0
+LineDue line due = DueWithin (within_limit line) due
 
 -- a line at fault changes nothing
 abbrev pub AnswersAs : Setting → Standing → Result Line LineFault → List ℕ → Bool → Standing → Type 0
 AnswersAs p before (Ok line) text at_fault after = Steps p before line text after × (at_fault ≡ false)
 AnswersAs p before (Err fault) text at_fault after = (text ≡ fault_text fault) × (at_fault ≡ true) × (after ≡ before)
 
+abbrev pub AnswersDue : (Result Line LineFault → Type 0) → Setting → Standing → List ℕ → Bool → Standing → Type 0
+AnswersDue Due p before text at_fault after = (due : Result Line LineFault) × Due due × AnswersAs p before due text at_fault after
+
 -- the answer to a line, whether the line is at fault, and how the session stands after it
 abbrev pub AnswersLine : Setting → Standing → List ℕ → List ℕ → Bool → Standing → Type 0
-AnswersLine p before line text at_fault after = AnswersAs p before (line_read line) text at_fault after
+AnswersLine p before line text at_fault after = AnswersDue (LineDue line) p before text at_fault after
 
 -- the lines that get an answer
 abbrev pub answered : List (List ℕ) → List (List ℕ)

@@ -1,6 +1,6 @@
 //! What is read of a script, line by line.
 
-ghost use Rattle.std.specs.Prelude.{◌≡◌, ◌≤◌, ◌+◌, ◌↔◌, ◌++◌, ◌∷◌, ℕ, List, [], Err, IfErr, OnOk, false, length, option_map, take};
+ghost use Rattle.std.specs.Prelude.{◌≡◌, ◌≤◌, ◌+◌, ◌-◌, ◌↔◌, ◌++◌, ◌∷◌, ℕ, List, [], Err, IfErr, OnOk, false, length, option_map, take};
 ghost use Rattle.std.specs.List.{list_all};
 ghost use Rattle.pcef_script.specs.declared.fault.ScriptFault.TheVariants.{NoMemory, TooMuch};
 ghost use Rattle.pcef_script.specs.ScriptLines.{script_most, kept_of, IsKept, Takes, has_feed, is_blank, is_space, within_limit};
@@ -116,6 +116,13 @@ impl Pending {
         keep(&mut self.bytes, &mut self.is_too_long, byte)?;
         self.read += 1;
         Ok(false)
+    }
+
+    /// How many bytes may be read next: a byte more than the rest of a script tells that it is too long.
+    pub(crate) fn room(&self) -> usize
+        ensures { result ≡ script_most + 1 - self.now.read }
+    {
+        MAX_SCRIPT.saturating_add(1).saturating_sub(self.read) as usize
     }
 
     /// Begins the next line.

@@ -10,3 +10,4 @@ mod writing;
 
 pub use fault::ScriptFault;
 pub use run::run_script;
+pub use writing::put_all;

@@ -1,15 +1,16 @@
 //! Runs a script from a reader to a writer.
 
-ghost use Rattle.std.specs.Prelude.{◌≡◌, [], IfErr, IfOk, List, None, ℕ};
+ghost use Rattle.std.specs.Prelude.{◌≡◌, ◌<◌, ◌≤◌, [], IfErr, IfOk, None, length};
 ghost use Rattle.std.specs.Arc.{arc_value};
-ghost use Rattle.std.specs.Io.KnownBytes.{Consumes};
+ghost use Rattle.std.specs.Io.{ReadsAtMost};
+ghost use Rattle.std.specs.Io.KnownBytes.{ReadConsumes};
 ghost use Rattle.pcef_model.specs.Setting.{Setting};
-ghost use Rattle.pcef_session.specs.Core.{setting_in};
 ghost use Rattle.pcef_model.specs.Refusals.{first_of, open_faults};
 ghost use Rattle.pcef_model.specs.Terms.{setting_of};
 ghost use Rattle.pcef_catalog.specs.Catalogs.{offers_of};
 ghost use Rattle.pcef_script.specs.Running.{OpenFails};
-ghost use Rattle.pcef_script.specs.Scripts.{Opened, Ran};
+ghost use Rattle.pcef_script.specs.Runs.{Runs};
+ghost use Rattle.pcef_script.specs.Scripts.{Opened};
 
 use crate::fault::ScriptFault;
 use crate::running::{Running, end_line, take_block};
@@ -17,11 +18,12 @@ use pcef_catalog::{Catalog, Offers};
 use pcef_model::{OpenFault, Profile};
 use pcef_world::WorldState;
 use std::alloc::Global;
+use std::io;
 use std::io::{Read, Write};
 use std::sync::Arc;
 
 fn open(alloc: Global, profile: Profile, catalog: &Catalog) -> Result<WorldState, ScriptFault>
-    ensures made { IfOk result (λ w. (w.core.terms ≡ profile) × (w.core.offers ≡ offers_of catalog.now) × (w.core.journal ≡ []) × (w.workers ≡ [])) }
+    ensures made { IfOk result (λ w. (w.core.setting ≡ setting_of profile (offers_of catalog.now)) × (w.core.journal ≡ []) × (w.workers ≡ [])) }
     ensures opened { Opened (setting_of profile (offers_of catalog.now)) result }
     ensures fault { IfErr result OpenFails }
 {
@@ -35,6 +37,18 @@ fn open(alloc: Global, profile: Profile, catalog: &Catalog) -> Result<WorldState
     }
 }
 
+/// Reads some bytes to the front of a block, at most so many, and gives how many.
+fn read_some<R: Read>(reader: &mut R, block: &mut [u8], most: usize) -> io::Result<usize>
+    requires { 0 < most }
+    ensures most { IfOk result (λ n. n ≤ most) }
+    ensures bound { ReadsAtMost result block.new }
+    ensures room { length block.new ≡ length block.old }
+    ensures bytes { ReadConsumes (R.remaining reader.old) (R.remaining reader.new) result block.new }
+{
+    let room = most.min(block.len());
+    reader.read(&mut block[..room])
+}
+
 fn run<C: Offers, R: Read, W: Write>(
     alloc: Global,
     catalog: &C,
@@ -42,17 +56,17 @@ fn run<C: Offers, R: Read, W: Write>(
     reader: &mut R,
     writer: &mut W,
 ) -> Result<u64, ScriptFault>
-    requires offered { C.offers catalog.now ≡ world.core.offers }
+    requires offered { C.offers catalog.now ≡ world.core.setting.catalog }
     requires journal { world.core.journal ≡ [] }
     requires workers { world.workers ≡ [] }
     ensures opened { (p : Setting) → first_of (open_faults p) ≡ None → Opened p result }
-    ensures answers { (input : List ℕ) × Consumes (R.remaining reader.old) (R.remaining reader.new) input
-        × Ran (setting_in world.core) result (W.contents writer.old) (W.contents writer.new) (R.remaining reader.new) input }
+    ensures answers { Runs world.core.setting result (R.remaining reader.old) (R.remaining reader.new)
+        (W.contents writer.old) (W.contents writer.new) }
 {
     let mut script = Running::new(alloc, world);
     let mut block = [0u8; 8192];
     loop {
-        match reader.read(&mut block) {
+        match read_some(reader, &mut block, script.line.room()) {
             Ok(0) => {
                 return end_line(
                     alloc,
@@ -73,7 +87,7 @@ fn run<C: Offers, R: Read, W: Write>(
 ///
 /// A line feed ends a line, and so does the end of input; there is no answer to a line of spaces, tabs and CR alone.
 /// A line has at most 262,144 bytes, of which no more are kept, and a script 1,073,741,824. Reads in blocks of 8,192
-/// bytes, and writes each answer when its line has ended, without flushing the writer. Takes memory for the line, the
+/// bytes, the last of which ends one byte after those that a script may have, and writes each answer when its line has ended, without flushing the writer. Takes memory for the line, the
 /// answer and what the session keeps.
 ///
 /// Ends early with the first [`ScriptFault`] that it meets: the reader's or the writer's (an interruption too, and a
@@ -87,8 +101,8 @@ pub fn run_script<R: Read, W: Write>(
     catalog: Arc<Catalog>,
 ) -> Result<u64, ScriptFault>
     ensures opened { Opened (setting_of profile (offers_of (arc_value catalog))) result }
-    ensures answers { (input : List ℕ) × Consumes (R.remaining reader.old) (R.remaining reader.new) input
-        × Ran (setting_of profile (offers_of (arc_value catalog))) result (W.contents writer.old) (W.contents writer.new) (R.remaining reader.new) input }
+    ensures answers { Runs (setting_of profile (offers_of (arc_value catalog))) result
+        (R.remaining reader.old) (R.remaining reader.new) (W.contents writer.old) (W.contents writer.new) }
 {
     let world = open(alloc, profile, &catalog)?;
     run(alloc, &*catalog, world, reader, writer)

@@ -1,11 +1,11 @@
 //! What a line does.
 
-ghost use Rattle.std.specs.Prelude.{◌≡◌, ◌≢◌, Err, IfOk, false, string_bytes};
+ghost use Rattle.std.specs.Prelude.{◌≡◌, ◌≢◌, Err, IfOk, Some, false, string_bytes};
 ghost use Rattle.pcef_model.specs.Journals.{gen};
 ghost use Rattle.pcef_model.specs.Setting.{Setting};
-ghost use Rattle.pcef_session.specs.Core.{IsServed, setting_in};
+ghost use Rattle.pcef_session.specs.Preparing.{IsServed};
 ghost use Rattle.pcef_line.specs.LineOf.{LineOf};
-ghost use Rattle.pcef_script.specs.ScriptAnswers.{AnswersAs, Comes, Commands, Standing, Steps, standing_of, text_read};
+ghost use Rattle.pcef_script.specs.ScriptAnswers.{AnswersAs, AnswersDue, Comes, Commands, DueWithin, Standing, Steps, standing_of};
 ghost use Rattle.pcef_line.specs.declared.fault.LineFault.TheVariants.{LineTooLong, NoMemory};
 ghost use Rattle.pcef_line.specs.declared.line.Line.TheVariants.{Flush, Refresh, Show, Take};
 
@@ -14,8 +14,8 @@ use pcef_answer::{
     taken_answer,
 };
 use pcef_catalog::Offers;
-use pcef_model::{AttachFault, Command, FlushRefusal, Refusal};
 use pcef_line::{Line, LineFault, read_line};
+use pcef_model::{AttachFault, Command, FlushRefusal, Refusal};
 use pcef_packet::Header;
 use pcef_session::SessionState;
 use pcef_world::{StepRefusal, WorldState};
@@ -51,9 +51,8 @@ fn generation(session: &SessionState) -> u32
 /// Does a command. Where memory is wanting there is no answer, for this step and for the next ones.
 fn command(alloc: Global, world: &mut WorldState, command: Command) -> Result<String, AllocError>
     requires { IsServed command }
-    ensures answer { IfOk result (λ text. Commands (setting_in world.old.core) (standing_of world.old) command (string_bytes text) (standing_of world.new)) }
-    ensures terms { world.new.core.terms ≡ world.old.core.terms }
-    ensures offers { world.new.core.offers ≡ world.old.core.offers }
+    ensures answer { IfOk result (λ text. Commands world.old.core.setting (standing_of world.old) command (string_bytes text) (standing_of world.new)) }
+    ensures setting { world.new.core.setting ≡ world.old.core.setting }
 {
     match world.command(command) {
         Err(Refusal::NoMemory) => Err(AllocError),
@@ -63,8 +62,7 @@ fn command(alloc: Global, world: &mut WorldState, command: Command) -> Result<St
 
 fn attach(alloc: Global, world: &mut WorldState) -> Result<String, AllocError>
     ensures answer { IfOk result (λ text. Comes (standing_of world.old) (string_bytes text) (standing_of world.new)) }
-    ensures terms { world.new.core.terms ≡ world.old.core.terms }
-    ensures offers { world.new.core.offers ≡ world.old.core.offers }
+    ensures setting { world.new.core.setting ≡ world.old.core.setting }
 {
     match world.attach() {
         Err(AttachFault::NoMemory) => Err(AllocError),
@@ -79,8 +77,8 @@ fn take<C: Offers>(
     worker: u8,
     header: &Header,
 ) -> Result<String, AllocError>
-    requires { C.offers catalog.now ≡ world.old.core.offers }
-    ensures answer { IfOk result (λ text. Steps (setting_in world.old.core) (standing_of world.old) (Take worker header.now) (string_bytes text) (standing_of world.new)) }
+    requires { C.offers catalog.now ≡ world.old.core.setting.catalog }
+    ensures answer { IfOk result (λ text. Steps world.old.core.setting (standing_of world.old) (Take worker header.now) (string_bytes text) (standing_of world.new)) }
     ensures core { world.new.core ≡ world.old.core }
 {
     let answer = world.take(catalog, worker, header);
@@ -88,7 +86,7 @@ fn take<C: Offers>(
 }
 
 fn refresh(alloc: Global, world: &mut WorldState, worker: u8) -> Result<String, AllocError>
-    ensures answer { IfOk result (λ text. Steps (setting_in world.old.core) (standing_of world.old) (Refresh worker) (string_bytes text) (standing_of world.new)) }
+    ensures answer { IfOk result (λ text. Steps world.old.core.setting (standing_of world.old) (Refresh worker) (string_bytes text) (standing_of world.new)) }
     ensures core { world.new.core ≡ world.old.core }
 {
     let answer = world.refresh(worker)?;
@@ -96,9 +94,8 @@ fn refresh(alloc: Global, world: &mut WorldState, worker: u8) -> Result<String, 
 }
 
 fn flush(alloc: Global, world: &mut WorldState, worker: u8) -> Result<String, AllocError>
-    ensures answer { IfOk result (λ text. Steps (setting_in world.old.core) (standing_of world.old) (Flush worker) (string_bytes text) (standing_of world.new)) }
-    ensures terms { world.new.core.terms ≡ world.old.core.terms }
-    ensures offers { world.new.core.offers ≡ world.old.core.offers }
+    ensures answer { IfOk result (λ text. Steps world.old.core.setting (standing_of world.old) (Flush worker) (string_bytes text) (standing_of world.new)) }
+    ensures setting { world.new.core.setting ≡ world.old.core.setting }
 {
     match world.flush(worker) {
         Err(StepRefusal::Refused(FlushRefusal::NoMemory)) => Err(AllocError),
@@ -107,7 +104,7 @@ fn flush(alloc: Global, world: &mut WorldState, worker: u8) -> Result<String, Al
 }
 
 fn show(alloc: Global, world: &WorldState) -> Result<String, AllocError>
-    ensures { IfOk result (λ text. Steps (setting_in world.now.core) (standing_of world.now) Show (string_bytes text) (standing_of world.now)) }
+    ensures { IfOk result (λ text. Steps world.now.core.setting (standing_of world.now) Show (string_bytes text) (standing_of world.now)) }
 {
     show_answer(alloc, world.session())
 }
@@ -118,10 +115,9 @@ fn step<C: Offers>(
     world: &mut WorldState,
     line: Line,
 ) -> Result<String, AllocError>
-    requires { C.offers catalog.now ≡ world.old.core.offers }
-    ensures answer { IfOk result (λ text. Steps (setting_in world.old.core) (standing_of world.old) line (string_bytes text) (standing_of world.new)) }
-    ensures terms { world.new.core.terms ≡ world.old.core.terms }
-    ensures offers { world.new.core.offers ≡ world.old.core.offers }
+    requires { C.offers catalog.now ≡ world.old.core.setting.catalog }
+    ensures answer { IfOk result (λ text. Steps world.old.core.setting (standing_of world.old) line (string_bytes text) (standing_of world.new)) }
+    ensures setting { world.new.core.setting ≡ world.old.core.setting }
 {
     match line {
         Line::Install(rule) => command(alloc, world, Command::Install(rule)),
@@ -142,11 +138,10 @@ fn done<C: Offers>(
     world: &mut WorldState,
     line: Line,
 ) -> Result<Answer, AllocError>
-    requires { C.offers catalog.now ≡ world.old.core.offers }
-    ensures text { IfOk result (λ a. Steps (setting_in world.old.core) (standing_of world.old) line (string_bytes a.text) (standing_of world.new)) }
+    requires { C.offers catalog.now ≡ world.old.core.setting.catalog }
+    ensures text { IfOk result (λ a. Steps world.old.core.setting (standing_of world.old) line (string_bytes a.text) (standing_of world.new)) }
     ensures counts { IfOk result (λ a. a.is_fault ≡ false) }
-    ensures terms { world.new.core.terms ≡ world.old.core.terms }
-    ensures offers { world.new.core.offers ≡ world.old.core.offers }
+    ensures setting { world.new.core.setting ≡ world.old.core.setting }
 {
     Ok(Answer {
         text: step(alloc, catalog, world, line)?,
@@ -170,10 +165,9 @@ fn answer_text<C: Offers>(
     world: &mut WorldState,
     text: &str,
 ) -> Result<Answer, AllocError>
-    requires { C.offers catalog.now ≡ world.old.core.offers }
-    ensures answer { IfOk result (λ a. AnswersAs (setting_in world.old.core) (standing_of world.old) (LineOf text.now) (string_bytes a.text) a.is_fault (standing_of world.new)) }
-    ensures terms { world.new.core.terms ≡ world.old.core.terms }
-    ensures offers { world.new.core.offers ≡ world.old.core.offers }
+    requires { C.offers catalog.now ≡ world.old.core.setting.catalog }
+    ensures answer { IfOk result (λ a. AnswersDue (LineOf text.now) world.old.core.setting (standing_of world.old) (string_bytes a.text) a.is_fault (standing_of world.new)) }
+    ensures setting { world.new.core.setting ≡ world.old.core.setting }
 {
     match read_line(alloc, text) {
         Ok(line) => done(alloc, catalog, world, line),
@@ -188,10 +182,9 @@ pub(crate) fn answer_line<C: Offers>(
     world: &mut WorldState,
     line: &[u8],
 ) -> Result<Answer, AllocError>
-    requires { C.offers catalog.now ≡ world.old.core.offers }
-    ensures answer { IfOk result (λ a. AnswersAs (setting_in world.old.core) (standing_of world.old) (text_read line.now) (string_bytes a.text) a.is_fault (standing_of world.new)) }
-    ensures terms { world.new.core.terms ≡ world.old.core.terms }
-    ensures offers { world.new.core.offers ≡ world.old.core.offers }
+    requires { C.offers catalog.now ≡ world.old.core.setting.catalog }
+    ensures answer { IfOk result (λ a. AnswersDue (DueWithin (Some line.now)) world.old.core.setting (standing_of world.old) (string_bytes a.text) a.is_fault (standing_of world.new)) }
+    ensures setting { world.new.core.setting ≡ world.old.core.setting }
 {
     match str::from_utf8(line) {
         Ok(text) => answer_text(alloc, catalog, world, text),

@@ -8,9 +8,9 @@ ghost use Rattle.pcef_script.specs.ScriptLines.{AppendsFront};
 use crate::fault::ScriptFault;
 use std::io::Write;
 
-/// Writes all of some bytes. Every error of the writer ends it, an interruption too, and so does a
-/// write that takes no byte.
-pub(crate) fn put_all<W: Write>(writer: &mut W, bytes: &[u8]) -> Result<(), ScriptFault>
+/// Writes all of some bytes, or a front of them and [`ScriptFault::Write`]. Every error of the writer ends it, an
+/// interruption too, and so does a write that takes no byte. It doesn't flush, and takes no memory.
+pub fn put_all<W: Write>(writer: &mut W, bytes: &[u8]) -> Result<(), ScriptFault>
     ensures all { OnOk result (Appends (W.contents writer.old) (W.contents writer.new) bytes.now) }
     ensures front { IfErr result (λ e. (e ≡ WriteFault) × AppendsFront (W.contents writer.old) (W.contents writer.new) bytes.now) }
 {

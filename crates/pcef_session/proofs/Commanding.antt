@@ -1,24 +1,26 @@
 -- A session that has done a command agrees with the journal after it.
+use Rattle.pcef_bearer.specs.Bindings.{is_named as bound_named}
 use Rattle.std.proofs.Common.{◌≡◌, ◌∙◌, ◌≤◌, ℕ, Bool, true, false, List, [], ◌∷◌, length, refl, sym, ap, subst, arith, inl, inr, find, Some, None}
-use Rattle.std.specs.Prelude.{Option, Ok, Err}
-use Rattle.std.specs.List.{AllByRecursion}
+use Rattle.std.specs.Prelude.{Option, Ok, Err, filter, not}
+use Rattle.std.specs.List.{AllByRecursion, list_any}
 use Rattle.std.proofs.lemmas.Bool.{cases_Bool}
 use Rattle.std.proofs.lemmas.List.{length-map}
 use Rattle.pcef_rule.specs.declared.quantity.BearerId.{BearerId}
 use Rattle.indexmap.specs.IndexMap.{insert_entry}
 use Rattle.pcef_rule.specs.declared.rule.Properties.{Properties}
 use Rattle.pcef_table.specs.declared.entry.Source.{Source}
-use Rattle.pcef_bearer.specs.Bindings.{Binding}
+use Rattle.pcef_bearer.specs.Bindings.{Binding, with_rules}
 use Rattle.pcef_model.specs.declared.command.Command.{Command}
 use Rattle.pcef_model.specs.declared.command.Command.TheVariants.{Install, Activate, Remove, Monitor, Stop, ReportNow, Triggers, Notice, LoseBearer, Close, Terminate}
 use Rattle.pcef_model.specs.declared.entry.Entry.TheVariants as entry
 use Rattle.pcef_model.specs.declared.telling.Telling.{Telling}
 use Rattle.pcef_model.specs.Setting.{Setting, same_name}
 use Rattle.pcef_model.specs.ActiveRules.{Active, dynamic, is_named, put}
-use Rattle.pcef_model.specs.Generations.{Generation, key_named, next, rules_after}
+use Rattle.pcef_model.specs.Generations.{Generation, next, rules_after}
+use Rattle.pcef_model.specs.Commands.{key_named, is_table, activated, takes_away}
 use Rattle.pcef_model.specs.declared.trigger.TriggerSet.{TriggerSet}
 use Rattle.pcef_model.specs.Entries.{Journal, commands}
-use Rattle.pcef_model.specs.Journals.{gen, is_table, now, report_count, slots, subscribed, tables}
+use Rattle.pcef_model.specs.Journals.{gen, now, report_count, slots, subscribed, tables}
 use Rattle.pcef_model.specs.Reports.{after_command, body_of, plan, tell, thresholds}
 use Rattle.pcef_model.proofs.Growth.{now_after_table}
 use Rattle.pcef_model.proofs.Sameness.{same_name_of}
@@ -30,92 +32,70 @@ use Rattle.pcef_usage.proofs.Afterwards.{few_entered, subscribed_after, subscrib
 use Rattle.pcef_model.proofs.AfterEvents.{now_after, slots_after}
 use Rattle.pcef_usage.proofs.Commanded.{command_ended, keys_entered}
 use Rattle.pcef_usage.proofs.Endings.{Ended}
-use Rattle.pcef_session.specs.Agreement.{Agrees, AreKept, KeyAgrees, Parts}
+use Rattle.pcef_session.specs.private.Parts.{Agrees, Parts}
+use Rattle.pcef_session.specs.Agreement.{AreKept, KeyAgrees}
 use Rattle.pcef_model.specs.declared.answer.Accepted.{Accepted}
 use Rattle.pcef_model.specs.declared.answer.Refusal.{Refusal}
-use Rattle.pcef_session.specs.declared.prepared.Coming.{Coming}
+use Rattle.pcef_session.specs.declared.prepared.Activation.{Activation}
 use Rattle.pcef_model.specs.Answers.{Does, Gives, IsRefused, bearer_named, bearer_of, changes, command_outcome}
 use Rattle.pcef_bearer.specs.Standing.{binding_of}
-use Rattle.pcef_session.specs.Changes.{Brings, IsBoundTo, IsRebound, active_after, becoming, entered_by, rule_key}
-use Rattle.pcef_session.specs.Core.{IsBeside, IsServed}
+use Rattle.pcef_session.specs.Preparing.{Activates, IsServed}
+use Rattle.pcef_session.specs.private.Changes.{IsBoundTo, IsRebound, active_after, entered_by, rule_key}
 use Rattle.pcef_model.specs.Lawful.{Lawful, by_command}
 use Rattle.pcef_model.specs.Refusals.{first_of, is_active, refusals}
 use Rattle.pcef_session.specs.Shown.{Shows}
-use Rattle.pcef_session.proofs.Acceptance.{brings_none}
-use Rattle.pcef_session.proofs.Becoming.{brought, brought_none, makes_becoming, name_offered, served_key}
-use Rattle.pcef_model.proofs.BearerIds.{lawful_bound}
-use Rattle.pcef_bearer.proofs.BoundBearers.{next_id, next_monitor, next_put, next_remove}
+use Rattle.pcef_session.proofs.Acceptance.{asks_known, names_none}
+use Rattle.pcef_session.proofs.Activations.{brought, brought_none, served_key}
+use Rattle.pcef_model.proofs.RulesAfter.{makes_active, name_activated, filter_all}
+use Rattle.pcef_model.proofs.BearerIds.{lawful_bound, IsBound}
+use Rattle.pcef_bearer.proofs.BoundBearers.{next_id, next_put, next_left, named_bound}
 use Rattle.pcef_model.proofs.Exactness.{lawful_exact}
+use Rattle.pcef_model.proofs.RulesNow.{rules_then, now_after_other, rules_now}
 use Rattle.pcef_session.proofs.KeptRules.{kept_put, kept_without}
 use Rattle.pcef_session.proofs.NextTables.{all_count_from, all_on_from}
 use Rattle.pcef_model.proofs.Decisive.{made_once}
+use Rattle.pcef_bearer.specs.declared.bearers.Bound.{Bound}
+use Rattle.pcef_session.proofs.TakenAway.{kept_left}
 
--- ---- commands that are served
--- each of them makes a generation, asks for no key and leaves the triggers
-pub record IsPlainCommand (p : Setting) (j : Journal) (c : Command) : Type 0 where
-  pub table : is_table c ≡ true
-  pub asks : Asks p j c
-  pub triggers : subscribed_by c (subscribed j) ≡ subscribed j
-
-pub served_plainly : (p : Setting) (j : Journal) (c : Command) → IsServed c → IsPlainCommand p j c
-served_plainly p j (Install rule) served = record { table = refl; asks = tt; triggers = refl }
-served_plainly p j (Activate name) served = record { table = refl; asks = tt; triggers = refl }
-served_plainly p j (Remove name) served = record { table = refl; asks = tt; triggers = refl }
-served_plainly p j (Monitor key amount) served = record { table = refl; asks = tt; triggers = refl }
-served_plainly p j (Stop key) served = absurd served
-served_plainly p j (ReportNow key) served = absurd served
-served_plainly p j (Triggers set) served = absurd served
-served_plainly p j (Notice kind value) served = absurd served
-served_plainly p j (LoseBearer id) served = absurd served
-served_plainly p j Close served = absurd served
-served_plainly p j Terminate served = absurd served
-
+-- ---- keys that a command names
 -- its key is the one that it names
-pub entering : (p : Setting) (c : Command) (x : Option Coming) (states : List KeyState) → IsServed c → Brings p (becoming p c) x → entered_by (rule_key x) c states ≡ entered p c states
-entering p c x states served brings = ap (λ (key : Option (List ℕ)). started_by c (with_slot key states)) (sym (served_key p c x served brings))
+pub entering : (p : Setting) (c : Command) (x : Option Activation) (states : List KeyState) → Activates p (activated p c) x → entered_by (rule_key x) c states ≡ entered p c states
+entering p c x states brings = ap (λ (key : Option (List ℕ)). started_by c (with_slot key states)) (sym (served_key p c x brings))
 
--- ---- the generation after a command
-pub next_now : (p : Setting) (j : Journal) (c : Command) → is_table c ≡ true → now p (after_command p j c) ≡ next p (now p j) c
-next_now p j c is = now_after p j c ∙ now_after_table p j c is
+-- ---- rules and bearers
+-- where nothing is bound anew, the bearers of the rules that stay
+unbound_other : (c : Command) (bound : List Bound) → is_table c ≡ false → filter (λ b. not (takes_away c b.name b.bearer.0)) bound ≡ bound
+unbound_other (ReportNow key) bound isnt = filter_all bound
+unbound_other (Triggers set) bound isnt = filter_all bound
+unbound_other (Notice kind value) bound isnt = filter_all bound
+unbound_other (Install rule) bound isnt = absurd cc
+unbound_other (Activate name) bound isnt = absurd cc
+unbound_other (Remove name) bound isnt = absurd cc
+unbound_other (Monitor key amount) bound isnt = absurd cc
+unbound_other (Stop key) bound isnt = absurd cc
+unbound_other (LoseBearer id) bound isnt = absurd cc
+unbound_other Close bound isnt = absurd cc
+unbound_other Terminate bound isnt = absurd cc
 
--- ---- rules
-kept_beside : (p : Setting) (j : Journal) (c : Command) (kept : List (List ℕ × Source)) → IsBeside c → AreKept p.catalog kept (now p j).rules →
-    AreKept p.catalog (active_after None c kept) (rules_after p (now p j) c)
-kept_beside p j (Remove name) kept beside are = kept_without p.catalog name kept (now p j).rules (made_once p (tables j)) are
-kept_beside p j (Monitor key amount) kept beside are = are
-kept_beside p j (Install rule) kept beside are = absurd beside
-kept_beside p j (Activate name) kept beside are = absurd beside
-kept_beside p j (Stop key) kept beside are = absurd beside
-kept_beside p j (ReportNow key) kept beside are = absurd beside
-kept_beside p j (Triggers set) kept beside are = absurd beside
-kept_beside p j (Notice kind value) kept beside are = absurd beside
-kept_beside p j (LoseBearer id) kept beside are = absurd beside
-kept_beside p j Close kept beside are = absurd beside
-kept_beside p j Terminate kept beside are = absurd beside
+bound_left : (p : Setting) (j : Journal) (c : Command) → activated p c ≡ None → IsBound p (now p j) →
+    with_rules (binding_of p (now p j)) (filter (λ b. not (takes_away c b.name b.bearer.0)) (binding_of p (now p j)).bound) ≡ binding_of p (now p (entry.Command c ∷ j))
+bound_left p j c none bound =
+    elim (cases_Bool (is_table c)) [
+      | inl is ↦ sym (next_left p (now p j) c none bound) ∙ ap (binding_of p) (sym (now_after_table p j c is))
+      | inr isnt ↦ ap (with_rules (binding_of p (now p j))) (unbound_other c (binding_of p (now p j)).bound isnt) ∙ ap (binding_of p) (sym (now_after_other p j c isnt))
+    ]
 
-kept_after : (p : Setting) (j : Journal) (c : Command) (x : Option Coming) (kept : List (List ℕ × Source)) → IsServed c → first_of (refusals p j c) ≡ None → Brings p (becoming p c) x →
-    AreKept p.catalog kept (now p j).rules → AreKept p.catalog (active_after x c kept) (rules_after p (now p j) c)
-kept_after p j c None kept served accepted brings are = kept_beside p j c kept (brings_none p j c served accepted (brought_none p c None refl brings)) are
-kept_after p j c (Some x) kept served accepted brings are =
+kept_after : (p : Setting) (j : Journal) (c : Command) (x : Option Activation) (bound : Binding) (kept : List (List ℕ × Source)) → Activates p (activated p c) x → bound ≡ binding_of p (now p (entry.Command c ∷ j)) →
+    AreKept p.catalog kept (now p j).rules → AreKept p.catalog (active_after x bound kept) (rules_after p (now p j) c)
+kept_after p j c None bound kept brings bound_is are =
+    let g = now p (entry.Command c ∷ j) in
+    kept_left p (now p j) c bound kept (made_once p (tables j)) (brought_none p c None refl brings)
+    (λ name. ap (λ (b : Binding). list_any (bound_named name) b.bound) bound_is ∙ named_bound name g g.rules ∙ ap (list_any (is_named name)) (rules_now p j c)) are
+kept_after p j c (Some x) bound kept brings bound_is are =
     let b = brought p c (Some x) x refl brings in
     subst (λ (q : Properties). AreKept p.catalog (insert_entry same_name kept q.name x.source) (rules_after p (now p j) c)) (sym b.is_of.properties_are)
-    (subst (AreKept p.catalog (insert_entry same_name kept b.rule.properties.name x.source)) (sym ((makes_becoming p c b.rule b.becomes).rules_are (now p j)))
+    (subst (AreKept p.catalog (insert_entry same_name kept b.rule.properties.name x.source)) (sym ((makes_active p c b.rule b.becomes).rules_are (now p j)))
     (kept_put p.catalog b.rule x.source kept (now p j).rules b.is_of.rule_is are))
-
--- ---- bearers
-bound_beside : (p : Setting) (j : Journal) (c : Command) (new : Binding) (bearer : Option BearerId) → Lawful p j → IsBeside c → IsRebound None c (binding_of p (now p j)) new bearer →
-    (new ≡ binding_of p (next p (now p j) c)) × (bearer ≡ bearer_named (next p (now p j) c) c)
-bound_beside p j (Remove name) new bearer lawful beside rebound = (rebound.1 ∙ sym (next_remove p (now p j) name (lawful_bound p j lawful)), rebound.0)
-bound_beside p j (Monitor key amount) new bearer lawful beside rebound = (rebound.1 ∙ sym (next_monitor p (now p j) key amount (lawful_bound p j lawful)), rebound.0)
-bound_beside p j (Install rule) new bearer lawful beside rebound = absurd beside
-bound_beside p j (Activate name) new bearer lawful beside rebound = absurd beside
-bound_beside p j (Stop key) new bearer lawful beside rebound = absurd beside
-bound_beside p j (ReportNow key) new bearer lawful beside rebound = absurd beside
-bound_beside p j (Triggers set) new bearer lawful beside rebound = absurd beside
-bound_beside p j (Notice kind value) new bearer lawful beside rebound = absurd beside
-bound_beside p j (LoseBearer id) new bearer lawful beside rebound = absurd beside
-bound_beside p j Close new bearer lawful beside rebound = absurd beside
-bound_beside p j Terminate new bearer lawful beside rebound = absurd beside
 
 -- the rule that was put in is found by its name
 find_put : (new : Active) (rules : List Active) → find (is_named new.properties.name) (put new rules) ≡ Some new
@@ -128,14 +108,14 @@ find_put new (r ∷ rules) =
     ]
 
 -- the bearer that is told is that of the rule that was made active
-bearer_told : (p : Setting) (g : Generation) (c : Command) (r : Active) → becoming p c ≡ Some r → (after : Generation) → after.rules ≡ put r g.rules →
+bearer_told : (p : Setting) (g : Generation) (c : Command) (r : Active) → activated p c ≡ Some r → (after : Generation) → after.rules ≡ put r g.rules →
     bearer_named after c ≡ Some (record { 0 = after.id_of r.properties.qos })
 bearer_told p g (Install d) r is after rules =
     let same : dynamic d ≡ r = cc in
     ap (bearer_of after) (ap (find (is_named d.properties.name)) (rules ∙ ap (λ (x : Active). put x g.rules) (sym same)) ∙ find_put (dynamic d) g.rules)
     ∙ ap (λ (x : Active). Some (record { 0 = after.id_of x.properties.qos })) same
 bearer_told p g (Activate name) r is after rules =
-    let named : r.properties.name ≡ name = name_offered p name r is in
+    let named : r.properties.name ≡ name = name_activated p name r is in
     ap (bearer_of after) (ap (λ (n : List ℕ). find (is_named n) after.rules) (sym named) ∙ ap (find (is_named r.properties.name)) rules ∙ find_put r g.rules)
 bearer_told p g (Remove name) r is after rules = absurd cc
 bearer_told p g (Monitor key amount) r is after rules = absurd cc
@@ -147,19 +127,22 @@ bearer_told p g (LoseBearer id) r is after rules = absurd cc
 bearer_told p g Close r is after rules = absurd cc
 bearer_told p g Terminate r is after rules = absurd cc
 
-bound_after : (p : Setting) (j : Journal) (c : Command) (x : Option Coming) (new : Binding) (bearer : Option BearerId) → Lawful p j → IsServed c → first_of (refusals p j c) ≡ None →
-    Brings p (becoming p c) x → IsRebound x c (binding_of p (now p j)) new bearer → (new ≡ binding_of p (next p (now p j) c)) × (bearer ≡ bearer_named (next p (now p j) c) c)
-bound_after p j c None new bearer lawful served accepted brings rebound = bound_beside p j c new bearer lawful (brings_none p j c served accepted (brought_none p c None refl brings)) rebound
-bound_after p j c (Some x) new None lawful served accepted brings rebound = absurd rebound
-bound_after p j c (Some x) new (Some id) lawful served accepted brings rebound =
+bound_after : (p : Setting) (j : Journal) (c : Command) (x : Option Activation) (new : Binding) (bearer : Option BearerId) → Lawful p j → first_of (refusals p j c) ≡ None →
+    Activates p (activated p c) x → IsRebound x c (binding_of p (now p j)) new bearer → (new ≡ binding_of p (now p (entry.Command c ∷ j))) × (bearer ≡ bearer_named (now p (entry.Command c ∷ j)) c)
+bound_after p j c None new bearer lawful accepted brings rebound =
+    let none = brought_none p c None refl brings in
+    (rebound.1 ∙ bound_left p j c none (lawful_bound p j lawful), rebound.0 ∙ sym (names_none p j c (now p (entry.Command c ∷ j)) accepted none))
+bound_after p j c (Some x) new None lawful accepted brings rebound = absurd rebound
+bound_after p j c (Some x) new (Some id) lawful accepted brings rebound =
     let g : Generation = now p j in
     let b = brought p c (Some x) x refl brings in
-    let makes = makes_becoming p c b.rule b.becomes in
+    let makes = makes_active p c b.rule b.becomes in
     let bound = lawful_bound p j lawful in
     let is : IsBoundTo b.rule.properties (binding_of p g) new id = subst (λ (q : Properties). IsBoundTo q (binding_of p g) new id) b.is_of.properties_are rebound in
-    let gets : (next p g c).id_of b.rule.properties.qos ≡ id.0 = next_id p g c b.rule id.0 makes bound is.bearer_is in (
-      is.binding_is ∙ sym (next_put p g c b.rule id.0 makes bound is.bearer_is),
-      sym (bearer_told p g c b.rule b.becomes (next p g c) (makes.rules_are g) ∙ ap (λ (n : ℕ). Some (record { 0 = n })) gets),
+    let gets : (next p g c).id_of b.rule.properties.qos ≡ id.0 = next_id p g c b.rule id.0 makes bound is.bearer_is in
+    let after : next p g c ≡ now p (entry.Command c ∷ j) = sym (now_after_table p j c makes.is_table) in (
+      is.binding_is ∙ sym (next_put p g c b.rule id.0 makes bound is.bearer_is) ∙ ap (binding_of p) after,
+      sym (bearer_told p g c b.rule b.becomes (next p g c) (makes.rules_are g) ∙ ap (λ (n : ℕ). Some (record { 0 = n })) gets) ∙ ap (λ (h : Generation). bearer_named h c) after,
     )
 
 -- ---- keys
@@ -179,69 +162,67 @@ abbrev pub told_by : Bool → List Telling → List KeyState → Journal → Jou
 told_by b ts states j =
     told (settled_tellings b (states_told ts (states_stopped ts states))) (settled_states b (states_told ts (states_stopped ts states))) (told ts (states_stopped ts states) j)
 
-ended_command : (p : Setting) (j : Journal) (c : Command) (parts : Parts) → Agrees p j parts → IsPlainCommand p j c →
-    Ended p (entry.Command c ∷ j) (plan p j c) (states_stopped (plan p j c) (entered p c parts.keys)) (told_by parts.triggers.usage_report (plan p j c) (entered p c parts.keys) (entry.Command c ∷ j))
-    (left_by parts.triggers.usage_report (plan p j c) (entered p c parts.keys))
-ended_command p j c parts agrees plainly =
+ended_command : (p : Setting) (j : Journal) (c : Command) (parts : Parts) → Agrees p j parts → Asks p j c →
+    Ended p (entry.Command c ∷ j) (plan p j c) (states_stopped (plan p j c) (entered p c parts.keys)) (told_by (subscribed_by c parts.triggers).usage_report (plan p j c) (entered p c parts.keys) (entry.Command c ∷ j))
+    (left_by (subscribed_by c parts.triggers).usage_report (plan p j c) (entered p c parts.keys))
+ended_command p j c parts agrees asks =
     let exact = lawful_exact p j agrees.lawful in
-    command_ended p j c parts.keys parts.triggers.usage_report agrees.keys_are (all_count_from p j parts.keys agrees.usage_is) (all_on_from p j parts.keys agrees.usage_is) exact.known exact.exact plainly.asks
-    (ap (λ (t : TriggerSet). t.usage_report) (agrees.triggers_are ∙ sym plainly.triggers ∙ sym (subscribed_after j c)))
+    command_ended p j c parts.keys (subscribed_by c parts.triggers).usage_report agrees.keys_are (all_count_from p j parts.keys agrees.usage_is) (all_on_from p j parts.keys agrees.usage_is) exact.known exact.exact asks
+    (ap (λ (t : TriggerSet). t.usage_report) (ap (subscribed_by c) agrees.triggers_are ∙ sym (subscribed_after j c)))
 
 -- ---- all parts
-pub record IsCommanded (p : Setting) (j : Journal) (c : Command) (x : Option Coming) (old new : Parts) (bearer : Option BearerId) : Type 0 where
+pub record IsCommanded (p : Setting) (j : Journal) (c : Command) (x : Option Activation) (old new : Parts) (bearer : Option BearerId) : Type 0 where
   pub served : IsServed c
   pub accepted : first_of (refusals p j c) ≡ None
   pub changing : changes p j c ≡ true
-  pub brings : Brings p (becoming p c) x
-  pub rules_are : new.rules ≡ active_after x c old.rules
+  pub brings : Activates p (activated p c) x
+  pub rules_are : new.rules ≡ active_after x new.binding old.rules
   pub rebound : IsRebound x c old.binding new.binding bearer
-  pub keys_are : new.keys ≡ left_by old.triggers.usage_report (plan p j c) (entered_by (rule_key x) c old.keys)
-  pub triggers_are : new.triggers ≡ old.triggers
+  pub keys_are : new.keys ≡ left_by (subscribed_by c old.triggers).usage_report (plan p j c) (entered_by (rule_key x) c old.keys)
+  pub triggers_are : new.triggers ≡ subscribed_by c old.triggers
   pub shows : Shows p (after_command p j c) (gen (after_command p j c)) new.table
 
-pub journal_commanded : (p : Setting) (j : Journal) (c : Command) (x : Option Coming) (parts : Parts) (after : Journal) → Agrees p j parts → IsServed c → Brings p (becoming p c) x →
-    after ≡ told_by parts.triggers.usage_report (plan p j c) (entered_by (rule_key x) c parts.keys) (entry.Command c ∷ j) → after ≡ after_command p j c
+pub journal_commanded : (p : Setting) (j : Journal) (c : Command) (x : Option Activation) (parts : Parts) (after : Journal) → Agrees p j parts → first_of (refusals p j c) ≡ None → Activates p (activated p c) x →
+    after ≡ told_by (subscribed_by c parts.triggers).usage_report (plan p j c) (entered_by (rule_key x) c parts.keys) (entry.Command c ∷ j) → after ≡ after_command p j c
 unfolding after_command
-journal_commanded p j c x parts after agrees served brings is =
-    is ∙ ap (λ (states : List KeyState). told_by parts.triggers.usage_report (plan p j c) states (entry.Command c ∷ j)) (entering p c x parts.keys served brings)
-    ∙ (ended_command p j c parts agrees (served_plainly p j c served)).journal_is
+journal_commanded p j c x parts after agrees accepted brings is =
+    is ∙ ap (λ (states : List KeyState). told_by (subscribed_by c parts.triggers).usage_report (plan p j c) states (entry.Command c ∷ j)) (entering p c x parts.keys brings)
+    ∙ (ended_command p j c parts agrees (asks_known p j c accepted)).journal_is
 
 -- the bearers after it, and the one that is told
-rebound_now : (p : Setting) (j : Journal) (c : Command) (x : Option Coming) (old new : Parts) (bearer : Option BearerId) → Agrees p j old → IsCommanded p j c x old new bearer →
-    (new.binding ≡ binding_of p (next p (now p j) c)) × (bearer ≡ bearer_named (next p (now p j) c) c)
+rebound_now : (p : Setting) (j : Journal) (c : Command) (x : Option Activation) (old new : Parts) (bearer : Option BearerId) → Agrees p j old → IsCommanded p j c x old new bearer →
+    (new.binding ≡ binding_of p (now p (entry.Command c ∷ j))) × (bearer ≡ bearer_named (now p (entry.Command c ∷ j)) c)
 rebound_now p j c x old new bearer agrees is =
-    bound_after p j c x new.binding bearer agrees.lawful is.served is.accepted is.brings (subst (λ (b : Binding). IsRebound x c b new.binding bearer) agrees.binding_is is.rebound)
+    bound_after p j c x new.binding bearer agrees.lawful is.accepted is.brings (subst (λ (b : Binding). IsRebound x c b new.binding bearer) agrees.binding_is is.rebound)
 
-pub agrees_commanded : (p : Setting) (j : Journal) (c : Command) (x : Option Coming) (old new : Parts) (bearer : Option BearerId) → Agrees p j old → IsCommanded p j c x old new bearer →
+pub agrees_commanded : (p : Setting) (j : Journal) (c : Command) (x : Option Activation) (old new : Parts) (bearer : Option BearerId) → Agrees p j old → IsCommanded p j c x old new bearer →
     Agrees p (after_command p j c) new
 agrees_commanded p j c x old new bearer agrees is =
-    let plainly = served_plainly p j c is.served in
-    let ended = ended_command p j c old agrees plainly in
+    let ended = ended_command p j c old agrees (asks_known p j c is.accepted) in
     let after : Journal = after_command p j c in
-    let enters = entering p c x old.keys is.served is.brings in
-    let journal : told_by old.triggers.usage_report (plan p j c) (entered p c old.keys) (entry.Command c ∷ j) ≡ after =
-    ap (λ (states : List KeyState). told_by old.triggers.usage_report (plan p j c) states (entry.Command c ∷ j)) (sym enters) ∙
-    journal_commanded p j c x old (told_by old.triggers.usage_report (plan p j c) (entered_by (rule_key x) c old.keys) (entry.Command c ∷ j)) agrees is.served is.brings refl in
-    let keys : new.keys ≡ left_by old.triggers.usage_report (plan p j c) (entered p c old.keys) =
-    is.keys_are ∙ ap (left_by old.triggers.usage_report (plan p j c)) enters in
-    let generation : now p after ≡ next p (now p j) c = next_now p j c plainly.table in
+    let enters = entering p c x old.keys is.brings in
+    let journal : told_by (subscribed_by c old.triggers).usage_report (plan p j c) (entered p c old.keys) (entry.Command c ∷ j) ≡ after =
+    ap (λ (states : List KeyState). told_by (subscribed_by c old.triggers).usage_report (plan p j c) states (entry.Command c ∷ j)) (sym enters) ∙
+    journal_commanded p j c x old (told_by (subscribed_by c old.triggers).usage_report (plan p j c) (entered_by (rule_key x) c old.keys) (entry.Command c ∷ j)) agrees is.accepted is.brings refl in
+    let keys : new.keys ≡ left_by (subscribed_by c old.triggers).usage_report (plan p j c) (entered p c old.keys) =
+    is.keys_are ∙ ap (left_by (subscribed_by c old.triggers).usage_report (plan p j c)) enters in
     record {
       lawful = by_command j c agrees.lawful is.accepted is.changing;
-      rules_are = subst (λ (g : Generation). AreKept p.catalog new.rules g.rules) (sym generation)
-          (subst (λ (kept : List (List ℕ × Source)). AreKept p.catalog kept (rules_after p (now p j) c)) (sym is.rules_are) (kept_after p j c x old.rules is.served is.accepted is.brings agrees.rules_are));
-      binding_is = (rebound_now p j c x old new bearer agrees is).0 ∙ ap (binding_of p) (sym generation);
+      rules_are = subst (λ (rules : List Active). AreKept p.catalog new.rules rules) (sym (rules_then p j c))
+          (subst (λ (kept : List (List ℕ × Source)). AreKept p.catalog kept (rules_after p (now p j) c)) (sym is.rules_are) (kept_after p j c x new.binding old.rules is.brings (rebound_now p j c x old new bearer agrees is).0 agrees.rules_are));
+      binding_is = (rebound_now p j c x old new bearer agrees is).0 ∙ ap (binding_of p) (sym (now_after p j c));
       keys_are = ap keys_of keys ∙ ended.keys_are ∙ ap (slots p) journal;
       usage_is = subst (AllByRecursion (KeyAgrees p after)) (sym keys)
-          (subst (λ (k : Journal). AllByRecursion (KeyAgrees p k) (left_by old.triggers.usage_report (plan p j c) (entered p c old.keys))) journal
-          (all_agree p (told_by old.triggers.usage_report (plan p j c) (entered p c old.keys) (entry.Command c ∷ j)) (left_by old.triggers.usage_report (plan p j c) (entered p c old.keys)) ended.counts ended.on));
-      triggers_are = is.triggers_are ∙ agrees.triggers_are ∙ sym plainly.triggers ∙ sym (subscribed_after_command p j c);
+          (subst (λ (k : Journal). AllByRecursion (KeyAgrees p k) (left_by (subscribed_by c old.triggers).usage_report (plan p j c) (entered p c old.keys))) journal
+          (all_agree p (told_by (subscribed_by c old.triggers).usage_report (plan p j c) (entered p c old.keys) (entry.Command c ∷ j)) (left_by (subscribed_by c old.triggers).usage_report (plan p j c) (entered p c old.keys)) ended.counts ended.on));
+      triggers_are = is.triggers_are ∙ ap (subscribed_by c) agrees.triggers_are ∙ sym (subscribed_after_command p j c);
       table_shows = is.shows;
     }
 
-pub bearer_commanded : (p : Setting) (j : Journal) (c : Command) (x : Option Coming) (old new : Parts) (bearer : Option BearerId) → Agrees p j old → IsCommanded p j c x old new bearer →
+pub bearer_commanded : (p : Setting) (j : Journal) (c : Command) (x : Option Activation) (old new : Parts) (bearer : Option BearerId) → Agrees p j old → IsCommanded p j c x old new bearer →
     bearer ≡ bearer_named (now p (after_command p j c)) c
 bearer_commanded p j c x old new bearer agrees is =
-    (rebound_now p j c x old new bearer agrees is).1 ∙ ap (λ (g : Generation). bearer_named g c) (sym (next_now p j c (served_plainly p j c is.served).table))
+    (rebound_now p j c x old new bearer agrees is).1 ∙ ap (λ (g : Generation). bearer_named g c) (sym (now_after p j c))
 
 -- ---- what stays
 pub commands_told : (p : Setting) (ts : List Telling) (j : Journal) → commands (tell p ts j) ≡ commands j

@@ -13,7 +13,8 @@ use Rattle.pcef_model.specs.Journals.{gen, grant, no_triggers, reported, subscri
 use Rattle.pcef_model.specs.Reports.{after_attach}
 use Rattle.pcef_usage.specs.declared.usage.KeyState.{KeyState}
 use Rattle.pcef_usage.proofs.Tells.{all_same}
-use Rattle.pcef_session.specs.Agreement.{Agrees, AreKept, KeyAgrees, Parts}
+use Rattle.pcef_session.specs.private.Parts.{Agrees, Parts}
+use Rattle.pcef_session.specs.Agreement.{AreKept, KeyAgrees}
 use Rattle.pcef_bearer.specs.Standing.{binding_of}
 use Rattle.pcef_model.specs.Lawful.{at_first, by_attach}
 use Rattle.pcef_model.specs.Refusals.{attach_faults, first_of}

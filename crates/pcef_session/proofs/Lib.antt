@@ -1,11 +1,11 @@
 pub mod Acceptance
+pub mod Activations
 pub mod BearerLaws
-pub mod Becoming
 pub mod Commanding
-pub mod CoreSound
 pub mod FirstSession
+pub mod HeldSound
 pub mod KeptRules
-pub mod KeysGone
+pub mod LostKeys
 pub mod NextTables
 pub mod PlainJournals
 pub mod Refused
@@ -15,4 +15,6 @@ pub mod ShownLater
 pub mod ShownSlots
 pub mod ShownVerdicts
 pub mod SoundLater
+pub mod TakenAway
 pub mod Taking
+pub mod Tests

@@ -1,6 +1,6 @@
 -- The tables that commands make show their generations, with at most one entry for each rule.
 use Rattle.std.proofs.Common.{◌≡◌, ◌∙◌, ◌≤◌, ◌<◌, ◌+◌, ℕ, suc, Bool, true, false, ◌&&◌, ◌||◌, List, [], ◌∷◌, ◌++◌, length, refl, sym, ap, subst, arith, inl, inr, map, Contains, Some, None, All, AllPairs, IsTrue}
-use Rattle.std.specs.Prelude.{Option, Result, Ok, Err, IfOk, slice_get}
+use Rattle.std.specs.Prelude.{Option, Result, Ok, Err, IfOk, slice_get, not, unwrap_or}
 use Rattle.std.specs.Option.{option_map}
 use Rattle.std.proofs.lemmas.Option.{slice_get_within}
 use Rattle.std.specs.List.{AllByRecursion, IsDistinct, list_any}
@@ -17,48 +17,56 @@ use Rattle.pcef_table.specs.declared.entry.Source.{Source}
 use Rattle.pcef_table.specs.declared.entry.Source.TheVariants.{Dynamic, Predefined}
 use Rattle.pcef_catalog.specs.declared.listing.Offer.{Offer}
 use Rattle.pcef_table.specs.Sources.{IsKnown, name_of, rank_of}
-use Rattle.pcef_table.specs.Tables.{GoesBefore, IsTable, TableValue, placed, with_counting, without}
+use Rattle.pcef_table.specs.Tables.{GoesBefore, IsTable, TableValue, placed, with_counting, without, without_taken, is_taken}
 use Rattle.pcef_lists.proofs.Foremost.{ordered_head, ordered_tail}
-use Rattle.pcef_table.proofs.Ordered.{apart, counting_is_table, placed_is_table, without_is_table}
+use Rattle.pcef_table.proofs.Ordered.{apart, counting_is_table, placed_is_table, part_is_table}
 use Rattle.pcef_model.specs.declared.entry.Entry.TheVariants as entry
 use Rattle.pcef_model.specs.declared.command.Command.{Command}
-use Rattle.pcef_model.specs.declared.command.Command.TheVariants.{Monitor, Remove}
+use Rattle.pcef_model.specs.declared.command.Command.TheVariants.{ReportNow, Triggers, Notice, LoseBearer, Close, Terminate, Install, Activate, Monitor, Remove, Stop}
 use Rattle.pcef_model.specs.Setting.{Setting, same_name}
 use Rattle.pcef_model.specs.ActiveRules.{Active, predefined, put}
 use Rattle.pcef_model.specs.ActiveRules as rules
-use Rattle.pcef_model.specs.Generations.{Generation, add_if_some, add_key, is_among, key_named, next, rules_after, slots_of, switched}
+use Rattle.pcef_model.specs.Generations.{Generation, add_if_some, next, rules_after, slots_of}
+use Rattle.pcef_model.specs.Commands.{add_key, is_among, key_named, switched, is_table, activated}
 use Rattle.pcef_model.specs.Entries.{Journal}
-use Rattle.pcef_model.specs.Journals.{at, gen, is_table, now, slots, tables}
-use Rattle.pcef_model.proofs.Growth.{at_newest, tables_of_table}
+use Rattle.pcef_model.specs.Journals.{at, gen, now, slots, tables}
+use Rattle.pcef_model.proofs.Growth.{at_newest, tables_of_table, tables_of_other}
 use Rattle.pcef_lists.proofs.Tests.{contrary}
 use Rattle.pcef_model.proofs.Sameness.{same_name_is, same_name_not, same_name_of, same_name_turned}
+use Rattle.pcef_model.specs.declared.entry.Entry.TheVariants as entry
+use Rattle.pcef_model.specs.ActiveRules as rules
 use Rattle.pcef_usage.specs.declared.usage.KeyState.{KeyState}
 use Rattle.pcef_usage.specs.Keys.{has_slot, keys_of, place_of as place_in}
 use Rattle.pcef_usage.specs.Tellings.{AllCount, AllOn, Counts, OnIs}
 use Rattle.pcef_usage.proofs.Slots.{slot_of_on}
 use Rattle.pcef_usage.proofs.Tells.{all_same}
+use Rattle.pcef_session.specs.private.Parts.{Agrees, Held}
 use Rattle.pcef_session.specs.Agreement.{KeyAgrees}
 use Rattle.pcef_bearer.specs.Bindings.{Binding, id_beside, without as bound_without}
-use Rattle.pcef_session.specs.declared.prepared.Coming.{Coming}
+use Rattle.pcef_session.specs.declared.prepared.Activation.{Activation}
 use Rattle.pcef_bearer.specs.Standing.{binding_of}
-use Rattle.pcef_session.specs.Changes.{IsMadeActive, IsOf}
+use Rattle.pcef_session.specs.Preparing.{IsActivationOf, IsTableAfter}
 use Rattle.pcef_model.specs.Changes.{MakesActive}
-use Rattle.pcef_session.specs.Core.{Core, IsEntryOf, setting_in, with_command}
-use Rattle.pcef_session.specs.Kept.{is_on}
-use Rattle.pcef_model.specs.Refusals.{becoming_active, first_of}
+use Rattle.pcef_session.specs.SessionModel.{SessionModel}
+use Rattle.pcef_session.specs.private.Keys.{is_on, key_switched, switches_on}
+use Rattle.pcef_model.specs.Refusals.{becoming_active, first_of, refusals}
 use Rattle.pcef_session.specs.Shown.{Shows, StandsFor, rule_of}
 use Rattle.pcef_model.specs.Slots.{counts_now, place_of, slot_of}
-use Rattle.pcef_model.proofs.Acceptance.{few_put}
+use Rattle.pcef_model.proofs.Acceptance.{few_put, stop_accepted}
 use Rattle.pcef_model.proofs.BearerIds.{lawful_bound}
 use Rattle.pcef_bearer.proofs.BoundBearers.{next_id}
-use Rattle.pcef_session.proofs.CoreSound.{IsSoundCore, few_generations}
+use Rattle.pcef_session.proofs.HeldSound.{IsSoundHeld, few_generations}
 use Rattle.pcef_session.proofs.KeptRules.{kept_length}
 use Rattle.pcef_model.proofs.BoundRules.{NamesOnce}
 use Rattle.pcef_lists.proofs.Found.{any_from}
 use Rattle.pcef_model.proofs.Members.{first_there, later_there, map_to, put_new}
-use Rattle.pcef_session.proofs.ShownChanges.{Fives, after_is, lawful_fives, name_is, shows_monitor, shows_put, shows_remove, still}
+use Rattle.pcef_session.proofs.ShownChanges.{Fives, after_is, lawful_fives, name_is, shows_monitor, shows_put, still, shows_stop}
 use Rattle.pcef_model.proofs.Decisive.{made_once, once_is}
 use Rattle.pcef_session.proofs.ShownVerdicts.{rule_is}
+use Rattle.pcef_session.proofs.ShownLater.{shows_same, shows_after}
+use Rattle.pcef_session.specs.private.Entries.{with_command, IsEntryOf, ShowsNext}
+use Rattle.pcef_session.proofs.TakenAway.{shows_left, stay_counted}
+use Rattle.pcef_model.specs.Reports.{after_command}
 
 -- ---- slots
 here_place : (k : List ℕ) (states : List KeyState) → is_among k (keys_of states) ≡ true → place_of k (keys_of states) ≡ Some (place_in k states)
@@ -258,26 +266,26 @@ pub if_ok : {T E : Type 0} (P Q R : T → Type 0) (r : Result T E) → ((t : T) 
 if_ok P Q R (Ok t) both first second = both t first second
 if_ok P Q R (Err e) both first second = tt
 
-pub number_fits : (v : Core) (t : TableValue) → IsSoundCore v → t ≡ v.parts.table → t.number + 1 < 4294967296
-number_fits v t sound is =
-    let number : t.number ≡ gen v.journal = ap (λ (x : TableValue). x.number) is ∙ sound.agrees.table_shows.number_is in
+pub number_fits : (v : Held) → IsSoundHeld v → v.parts.table.number + 1 < 4294967296
+number_fits v sound =
+    let number : v.parts.table.number ≡ gen v.journal = sound.agrees.table_shows.number_is in
     let few = few_generations v.journal in omega (arith, number, few, sound.few_commands, sound.most_commands)
 
-fives_now : (v : Core) → IsSoundCore v → Fives (setting_in v) (now (setting_in v) v.journal)
-fives_now v sound = lawful_fives (setting_in v) v.journal sound.agrees.lawful
+fives_now : (v : Held) → IsSoundHeld v → Fives v.setting (now v.setting v.journal)
+fives_now v sound = lawful_fives v.setting v.journal sound.agrees.lawful
 
-shows_now : (v : Core) (t : TableValue) → IsSoundCore v → t ≡ v.parts.table → Shows (setting_in v) v.journal (gen v.journal) t
-shows_now v t sound is = subst (Shows (setting_in v) v.journal (gen v.journal)) (sym is) sound.agrees.table_shows
+shows_now : (v : Held) → IsSoundHeld v → Shows v.setting v.journal (gen v.journal) v.parts.table
+shows_now v sound = sound.agrees.table_shows
 
 -- the rules that are kept are those that are active
-few_active : (v : Core) → IsSoundCore v → length (now (setting_in v) v.journal).rules ≤ 64
-few_active v sound = omega (arith, sound.few_rules, kept_length v.offers v.parts.rules (now (setting_in v) v.journal).rules sound.agrees.rules_are)
+few_active : (v : Held) → IsSoundHeld v → length (now v.setting v.journal).rules ≤ 64
+few_active v sound = omega (arith, sound.few_rules, kept_length v.setting.catalog v.parts.rules (now v.setting v.journal).rules sound.agrees.rules_are)
 
 -- the entry that was made for a rule stands for it, whichever command makes it active
-entry_stands : (v : Core) (c : Command) (r : Active) (x : Coming) (e : Entry) → IsSoundCore v → MakesActive (setting_in v) c r → IsOf (setting_in v) r x → IsEntryOf v x e →
-    StandsFor (setting_in v) (with_command c v.journal) (gen (with_command c v.journal)) e r
+entry_stands : (v : Held) (c : Command) (r : Active) (x : Activation) (e : Entry) → IsSoundHeld v → MakesActive v.setting c r → IsActivationOf v.setting r x → IsEntryOf v.parts.binding v.parts.keys x e →
+    StandsFor v.setting (with_command c v.journal) (gen (with_command c v.journal)) e r
 entry_stands v c r x e sound makes is_of is =
-    let p : Setting = setting_in v in
+    let p : Setting = v.setting in
     let g : Generation = now p v.journal in
     let same : x.properties ≡ r.properties = is_of.properties_are in
     let bound : id_beside (binding_of p g).default_qos (binding_of p g).bound (bound_without r.properties.name (binding_of p g).bound) r.properties.qos ≡ Some e.bearer.0 =
@@ -297,48 +305,84 @@ known_of offers (Predefined index) r is = from (slice_get offers index) refl is
     from None there is = absurd cc
     from (Some o) there is = slice_get_within offers index o there
 
-entry_known : (v : Core) (r : Active) (x : Coming) (e : Entry) → IsOf (setting_in v) r x → IsEntryOf v x e → IsKnown v.offers e.source
-entry_known v r x e is_of is = known_of v.offers e.source r (ap (rule_of v.offers) is.source_is ∙ is_of.rule_is)
+pub entry_known : (v : Held) (r : Active) (x : Activation) (e : Entry) → IsActivationOf v.setting r x → IsEntryOf v.parts.binding v.parts.keys x e → IsKnown v.setting.catalog e.source
+entry_known v r x e is_of is = known_of v.setting.catalog e.source r (ap (rule_of v.setting.catalog) is.source_is ∙ is_of.rule_is)
 
-pub known_made : (v : Core) (x : Coming) (e : Entry) (offers : List Offer) → IsMadeActive (setting_in v) x → IsEntryOf v x e → offers ≡ v.offers → IsKnown offers e.source
-known_made v x e offers made is offers_are = subst (λ (os : List Offer). IsKnown os e.source) (sym offers_are) (entry_known v made.rule x e made.is_of is)
+-- the table with the rule that a command makes active has room for it
+pub room_for_rule : (v : Held) (c : Command) (r : Active) (x : Activation) (e : Entry) → IsSoundHeld v → first_of (becoming_active v.setting v.journal r.properties) ≡ None → MakesActive v.setting c r →
+    IsActivationOf v.setting r x → IsEntryOf v.parts.binding v.parts.keys x e → length (placed v.setting.catalog e v.parts.table.entries) ≤ 64
+room_for_rule v c r x e sound accepted makes is_of is =
+    room_put v.setting v.journal c r e v.parts.table makes (fives_now v sound) (shows_now v sound) (entry_stands v c r x e sound makes is_of is) (entry_known v r x e is_of is)
+    (few_put v.setting v.journal r (few_active v sound) accepted)
 
-pub room_for_rule : (v : Core) (x : Coming) (e : Entry) (t : TableValue) (offers : List Offer) → IsSoundCore v → first_of (becoming_active (setting_in v) v.journal x.properties) ≡ None →
-    IsMadeActive (setting_in v) x → IsEntryOf v x e → t ≡ v.parts.table → offers ≡ v.offers → length (placed offers e t.entries) ≤ 64
-room_for_rule v x e t offers sound accepted made is t_is offers_are =
-    let p : Setting = setting_in v in
-    let r : Active = made.rule in
-    let can : first_of (becoming_active p v.journal r.properties) ≡ None = subst (λ (q : Properties). first_of (becoming_active p v.journal q) ≡ None) made.is_of.properties_are accepted in
-    subst (λ (os : List Offer). length (placed os e t.entries) ≤ 64) (sym offers_are)
-    (room_put p v.journal made.command r e t made.makes (fives_now v sound) (shows_now v t sound t_is) (entry_stands v made.command r x e sound made.makes made.is_of is) (entry_known v r x e made.is_of is)
-    (few_put p v.journal r (few_active v sound) can))
+pub table_with : (v : Held) (c : Command) (r : Active) (x : Activation) (e : Entry) → IsSoundHeld v → MakesActive v.setting c r → IsActivationOf v.setting r x → IsEntryOf v.parts.binding v.parts.keys x e →
+    (new : TableValue) → new.number ≡ v.parts.table.number + 1 → new.entries ≡ placed v.setting.catalog e v.parts.table.entries → ShowsNext v.setting v.journal c new
+table_with v c r x e sound makes is_of is new number entries =
+    let p : Setting = v.setting in
+    let t : TableValue = v.parts.table in
+    shows_as p (with_command c v.journal) (gen (with_command c v.journal)) new (t.number + 1) (placed p.catalog e t.entries) number entries
+    (put_shows p v.journal c r e t makes (fives_now v sound) (shows_now v sound) (entry_stands v c r x e sound makes is_of is) (entry_known v r x e is_of is))
 
-pub table_with : (v : Core) (x : Coming) (e : Entry) (t : TableValue) (offers : List Offer) → IsSoundCore v → IsEntryOf v x e → t ≡ v.parts.table → offers ≡ v.offers →
-    (new : TableValue) → new.number ≡ t.number + 1 → new.entries ≡ placed offers e t.entries → (c : Command) (r : Active) → MakesActive (setting_in v) c r → IsOf (setting_in v) r x →
-    Shows (setting_in v) (with_command c v.journal) (gen (with_command c v.journal)) new
-table_with v x e t offers sound is t_is offers_are new number entries c r makes is_of =
-    let p : Setting = setting_in v in
-    shows_as p (with_command c v.journal) (gen (with_command c v.journal)) new (t.number + 1) (placed p.catalog e t.entries) number
-    (entries ∙ ap (λ (os : List Offer). placed os e t.entries) offers_are)
-    (put_shows p v.journal c r e t makes (fives_now v sound) (shows_now v t sound t_is) (entry_stands v c r x e sound makes is_of is) (entry_known v r x e is_of is))
-
-pub table_without : (v : Core) (name : List ℕ) (t : TableValue) (offers : List Offer) → IsSoundCore v → t ≡ v.parts.table → offers ≡ v.offers →
-    (new : TableValue) → new.number ≡ t.number + 1 → new.entries ≡ without offers name t.entries → Shows (setting_in v) (with_command (Remove name) v.journal) (gen (with_command (Remove name) v.journal)) new
-table_without v name t offers sound is offers_are new number entries =
-    let p : Setting = setting_in v in
-    let shows = shows_now v t sound is in
-    shows_as p (with_command (Remove name) v.journal) (gen (with_command (Remove name) v.journal)) new (t.number + 1) (without p.catalog name t.entries) number
-    (entries ∙ ap (λ (os : List Offer). without os name t.entries) offers_are)
-    (shows_remove p v.journal name t (t.number + 1) (without p.catalog name t.entries) (fives_now v sound) shows refl refl (without_is_table p.catalog name t.entries shows.ordered))
-
-pub table_counting : (v : Core) (key : List ℕ) (amount : ℕ) (slot : Slot) (states : List KeyState) (t : TableValue) → IsSoundCore v → t ≡ v.parts.table → slot.0 ≡ place_in key states → states ≡ v.parts.keys →
-    (new : TableValue) → new.number ≡ t.number + 1 → new.entries ≡ map (with_counting slot true) t.entries →
-    Shows (setting_in v) (with_command (Monitor key amount) v.journal) (gen (with_command (Monitor key amount) v.journal)) new
-table_counting v key amount slot states t sound is slot_is states_are new number entries =
-    let p : Setting = setting_in v in
-    let shows = shows_now v t sound is in
+-- the table where the slot of a switched key counts or doesn't
+table_monitored : (v : Held) (key : List ℕ) (amount : ℕ) (slot : Slot) → IsSoundHeld v → slot.0 ≡ place_in key v.parts.keys →
+    (new : TableValue) → new.number ≡ v.parts.table.number + 1 → new.entries ≡ map (with_counting slot true) v.parts.table.entries → ShowsNext v.setting v.journal (Monitor key amount) new
+table_monitored v key amount slot sound slot_is new number entries =
+    let p : Setting = v.setting in
+    let t : TableValue = v.parts.table in
+    let shows = shows_now v sound in
     let place : place_of key (slots p (with_command (Monitor key amount) v.journal)) ≡ Some slot.0 =
-    ap (place_of key) (slots_next p v.journal (Monitor key amount) refl ∙ ap (add_key key) (sym sound.agrees.keys_are)) ∙ key_place key v.parts.keys ∙
-    ap (λ n. Some n) (ap (place_in key) (sym states_are) ∙ sym slot_is) in
+    ap (place_of key) (slots_next p v.journal (Monitor key amount) refl ∙ ap (add_key key) (sym sound.agrees.keys_are)) ∙ key_place key v.parts.keys ∙ ap (λ n. Some n) (sym slot_is) in
     shows_as p (with_command (Monitor key amount) v.journal) (gen (with_command (Monitor key amount) v.journal)) new (t.number + 1) (map (with_counting slot true) t.entries) number entries
     (shows_monitor p v.journal key amount slot t (t.number + 1) (map (with_counting slot true) t.entries) (fives_now v sound) shows place refl refl (counting_is_table p.catalog slot true t.entries shows.ordered))
+
+table_stopped : (v : Held) (key : List ℕ) (slot : Slot) → IsSoundHeld v → is_among key (now v.setting v.journal).on ≡ true → slot.0 ≡ place_in key v.parts.keys →
+    (new : TableValue) → new.number ≡ v.parts.table.number + 1 → new.entries ≡ map (with_counting slot false) v.parts.table.entries → ShowsNext v.setting v.journal (Stop key) new
+table_stopped v key slot sound on slot_is new number entries =
+    let p : Setting = v.setting in
+    let t : TableValue = v.parts.table in
+    let shows = shows_now v sound in
+    let has : is_among key (keys_of v.parts.keys) ≡ true = ap (is_among key) sound.agrees.keys_are ∙ slot_of_on p v.journal key on in
+    let place : place_of key (slots p (with_command (Stop key) v.journal)) ≡ Some slot.0 =
+    ap (place_of key) (slots_next p v.journal (Stop key) refl ∙ sym sound.agrees.keys_are) ∙ here_place key v.parts.keys has ∙ ap (λ n. Some n) (sym slot_is) in
+    shows_as p (with_command (Stop key) v.journal) (gen (with_command (Stop key) v.journal)) new (t.number + 1) (map (with_counting slot false) t.entries) number entries
+    (shows_stop p v.journal key slot t (t.number + 1) (map (with_counting slot false) t.entries) (fives_now v sound) shows place refl refl (counting_is_table p.catalog slot false t.entries shows.ordered))
+
+pub table_switched : (v : Held) (c : Command) (key : List ℕ) (slot : Slot) → IsSoundHeld v → first_of (refusals v.setting v.journal c) ≡ None → key_switched c ≡ Some key → slot.0 ≡ place_in key v.parts.keys →
+    (new : TableValue) → new.number ≡ v.parts.table.number + 1 → new.entries ≡ map (with_counting slot (switches_on c)) v.parts.table.entries → ShowsNext v.setting v.journal c new
+table_switched v (Monitor k amount) key slot sound accepted switched slot_is new number entries =
+    let same : k ≡ key = cc in
+    table_monitored v k amount slot sound (slot_is ∙ ap (λ x. place_in x v.parts.keys) (sym same)) new number entries
+table_switched v (Stop k) key slot sound accepted switched slot_is new number entries =
+    let same : k ≡ key = cc in
+    table_stopped v k slot sound (stop_accepted v.setting v.journal k accepted) (slot_is ∙ ap (λ x. place_in x v.parts.keys) (sym same)) new number entries
+table_switched v (Install rule) key slot sound accepted switched slot_is new number entries = absurd cc
+table_switched v (Activate name) key slot sound accepted switched slot_is new number entries = absurd cc
+table_switched v (Remove name) key slot sound accepted switched slot_is new number entries = absurd cc
+table_switched v (ReportNow k) key slot sound accepted switched slot_is new number entries = absurd cc
+table_switched v (Triggers set) key slot sound accepted switched slot_is new number entries = absurd cc
+table_switched v (Notice kind value) key slot sound accepted switched slot_is new number entries = absurd cc
+table_switched v (LoseBearer id) key slot sound accepted switched slot_is new number entries = absurd cc
+table_switched v Close key slot sound accepted switched slot_is new number entries = absurd cc
+table_switched v Terminate key slot sound accepted switched slot_is new number entries = absurd cc
+
+-- the table without the rules that a command takes away
+pub table_left : (v : Held) (c : Command) → IsSoundHeld v → activated v.setting c ≡ None → is_table c ≡ true → key_switched c ≡ None →
+    (new : TableValue) → new.number ≡ v.parts.table.number + 1 → new.entries ≡ without_taken v.setting.catalog c v.parts.table.entries → ShowsNext v.setting v.journal c new
+table_left v c sound none is switches new number entries =
+    let p : Setting = v.setting in
+    let t : TableValue = v.parts.table in
+    let shows = shows_now v sound in
+    shows_as p (with_command c v.journal) (gen (with_command c v.journal)) new (t.number + 1) (without_taken p.catalog c t.entries) number entries
+    (shows_left p v.journal c t none is (stay_counted p (now p v.journal) c none switches) (fives_now v sound) shows (part_is_table p.catalog (λ e. not (is_taken p.catalog c e)) t.entries shows.ordered))
+
+-- a command that makes no table leaves the one that shows the newest generation
+pub table_stays : (p : Setting) (j : Journal) (c : Command) (t : TableValue) → Shows p j (gen j) t → is_table c ≡ false → Shows p (with_command c j) (gen (with_command c j)) t
+table_stays p j c t shows isnt =
+    subst (λ n. Shows p (with_command c j) n t) (sym (ap length (tables_of_other j c isnt)))
+    (shows_same p j (with_command c j) (gen j) t (tables_of_other j c isnt) shows)
+
+-- the table that is held after a command: the one that it makes, or the old one
+pub table_after : (p : Setting) (j : Journal) (c : Command) (old : TableValue) (made : Option TableValue) → Shows p j (gen j) old → IsTableAfter p (after_command p j c) c made →
+    Shows p (after_command p j c) (gen (after_command p j c)) (unwrap_or made old)
+table_after p j c old None shows is = shows_after p j c old (table_stays p j c old shows (sym is.makes))
+table_after p j c old (Some t) shows is = is.shows

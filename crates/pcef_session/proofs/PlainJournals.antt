@@ -18,10 +18,10 @@ use Rattle.pcef_model.specs.declared.answer.FlushRefusal.{FlushRefusal}
 use Rattle.pcef_model.specs.declared.answer.FlushRefusal.TheVariants.{NotAttached, RowsFull}
 use Rattle.pcef_model.specs.Answers.{Attaches, Flushes, Told, attach_outcome, flush_outcome, told}
 use Rattle.pcef_session.specs.declared.batch.Item.{Item}
-use Rattle.pcef_session.specs.Core.{IsServed}
+use Rattle.pcef_session.specs.Preparing.{IsServed}
 use Rattle.pcef_session.specs.Following.{row_of}
 use Rattle.pcef_model.specs.Refusals.{attach_faults, first_of, flush_refusals}
-use Rattle.pcef_session.specs.Soundness.{IsPlain, below}
+use Rattle.pcef_session.specs.private.Soundness.{IsPlain, below}
 
 pub plain_row : (j : Journal) (n : ℕ) (r : Row) → IsPlain j n → IsPlain (entry.Row r ∷ j) n
 unfolding attach_count attached
@@ -121,11 +121,11 @@ plain_command j n (Install rule) served plain = record { counted = plain.counted
 plain_command j n (Monitor key amount) served plain = record { counted = plain.counted; attached_are = plain.attached_are; not_closed = plain.not_closed; not_terminated = plain.not_terminated }
 plain_command j n (Activate name) served plain = record { counted = plain.counted; attached_are = plain.attached_are; not_closed = plain.not_closed; not_terminated = plain.not_terminated }
 plain_command j n (Remove name) served plain = record { counted = plain.counted; attached_are = plain.attached_are; not_closed = plain.not_closed; not_terminated = plain.not_terminated }
-plain_command j n (Stop key) served plain = absurd served
-plain_command j n (ReportNow key) served plain = absurd served
-plain_command j n (Triggers set) served plain = absurd served
-plain_command j n (Notice kind value) served plain = absurd served
-plain_command j n (LoseBearer id) served plain = absurd served
+plain_command j n (Stop key) served plain = record { counted = plain.counted; attached_are = plain.attached_are; not_closed = plain.not_closed; not_terminated = plain.not_terminated }
+plain_command j n (ReportNow key) served plain = record { counted = plain.counted; attached_are = plain.attached_are; not_closed = plain.not_closed; not_terminated = plain.not_terminated }
+plain_command j n (Triggers set) served plain = record { counted = plain.counted; attached_are = plain.attached_are; not_closed = plain.not_closed; not_terminated = plain.not_terminated }
+plain_command j n (Notice kind value) served plain = record { counted = plain.counted; attached_are = plain.attached_are; not_closed = plain.not_closed; not_terminated = plain.not_terminated }
+plain_command j n (LoseBearer id) served plain = record { counted = plain.counted; attached_are = plain.attached_are; not_closed = plain.not_closed; not_terminated = plain.not_terminated }
 plain_command j n Close served plain = absurd served
 plain_command j n Terminate served plain = absurd served
 

@@ -1,6 +1,6 @@
 -- What the refusals of commands come to in a journal that nothing ended.
 use Rattle.std.proofs.Common.{◌≡◌, ◌∙◌, ◌≤◌, ◌<◌, ℕ, true, false, not, ◌&&◌, List, [], ◌∷◌, ◌++◌, length, refl, sym, ap, arith, Some, None, nat_le, true≢false, inl, inr}
-use Rattle.std.specs.Prelude.{Option, is_none, is_some, if◌then◌else◌}
+use Rattle.std.specs.Prelude.{Option, is_none, is_some, if◌then◌else◌, ◌==◌}
 use Rattle.std.specs.Option.{option_map}
 use Rattle.std.proofs.lemmas.Bool.{cases_Bool, le-leb, lt-leb}
 use Rattle.pcef_rule.specs.declared.rule.Properties.{Properties}
@@ -9,18 +9,19 @@ use Rattle.pcef_model.specs.declared.command.Command.TheVariants.{Install, Activ
 use Rattle.pcef_model.specs.declared.entry.Entry.TheVariants as entry
 use Rattle.pcef_model.specs.Setting.{most_rules, Setting, offer_named}
 use Rattle.pcef_model.specs.ActiveRules.{predefined, without}
-use Rattle.pcef_model.specs.Generations.{is_among}
+use Rattle.pcef_model.specs.Commands.{is_among}
 use Rattle.pcef_model.specs.Entries.{Journal, commands}
 use Rattle.pcef_model.specs.Journals.{now, slots}
 use Rattle.pcef_usage.specs.declared.usage.KeyState.{KeyState}
 use Rattle.pcef_usage.specs.Keys.{finds_no_slot as slotless, keys_of}
 use Rattle.pcef_usage.proofs.Monitors.{finds_no_slot_is}
 use Rattle.pcef_model.specs.declared.answer.Refusal.{Refusal}
-use Rattle.pcef_model.specs.declared.answer.Refusal.TheVariants.{CommandsFull, RulesFull, KeysFull, NameIsPredefined, UnknownRule}
-use Rattle.pcef_model.specs.Refusals.{Conditions, becoming_active, becoming_active_if, bindings, common_refusals, finds_no_slot, first_of, is_active, limited_count, was_closed, was_terminated}
-use Rattle.pcef_session.specs.declared.prepared.Coming.{Coming}
-use Rattle.pcef_session.specs.Changes.{Brings}
-use Rattle.pcef_session.specs.Soundness.{IsPlain}
+use Rattle.pcef_model.specs.declared.answer.Refusal.TheVariants.{UnknownKey, ZeroGrant, CommandsFull, RulesFull, KeysFull, NameIsPredefined, UnknownRule, ZeroGrant, UnknownKey}
+use Rattle.pcef_model.specs.Refusals.{Conditions, becoming_active, becoming_active_if, bindings, common_refusals, finds_no_slot, first_of, is_active, limited_count, was_closed, was_terminated, refusals}
+use Rattle.pcef_session.specs.declared.prepared.Activation.{Activation}
+use Rattle.pcef_session.specs.Preparing.{Activates, IsServed}
+use Rattle.pcef_session.specs.private.Soundness.{IsPlain}
+use Rattle.pcef_model.specs.declared.command.Command.{Command}
 
 -- ---- conditions one after the other
 pub first_after : {R : Type 0} (cs ds : Conditions R) → None ≡ first_of cs → first_of (cs ++ ds) ≡ first_of ds
@@ -90,19 +91,19 @@ becoming_bound p j rule o place has is = is ∙ rw (← place, ← has) refl
 abbrev installations : Setting → Journal → Properties → Option Offer → Conditions Refusal
 installations p j rule o = (is_some o, NameIsPredefined) ∷ becoming_active p j rule
 
-pub install_offered : (p : Setting) (j : Journal) (rule : Properties) (x : Coming) → Brings p (option_map predefined (offer_named p rule.name)) (Some x) →
+pub install_offered : (p : Setting) (j : Journal) (rule : Properties) (x : Activation) → Activates p (option_map predefined (offer_named p rule.name)) (Some x) →
     Some NameIsPredefined ≡ first_of (installations p j rule (offer_named p rule.name))
 install_offered p j rule x brings = from (offer_named p rule.name) brings
   where
-    from : (o : Option Offer) → Brings p (option_map predefined o) (Some x) → Some NameIsPredefined ≡ first_of (installations p j rule o)
+    from : (o : Option Offer) → Activates p (option_map predefined o) (Some x) → Some NameIsPredefined ≡ first_of (installations p j rule o)
     from None brings = absurd brings
     from (Some o) brings = refl
 
-pub install_free : (p : Setting) (j : Journal) (rule : Properties) (r : Option Refusal) → Brings p (option_map predefined (offer_named p rule.name)) None → r ≡ first_of (becoming_active p j rule) →
+pub install_free : (p : Setting) (j : Journal) (rule : Properties) (r : Option Refusal) → Activates p (option_map predefined (offer_named p rule.name)) None → r ≡ first_of (becoming_active p j rule) →
     r ≡ first_of (installations p j rule (offer_named p rule.name))
 install_free p j rule r brings is = from (offer_named p rule.name) brings
   where
-    from : (o : Option Offer) → Brings p (option_map predefined o) None → r ≡ first_of (installations p j rule o)
+    from : (o : Option Offer) → Activates p (option_map predefined o) None → r ≡ first_of (installations p j rule o)
     from None brings = is
     from (Some o) brings = absurd brings
 
@@ -110,18 +111,32 @@ install_free p j rule r brings is = from (offer_named p rule.name) brings
 abbrev activations : Setting → Journal → List ℕ → Option Offer → Conditions Refusal
 activations p j name o = (is_none o, UnknownRule) ∷ (if is_active p j name then [] else becoming_active_if p j o)
 
-pub activate_again : (p : Setting) (j : Journal) (name : List ℕ) (x : Coming) → Brings p (option_map predefined (offer_named p name)) (Some x) → is_active p j name ≡ true →
+pub activate_again : (p : Setting) (j : Journal) (name : List ℕ) (x : Activation) → Activates p (option_map predefined (offer_named p name)) (Some x) → is_active p j name ≡ true →
     None ≡ first_of (activations p j name (offer_named p name))
 activate_again p j name x brings is = from (offer_named p name) brings
   where
-    from : (o : Option Offer) → Brings p (option_map predefined o) (Some x) → None ≡ first_of (activations p j name o)
+    from : (o : Option Offer) → Activates p (option_map predefined o) (Some x) → None ≡ first_of (activations p j name o)
     from None brings = absurd brings
     from (Some o) brings = rw is refl
 
-pub activate_new : (p : Setting) (j : Journal) (name : List ℕ) (x : Coming) (r : Option Refusal) → Brings p (option_map predefined (offer_named p name)) (Some x) → is_active p j name ≡ false →
+pub activate_new : (p : Setting) (j : Journal) (name : List ℕ) (x : Activation) (r : Option Refusal) → Activates p (option_map predefined (offer_named p name)) (Some x) → is_active p j name ≡ false →
     r ≡ first_of (becoming_active p j x.properties) → r ≡ first_of (activations p j name (offer_named p name))
 activate_new p j name x r brings isnt is = from (offer_named p name) brings
   where
-    from : (o : Option Offer) → Brings p (option_map predefined o) (Some x) → r ≡ first_of (activations p j name o)
+    from : (o : Option Offer) → Activates p (option_map predefined o) (Some x) → r ≡ first_of (activations p j name o)
     from None brings = absurd brings
     from (Some o) brings = rw isnt (is ∙ ap (λ (q : Properties). first_of (becoming_active p j q)) brings.properties_are)
+
+-- ---- what refuses every command that is served
+pub refused_common : (p : Setting) (j : Journal) (c : Command) (r : Refusal) → IsServed c → Some r ≡ first_of (common_refusals p j) → Some r ≡ first_of (refusals p j c)
+refused_common p j (Install rule) r served is = first_before (common_refusals p j) ((is_some (offer_named p rule.properties.name), NameIsPredefined) ∷ becoming_active p j rule.properties) r is
+refused_common p j (Activate name) r served is = first_before (common_refusals p j) (activations p j name (offer_named p name)) r is
+refused_common p j (Remove name) r served is = first_before (common_refusals p j) ((not (is_active p j name), UnknownRule) ∷ []) r is
+refused_common p j (Monitor key amount) r served is = first_before (common_refusals p j) ((amount == 0, ZeroGrant) ∷ (finds_no_slot p j (Some key), KeysFull) ∷ []) r is
+refused_common p j (Stop key) r served is = first_before (common_refusals p j) ((not (is_among key (now p j).on), UnknownKey) ∷ []) r is
+refused_common p j (ReportNow key) r served is = first_before (common_refusals p j) ((not (is_among key (slots p j)), UnknownKey) ∷ []) r is
+refused_common p j (Triggers set) r served is = is
+refused_common p j (Notice kind value) r served is = is
+refused_common p j (LoseBearer id) r served is = absurd served
+refused_common p j Close r served is = absurd served
+refused_common p j Terminate r served is = absurd served

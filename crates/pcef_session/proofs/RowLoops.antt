@@ -6,7 +6,8 @@ use Rattle.pcef_usage.specs.declared.usage.KeyState.{KeyState}
 use Rattle.pcef_usage.specs.Flushes.{rows_counted}
 use Rattle.pcef_usage.specs.Keys.{CanCount, with_octets}
 use Rattle.pcef_session.specs.declared.batch.Item.{Item}
-use Rattle.pcef_session.specs.Following.{CanCountAll, row_of, slot_of}
+use Rattle.pcef_session.specs.private.Taking.{CanCountAll}
+use Rattle.pcef_session.specs.Following.{row_of, slot_of}
 
 -- what is left begins with the item at hand
 split_here : (items : List Item) (i : ℕ) (item : Item) → i < length items → item ≡ get_or items i item → drop i items ≡ item ∷ drop (i + 1) items

@@ -1,5 +1,5 @@
 -- The tables that Install, Remove and Monitor make show the next generation.
-use Rattle.std.proofs.Common.{◌≡◌, ◌∙◌, ◌+◌, ℕ, Bool, true, false, ◌||◌, not, List, [], ◌∷◌, refl, sym, ap, subst, arith, inl, inr, filter, map, Contains, Some, None, ◌==◌}
+use Rattle.std.proofs.Common.{◌≡◌, ◌∙◌, ◌+◌, ℕ, Bool, true, false, ◌||◌, ◌&&◌, not, List, [], ◌∷◌, refl, sym, ap, subst, arith, inl, inr, filter, map, Contains, Some, None, ◌==◌}
 use Rattle.std.specs.Prelude.{◌⊎◌, Option}
 use Rattle.std.specs.List.{list_any}
 use Rattle.std.specs.Option.{option_map, option_map_or}
@@ -17,17 +17,21 @@ use Rattle.pcef_table.specs.Sources.{name_of, no_rank, origin_of, properties_of,
 use Rattle.pcef_table.specs.Tables.{IsTable, TableValue, has_other_name, is_before, is_behind, is_slot, placed, with_counting, without}
 use Rattle.pcef_model.specs.declared.entry.Entry.TheVariants as entry
 use Rattle.pcef_model.specs.declared.command.Command.{Command}
-use Rattle.pcef_model.specs.declared.command.Command.TheVariants.{Remove, Monitor}
+use Rattle.pcef_model.specs.declared.command.Command.TheVariants.{Remove, Monitor, Stop}
 use Rattle.pcef_model.specs.Setting.{Setting, same_name, same_qos}
 use Rattle.pcef_model.specs.ActiveRules.{Active, has_key, is_key, put}
 use Rattle.pcef_model.specs.ActiveRules as rules
-use Rattle.pcef_model.specs.Generations.{Generation, add_key, id_after, is_among, next, rules_after, slots_of, still_on, switched}
+use Rattle.pcef_model.specs.Generations.{Generation, id_after, next, rules_after, slots_of, still_on}
+use Rattle.pcef_model.specs.Commands.{add_key, is_among, switched, is_table}
 use Rattle.pcef_model.specs.Bearers.{default_id}
 use Rattle.pcef_model.specs.Entries.{Journal}
-use Rattle.pcef_model.specs.Journals.{at, gen, is_table, now, slots, tables}
+use Rattle.pcef_model.specs.Journals.{at, gen, now, slots, tables}
 use Rattle.pcef_model.proofs.Growth.{at_newest, gen_after_table, now_after_table, tables_of_table}
 use Rattle.pcef_lists.proofs.Tests.{contrary}
-use Rattle.pcef_model.proofs.Sameness.{same_name_is, same_name_of, same_qos_self}
+use Rattle.pcef_model.proofs.Sameness.{same_name_is, same_name_of, same_qos_self, same_name_not, same_name_turned}
+use Rattle.pcef_model.specs.declared.entry.Entry.TheVariants as entry
+use Rattle.pcef_model.specs.ActiveRules as rules
+use Rattle.pcef_usage.proofs.Gone.{among_filter}
 use Rattle.pcef_usage.proofs.Slots.{is_among_add}
 use Rattle.pcef_model.specs.Changes.{MakesActive}
 use Rattle.pcef_session.specs.Shown.{Shows, StandsFor, rule_of}
@@ -41,6 +45,7 @@ use Rattle.pcef_model.proofs.SlotsGrow.{shown_slots, slot_stays}
 use Rattle.pcef_model.proofs.Decisive.{made_once}
 use Rattle.pcef_session.proofs.ShownVerdicts.{rule_is}
 use Rattle.pcef_model.proofs.SlotPlaces.{Grows, place_once, slots_grow}
+use Rattle.pcef_model.proofs.RulesAfter.{filter_all}
 
 -- ---- keys that stay on
 on_kept : (key : List ℕ) (test : List ℕ → Bool) (keys : List (List ℕ)) → test key ≡ true → is_among key (filter test keys) ≡ is_among key keys
@@ -102,7 +107,7 @@ slot_next p j c e r is there stands =
     stands.slot_is ∙ sym (slot_stays (slots p j) (slots p (entry.Command c ∷ j)) r.properties.key grown (shown_slots p j (gen j) r shown))
 
 -- an entry goes on standing for a rule that stays, where its key stays on or off
-stands_next : (p : Setting) (j : Journal) (c : Command) (e : Entry) (r : Active) → is_table c ≡ true → Fives p (now p j) → Contains (now p j).rules r →
+pub stands_next : (p : Setting) (j : Journal) (c : Command) (e : Entry) (r : Active) → is_table c ≡ true → Fives p (now p j) → Contains (now p j).rules r →
     counts_now (next p (now p j) c).on r.properties.key ≡ counts_now (now p j).on r.properties.key →
     StandsFor p j (gen j) e r → StandsFor p (entry.Command c ∷ j) (gen (entry.Command c ∷ j)) e r
 stands_next p j c e r is fives there on stands = record {
@@ -113,7 +118,7 @@ stands_next p j c e r is fives there on stands = record {
 }
 
 -- what a table says of a generation that a table command made
-shows_next : (p : Setting) (j : Journal) (c : Command) (t : TableValue) → is_table c ≡ true → t.number ≡ gen j + 1 → IsTable p.catalog t.entries →
+pub shows_next : (p : Setting) (j : Journal) (c : Command) (t : TableValue) → is_table c ≡ true → t.number ≡ gen j + 1 → IsTable p.catalog t.entries →
     ((r : Active) → Contains (rules_after p (now p j) c) r → (e : Entry) × Contains t.entries e × StandsFor p (entry.Command c ∷ j) (gen (entry.Command c ∷ j)) e r) →
     ((e : Entry) → Contains t.entries e → (r : Active) × Contains (rules_after p (now p j) c) r × StandsFor p (entry.Command c ∷ j) (gen (entry.Command c ∷ j)) e r) →
     Shows p (entry.Command c ∷ j) (gen (entry.Command c ∷ j)) t
@@ -127,36 +132,15 @@ shows_next p j c t is number table each only =
     }
 
 -- the rule of each entry, and the entry of each rule, in the newest generation
-each_now : (p : Setting) (j : Journal) (t : TableValue) → Shows p j (gen j) t → (r : Active) → Contains (now p j).rules r → (e : Entry) × Contains t.entries e × StandsFor p j (gen j) e r
+pub each_now : (p : Setting) (j : Journal) (t : TableValue) → Shows p j (gen j) t → (r : Active) → Contains (now p j).rules r → (e : Entry) × Contains t.entries e × StandsFor p j (gen j) e r
 each_now p j t shows r there = shows.each r (subst (λ (g : Generation). Contains g.rules r) (sym (at_newest p j)) there)
 
-only_now : (p : Setting) (j : Journal) (t : TableValue) → Shows p j (gen j) t → (e : Entry) → Contains t.entries e → (r : Active) × Contains (now p j).rules r × StandsFor p j (gen j) e r
+pub only_now : (p : Setting) (j : Journal) (t : TableValue) → Shows p j (gen j) t → (e : Entry) → Contains t.entries e → (r : Active) × Contains (now p j).rules r × StandsFor p j (gen j) e r
 only_now p j t shows e there = let w = shows.only e there in (w.0, subst (λ (g : Generation). Contains g.rules w.0) (at_newest p j) w.1, w.2)
 
 -- the name of an entry is that of its rule
 pub name_is : (p : Setting) (j : Journal) (g : ℕ) (e : Entry) (r : Active) → StandsFor p j g e r → name_of p.catalog e.source ≡ r.properties.name
 name_is p j g e r stands = ap (λ o. option_map_or (λ q. q.name) o []) (rule_is p.catalog e.source r stands.rule_is).properties_are
-
--- ---- Remove
-pub shows_remove : (p : Setting) (j : Journal) (name : List ℕ) (t : TableValue) (number : ℕ) (entries : List Entry) → Fives p (now p j) → Shows p j (gen j) t →
-    number ≡ t.number + 1 → entries ≡ without p.catalog name t.entries → IsTable p.catalog entries →
-    Shows p (entry.Command (Remove name) ∷ j) (gen (entry.Command (Remove name) ∷ j)) (record { number = number; entries = entries })
-shows_remove p j name t number entries fives shows number_is entries_are table =
-    shows_next p j (Remove name) (record { number = number; entries = entries }) refl (omega (arith, number_is, shows.number_is)) table
-    (λ r there.
-    let kept = filter_from (λ x. not (rules.is_named name x)) (now p j).rules r there in
-    let w = each_now p j t shows r kept.0 in
-    let other : has_other_name p.catalog name w.0 ≡ true = ap (λ n. not (same_name n name)) (name_is p j (gen j) w.0 r w.2) ∙ kept.1 in (
-      w.0,
-      subst (λ es. Contains es w.0) (sym entries_are) (filter_to (has_other_name p.catalog name) t.entries w.0 w.1 other),
-      stands_next p j (Remove name) w.0 r refl fives kept.0 (still (now p j).rules (rules_after p (now p j) (Remove name)) (now p j).on r there) w.2,
-    ))
-    (λ e there.
-    let kept = filter_from (has_other_name p.catalog name) t.entries e (subst (λ es. Contains es e) entries_are there) in
-    let w = only_now p j t shows e kept.0 in
-    let other : not (rules.is_named name w.0) ≡ true = ap (λ n. not (same_name n name)) (sym (name_is p j (gen j) e w.0 w.2)) ∙ kept.1 in
-    let after = filter_to (λ x. not (rules.is_named name x)) (now p j).rules w.0 w.1 other in
-    (w.0, after, stands_next p j (Remove name) e w.0 refl fives w.1 (still (now p j).rules (rules_after p (now p j) (Remove name)) (now p j).on w.0 after) w.2))
 
 -- ---- a rule that becomes active
 rank_name : (offers : List Offer) (e : Entry) → (rank_of offers e.source).name ≡ name_of offers e.source
@@ -278,41 +262,102 @@ counting_next keys on key slot e key_of place slot_is counted_is = from e.slot k
               rw (some, miss) (counted ∙ sym (is_among_add k key on ∙ ap (λ b. is_among k on || b) differs ∙ or_false (is_among k on)))
         ]
 
+and_no : (a : Bool) → (a && not true) ≡ false
+and_no true = refl
+and_no false = refl
+
+and_yes : (a : Bool) → (a && not false) ≡ a
+and_yes true = refl
+and_yes false = refl
+
+-- it doesn't where the key is switched off
+uncounting_next : (keys on : List (List ℕ)) (key : List ℕ) (slot : Slot) (e : Entry) (key_of : Option (List ℕ)) → place_of key keys ≡ Some slot.0 →
+    option_map (λ (s : Slot). s.0) e.slot ≡ slot_of keys key_of → e.counted ≡ counts_now on key_of → (with_counting slot false e).counted ≡ counts_now (filter (λ m. not (same_name key m)) on) key_of
+uncounting_next keys on key slot e key_of place slot_is counted_is = from e.slot key_of refl slot_is counted_is
+  where
+    off : (k : List ℕ) → same_name k key ≡ true → is_among k (filter (λ m. not (same_name key m)) on) ≡ false
+    off k same =
+        among_filter (λ m. not (same_name key m)) k on ∙ ap (λ b. is_among k on && not b) (same_name_turned k key same) ∙ and_no (is_among k on)
+
+    stays : (k : List ℕ) → same_name k key ≡ false → is_among k (filter (λ m. not (same_name key m)) on) ≡ is_among k on
+    stays k differs =
+        among_filter (λ m. not (same_name key m)) k on ∙ ap (λ b. is_among k on && not b) (same_name_not k key differs) ∙ and_yes (is_among k on)
+
+    from : (o : Option Slot) (k : Option (List ℕ)) → e.slot ≡ o → option_map (λ (s : Slot). s.0) o ≡ slot_of keys k → e.counted ≡ counts_now on k →
+        (with_counting slot false e).counted ≡ counts_now (filter (λ m. not (same_name key m)) on) k
+    from None None none is counted = rw none counted
+    from (Some s) None some is counted = absurd cc
+    from None (Some k) none is counted =
+        let differs : same_name k key ≡ false = false_from_ne_true (same_name k key) (λ same.
+        let e2 : None ≡ Some slot.0 = is ∙ ap (λ n. place_of n keys) (same_name_is k key same) ∙ place in cc) in
+        rw none (counted ∙ sym (stays k differs))
+    from (Some s) (Some k) some is counted =
+        elim (cases_Bool (same_name k key)) [
+          | inl same ↦
+              let e2 : Some s.0 ≡ Some slot.0 = is ∙ ap (λ n. place_of n keys) (same_name_is k key same) ∙ place in
+              let hit : (s.0 == slot.0) ≡ true = eq-eqb s.0 slot.0 cc in
+              rw (some, hit) (sym (off k same))
+          | inr differs ↦
+              let miss : (s.0 == slot.0) ≡ false = false_from_ne_true (s.0 == slot.0) (λ hit.
+              contrary (same_name k key) (same_name_of k key (place_once k key keys s.0 (sym is) (place ∙ ap (λ (n : ℕ). Some n) (sym (eqb-true s.0 slot.0 hit))))) differs) in
+              rw (some, miss) (counted ∙ sym (stays k differs))
+        ]
+
 -- what counting leaves of an entry
-keeps_source : (slot : Slot) (e : Entry) → (with_counting slot true e).source ≡ e.source
-keeps_source slot e = elim (cases_Bool (is_slot slot e.slot)) [ inl hit ↦ rw hit refl | inr miss ↦ rw miss refl ]
+keeps_source : (slot : Slot) (b : Bool) (e : Entry) → (with_counting slot b e).source ≡ e.source
+keeps_source slot b e = elim (cases_Bool (is_slot slot e.slot)) [ inl hit ↦ rw hit refl | inr miss ↦ rw miss refl ]
 
-keeps_bearer : (slot : Slot) (e : Entry) → (with_counting slot true e).bearer ≡ e.bearer
-keeps_bearer slot e = elim (cases_Bool (is_slot slot e.slot)) [ inl hit ↦ rw hit refl | inr miss ↦ rw miss refl ]
+keeps_bearer : (slot : Slot) (b : Bool) (e : Entry) → (with_counting slot b e).bearer ≡ e.bearer
+keeps_bearer slot b e = elim (cases_Bool (is_slot slot e.slot)) [ inl hit ↦ rw hit refl | inr miss ↦ rw miss refl ]
 
-keeps_slot : (slot : Slot) (e : Entry) → (with_counting slot true e).slot ≡ e.slot
-keeps_slot slot e = elim (cases_Bool (is_slot slot e.slot)) [ inl hit ↦ rw hit refl | inr miss ↦ rw miss refl ]
+keeps_slot : (slot : Slot) (b : Bool) (e : Entry) → (with_counting slot b e).slot ≡ e.slot
+keeps_slot slot b e = elim (cases_Bool (is_slot slot e.slot)) [ inl hit ↦ rw hit refl | inr miss ↦ rw miss refl ]
+
+-- a command that leaves the rules and switches a key: the entries that have its slot count from then on, or don't
+pub shows_switched : (p : Setting) (j : Journal) (c : Command) (slot : Slot) (b : Bool) (t : TableValue) (number : ℕ) (entries : List Entry) → is_table c ≡ true →
+    rules_after p (now p j) c ≡ (now p j).rules →
+    ((e : Entry) (key_of : Option (List ℕ)) → option_map (λ (s : Slot). s.0) e.slot ≡ slot_of (slots p (entry.Command c ∷ j)) key_of → e.counted ≡ counts_now (now p j).on key_of →
+    (with_counting slot b e).counted ≡ counts_now (switched c (now p j).on) key_of) →
+    Fives p (now p j) → Shows p j (gen j) t → number ≡ t.number + 1 → entries ≡ map (with_counting slot b) t.entries → IsTable p.catalog entries →
+    Shows p (entry.Command c ∷ j) (gen (entry.Command c ∷ j)) (record { number = number; entries = entries })
+shows_switched p j c slot b t number entries is stay turns fives shows number_is entries_are table =
+    let k : Journal = entry.Command c ∷ j in
+    let back : (r : Active) → Contains (rules_after p (now p j) c) r → Contains (now p j).rules r = λ r there. subst (λ (rs : List Active). Contains rs r) stay there in
+    let stands : (e : Entry) (r : Active) → Contains (rules_after p (now p j) c) r → StandsFor p j (gen j) e r → StandsFor p k (gen k) (with_counting slot b e) r =
+    λ e r there stands. record {
+      rule_is = ap (rule_of p.catalog) (keeps_source slot b e) ∙ stands.rule_is;
+      bearer_is = ap (λ (x : BearerId). x.0) (keeps_bearer slot b e) ∙ bearer_next p j c e r is fives (back r there) stands;
+      slot_is = ap (option_map (λ (s : Slot). s.0)) (keeps_slot slot b e) ∙ slot_next p j c e r is (back r there) stands;
+      counted_is = rw (after_is p j c is)
+          (turns e r.properties.key (slot_next p j c e r is (back r there) stands)
+          (stands.counted_is ∙ ap (λ (g : Generation). counts_now g.on r.properties.key) (at_newest p j))
+          ∙ sym (still (now p j).rules (rules_after p (now p j) c) (switched c (now p j).on) r there));
+    } in
+    shows_next p j c (record { number = number; entries = entries }) is (omega (arith, number_is, shows.number_is)) table
+    (λ r there.
+    let w = each_now p j t shows r (back r there) in
+    (with_counting slot b w.0, subst (λ es. Contains es (with_counting slot b w.0)) (sym entries_are) (map_to (with_counting slot b) t.entries w.0 w.1), stands w.0 r there w.2))
+    (λ e there.
+    let v = map_from (with_counting slot b) t.entries e (subst (λ es. Contains es e) entries_are there) in
+    let w = only_now p j t shows v.0 v.1 in
+    let after : Contains (rules_after p (now p j) c) w.0 = subst (λ (rs : List Active). Contains rs w.0) (sym stay) w.1 in
+    (w.0, after, subst (λ (y : Entry). StandsFor p k (gen k) y w.0) v.2 (stands v.0 w.0 after w.2)))
 
 -- the entries that have the slot of the key count now
 pub shows_monitor : (p : Setting) (j : Journal) (key : List ℕ) (amount : ℕ) (slot : Slot) (t : TableValue) (number : ℕ) (entries : List Entry) → Fives p (now p j) → Shows p j (gen j) t →
     place_of key (slots p (entry.Command (Monitor key amount) ∷ j)) ≡ Some slot.0 → number ≡ t.number + 1 → entries ≡ map (with_counting slot true) t.entries → IsTable p.catalog entries →
     Shows p (entry.Command (Monitor key amount) ∷ j) (gen (entry.Command (Monitor key amount) ∷ j)) (record { number = number; entries = entries })
 shows_monitor p j key amount slot t number entries fives shows place number_is entries_are table =
-    let c : Command = Monitor key amount in
-    let k : Journal = entry.Command c ∷ j in
-    let stands : (e : Entry) (r : Active) → Contains (now p j).rules r → StandsFor p j (gen j) e r → StandsFor p k (gen k) (with_counting slot true e) r =
-    λ e r there stands. record {
-      rule_is = ap (rule_of p.catalog) (keeps_source slot e) ∙ stands.rule_is;
-      bearer_is = ap (λ (b : BearerId). b.0) (keeps_bearer slot e) ∙ bearer_next p j c e r refl fives there stands;
-      slot_is = ap (option_map (λ (s : Slot). s.0)) (keeps_slot slot e) ∙ slot_next p j c e r refl there stands;
-      counted_is = rw (after_is p j c refl)
-          (counting_next (slots p k) (now p j).on key slot e r.properties.key place (slot_next p j c e r refl there stands)
-          (stands.counted_is ∙ ap (λ (g : Generation). counts_now g.on r.properties.key) (at_newest p j))
-          ∙ sym (still (now p j).rules (now p j).rules (add_key key (now p j).on) r there));
-    } in
-    shows_next p j c (record { number = number; entries = entries }) refl (omega (arith, number_is, shows.number_is)) table
-    (λ r there.
-    let w = each_now p j t shows r there in
-    (with_counting slot true w.0, subst (λ es. Contains es (with_counting slot true w.0)) (sym entries_are) (map_to (with_counting slot true) t.entries w.0 w.1), stands w.0 r there w.2))
-    (λ e there.
-    let v = map_from (with_counting slot true) t.entries e (subst (λ es. Contains es e) entries_are there) in
-    let w = only_now p j t shows v.0 v.1 in
-    (w.0, w.1, subst (λ (y : Entry). StandsFor p k (gen k) y w.0) v.2 (stands v.0 w.0 w.1 w.2)))
+    shows_switched p j (Monitor key amount) slot true t number entries refl (filter_all (now p j).rules)
+    (λ e key_of slot_is counted_is. counting_next (slots p (entry.Command (Monitor key amount) ∷ j)) (now p j).on key slot e key_of place slot_is counted_is) fives shows number_is entries_are table
+
+-- and no longer
+pub shows_stop : (p : Setting) (j : Journal) (key : List ℕ) (slot : Slot) (t : TableValue) (number : ℕ) (entries : List Entry) → Fives p (now p j) → Shows p j (gen j) t →
+    place_of key (slots p (entry.Command (Stop key) ∷ j)) ≡ Some slot.0 → number ≡ t.number + 1 → entries ≡ map (with_counting slot false) t.entries → IsTable p.catalog entries →
+    Shows p (entry.Command (Stop key) ∷ j) (gen (entry.Command (Stop key) ∷ j)) (record { number = number; entries = entries })
+shows_stop p j key slot t number entries fives shows place number_is entries_are table =
+    shows_switched p j (Stop key) slot false t number entries refl (filter_all (now p j).rules)
+    (λ e key_of slot_is counted_is. uncounting_next (slots p (entry.Command (Stop key) ∷ j)) (now p j).on key slot e key_of place slot_is counted_is) fives shows number_is entries_are table
 
 -- the default pair keeps the default bearer
 pub lawful_fives : (p : Setting) (j : Journal) → Lawful p j → Fives p (now p j)

@@ -15,7 +15,8 @@ use Rattle.pcef_table.specs.Verdicts.{slot_for}
 use Rattle.pcef_lists.proofs.Foremost.{found_is_foremost}
 use Rattle.pcef_model.specs.Setting.{Setting, same_name}
 use Rattle.pcef_model.specs.ActiveRules.{Active, decisive, is_decisive, is_key}
-use Rattle.pcef_model.specs.Generations.{Generation, is_among}
+use Rattle.pcef_model.specs.Generations.{Generation}
+use Rattle.pcef_model.specs.Commands.{is_among}
 use Rattle.pcef_model.specs.Entries.{Journal}
 use Rattle.pcef_model.specs.Journals.{Decision, at, counts_in, decided_by, decision, gated, judged, passed, slots, stray, unmatched, verdict_of, passed_for}
 use Rattle.pcef_lists.proofs.Tests.{contrary}

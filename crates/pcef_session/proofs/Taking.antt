@@ -10,7 +10,8 @@ use Rattle.pcef_rule.specs.declared.quantity.Slot.{Slot}
 use Rattle.pcef_model.specs.declared.entry.Entry.TheVariants as entry
 use Rattle.pcef_model.specs.declared.row.Row.{Row}
 use Rattle.pcef_model.specs.Setting.{Setting, same_name}
-use Rattle.pcef_model.specs.Generations.{is_among, made_by, slots_of}
+use Rattle.pcef_model.specs.Commands.{is_among}
+use Rattle.pcef_model.specs.Generations.{made_by, slots_of}
 use Rattle.pcef_model.specs.Entries.{Journal, commands, rows}
 use Rattle.pcef_model.specs.Journals.{counts, gen, now, octets_of, slots, subscribed, tables}
 use Rattle.pcef_model.specs.Reports.{after_flush, thresholds, with_rows}
@@ -26,8 +27,10 @@ use Rattle.pcef_usage.proofs.Loops.{key_among}
 use Rattle.pcef_usage.proofs.Rows as usage
 use Rattle.pcef_usage.proofs.Slots.{distinct_slots}
 use Rattle.pcef_session.specs.declared.batch.Item.{Item}
-use Rattle.pcef_session.specs.Agreement.{Agrees, KeyAgrees, Parts}
-use Rattle.pcef_session.specs.Following.{CanCountAll, HasItsSlots, HasSmallRows, IsTaken, row_of, slot_of}
+use Rattle.pcef_session.specs.private.Parts.{Agrees, Parts}
+use Rattle.pcef_session.specs.Agreement.{KeyAgrees}
+use Rattle.pcef_session.specs.private.Taking.{CanCountAll, IsTaken}
+use Rattle.pcef_session.specs.Following.{HasItsSlots, HasSmallRows, row_of, slot_of}
 use Rattle.pcef_model.specs.Slots.{CountsFor, IsWithin, is_at, place_of}
 use Rattle.pcef_bearer.specs.Standing.{binding_of}
 use Rattle.pcef_model.specs.Lawful.{BatchFollows, Lawful, by_flush}
@@ -37,7 +40,7 @@ use Rattle.pcef_model.proofs.Sameness.{same_name_is}
 use Rattle.pcef_model.specs.declared.answer.FlushRefusal.TheVariants as flush
 use Rattle.pcef_session.specs.declared.state.SessionState.TheInside.{Inside}
 use Rattle.pcef_model.specs.Refusals.{first_of, flush_refusals, is_attached}
-use Rattle.pcef_session.specs.Soundness.{IsPlain, IsSound, parts_of}
+use Rattle.pcef_session.specs.private.Soundness.{IsPlain, IsSound, parts_of}
 use Rattle.pcef_model.specs.Terms.{setting_of}
 use Rattle.pcef_model.proofs.Acceptance.{condition_none}
 use Rattle.pcef_session.proofs.PlainJournals.{commands_with, plain_rows, plain_told, rows_with}

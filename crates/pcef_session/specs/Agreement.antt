@@ -1,11 +1,11 @@
--- When what a session keeps agrees with its journal.
+-- When what a session keeps beside its journal agrees with it.
 use Rattle.std.specs.Prelude.{ℕ, ◌≡◌, ◌+◌, List, [], ◌∷◌, Some, map}
 use Rattle.std.specs.List.{AllByRecursion}
 use Rattle.pcef_bearer.specs.Bindings.{Binding}
 use Rattle.pcef_model.specs.declared.trigger.TriggerSet.{TriggerSet}
 use Rattle.pcef_model.specs.Setting.{Setting}
 use Rattle.pcef_model.specs.ActiveRules.{Active}
-use Rattle.pcef_model.specs.Generations.{is_among}
+use Rattle.pcef_model.specs.Commands.{is_among}
 use Rattle.pcef_model.specs.Entries.{Journal}
 use Rattle.pcef_model.specs.Journals.{counted, gen, grant, now, reported, slots, subscribed}
 use Rattle.pcef_table.specs.declared.entry.Source.{Source}
@@ -34,24 +34,7 @@ pub record KeyAgrees (p : Setting) (j : Journal) (s : KeyState) : Type 0 where
   pub reported_is : s.reported ≡ reported j s.key
   pub counted_is : s.reported + s.unreported ≡ counted p j s.key
 
--- ---- a session
--- what a session keeps beside its journal: the active rules by name, in the order in which they became
--- active, the bearers that they are bound to, the keys that have a slot, the triggers, and the table
--- of the newest generation
-pub record Parts : Type 0 where
-  pub rules : List (List ℕ × Source)
-  pub binding : Binding
-  pub keys : List KeyState
-  pub triggers : TriggerSet
-  pub table : TableValue
-
--- the journal may be, and each part is as it says; each active rule is bound to one bearer, that of its
--- pair of QCI and ARP (TS 23.203, clause 6.1.1.4)
-pub record Agrees (p : Setting) (j : Journal) (parts : Parts) : Type 0 where
-  pub lawful : Lawful p j
-  pub rules_are : AreKept p.catalog parts.rules (now p j).rules
-  pub binding_is : parts.binding ≡ binding_of p (now p j)
-  pub keys_are : map (λ s. s.key) parts.keys ≡ slots p j
-  pub usage_is : AllByRecursion (KeyAgrees p j) parts.keys
-  pub triggers_are : parts.triggers ≡ subscribed j
-  pub table_shows : Shows p j (gen j) parts.table
+-- the keys that have a slot, in slot order, each as the journal says
+pub record KeysAgree (p : Setting) (j : Journal) (keys : List KeyState) : Type 0 where
+  pub keys_are : map (λ s. s.key) keys ≡ slots p j
+  pub usage_is : AllByRecursion (KeyAgrees p j) keys

@@ -24,23 +24,6 @@ slot_of i = i.slot
 abbrev pub HasItsSlots : Setting → Journal → List Item → Type 0
 HasItsSlots p j items = All (λ i. IsWithin (slots p j) i.slot × CountsFor p j i.row i.slot) items
 
--- the octets of each row can be counted when its turn comes
-abbrev pub CanCountAll : List Item → List KeyState → Type 0
-CanCountAll [] states = Unit {0}
-CanCountAll (i ∷ items) states =
-    CanCount i.slot i.row.header.octets states × CanCountAll items (with_octets i.slot i.row.header.octets states)
-
 -- the octets of each row fit 32 bits
 abbrev pub HasSmallRows : List Item → Type 0
 HasSmallRows items = All (λ i. i.row.header.octets < 2 ^ 32) items
-
--- rows are taken over: their octets are counted, and then the thresholds are told
-pub record IsTakenAll (subscribed : Bool) (items : List Item) (old new : Counted) : Type 0 where
-  pub journal : new.journal ≡ told (settled_tellings subscribed (rows_counted row_of slot_of items old.states))
-      (settled_states subscribed (rows_counted row_of slot_of items old.states)) (with_rows (map row_of items) old.journal)
-  pub states : new.states ≡ states_told (settled_tellings subscribed (rows_counted row_of slot_of items old.states))
-      (settled_states subscribed (rows_counted row_of slot_of items old.states))
-
-abbrev pub IsTaken : Bool → List Item → Counted → Counted → Type 0
-IsTaken subscribed [] old new = (new.journal ≡ old.journal) × (new.states ≡ old.states)
-IsTaken subscribed (i ∷ items) old new = IsTakenAll subscribed (i ∷ items) old new

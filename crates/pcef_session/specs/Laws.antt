@@ -17,11 +17,14 @@ use Rattle.pcef_catalog.specs.declared.listing.Offer.{Offer}
 use Rattle.pcef_model.specs.Setting.{Setting, offer_named}
 use Rattle.pcef_model.specs.Entries.{Journal}
 use Rattle.pcef_model.specs.Journals.{at, counts_in, gen, judged, now, slots}
-use Rattle.pcef_session.specs.Agreement.{Agrees, Parts}
-use Rattle.pcef_model.specs.Refusals.{total_down, total_up}
+use Rattle.pcef_session.specs.private.Parts.{Agrees, Parts}
+use Rattle.pcef_model.specs.Refusals.{total_down, total_up, rate_of}
 use Rattle.pcef_model.specs.Slots.{has_this_slot, place_of}
 use Rattle.pcef_model.specs.Lawful.{Lawful}
 use Rattle.pcef_session.specs.Shown.{Shows, StandsFor}
+use Rattle.pcef_bearer.specs.Standing.{binding_of}
+use Rattle.pcef_rule.specs.declared.quantity.Qos.{Qos}
+use Rattle.pcef_model.specs.Generations.{has_bearer}
 
 -- a table that shows a generation gives its verdict on each packet
 abbrev pub ShownTablesJudge : Type 0
@@ -39,38 +42,13 @@ ShownTablesCount = (p : Setting) (j : Journal) (g : ℕ) (t : TableValue) (heade
     IsVerdict p.catalog t.entries p.ue header v →
     counts_in p (at p j g) key header ≡ has_this_slot (slots p j) (slot_for p.catalog t.entries v) key
 
--- the tables that Install, Activate, Remove and Monitor make of one that shows the newest generation show the next one
-abbrev pub InstalledTablesShow : Type 0
-InstalledTablesShow = (p : Setting) (j : Journal) → Lawful p j → (rule : Definition) (x : Entry) (t new : TableValue) → Shows p j (gen j) t →
-    StandsFor p (entry.Command (Install rule) ∷ j) (gen (entry.Command (Install rule) ∷ j)) x (dynamic rule) →
-    new.number ≡ t.number + 1 → new.entries ≡ placed p.catalog x t.entries → IsTable p.catalog new.entries →
-    Shows p (entry.Command (Install rule) ∷ j) (gen (entry.Command (Install rule) ∷ j)) new
-
-abbrev pub ActivatedTablesShow : Type 0
-ActivatedTablesShow = (p : Setting) (j : Journal) → Lawful p j → (name : List ℕ) (o : Offer) (x : Entry) (t new : TableValue) → offer_named p name ≡ Some o → Shows p j (gen j) t →
-    StandsFor p (entry.Command (Activate name) ∷ j) (gen (entry.Command (Activate name) ∷ j)) x (predefined o) →
-    new.number ≡ t.number + 1 → new.entries ≡ placed p.catalog x t.entries → IsTable p.catalog new.entries →
-    Shows p (entry.Command (Activate name) ∷ j) (gen (entry.Command (Activate name) ∷ j)) new
-
-abbrev pub RemovedTablesShow : Type 0
-RemovedTablesShow = (p : Setting) (j : Journal) → Lawful p j → (name : List ℕ) (t new : TableValue) → Shows p j (gen j) t →
-    new.number ≡ t.number + 1 → new.entries ≡ without p.catalog name t.entries → IsTable p.catalog new.entries →
-    Shows p (entry.Command (Remove name) ∷ j) (gen (entry.Command (Remove name) ∷ j)) new
-
-abbrev pub MonitoredTablesShow : Type 0
-MonitoredTablesShow = (p : Setting) (j : Journal) → Lawful p j → (key : List ℕ) (amount : ℕ) (slot : Slot) (t new : TableValue) → Shows p j (gen j) t →
-    place_of key (slots p (entry.Command (Monitor key amount) ∷ j)) ≡ Some slot.0 →
-    new.number ≡ t.number + 1 → new.entries ≡ map (with_counting slot true) t.entries → IsTable p.catalog new.entries →
-    Shows p (entry.Command (Monitor key amount) ∷ j) (gen (entry.Command (Monitor key amount) ∷ j)) new
-
 -- ---- bearers (TS 23.203, clause 6.1.1.4)
 -- each active rule stands on one bearer, that of its pair of QCI and ARP
 abbrev pub RulesStandOnTheirBearers : Type 0
-RulesStandOnTheirBearers = (p : Setting) (j : Journal) (parts : Parts) → Agrees p j parts → (r : Active) → Contains (now p j).rules r →
-    bearer_of r.properties.name parts.binding.bound ≡ Some (record { 0 = (now p j).id_of r.properties.qos })
+RulesStandOnTheirBearers = (p : Setting) (j : Journal) (r : Active) → Contains (now p j).rules r →
+    bearer_of r.properties.name (binding_of p (now p j)).bound ≡ Some (record { 0 = (now p j).id_of r.properties.qos })
 
--- a bearer's guaranteed rates are the sums over the rules that stand on it
+-- the bearer of a pair guarantees the exact sums of the rates of the active rules with that pair
 abbrev pub RatesAreSums : Type 0
-RatesAreSums = (p : Setting) (j : Journal) (parts : Parts) → Agrees p j parts → (id : ℕ) (sums : Sums) → guaranteed id parts.binding.bound ≡ Some sums →
-    (sums.up ≡ total_up (filter (λ r. (now p j).id_of r.properties.qos == id) (now p j).rules))
-    × (sums.down ≡ total_down (filter (λ r. (now p j).id_of r.properties.qos == id) (now p j).rules))
+RatesAreSums = (p : Setting) (j : Journal) → Lawful p j → (q : Qos) → has_bearer p (now p j).rules q ≡ true →
+    guaranteed ((now p j).id_of q) (binding_of p (now p j)).bound ≡ Some (rate_of (now p j) q)

@@ -1,9 +1,8 @@
 pub mod Agreement
-pub mod Changes
-pub mod Core
 pub mod Following
-pub mod Kept
 pub mod Laws
+pub mod Preparing
+pub mod private
+pub mod SessionModel
 pub mod Sessions
 pub mod Shown
-pub mod Soundness

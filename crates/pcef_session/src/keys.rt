@@ -4,8 +4,9 @@ ghost use Rattle.std.specs.Prelude.{◌≡◌};
 ghost use Rattle.std.specs.List.{list_any};
 ghost use Rattle.std.specs.Option.{option_copied, option_map};
 ghost use Rattle.pcef_usage.specs.Keys.{place_of};
-ghost use Rattle.pcef_session.specs.Kept.{is_on, is_on_there};
+ghost use Rattle.pcef_session.specs.private.Keys.{is_on, is_on_there, key_switched, switches_on};
 
+use pcef_model::Command;
 use pcef_rule::{KeyName, Slot};
 use pcef_usage::{KeyState, Usage};
 
@@ -51,4 +52,22 @@ pub(crate) fn is_on(usage: &Usage, key: Option<&KeyName>) -> bool
         Some(key) => is_on_in(usage.states(), key),
         None => false,
     }
+}
+
+/// The key that a command switches on or off, if there is one.
+pub(crate) fn switched_key(command: &Command) -> Option<&KeyName>
+    ensures { option_copied result ≡ key_switched command.now }
+{
+    match command {
+        Command::Monitor { key, .. } => Some(key),
+        Command::Stop(key) => Some(key),
+        _ => None,
+    }
+}
+
+/// Whether a command switches a key on.
+pub(crate) fn switches_on(command: &Command) -> bool
+    ensures { result ≡ switches_on command.now }
+{
+    matches!(command, Command::Monitor { .. })
 }

@@ -1,10 +1,12 @@
 //! A session of the gateway: its commands, its bearers, its usage and its journal.
 #![tactic(auto)]
 
+mod applying;
 mod batch;
-mod entering;
+mod entries;
 mod keys;
 mod laws;
+mod lost_keys;
 mod planning;
 mod prepared;
 mod rows;
@@ -12,7 +14,7 @@ mod session;
 mod state;
 
 pub use batch::{Batch, BatchFull, Item, MAX_WAITING};
-pub use laws::{rules_have_their_bearers, shown_tables_judge, tables_follow_commands};
-pub use prepared::{Coming, Prepared, PreparedChange};
+pub use laws::{rules_have_their_bearers, shown_tables_judge};
+pub use prepared::{Activation, Prepared, PreparedChange};
 pub use session::Session;
 pub use state::{MAX_RULES, MAX_WORKERS, SessionState};

@@ -3,7 +3,7 @@
 ghost use Rattle.std.specs.Prelude.{◌≡◌};
 ghost use Rattle.std.specs.Arc.{arc_value};
 ghost use Rattle.std.specs.Option.{option_copied, option_map};
-ghost use Rattle.pcef_session.specs.Core.{table_made};
+ghost use Rattle.pcef_session.specs.Preparing.{table_made};
 
 use pcef_model::{Command, Telling};
 use pcef_rule::{Properties, RuleName};
@@ -12,7 +12,7 @@ use std::sync::Arc;
 
 /// A rule that becomes active.
 #[derive(Drop)]
-pub struct Coming {
+pub struct Activation {
     /// Its properties.
     pub properties: Properties,
     /// Where it comes from.
@@ -24,12 +24,12 @@ pub struct Coming {
 pub struct PreparedChange {
     /// The command.
     pub command: Command,
-    /// The table of the journal after the command and all that is reported with it.
-    pub table: Arc<Table>,
+    /// The table that the command makes, if it makes one: that of the journal after it and all that is reported with it.
+    pub table: Option<Arc<Table>>,
     /// The rule that the command makes active.
-    pub rule: Option<Coming>,
+    pub rule: Option<Activation>,
     /// What the command reports by itself, in order.
-    pub tellings: Vec<Telling>,
+    pub reports: Vec<Telling>,
 }
 
 /// A command that a session accepts next.
@@ -47,7 +47,7 @@ impl Prepared {
         ensures { option_map (λ t. arc_value t) (option_copied result) ≡ table_made self.now }
     {
         match self {
-            Prepared::Changing(change) => Some(&change.table),
+            Prepared::Changing(change) => change.table.as_ref(),
             Prepared::Unchanged(_) => None,
         }
     }

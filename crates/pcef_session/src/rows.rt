@@ -3,11 +3,12 @@
 ghost use Rattle.std.specs.Prelude.{◌≡◌, ◌≤◌, ◌<◌, ◌+◌, ◌∷◌, length, map, IfOk};
 ghost use Rattle.pcef_model.specs.Reports.{with_rows};
 ghost use Rattle.pcef_model.specs.Answers.{judged_of};
-ghost use Rattle.pcef_session.specs.Following.{CanCountAll, IsTaken, row_of, slot_of};
+ghost use Rattle.pcef_session.specs.private.Taking.{CanCountAll, IsTaken};
+ghost use Rattle.pcef_session.specs.Following.{row_of, slot_of};
 ghost use Rattle.pcef_usage.specs.Flushes.{rows_counted};
 
-use pcef_model::Judged;
 use crate::batch::Item;
+use pcef_model::Judged;
 use pcef_usage::CountedJournal;
 use std::alloc::{AllocError, Global};
 

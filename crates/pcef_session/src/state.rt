@@ -3,18 +3,21 @@
 ghost use Rattle.std.specs.Prelude.{◌≡◌, [], IfOk};
 ghost use Rattle.std.specs.Arc.{arc_value};
 ghost use Rattle.std.specs.Result.{result_err};
-ghost use Rattle.pcef_model.specs.Generations.{at_first};
-ghost use Rattle.pcef_session.specs.Agreement.{Agrees};
-ghost use Rattle.pcef_model.specs.Answers.{Attaches, Opens};
 ghost use Rattle.pcef_bearer.specs.Standing.{binding_of};
-ghost use Rattle.pcef_session.specs.Core.{setting_in};
+ghost use Rattle.pcef_model.specs.Answers.{Attaches, Opens};
+ghost use Rattle.pcef_model.specs.Entries.{lane};
+ghost use Rattle.pcef_model.specs.Generations.{at_first};
+ghost use Rattle.pcef_model.specs.Journals.{gen, now};
+ghost use Rattle.pcef_model.specs.Lawful.{Lawful};
 ghost use Rattle.pcef_model.specs.Terms.{setting_of};
+ghost use Rattle.pcef_session.specs.Agreement.{AreKept, KeysAgree};
+ghost use Rattle.pcef_session.specs.Shown.{Shows};
 
-use pcef_model::{AttachFault, Entry, OpenFault, Profile, TriggerSet};
 use indexmap::IndexMap;
 use pcef_bearer::Bearers;
 use pcef_catalog::Listing;
 use pcef_journal::Journal;
+use pcef_model::{AttachFault, Entry, OpenFault, Profile, TriggerSet};
 use pcef_rule::RuleName;
 use pcef_table::{Source, Table};
 use pcef_usage::{CountedJournal, Usage};
@@ -48,13 +51,13 @@ pub struct SessionState {
 }
 
 impl Model for SessionState {
-    ghost use Rattle.pcef_session.specs.Core.{Core};
+    ghost use Rattle.pcef_session.specs.SessionModel.{SessionModel};
 
-    ghost Value = { Core };
+    ghost Value = { SessionModel };
 
-    ghost use Rattle.pcef_session.specs.Soundness.{core_of, IsSound};
+    ghost use Rattle.pcef_session.specs.private.Soundness.{IsSound, model_of};
 
-    ghost view = { core_of };
+    ghost view = { model_of };
 
     ghost invariant = { IsSound };
 }
@@ -81,7 +84,7 @@ impl SessionState {
         listing: Listing,
     ) -> Result<SessionState, OpenFault>
         ensures answer { Opens (setting_of profile listing) (result_err result) }
-        ensures made { IfOk result (λ s. (s.terms ≡ profile) × (s.offers ≡ listing) × (s.journal ≡ [])) }
+        ensures made { IfOk result (λ s. (s.setting ≡ setting_of profile listing) × (s.journal ≡ [])) }
     {
         let bearers = match open_bearers(alloc, &profile) {
             Ok(bearers) => bearers,
@@ -117,9 +120,8 @@ impl SessionState {
     /// memory for what the journal says of the worker.
     pub fn attach(&mut self) -> Result<u8, AttachFault>
         ensures answer { Attaches self.old.journal result self.new.journal }
-        ensures offers { self.new.offers ≡ self.old.offers }
-        ensures terms { self.new.terms ≡ self.old.terms }
-        ensures parts { self.new.parts ≡ self.old.parts }
+        ensures lane { IfOk result (λ worker. lane self.old.journal worker ≡ []) }
+        ensures setting { self.new.setting ≡ self.old.setting }
     {
         if self.attached >= MAX_WORKERS {
             return Err(AttachFault::NoPlace);
@@ -135,57 +137,59 @@ impl SessionState {
 
     /// The active rules by their names, in the order in which they became active.
     pub fn active(&self) -> &IndexMap<RuleName, Source>
-        ensures { result.now.entries ≡ self.now.parts.rules }
+        ensures { AreKept self.now.setting.catalog result.now.entries (now self.now.setting self.now.journal).rules }
     {
         &self.active
     }
 
-    /// The bearers, and the rules that are bound to them.
+    /// The bearers, and the rules that are bound to them: each active rule to the bearer of its QCI and
+    /// ARP (TS 23.203, clause 6.1.1.4).
     pub fn bearers(&self) -> &Bearers
-        ensures { result.now ≡ self.now.parts.binding }
+        ensures { result.now ≡ binding_of self.now.setting (now self.now.setting self.now.journal) }
     {
         &self.bearers
     }
 
-    /// The keys that have a slot, with their usage.
+    /// The keys that have a slot, with their usage: reported and unreported octets are together those that
+    /// the journal's rows passed for the key (TS 29.212, clause 4.5.16).
     pub fn usage(&self) -> &Usage
-        ensures { result.now ≡ self.now.parts.keys }
+        ensures { KeysAgree self.now.setting self.now.journal result.now }
     {
         self.counted.usage()
     }
 
     /// The number of the newest generation.
     pub fn generation(&self) -> u32
-        ensures { result ≡ self.now.parts.table.number }
+        ensures { result ≡ gen self.now.journal }
     {
         self.table.generation()
     }
 
-    /// The journal, and all that the session keeps beside it agrees with it.
+    /// The journal, which is lawful.
     pub fn journal(&self) -> &Journal
         ensures journal { result.now.entries ≡ self.now.journal }
-        ensures agrees { Agrees (setting_in self.now) self.now.journal self.now.parts }
+        ensures lawful { Lawful self.now.setting self.now.journal }
     {
         self.counted.journal()
     }
 
-    /// What is fixed for the session.
+    /// The profile, which is fixed for the session.
     pub fn profile(&self) -> &Profile
-        ensures { result.now ≡ self.now.terms }
+        ensures { setting_of result.now self.now.setting.catalog ≡ self.now.setting }
     {
         &self.profile
     }
 
     /// The predefined rules, without their closures.
     pub fn listing(&self) -> &Listing
-        ensures { result.now ≡ self.now.offers }
+        ensures { result.now ≡ self.now.setting.catalog }
     {
         &self.listing
     }
 
     /// The table of the newest generation.
     pub fn table(&self) -> &Arc<Table>
-        ensures { arc_value result.now ≡ self.now.parts.table }
+        ensures { Shows self.now.setting self.now.journal (gen self.now.journal) (arc_value result.now) }
     {
         &self.table
     }

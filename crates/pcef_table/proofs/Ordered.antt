@@ -38,18 +38,18 @@ ordered_around R chain (a ∷ front) x back front_ordered below back_ordered abo
     (All-cons (R a) x back a_below (All-weaker (R x) (R a) (λ b above_x. chain a x b a_below above_x) back above)))
     (ordered_around R chain front x back (ordered_tail R a front front_ordered) (All-tail (λ b. R b x) a front below) back_ordered above)
 
--- a table without the entries of a name is a table
-pub without_is_table : (offers : List Offer) (name : List ℕ) (entries : List Entry) → IsTable offers entries → IsTable offers (without offers name entries)
-without_is_table offers name entries table = record {
-  known = All-filter (has_other_name offers name) (λ e. IsKnown offers e.source) entries table.known;
-  ordered = AllPairs-filter (GoesBefore offers) (has_other_name offers name) entries table.ordered;
+-- some entries of a table are a table
+pub part_is_table : (offers : List Offer) (test : Entry → Bool) (entries : List Entry) → IsTable offers entries → IsTable offers (filter test entries)
+part_is_table offers test entries table = record {
+  known = All-filter test (λ e. IsKnown offers e.source) entries table.known;
+  ordered = AllPairs-filter (GoesBefore offers) test entries table.ordered;
 }
 
 -- a table with an entry in its place is a table
 pub placed_is_table : (offers : List Offer) (x : Entry) (entries : List Entry) → IsKnown offers x.source → IsTable offers entries → IsTable offers (placed offers x entries)
 placed_is_table offers x entries x_known table =
     let others = without offers (name_of offers x.source) entries in
-    let rest : IsTable offers others = without_is_table offers (name_of offers x.source) entries table in
+    let rest : IsTable offers others = part_is_table offers (has_other_name offers (name_of offers x.source)) entries table in
     let front = filter (is_before offers x) others in
     let back = filter (is_behind offers x) others in
     record {

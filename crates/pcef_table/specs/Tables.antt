@@ -5,6 +5,8 @@ use Rattle.pcef_rule.specs.Precedence.{goes_before}
 use Rattle.pcef_catalog.specs.declared.listing.Offer.{Offer}
 use Rattle.pcef_table.specs.declared.entry.Entry.{Entry}
 use Rattle.pcef_table.specs.Sources.{IsKnown, is_named, name_of, rank_of}
+use Rattle.pcef_model.specs.declared.command.Command.{Command}
+use Rattle.pcef_model.specs.Commands.{takes_away}
 
 -- the number of a generation, and its entries in precedence order
 pub record TableValue : Type 0 where
@@ -30,6 +32,17 @@ has_other_name offers name e = not (is_named offers name e.source)
 -- the entries without the one of this name
 abbrev pub without : List Offer → List ℕ → List Entry → List Entry
 without offers name entries = filter (has_other_name offers name) entries
+
+-- the entries without those whose rules a command takes away
+abbrev pub is_taken : List Offer → Command → Entry → Bool
+is_taken offers c e = takes_away c (name_of offers e.source) e.bearer.0
+
+abbrev pub without_taken : List Offer → Command → List Entry → List Entry
+without_taken offers c entries = filter (λ e. not (is_taken offers c e)) entries
+
+-- the entries without those on a bearer
+abbrev pub without_bearer : ℕ → List Entry → List Entry
+without_bearer id entries = filter (λ e. not (e.bearer.0 == id)) entries
 
 abbrev pub is_before : List Offer → Entry → Entry → Bool
 is_before offers x e = goes_before (rank_of offers e.source) (rank_of offers x.source)

@@ -3,11 +3,12 @@
 ghost use Rattle.std.specs.Prelude.{◌≡◌, ◌++◌, ◌∷◌, [], All, IfOk, OnOk, filter, map, if◌then◌else◌};
 ghost use Rattle.pcef_table.specs.Sides.{stays};
 ghost use Rattle.pcef_table.specs.Sources.{IsKnown};
-ghost use Rattle.pcef_table.specs.Tables.{placed, with_counting, without};
+ghost use Rattle.pcef_table.specs.Tables.{is_taken, placed, with_counting, without_taken};
 
 use crate::entry::Entry;
 use pcef_catalog::Offers;
-use pcef_rule::{RuleName, Slot};
+use pcef_model::Command;
+use pcef_rule::Slot;
 use std::alloc::{AllocError, Global};
 
 /// Where an entry stands beside another one.
@@ -41,19 +42,27 @@ fn keep(kept: &mut Vec<Entry>, entry: &Entry, stays: bool) -> Result<(), AllocEr
     Ok(())
 }
 
-/// Copies of the entries without the one of this name.
-pub(crate) fn copy_without<C: Offers>(
+/// Whether a command takes the rule of an entry away.
+fn is_taken<C: Offers>(catalog: &C, command: &Command, entry: &Entry) -> bool
+    requires { IsKnown (C.offers catalog.now) entry.now.source }
+    ensures { result ≡ is_taken (C.offers catalog.now) command.now entry.now }
+{
+    command.takes_away(&entry.source.properties(catalog).name, entry.bearer)
+}
+
+/// Copies of the entries without those whose rules a command takes away.
+pub(crate) fn copy_without_taken<C: Offers>(
     alloc: Global,
     catalog: &C,
     entries: &[Entry],
-    name: &RuleName,
+    command: &Command,
 ) -> Result<Vec<Entry>, AllocError>
     requires { All (λ e. IsKnown (C.offers catalog.now) e.source) entries.now }
-    ensures { IfOk result (λ v. v.items ≡ without (C.offers catalog.now) name.now entries.now) }
+    ensures { IfOk result (λ v. v.items ≡ without_taken (C.offers catalog.now) command.now entries.now) }
 {
     let mut kept = Vec::with_capacity(alloc, entries.len())?;
     for entry in entries {
-        let stays = !entry.source.is_named(catalog, name);
+        let stays = !is_taken(catalog, command, entry);
         keep(&mut kept, entry, stays)?;
     }
     Ok(kept)

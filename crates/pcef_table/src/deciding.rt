@@ -7,13 +7,13 @@ ghost use Rattle.pcef_table.specs.Sources.{IsKnown, fits, is_named};
 ghost use Rattle.pcef_table.specs.Verdicts.{counted_slot, gate_verdict};
 
 use crate::entry::Entry;
-use pcef_model::Verdict;
 use pcef_catalog::Offers;
+use pcef_model::Verdict;
 use pcef_packet::{Addr, Dir, Header};
 use pcef_rule::{BearerId, Properties, RuleName, Slot};
 
 /// Whether the address on the user equipment's side is the session's.
-pub(crate) fn is_own(header: &Header, ue: Addr) -> bool
+pub fn is_own(header: &Header, ue: Addr) -> bool
     ensures { result ≡ same_addr (ue_side header.now) ue }
 {
     header.ue_side() == ue
@@ -39,7 +39,7 @@ pub(crate) fn first_fitting<'a, C: Offers>(
 }
 
 /// What the gate of a rule on this bearer decides of a packet of this direction.
-pub(crate) fn gate_verdict(properties: &Properties, bearer: BearerId, dir: Dir) -> Verdict
+pub fn gate_verdict(properties: &Properties, bearer: BearerId, dir: Dir) -> Verdict
     ensures { result ≡ gate_verdict properties.now bearer dir }
 {
     let rule = properties.name.copy();

@@ -7,6 +7,7 @@ mod entry;
 mod source;
 mod table;
 
+pub use deciding::{gate_verdict, is_own};
 pub use entry::{Entry, Source};
 pub use table::{MAX_ENTRIES, Table};
 

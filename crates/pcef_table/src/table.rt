@@ -3,16 +3,16 @@
 ghost use Rattle.std.specs.Prelude.{◌≡◌, ◌≤◌, ◌<◌, ◌+◌, ◌^◌, [], IfOk, length, map, slice_get};
 ghost use Rattle.std.specs.Option.{option_copied};
 ghost use Rattle.pcef_table.specs.Sources.{IsKnown};
-ghost use Rattle.pcef_table.specs.Tables.{IsTable, most_entries, placed, with_counting, without};
+ghost use Rattle.pcef_table.specs.Tables.{IsTable, most_entries, placed, with_counting, without, without_bearer, without_taken};
 ghost use Rattle.pcef_table.specs.Verdicts.{IsVerdict, slot_for};
 
-use crate::change::{copy_counting, copy_with, copy_without};
+use crate::change::{copy_counting, copy_with, copy_without_taken};
 use crate::deciding::{first_fitting, gate_verdict, is_own, slot_of};
 use crate::entry::Entry;
-use pcef_model::Verdict;
 use pcef_catalog::Offers;
+use pcef_model::{Command, Verdict};
 use pcef_packet::{Addr, Header};
-use pcef_rule::{RuleName, Slot};
+use pcef_rule::{BearerId, RuleName, Slot};
 use std::alloc::{AllocError, Global};
 use std::marker::Model;
 
@@ -30,7 +30,8 @@ pub struct Table {
 
 impl Model for Table {
     ghost use Rattle.std.specs.Prelude.{◌≤◌, length};
-    ghost use Rattle.pcef_table.specs.Tables.{TableValue, most_entries};
+    ghost use Rattle.pcef_table.specs.Tables.{TableValue};
+    ghost use Rattle.pcef_table.specs.Tables.{most_entries};
 
     ghost Value = { TableValue };
 
@@ -61,9 +62,18 @@ impl Table {
 
     /// The entries, in precedence order.
     pub fn entries(&self) -> &[Entry]
-        ensures { result.now ≡ self.now.entries }
+        ensures entries { result.now ≡ self.now.entries }
+        ensures most { length result.now ≤ most_entries }
     {
         &self.entries
+    }
+
+    /// How many entries there are: 64 at most.
+    pub fn len(&self) -> usize
+        ensures is { result ≡ length self.now.entries }
+        ensures few { result ≤ most_entries }
+    {
+        self.entries.len()
     }
 
     /// The entry at a place, if there is one.
@@ -99,7 +109,37 @@ impl Table {
         ensures entries { IfOk result (λ t. t.entries ≡ without (C.offers catalog.now) name.now self.now.entries) }
         ensures table { IfOk result (λ t. IsTable (C.offers catalog.now) t.entries) }
     {
-        let entries = copy_without(self.alloc, catalog, self.entries(), name)?;
+        self.without_taken(catalog, &Command::Remove(name.copy()))
+    }
+
+    /// The next generation without the entries on this bearer, or want of memory.
+    pub fn without_bearer<C: Offers>(
+        &self,
+        catalog: &C,
+        bearer: BearerId,
+    ) -> Result<Table, AllocError>
+        requires number { self.now.number + 1 < 2 ^ 32 }
+        requires table { IsTable (C.offers catalog.now) self.now.entries }
+        ensures number { IfOk result (λ t. t.number ≡ self.now.number + 1) }
+        ensures entries { IfOk result (λ t. t.entries ≡ without_bearer bearer.0 self.now.entries) }
+        ensures table { IfOk result (λ t. IsTable (C.offers catalog.now) t.entries) }
+    {
+        self.without_taken(catalog, &Command::LoseBearer(bearer))
+    }
+
+    /// The next generation without the entries whose rules a command takes away, or want of memory.
+    pub fn without_taken<C: Offers>(
+        &self,
+        catalog: &C,
+        command: &Command,
+    ) -> Result<Table, AllocError>
+        requires number { self.now.number + 1 < 2 ^ 32 }
+        requires table { IsTable (C.offers catalog.now) self.now.entries }
+        ensures number { IfOk result (λ t. t.number ≡ self.now.number + 1) }
+        ensures entries { IfOk result (λ t. t.entries ≡ without_taken (C.offers catalog.now) command.now self.now.entries) }
+        ensures table { IfOk result (λ t. IsTable (C.offers catalog.now) t.entries) }
+    {
+        let entries = copy_without_taken(self.alloc, catalog, self.entries(), command)?;
         Ok(Table {
             alloc: self.alloc,
             entries,

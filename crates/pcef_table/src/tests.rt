@@ -10,6 +10,7 @@ use super::*;
 use arrayvec::ArrayVec;
 use pcef_catalog::{Alternative, Catalog, Detect, Offers, Predefined, Shape, Test};
 use pcef_filter::{Direction, Endpoint, Filter, Place, PortRange};
+use pcef_model::Verdict;
 use pcef_packet::{Addr, Dir, Header, Ports};
 use pcef_rule::{Arp, BearerId, Gate, Properties, Qci, Qos, Rule, RuleName, Slot};
 use std::alloc::Global;

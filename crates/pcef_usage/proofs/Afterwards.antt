@@ -6,7 +6,7 @@ use Rattle.pcef_model.specs.declared.command.Command.TheVariants.{Install, Activ
 use Rattle.pcef_model.specs.declared.entry.Entry.TheVariants as entry
 use Rattle.pcef_model.specs.declared.telling.Telling.{Telling}
 use Rattle.pcef_model.specs.Setting.{Setting, most_keys}
-use Rattle.pcef_model.specs.Generations.{key_named}
+use Rattle.pcef_model.specs.Commands.{key_named}
 use Rattle.pcef_model.specs.Entries.{Journal}
 use Rattle.pcef_model.specs.Journals.{report_count, subscribed}
 use Rattle.pcef_model.specs.Reports.{after_command, plan, tell}

@@ -7,7 +7,8 @@ use Rattle.pcef_model.specs.declared.command.Command.{Command}
 use Rattle.pcef_model.specs.declared.command.Command.TheVariants.{Install, Activate, Remove, Monitor, Stop, ReportNow, Triggers, Notice, LoseBearer, Close, Terminate}
 use Rattle.pcef_model.specs.declared.entry.Entry.TheVariants as entry
 use Rattle.pcef_model.specs.Setting.{Setting, same_name}
-use Rattle.pcef_model.specs.Generations.{add_if_some, add_key, is_among, key_named, slots_of}
+use Rattle.pcef_model.specs.Generations.{add_if_some, slots_of}
+use Rattle.pcef_model.specs.Commands.{add_key, is_among, key_named}
 use Rattle.pcef_model.specs.Entries.{Journal, rows}
 use Rattle.pcef_model.specs.Journals.{counted, gen, grant, now, reported, slots, subscribed, tables}
 use Rattle.pcef_model.specs.Reports.{plan}

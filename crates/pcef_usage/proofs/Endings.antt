@@ -7,7 +7,8 @@ use Rattle.pcef_model.specs.declared.telling.Telling.{Telling}
 use Rattle.pcef_model.specs.declared.telling.Telling.TheVariants.{Inactive, Usage, Access}
 use Rattle.pcef_model.specs.declared.trigger.TriggerSet.{TriggerSet}
 use Rattle.pcef_model.specs.Setting.{Setting}
-use Rattle.pcef_model.specs.Generations.{Generation, is_among}
+use Rattle.pcef_model.specs.Generations.{Generation}
+use Rattle.pcef_model.specs.Commands.{is_among}
 use Rattle.pcef_model.specs.Entries.{Journal}
 use Rattle.pcef_model.specs.Journals.{now, slots, subscribed}
 use Rattle.pcef_model.specs.Reports.{settled, tell, thresholds}

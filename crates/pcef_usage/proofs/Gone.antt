@@ -11,14 +11,16 @@ use Rattle.pcef_model.specs.declared.telling.Telling.{Telling}
 use Rattle.pcef_model.specs.declared.telling.Telling.TheVariants.{Inactive, Usage}
 use Rattle.pcef_model.specs.Setting.{Setting, same_name}
 use Rattle.pcef_model.specs.ActiveRules.{has_key}
-use Rattle.pcef_model.specs.Generations.{Generation, add_key, is_among, made_by, rules_after, slots_of, switched}
+use Rattle.pcef_model.specs.Generations.{Generation, made_by, rules_after, slots_of}
+use Rattle.pcef_model.specs.Commands.{add_key, is_among, switched, is_table}
 use Rattle.pcef_model.specs.Entries.{Journal}
-use Rattle.pcef_model.specs.Journals.{ends_grant, is_table, now, slots, subscribed, tables, unreported}
+use Rattle.pcef_model.specs.Journals.{ends_grant, now, slots, subscribed, tables, unreported}
 use Rattle.pcef_model.specs.Reports.{asked, ended as keys_ended, in_order, inactive, is_subscribed, noticed, plan}
 use Rattle.pcef_model.proofs.Sameness.{same_name_is, same_name_not, same_name_turned}
 use Rattle.pcef_usage.specs.Commands.{OnAfter, switched_on}
 use Rattle.pcef_usage.specs.Tellings.{ended, ends}
 use Rattle.pcef_usage.proofs.Slots.{and_no, or_assoc, or_false, stranger_off}
+use Rattle.pcef_model.proofs.RulesAfter.{filter_all}
 
 and_true : (a : Bool) → (a && true) ≡ a
 and_true true = refl
@@ -187,7 +189,7 @@ quiet_ends p j c k differs same =
 after_monitor : (p : Setting) (j : Journal) (l : List ℕ) (amount : ℕ) → OnAfter p j (Monitor l amount)
 after_monitor p j l amount k has =
     next_on p j (Monitor l amount) k refl
-    ∙ ap (λ b. is_among k (add_key l (now p j).on) && not b) (none_gone p j (Monitor l amount) k refl ∙ sym (quiet_ends p j (Monitor l amount) k (λ e. cc) refl))
+    ∙ ap (λ b. is_among k (add_key l (now p j).on) && not b) (none_gone p j (Monitor l amount) k (filter_all (now p j).rules) ∙ sym (quiet_ends p j (Monitor l amount) k (λ e. cc) (filter_all (now p j).rules)))
 
 turned : (l k : List ℕ) → same_name l k ≡ same_name k l
 turned l k =
@@ -199,9 +201,9 @@ turned l k =
 after_stop : (p : Setting) (j : Journal) (l : List ℕ) → OnAfter p j (Stop l)
 after_stop p j l k has =
     next_on p j (Stop l) k refl
-    ∙ ap (λ b. is_among k (filter (λ m. not (same_name l m)) (now p j).on) && not b) (none_gone p j (Stop l) k refl)
+    ∙ ap (λ b. is_among k (filter (λ m. not (same_name l m)) (now p j).on) && not b) (none_gone p j (Stop l) k (filter_all (now p j).rules))
     ∙ and_true (is_among k (filter (λ m. not (same_name l m)) (now p j).on)) ∙ among_filter (λ m. not (same_name l m)) k (now p j).on
-    ∙ ap (λ b. is_among k (now p j).on && not b) (turned l k ∙ sym (quiet_ends p j (Stop l) k (λ e. cc) refl ∙ or_false (same_name k l && true) ∙ and_true (same_name k l)))
+    ∙ ap (λ b. is_among k (now p j).on && not b) (turned l k ∙ sym (quiet_ends p j (Stop l) k (λ e. cc) (filter_all (now p j).rules) ∙ or_false (same_name k l && true) ∙ and_true (same_name k l)))
 
 -- ---- commands that make no generation
 other_after : (p : Setting) (j : Journal) (c : Command) → is_table c ≡ false → c ≢ Terminate → rules_after p (now p j) c ≡ (now p j).rules →
@@ -223,9 +225,9 @@ on_after p j (Activate name) = plain_after p j (Activate name) refl (λ e. cc) (
 on_after p j (Remove name) = plain_after p j (Remove name) refl (λ e. cc) (λ k. refl) refl refl
 on_after p j (Monitor l amount) = after_monitor p j l amount
 on_after p j (Stop l) = after_stop p j l
-on_after p j (ReportNow l) = other_after p j (ReportNow l) refl (λ e. cc) refl (requested_ends l) refl
-on_after p j (Triggers set) = other_after p j (Triggers set) refl (λ e. cc) refl (λ k. refl) refl
-on_after p j (Notice kind value) = other_after p j (Notice kind value) refl (λ e. cc) refl (λ k. refl) refl
+on_after p j (ReportNow l) = other_after p j (ReportNow l) refl (λ e. cc) (filter_all (now p j).rules) (requested_ends l) refl
+on_after p j (Triggers set) = other_after p j (Triggers set) refl (λ e. cc) (filter_all (now p j).rules) (λ k. refl) refl
+on_after p j (Notice kind value) = other_after p j (Notice kind value) refl (λ e. cc) (filter_all (now p j).rules) (λ k. refl) refl
 on_after p j (LoseBearer id) = plain_after p j (LoseBearer id) refl (λ e. cc) (λ k. refl) refl refl
 on_after p j Close = plain_after p j Close refl (λ e. cc) (λ k. refl) refl refl
 on_after p j Terminate = after_terminate p j

@@ -8,9 +8,10 @@ use Rattle.pcef_model.specs.declared.command.Command.{Command}
 use Rattle.pcef_model.specs.declared.command.Command.TheVariants.{Install, Activate, Remove, Monitor, Stop, ReportNow, Triggers, Notice, LoseBearer, Close, Terminate}
 use Rattle.pcef_model.specs.declared.entry.Entry.TheVariants as entry
 use Rattle.pcef_model.specs.Setting.{Setting, same_name, most_keys}
-use Rattle.pcef_model.specs.Generations.{add_key, is_among, key_named, slots_of}
+use Rattle.pcef_model.specs.Commands.{add_key, is_among, key_named, is_table}
+use Rattle.pcef_model.specs.Generations.{slots_of}
 use Rattle.pcef_model.specs.Entries.{Journal, rows}
-use Rattle.pcef_model.specs.Journals.{counted, gen, grant, is_table, reported, slots, tables, takes_grant}
+use Rattle.pcef_model.specs.Journals.{counted, gen, grant, reported, slots, tables, takes_grant}
 use Rattle.pcef_model.proofs.Growth.{Known, counted_after_command}
 use Rattle.pcef_model.proofs.Sameness.{same_name_not, same_name_turned}
 use Rattle.pcef_usage.specs.declared.usage.KeyState.{KeyState}

@@ -10,7 +10,8 @@ use Rattle.pcef_model.specs.declared.report.Cause.TheVariants.{RulesGone, Termin
 use Rattle.pcef_model.specs.declared.telling.Telling.{Telling}
 use Rattle.pcef_model.specs.declared.telling.Telling.TheVariants.{Inactive, Usage}
 use Rattle.pcef_model.specs.Setting.{Setting, same_name}
-use Rattle.pcef_model.specs.Generations.{Generation, is_among}
+use Rattle.pcef_model.specs.Generations.{Generation}
+use Rattle.pcef_model.specs.Commands.{is_among}
 use Rattle.pcef_model.specs.Entries.{Journal}
 use Rattle.pcef_model.specs.Journals.{now, slots, subscribed, unreported}
 use Rattle.pcef_model.specs.Reports.{asked, ended as keys_ended, in_order, inactive, is_subscribed, noticed, plan}

@@ -14,8 +14,9 @@ use Rattle.pcef_model.specs.declared.telling.Telling.TheVariants.{Usage}
 use Rattle.pcef_model.specs.declared.trigger.AccessKind.{AccessKind}
 use Rattle.pcef_model.specs.declared.trigger.TriggerSet.{TriggerSet}
 use Rattle.pcef_model.specs.Setting.{Setting}
-use Rattle.pcef_model.specs.ActiveRules.{has_key}
-use Rattle.pcef_model.specs.Generations.{is_among, rules_after, switched}
+use Rattle.pcef_model.specs.ActiveRules.{has_key, Active}
+use Rattle.pcef_model.specs.Commands.{is_among, switched}
+use Rattle.pcef_model.specs.Generations.{rules_after}
 use Rattle.pcef_model.specs.Entries.{Journal}
 use Rattle.pcef_model.specs.Journals.{now, slots, unreported}
 use Rattle.pcef_model.specs.Reports.{ended as keys_ended, inactive, noticed, plan}
@@ -24,6 +25,7 @@ use Rattle.pcef_usage.specs.Commands.{loses_rules, usage_of}
 use Rattle.pcef_usage.specs.Keys.{keys_of}
 use Rattle.pcef_usage.specs.Tellings.{AllCount, AllOn, Counts, OnIs}
 use Rattle.pcef_usage.proofs.Gone.{gone_are, is_gone, none_gone}
+use Rattle.pcef_model.proofs.RulesAfter.{filter_all}
 
 -- ---- commands that leave the rules
 filter_none : (test : List ℕ → Bool) (keys : List (List ℕ)) → ((k : List ℕ) → test k ≡ false) → filter test keys ≡ []
@@ -33,21 +35,6 @@ filter_none test (k ∷ keys) none = rw (none k, filter_none test keys none) ref
 none_ended : (p : Setting) (j : Journal) (c : Command) → c ≢ Terminate → rules_after p (now p j) c ≡ (now p j).rules → keys_ended p j c ≡ []
 none_ended p j c differs same =
     gone_are p j c differs ∙ ap (map (λ k. Usage k RulesGone)) (filter_none (is_gone p j c) (slots p j) (λ k. none_gone p j c k same))
-
-pub plan_monitor : (p : Setting) (j : Journal) (key : List ℕ) (amount : ℕ) → plan p j (Monitor key amount) ≡ []
-plan_monitor p j key amount = ap (λ ts. ts ++ []) (none_ended p j (Monitor key amount) (λ e. cc) refl)
-
-pub plan_stop : (p : Setting) (j : Journal) (key : List ℕ) → plan p j (Stop key) ≡ Usage key Disabled ∷ []
-plan_stop p j key = ap (λ ts. ts ++ Usage key Disabled ∷ []) (none_ended p j (Stop key) (λ e. cc) refl)
-
-pub plan_report_now : (p : Setting) (j : Journal) (key : List ℕ) → plan p j (ReportNow key) ≡ Usage key Requested ∷ []
-plan_report_now p j key = ap (λ ts. ts ++ Usage key Requested ∷ []) (none_ended p j (ReportNow key) (λ e. cc) refl)
-
-pub plan_triggers : (p : Setting) (j : Journal) (set : TriggerSet) → plan p j (Triggers set) ≡ []
-plan_triggers p j set = ap (λ ts. ts ++ []) (none_ended p j (Triggers set) (λ e. cc) refl)
-
-pub plan_notice : (p : Setting) (j : Journal) (kind : AccessKind) (value : List ℕ) → plan p j (Notice kind value) ≡ noticed j (Notice kind value)
-plan_notice p j kind value = ap (λ ts. ts ++ noticed j (Notice kind value)) (none_ended p j (Notice kind value) (λ e. cc) refl)
 
 -- ---- keys that end, slot by slot
 by_states : (cause : Cause) (mine : KeyState → Bool) (test : List ℕ → Bool) (states : List KeyState) → AllByRecursion (λ s. mine s ≡ test s.key) states →
@@ -81,35 +68,42 @@ ending_alike p j (s ∷ states) on counts =
     let octets : s.unreported ≡ unreported p j s.key = omega (arith, counts.0.reported_is, counts.0.counted_is) in
     (rw (on.0.on_is, octets) refl, ending_alike p j states on.1 counts.1)
 
-pub plan_terminate : (p : Setting) (j : Journal) (states : List KeyState) → keys_of states ≡ slots p j → AllCount p j [] states → AllOn p j states →
-    usage_of Terminated (λ s. s.on || nat_lt 0 s.unreported) states ≡ plan p j Terminate
-unfolding AllCount AllOn
-plan_terminate p j states keys counts on =
-    by_states Terminated (λ s. s.on || nat_lt 0 s.unreported) (λ k. is_among k (now p j).on || nat_lt 0 (unreported p j k)) states (ending_alike p j states on counts)
-    ∙ ap (λ ks. map (λ k. Usage k Terminated) (filter (λ k. is_among k (now p j).on || nat_lt 0 (unreported p j k)) ks)) keys
-    ∙ sym (append-nil (keys_ended p j Terminate))
-
 -- ---- commands that change the rules
 abbrev pub rules_gone : Setting → Journal → Command → List KeyState → List Telling
 rules_gone p j c states = usage_of RulesGone (loses_rules (now p j).rules (rules_after p (now p j) c)) states
 
-pub plan_install : (p : Setting) (j : Journal) (rule : Definition) (states : List KeyState) → keys_of states ≡ slots p j → AllOn p j states →
-    rules_gone p j (Install rule) states ≡ plan p j (Install rule)
-plan_install p j rule states keys on = gone_by_states p j (Install rule) states (λ e. cc) refl keys on ∙ sym (append-nil (keys_ended p j (Install rule)))
+-- where the rules stay, no key loses its last one
+never_lost : (on has : Bool) → (on && has && not has) ≡ false
+never_lost true true = refl
+never_lost true false = refl
+never_lost false has = refl
 
-pub plan_activate : (p : Setting) (j : Journal) (name : List ℕ) (states : List KeyState) → keys_of states ≡ slots p j → AllOn p j states →
-    rules_gone p j (Activate name) states ≡ plan p j (Activate name)
-plan_activate p j name states keys on = gone_by_states p j (Activate name) states (λ e. cc) refl keys on ∙ sym (append-nil (keys_ended p j (Activate name)))
+none_lost : (rules : List Active) (states : List KeyState) → usage_of RulesGone (loses_rules rules rules) states ≡ []
+none_lost rules [] = refl
+none_lost rules (s ∷ states) = let stays : loses_rules rules rules s ≡ false = never_lost s.on (has_key s.key rules) in rw stays (none_lost rules states)
 
-pub plan_remove : (p : Setting) (j : Journal) (name : List ℕ) (states : List KeyState) → keys_of states ≡ slots p j → AllOn p j states →
-    rules_gone p j (Remove name) states ≡ plan p j (Remove name)
-plan_remove p j name states keys on = gone_by_states p j (Remove name) states (λ e. cc) refl keys on ∙ sym (append-nil (keys_ended p j (Remove name)))
+none_lost_by : (p : Setting) (j : Journal) (c : Command) (states : List KeyState) → c ≢ Terminate → rules_after p (now p j) c ≡ (now p j).rules → rules_gone p j c states ≡ keys_ended p j c
+none_lost_by p j c states differs same =
+    ap (λ rules. usage_of RulesGone (loses_rules (now p j).rules rules) states) same ∙ none_lost (now p j).rules states ∙ sym (none_ended p j c differs same)
 
-pub plan_close : (p : Setting) (j : Journal) (states : List KeyState) → keys_of states ≡ slots p j → AllOn p j states → rules_gone p j Close states ≡ plan p j Close
-plan_close p j states keys on = gone_by_states p j Close states (λ e. cc) refl keys on ∙ sym (append-nil (keys_ended p j Close))
+-- the keys that a command ends that isn't Terminate
+pub lost_by_states : (p : Setting) (j : Journal) (c : Command) (states : List KeyState) → c ≢ Terminate → keys_of states ≡ slots p j → AllOn p j states → rules_gone p j c states ≡ keys_ended p j c
+lost_by_states p j (Monitor key amount) states differs keys on = none_lost_by p j (Monitor key amount) states differs (filter_all (now p j).rules)
+lost_by_states p j (Stop key) states differs keys on = none_lost_by p j (Stop key) states differs (filter_all (now p j).rules)
+lost_by_states p j (Install rule) states differs keys on = gone_by_states p j (Install rule) states differs refl keys on
+lost_by_states p j (Activate name) states differs keys on = gone_by_states p j (Activate name) states differs refl keys on
+lost_by_states p j (Remove name) states differs keys on = gone_by_states p j (Remove name) states differs refl keys on
+lost_by_states p j (ReportNow key) states differs keys on = gone_by_states p j (ReportNow key) states differs refl keys on
+lost_by_states p j (Triggers set) states differs keys on = gone_by_states p j (Triggers set) states differs refl keys on
+lost_by_states p j (Notice kind value) states differs keys on = gone_by_states p j (Notice kind value) states differs refl keys on
+lost_by_states p j (LoseBearer id) states differs keys on = gone_by_states p j (LoseBearer id) states differs refl keys on
+lost_by_states p j Close states differs keys on = gone_by_states p j Close states differs refl keys on
+lost_by_states p j Terminate states differs keys on = absurd (differs refl)
 
-pub plan_lose_bearer : (p : Setting) (j : Journal) (id : BearerId) (states : List KeyState) → keys_of states ≡ slots p j → AllOn p j states →
-    inactive (now p j) (LoseBearer id) ++ rules_gone p j (LoseBearer id) states ≡ plan p j (LoseBearer id)
-plan_lose_bearer p j id states keys on =
-    ap (λ ts. inactive (now p j) (LoseBearer id) ++ ts)
-    (gone_by_states p j (LoseBearer id) states (λ e. cc) refl keys on ∙ sym (append-nil (keys_ended p j (LoseBearer id))))
+-- the keys that Terminate ends
+pub ended_by_states : (p : Setting) (j : Journal) (states : List KeyState) → keys_of states ≡ slots p j → AllCount p j [] states → AllOn p j states →
+    usage_of Terminated (λ s. s.on || nat_lt 0 s.unreported) states ≡ keys_ended p j Terminate
+unfolding AllCount AllOn
+ended_by_states p j states keys counts on =
+    by_states Terminated (λ s. s.on || nat_lt 0 s.unreported) (λ k. is_among k (now p j).on || nat_lt 0 (unreported p j k)) states (ending_alike p j states on counts)
+    ∙ ap (λ ks. map (λ k. Usage k Terminated) (filter (λ k. is_among k (now p j).on || nat_lt 0 (unreported p j k)) ks)) keys

@@ -7,7 +7,7 @@ use Rattle.pcef_rule.specs.declared.quantity.Slot.{Slot}
 use Rattle.pcef_model.specs.declared.entry.Entry.TheVariants as entry
 use Rattle.pcef_model.specs.declared.row.Row.{Row}
 use Rattle.pcef_model.specs.Setting.{Setting, same_name}
-use Rattle.pcef_model.specs.Generations.{is_among}
+use Rattle.pcef_model.specs.Commands.{is_among}
 use Rattle.pcef_model.specs.Entries.{Journal}
 use Rattle.pcef_model.specs.Journals.{counted, counts, grant, now, reported}
 use Rattle.pcef_model.proofs.Growth.{counted_after_row}

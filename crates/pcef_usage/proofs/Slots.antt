@@ -8,7 +8,8 @@ use Rattle.pcef_model.specs.declared.command.Command.TheVariants.{Install, Activ
 use Rattle.pcef_model.specs.declared.row.Row.{Row}
 use Rattle.pcef_model.specs.Setting.{Setting, same_name}
 use Rattle.pcef_model.specs.ActiveRules.{has_key}
-use Rattle.pcef_model.specs.Generations.{add_if_some, add_key, is_among, key_named, made_by, oldest, rules_after, slots_of, switched}
+use Rattle.pcef_model.specs.Generations.{add_if_some, made_by, oldest, rules_after, slots_of}
+use Rattle.pcef_model.specs.Commands.{add_key, is_among, key_named, switched}
 use Rattle.pcef_model.specs.Entries.{Journal, rows}
 use Rattle.pcef_model.specs.Journals.{at, counted, counts, decision, now, octets_of, passed_for, slots, tables}
 use Rattle.pcef_model.proofs.Sameness.{same_name_is, same_name_not}

@@ -10,7 +10,7 @@ use Rattle.pcef_model.specs.declared.telling.Telling.TheVariants.{Inactive, Usag
 use Rattle.pcef_model.specs.declared.entry.Entry.TheVariants as entry
 use Rattle.pcef_model.specs.declared.report.InactiveCause.TheVariants.{BearerLost}
 use Rattle.pcef_model.specs.Setting.{Setting, same_name}
-use Rattle.pcef_model.specs.Generations.{is_among}
+use Rattle.pcef_model.specs.Commands.{is_among}
 use Rattle.pcef_model.specs.Entries.{Journal}
 use Rattle.pcef_model.specs.Journals.{grant, reported, unreported, report_count, ends_grant}
 use Rattle.pcef_model.specs.Reports.{tell, body_of}

@@ -9,7 +9,7 @@ use Rattle.pcef_model.specs.declared.telling.Telling.TheVariants.{Usage}
 use Rattle.pcef_model.specs.declared.trigger.TriggerSet.{TriggerSet}
 use Rattle.pcef_model.specs.Setting.{Setting}
 use Rattle.pcef_model.specs.ActiveRules.{Active, has_key}
-use Rattle.pcef_model.specs.Generations.{add_key, is_among, key_named}
+use Rattle.pcef_model.specs.Commands.{add_key, is_among, key_named}
 use Rattle.pcef_model.specs.Entries.{Journal}
 use Rattle.pcef_model.specs.Journals.{now, slots}
 use Rattle.pcef_model.specs.Reports.{plan}

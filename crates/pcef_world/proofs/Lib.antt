@@ -1,5 +1,3 @@
-pub mod Lanes
-pub mod NewLanes
 pub mod WorkersWait
 pub mod WorldAnswers
 pub mod WorldSteps

@@ -30,8 +30,8 @@ use Rattle.pcef_model.specs.Lawful.{BatchFollows, Lawful, RowFollows, RowsFollow
 use Rattle.pcef_model.specs.Refusals.{first_of, flush_refusals}
 use Rattle.pcef_session.specs.Shown.{Shows}
 use Rattle.pcef_world.specs.Workers.{IsJudged, Waits, held_by, with_item}
-use Rattle.pcef_world.proofs.Lanes.{lane_few, lane_len_with, lane_other, lane_with, with_rows_push}
-use Rattle.pcef_world.proofs.NewLanes.{new_lane}
+use Rattle.pcef_model.proofs.Lanes.{lane_few, lane_len_with, lane_other, lane_with, with_rows_push}
+use Rattle.pcef_model.proofs.NewLanes.{new_lane}
 use Rattle.pcef_model.proofs.Onward.{Onward, flushed_fits, onward_same, rows_after_flush, tables_after_flush}
 use Rattle.pcef_model.proofs.RowsLater.{batch_empty, batch_later, batch_push}
 use Rattle.pcef_session.proofs.ShownLater.{shows_later, shows_same}
@@ -77,11 +77,10 @@ waits_later p j k n w onward lane_is waits = record {
 
 -- ---- a worker that comes
 -- its lane is empty, and nothing waits
-pub waits_new : (p : Setting) (j k : Journal) (w : Worker) → Lawful p j → k ≡ after_attach j → Shows p j (gen j) (held_by w) → w.number ≡ attach_count j →
+pub waits_new : (p : Setting) (j k : Journal) (w : Worker) → lane j (attach_count j) ≡ [] → k ≡ after_attach j → Shows p j (gen j) (held_by w) → w.number ≡ attach_count j →
     w.waiting ≡ [] → w.handed_over ≡ 0 → Waits p k (attach_count j) w
 unfolding with_rows
-waits_new p j k w lawful is shows number_is none first =
-    let new : lane j (attach_count j) ≡ [] = new_lane p j lawful in
+waits_new p j k w new is shows number_is none first =
     rw is (record {
       number_is = number_is;
       known = omega (arith, shows.number_is);

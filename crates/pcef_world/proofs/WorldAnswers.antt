@@ -20,15 +20,16 @@ use Rattle.pcef_session.specs.declared.batch.Item.{Item}
 use Rattle.pcef_world.specs.declared.worker.Worker.{Worker}
 use Rattle.pcef_world.specs.declared.world.StepRefusal.{StepRefusal}
 use Rattle.pcef_world.specs.declared.world.StepRefusal.TheVariants.{NoWorker, Refused}
-use Rattle.pcef_session.specs.Agreement.{Agrees}
+use Rattle.pcef_session.specs.private.Parts.{Agrees}
 use Rattle.pcef_model.specs.Answers.{Flushes, told_of}
-use Rattle.pcef_session.specs.Core.{Core, setting_in}
+use Rattle.pcef_session.specs.SessionModel.{SessionModel}
 use Rattle.pcef_session.specs.Following.{row_of}
 use Rattle.pcef_world.specs.Workers.{IsJudged, TakesItem, Waits, after_flushing, held_by, with_item}
 use Rattle.pcef_world.specs.WorldSoundness.{IsSoundWith, seen}
 use Rattle.pcef_world.specs.Worlds.{HandsOver, HandsOverBy, Refreshes, Takes, Waiting, row_taken, take_outcome, take_outcome_by, with_generation, with_row}
 use Rattle.pcef_world.proofs.WorkersWait.{row_made}
 use Rattle.pcef_world.proofs.WorldSteps.{waits_at}
+use Rattle.pcef_session.specs.Shown.{Shows}
 
 -- a step's own answer as the world gives it
 abbrev pub wrapped : {A E : Type 0} → Result A E → Result A (StepRefusal E)
@@ -65,24 +66,24 @@ unfolding take_outcome
 takes_nowhere p j workers i header past = rw (seen_past workers i past) (refl, refl)
 
 -- the item that waits then, as callers see it
-seen_taken : (s : Core) (i : ℕ) (w new : Worker) (header : Header) (item : Item) → Waits (setting_in s) s.journal i w → IsJudged s.offers s.terms.ue header w item → new ≡ with_item item w →
-    seen new ≡ with_row (row_taken (setting_in s) s.journal i (seen w) header) (seen w)
+seen_taken : (s : SessionModel) (i : ℕ) (w new : Worker) (header : Header) (item : Item) → Waits s.setting s.journal i w → IsJudged s.setting.catalog s.setting.ue header w item → new ≡ with_item item w →
+    seen new ≡ with_row (row_taken s.setting s.journal i (seen w) header) (seen w)
 seen_taken s i w new header item waits made new_is =
     let all : map row_of (w.waiting ++ item ∷ []) ≡ map row_of w.waiting ++ item.row ∷ [] = map-append row_of w.waiting (item ∷ []) in
     ap seen new_is ∙ ap (λ rs. record { generation = (held_by w).number; rows = rs })
-    (all ∙ ap (λ r. map row_of w.waiting ++ r ∷ []) (row_made (setting_in s) s.journal i w header item waits made))
+    (all ∙ ap (λ r. map row_of w.waiting ++ r ∷ []) (row_made s.setting s.journal i w header item waits made))
 
 -- what a worker answers, where it is there
-abbrev TakesAs : Core → List Waiting → ℕ → Header → Option Waiting → Result ℕ (StepRefusal BatchFull) → List Waiting → Type 0
+abbrev TakesAs : SessionModel → List Waiting → ℕ → Header → Option Waiting → Result ℕ (StepRefusal BatchFull) → List Waiting → Type 0
 TakesAs s before i header o out after =
-    (out ≡ (take_outcome_by (setting_in s) s.journal before i header o).0) × (after ≡ (take_outcome_by (setting_in s) s.journal before i header o).1)
+    (out ≡ (take_outcome_by s.setting s.journal before i header o).0) × (after ≡ (take_outcome_by s.setting s.journal before i header o).1)
 
 -- by a worker that is there
-taken_as : (s : Core) (workers : List Worker) (i : ℕ) (w new : Worker) (header : Header) (result : Result ℕ BatchFull) (out : Result ℕ (StepRefusal BatchFull)) → IsSoundWith s workers →
-    i < length workers → w ≡ get_or workers i w → TakesItem s.offers s.terms.ue header w result new → out ≡ wrapped result →
+taken_as : (s : SessionModel) (workers : List Worker) (i : ℕ) (w new : Worker) (header : Header) (result : Result ℕ BatchFull) (out : Result ℕ (StepRefusal BatchFull)) → IsSoundWith s workers →
+    i < length workers → w ≡ get_or workers i w → TakesItem s.setting.catalog s.setting.ue header w result new → out ≡ wrapped result →
     TakesAs s (map seen workers) i header (Some (seen w)) out (map seen (slice_set workers i new))
 taken_as s workers i w new header (Ok count) out sound within is (few, count_is, item, made, new_is) out_is =
-    let waits : Waits (setting_in s) s.journal i w = waits_at (setting_in s) s.journal workers i w sound.wait within is in
+    let waits : Waits s.setting s.journal i w = waits_at s.setting s.journal workers i w sound.wait within is in
     let same : length (map row_of w.waiting) ≡ length w.waiting = length-map w.waiting row_of in
     let room : nat_le 32 (length (map row_of w.waiting)) ≡ false = lt-leb 32 (length (map row_of w.waiting)) (omega (arith, few, same)) in
     rw room (
@@ -94,12 +95,12 @@ taken_as s workers i w new header (Err full) out sound within is (many, same) ou
     rw full_is (out_is, seen_same workers i w new is same)
 
 -- by a worker of the list
-pub takes_answer : (s : Core) (workers : List Worker) (i : ℕ) (w new : Worker) (offers : List Offer) (ue : Addr) (header : Header) (result : Result ℕ BatchFull) (out : Result ℕ (StepRefusal BatchFull)) →
-    IsSoundWith s workers → i < length workers → w ≡ get_or workers i w → offers ≡ s.offers → ue ≡ s.terms.ue → TakesItem offers ue header w result new → out ≡ wrapped result →
-    Takes (setting_in s) s.journal i header (map seen workers) out (map seen (slice_set workers i new))
+pub takes_answer : (s : SessionModel) (workers : List Worker) (i : ℕ) (w new : Worker) (offers : List Offer) (ue : Addr) (header : Header) (result : Result ℕ BatchFull) (out : Result ℕ (StepRefusal BatchFull)) →
+    IsSoundWith s workers → i < length workers → w ≡ get_or workers i w → offers ≡ s.setting.catalog → ue ≡ s.setting.ue → TakesItem offers ue header w result new → out ≡ wrapped result →
+    Takes s.setting s.journal i header (map seen workers) out (map seen (slice_set workers i new))
 unfolding take_outcome
 takes_answer s workers i w new offers ue header result out sound within is offers_are ue_is takes out_is =
-    let own : TakesItem s.offers s.terms.ue header w result new = subst (λ u. TakesItem s.offers u header w result new) ue_is (subst (λ o. TakesItem o ue header w result new) offers_are takes) in
+    let own : TakesItem s.setting.catalog s.setting.ue header w result new = subst (λ u. TakesItem s.setting.catalog u header w result new) ue_is (subst (λ o. TakesItem o ue header w result new) offers_are takes) in
     subst (λ o. TakesAs s (map seen workers) i header o out (map seen (slice_set workers i new))) (sym (seen_at workers i w within is))
     (taken_as s workers i w new header result out sound within is own out_is)
 
@@ -109,11 +110,11 @@ unfolding Refreshes
 refreshes_nowhere j workers i past = rw (seen_past workers i past) (refl, refl)
 
 -- by a worker of the list
-pub refreshes_answer : (s : Core) (workers : List Worker) (i : ℕ) (w new : Worker) (generation : ℕ) → Agrees (setting_in s) s.journal s.parts → i < length workers → w ≡ get_or workers i w →
-    held_by new ≡ s.parts.table → new.waiting ≡ w.waiting → generation ≡ (held_by new).number → Refreshes s.journal i (map seen workers) (Some generation) (map seen (slice_set workers i new))
+pub refreshes_answer : (s : SessionModel) (workers : List Worker) (i : ℕ) (w new : Worker) (generation : ℕ) → Shows s.setting s.journal (gen s.journal) (held_by new) → i < length workers → w ≡ get_or workers i w →
+    new.waiting ≡ w.waiting → generation ≡ (held_by new).number → Refreshes s.journal i (map seen workers) (Some generation) (map seen (slice_set workers i new))
 unfolding Refreshes
-refreshes_answer s workers i w new generation agrees within is table waiting_is generation_is =
-    let newest : (held_by new).number ≡ gen s.journal = ap (λ t. t.number) table ∙ agrees.table_shows.number_is in
+refreshes_answer s workers i w new generation shows within is waiting_is generation_is =
+    let newest : (held_by new).number ≡ gen s.journal = shows.number_is in
     let looks : seen new ≡ with_generation (gen s.journal) (seen w) = ap (λ g. record { generation = g; rows = map row_of new.waiting }) newest
     ∙ ap (λ items. record { generation = gen s.journal; rows = map row_of items }) waiting_is in
     rw (seen_at workers i w within is) (ap (λ n. Some n) (generation_is ∙ newest), map-set seen workers i new ∙ ap (slice_set (map seen workers) i) looks)
@@ -125,16 +126,16 @@ unfolding HandsOver
 hands_over_nowhere p j workers i past = rw (seen_past workers i past) (refl, refl, refl)
 
 -- by a worker of the list
-pub hands_over_answer : (s t : Core) (workers : List Worker) (i : ℕ) (w new : Worker) (result : Result Verdicts FlushRefusal) (out : Result Verdicts (StepRefusal FlushRefusal)) →
-    IsSoundWith s workers → i < length workers → w ≡ get_or workers i w → Flushes (setting_in s) w.number (map row_of w.waiting) s.journal (result_map_both told_of (λ e. e) result) t.journal →
-    new ≡ after_flushing result w → out ≡ wrapped result → HandsOver (setting_in s) i s.journal (map seen workers) (result_map_both told_of (λ e. e) out) t.journal (map seen (slice_set workers i new))
+pub hands_over_answer : (s t : SessionModel) (workers : List Worker) (i : ℕ) (w new : Worker) (result : Result Verdicts FlushRefusal) (out : Result Verdicts (StepRefusal FlushRefusal)) →
+    IsSoundWith s workers → i < length workers → w ≡ get_or workers i w → Flushes s.setting w.number (map row_of w.waiting) s.journal (result_map_both told_of (λ e. e) result) t.journal →
+    new ≡ after_flushing result w → out ≡ wrapped result → HandsOver s.setting i s.journal (map seen workers) (result_map_both told_of (λ e. e) out) t.journal (map seen (slice_set workers i new))
 unfolding HandsOver
 hands_over_answer s t workers i w new result out sound within is flushes new_is out_is =
-    let waits : Waits (setting_in s) s.journal i w = waits_at (setting_in s) s.journal workers i w sound.wait within is in
+    let waits : Waits s.setting s.journal i w = waits_at s.setting s.journal workers i w sound.wait within is in
     rw (out_is, seen_at workers i w within is)
-    (from result (subst (λ n. Flushes (setting_in s) n (map row_of w.waiting) s.journal (result_map_both told_of (λ e. e) result) t.journal) waits.number_is flushes) new_is)
+    (from result (subst (λ n. Flushes s.setting n (map row_of w.waiting) s.journal (result_map_both told_of (λ e. e) result) t.journal) waits.number_is flushes) new_is)
   where
-    from : (r : Result Verdicts FlushRefusal) → Flushes (setting_in s) i (map row_of w.waiting) s.journal (result_map_both told_of (λ e. e) r) t.journal → new ≡ after_flushing r w →
-        HandsOverBy (setting_in s) i s.journal (map seen workers) (Some (seen w)) (result_map_both told_of (λ e. e) (wrapped r)) t.journal (map seen (slice_set workers i new))
+    from : (r : Result Verdicts FlushRefusal) → Flushes s.setting i (map row_of w.waiting) s.journal (result_map_both told_of (λ e. e) r) t.journal → new ≡ after_flushing r w →
+        HandsOverBy s.setting i s.journal (map seen workers) (Some (seen w)) (result_map_both told_of (λ e. e) (wrapped r)) t.journal (map seen (slice_set workers i new))
     from (Ok v) flushes new_is = (flushes, map-set seen workers i new ∙ ap (slice_set (map seen workers) i) (ap seen new_is))
     from (Err r) flushes new_is = (flushes, seen_same workers i w new is new_is)

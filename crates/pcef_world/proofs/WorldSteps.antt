@@ -11,7 +11,7 @@ use Rattle.pcef_model.specs.declared.command.Command.{Command}
 use Rattle.pcef_model.specs.declared.row.Row.{Row}
 use Rattle.pcef_model.specs.Setting.{Setting}
 use Rattle.pcef_model.specs.Entries.{Journal, lane}
-use Rattle.pcef_model.specs.Journals.{attach_count, tables}
+use Rattle.pcef_model.specs.Journals.{attach_count, tables, gen}
 use Rattle.pcef_model.specs.Reports.{after_attach, after_flush}
 use Rattle.pcef_model.specs.declared.answer.Accepted.{Accepted}
 use Rattle.pcef_model.specs.declared.answer.AttachFault.{AttachFault}
@@ -20,9 +20,9 @@ use Rattle.pcef_model.specs.declared.answer.Refusal.{Refusal}
 use Rattle.pcef_model.specs.declared.answer.Verdicts.{Verdicts}
 use Rattle.pcef_session.specs.declared.batch.BatchFull.{BatchFull}
 use Rattle.pcef_world.specs.declared.worker.Worker.{Worker}
-use Rattle.pcef_session.specs.Agreement.{Agrees}
+use Rattle.pcef_session.specs.private.Parts.{Agrees}
 use Rattle.pcef_model.specs.Answers.{Attaches, Does, Flushes, told_of}
-use Rattle.pcef_session.specs.Core.{Core, setting_in}
+use Rattle.pcef_session.specs.SessionModel.{SessionModel}
 use Rattle.pcef_session.specs.Following.{row_of}
 use Rattle.pcef_model.specs.Refusals.{first_of, flush_refusals}
 use Rattle.pcef_model.specs.Terms.{setting_of}
@@ -31,12 +31,9 @@ use Rattle.pcef_world.specs.WorldSoundness.{IsSoundWith, seen}
 use Rattle.pcef_world.specs.Worlds.{AreInTurn, IsInTurn}
 use Rattle.pcef_model.proofs.Onward.{Commanded, attach_count_after_flush, attached_not, attached_once, commanded, flushed_not, flushed_once, onward_same}
 use Rattle.pcef_world.proofs.WorkersWait.{waits_beside, waits_flushed, waits_later, waits_new, waits_refresh, waits_take}
+use Rattle.pcef_session.specs.Shown.{Shows}
 
 -- ---- workers in their list
--- what is fixed and what is offered stay
-pub setting_same : (s t : Core) → t.terms ≡ s.terms → t.offers ≡ s.offers → setting_in t ≡ setting_in s
-setting_same s t terms offers = ap (λ x. setting_of x t.offers) terms ∙ ap (setting_of s.terms) offers
-
 -- the worker at a place
 pub waits_at : (p : Setting) (j : Journal) (workers : List Worker) (i : ℕ) (w : Worker) → AllWait p j workers → i < length workers → w ≡ get_or workers i w → Waits p j i w
 waits_at p j workers i w all within is = subst (Waits p j i) (sym is) (all i w within)
@@ -76,103 +73,103 @@ all_in_turn p j workers all = λ i x inside.
 
 -- ---- commands
 -- the lanes and the workers stay
-pub sound_command : (s t : Core) (workers : List Worker) (c : Command) (result : Result Accepted Refusal) → IsSoundWith s workers → Does (setting_in s) c s.journal result t.journal →
-    t.terms ≡ s.terms → t.offers ≡ s.offers → IsSoundWith t workers
-sound_command s t workers c result sound does terms offers =
-    let p : Setting = setting_in s in
+pub sound_command : (s t : SessionModel) (workers : List Worker) (c : Command) (result : Result Accepted Refusal) → IsSoundWith s workers → Does s.setting c s.journal result t.journal →
+    t.setting ≡ s.setting → IsSoundWith t workers
+sound_command s t workers c result sound does setting =
+    let p : Setting = s.setting in
     let done : Commanded p s.journal t.journal = commanded p c s.journal t.journal result does in
     record {
       counted = done.count_is ∙ sound.counted;
-      few_rows = omega (arith, sound.few_rows, ap (λ x. x.rows) terms);
-      wait = subst (λ q. AllWait q t.journal workers) (sym (setting_same s t terms offers))
+      few_rows = omega (arith, sound.few_rows, ap (λ (x : Setting). x.rows) setting);
+      wait = subst (λ q. AllWait q t.journal workers) (sym setting)
           (λ i d inside. waits_later p s.journal t.journal i (get_or workers i d) done.onward (ap (filter (λ (r : Row). r.worker == i)) done.rows_are) (sound.wait i d inside));
     }
 
 -- ---- a worker comes
 -- it doesn't
-pub sound_attached_not : (s t : Core) (workers : List Worker) (fault : AttachFault) → IsSoundWith s workers → Attaches s.journal (Err fault) t.journal →
-    t.terms ≡ s.terms → t.offers ≡ s.offers → IsSoundWith t workers
-sound_attached_not s t workers fault sound attaches terms offers =
+pub sound_attached_not : (s t : SessionModel) (workers : List Worker) (fault : AttachFault) → IsSoundWith s workers → Attaches s.journal (Err fault) t.journal →
+    t.setting ≡ s.setting → IsSoundWith t workers
+sound_attached_not s t workers fault sound attaches setting =
     let same : t.journal ≡ s.journal = attached_not s.journal t.journal fault attaches in
     record {
       counted = ap attach_count same ∙ sound.counted;
-      few_rows = omega (arith, sound.few_rows, ap (λ x. x.rows) terms);
-      wait = rw (setting_same s t terms offers, same) sound.wait;
+      few_rows = omega (arith, sound.few_rows, ap (λ (x : Setting). x.rows) setting);
+      wait = rw (setting, same) sound.wait;
     }
 
 -- its number is its place
-pub attached_number : (s t : Core) (workers : List Worker) (number : ℕ) → IsSoundWith s workers → Attaches s.journal (Ok number) t.journal → number ≡ length workers
+pub attached_number : (s t : SessionModel) (workers : List Worker) (number : ℕ) → IsSoundWith s workers → Attaches s.journal (Ok number) t.journal → number ≡ length workers
 attached_number s t workers number sound attaches = (attached_once s.journal t.journal number attaches).0 ∙ sound.counted
 
 -- it waits with no rows
-pub sound_attached : (s t : Core) (workers : List Worker) (number : ℕ) (w : Worker) → IsSoundWith s workers → Agrees (setting_in s) s.journal s.parts →
-    Attaches s.journal (Ok number) t.journal → t.terms ≡ s.terms → t.offers ≡ s.offers → held_by w ≡ s.parts.table → w.number ≡ number → w.waiting ≡ [] → w.handed_over ≡ 0 →
+pub sound_attached : (s t : SessionModel) (workers : List Worker) (number : ℕ) (w : Worker) → IsSoundWith s workers → lane s.journal number ≡ [] → Shows s.setting s.journal (gen s.journal) (held_by w) →
+    Attaches s.journal (Ok number) t.journal → t.setting ≡ s.setting → w.number ≡ number → w.waiting ≡ [] → w.handed_over ≡ 0 →
     IsSoundWith t (workers ++ w ∷ [])
 unfolding attach_count
-sound_attached s t workers number w sound agrees attaches terms offers table number_is none first =
-    let p : Setting = setting_in s in
+sound_attached s t workers number w sound empty shows attaches setting number_is none first =
+    let p : Setting = s.setting in
     let come : (number ≡ attach_count s.journal) × (t.journal ≡ after_attach s.journal) = attached_once s.journal t.journal number attaches in
     let more : attach_count t.journal ≡ attach_count s.journal + 1 = ap attach_count come.1 in
     let new : Waits p t.journal (attach_count s.journal) w =
-    waits_new p s.journal t.journal w agrees.lawful come.1 (rw table agrees.table_shows) (number_is ∙ come.0) none first in
+    waits_new p s.journal t.journal w (rw come.0 at empty) come.1 shows (number_is ∙ come.0) none first in
     let others : AllWait p t.journal workers = λ i d inside.
     waits_later p s.journal t.journal i (get_or workers i d) (onward_same p s.journal t.journal (ap tables come.1)) (ap (λ j. lane j i) come.1) (sound.wait i d inside) in
     record {
       counted = omega (arith, more, sound.counted, length_push workers w);
-      few_rows = omega (arith, sound.few_rows, ap (λ x. x.rows) terms);
-      wait = subst (λ q. AllWait q t.journal (workers ++ w ∷ [])) (sym (setting_same s t terms offers))
+      few_rows = omega (arith, sound.few_rows, ap (λ (x : Setting). x.rows) setting);
+      wait = subst (λ q. AllWait q t.journal (workers ++ w ∷ [])) (sym setting)
           (all_push p t.journal workers w others (subst (λ n. Waits p t.journal n w) sound.counted new));
     }
 
 -- ---- a packet is taken
 -- one item more waits, or none
-pub sound_taken : (s : Core) (workers : List Worker) (i : ℕ) (w new : Worker) (offers : List Offer) (ue : Addr) (header : Header) (result : Result ℕ BatchFull) →
-    IsSoundWith s workers → i < length workers → w ≡ get_or workers i w → offers ≡ s.offers → ue ≡ s.terms.ue → TakesItem offers ue header w result new →
+pub sound_taken : (s : SessionModel) (workers : List Worker) (i : ℕ) (w new : Worker) (offers : List Offer) (ue : Addr) (header : Header) (result : Result ℕ BatchFull) →
+    IsSoundWith s workers → i < length workers → w ≡ get_or workers i w → offers ≡ s.setting.catalog → ue ≡ s.setting.ue → TakesItem offers ue header w result new →
     IsSoundWith s (slice_set workers i new)
 sound_taken s workers i w new offers ue header result sound within is offers_are ue_is takes =
-    let p : Setting = setting_in s in
+    let p : Setting = s.setting in
     let waits : Waits p s.journal i w = waits_at p s.journal workers i w sound.wait within is in
-    let after : Waits p s.journal i new = from result (subst (λ u. TakesItem s.offers u header w result new) ue_is (subst (λ o. TakesItem o ue header w result new) offers_are takes)) waits in
+    let after : Waits p s.journal i new = from result (subst (λ u. TakesItem s.setting.catalog u header w result new) ue_is (subst (λ o. TakesItem o ue header w result new) offers_are takes)) waits in
     record {
       counted = sound.counted ∙ sym (length-set workers i new);
       few_rows = sound.few_rows;
       wait = all_set p s.journal s.journal workers i new within sound.wait after (λ n v differs before. before);
     }
   where
-    from : (r : Result ℕ BatchFull) → TakesItem s.offers s.terms.ue header w r new → Waits (setting_in s) s.journal i w → Waits (setting_in s) s.journal i new
-    from (Ok count) (few, count_is, item, made, new_is) waits = rw new_is (waits_take (setting_in s) s.journal i w header item waits made)
+    from : (r : Result ℕ BatchFull) → TakesItem s.setting.catalog s.setting.ue header w r new → Waits s.setting s.journal i w → Waits s.setting s.journal i new
+    from (Ok count) (few, count_is, item, made, new_is) waits = rw new_is (waits_take s.setting s.journal i w header item waits made)
     from (Err full) (many, same) waits = rw same waits
 
 -- ---- the newest generation is taken
 -- the worker holds it then
-pub sound_refreshed : (s : Core) (workers : List Worker) (i : ℕ) (w new : Worker) → IsSoundWith s workers → Agrees (setting_in s) s.journal s.parts → i < length workers →
-    w ≡ get_or workers i w → held_by new ≡ s.parts.table → new.number ≡ w.number → new.waiting ≡ w.waiting → new.handed_over ≡ w.handed_over → IsSoundWith s (slice_set workers i new)
-sound_refreshed s workers i w new sound agrees within is table number_is waiting_is handed_is =
-    let p : Setting = setting_in s in
+pub sound_refreshed : (s : SessionModel) (workers : List Worker) (i : ℕ) (w new : Worker) → IsSoundWith s workers → Shows s.setting s.journal (gen s.journal) (held_by new) → i < length workers →
+    w ≡ get_or workers i w → new.number ≡ w.number → new.waiting ≡ w.waiting → new.handed_over ≡ w.handed_over → IsSoundWith s (slice_set workers i new)
+sound_refreshed s workers i w new sound shows within is number_is waiting_is handed_is =
+    let p : Setting = s.setting in
     let waits : Waits p s.journal i w = waits_at p s.journal workers i w sound.wait within is in
     record {
       counted = sound.counted ∙ sym (length-set workers i new);
       few_rows = sound.few_rows;
       wait = all_set p s.journal s.journal workers i new within sound.wait
-          (waits_refresh p s.journal i w new waits (rw table agrees.table_shows) number_is waiting_is handed_is) (λ n v differs before. before);
+          (waits_refresh p s.journal i w new waits shows number_is waiting_is handed_is) (λ n v differs before. before);
     }
 
 -- ---- rows are handed over
 -- the journal takes them, or refuses them
-pub sound_flushed : (s t : Core) (workers : List Worker) (i : ℕ) (w new : Worker) (result : Result Verdicts FlushRefusal) → IsSoundWith s workers → i < length workers → w ≡ get_or workers i w →
-    Flushes (setting_in s) w.number (map row_of w.waiting) s.journal (result_map_both told_of (λ e. e) result) t.journal → new ≡ after_flushing result w →
-    t.terms ≡ s.terms → t.offers ≡ s.offers → IsSoundWith t (slice_set workers i new)
-sound_flushed s t workers i w new (Err r) sound within is flushes new_is terms offers =
-    let p : Setting = setting_in s in
+pub sound_flushed : (s t : SessionModel) (workers : List Worker) (i : ℕ) (w new : Worker) (result : Result Verdicts FlushRefusal) → IsSoundWith s workers → i < length workers → w ≡ get_or workers i w →
+    Flushes s.setting w.number (map row_of w.waiting) s.journal (result_map_both told_of (λ e. e) result) t.journal → new ≡ after_flushing result w →
+    t.setting ≡ s.setting → IsSoundWith t (slice_set workers i new)
+sound_flushed s t workers i w new (Err r) sound within is flushes new_is setting =
+    let p : Setting = s.setting in
     let same : t.journal ≡ s.journal = flushed_not p w.number (map row_of w.waiting) s.journal t.journal r flushes in
     let waits : Waits p s.journal i w = waits_at p s.journal workers i w sound.wait within is in
     record {
       counted = ap attach_count same ∙ sound.counted ∙ sym (length-set workers i new);
-      few_rows = omega (arith, sound.few_rows, ap (λ x. x.rows) terms);
-      wait = rw (setting_same s t terms offers, same) (all_set p s.journal s.journal workers i new within sound.wait (rw new_is waits) (λ n v differs before. before));
+      few_rows = omega (arith, sound.few_rows, ap (λ (x : Setting). x.rows) setting);
+      wait = rw (setting, same) (all_set p s.journal s.journal workers i new within sound.wait (rw new_is waits) (λ n v differs before. before));
     }
-sound_flushed s t workers i w new (Ok v) sound within is flushes new_is terms offers =
-    let p : Setting = setting_in s in
+sound_flushed s t workers i w new (Ok v) sound within is flushes new_is setting =
+    let p : Setting = s.setting in
     let rs : List Row = map row_of w.waiting in
     let waits : Waits p s.journal i w = waits_at p s.journal workers i w sound.wait within is in
     let done : (first_of (flush_refusals p s.journal i (length rs)) ≡ None) × (t.journal ≡ after_flush p s.journal rs) =
@@ -182,14 +179,14 @@ sound_flushed s t workers i w new (Ok v) sound within is flushes new_is terms of
     waits_beside p s.journal t.journal n i rs x before (ne_eqb i n (λ e. differs (sym e))) waits.follow.own done.1 in
     record {
       counted = ap attach_count done.1 ∙ attach_count_after_flush p s.journal rs ∙ sound.counted ∙ sym (length-set workers i new);
-      few_rows = omega (arith, sound.few_rows, ap (λ x. x.rows) terms);
-      wait = subst (λ q. AllWait q t.journal (slice_set workers i new)) (sym (setting_same s t terms offers))
+      few_rows = omega (arith, sound.few_rows, ap (λ (x : Setting). x.rows) setting);
+      wait = subst (λ q. AllWait q t.journal (slice_set workers i new)) (sym setting)
           (all_set p s.journal t.journal workers i new within sound.wait after others);
     }
 
 -- ---- a world that is opened
 -- it has no workers
-pub sound_new : (s : Core) (workers : List Worker) → s.journal ≡ [] → workers ≡ [] → s.terms.rows ≤ 4294967295 → IsSoundWith s workers
+pub sound_new : (s : SessionModel) (workers : List Worker) → s.journal ≡ [] → workers ≡ [] → s.setting.rows ≤ 4294967295 → IsSoundWith s workers
 unfolding attach_count
 sound_new s workers journal_is none few = record {
   counted = rw (journal_is, none) refl;

@@ -3,7 +3,7 @@ use Rattle.std.specs.Prelude.{◌≡◌, ◌≤◌, List, length, map}
 use Rattle.pcef_model.specs.Journals.{attach_count}
 use Rattle.pcef_world.specs.declared.world.WorldState.TheInside.{Inside}
 use Rattle.pcef_world.specs.declared.worker.Worker.{Worker}
-use Rattle.pcef_session.specs.Core.{Core, setting_in}
+use Rattle.pcef_session.specs.SessionModel.{SessionModel}
 use Rattle.pcef_session.specs.Following.{row_of}
 use Rattle.pcef_world.specs.Workers.{AllWait, held_by}
 use Rattle.pcef_world.specs.Worlds.{Waiting, World}
@@ -16,10 +16,10 @@ abbrev pub world_of : Inside → World
 world_of w = record { core = w.session; workers = map seen w.workers.items }
 
 -- as many workers there are as were attached, and each of them waits with rows that may come next
-pub record IsSoundWith (s : Core) (workers : List Worker) : Type 0 where
+pub record IsSoundWith (s : SessionModel) (workers : List Worker) : Type 0 where
   pub counted : attach_count s.journal ≡ length workers
-  pub few_rows : s.terms.rows ≤ 4294967295
-  pub wait : AllWait (setting_in s) s.journal workers
+  pub few_rows : s.setting.rows ≤ 4294967295
+  pub wait : AllWait s.setting s.journal workers
 
 abbrev pub IsSoundWorld : Inside → Type 0
 IsSoundWorld w = IsSoundWith w.session w.workers.items

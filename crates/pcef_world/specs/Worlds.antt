@@ -12,7 +12,7 @@ use Rattle.pcef_session.specs.declared.batch.BatchFull.{BatchFull}
 use Rattle.pcef_world.specs.declared.world.StepRefusal.{StepRefusal}
 use Rattle.pcef_world.specs.declared.world.StepRefusal.TheVariants.{NoWorker, Refused}
 use Rattle.pcef_model.specs.Answers.{Flushes, Told}
-use Rattle.pcef_session.specs.Core.{Core}
+use Rattle.pcef_session.specs.SessionModel.{SessionModel}
 use Rattle.pcef_model.specs.Lawful.{BatchFollows}
 
 -- a worker: the generation that it holds, and its rows that wait, the oldest first. Its number is its
@@ -23,7 +23,7 @@ pub record Waiting : Type 0 where
 
 -- a session, and the workers that were attached to it
 pub record World : Type 0 where
-  pub core : Core
+  pub core : SessionModel
   pub workers : List Waiting
 
 -- a worker that holds a generation of the journal, and whose rows may come next

@@ -4,7 +4,6 @@ ghost use Rattle.std.specs.Prelude.{◌≡◌, ◌≤◌, map};
 ghost use Rattle.std.specs.Result.{result_map_both};
 ghost use Rattle.pcef_table.specs.Tables.{IsTable};
 ghost use Rattle.pcef_model.specs.Answers.{Flushes, told_of};
-ghost use Rattle.pcef_session.specs.Core.{setting_in};
 ghost use Rattle.pcef_session.specs.Following.{HasItsSlots, row_of};
 ghost use Rattle.pcef_model.specs.Lawful.{BatchFollows};
 ghost use Rattle.pcef_world.specs.Workers.{IsJudged, TakesItem, after_flushing, held_by};
@@ -71,13 +70,12 @@ impl Worker {
 
     /// Hands the waiting rows over to the session. A refusal keeps them.
     pub(crate) fn flush(&mut self, session: &mut SessionState) -> Result<Verdicts, FlushRefusal>
-        requires follow { BatchFollows (setting_in session.old) session.old.journal self.old.number (map row_of self.old.waiting) }
-        requires slots { HasItsSlots (setting_in session.old) session.old.journal self.old.waiting }
+        requires follow { BatchFollows session.old.setting session.old.journal self.old.number (map row_of self.old.waiting) }
+        requires slots { HasItsSlots session.old.setting session.old.journal self.old.waiting }
         requires few { self.old.handed_over ≤ 4294967295 }
-        ensures answer { Flushes (setting_in session.old) self.old.number (map row_of self.old.waiting) session.old.journal (result_map_both told_of (λ e. e) result) session.new.journal }
+        ensures answer { Flushes session.old.setting self.old.number (map row_of self.old.waiting) session.old.journal (result_map_both told_of (λ e. e) result) session.new.journal }
         ensures worker { self.new ≡ after_flushing result self.old }
-        ensures offers { session.new.offers ≡ session.old.offers }
-        ensures terms { session.new.terms ≡ session.old.terms }
+        ensures setting { session.new.setting ≡ session.old.setting }
     {
         let verdicts = session.flush(self.number, &self.waiting)?;
         self.handed_over += self.waiting.len() as u64;

@@ -4,15 +4,17 @@ ghost use Rattle.std.specs.Prelude.{◌≡◌, ◌≤◌, [], IfOk, OnErr, lengt
 ghost use Rattle.std.specs.Arc.{arc_value};
 ghost use Rattle.std.specs.Result.{result_err, result_map_both};
 ghost use Rattle.pcef_model.specs.Journals.{attach_count, gen};
-ghost use Rattle.pcef_session.specs.Agreement.{Agrees};
+ghost use Rattle.pcef_session.specs.Shown.{Shows};
 ghost use Rattle.pcef_model.specs.Answers.{Attaches, Does, Opens, told_of};
-ghost use Rattle.pcef_session.specs.Core.{IsServed, setting_in};
+ghost use Rattle.pcef_session.specs.Preparing.{IsServed};
 ghost use Rattle.pcef_model.specs.Terms.{setting_of};
 ghost use Rattle.pcef_world.specs.Worlds.{AreInTurn, HandsOver, Refreshes, Takes, after_attaching};
 
 use crate::worker::Worker;
 use pcef_catalog::{Listing, Offers};
-use pcef_model::{Accepted, AttachFault, Command, FlushRefusal, OpenFault, Profile, Refusal, Verdicts};
+use pcef_model::{
+    Accepted, AttachFault, Command, FlushRefusal, OpenFault, Profile, Refusal, Verdicts,
+};
 use pcef_packet::Header;
 use pcef_session::{Batch, BatchFull, SessionState};
 use pcef_table::Table;
@@ -42,7 +44,8 @@ impl Model for WorldState {
 
     ghost Value = { World };
 
-    ghost use Rattle.pcef_world.specs.WorldSoundness.{IsSoundWorld, world_of};
+    ghost use Rattle.pcef_world.specs.WorldSoundness.{IsSoundWorld};
+    ghost use Rattle.pcef_world.specs.WorldSoundness.{world_of};
 
     ghost view = { world_of };
 
@@ -51,10 +54,8 @@ impl Model for WorldState {
 
 /// The table of a session's newest generation, for one more worker to hold.
 fn newest(session: &SessionState) -> Result<Arc<Table>, AllocError>
-    ensures table { IfOk result (λ t. arc_value t ≡ session.now.parts.table) }
-    ensures agrees { Agrees (setting_in session.now) session.now.journal session.now.parts }
+    ensures { IfOk result (λ t. Shows session.now.setting session.now.journal (gen session.now.journal) (arc_value t)) }
 {
-    let _journal = session.journal();
     Arc::try_clone(session.table())
 }
 
@@ -62,7 +63,7 @@ impl WorldState {
     /// A session with an empty journal and no workers, or the first fault in the order of [`OpenFault`].
     pub fn open(alloc: Global, profile: Profile, listing: Listing) -> Result<WorldState, OpenFault>
         ensures answer { Opens (setting_of profile listing) (result_err result) }
-        ensures made { IfOk result (λ w. (w.core.terms ≡ profile) × (w.core.offers ≡ listing) × (w.core.journal ≡ []) × (w.workers ≡ [])) }
+        ensures made { IfOk result (λ w. (w.core.setting ≡ setting_of profile listing) × (w.core.journal ≡ []) × (w.workers ≡ [])) }
     {
         let _rows = profile.rows;
         let session = SessionState::open(alloc, profile, listing)?;
@@ -77,7 +78,7 @@ impl WorldState {
     pub fn session(&self) -> &SessionState
         ensures session { result.now ≡ self.now.core }
         ensures attached { attach_count self.now.core.journal ≡ length self.now.workers }
-        ensures in_turn { AreInTurn (setting_in self.now.core) self.now.core.journal self.now.workers }
+        ensures in_turn { AreInTurn self.now.core.setting self.now.core.journal self.now.workers }
     {
         &self.session
     }
@@ -85,10 +86,9 @@ impl WorldState {
     /// As [`SessionState::command`].
     pub fn command(&mut self, command: Command) -> Result<Accepted, Refusal>
         requires { IsServed command }
-        ensures answer { Does (setting_in self.old.core) command self.old.core.journal result self.new.core.journal }
+        ensures answer { Does self.old.core.setting command self.old.core.journal result self.new.core.journal }
         ensures workers { self.new.workers ≡ self.old.workers }
-        ensures terms { self.new.core.terms ≡ self.old.core.terms }
-        ensures offers { self.new.core.offers ≡ self.old.core.offers }
+        ensures setting { self.new.core.setting ≡ self.old.core.setting }
     {
         self.session.command(command)
     }
@@ -98,8 +98,7 @@ impl WorldState {
         ensures answer { Attaches self.old.core.journal result self.new.core.journal }
         ensures workers { self.new.workers ≡ after_attaching self.old.core.journal result self.old.workers }
         ensures number { IfOk result (λ number. number ≡ length self.old.workers) }
-        ensures terms { self.new.core.terms ≡ self.old.core.terms }
-        ensures offers { self.new.core.offers ≡ self.old.core.offers }
+        ensures setting { self.new.core.setting ≡ self.old.core.setting }
     {
         if self.workers.reserve(1).is_err() {
             return Err(AttachFault::NoMemory);
@@ -128,8 +127,8 @@ impl WorldState {
         worker: u8,
         header: &Header,
     ) -> Result<u8, StepRefusal<BatchFull>>
-        requires { C.offers catalog.now ≡ self.old.core.offers }
-        ensures answer { Takes (setting_in self.old.core) self.old.core.journal worker header.now self.old.workers result self.new.workers }
+        requires { C.offers catalog.now ≡ self.old.core.setting.catalog }
+        ensures answer { Takes self.old.core.setting self.old.core.journal worker header.now self.old.workers result self.new.workers }
         ensures core { self.new.core ≡ self.old.core }
     {
         let ue = self.session.profile().ue;
@@ -160,9 +159,8 @@ impl WorldState {
 
     /// Hands the waiting rows of a worker over. A refusal keeps them.
     pub fn flush(&mut self, worker: u8) -> Result<Verdicts, StepRefusal<FlushRefusal>>
-        ensures answer { HandsOver (setting_in self.old.core) worker self.old.core.journal self.old.workers (result_map_both told_of (λ e. e) result) self.new.core.journal self.new.workers }
-        ensures terms { self.new.core.terms ≡ self.old.core.terms }
-        ensures offers { self.new.core.offers ≡ self.old.core.offers }
+        ensures answer { HandsOver self.old.core.setting worker self.old.core.journal self.old.workers (result_map_both told_of (λ e. e) result) self.new.core.journal self.new.workers }
+        ensures setting { self.new.core.setting ≡ self.old.core.setting }
     {
         let Some(worker) = self.workers.get_mut(usize::from(worker)) else {
             return Err(StepRefusal::NoWorker);

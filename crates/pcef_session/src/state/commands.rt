@@ -3,34 +3,34 @@
 ghost use Rattle.std.specs.Prelude.{◌≡◌, Ok};
 ghost use Rattle.pcef_model.specs.declared.command.Command.TheVariants as of;
 ghost use Rattle.pcef_model.specs.Answers.{Does, Gives, command_outcome};
-ghost use Rattle.pcef_session.specs.Core.{IsIdle, IsPreparedFor, IsReady, IsServed, command_of, setting_in};
+ghost use Rattle.pcef_session.specs.Preparing.{IsIdle, IsPreparedFor, IsReady, IsServed, command_of};
 
 use super::SessionState;
-use pcef_model::{Accepted, Command, Refusal};
-use crate::entering::{change_rules, enter, rule_key, tell};
+use crate::applying::{change_rules, enter, keep_table, rule_key, subscribed_by, tell};
 use crate::prepared::{Prepared, PreparedChange};
+use pcef_model::{Accepted, Command, Refusal};
 use pcef_rule::RuleName;
 
 impl SessionState {
     /// Does a command that changes something.
     fn change(&mut self, change: PreparedChange) -> Accepted
         requires { IsReady self.old change }
-        ensures answer { Gives (command_outcome (setting_in self.old) self.old.journal change.command) (Ok result) self.new.journal }
-        ensures terms { self.new.terms ≡ self.old.terms }
-        ensures offers { self.new.offers ≡ self.old.offers }
+        ensures answer { Gives (command_outcome self.old.setting self.old.journal change.command) (Ok result) self.new.journal }
+        ensures setting { self.new.setting ≡ self.old.setting }
     {
         let PreparedChange {
             command,
             table,
             rule,
-            tellings,
+            reports,
         } = change;
         let first_report = self.counted.journal().reports_len();
         let key = rule_key(rule.as_ref());
         let bearer = change_rules(&mut self.active, &mut self.bearers, &command, rule);
-        self.table = table;
+        keep_table(&mut self.table, table);
+        self.subscribed = subscribed_by(&command, self.subscribed);
         enter(&mut self.counted, command, key);
-        tell(&mut self.counted, &tellings, self.subscribed.usage_report);
+        tell(&mut self.counted, &reports, self.subscribed.usage_report);
         Accepted {
             generation: self.table.generation(),
             bearer,
@@ -43,7 +43,7 @@ impl SessionState {
     /// What is answered to an Activate of an active rule.
     fn unchanged(&self, name: &RuleName) -> Accepted
         requires { IsIdle self.now name.now }
-        ensures { Gives (command_outcome (setting_in self.now) self.now.journal (of.Activate name.now)) (Ok result) self.now.journal }
+        ensures { Gives (command_outcome self.now.setting self.now.journal (of.Activate name.now)) (Ok result) self.now.journal }
     {
         let reports = self.counted.journal().reports_len();
         Accepted {
@@ -58,9 +58,8 @@ impl SessionState {
     /// Does what was prepared since the session last changed. Takes no memory.
     pub fn settle(&mut self, prepared: Prepared) -> Accepted
         requires { IsPreparedFor self.old prepared }
-        ensures answer { Gives (command_outcome (setting_in self.old) self.old.journal (command_of prepared)) (Ok result) self.new.journal }
-        ensures terms { self.new.terms ≡ self.old.terms }
-        ensures offers { self.new.offers ≡ self.old.offers }
+        ensures answer { Gives (command_outcome self.old.setting self.old.journal (command_of prepared)) (Ok result) self.new.journal }
+        ensures setting { self.new.setting ≡ self.old.setting }
     {
         match prepared {
             Prepared::Changing(change) => self.change(change),
@@ -71,9 +70,8 @@ impl SessionState {
     /// Does a command, or answers the first refusal in the order of [`Refusal`], which changes nothing.
     pub fn command(&mut self, command: Command) -> Result<Accepted, Refusal>
         requires { IsServed command }
-        ensures answer { Does (setting_in self.old) command self.old.journal result self.new.journal }
-        ensures terms { self.new.terms ≡ self.old.terms }
-        ensures offers { self.new.offers ≡ self.old.offers }
+        ensures answer { Does self.old.setting command self.old.journal result self.new.journal }
+        ensures setting { self.new.setting ≡ self.old.setting }
     {
         match self.prepare(command) {
             Err(refusal) => Err(refusal),

@@ -5,15 +5,14 @@ ghost use Rattle.std.specs.Result.{result_map_both};
 ghost use Rattle.pcef_model.specs.Entries.{rows};
 ghost use Rattle.pcef_model.specs.Reports.{after_flush};
 ghost use Rattle.pcef_model.specs.Answers.{Flushes, told, told_of};
-ghost use Rattle.pcef_session.specs.Core.{setting_in};
 ghost use Rattle.pcef_session.specs.Following.{HasItsSlots, HasSmallRows, row_of};
 ghost use Rattle.pcef_model.specs.Lawful.{BatchFollows};
 ghost use Rattle.pcef_model.specs.Refusals.{first_of, flush_refusals};
 
 use super::SessionState;
-use pcef_model::{FlushRefusal, Profile, Verdicts};
 use crate::batch::{Batch, Item};
 use crate::rows::{note_rows, take_all};
+use pcef_model::{FlushRefusal, Profile, Verdicts};
 use std::alloc::AllocError;
 
 /// How many rows a journal takes.
@@ -27,7 +26,7 @@ fn rows_of(profile: &Profile) -> u64
 impl SessionState {
     /// Why rows of a worker aren't taken over, want of memory aside.
     fn flush_refusal(&self, worker: u8, count: usize) -> Option<FlushRefusal>
-        ensures { result ≡ first_of (flush_refusals (setting_in self.now) self.now.journal worker count) }
+        ensures { result ≡ first_of (flush_refusals self.now.setting self.now.journal worker count) }
     {
         if worker >= self.attached {
             return Some(FlushRefusal::NotAttached);
@@ -47,15 +46,14 @@ impl SessionState {
     /// Adds rows to the journal, counts their octets and tells the thresholds, or changes nothing that can
     /// be seen but room where there is no memory for them.
     fn take_over(&mut self, worker: u8, items: &[Item]) -> Result<Verdicts, AllocError>
-        requires accepted { first_of (flush_refusals (setting_in self.old) self.old.journal worker (length items.now)) ≡ None }
-        requires follow { BatchFollows (setting_in self.old) self.old.journal worker (map row_of items.now) }
-        requires slots { HasItsSlots (setting_in self.old) self.old.journal items.now }
+        requires accepted { first_of (flush_refusals self.old.setting self.old.journal worker (length items.now)) ≡ None }
+        requires follow { BatchFollows self.old.setting self.old.journal worker (map row_of items.now) }
+        requires slots { HasItsSlots self.old.setting self.old.journal items.now }
         requires octets { HasSmallRows items.now }
         ensures told { IfOk result (λ v. told_of v ≡ told (map row_of items.now) self.old.journal self.new.journal) }
-        ensures taken { OnOk result (self.new.journal ≡ after_flush (setting_in self.old) self.old.journal (map row_of items.now)) }
+        ensures taken { OnOk result (self.new.journal ≡ after_flush self.old.setting self.old.journal (map row_of items.now)) }
         ensures kept { OnErr result (self.new.journal ≡ self.old.journal) }
-        ensures offers { self.new.offers ≡ self.old.offers }
-        ensures terms { self.new.terms ≡ self.old.terms }
+        ensures setting { self.new.setting ≡ self.old.setting }
     {
         let judged = note_rows(self.alloc, items)?;
         self.counted.reserve(items.len() + 8)?;
@@ -71,11 +69,10 @@ impl SessionState {
     /// Takes over a worker's waiting rows, all or none. The rows have to be the worker's next ones, each
     /// with the verdict of its own generation and the slot of the key that it counts for.
     pub fn flush(&mut self, worker: u8, batch: &Batch) -> Result<Verdicts, FlushRefusal>
-        requires follow { BatchFollows (setting_in self.old) self.old.journal worker (map row_of batch.now) }
-        requires slots { HasItsSlots (setting_in self.old) self.old.journal batch.now }
-        ensures answer { Flushes (setting_in self.old) worker (map row_of batch.now) self.old.journal (result_map_both told_of (λ e. e) result) self.new.journal }
-        ensures offers { self.new.offers ≡ self.old.offers }
-        ensures terms { self.new.terms ≡ self.old.terms }
+        requires follow { BatchFollows self.old.setting self.old.journal worker (map row_of batch.now) }
+        requires slots { HasItsSlots self.old.setting self.old.journal batch.now }
+        ensures answer { Flushes self.old.setting worker (map row_of batch.now) self.old.journal (result_map_both told_of (λ e. e) result) self.new.journal }
+        ensures setting { self.new.setting ≡ self.old.setting }
     {
         if let Some(refusal) = self.flush_refusal(worker, batch.len()) {
             return Err(refusal);

@@ -1,42 +1,51 @@
 //! The memory that commands take.
 
-ghost use Rattle.std.specs.Prelude.{◌≡◌, IfOk, IfErr, IfNone, IfSome, None, Some, true};
+ghost use Rattle.std.specs.Prelude.{◌≡◌, ◌++◌, ◌<◌, IfErr, IfNone, IfOk, IfSome, None, Some, true};
+ghost use Rattle.std.specs.Arc.{arc_value};
 ghost use Rattle.std.specs.Option.{option_copied, option_map};
-ghost use Rattle.pcef_bearer.specs.Bindings as binding;
-ghost use Rattle.pcef_model.specs.ActiveRules.{Active, predefined};
-ghost use Rattle.pcef_model.specs.declared.command.Command.TheVariants as of;
-ghost use Rattle.pcef_model.specs.declared.report.Cause.TheVariants as cause;
-ghost use Rattle.pcef_model.specs.Journals.{gen};
-ghost use Rattle.pcef_model.specs.Reports.{after_command, plan};
-ghost use Rattle.pcef_model.specs.Setting.{offer_named};
-ghost use Rattle.pcef_table.specs.Sources.{properties_of};
-ghost use Rattle.pcef_usage.specs.Commands.{usage_of};
-ghost use Rattle.pcef_session.specs.Agreement.{Agrees};
+ghost use Rattle.pcef_model.specs.ActiveRules.{predefined};
 ghost use Rattle.pcef_model.specs.Answers.{IsRefused, changes};
-ghost use Rattle.pcef_session.specs.Changes.{Brings, IsMadeActive, IsOf, becoming};
-ghost use Rattle.pcef_model.specs.Changes.{MakesActive};
-ghost use Rattle.pcef_session.specs.Core.{IsBeside, IsEntryOf, IsPreparedFor, IsReady, IsServed, command_of, setting_in, with_command};
-ghost use Rattle.pcef_session.specs.Kept.{is_gone};
-ghost use Rattle.pcef_model.specs.Refusals.{becoming_active, first_of, is_active, refusals};
-ghost use Rattle.pcef_session.specs.Shown.{Shows};
+ghost use Rattle.pcef_model.specs.Commands.{activated, is_table};
+ghost use Rattle.pcef_model.specs.declared.command.Command.TheVariants as of;
+ghost use Rattle.pcef_model.specs.Journals.{now};
+ghost use Rattle.pcef_model.specs.Refusals.{first_of, is_active, refusals};
+ghost use Rattle.pcef_model.specs.Reports.{after_command, ended, plan};
+ghost use Rattle.pcef_model.specs.Setting.{offer_named};
+ghost use Rattle.pcef_session.specs.declared.prepared.Prepared.{Prepared};
+ghost use Rattle.pcef_session.specs.Preparing.{Activates, IsPreparedFor, IsReady, IsServed, IsTableAfter, command_of};
+ghost use Rattle.pcef_session.specs.private.Entries.{ShowsNext};
+ghost use Rattle.pcef_session.specs.private.Keys.{key_switched};
+ghost use Rattle.pcef_session.specs.SessionModel.{HasAtLeast};
 
 use super::SessionState;
+use crate::entries::entry_of;
+use crate::keys::{place_of, switched_key, switches_on};
+use crate::lost_keys::lost_keys;
+use crate::planning::{add_asked, add_noticed};
+use crate::prepared::{Activation, Prepared, PreparedChange};
 use pcef_model::{Command, Refusal, Telling};
-use crate::keys::{is_on, place_of, slot_of};
-use crate::planning::keys_gone;
-use crate::prepared::{Coming, Prepared, PreparedChange};
-use pcef_rule::{BearerId, KeyName, Properties, RuleName};
-use pcef_table::{Entry as TableEntry, Source, Table};
-use std::alloc::AllocError;
+use pcef_rule::{KeyName, RuleName};
+use pcef_table::{Source, Table};
+use std::alloc::{AllocError, Global};
 use std::sync::Arc;
+
+/// A table that can be shared, if there is one.
+fn share(alloc: Global, table: Option<Table>) -> Result<Option<Arc<Table>>, AllocError>
+    ensures { IfOk result (λ t. option_map (λ x. arc_value x) t ≡ table) }
+{
+    match table {
+        Some(table) => Ok(Some(Arc::new(alloc, table)?)),
+        None => Ok(None),
+    }
+}
 
 impl SessionState {
     /// The predefined rule of a name, if there is one.
-    pub(super) fn offered(&self, name: &RuleName) -> Option<Coming>
-        ensures { Brings (setting_in self.now) (option_map predefined (offer_named (setting_in self.now) name.now)) result }
+    pub(super) fn offered(&self, name: &RuleName) -> Option<Activation>
+        ensures { Activates self.now.setting (option_map predefined (offer_named self.now.setting name.now)) result }
     {
         match self.listing.index_of(name) {
-            Some(index) => Some(Coming {
+            Some(index) => Some(Activation {
                 properties: self.listing.offers()[usize::from(index)].properties.copy(),
                 source: Source::Predefined(index),
             }),
@@ -45,11 +54,11 @@ impl SessionState {
     }
 
     /// The rule that a command makes active.
-    fn coming(&self, command: &Command) -> Result<Option<Coming>, AllocError>
-        ensures { IfOk result (λ x. Brings (setting_in self.now) (becoming (setting_in self.now) command.now) x) }
+    fn activation(&self, command: &Command) -> Result<Option<Activation>, AllocError>
+        ensures { IfOk result (λ x. Activates self.now.setting (activated self.now.setting command.now) x) }
     {
         match command {
-            Command::Install(rule) => Ok(Some(Coming {
+            Command::Install(rule) => Ok(Some(Activation {
                 properties: rule.properties().copy(),
                 source: Source::Dynamic(rule.copy()?),
             })),
@@ -58,128 +67,109 @@ impl SessionState {
         }
     }
 
-    /// The bearer of a rule that becomes active.
-    fn bearer_to_be(&self, rule: &Properties) -> BearerId
-        requires { first_of (becoming_active (setting_in self.now) self.now.journal rule.now) ≡ None }
-        ensures { binding.id_beside self.now.parts.binding.default_qos self.now.parts.binding.bound (binding.without rule.now.name self.now.parts.binding.bound) rule.now.qos ≡ Some result.0 }
+    /// The table with the rule that a command makes active.
+    fn table_with(&self, command: &Command, rule: &Activation) -> Result<Table, AllocError>
+        requires accepted { first_of (refusals self.now.setting self.now.journal command.now) ≡ None }
+        requires changing { changes self.now.setting self.now.journal command.now ≡ true }
+        requires rule { Activates self.now.setting (activated self.now.setting command.now) (Some rule.now) }
+        ensures { IfOk result (λ t. ShowsNext self.now.setting self.now.journal command.now t) }
     {
-        match self.bearers.bearer_for(&rule.name, rule.qos) {
-            Some(bearer) => bearer,
-            None => unreachable!(),
-        }
+        let entry = entry_of(&self.bearers, self.counted.usage(), rule)?;
+        self.table.with(&self.listing, entry)
     }
 
-    /// The entry of a rule that becomes active.
-    fn entry_of(&self, rule: &Coming) -> Result<TableEntry, AllocError>
-        requires { first_of (becoming_active (setting_in self.now) self.now.journal rule.now.properties) ≡ None }
-        ensures { IfOk result (λ e. IsEntryOf self.now rule.now e) }
-    {
-        let source = rule.source.copy()?;
-        let key = rule.properties.key.as_ref();
-        Ok(TableEntry {
-            source,
-            bearer: self.bearer_to_be(&rule.properties),
-            slot: slot_of(self.counted.usage(), key),
-            counted: is_on(self.counted.usage(), key),
-        })
-    }
-
-    /// The table with a rule that becomes active, whichever command makes it so.
-    fn table_with(&self, rule: &Coming) -> Result<Table, AllocError>
-        requires accepted { first_of (becoming_active (setting_in self.now) self.now.journal rule.now.properties) ≡ None }
-        requires made { IsMadeActive (setting_in self.now) rule.now }
-        ensures { IfOk result (λ t. (c : _) (r : Active) → MakesActive (setting_in self.now) c r → IsOf (setting_in self.now) r rule.now → Shows (setting_in self.now) (with_command c self.now.journal) (gen (with_command c self.now.journal)) t) }
-    {
-        self.table.with(&self.listing, self.entry_of(rule)?)
-    }
-
-    fn table_removed(&self, name: &RuleName) -> Result<Table, AllocError>
-        ensures { IfOk result (λ t. Shows (setting_in self.now) (with_command (Command.Remove name.now) self.now.journal) (gen (with_command (Command.Remove name.now) self.now.journal)) t) }
-    {
-        self.table.without(&self.listing, name)
-    }
-
-    fn table_monitored(&self, key: &KeyName, _grant: u64) -> Result<Table, AllocError>
-        ensures { IfOk result (λ t. Shows (setting_in self.now) (with_command (Command.Monitor key.now _grant) self.now.journal) (gen (with_command (Command.Monitor key.now _grant) self.now.journal)) t) }
+    /// The table where the key that a command switches counts, or doesn't.
+    fn table_switched(&self, command: &Command, key: &KeyName) -> Result<Table, AllocError>
+        requires accepted { first_of (refusals self.now.setting self.now.journal command.now) ≡ None }
+        requires switched { key_switched command.now ≡ Some key.now }
+        ensures { IfOk result (λ t. ShowsNext self.now.setting self.now.journal command.now t) }
     {
         let slot = place_of(self.counted.usage(), key);
-        self.table.counting(&self.listing, slot, true)
+        self.table
+            .counting(&self.listing, slot, switches_on(command))
     }
 
-    /// The table that a command makes that makes no rule active.
-    fn table_beside(&self, command: &Command) -> Result<Table, AllocError>
-        requires { IsBeside command.now }
-        ensures { IfOk result (λ t. Shows (setting_in self.now) (with_command command.now self.now.journal) (gen (with_command command.now self.now.journal)) t) }
+    /// The table without the rules that a command takes away.
+    fn table_left(&self, command: &Command) -> Result<Table, AllocError>
+        requires none { activated self.now.setting command.now ≡ None }
+        requires table { is_table command.now ≡ true }
+        requires switched { key_switched command.now ≡ None }
+        ensures { IfOk result (λ t. ShowsNext self.now.setting self.now.journal command.now t) }
     {
-        match command {
-            Command::Remove(name) => self.table_removed(name),
-            Command::Monitor { key, grant } => self.table_monitored(key, *grant),
-            _ => unreachable!(),
-        }
+        self.table.without_taken(&self.listing, command)
     }
 
-    /// The table of the journal after a command.
-    fn next_table(&self, command: &Command, rule: Option<&Coming>) -> Result<Table, AllocError>
-        requires served { IsServed command.now }
-        requires accepted { first_of (refusals (setting_in self.now) self.now.journal command.now) ≡ None }
-        requires changing { changes (setting_in self.now) self.now.journal command.now ≡ true }
-        requires brings { Brings (setting_in self.now) (becoming (setting_in self.now) command.now) (option_copied rule) }
-        ensures { IfOk result (λ t. Shows (setting_in self.now) (after_command (setting_in self.now) self.now.journal command.now) (gen (after_command (setting_in self.now) self.now.journal command.now)) t) }
+    /// The table that a command makes.
+    fn table_made(&self, command: &Command, rule: Option<&Activation>) -> Result<Table, AllocError>
+        requires accepted { first_of (refusals self.now.setting self.now.journal command.now) ≡ None }
+        requires changing { changes self.now.setting self.now.journal command.now ≡ true }
+        requires rule { Activates self.now.setting (activated self.now.setting command.now) (option_copied rule) }
+        requires table { is_table command.now ≡ true }
+        ensures { IfOk result (λ t. ShowsNext self.now.setting self.now.journal command.now t) }
     {
         match rule {
-            Some(rule) => self.table_with(rule),
-            None => self.table_beside(command),
+            Some(rule) => self.table_with(command, rule),
+            None => match switched_key(command) {
+                Some(key) => self.table_switched(command, key),
+                None => self.table_left(command),
+            },
         }
     }
 
-    /// The reports of the keys that lose their last rule where a rule goes and one with this key comes.
-    fn keys_gone(&self, name: &RuleName, new: Option<&KeyName>) -> Result<Vec<Telling>, AllocError>
-        ensures gone { IfOk result (λ v. v.items ≡ usage_of cause.RulesGone (is_gone self.now.offers self.now.parts.table.entries name.now (option_copied new.entry)) self.now.parts.keys) }
-        ensures agrees { Agrees (setting_in self.now) self.now.journal self.now.parts }
+    /// The table that a command makes, if it makes one.
+    fn next_table(
+        &self,
+        command: &Command,
+        rule: Option<&Activation>,
+    ) -> Result<Option<Table>, AllocError>
+        requires accepted { first_of (refusals self.now.setting self.now.journal command.now) ≡ None }
+        requires changing { changes self.now.setting self.now.journal command.now ≡ true }
+        requires rule { Activates self.now.setting (activated self.now.setting command.now) (option_copied rule) }
+        ensures { IfOk result (λ t. IsTableAfter self.now.setting (after_command self.now.setting self.now.journal command.now) command.now t) }
     {
-        keys_gone(
+        if command.is_table() {
+            Ok(Some(self.table_made(command, rule)?))
+        } else {
+            Ok(None)
+        }
+    }
+
+    /// The reports of the keys that a command ends.
+    fn ended(
+        &self,
+        command: &Command,
+        rule: Option<&Activation>,
+    ) -> Result<Vec<Telling>, AllocError>
+        requires served { IsServed command.now }
+        requires rule { Activates self.now.setting (activated self.now.setting command.now) (option_copied rule) }
+        ensures { IfOk result (λ v. v.items ≡ ended self.now.setting self.now.journal command.now) }
+    {
+        lost_keys(
             self.alloc,
             self.counted.usage().states(),
             self.table.entries(),
             &self.listing,
-            name,
-            new,
+            command,
+            rule,
         )
     }
 
-    /// What a command reports by itself that makes no rule active.
-    fn tellings_beside(&self, command: &Command) -> Result<Vec<Telling>, AllocError>
-        requires { IsBeside command.now }
-        ensures { IfOk result (λ v. v.items ≡ plan (setting_in self.now) self.now.journal command.now) }
-    {
-        match command {
-            Command::Remove(name) => self.keys_gone(name, None),
-            Command::Monitor { .. } => Ok(Vec::new(self.alloc)),
-            _ => unreachable!(),
-        }
-    }
-
     /// What a command reports by itself.
-    fn tellings_of(
-        &self,
-        command: &Command,
-        rule: Option<&Coming>,
-    ) -> Result<Vec<Telling>, AllocError>
+    fn plan(&self, command: &Command, rule: Option<&Activation>) -> Result<Vec<Telling>, AllocError>
         requires served { IsServed command.now }
-        requires accepted { first_of (refusals (setting_in self.now) self.now.journal command.now) ≡ None }
-        requires brings { Brings (setting_in self.now) (becoming (setting_in self.now) command.now) (option_copied rule) }
-        ensures { IfOk result (λ v. v.items ≡ plan (setting_in self.now) self.now.journal command.now) }
+        requires rule { Activates self.now.setting (activated self.now.setting command.now) (option_copied rule) }
+        ensures { IfOk result (λ v. v.items ≡ plan self.now.setting self.now.journal command.now) }
     {
-        match rule {
-            Some(rule) => self.keys_gone(&rule.properties.name, rule.properties.key.as_ref()),
-            None => self.tellings_beside(command),
-        }
+        let mut reports = self.ended(command, rule)?;
+        add_asked(&mut reports, command)?;
+        add_noticed(&mut reports, command, self.subscribed)?;
+        Ok(reports)
     }
 
     /// The name of the active rule that a command activates again.
     fn active_already(&self, command: &Command) -> Option<RuleName>
-        ensures changing { IfNone result (changes (setting_in self.now) self.now.journal command.now ≡ true) }
-        ensures active { IfSome result (λ name. (command.now ≡ of.Activate name) × (is_active (setting_in self.now) self.now.journal name ≡ true)) }
+        ensures changing { IfNone result (changes self.now.setting self.now.journal command.now ≡ true) }
+        ensures active { IfSome result (λ name. (command.now ≡ of.Activate name) × (is_active self.now.setting self.now.journal name ≡ true)) }
     {
         match command {
             Command::Activate(name) => {
@@ -196,39 +186,39 @@ impl SessionState {
     /// Takes all memory that an accepted command needs, and changes nothing that can be seen but room.
     fn ready(&mut self, command: Command) -> Result<PreparedChange, AllocError>
         requires served { IsServed command }
-        requires accepted { first_of (refusals (setting_in self.old) self.old.journal command) ≡ None }
-        requires changing { changes (setting_in self.old) self.old.journal command ≡ true }
-        ensures terms { self.new.terms ≡ self.old.terms }
-        ensures offers { self.new.offers ≡ self.old.offers }
+        requires accepted { first_of (refusals self.old.setting self.old.journal command) ≡ None }
+        requires changing { changes self.old.setting self.old.journal command ≡ true }
+        ensures setting { self.new.setting ≡ self.old.setting }
         ensures journal { self.new.journal ≡ self.old.journal }
-        ensures parts { self.new.parts ≡ self.old.parts }
+        ensures room { HasAtLeast self.old.room self.new.room }
         ensures ready { IfOk result (λ d. IsReady self.new d) }
         ensures command { IfOk result (λ d. d.command ≡ command) }
     {
-        let rule = self.coming(&command)?;
-        let table = Arc::new(self.alloc, self.next_table(&command, rule.as_ref())?)?;
-        let tellings = self.tellings_of(&command, rule.as_ref())?;
+        let rule = self.activation(&command)?;
+        let table = share(self.alloc, self.next_table(&command, rule.as_ref())?)?;
+        let reports = self.plan(&command, rule.as_ref())?;
         self.active.reserve(1)?;
-        self.counted.reserve(tellings.len() + 9)?;
+        self.counted.reserve(reports.len() + 9)?;
         Ok(PreparedChange {
             command,
             table,
             rule,
-            tellings,
+            reports,
         })
     }
 
     /// Looks whether a command is accepted, and takes all memory that it needs, or answers the first
-    /// refusal in the order of [`Refusal`]. Changes nothing that can be seen but room.
+    /// refusal in the order of [`Refusal`]. Changes nothing that can be seen, and leaves no less room: what
+    /// was prepared before can still be settled.
     pub fn prepare(&mut self, command: Command) -> Result<Prepared, Refusal>
         requires { IsServed command }
-        ensures terms { self.new.terms ≡ self.old.terms }
-        ensures offers { self.new.offers ≡ self.old.offers }
+        ensures setting { self.new.setting ≡ self.old.setting }
         ensures journal { self.new.journal ≡ self.old.journal }
-        ensures parts { self.new.parts ≡ self.old.parts }
-        ensures refused { IfErr result (IsRefused (setting_in self.old) self.old.journal command) }
+        ensures room { HasAtLeast self.old.room self.new.room }
+        ensures refused { IfErr result (IsRefused self.old.setting self.old.journal command) }
         ensures ready { IfOk result (λ d. IsPreparedFor self.new d) }
         ensures command { IfOk result (λ d. command_of d ≡ command) }
+        ensures others { (d : Prepared) → IsPreparedFor self.old d → IsPreparedFor self.new d }
     {
         if let Some(refusal) = self.refusal(&command) {
             return Err(refusal);

@@ -3,14 +3,16 @@
 ghost use Rattle.std.specs.Prelude.{◌≡◌, ◌==◌, ◌&&◌, ◌∷◌, [], Some, if◌then◌else◌, is_none, is_some, length, nat_le, not};
 ghost use Rattle.std.specs.Option.{option_copied};
 ghost use Rattle.pcef_model.specs.ActiveRules.{without};
-ghost use Rattle.pcef_model.specs.Journals.{now};
+ghost use Rattle.pcef_model.specs.Journals.{now, slots};
 ghost use Rattle.pcef_model.specs.Setting.{most_rules, offer_named};
-ghost use Rattle.pcef_usage.specs.Keys.{finds_no_slot as slotless};
+ghost use Rattle.pcef_usage.specs.Keys.{finds_no_slot as slotless, has_slot};
 ghost use Rattle.pcef_model.specs.declared.answer.Refusal.TheVariants as refusal;
-ghost use Rattle.pcef_session.specs.Core.{IsServed, setting_in};
+ghost use Rattle.pcef_model.specs.Commands.{is_among};
+ghost use Rattle.pcef_session.specs.Preparing.{IsServed};
 ghost use Rattle.pcef_model.specs.Refusals.{becoming_active, becoming_active_if, bindings, common_refusals, finds_no_slot, first_of, is_active, refusals};
 
 use super::{MAX_RULES, SessionState};
+use crate::keys::is_on;
 use pcef_model::{Command, Profile, Refusal};
 use pcef_rule::{KeyName, Properties, RuleName};
 use pcef_usage::{MAX_KEYS, Usage};
@@ -32,9 +34,16 @@ fn finds_no_slot(usage: &Usage, key: Option<&KeyName>) -> bool
     }
 }
 
+/// Whether a key has a slot.
+fn has_slot(usage: &Usage, key: &KeyName) -> bool
+    ensures { result ≡ has_slot key.now usage.now }
+{
+    usage.find(key).is_some()
+}
+
 impl SessionState {
     fn common_refusal(&self) -> Option<Refusal>
-        ensures { result ≡ first_of (common_refusals (setting_in self.now) self.now.journal) }
+        ensures { result ≡ first_of (common_refusals self.now.setting self.now.journal) }
     {
         if self.counted.journal().commands_len() >= commands_of(&self.profile) {
             return Some(Refusal::CommandsFull);
@@ -43,34 +52,34 @@ impl SessionState {
     }
 
     fn finds_no_slot(&self, key: Option<&KeyName>) -> bool
-        ensures { result ≡ finds_no_slot (setting_in self.now) self.now.journal (option_copied key.entry) }
+        ensures { result ≡ finds_no_slot self.now.setting self.now.journal (option_copied key.entry) }
     {
         finds_no_slot(self.counted.usage(), key)
     }
 
     pub(super) fn is_active(&self, name: &RuleName) -> bool
-        ensures { result ≡ is_active (setting_in self.now) self.now.journal name.now }
+        ensures { result ≡ is_active self.now.setting self.now.journal name.now }
     {
         self.bearers.is_bound(name)
     }
 
     /// Whether a rule is new, and there is no place for one more.
     fn finds_no_place(&self, name: &RuleName) -> bool
-        ensures { result ≡ (not (is_active (setting_in self.now) self.now.journal name.now) && nat_le most_rules (length (now (setting_in self.now) self.now.journal).rules)) }
+        ensures { result ≡ (not (is_active self.now.setting self.now.journal name.now) && nat_le most_rules (length (now self.now.setting self.now.journal).rules)) }
     {
         !self.is_active(name) && self.active.len() >= MAX_RULES
     }
 
     /// Why a rule can't be bound.
     fn bind_refusal(&self, rule: &Properties) -> Option<Refusal>
-        ensures { result ≡ first_of (bindings (setting_in self.now) (now (setting_in self.now) self.now.journal) rule.now (without rule.now.name (now (setting_in self.now) self.now.journal).rules)) }
+        ensures { result ≡ first_of (bindings self.now.setting (now self.now.setting self.now.journal) rule.now (without rule.now.name (now self.now.setting self.now.journal).rules)) }
     {
         self.bearers.refusal(&rule.name, rule.qos, rule.rates)
     }
 
     /// Why a rule can't become active.
     fn becoming_active(&self, rule: &Properties) -> Option<Refusal>
-        ensures { result ≡ first_of (becoming_active (setting_in self.now) self.now.journal rule.now) }
+        ensures { result ≡ first_of (becoming_active self.now.setting self.now.journal rule.now) }
     {
         if self.finds_no_place(&rule.name) {
             return Some(Refusal::RulesFull);
@@ -82,7 +91,7 @@ impl SessionState {
     }
 
     fn install_refusal(&self, rule: &Properties) -> Option<Refusal>
-        ensures { result ≡ first_of ((is_some (offer_named (setting_in self.now) rule.now.name), refusal.NameIsPredefined) ∷ becoming_active (setting_in self.now) self.now.journal rule.now) }
+        ensures { result ≡ first_of ((is_some (offer_named self.now.setting rule.now.name), refusal.NameIsPredefined) ∷ becoming_active self.now.setting self.now.journal rule.now) }
     {
         if let Some(_rule) = self.offered(&rule.name) {
             return Some(Refusal::NameIsPredefined);
@@ -91,7 +100,7 @@ impl SessionState {
     }
 
     fn activate_refusal(&self, name: &RuleName) -> Option<Refusal>
-        ensures { result ≡ first_of ((is_none (offer_named (setting_in self.now) name.now), refusal.UnknownRule) ∷ (if is_active (setting_in self.now) self.now.journal name.now then [] else becoming_active_if (setting_in self.now) self.now.journal (offer_named (setting_in self.now) name.now))) }
+        ensures { result ≡ first_of ((is_none (offer_named self.now.setting name.now), refusal.UnknownRule) ∷ (if is_active self.now.setting self.now.journal name.now then [] else becoming_active_if self.now.setting self.now.journal (offer_named self.now.setting name.now))) }
     {
         let Some(rule) = self.offered(name) else {
             return Some(Refusal::UnknownRule);
@@ -103,7 +112,7 @@ impl SessionState {
     }
 
     fn remove_refusal(&self, name: &RuleName) -> Option<Refusal>
-        ensures { result ≡ first_of ((not (is_active (setting_in self.now) self.now.journal name.now), refusal.UnknownRule) ∷ []) }
+        ensures { result ≡ first_of ((not (is_active self.now.setting self.now.journal name.now), refusal.UnknownRule) ∷ []) }
     {
         if self.is_active(name) {
             None
@@ -113,7 +122,7 @@ impl SessionState {
     }
 
     fn monitor_refusal(&self, key: &KeyName, grant: u64) -> Option<Refusal>
-        ensures { result ≡ first_of ((grant == 0, refusal.ZeroGrant) ∷ (finds_no_slot (setting_in self.now) self.now.journal (Some key.now), refusal.KeysFull) ∷ []) }
+        ensures { result ≡ first_of ((grant == 0, refusal.ZeroGrant) ∷ (finds_no_slot self.now.setting self.now.journal (Some key.now), refusal.KeysFull) ∷ []) }
     {
         if grant == 0 {
             return Some(Refusal::ZeroGrant);
@@ -124,10 +133,44 @@ impl SessionState {
         None
     }
 
+    /// Whether a key is on.
+    fn is_on(&self, key: &KeyName) -> bool
+        ensures { result ≡ is_among key.now (now self.now.setting self.now.journal).on }
+    {
+        is_on(self.counted.usage(), Some(key))
+    }
+
+    fn stop_refusal(&self, key: &KeyName) -> Option<Refusal>
+        ensures { result ≡ first_of ((not (is_among key.now (now self.now.setting self.now.journal).on), refusal.UnknownKey) ∷ []) }
+    {
+        if self.is_on(key) {
+            None
+        } else {
+            Some(Refusal::UnknownKey)
+        }
+    }
+
+    /// Whether a key has a slot.
+    fn has_slot(&self, key: &KeyName) -> bool
+        ensures { result ≡ is_among key.now (slots self.now.setting self.now.journal) }
+    {
+        has_slot(self.counted.usage(), key)
+    }
+
+    fn report_refusal(&self, key: &KeyName) -> Option<Refusal>
+        ensures { result ≡ first_of ((not (is_among key.now (slots self.now.setting self.now.journal)), refusal.UnknownKey) ∷ []) }
+    {
+        if self.has_slot(key) {
+            None
+        } else {
+            Some(Refusal::UnknownKey)
+        }
+    }
+
     /// Why a command is refused, want of memory aside: the first reason in the order of [`Refusal`].
     pub(crate) fn refusal(&self, command: &Command) -> Option<Refusal>
         requires { IsServed command.now }
-        ensures { result ≡ first_of (refusals (setting_in self.now) self.now.journal command.now) }
+        ensures { result ≡ first_of (refusals self.now.setting self.now.journal command.now) }
     {
         if let Some(refusal) = self.common_refusal() {
             return Some(refusal);
@@ -137,6 +180,10 @@ impl SessionState {
             Command::Activate(name) => self.activate_refusal(name),
             Command::Remove(name) => self.remove_refusal(name),
             Command::Monitor { key, grant } => self.monitor_refusal(key, *grant),
+            Command::Stop(key) => self.stop_refusal(key),
+            Command::ReportNow(key) => self.report_refusal(key),
+            Command::Triggers(_) => None,
+            Command::Notice { .. } => None,
             _ => unreachable!(),
         }
     }

@@ -7,4 +7,4 @@ pub with-requires-clause-known : goal.with-requires-clause-known
 with-requires-clause-known g c = c.entry_of.ensures (offers_of c.args.catalog.now)
 
 pub with-requires-clause-room : goal.with-requires-clause-room
-with-requires-clause-room g c = has_room (offers_of c.args.catalog.now) c.entry_of.result c.args.table.now.entries (omega (arith, c.if-entries-ge-MAX_ENTRIES.false, ap length c.entries.ensures))
+with-requires-clause-room g c = has_room (offers_of c.args.catalog.now) c.entry_of.result c.args.table.now.entries (omega (arith, c.if-entries-ge-MAX_ENTRIES.false, ap length c.entries.ensures.entries))

@@ -1,6 +1,5 @@
 use Rattle.std.proofs.Common.{◌≡◌, ◌+◌, ◌-◌, List, length, ℕ}
 use Rattle.std.specs.Io.KnownBytes.{Consumes}
-use Rattle.pcef_session.specs.Core.{setting_in}
 use Rattle.pcef_script.specs.ScriptLines.{script_most}
 use Rattle.pcef_script.specs.Running.{IsAfter}
 use Rattle.pcef_script.proofs.run.run.Given as goal
@@ -9,8 +8,8 @@ abbrev pub invariant-loop-script : goal.invariant-loop-script
 invariant-loop-script g l = record {
   input : List ℕ;
   read : Consumes (g.R.Read.remaining l.fn.reader) (g.R.Read.remaining l.reader) input;
-  after : IsAfter (setting_in l.fn.world.core) (g.W.Write.contents l.fn.writer) (g.W.Write.contents l.writer) l.script.line l.script.faults l.script.world input;
-  offers : l.script.world.core.offers ≡ l.fn.world.core.offers;
+  after : IsAfter l.fn.world.core.setting (g.W.Write.contents l.fn.writer) (g.W.Write.contents l.writer) l.script.line l.script.faults l.script.world input;
+  offers : l.script.world.core.setting.catalog ≡ l.fn.world.core.setting.catalog;
   room : length l.block ≡ 8192;
 }
 

@@ -1,16 +1,20 @@
-use Rattle.std.proofs.Common.{◌∙◌, ap, sym}
-use Rattle.pcef_session.specs.Core.{setting_in}
+use Rattle.std.proofs.Common.{subst}
+use Rattle.std.specs.Prelude.{Some}
 use Rattle.pcef_line.specs.LineOf.{LineOf}
-use Rattle.pcef_script.specs.ScriptAnswers.{standing_of}
-use Rattle.pcef_script.proofs.LineReads.{read_other, read_text}
+use Rattle.pcef_line.specs.declared.fault.LineFault.TheVariants.{NotUtf8}
+use Rattle.pcef_script.specs.ScriptAnswers.{DueWithin, standing_of}
+use Rattle.pcef_script.proofs.LineReads.{due_answered, fault_answered, other_due, text_due}
 use Rattle.pcef_script.proofs.step.answer_line.Goals as goal
 
 pub returns-in-Ok-clause-answer : goal.returns-in-Ok-clause-answer
 returns-in-Ok-clause-answer g c =
     let text = c.in-Ok.ensures.cases in
-    rw (read_text c.args.line.now text.1 ∙ ap LineOf (sym text.0)) c.answer_text.ensures.answer
+    let world = c.args.world.now in
+    due_answered c.answer_text.result (LineOf c.in-Ok.text.now) (DueWithin (Some c.args.line.now)) world.core.setting (standing_of world) (standing_of c.answer_text.new.world)
+    (λ due read. text_due c.args.line.now due text.1 (subst (λ bytes. LineOf bytes due) text.0 read)) c.answer_text.ensures.answer
 
 pub returns-in-Err-clause-answer : goal.returns-in-Err-clause-answer
 returns-in-Err-clause-answer g c =
     let world = c.args.world.now in
-    rw (read_other c.args.line.now c.in-Err.ensures.cases.0) (c.fault.ensures (setting_in world.core) (standing_of world))
+    fault_answered c.fault.result (DueWithin (Some c.args.line.now)) world.core.setting (standing_of world) NotUtf8 (other_due c.args.line.now c.in-Err.ensures.cases.0)
+    (c.fault.ensures world.core.setting (standing_of world))

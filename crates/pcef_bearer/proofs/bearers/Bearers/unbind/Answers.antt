@@ -1,5 +1,6 @@
-use Rattle.std.proofs.Common.{◌∙◌, arith, sym}
-use Rattle.pcef_bearer.proofs.Kept.{kept_without, without_absent}
+use Rattle.std.proofs.Common.{◌∙◌, arith, not, sym}
+use Rattle.pcef_bearer.specs.Bindings.{is_named}
+use Rattle.pcef_bearer.proofs.Kept.{kept_part, without_absent}
 use Rattle.pcef_bearer.proofs.bearers.Bearers.unbind.Goals as goal
 
 pub returns-in_default-clause-bound : goal.returns-in_default-clause-bound
@@ -7,7 +8,7 @@ returns-in_default-clause-bound c = without_absent c.args.self.now c.args.name.n
 
 pub invariant_of-self : goal.invariant_of-self
 invariant_of-self c = (
-  rw c.drop_named.ensures.items (kept_without (record { default_qos = c.self.inside.default_qos; capacity = c.self.inside.capacity; qcis = c.self.inside.qcis; bound = c.self.inside.bound.items }) c.args.name.now c.self.invariant.0),
+  rw c.drop_named.ensures.items (kept_part (record { default_qos = c.self.inside.default_qos; capacity = c.self.inside.capacity; qcis = c.self.inside.qcis; bound = c.self.inside.bound.items }) (λ b. not (is_named c.args.name.now b)) c.self.invariant.0),
   omega (arith, c.drop_named.ensures.capacity, c.self.invariant.1),
   c.self.invariant.2,
   c.self.invariant.3,

@@ -1,21 +1,35 @@
-use Rattle.std.proofs.Common.{◌∙◌, ap, refl}
-use Rattle.pcef_model.specs.Journals.{now, report_count}
+use Rattle.std.proofs.Common.{◌∙◌, ap, refl, subst, sym, true, Ok}
+use Rattle.pcef_model.specs.declared.answer.Accepted.{Accepted}
 use Rattle.pcef_bearer.specs.Bindings.{Binding, bearer_of}
+use Rattle.pcef_model.specs.Answers.{Gives, command_outcome}
+use Rattle.pcef_model.specs.declared.command.Command.TheVariants.{Activate}
+use Rattle.pcef_model.specs.Journals.{now, report_count}
 use Rattle.pcef_table.specs.Tables.{TableValue}
-use Rattle.pcef_session.specs.Core.{Core, setting_in}
+use Rattle.pcef_session.specs.Preparing.{IsIdle}
+use Rattle.pcef_session.specs.SessionModel.{SessionModel}
+use Rattle.pcef_session.specs.private.Soundness.{held_of, model_of}
 use Rattle.pcef_session.proofs.BearerLaws.{bearer_bound}
 use Rattle.pcef_session.proofs.Commanding.{outcome_idle}
-use Rattle.pcef_session.proofs.CoreSound.{sound_now}
 use Rattle.pcef_session.proofs.state.SessionState.unchanged.Goals as goal
 
 pub returns : goal.returns
 returns c =
-    let v = c.args.self.now in
-    let s = sound_now c.self.inside v c.self.invariant c.self.view_is in
-    let p = setting_in v in
+    let s = c.self.inside in
+    let v = held_of s in
+    let p = v.setting in
     let j = v.journal in
-    outcome_idle p j c.args.name.now _ c.requires.accepted c.requires.active
-    (c.generation.ensures ∙ ap (λ (t : TableValue). t.number) (c.deref.ensures ∙ ap (λ (x : Core). x.parts.table) c.self.view_is) ∙ s.agrees.table_shows.number_is)
-    (c.bearer_of.ensures ∙ ap (λ (b : Binding). bearer_of c.args.name.now b.bound) (ap (λ (x : Core). x.parts.binding) c.self.view_is ∙ s.agrees.binding_is) ∙ bearer_bound c.args.name.now (now p j) (now p j).rules)
-    (c.reports_len-reports.ensures ∙ ap report_count (c.journal.ensures ∙ ap (λ (x : Core). x.journal) c.self.view_is))
-    (c.reports_len-reports.ensures ∙ ap report_count (c.journal.ensures ∙ ap (λ (x : Core). x.journal) c.self.view_is)) refl
+    let agrees = c.self.invariant.agrees in
+    let idle : IsIdle (model_of s) c.args.name.now = subst (λ (m : SessionModel). IsIdle m c.args.name.now) (sym c.self.view_is) c.requires in
+    let told : Accepted = record {
+      generation = c.generation.result;
+      bearer = c.bearer_of.result;
+      first_report = c.reports_len-reports.result;
+      past_last_report = c.reports_len-reports.result;
+      unchanged = true;
+    } in
+    subst (λ (m : SessionModel). Gives (command_outcome m.setting m.journal (Activate c.args.name.now)) (Ok told) m.journal) c.self.view_is
+    (outcome_idle p j c.args.name.now told idle.accepted idle.active
+    (c.generation.ensures ∙ ap (λ (t : TableValue). t.number) c.deref.ensures ∙ agrees.table_shows.number_is)
+    (c.bearer_of.ensures ∙ ap (λ (b : Binding). bearer_of c.args.name.now b.bound) agrees.binding_is ∙ bearer_bound c.args.name.now (now p j) (now p j).rules)
+    (c.reports_len-reports.ensures ∙ ap report_count c.journal.ensures)
+    (c.reports_len-reports.ensures ∙ ap report_count c.journal.ensures) refl)

@@ -4,5 +4,5 @@ use Rattle.pcef_table.proofs.table.Table.counting.Goals as goal
 pub returns-clause-table : goal.returns-clause-table
 returns-clause-table g c =
     let offers = g.C.Offers.offers c.args._catalog.now in
-    rw (c.in_ok-entries.ensures, c.entries.ensures)
+    rw (c.in_ok-entries.ensures, c.entries.ensures.entries)
     (counting_is_table offers c.args.slot c.args.on c.args.self.now.entries c.requires.table)

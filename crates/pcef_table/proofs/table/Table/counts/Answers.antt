@@ -8,4 +8,4 @@ use Rattle.pcef_table.proofs.table.Table.counts.Goals as goal
 pub returns-in-Passed : goal.returns-in-Passed
 returns-in-Passed g c =
     let offers = g.C.Offers.offers c.args.catalog.now in
-    rw c.in-Passed.is (c.slot_of.ensures ∙ ap (λ (l : List Entry). option_map_or counted_slot (find (λ (e : Entry). is_named offers c.in-Passed.rule e.source) l) None) c.entries.ensures)
+    rw c.in-Passed.is (c.slot_of.ensures ∙ ap (λ (l : List Entry). option_map_or counted_slot (find (λ (e : Entry). is_named offers c.in-Passed.rule e.source) l) None) c.entries.ensures.entries)

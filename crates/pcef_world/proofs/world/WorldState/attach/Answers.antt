@@ -7,14 +7,13 @@ use Rattle.pcef_world.proofs.world.WorldState.attach.Goals as goal
 pub invariant_of-self-in_err-number : goal.invariant_of-self-in_err-number
 invariant_of-self-in_err-number c =
     rw c.reserve.ensures.items
-    (sound_attached_not c.self.inside.session c.attach.new.self c.self.inside.workers.items c.in_err-number.field-0.0 c.self.invariant c.in_err-number.ensures.answer c.attach.ensures.terms
-    c.attach.ensures.offers)
+    (sound_attached_not c.self.inside.session c.attach.new.self c.self.inside.workers.items c.in_err-number.field-0.0 c.self.invariant c.in_err-number.ensures.answer c.attach.ensures.setting)
 
 pub invariant_of-self-2 : goal.invariant_of-self-2
 invariant_of-self-2 c =
     rw (c.push_reserved.ensures.items, c.reserve.ensures.items)
-    (sound_attached c.self.inside.session c.attach.new.self c.self.inside.workers.items c.in_ok-number.number _ c.self.invariant c.newest.ensures.agrees c.in_ok-number.ensures.answer
-    c.attach.ensures.terms c.attach.ensures.offers c.in-Ok-newest.ensures.table refl c.in-Ok.ensures refl)
+    (sound_attached c.self.inside.session c.attach.new.self c.self.inside.workers.items c.in_ok-number.number _ c.self.invariant c.in_ok-number.ensures.lane c.in-Ok-newest.ensures c.in_ok-number.ensures.answer
+    c.attach.ensures.setting refl c.in-Ok.ensures refl)
 
 pub returns-clause-number : goal.returns-clause-number
 returns-clause-number c =

@@ -10,7 +10,7 @@ returns-in_default-clause-answer c =
 pub invariant_of-self-2 : goal.invariant_of-self-2
 invariant_of-self-2 c =
     sound_flushed c.self.inside.session c.flush.new.session c.self.inside.workers.items c.from.result c.in-Some.worker.now c.flush.new.self c.flush.result c.self.invariant
-    c.in-Some.ensures.item.3.0 c.in-Some.ensures.value c.flush.ensures.answer c.flush.ensures.worker c.flush.ensures.terms c.flush.ensures.offers
+    c.in-Some.ensures.item.3.0 c.in-Some.ensures.value c.flush.ensures.answer c.flush.ensures.worker c.flush.ensures.setting
 
 pub returns-clause-answer : goal.returns-clause-answer
 returns-clause-answer c =

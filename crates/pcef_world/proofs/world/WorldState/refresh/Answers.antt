@@ -10,12 +10,12 @@ returns-then-from-len-clause-answer c =
 pub invariant_of-self : goal.invariant_of-self
 invariant_of-self c =
     let within : c.from-2.result < length c.self.inside.workers.items = omega (arith, c.if-from-len.false, c.len.ensures, c.self.inside.workers.ok.0, c.from.ensures, c.from-2.ensures) in
-    sound_refreshed c.self.inside.session c.self.inside.workers.items c.from-2.result c.index_mut-worker.result.now _ c.self.invariant c.newest.ensures.agrees within
-    c.index_mut-worker.ensures.value c.in_ok-table.ensures.table refl refl refl
+    sound_refreshed c.self.inside.session c.self.inside.workers.items c.from-2.result c.index_mut-worker.result.now _ c.self.invariant c.in_ok-table.ensures within
+    c.index_mut-worker.ensures.value refl refl refl
 
 pub returns-clause-answer : goal.returns-clause-answer
 returns-clause-answer c =
     let within : c.from-2.result < length c.self.inside.workers.items = omega (arith, c.if-from-len.false, c.len.ensures, c.self.inside.workers.ok.0, c.from.ensures, c.from-2.ensures) in
     rw (← c.self.view_is, ← c.from-2.ensures)
-    (refreshes_answer c.self.inside.session c.self.inside.workers.items c.from-2.result c.index_mut-worker.result.now _ c.generation.result c.newest.ensures.agrees within
-    c.index_mut-worker.ensures.value c.in_ok-table.ensures.table refl (c.generation.ensures ∙ ap (λ t. t.number) c.deref.ensures))
+    (refreshes_answer c.self.inside.session c.self.inside.workers.items c.from-2.result c.index_mut-worker.result.now _ c.generation.result c.in_ok-table.ensures within
+    c.index_mut-worker.ensures.value refl (c.generation.ensures ∙ ap (λ t. t.number) c.deref.ensures))

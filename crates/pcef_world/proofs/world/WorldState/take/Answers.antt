@@ -1,3 +1,4 @@
+use Rattle.pcef_model.specs.Setting.{Setting}
 use Rattle.std.proofs.Common.{ap, sym, ◌∙◌, arith}
 use Rattle.pcef_world.proofs.WorldAnswers.{past_from, takes_answer, takes_nowhere, wrapped_is}
 use Rattle.pcef_world.proofs.WorldSteps.{sound_taken}
@@ -10,12 +11,12 @@ returns-in_default-clause-answer g c =
 pub invariant_of-self-2 : goal.invariant_of-self-2
 invariant_of-self-2 g c =
     sound_taken c.self.inside.session c.self.inside.workers.items c.from.result c.in-Some.worker.now c.take.new.self (g.C.Offers.offers c.args.catalog.now) c.behind-self.inside.ue
-    c.args.header.now c.take.result c.self.invariant c.in-Some.ensures.item.3.0 c.in-Some.ensures.value (c.requires ∙ sym (ap (λ w. w.core.offers) c.self.view_is))
-    (ap (λ t. t.ue) (c.behind-self.view_is ∙ c.profile.ensures)) c.take.ensures
+    c.args.header.now c.take.result c.self.invariant c.in-Some.ensures.item.3.0 c.in-Some.ensures.value (c.requires ∙ sym (ap (λ w. w.core.setting.catalog) c.self.view_is))
+    (ap (λ t. t.ue) c.behind-self.view_is ∙ ap (λ (p : Setting). p.ue) c.profile.ensures) c.take.ensures
 
 pub returns-clause-answer : goal.returns-clause-answer
 returns-clause-answer g c =
     rw (← c.self.view_is, ← c.from.ensures)
     (takes_answer c.self.inside.session c.self.inside.workers.items c.from.result c.in-Some.worker.now c.take.new.self (g.C.Offers.offers c.args.catalog.now) c.behind-self.inside.ue
-    c.args.header.now c.take.result c.map_err.result c.self.invariant c.in-Some.ensures.item.3.0 c.in-Some.ensures.value (c.requires ∙ sym (ap (λ w. w.core.offers) c.self.view_is))
-    (ap (λ t. t.ue) (c.behind-self.view_is ∙ c.profile.ensures)) c.take.ensures (wrapped_is c.take.result c.map_err.result c.map_err.ensures.cases))
+    c.args.header.now c.take.result c.map_err.result c.self.invariant c.in-Some.ensures.item.3.0 c.in-Some.ensures.value (c.requires ∙ sym (ap (λ w. w.core.setting.catalog) c.self.view_is))
+    (ap (λ t. t.ue) c.behind-self.view_is ∙ ap (λ (p : Setting). p.ue) c.profile.ensures) c.take.ensures (wrapped_is c.take.result c.map_err.result c.map_err.ensures.cases))

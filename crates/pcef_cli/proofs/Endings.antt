@@ -1,0 +1,80 @@
+-- The ends of the program: their statuses, and what holds at status 0.
+use Rattle.std.proofs.Common.{◌≡◌, ◌∙◌, ℕ, ◌<◌, ◌≤◌, Bool, true, false, List, [], ap, append-nil, arith, inl, inr, refl, subst, sym}
+use Rattle.std.specs.Prelude.{◌==◌, OnOk, IfErr, Option, None, Some, Result, Ok, Err, String, string_bytes}
+use Rattle.std.specs.declared.alloc.Global.{Global}
+use Rattle.std.specs.Io.KnownBytes.{Appends}
+use Rattle.std.proofs.KnownBytes.{Appends-kept}
+use Rattle.std.proofs.lemmas.Bool.{eqb-true}
+use Rattle.pcef_catalog.specs.declared.listing.Offer.{Offer}
+use Rattle.pcef_model.specs.declared.answer.OpenFault.TheVariants as opening
+use Rattle.pcef_model.specs.Terms.{Terms, setting_of}
+use Rattle.pcef_profile.specs.ProfileOf.{GivesTerms, ProfileOf}
+use Rattle.pcef_profile.specs.declared.fault.ReadProfileFault.{ReadProfileFault}
+use Rattle.pcef_profile.specs.declared.fault.ReadProfileFault.TheVariants as profile
+use Rattle.pcef_script.specs.declared.fault.ScriptFault.{ScriptFault}
+use Rattle.pcef_script.specs.declared.fault.ScriptFault.TheVariants as script
+use Rattle.pcef_script.specs.ScriptLines.{AppendsFront}
+use Rattle.pcef_script.specs.Scripts.{Wrote, all_lines}
+use Rattle.pcef_cli.specs.declared.end.End.{End}
+use Rattle.pcef_cli.specs.declared.end.End.TheVariants as ending
+use Rattle.pcef_cli.specs.Ends.{end_status, lines_end, profile_end, script_end}
+use Rattle.pcef_cli.specs.Programs.{Ends, IsWhole, RanScript}
+
+-- ---- what is said of faults
+pub told_front : {T : Type 0} (r : Result T ScriptFault) (a b : Option (List ℕ)) (text : List ℕ) → OnOk r (Appends a b text) → IfErr r (λ e. (e ≡ script.Write) × AppendsFront a b text) → AppendsFront a b text
+told_front (Ok done) a b text all front = (text, [], sym (append-nil text), all)
+told_front (Err e) a b text all front = front.1
+
+-- ---- statuses
+pub status_most : (e : End) → end_status e ≤ 4
+status_most ending.Done = omega arith
+status_most ending.LinesAtFault = omega arith
+status_most (ending.Profile fault) = omega arith
+status_most ending.Usage = omega arith
+status_most ending.NoMemory = omega arith
+status_most ending.Read = omega arith
+status_most ending.Write = omega arith
+
+not_zero : (n : ℕ) → 0 < n → n ≡ 0 → ⊥
+not_zero n some is = omega (arith, some, is)
+
+profile_status : (fault : ReadProfileFault) → end_status (profile_end fault) ≡ 0 → ⊥
+profile_status profile.NotToml is = not_zero 1 (omega arith) is
+profile_status profile.UnknownKey is = not_zero 1 (omega arith) is
+profile_status profile.Missing is = not_zero 1 (omega arith) is
+profile_status profile.BadValue is = not_zero 1 (omega arith) is
+profile_status profile.UnknownQci is = not_zero 1 (omega arith) is
+profile_status profile.DefaultIsGbr is = not_zero 1 (omega arith) is
+profile_status profile.NoMemory is = not_zero 3 (omega arith) is
+
+fault_status : (fault : ScriptFault) → end_status (script_end (Err fault)) ≡ 0 → ⊥
+fault_status script.Read is = not_zero 4 (omega arith) is
+fault_status script.Write is = not_zero 4 (omega arith) is
+fault_status script.TooMuch is = not_zero 4 (omega arith) is
+fault_status script.NoMemory is = not_zero 3 (omega arith) is
+fault_status (script.Profile opening.UnknownQci) is = not_zero 1 (omega arith) is
+fault_status (script.Profile opening.DefaultIsGbr) is = not_zero 1 (omega arith) is
+fault_status (script.Profile opening.NoMemory) is = not_zero 3 (omega arith) is
+
+no_faults : (n : ℕ) → end_status (lines_end n) ≡ 0 → n ≡ 0
+no_faults n is = by_test (n == 0) refl
+  where
+    by_test : (test : Bool) → (n == 0) ≡ test → n ≡ 0
+    by_test true holds = eqb-true n 0 holds
+    by_test false fails = let one = rw fails at is in absurd (not_zero 1 (omega arith) one)
+
+-- ---- status 0
+ran_whole : (offers : List Offer) (text : String Global) (terms : Terms) (end : End) (before left old new : Option (List ℕ)) → GivesTerms (Ok terms) (ProfileOf (string_bytes text))
+    → RanScript (setting_of terms offers) end before left old new → end_status end ≡ 0 → IsWhole offers (Some (Some text)) before left old new
+ran_whole offers text terms end before left old new gives (result, opened, written, runs, kept, inr is) zero = absurd (not_zero 4 (omega arith) (sym (ap end_status is) ∙ zero))
+ran_whole offers text terms end before left old new gives (Err fault, opened, written, runs, kept, inl is) zero = absurd (fault_status fault (sym (ap end_status is) ∙ zero))
+ran_whole offers text terms end before left old new gives (Ok faults, opened, written, runs, kept, inl is) zero =
+    let none : faults ≡ 0 = no_faults faults (sym (ap end_status is) ∙ zero) in
+    let wrote : Wrote (setting_of terms offers) (all_lines runs.0) 0 old written = subst (λ n. Wrote (setting_of terms offers) (all_lines runs.0) n old written) none runs.3.1 in
+    (text, terms, runs.0, refl, gives, runs.1, runs.3.0, (wrote.0, wrote.1, wrote.2, Appends-kept old written new wrote.0 wrote.3 kept))
+
+pub whole_ended : (offers : List Offer) (asked : Option (Option (String Global))) (end : End) (before left old new : Option (List ℕ)) → Ends offers asked end before left old new → end_status end ≡ 0 → IsWhole offers asked before left old new
+whole_ended offers None end before left old new h zero = absurd (not_zero 2 (omega arith) (sym (ap end_status h.0) ∙ zero))
+whole_ended offers (Some None) end before left old new h zero = absurd (not_zero 4 (omega arith) (sym (ap end_status h.0) ∙ zero))
+whole_ended offers (Some (Some text)) end before left old new (Ok terms, gives, ran) zero = ran_whole offers text terms end before left old new gives ran zero
+whole_ended offers (Some (Some text)) end before left old new (Err fault, gives, ended) zero = absurd (profile_status fault (sym (ap end_status ended.0) ∙ zero))

@@ -1,0 +1,56 @@
+-- What the program does with its words and profiles, from a reader with `before` still to come and a writer
+-- with `old` written, to `left` and `new` (own choice).
+use Rattle.std.specs.Prelude.{ℕ, ◌≡◌, ◌⊎◌, Bool, false, List, [], ◌∷◌, String, codes, string_bytes, Option, Some, None, Result, Ok, Err, if◌then◌else◌}
+use Rattle.std.specs.Str.{bytes_eq}
+use Rattle.std.specs.declared.alloc.Global.{Global}
+use Rattle.std.specs.Io.KnownBytes.{Consumes, IsAtEnd, Keeps}
+use Rattle.pcef_catalog.specs.declared.listing.Offer.{Offer}
+use Rattle.pcef_model.specs.Setting.{Setting}
+use Rattle.pcef_model.specs.Terms.{Terms, setting_of}
+use Rattle.pcef_profile.specs.ProfileOf.{GivesTerms, ProfileOf}
+use Rattle.pcef_profile.specs.declared.fault.ReadProfileFault.{ReadProfileFault}
+use Rattle.pcef_script.specs.declared.fault.ScriptFault.{ScriptFault}
+use Rattle.pcef_script.specs.Runs.{Runs}
+use Rattle.pcef_script.specs.Scripts.{Opened, Wrote, all_lines}
+use Rattle.pcef_cli.specs.declared.end.End.{End}
+use Rattle.pcef_cli.specs.declared.end.End.TheVariants as ending
+use Rattle.pcef_cli.specs.Ends.{profile_end, script_end}
+
+-- ---- what the words ask for
+abbrev pub asks_for_script : List (String Global) → Bool
+asks_for_script (word ∷ path ∷ []) = bytes_eq (string_bytes word) (codes "script")
+asks_for_script words = false
+
+-- the profile of the script that is asked for; it has a text where its file can be read
+abbrev pub asked : List (String Global) → List (Option (String Global)) → Option (Option (String Global))
+asked words (profile ∷ []) = if asks_for_script words then Some profile else None
+asked words profiles = None
+
+-- ---- what is done
+abbrev pub IsUntouched : Option (List ℕ) → Option (List ℕ) → Option (List ℕ) → Option (List ℕ) → Type 0
+IsUntouched before left old new = Keeps before left × Keeps old new
+
+-- a script was run, what it wrote stayed so, and its end is the program's, unless the answers couldn't be flushed
+abbrev pub RanScript : Setting → End → Option (List ℕ) → Option (List ℕ) → Option (List ℕ) → Option (List ℕ) → Type 0
+RanScript p end before left old new =
+    (result : Result ℕ ScriptFault) × Opened p result × (written : Option (List ℕ)) × Runs p result before left old written × Keeps written new
+    × ((end ≡ script_end result) ⊎ (end ≡ ending.Write))
+
+abbrev pub EndsBy : List Offer → Result Terms ReadProfileFault → End → Option (List ℕ) → Option (List ℕ) → Option (List ℕ) → Option (List ℕ) → Type 0
+EndsBy offers (Ok terms) end before left old new = RanScript (setting_of terms offers) end before left old new
+EndsBy offers (Err fault) end before left old new = (end ≡ profile_end fault) × IsUntouched before left old new
+
+-- a script is run on the session of its profile, or the end is the profile's
+abbrev pub Ends : List Offer → Option (Option (String Global)) → End → Option (List ℕ) → Option (List ℕ) → Option (List ℕ) → Option (List ℕ) → Type 0
+Ends offers None end before left old new = (end ≡ ending.Usage) × IsUntouched before left old new
+Ends offers (Some None) end before left old new = (end ≡ ending.Read) × IsUntouched before left old new
+Ends offers (Some (Some text)) end before left old new =
+    (read : Result Terms ReadProfileFault) × GivesTerms read (ProfileOf (string_bytes text)) × EndsBy offers read end before left old new
+
+-- ---- status 0
+-- a script was asked for whose profile has no fault; all its input was read, no line is at fault, and the
+-- answers to all lines are written
+abbrev pub IsWhole : List Offer → Option (Option (String Global)) → Option (List ℕ) → Option (List ℕ) → Option (List ℕ) → Option (List ℕ) → Type 0
+IsWhole offers asked before left old new =
+    (text : String Global) × (terms : Terms) × (input : List ℕ) × (asked ≡ Some (Some text)) × GivesTerms (Ok terms) (ProfileOf (string_bytes text))
+    × Consumes before left input × IsAtEnd left × Wrote (setting_of terms offers) (all_lines input) 0 old new

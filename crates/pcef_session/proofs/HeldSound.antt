@@ -1,0 +1,42 @@
+-- What always holds of all that a session keeps.
+use Rattle.std.proofs.Common.{◌≡◌, ◌≤◌, [], ◌∷◌, length, ap, subst, arith, inl, inr}
+use Rattle.std.proofs.lemmas.Bool.{cases_Bool}
+use Rattle.pcef_model.specs.declared.entry.Entry.TheVariants as entry
+use Rattle.pcef_model.specs.Entries.{Journal, commands}
+use Rattle.pcef_model.specs.Journals.{gen}
+use Rattle.pcef_model.specs.Commands.{is_table}
+use Rattle.pcef_model.proofs.Growth.{tables_of_other, tables_of_table}
+use Rattle.pcef_session.specs.private.Parts.{Agrees, Held}
+use Rattle.pcef_session.specs.SessionModel.{SessionModel}
+use Rattle.pcef_session.specs.private.Soundness.{IsSound, held_of}
+use Rattle.pcef_session.specs.declared.state.SessionState.TheInside.{Inside}
+
+pub record IsSoundHeld (v : Held) : Type 0 where
+  pub agrees : Agrees v.setting v.journal v.parts
+  pub few_commands : length (commands v.journal) ≤ v.setting.commands
+  pub most_commands : v.setting.commands ≤ 1000000
+  pub few_rules : length v.parts.rules ≤ 64
+  pub few_keys : length v.parts.keys ≤ 8
+
+pub held_sound : (s : Inside) → IsSound s → IsSoundHeld (held_of s)
+held_sound s sound = record {
+  agrees = sound.agrees;
+  few_commands = sound.limited.few_commands;
+  most_commands = sound.limited.most_commands;
+  few_rules = sound.small.few_rules;
+  few_keys = sound.small.few_keys;
+}
+
+-- there are at most as many generations as commands
+pub few_generations : (j : Journal) → gen j ≤ length (commands j)
+few_generations [] = omega arith
+few_generations (entry.Row r ∷ j) = few_generations j
+few_generations (entry.Report r ∷ j) = few_generations j
+few_generations (entry.Attach w ∷ j) = few_generations j
+few_generations (entry.Leave w ∷ j) = few_generations j
+few_generations (entry.Command c ∷ j) =
+    let rest = few_generations j in
+    elim (cases_Bool (is_table c)) [
+      | inl is ↦ omega (arith, rest, ap length (tables_of_table j c is))
+      | inr isnt ↦ omega (arith, rest, ap length (tables_of_other j c isnt))
+    ]

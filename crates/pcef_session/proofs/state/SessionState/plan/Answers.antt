@@ -1,0 +1,16 @@
+use Rattle.std.proofs.Common.{◌≡◌, ◌∙◌, ◌++◌, ap, subst}
+use Rattle.pcef_model.specs.Journals.{subscribed}
+use Rattle.pcef_model.specs.Reports.{asked, ended, noticed, noticed_by, plan}
+use Rattle.pcef_session.specs.SessionModel.{SessionModel}
+use Rattle.pcef_session.proofs.LostKeys.{plan_is}
+use Rattle.pcef_session.proofs.state.SessionState.plan.Goals as goal
+
+pub returns : goal.returns
+returns c =
+    let v = c.args.self.now in
+    let command = c.args.command.now in
+    let triggers = subst (λ (m : SessionModel). c.self.inside.subscribed ≡ subscribed m.journal) c.self.view_is c.self.invariant.agrees.triggers_are in
+    c.in_ok-add_noticed.ensures
+    ∙ ap (λ ts. ts ++ noticed_by c.self.inside.subscribed command) (c.in_ok-add_asked.ensures ∙ ap (λ ts. ts ++ asked command) c.in_ok-reports.ensures)
+    ∙ ap (λ set. ended v.setting v.journal command ++ asked command ++ noticed_by set command) triggers
+    ∙ plan_is v.setting v.journal command c.requires.served

@@ -1,0 +1,22 @@
+use Rattle.std.proofs.Common.{◌≡◌, ◌∙◌, Some, None, ap, subst, sym}
+use Rattle.pcef_model.specs.Commands.{activated}
+use Rattle.pcef_session.specs.SessionModel.{SessionModel}
+use Rattle.pcef_session.specs.private.Entries.{ShowsNext}
+use Rattle.pcef_session.specs.private.Soundness.{held_of}
+use Rattle.pcef_session.proofs.HeldSound.{held_sound}
+use Rattle.pcef_session.proofs.NextTables.{if_ok, number_fits, table_left}
+use Rattle.pcef_session.proofs.state.SessionState.table_left.Goals as goal
+use Rattle.std.specs.Prelude.{IfOk}
+
+pub without_taken-requires-clause-number : goal.without_taken-requires-clause-number
+without_taken-requires-clause-number c = let fits = number_fits (held_of c.self.inside) (held_sound c.self.inside c.self.invariant) in rw c.deref.ensures fits
+
+pub returns : goal.returns
+returns c =
+    let v = held_of c.self.inside in
+    let command = c.args.command.now in
+    let none = subst (λ (m : SessionModel). activated m.setting command ≡ None) (sym c.self.view_is) c.requires.none in
+    subst (λ (m : SessionModel). IfOk c.without_taken.result (λ t. ShowsNext m.setting m.journal command t)) c.self.view_is
+    (if_ok _ _ _ c.without_taken.result
+    (table_left v command (held_sound c.self.inside c.self.invariant) none c.requires.table c.requires.switched)
+    (rw c.deref.ensures at c.without_taken.ensures.number) (rw c.deref.ensures at c.without_taken.ensures.entries))

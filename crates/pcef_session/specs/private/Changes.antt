@@ -1,0 +1,67 @@
+-- What a command makes of the keys and rules that a session keeps, and of their bearers.
+use Rattle.pcef_bearer.specs.Bindings.{is_named}
+use Rattle.std.specs.Prelude.{ℕ, ◌≡◌, List, Option, Some, None, Bool, filter, not}
+use Rattle.std.specs.Option.{option_map}
+use Rattle.indexmap.specs.IndexMap.{insert_entry, shift_remove_entry}
+use Rattle.pcef_rule.specs.declared.quantity.BearerId.{BearerId}
+use Rattle.pcef_rule.specs.declared.rule.Properties.{Properties}
+use Rattle.pcef_bearer.specs.Bindings.{Binding, HasRoom, bound_at, id_beside, put, refusals, with_rules, without}
+use Rattle.pcef_model.specs.Refusals.{first_of}
+use Rattle.pcef_model.specs.declared.command.Command.{Command}
+use Rattle.pcef_model.specs.declared.command.Command.TheVariants.{Activate, Install, Monitor, Remove}
+use Rattle.pcef_model.specs.Setting.{Setting, offer_named, same_name}
+use Rattle.pcef_model.specs.ActiveRules.{Active, dynamic, predefined}
+use Rattle.pcef_table.specs.declared.entry.Source.{Source}
+use Rattle.pcef_usage.specs.declared.usage.KeyState.{KeyState}
+use Rattle.pcef_usage.specs.Commands.{started_by}
+use Rattle.pcef_usage.specs.Keys.{with_slot}
+use Rattle.pcef_session.specs.declared.prepared.Activation.{Activation}
+use Rattle.pcef_session.specs.Shown.{rule_of}
+use Rattle.pcef_model.specs.Changes.{MakesActive}
+use Rattle.std.specs.List.{list_any}
+use Rattle.pcef_model.specs.Commands.{takes_away}
+
+-- ---- keys
+-- the key of the rule that becomes active
+abbrev pub rule_key : Option Activation → Option (List ℕ)
+rule_key None = None
+rule_key (Some x) = x.properties.key
+
+-- the key that a command names, where the rule that becomes active has this one
+abbrev pub key_of : Option (List ℕ) → Command → Option (List ℕ)
+key_of of_rule (Monitor key grant) = Some key
+key_of of_rule _ = of_rule
+
+-- the counters when a command comes: the key that it names has a slot, and that of a Monitor is started
+abbrev pub entered_by : Option (List ℕ) → Command → List KeyState → List KeyState
+entered_by of_rule c states = started_by c (with_slot (key_of of_rule c) states)
+
+-- ---- rules
+-- the active rules by name
+abbrev pub is_still_bound : Binding → List ℕ × Source → Bool
+is_still_bound b e = list_any (is_named e.0) b.bound
+
+-- a rule that becomes active is put among the others; else those stay that are still bound
+abbrev pub active_after : Option Activation → Binding → List (List ℕ × Source) → List (List ℕ × Source)
+active_after (Some x) bound active = insert_entry same_name active x.properties.name x.source
+active_after None bound active = filter (is_still_bound bound) active
+
+-- the rule that becomes active can be bound
+pub record Binds (rule : Properties) (b : Binding) : Type 0 where
+  pub accepted : first_of (refusals b (without rule.name b.bound) rule.qos rule.rates) ≡ None
+  pub room : HasRoom rule.name 64 b.bound
+
+abbrev pub CanBind : Option Activation → Binding → Type 0
+CanBind None b = Unit {0}
+CanBind (Some x) b = Binds x.properties b
+
+-- a rule is bound to this bearer
+pub record IsBoundTo (rule : Properties) (old new : Binding) (id : BearerId) : Type 0 where
+  pub bearer_is : id_beside old.default_qos old.bound (without rule.name old.bound) rule.qos ≡ Some id.0
+  pub binding_is : new ≡ with_rules old (put (bound_at rule.name rule.qos rule.rates id.0) old.bound)
+
+abbrev pub IsRebound : Option Activation → Command → Binding → Binding → Option BearerId → Type 0
+IsRebound (Some x) c old new None = ⊥
+IsRebound (Some x) c old new (Some id) = IsBoundTo x.properties old new id
+IsRebound None c old new bearer =
+    (bearer ≡ None) × (new ≡ with_rules old (filter (λ b. not (takes_away c b.name b.bearer.0)) old.bound))

@@ -1,0 +1,64 @@
+-- Keys that are on, keys that commands switch, and keys that lose their last rule.
+use Rattle.std.specs.Prelude.{◌||◌, true}
+use Rattle.pcef_model.specs.declared.command.Command.TheVariants.{Monitor, Stop}
+use Rattle.std.specs.Prelude.{Bool, ℕ, not, ◌&&◌, List, Option, Some, None, false}
+use Rattle.std.specs.List.{list_any}
+use Rattle.std.specs.Option.{option_map_or}
+use Rattle.pcef_rule.specs.declared.rule.Properties.{Properties}
+use Rattle.pcef_model.specs.ActiveRules.{is_key}
+use Rattle.pcef_model.specs.Setting.{same_name}
+use Rattle.pcef_table.specs.declared.entry.Entry.{Entry}
+use Rattle.pcef_catalog.specs.declared.listing.Offer.{Offer}
+use Rattle.pcef_table.specs.Sources.{properties_of, name_of}
+use Rattle.pcef_usage.specs.declared.usage.KeyState.{KeyState}
+use Rattle.pcef_session.specs.declared.prepared.Activation.{Activation}
+use Rattle.pcef_model.specs.declared.command.Command.{Command}
+use Rattle.pcef_model.specs.Commands.{takes_away}
+
+-- the rule of some entry passes a test
+abbrev pub some_entry : List Offer → (Properties → Bool) → List Entry → Bool
+some_entry offers test entries = list_any (λ e. option_map_or test (properties_of offers e.source) false) entries
+
+abbrev pub is_on_there : List ℕ → KeyState → Bool
+is_on_there key s = same_name s.key key && s.on
+
+-- the key has a slot, and is on there
+abbrev pub is_on : Option (List ℕ) → List KeyState → Bool
+is_on None states = false
+is_on (Some key) states = list_any (is_on_there key) states
+
+abbrev pub has_key : List ℕ → Properties → Bool
+has_key key rule = is_key key rule.key
+
+-- ---- keys that lose their last rule
+-- the rule that becomes active has this name, and this key
+abbrev pub comes_named : Option Activation → List ℕ → Bool
+comes_named None name = false
+comes_named (Some x) name = same_name name x.properties.name
+
+abbrev pub comes_with : Option Activation → List ℕ → Bool
+comes_with None key = false
+comes_with (Some x) key = is_key key x.properties.key
+
+-- the rule of an entry is neither replaced nor taken away
+abbrev pub entry_stays : List Offer → Command → Option Activation → Entry → Bool
+entry_stays offers c x e = not (comes_named x (name_of offers e.source) || takes_away c (name_of offers e.source) e.bearer.0)
+
+abbrev pub stays_with : List Offer → Command → Option Activation → List ℕ → Entry → Bool
+stays_with offers c x key e = entry_stays offers c x e && option_map_or (has_key key) (properties_of offers e.source) false
+
+-- a key is on, and of whose rules there are some and none stays or comes
+abbrev pub is_lost : List Offer → List Entry → Command → Option Activation → KeyState → Bool
+is_lost offers entries c x s =
+    s.on && some_entry offers (has_key s.key) entries
+    && not (comes_with x s.key || list_any (stays_with offers c x s.key) entries)
+
+-- ---- the key that a command switches
+abbrev pub key_switched : Command → Option (List ℕ)
+key_switched (Monitor key grant) = Some key
+key_switched (Stop key) = Some key
+key_switched _ = None
+
+abbrev pub switches_on : Command → Bool
+switches_on (Monitor key grant) = true
+switches_on _ = false

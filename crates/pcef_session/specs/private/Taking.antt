@@ -1,0 +1,34 @@
+-- Rows that are taken over.
+use Rattle.pcef_session.specs.Following.{row_of, slot_of}
+use Rattle.std.specs.Prelude.{◌≡◌, ◌<◌, Bool, List, [], ◌∷◌, Option, All, map, ◌^◌}
+use Rattle.pcef_rule.specs.declared.quantity.Slot.{Slot}
+use Rattle.pcef_model.specs.declared.row.Row.{Row}
+use Rattle.pcef_model.specs.Setting.{Setting}
+use Rattle.pcef_model.specs.Entries.{Journal}
+use Rattle.pcef_model.specs.Journals.{counts, slots}
+use Rattle.pcef_usage.specs.declared.usage.KeyState.{KeyState}
+use Rattle.pcef_usage.specs.Counted.{Counted}
+use Rattle.pcef_usage.specs.Flushes.{rows_counted}
+use Rattle.pcef_usage.specs.Keys.{CanCount, with_octets}
+use Rattle.pcef_usage.specs.Tellings.{settled_states, settled_tellings, states_told, told}
+use Rattle.pcef_model.specs.Reports.{with_rows}
+use Rattle.pcef_session.specs.declared.batch.Item.{Item}
+use Rattle.pcef_model.specs.Slots.{CountsFor, IsWithin}
+use Rattle.pcef_session.specs.Following.{row_of}
+
+-- the octets of each row can be counted when its turn comes
+abbrev pub CanCountAll : List Item → List KeyState → Type 0
+CanCountAll [] states = Unit {0}
+CanCountAll (i ∷ items) states =
+    CanCount i.slot i.row.header.octets states × CanCountAll items (with_octets i.slot i.row.header.octets states)
+
+-- rows are taken over: their octets are counted, and then the thresholds are told
+pub record IsTakenAll (subscribed : Bool) (items : List Item) (old new : Counted) : Type 0 where
+  pub journal : new.journal ≡ told (settled_tellings subscribed (rows_counted row_of slot_of items old.states))
+      (settled_states subscribed (rows_counted row_of slot_of items old.states)) (with_rows (map row_of items) old.journal)
+  pub states : new.states ≡ states_told (settled_tellings subscribed (rows_counted row_of slot_of items old.states))
+      (settled_states subscribed (rows_counted row_of slot_of items old.states))
+
+abbrev pub IsTaken : Bool → List Item → Counted → Counted → Type 0
+IsTaken subscribed [] old new = (new.journal ≡ old.journal) × (new.states ≡ old.states)
+IsTaken subscribed (i ∷ items) old new = IsTakenAll subscribed (i ∷ items) old new

@@ -1,0 +1,168 @@
+//! What an accepted command does to what a session keeps. Nothing here takes memory.
+
+ghost use Rattle.std.specs.Prelude.{◌≡◌, ◌<◌, ◌≤◌, ◌+◌, ◌∷◌, filter, length, not, true, false, None, Some, unwrap_or};
+ghost use Rattle.std.specs.Arc.{arc_value};
+ghost use Rattle.std.specs.List.{list_any};
+ghost use Rattle.std.specs.Option.{option_copied, option_map};
+ghost use Rattle.indexmap.specs.IndexMap.{insert_entry, spare};
+ghost use Rattle.pcef_model.specs.Commands.{takes_away};
+ghost use Rattle.pcef_model.specs.Setting.{same_name};
+ghost use Rattle.pcef_model.specs.Refusals.{first_of};
+ghost use Rattle.pcef_bearer.specs.Bindings as binding;
+ghost use Rattle.pcef_usage.specs.Commands.{subscribed_by};
+ghost use Rattle.pcef_usage.specs.Keys.{finds_no_slot, keys_of};
+ghost use Rattle.pcef_usage.specs.Tellings.{KnowsAll, settled_states, settled_tellings, states_stopped, states_told, told};
+ghost use Rattle.pcef_session.specs.private.Changes.{CanBind, IsRebound, active_after, entered_by, is_still_bound, key_of, rule_key};
+
+use crate::prepared::Activation;
+use indexmap::IndexMap;
+use pcef_bearer::Bearers;
+use pcef_model::{Command, Entry, Telling, TriggerSet};
+use pcef_rule::{BearerId, KeyName, Properties, RuleName};
+use pcef_table::{Source, Table};
+use pcef_usage::CountedJournal;
+use std::sync::Arc;
+
+/// The key of the rule that becomes active.
+pub(crate) fn rule_key(rule: Option<&Activation>) -> Option<KeyName>
+    ensures { result ≡ rule_key (option_copied rule.entry) }
+{
+    match &rule?.properties.key {
+        Some(key) => Some(key.copy()),
+        None => None,
+    }
+}
+
+/// Gives the key that a command names a slot, and switches on that of a Monitor.
+fn enter_key(counted: &mut CountedJournal, command: &Command, of_rule: Option<&KeyName>)
+    requires { finds_no_slot (key_of (option_copied of_rule) command.now) counted.old.states ≡ false }
+    ensures journal { counted.new.journal ≡ counted.old.journal }
+    ensures states { counted.new.states ≡ entered_by (option_copied of_rule.entry) command.now counted.old.states }
+    ensures room { counted.new.room ≡ counted.old.room }
+{
+    match command {
+        Command::Monitor { key, grant } => {
+            counted.keep_slot(Some(key));
+            counted.start(key, *grant);
+        }
+        _ => counted.keep_slot(of_rule),
+    }
+}
+
+/// Adds a command to the journal, with the key that it names.
+pub(crate) fn enter(counted: &mut CountedJournal, command: Command, of_rule: Option<KeyName>)
+    requires slot { finds_no_slot (key_of of_rule command) counted.old.states ≡ false }
+    requires room { 0 < counted.old.room }
+    ensures journal { counted.new.journal ≡ Entry.Command command ∷ counted.old.journal }
+    ensures states { counted.new.states ≡ entered_by of_rule command counted.old.states }
+    ensures room { counted.old.room ≤ counted.new.room + 1 }
+{
+    enter_key(counted, &command, of_rule.as_ref());
+    counted.enter(Entry::Command(command));
+}
+
+/// Tells what a command reports by itself, and then the thresholds.
+pub(crate) fn tell(counted: &mut CountedJournal, tellings: &[Telling], subscribed: bool)
+    requires known { KnowsAll (keys_of counted.old.states) tellings.now }
+    requires room { length tellings.now + length counted.old.states ≤ counted.old.room }
+    ensures journal { counted.new.journal ≡ told (settled_tellings subscribed (states_told tellings.now (states_stopped tellings.now counted.old.states))) (settled_states subscribed (states_told tellings.now (states_stopped tellings.now counted.old.states))) (told tellings.now (states_stopped tellings.now counted.old.states) counted.old.journal) }
+    ensures states { counted.new.states ≡ states_told (settled_tellings subscribed (states_told tellings.now (states_stopped tellings.now counted.old.states))) (settled_states subscribed (states_told tellings.now (states_stopped tellings.now counted.old.states))) }
+{
+    counted.stop_all(tellings);
+    counted.tell_all(tellings);
+    counted.finish(subscribed);
+}
+
+/// What is subscribed after a command.
+pub(crate) fn subscribed_by(command: &Command, old: TriggerSet) -> TriggerSet
+    ensures { result ≡ subscribed_by command.now old }
+{
+    match command {
+        Command::Triggers(set) => *set,
+        _ => old,
+    }
+}
+
+/// Holds the table that a command makes, or goes on holding the old one.
+pub(crate) fn keep_table(held: &mut Arc<Table>, made: Option<Arc<Table>>)
+    ensures { arc_value held.new ≡ unwrap_or (option_map (λ t. arc_value t) made) (arc_value held.old) }
+{
+    if let Some(table) = made {
+        *held = table;
+    }
+}
+
+/// Binds a rule to the bearer of its pair, which was found to be possible.
+pub(crate) fn bind(bearers: &mut Bearers, rule: &Properties) -> BearerId
+    requires accepted { first_of (binding.refusals bearers.old (binding.without rule.now.name bearers.old.bound) rule.now.qos rule.now.rates) ≡ None }
+    requires room { binding.HasRoom rule.now.name 64 bearers.old.bound }
+    ensures bearer { binding.id_beside bearers.old.default_qos bearers.old.bound (binding.without rule.now.name bearers.old.bound) rule.now.qos ≡ Some result.0 }
+    ensures bound { bearers.new ≡ binding.with_rules bearers.old (binding.put (binding.bound_at rule.now.name rule.now.qos rule.now.rates result.0) bearers.old.bound) }
+{
+    let bound = if bearers.is_bound(&rule.name) {
+        bearers.rebind(rule.name.copy(), rule.qos, rule.rates)
+    } else {
+        bearers.bind(rule.name.copy(), rule.qos, rule.rates)
+    };
+    match bound {
+        Ok(bearer) => bearer,
+        Err(_) => unreachable!(),
+    }
+}
+
+/// Keeps a rule that became active, in the place of the one of its name or behind all others.
+pub(crate) fn keep_rule(active: &mut IndexMap<RuleName, Source>, name: RuleName, source: Source)
+    requires { 0 < spare active.old }
+    ensures { active.new.entries ≡ insert_entry same_name active.old.entries name source }
+{
+    match active.insert(name, source) {
+        Ok(_) => {}
+        Err(_) => unreachable!(),
+    }
+}
+
+/// Lets the rules go that aren't bound any more.
+fn keep_bound(active: &mut IndexMap<RuleName, Source>, bearers: &Bearers)
+    ensures { active.new.entries ≡ filter (is_still_bound bearers.now) active.old.entries }
+{
+    active.retain(
+        |name: &RuleName, source: &mut Source| -> bool
+            ensures { (result ≡ list_any (binding.is_named name.now) bearers.entry.now.bound) × (source.new ≡ source.old) }
+        { bearers.is_bound(name) },
+    );
+}
+
+/// Takes the rules away that a command takes away, and their bindings.
+fn take_away(active: &mut IndexMap<RuleName, Source>, bearers: &mut Bearers, command: &Command)
+    ensures active { active.new.entries ≡ filter (is_still_bound bearers.new) active.old.entries }
+    ensures bearers { bearers.new ≡ binding.with_rules bearers.old (filter (λ b. not (takes_away command.now b.name b.bearer.0)) bearers.old.bound) }
+{
+    bearers.take_away(command);
+    keep_bound(active, bearers);
+}
+
+/// Changes the active rules and their bearers as a command says, and gives the bearer of the rule that
+/// becomes active.
+pub(crate) fn change_rules(
+    active: &mut IndexMap<RuleName, Source>,
+    bearers: &mut Bearers,
+    command: &Command,
+    rule: Option<Activation>,
+) -> Option<BearerId>
+    requires place { 0 < spare active.old }
+    requires can { CanBind rule bearers.old }
+    ensures active { active.new.entries ≡ active_after rule bearers.new active.old.entries }
+    ensures bearers { IsRebound rule command.now bearers.old bearers.new result }
+{
+    match rule {
+        Some(rule) => {
+            let bearer = bind(bearers, &rule.properties);
+            keep_rule(active, rule.properties.name.copy(), rule.source);
+            Some(bearer)
+        }
+        None => {
+            take_away(active, bearers, command);
+            None
+        }
+    }
+}

@@ -1,0 +1,150 @@
+//! The keys that lose their last rule by a command.
+
+ghost use Rattle.std.specs.Prelude.{◌≡◌, ◌&&◌, ◌++◌, ◌∷◌, [], All, IfOk, OnOk, if◌then◌else◌, not};
+ghost use Rattle.std.specs.List.{list_any};
+ghost use Rattle.std.specs.Option.{option_copied};
+ghost use Rattle.pcef_model.specs.ActiveRules.{is_key};
+ghost use Rattle.pcef_model.specs.declared.report.Cause.TheVariants as cause;
+ghost use Rattle.pcef_table.specs.Sources.{IsKnown};
+ghost use Rattle.pcef_usage.specs.Commands.{usage_of};
+ghost use Rattle.pcef_session.specs.private.Keys.{comes_named, comes_with, entry_stays, has_key, is_lost, some_entry, stays_with};
+
+use crate::prepared::Activation;
+use pcef_catalog::Listing;
+use pcef_model::{Cause, Command, Telling};
+use pcef_rule::{KeyName, RuleName};
+use pcef_table::Entry;
+use pcef_usage::KeyState;
+use std::alloc::{AllocError, Global};
+
+/// Whether a rule has this key.
+fn is_key(key: &KeyName, of: Option<&KeyName>) -> bool
+    ensures { result ≡ is_key key.now (option_copied of.entry) }
+{
+    match of {
+        None => false,
+        Some(other) => *key == *other,
+    }
+}
+
+/// Whether the rule that becomes active has this name.
+fn comes_named(rule: Option<&Activation>, name: &RuleName) -> bool
+    ensures { result ≡ comes_named (option_copied rule.entry) name.now }
+{
+    match rule {
+        None => false,
+        Some(rule) => *name == rule.properties.name,
+    }
+}
+
+/// Whether the rule that becomes active has this key.
+fn comes_with(rule: Option<&Activation>, key: &KeyName) -> bool
+    ensures { result ≡ comes_with (option_copied rule.entry) key.now }
+{
+    match rule {
+        None => false,
+        Some(rule) => is_key(key, rule.properties.key.as_ref()),
+    }
+}
+
+/// Whether the rule of some entry has this key.
+fn has_key(entries: &[Entry], listing: &Listing, key: &KeyName) -> bool
+    requires { All (λ e. IsKnown listing.now e.source) entries.now }
+    ensures { result ≡ some_entry listing.now (has_key key.now) entries.now }
+{
+    for entry in entries {
+        if is_key(key, entry.source.properties(listing).key.as_ref()) {
+            return true;
+        }
+    }
+    false
+}
+
+/// Whether the rule of an entry is neither replaced by the one that becomes active nor taken away.
+fn stays(entry: &Entry, listing: &Listing, command: &Command, rule: Option<&Activation>) -> bool
+    requires { IsKnown listing.now entry.now.source }
+    ensures { result ≡ entry_stays listing.now command.now (option_copied rule.entry) entry.now }
+{
+    let name = &entry.source.properties(listing).name;
+    !(comes_named(rule, name) || command.takes_away(name, entry.bearer))
+}
+
+/// Whether the rule of an entry stays, and has this key.
+fn stays_with(
+    entry: &Entry,
+    listing: &Listing,
+    command: &Command,
+    rule: Option<&Activation>,
+    key: &KeyName,
+) -> bool
+    requires { IsKnown listing.now entry.now.source }
+    ensures { result ≡ stays_with listing.now command.now (option_copied rule.entry) key.now entry.now }
+{
+    stays(entry, listing, command, rule)
+        && is_key(key, entry.source.properties(listing).key.as_ref())
+}
+
+/// Whether a rule that has this key stays.
+fn keeps_one(
+    entries: &[Entry],
+    listing: &Listing,
+    command: &Command,
+    rule: Option<&Activation>,
+    key: &KeyName,
+) -> bool
+    requires { All (λ e. IsKnown listing.now e.source) entries.now }
+    ensures { result ≡ list_any (stays_with listing.now command.now (option_copied rule.entry) key.now) entries.now }
+{
+    for entry in entries {
+        if stays_with(entry, listing, command, rule, key) {
+            return true;
+        }
+    }
+    false
+}
+
+/// Whether a key is on and loses its last rule.
+fn is_lost(
+    state: &KeyState,
+    entries: &[Entry],
+    listing: &Listing,
+    command: &Command,
+    rule: Option<&Activation>,
+) -> bool
+    requires { All (λ e. IsKnown listing.now e.source) entries.now }
+    ensures { result ≡ is_lost listing.now entries.now command.now (option_copied rule.entry) state.now }
+{
+    state.on
+        && has_key(entries, listing, &state.key)
+        && !(comes_with(rule, &state.key) || keeps_one(entries, listing, command, rule, &state.key))
+}
+
+/// Adds the report of a key that is lost.
+fn note(reports: &mut Vec<Telling>, state: &KeyState, is_lost: bool) -> Result<(), AllocError>
+    ensures { OnOk result (reports.new.items ≡ reports.old.items ++ (if is_lost then Telling.Usage state.now.key cause.RulesGone ∷ [] else [])) }
+{
+    if is_lost {
+        reports.push(Telling::Usage(state.key.copy(), Cause::RulesGone))?;
+    }
+    Ok(())
+}
+
+/// The reports of the keys that lose their last rule, in slot order.
+pub(crate) fn lost_keys(
+    alloc: Global,
+    states: &[KeyState],
+    entries: &[Entry],
+    listing: &Listing,
+    command: &Command,
+    rule: Option<&Activation>,
+) -> Result<Vec<Telling>, AllocError>
+    requires { All (λ e. IsKnown listing.now e.source) entries.now }
+    ensures { IfOk result (λ v. v.items ≡ usage_of cause.RulesGone (is_lost listing.now entries.now command.now (option_copied rule.entry)) states.now) }
+{
+    let mut reports = Vec::new(alloc);
+    for state in states {
+        let is_lost = is_lost(state, entries, listing, command, rule);
+        note(&mut reports, state, is_lost)?;
+    }
+    Ok(reports)
+}
