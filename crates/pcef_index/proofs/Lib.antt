@@ -1,0 +1,6 @@
+pub mod Fitting
+pub mod Growing
+pub mod MarkLaws
+pub mod Passing
+pub mod Searching
+pub mod Sieving

@@ -1,0 +1,293 @@
+-- A filter that matches a packet lets each of its cells pass.
+use Rattle.std.proofs.Common.{◌≡◌, ◌==◌, ◌<◌, ◌≤◌, ◌+◌, ◌-◌, ◌*◌, ◌/◌, ◌%◌, ◌^◌, ◌&&◌, ◌||◌, ◌∙◌, ◌⊎◌, ℕ, Bool, true, false, List, [], ◌∷◌, Option, Some, None, All, nat_le, ap, refl, sym, arith, inl, inr}
+use Rattle.std.proofs.Math.Nat.{div-div-eq-div-mul}
+use Rattle.std.proofs.lemmas.Nat.{pow-add}
+use Rattle.std.proofs.lemmas.Bool.{and_parts, cases_Bool, cond_both, eqb-true, le-leb, leb-true, or_left, or_right}
+use Rattle.std.proofs.lemmas.List.Elements.{All-cons, All-nil}
+use Rattle.pcef_packet.specs.declared.header.Addr.{Addr}
+use Rattle.pcef_packet.specs.declared.header.Addr.TheVariants.{V4}
+use Rattle.pcef_packet.specs.declared.header.Dir.{Dir}
+use Rattle.pcef_packet.specs.declared.header.Dir.TheVariants.{Up, Down}
+use Rattle.pcef_packet.specs.declared.header.Header.{Header}
+use Rattle.pcef_packet.specs.declared.header.Ports.{Ports}
+use Rattle.pcef_packet.specs.Addresses.{agrees_in, remote_side, remote_side_in, ue_side_in}
+use Rattle.pcef_catalog.specs.Shapes.{local_port, remote_port}
+use Rattle.pcef_filter.specs.declared.filter.Direction.{Direction}
+use Rattle.pcef_filter.specs.declared.filter.Direction.TheVariants.{In, Out}
+use Rattle.pcef_filter.specs.declared.filter.Flow.{Flow}
+use Rattle.pcef_filter.specs.declared.filter.Flow.TheVariants.{Downlink, Uplink, Bidirectional}
+use Rattle.pcef_filter.specs.declared.filter.Place.{Place}
+use Rattle.pcef_filter.specs.declared.filter.Place.TheVariants.{Any, Assigned, Net}
+use Rattle.pcef_filter.specs.declared.filter.PortRange.{PortRange}
+use Rattle.pcef_filter.specs.declared.filter.Filter.{Filter}
+use Rattle.pcef_filter.specs.Matching.{dst_port, endpoint_fits, in_ranges, matches, orientation_of, oriented_fits, place_fits, ports_fit, proto_fits, src_port}
+use Rattle.pcef_index.specs.declared.cells.Cells.{Cells}
+use Rattle.pcef_index.specs.declared.cells.Half.{Half}
+use Rattle.pcef_index.specs.declared.cells.Half.TheVariants.{High, Low}
+use Rattle.pcef_index.specs.private.Cells.{filter_passes, half_cells, header_cells, high_cells, is_in, local_end, local_in, octet_of, only, place_cells, place_passes, port_cells, ports_pass, proto_cells, ranges_pass, remote_end, remote_in, way_cell, way_in, whole}
+use Rattle.pcef_index.specs.private.Marks.{ArePortsRanged, IsRanged}
+
+inside : (k : ℕ) (c : Cells) → c.first ≤ k → k ≤ c.last → is_in k c ≡ true
+inside k c low high = rw (le-leb c.first k low, le-leb k c.last high) refl
+
+in_whole : (base k : ℕ) → k < 256 → is_in (base + k) (whole base) ≡ true
+in_whole base k small = inside (base + k) (whole base) (omega arith) (omega arith)
+
+in_only : (k : ℕ) → is_in k (only k) ≡ true
+in_only k = inside k (only k) (omega arith) (omega arith)
+
+proto_in : (wanted : Option ℕ) (proto : ℕ) → proto < 256 → proto_fits wanted proto ≡ true → is_in proto (proto_cells wanted) ≡ true
+proto_in None proto small fits = inside proto (whole 0) (omega arith) (omega arith)
+proto_in (Some n) proto small fits = rw (eqb-true proto n fits) (in_only n)
+
+-- numbers that agree in their first bits agree in those above fewer
+front_agrees : (a b rest shift : ℕ) → rest ≤ shift → a / 2 ^ rest ≡ b / 2 ^ rest → a / 2 ^ shift ≡ b / 2 ^ shift
+front_agrees a b rest shift less same =
+    let sum : rest + (shift - rest) ≡ shift = omega arith in
+    let split : 2 ^ rest * 2 ^ (shift - rest) ≡ 2 ^ shift = sym (pow-add 2 rest (shift - rest)) ∙ ap (λ (n : ℕ). 2 ^ n) sum in
+    let one : (n : ℕ) → n / 2 ^ rest / 2 ^ (shift - rest) ≡ n / 2 ^ shift = λ n. div-div-eq-div-mul n (2 ^ rest) (2 ^ (shift - rest)) ∙ ap (λ (m : ℕ). n / m) split in
+    sym (one a) ∙ ap (λ (n : ℕ). n / 2 ^ (shift - rest)) same ∙ one b
+
+octet_small : (shift : ℕ) (addr : Addr) → octet_of shift addr < 256
+octet_small shift (V4 a) = omega arith
+
+octets_agree : (bits shift : ℕ) (a b : Addr) → 32 - bits ≤ shift → agrees_in bits a b ≡ true → octet_of shift a ≡ octet_of shift b
+octets_agree bits shift (V4 a) (V4 b) less agrees =
+    ap (λ (n : ℕ). n % 256) (front_agrees a b (32 - bits) shift less (eqb-true (a / 2 ^ (32 - bits)) (b / 2 ^ (32 - bits)) agrees))
+
+place_in : (base shift : ℕ) (place : Place) (ue addr : Addr) → place_fits place ue addr ≡ true → is_in (base + octet_of shift addr) (place_cells base shift place) ≡ true
+place_in base shift Any ue addr fits = in_whole base (octet_of shift addr) (octet_small shift addr)
+place_in base shift Assigned ue addr fits = in_whole base (octet_of shift addr) (octet_small shift addr)
+place_in base shift (Net net) ue addr fits =
+    cond_both (nat_le (32 - net.bits) shift) (only (base + octet_of shift net.addr)) (whole base) (λ (c : Cells). is_in (base + octet_of shift addr) c ≡ true)
+    (λ counts. rw (octets_agree net.bits shift addr net.addr (leb-true (32 - net.bits) shift counts) fits) (in_only (base + octet_of shift net.addr)))
+    (λ _. in_whole base (octet_of shift addr) (octet_small shift addr))
+
+-- an octet of a port, and the cell of one
+abbrev octet_in : Half → ℕ → ℕ
+octet_in High port = port / 256
+octet_in Low port = port % 256
+
+range_in : (half : Half) (base : ℕ) (r : PortRange) (port : ℕ) → r.first ≤ port → port ≤ r.last → is_in (base + octet_in half port) (half_cells half base r) ≡ true
+range_in High base r port low high = inside (base + port / 256) (high_cells base r) (omega arith) (omega arith)
+range_in Low base r port low high =
+    cond_both ((r.first / 256) == (r.last / 256)) (record { first = base + r.first % 256; last = base + r.last % 256 }) (whole base) (λ (c : Cells). is_in (base + port % 256) c ≡ true)
+    (λ one. let same = eqb-true (r.first / 256) (r.last / 256) one in inside (base + port % 256) (record { first = base + r.first % 256; last = base + r.last % 256 }) (omega arith) (omega arith))
+    (λ _. in_whole base (port % 256) (omega arith))
+
+ranges_in : (half : Half) (base : ℕ) (rs : List PortRange) (port : ℕ) → in_ranges rs port ≡ true → ranges_pass half base rs (base + octet_in half port) ≡ true
+ranges_in half base [] port fits = fits
+ranges_in half base (r ∷ rs) port fits =
+    elim (cases_Bool (nat_le r.first port && nat_le port r.last)) [
+      | inl here ↦
+          (let both = and_parts (nat_le r.first port) (nat_le port r.last) here in
+          or_left (is_in (base + octet_in half port) (half_cells half base r)) (ranges_pass half base rs (base + octet_in half port))
+          (range_in half base r port (leb-true r.first port both.0) (leb-true port r.last both.1)))
+      | inr not_here ↦
+          or_right (is_in (base + octet_in half port) (half_cells half base r)) (ranges_pass half base rs (base + octet_in half port))
+          (ranges_in half base rs port (rw not_here at fits))
+    ]
+
+octet_in_small : (half : Half) (port : ℕ) → port < 2 ^ 16 → octet_in half port < 256
+octet_in_small High port small = omega arith
+octet_in_small Low port small = omega arith
+
+ports_in : (half : Half) (base : ℕ) (rs : List PortRange) (port : ℕ) → port < 2 ^ 16 → ports_fit rs (Some port) ≡ true → ports_pass half base rs (base + octet_in half port) ≡ true
+ports_in half base [] port small fits = in_whole base (octet_in half port) (octet_in_small half port small)
+ports_in half base (r ∷ rs) port small fits = ranges_in half base (r ∷ rs) port fits
+
+abbrev pub remote_of : Dir → Option Ports → Option ℕ
+remote_of Up ports = dst_port ports
+remote_of Down ports = src_port ports
+
+abbrev pub local_of : Dir → Option Ports → Option ℕ
+local_of Up ports = src_port ports
+local_of Down ports = dst_port ports
+
+-- what a filter's ends say of a packet's sides
+record Ends (d : Direction) (flow : Option Flow) (dir : Dir) (f : Filter) (ue : Addr) (h : Header) : Type 0 where
+  way : is_in (way_cell dir) (way_in d flow) ≡ true
+  remote : endpoint_fits (remote_in d f) ue (remote_side_in dir h) (remote_of dir h.ports) ≡ true
+  local : endpoint_fits (local_in d f) ue (ue_side_in dir h) (local_of dir h.ports) ≡ true
+
+ends : (d : Direction) (flow : Option Flow) (dir : Dir) (f : Filter) (ue : Addr) (h : Header) → oriented_fits (orientation_of d flow dir) f ue h ≡ true → Ends d flow dir f ue h
+ends In flow Up f ue h fits =
+    let both = and_parts (endpoint_fits f.source ue h.src (src_port h.ports)) (endpoint_fits f.target ue h.dst (dst_port h.ports)) fits in
+    record { way = refl; remote = both.1; local = both.0 }
+ends In flow Down f ue h fits = absurd (cc)
+ends Out None Up f ue h fits = absurd (cc)
+ends Out None Down f ue h fits =
+    let both = and_parts (endpoint_fits f.source ue h.src (src_port h.ports)) (endpoint_fits f.target ue h.dst (dst_port h.ports)) fits in
+    record { way = refl; remote = both.0; local = both.1 }
+ends Out (Some Downlink) Up f ue h fits = absurd (cc)
+ends Out (Some Downlink) Down f ue h fits =
+    let both = and_parts (endpoint_fits f.source ue h.src (src_port h.ports)) (endpoint_fits f.target ue h.dst (dst_port h.ports)) fits in
+    record { way = refl; remote = both.0; local = both.1 }
+ends Out (Some Uplink) Up f ue h fits =
+    let both = and_parts (endpoint_fits f.target ue h.src (src_port h.ports)) (endpoint_fits f.source ue h.dst (dst_port h.ports)) fits in
+    record { way = refl; remote = both.1; local = both.0 }
+ends Out (Some Uplink) Down f ue h fits = absurd (cc)
+ends Out (Some Bidirectional) Up f ue h fits =
+    let both = and_parts (endpoint_fits f.target ue h.src (src_port h.ports)) (endpoint_fits f.source ue h.dst (dst_port h.ports)) fits in
+    record { way = refl; remote = both.1; local = both.0 }
+ends Out (Some Bidirectional) Down f ue h fits =
+    let both = and_parts (endpoint_fits f.source ue h.src (src_port h.ports)) (endpoint_fits f.target ue h.dst (dst_port h.ports)) fits in
+    record { way = refl; remote = both.0; local = both.1 }
+
+-- one of seven tests that passes is enough
+one_of : (a b c d e f g : Bool) → (a ≡ true) ⊎ ((b ≡ true) ⊎ ((c ≡ true) ⊎ ((d ≡ true) ⊎ ((e ≡ true) ⊎ ((f ≡ true) ⊎ (g ≡ true)))))) → (a || (b || (c || (d || (e || (f || g)))))) ≡ true
+one_of true b c d e f g some = refl
+one_of false true c d e f g some = refl
+one_of false false true d e f g some = refl
+one_of false false false true e f g some = refl
+one_of false false false false true f g some = refl
+one_of false false false false false true g some = refl
+one_of false false false false false false true some = refl
+one_of false false false false false false false some = elim some [
+  | inl x ↦ absurd (cc)
+  | inr x ↦ elim x [
+    | inl y ↦ absurd (cc)
+    | inr y ↦ elim y [
+      | inl z ↦ absurd (cc)
+      | inr z ↦ elim z [
+        | inl u ↦ absurd (cc)
+        | inr u ↦ elim u [
+          | inl v ↦ absurd (cc)
+          | inr v ↦ elim v [ inl w ↦ absurd (cc) | inr w ↦ absurd (cc) ]
+        ]
+      ]
+    ]
+  ]
+]
+
+-- the tests of a filter at a cell
+abbrev pub Passed : Filter → ℕ → Type 0
+Passed f k =
+    (is_in k (way_in f.direction f.flow) ≡ true) ⊎ ((is_in k (proto_cells f.proto) ≡ true) ⊎ ((place_passes (remote_end f).place k ≡ true)
+    ⊎ ((ports_pass High 1280 (remote_end f).ports.items k ≡ true) ⊎ ((ports_pass Low 1536 (remote_end f).ports.items k ≡ true)
+    ⊎ ((ports_pass High 1792 (local_end f).ports.items k ≡ true) ⊎ (ports_pass Low 2048 (local_end f).ports.items k ≡ true))))))
+
+passed : (f : Filter) (k : ℕ) → Passed f k → filter_passes f k ≡ true
+passed f k some =
+    one_of (is_in k (way_in f.direction f.flow)) (is_in k (proto_cells f.proto)) (place_passes (remote_end f).place k)
+    (ports_pass High 1280 (remote_end f).ports.items k) (ports_pass Low 1536 (remote_end f).ports.items k)
+    (ports_pass High 1792 (local_end f).ports.items k) (ports_pass Low 2048 (local_end f).ports.items k) some
+
+-- a filter lets a cell pass
+abbrev pub Lets : Filter → ℕ → Type 0
+Lets f k = filter_passes f k ≡ true
+
+remote_ports_in : (f : Filter) (dir : Dir) (ports : Ports) → ArePortsRanged (Some ports) → ports_fit (remote_end f).ports.items (remote_of dir (Some ports)) ≡ true
+    → (Lets f (1280 + remote_port dir ports / 256)) × (Lets f (1536 + remote_port dir ports % 256))
+remote_ports_in f Up ports ranged fits = (
+  passed f (1280 + ports.dst / 256) (inr (inr (inr (inl (ports_in High 1280 (remote_end f).ports.items ports.dst ranged.1 fits))))),
+  passed f (1536 + ports.dst % 256) (inr (inr (inr (inr (inl (ports_in Low 1536 (remote_end f).ports.items ports.dst ranged.1 fits)))))),
+)
+remote_ports_in f Down ports ranged fits = (
+  passed f (1280 + ports.src / 256) (inr (inr (inr (inl (ports_in High 1280 (remote_end f).ports.items ports.src ranged.0 fits))))),
+  passed f (1536 + ports.src % 256) (inr (inr (inr (inr (inl (ports_in Low 1536 (remote_end f).ports.items ports.src ranged.0 fits)))))),
+)
+
+local_ports_in : (f : Filter) (dir : Dir) (ports : Ports) → ArePortsRanged (Some ports) → ports_fit (local_end f).ports.items (local_of dir (Some ports)) ≡ true
+    → (Lets f (1792 + local_port dir ports / 256)) × (Lets f (2048 + local_port dir ports % 256))
+local_ports_in f Up ports ranged fits = (
+  passed f (1792 + ports.src / 256) (inr (inr (inr (inr (inr (inl (ports_in High 1792 (local_end f).ports.items ports.src ranged.0 fits))))))),
+  passed f (2048 + ports.src % 256) (inr (inr (inr (inr (inr (inr (ports_in Low 2048 (local_end f).ports.items ports.src ranged.0 fits))))))),
+)
+local_ports_in f Down ports ranged fits = (
+  passed f (1792 + ports.dst / 256) (inr (inr (inr (inr (inr (inl (ports_in High 1792 (local_end f).ports.items ports.dst ranged.1 fits))))))),
+  passed f (2048 + ports.dst % 256) (inr (inr (inr (inr (inr (inr (ports_in Low 2048 (local_end f).ports.items ports.dst ranged.1 fits))))))),
+)
+
+All4 : (P : ℕ → Type 0) (a b c d : ℕ) → P a → P b → P c → P d → All P (a ∷ b ∷ c ∷ d ∷ [])
+All4 P a b c d pa pb pc pd =
+    All-cons P a (b ∷ c ∷ d ∷ []) pa (All-cons P b (c ∷ d ∷ []) pb (All-cons P c (d ∷ []) pc (All-cons P d [] pd (All-nil P))))
+
+port_cells_pass : (f : Filter) (dir : Dir) (ports : Option Ports) → ArePortsRanged ports → Lets f (way_cell dir)
+    → ports_fit (remote_end f).ports.items (remote_of dir ports) ≡ true → ports_fit (local_end f).ports.items (local_of dir ports) ≡ true
+    → All (Lets f) (port_cells dir ports)
+port_cells_pass f dir None ranged way remote local = All4 (Lets f) (way_cell dir) (way_cell dir) (way_cell dir) (way_cell dir) way way way way
+port_cells_pass f dir (Some ports) ranged way remote local =
+    let far = remote_ports_in f dir ports ranged remote in
+    let near = local_ports_in f dir ports ranged local in
+    All4 (Lets f) (1280 + remote_port dir ports / 256) (1536 + remote_port dir ports % 256) (1792 + local_port dir ports / 256) (2048 + local_port dir ports % 256)
+    far.0 far.1 near.0 near.1
+
+-- an octet of an address is among those of a place, whatever the others are
+places_in : (place : Place) (ue addr : Addr) → place_fits place ue addr ≡ true
+    → (place_passes place (256 + octet_of 24 addr) ≡ true) × (place_passes place (512 + octet_of 16 addr) ≡ true)
+    × (place_passes place (768 + octet_of 8 addr) ≡ true) × (place_passes place (1024 + octet_of 0 addr) ≡ true)
+places_in place ue addr fits =
+    let first = λ (k : ℕ). is_in k (place_cells 256 24 place) in
+    let second = λ (k : ℕ). is_in k (place_cells 512 16 place) in
+    let third = λ (k : ℕ). is_in k (place_cells 768 8 place) in
+    let fourth = λ (k : ℕ). is_in k (place_cells 1024 0 place) in
+    let a = 256 + octet_of 24 addr in
+    let b = 512 + octet_of 16 addr in
+    let c = 768 + octet_of 8 addr in
+    let d = 1024 + octet_of 0 addr in (
+      or_left (first a) (second a || (third a || fourth a)) (place_in 256 24 place ue addr fits),
+      or_right (first b) (second b || (third b || fourth b)) (or_left (second b) (third b || fourth b) (place_in 512 16 place ue addr fits)),
+      or_right (first c) (second c || (third c || fourth c)) (or_right (second c) (third c || fourth c) (or_left (third c) (fourth c) (place_in 768 8 place ue addr fits))),
+      or_right (first d) (second d || (third d || fourth d)) (or_right (second d) (third d || fourth d) (or_right (third d) (fourth d) (place_in 1024 0 place ue addr fits))),
+    )
+
+-- a filter that matches a packet lets each of its cells pass
+pub matching_passes : (f : Filter) (ue : Addr) (h : Header) → IsRanged h → matches f ue h ≡ true → All (Lets f) (header_cells h)
+matching_passes f ue h ranged matching =
+    let parts = and_parts (proto_fits f.proto h.proto) (oriented_fits (orientation_of f.direction f.flow h.dir) f ue h) matching in
+    let e = ends f.direction f.flow h.dir f ue h parts.1 in
+    let remote = and_parts (place_fits (remote_end f).place ue (remote_side h)) (ports_fit (remote_end f).ports.items (remote_of h.dir h.ports)) e.remote in
+    let local = and_parts (place_fits (local_end f).place ue (ue_side_in h.dir h)) (ports_fit (local_end f).ports.items (local_of h.dir h.ports)) e.local in
+    let places = places_in (remote_end f).place ue (remote_side h) remote.0 in
+    let way : Lets f (way_cell h.dir) = passed f (way_cell h.dir) (inl e.way) in
+    let a = 256 + octet_of 24 (remote_side h) in
+    let b = 512 + octet_of 16 (remote_side h) in
+    let c = 768 + octet_of 8 (remote_side h) in
+    let d = 1024 + octet_of 0 (remote_side h) in
+    let ports = port_cells h.dir h.ports in
+    All-cons (Lets f) (way_cell h.dir) (h.proto ∷ a ∷ b ∷ c ∷ d ∷ ports) way
+    (All-cons (Lets f) h.proto (a ∷ b ∷ c ∷ d ∷ ports) (passed f h.proto (inr (inl (proto_in f.proto h.proto ranged.proto parts.0))))
+    (All-cons (Lets f) a (b ∷ c ∷ d ∷ ports) (passed f a (inr (inr (inl places.0))))
+    (All-cons (Lets f) b (c ∷ d ∷ ports) (passed f b (inr (inr (inl places.1))))
+    (All-cons (Lets f) c (d ∷ ports) (passed f c (inr (inr (inl places.2))))
+    (All-cons (Lets f) d ports (passed f d (inr (inr (inl places.3))))
+    (port_cells_pass f h.dir h.ports ranged.ports way remote.1 local.1))))))
+
+port_cells_within : (dir : Dir) (ports : Option Ports) → ArePortsRanged ports → All (λ k. k ≤ 2305) (port_cells dir ports)
+port_cells_within Up None ranged = All4 (λ k. k ≤ 2305) 2304 2304 2304 2304 (omega arith) (omega arith) (omega arith) (omega arith)
+port_cells_within Down None ranged = All4 (λ k. k ≤ 2305) 2305 2305 2305 2305 (omega arith) (omega arith) (omega arith) (omega arith)
+port_cells_within Up (Some ports) ranged =
+    let far = ranged.1 in
+    let near = ranged.0 in
+    All4 (λ k. k ≤ 2305) (1280 + ports.dst / 256) (1536 + ports.dst % 256) (1792 + ports.src / 256) (2048 + ports.src % 256) (omega arith) (omega arith) (omega arith) (omega arith)
+port_cells_within Down (Some ports) ranged =
+    let far = ranged.0 in
+    let near = ranged.1 in
+    All4 (λ k. k ≤ 2305) (1280 + ports.src / 256) (1536 + ports.src % 256) (1792 + ports.dst / 256) (2048 + ports.dst % 256) (omega arith) (omega arith) (omega arith) (omega arith)
+
+way_within : (dir : Dir) → way_cell dir ≤ 2305
+way_within Up = omega arith
+way_within Down = omega arith
+
+-- the cells of a header are there
+pub cells_within : (h : Header) → IsRanged h → All (λ k. k ≤ 2305) (header_cells h)
+cells_within h ranged =
+    let P = λ (k : ℕ). k ≤ 2305 in
+    let small = ranged.proto in
+    let sa = octet_small 24 (remote_side h) in
+    let sb = octet_small 16 (remote_side h) in
+    let sc = octet_small 8 (remote_side h) in
+    let sd = octet_small 0 (remote_side h) in
+    let a = 256 + octet_of 24 (remote_side h) in
+    let b = 512 + octet_of 16 (remote_side h) in
+    let c = 768 + octet_of 8 (remote_side h) in
+    let d = 1024 + octet_of 0 (remote_side h) in
+    let ports = port_cells h.dir h.ports in
+    All-cons P (way_cell h.dir) (h.proto ∷ a ∷ b ∷ c ∷ d ∷ ports) (way_within h.dir)
+    (All-cons P h.proto (a ∷ b ∷ c ∷ d ∷ ports) (omega arith)
+    (All-cons P a (b ∷ c ∷ d ∷ ports) (omega arith)
+    (All-cons P b (c ∷ d ∷ ports) (omega arith)
+    (All-cons P c (d ∷ ports) (omega arith)
+    (All-cons P d ports (omega arith)
+    (port_cells_within h.dir h.ports ranged.ports))))))

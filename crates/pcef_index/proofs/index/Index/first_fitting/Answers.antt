@@ -1,0 +1,31 @@
+use Rattle.std.proofs.Common.{◌≡◌, ◌∙◌, List, Some, None, find, sym, ap}
+use Rattle.std.specs.Prelude.{slice_get}
+use Rattle.pcef_table.specs.declared.entry.Source.{Source}
+use Rattle.pcef_index.specs.declared.lines.Line.{Line}
+use Rattle.pcef_index.specs.private.Lines.{line_fits, lines_from}
+use Rattle.pcef_index.proofs.Fitting.{entry_at, known_at, no_entry, place_of, sources_of}
+use Rattle.pcef_index.proofs.index.Index.first_fitting.Goals as goal
+
+pub returns-in_default-clause-first : goal.returns-in_default-clause-first
+returns-in_default-clause-first g c =
+    let offers = g.C.Offers.offers c.args.catalog.now in
+    let entries = c.args.table.now.entries in
+    let lines : c.deref.result.now ≡ lines_from 0 (sources_of entries) =
+    c.deref.ensures.value ∙ c.self.invariant.lines_are ∙ ap (λ (ss : List Source). lines_from 0 ss) (c.self.view_is ∙ c.requires.index) in
+    let none : place_of (find (line_fits offers c.args.ue c.args.header.now) (lines_from 0 (sources_of entries))) ≡ None =
+    ap (λ (ls : List Line). place_of (find (line_fits offers c.args.ue c.args.header.now) ls)) (sym lines) ∙ sym c.first_place.ensures ∙ c.in_default.is in
+    sym (no_entry offers c.args.ue c.args.header.now 0 entries none)
+
+pub returns-clause-known : goal.returns-clause-known
+returns-clause-known g c =
+    known_at (g.C.Offers.offers c.args.catalog.now) c.args.table.now.entries c.from.result c.entry.result c.requires.table.known c.entry.ensures
+
+pub returns-clause-first : goal.returns-clause-first
+returns-clause-first g c =
+    let offers = g.C.Offers.offers c.args.catalog.now in
+    let entries = c.args.table.now.entries in
+    let lines : c.deref.result.now ≡ lines_from 0 (sources_of entries) =
+    c.deref.ensures.value ∙ c.self.invariant.lines_are ∙ ap (λ (ss : List Source). lines_from 0 ss) (c.self.view_is ∙ c.requires.index) in
+    let some : place_of (find (line_fits offers c.args.ue c.args.header.now) (lines_from 0 (sources_of entries))) ≡ Some c.in-Some.place =
+    ap (λ (ls : List Line). place_of (find (line_fits offers c.args.ue c.args.header.now) ls)) (sym lines) ∙ sym c.first_place.ensures ∙ c.in-Some.is in
+    c.entry.ensures ∙ ap (slice_get entries) c.from.ensures ∙ entry_at offers c.args.ue c.args.header.now c.in-Some.place entries some

@@ -1,0 +1,4 @@
+pub mod Cells
+pub mod Indexes
+pub mod Lines
+pub mod Marks

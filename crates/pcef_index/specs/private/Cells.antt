@@ -1,0 +1,132 @@
+-- The cells that a filter lets pass, and those of a header: one cell for each octet of each field.
+use Rattle.std.specs.Prelude.{ℕ, ◌+◌, ◌-◌, ◌/◌, ◌%◌, ◌^◌, ◌==◌, nat_le, Bool, Option, Some, None, List, [], ◌∷◌, if◌then◌else◌, ◌&&◌, ◌||◌}
+use Rattle.std.specs.List.{list_any}
+use Rattle.pcef_packet.specs.declared.header.Addr.{Addr}
+use Rattle.pcef_packet.specs.declared.header.Addr.TheVariants.{V4}
+use Rattle.pcef_packet.specs.declared.header.Dir.{Dir}
+use Rattle.pcef_packet.specs.declared.header.Dir.TheVariants.{Up, Down}
+use Rattle.pcef_packet.specs.declared.header.Header.{Header}
+use Rattle.pcef_packet.specs.declared.header.Ports.{Ports}
+use Rattle.pcef_packet.specs.Addresses.{remote_side}
+use Rattle.pcef_catalog.specs.Shapes.{local_port, remote_port}
+use Rattle.pcef_filter.specs.declared.filter.Direction.{Direction}
+use Rattle.pcef_filter.specs.declared.filter.Direction.TheVariants.{In, Out}
+use Rattle.pcef_filter.specs.declared.filter.Flow.{Flow}
+use Rattle.pcef_filter.specs.declared.filter.Flow.TheVariants.{Downlink, Uplink, Bidirectional}
+use Rattle.pcef_filter.specs.declared.filter.Place.{Place}
+use Rattle.pcef_filter.specs.declared.filter.Place.TheVariants as place
+use Rattle.pcef_filter.specs.declared.filter.Net.{Net}
+use Rattle.pcef_filter.specs.declared.filter.PortRange.{PortRange}
+use Rattle.pcef_filter.specs.declared.filter.Endpoint.{Endpoint}
+use Rattle.pcef_filter.specs.declared.filter.Filter.{Filter}
+use Rattle.pcef_index.specs.declared.cells.Cells.{Cells}
+use Rattle.pcef_index.specs.declared.cells.Half.{Half}
+use Rattle.pcef_index.specs.declared.cells.Half.TheVariants.{High, Low}
+use Rattle.pcef_index.specs.declared.lines.Line.{Line}
+use Rattle.pcef_index.specs.declared.lines.Part.{Part}
+use Rattle.pcef_index.specs.declared.lines.Part.TheVariants as part
+
+abbrev pub is_in : ℕ → Cells → Bool
+is_in k c = nat_le c.first k && nat_le k c.last
+
+-- all octets of the field whose cells begin at base
+abbrev pub whole : ℕ → Cells
+whole base = record { first = base; last = base + 255 }
+
+abbrev pub only : ℕ → Cells
+only k = record { first = k; last = k }
+
+abbrev pub remote_in : Direction → Filter → Endpoint
+remote_in In f = f.target
+remote_in Out f = f.source
+
+abbrev pub local_in : Direction → Filter → Endpoint
+local_in In f = f.source
+local_in Out f = f.target
+
+-- the end on the remote side, whatever the direction of a packet
+abbrev pub remote_end : Filter → Endpoint
+remote_end f = remote_in f.direction f
+
+abbrev pub local_end : Filter → Endpoint
+local_end f = local_in f.direction f
+
+abbrev pub way_in : Direction → Option Flow → Cells
+way_in In word = only 2304
+way_in Out None = only 2305
+way_in Out (Some Downlink) = only 2305
+way_in Out (Some Uplink) = only 2304
+way_in Out (Some Bidirectional) = record { first = 2304; last = 2305 }
+
+abbrev pub proto_cells : Option ℕ → Cells
+proto_cells None = whole 0
+proto_cells (Some n) = only n
+
+abbrev pub octet_of : ℕ → Addr → ℕ
+octet_of shift (V4 a) = a / 2 ^ shift % 256
+
+abbrev pub net_cells : ℕ → ℕ → Net → Cells
+net_cells base shift net = if nat_le (32 - net.bits) shift then only (base + octet_of shift net.addr) else whole base
+
+abbrev pub place_cells : ℕ → ℕ → Place → Cells
+place_cells base shift place.Any = whole base
+place_cells base shift place.Assigned = whole base
+place_cells base shift (place.Net net) = net_cells base shift net
+
+abbrev pub high_cells : ℕ → PortRange → Cells
+high_cells base r = record { first = base + r.first / 256; last = base + r.last / 256 }
+
+-- the low octets of the ports of a range: all where the high octets differ
+abbrev pub low_cells : ℕ → PortRange → Cells
+low_cells base r =
+    if (r.first / 256) == (r.last / 256) then record { first = base + r.first % 256; last = base + r.last % 256 } else whole base
+
+abbrev pub half_cells : Half → ℕ → PortRange → Cells
+half_cells High base r = high_cells base r
+half_cells Low base r = low_cells base r
+
+abbrev pub ranges_pass : Half → ℕ → List PortRange → ℕ → Bool
+ranges_pass half base ranges k = list_any (λ r. is_in k (half_cells half base r)) ranges
+
+-- a cell of this octet of ports that a port list lets pass
+abbrev pub ports_pass : Half → ℕ → List PortRange → ℕ → Bool
+ports_pass half base [] k = is_in k (whole base)
+ports_pass half base (r ∷ rs) k = ranges_pass half base (r ∷ rs) k
+
+-- a cell of the remote address that a place lets pass
+abbrev pub place_passes : Place → ℕ → Bool
+place_passes place k =
+    is_in k (place_cells 256 24 place) || (is_in k (place_cells 512 16 place)
+    || (is_in k (place_cells 768 8 place) || is_in k (place_cells 1024 0 place)))
+
+-- a cell that a filter lets pass
+abbrev pub filter_passes : Filter → ℕ → Bool
+filter_passes f k =
+    is_in k (way_in f.direction f.flow) || (is_in k (proto_cells f.proto) || (place_passes (remote_end f).place k
+    || (ports_pass High 1280 (remote_end f).ports.items k || (ports_pass Low 1536 (remote_end f).ports.items k
+    || (ports_pass High 1792 (local_end f).ports.items k || ports_pass Low 2048 (local_end f).ports.items k)))))
+
+-- a predefined rule lets every cell pass
+abbrev pub part_passes : Part → ℕ → Bool
+part_passes (part.Filter f) k = filter_passes f k
+part_passes (part.Offer index) k = is_in k (record { first = 0; last = 2305 })
+
+abbrev pub line_passes : Line → ℕ → Bool
+line_passes l k = part_passes l.part k
+
+abbrev pub way_cell : Dir → ℕ
+way_cell Up = 2304
+way_cell Down = 2305
+
+-- without ports the direction's cell stands for theirs
+abbrev pub port_cells : Dir → Option Ports → List ℕ
+port_cells dir None = way_cell dir ∷ way_cell dir ∷ way_cell dir ∷ way_cell dir ∷ []
+port_cells dir (Some ports) =
+    (1280 + remote_port dir ports / 256) ∷ (1536 + remote_port dir ports % 256)
+    ∷ (1792 + local_port dir ports / 256) ∷ (2048 + local_port dir ports % 256) ∷ []
+
+-- the cells of a header
+abbrev pub header_cells : Header → List ℕ
+header_cells h =
+    way_cell h.dir ∷ h.proto ∷ (256 + octet_of 24 (remote_side h)) ∷ (512 + octet_of 16 (remote_side h))
+    ∷ (768 + octet_of 8 (remote_side h)) ∷ (1024 + octet_of 0 (remote_side h)) ∷ port_cells h.dir h.ports

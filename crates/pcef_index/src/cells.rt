@@ -1,0 +1,197 @@
+//! The cells that a filter lets pass: one cell for each octet of each field that filters look at.
+
+ghost use Rattle.std.specs.Prelude.{◌≡◌, ◌<◌, ◌≤◌, ◌+◌};
+ghost use Rattle.pcef_index.specs.private.Cells.{half_cells, high_cells, local_end, low_cells, net_cells, octet_of, place_cells, proto_cells, remote_end, way_in, whole};
+
+use pcef_filter::{Direction, Endpoint, Filter, Flow, Net, Place, PortRange};
+use pcef_packet::Addr;
+
+/// Where the cells of a field begin. A cell stands for each octet of the field, but for the direction two
+/// cells.
+pub(crate) const PROTO: u16 = 0;
+/// The high octet of the remote port.
+pub(crate) const REMOTE_HIGH: u16 = 1280;
+/// The low octet of the remote port.
+pub(crate) const REMOTE_LOW: u16 = 1536;
+/// The high octet of the local port.
+pub(crate) const LOCAL_HIGH: u16 = 1792;
+/// The low octet of the local port.
+pub(crate) const LOCAL_LOW: u16 = 2048;
+/// Uplink.
+pub(crate) const UPLINK: u16 = 2304;
+/// Downlink.
+pub(crate) const DOWNLINK: u16 = 2305;
+
+/// The cells from the first to the last, both included.
+#[derive(Clone, Copy, Debug, PartialEq, Eq)]
+pub(crate) struct Cells {
+    /// The first.
+    pub first: u16,
+    /// The last.
+    pub last: u16,
+}
+
+/// An octet of a port.
+#[derive(Clone, Copy, Debug, PartialEq, Eq)]
+pub(crate) enum Half {
+    /// The high octet.
+    High,
+    /// The low octet.
+    Low,
+}
+
+/// All cells of a field of octets.
+fn whole(base: u16) -> Cells
+    requires { base ≤ 2048 }
+    ensures { result ≡ whole base }
+{
+    Cells {
+        first: base,
+        last: base + 255,
+    }
+}
+
+fn only(cell: u16) -> Cells
+    ensures first { result.first ≡ cell }
+    ensures last { result.last ≡ cell }
+{
+    Cells {
+        first: cell,
+        last: cell,
+    }
+}
+
+/// The end on the remote side, whatever the direction of a packet.
+pub(crate) fn remote_end(filter: &Filter) -> &Endpoint
+    ensures { result.now ≡ remote_end filter.now }
+{
+    match filter.direction {
+        Direction::In => &filter.target,
+        Direction::Out => &filter.source,
+    }
+}
+
+/// The end on the user equipment's side.
+pub(crate) fn local_end(filter: &Filter) -> &Endpoint
+    ensures { result.now ≡ local_end filter.now }
+{
+    match filter.direction {
+        Direction::In => &filter.source,
+        Direction::Out => &filter.target,
+    }
+}
+
+/// The directions that a filter looks at.
+pub(crate) fn way_cells(filter: &Filter) -> Cells
+    ensures is { result ≡ way_in filter.now.direction filter.now.flow }
+    ensures within { result.last ≤ 2305 }
+{
+    match (filter.direction, filter.flow) {
+        (Direction::In, _) => only(UPLINK),
+        (Direction::Out, None | Some(Flow::Downlink)) => only(DOWNLINK),
+        (Direction::Out, Some(Flow::Uplink)) => only(UPLINK),
+        (Direction::Out, Some(Flow::Bidirectional)) => Cells {
+            first: UPLINK,
+            last: DOWNLINK,
+        },
+    }
+}
+
+/// The protocols that a filter looks at.
+pub(crate) fn proto_cells(proto: Option<u8>) -> Cells
+    ensures is { result ≡ proto_cells proto }
+    ensures within { result.last ≤ 2305 }
+{
+    match proto {
+        None => whole(PROTO),
+        Some(proto) => only(u16::from(proto)),
+    }
+}
+
+/// An octet of an address: the lowest of those that are left by a shift.
+pub(crate) fn octet_of(shift: u8, addr: Addr) -> u16
+    requires { shift < 32 }
+    ensures is { result ≡ octet_of shift addr }
+    ensures small { result < 256 }
+{
+    match addr {
+        Addr::V4(addr) => ((addr >> shift) % 256) as u16,
+    }
+}
+
+/// The octets of a network's addresses at this shift: one where all its bits count, else all.
+fn net_cells(base: u16, shift: u8, net: Net) -> Cells
+    requires low { base ≤ 2048 }
+    requires shift { shift < 32 }
+    ensures is { result ≡ net_cells base shift net }
+    ensures within { result.last ≤ 2305 }
+{
+    if 32u8.saturating_sub(net.bits) <= shift {
+        only(base + octet_of(shift, net.addr))
+    } else {
+        whole(base)
+    }
+}
+
+/// The octets of the addresses of a place at this shift.
+pub(crate) fn place_cells(base: u16, shift: u8, place: &Place) -> Cells
+    requires low { base ≤ 2048 }
+    requires shift { shift < 32 }
+    ensures is { result ≡ place_cells base shift place.now }
+    ensures within { result.last ≤ 2305 }
+{
+    match place {
+        Place::Any | Place::Assigned => whole(base),
+        Place::Net(net) => net_cells(base, shift, *net),
+    }
+}
+
+fn high_cells(base: u16, range: &PortRange) -> Cells
+    requires { base ≤ 2048 }
+    ensures is { result ≡ high_cells base range.now }
+    ensures within { result.last ≤ 2305 }
+{
+    let PortRange { first, last } = *range;
+    Cells {
+        first: base + first / 256,
+        last: base + last / 256,
+    }
+}
+
+/// The low octets of the ports of a range: all where the high octets differ.
+fn low_cells(base: u16, range: &PortRange) -> Cells
+    requires { base ≤ 2048 }
+    ensures is { result ≡ low_cells base range.now }
+    ensures within { result.last ≤ 2305 }
+{
+    let PortRange { first, last } = *range;
+    if first / 256 == last / 256 {
+        Cells {
+            first: base + first % 256,
+            last: base + last % 256,
+        }
+    } else {
+        whole(base)
+    }
+}
+
+/// An octet of the ports of a range.
+pub(crate) fn range_cells(half: Half, base: u16, range: &PortRange) -> Cells
+    requires { base ≤ 2048 }
+    ensures is { result ≡ half_cells half base range.now }
+    ensures within { result.last ≤ 2305 }
+{
+    match half {
+        Half::High => high_cells(base, range),
+        Half::Low => low_cells(base, range),
+    }
+}
+
+/// All cells of a field of octets.
+pub(crate) fn all_octets(base: u16) -> Cells
+    requires { base ≤ 2048 }
+    ensures is { result ≡ whole base }
+    ensures within { result.last ≤ 2305 }
+{
+    whole(base)
+}

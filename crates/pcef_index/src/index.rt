@@ -1,0 +1,145 @@
+//! The index of a table.
+
+ghost use Rattle.std.specs.Prelude.{◌≡◌, ◌≤◌, ◌<◌, ◌++◌, ◌∷◌, [], map, length, IfOk, IfSome, find, if◌then◌else◌};
+ghost use Rattle.std.specs.Option.{option_copied};
+ghost use Rattle.pcef_table.specs.Sources.{IsKnown, fits};
+ghost use Rattle.pcef_table.specs.Tables.{IsTable};
+ghost use Rattle.pcef_table.specs.Verdicts.{IsVerdict};
+ghost use Rattle.pcef_index.specs.Candidates.{is_candidate, places_from};
+
+use crate::candidates::is_candidate;
+use crate::lines::{Line, lines_of};
+use crate::sieve::{first_place, words_of};
+use arrayvec::ArrayVec;
+use pcef_catalog::Offers;
+use pcef_model::Verdict;
+use pcef_packet::{Addr, Header};
+use pcef_table::{Entry, Source, Table, gate_verdict, is_own};
+use std::alloc::{AllocError, Global};
+use std::marker::Model;
+
+/// The compiled index of a table. Contracts see the rules of the table's entries, in order. It keeps copies
+/// of them, which share their filters, so that what it says of a packet is said of these rules, whatever
+/// becomes of the table.
+#[derive(Drop)]
+pub struct Index {
+    sources: Vec<Source>,
+    lines: Vec<Line>,
+    words: Vec<u64>,
+}
+
+impl Model for Index {
+    ghost use Rattle.std.specs.Prelude.{List};
+    ghost use Rattle.pcef_table.specs.declared.entry.Source.{Source};
+    ghost use Rattle.pcef_index.specs.private.Indexes.{IsIndexed};
+
+    ghost Value = { List Source };
+
+    ghost view = { λ i. i.sources.items };
+
+    ghost invariant = { λ i. IsIndexed i.sources.items i.lines.items i.words.items };
+}
+
+/// Copies of the rules of entries.
+fn copies(alloc: Global, entries: &[Entry]) -> Result<Vec<Source>, AllocError>
+    ensures { IfOk result (λ v. v.items ≡ map (λ e. e.source) entries.now) }
+{
+    let mut sources = Vec::with_capacity(alloc, entries.len())?;
+    for entry in entries {
+        sources.push(entry.source.copy()?)?;
+    }
+    Ok(sources)
+}
+
+/// Appends a place where its rule passes.
+fn push_if(places: &mut ArrayVec<u8, 64>, place: u8, passes: bool)
+    requires { length places.old.items < 64 }
+    ensures { places.new.items ≡ places.old.items ++ (if passes then place ∷ [] else []) }
+{
+    if passes {
+        places.push(place);
+    }
+}
+
+/// The index of some rules, which are no more than a table has.
+fn index_of(alloc: Global, sources: Vec<Source>) -> Result<Index, AllocError>
+    requires { length sources.items ≤ 64 }
+    ensures { IfOk result (λ i. i ≡ sources.items) }
+{
+    let lines = lines_of(alloc, &sources)?;
+    let words = words_of(alloc, &lines)?;
+    Ok(Index {
+        sources,
+        lines,
+        words,
+    })
+}
+
+impl Index {
+    /// The index of a table, or want of memory. The catalog isn't read: what a predefined rule detects is
+    /// asked of its closure when a packet comes.
+    pub fn build<C: Offers>(alloc: Global, table: &Table, _catalog: &C) -> Result<Index, AllocError>
+        ensures { IfOk result (λ i. i ≡ map (λ e. e.source) table.now.entries) }
+    {
+        let _few = table.len();
+        let sources = copies(alloc, table.entries())?;
+        index_of(alloc, sources)
+    }
+
+    /// The first entry of the table that fits.
+    fn first_fitting<'a, C: Offers>(
+        &self,
+        table: &'a Table,
+        catalog: &C,
+        ue: Addr,
+        header: &Header,
+    ) -> Option<&'a Entry>
+        requires table { IsTable (C.offers catalog.now) table.now.entries }
+        requires index { self.now ≡ map (λ e. e.source) table.now.entries }
+        ensures known { IfSome result (λ e. IsKnown (C.offers catalog.now) e.now.source) }
+        ensures first { option_copied result ≡ find (λ e. fits (C.offers catalog.now) ue header.now e.source) table.now.entries }
+    {
+        let Some(place) = first_place(&self.lines, &self.words, catalog, ue, header) else {
+            return None;
+        };
+        table.entry(usize::from(place))
+    }
+
+    /// What the generation decides of a packet, for a session with this address (TS 23.203,
+    /// clause 6.2.2). The table has the rules that the index was built of. Takes no memory.
+    pub fn classify<C: Offers>(
+        &self,
+        table: &Table,
+        catalog: &C,
+        ue: Addr,
+        header: &Header,
+    ) -> Verdict
+        requires table { IsTable (C.offers catalog.now) table.now.entries }
+        requires index { self.now ≡ map (λ e. e.source) table.now.entries }
+        ensures { IsVerdict (C.offers catalog.now) table.now.entries ue header.now result }
+    {
+        if !is_own(header, ue) {
+            return Verdict::Stray;
+        }
+        match self.first_fitting(table, catalog, ue, header) {
+            None => Verdict::Unmatched,
+            Some(entry) => {
+                let properties = entry.source.properties(catalog);
+                gate_verdict(properties, entry.bearer, header.dir)
+            }
+        }
+    }
+
+    /// The places of the entries that stay in question where port lists are left out, in table order:
+    /// those of predefined rules, and of dynamic ones with a filter that matches without its port lists.
+    pub fn candidates(&self, ue: Addr, header: &Header) -> ArrayVec<u8, 64>
+        ensures { result.items ≡ places_from (is_candidate ue header.now) 0 self.now }
+    {
+        let mut places = ArrayVec::new();
+        for place in 0..self.sources.len() {
+            let stays = is_candidate(&self.sources[place], ue, header);
+            push_if(&mut places, place as u8, stays);
+        }
+        places
+    }
+}

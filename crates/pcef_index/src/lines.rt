@@ -1,0 +1,79 @@
+//! What can fit a packet, one line each: a filter of a dynamic rule, or a predefined rule.
+
+ghost use Rattle.std.specs.Prelude.{◌≡◌, ◌<◌, ◌≤◌, ◌++◌, length, IfOk, OnOk};
+ghost use Rattle.pcef_index.specs.private.Lines.{filter_lines, line_fits, lines_from, source_lines};
+
+use pcef_catalog::Offers;
+use pcef_filter::Filter;
+use pcef_packet::{Addr, Header};
+use pcef_table::Source;
+use std::alloc::{AllocError, Global};
+
+/// A filter, or a predefined rule.
+#[derive(Drop)]
+pub(crate) enum Part {
+    /// A filter.
+    Filter(Filter),
+    /// The place of a predefined rule in the catalog.
+    Offer(u8),
+}
+
+/// A part of the rule of an entry, with the place of the entry.
+#[derive(Drop)]
+pub(crate) struct Line {
+    /// The place.
+    pub place: u8,
+    /// The part.
+    pub part: Part,
+}
+
+impl Line {
+    /// Whether the part fits a packet.
+    pub(crate) fn fits<C: Offers>(&self, catalog: &C, ue: Addr, header: &Header) -> bool
+        ensures { result ≡ line_fits (C.offers catalog.now) ue header.now self.now }
+    {
+        match &self.part {
+            Part::Filter(filter) => filter.matches(ue, header),
+            Part::Offer(index) => catalog.detects(*index, header),
+        }
+    }
+}
+
+fn push_filters(lines: &mut Vec<Line>, place: u8, filters: &[Filter]) -> Result<(), AllocError>
+    ensures { OnOk result (lines.new.items ≡ lines.old.items ++ filter_lines place filters.now) }
+{
+    for filter in filters {
+        lines.push(Line {
+            place,
+            part: Part::Filter(filter.copy()),
+        })?;
+    }
+    Ok(())
+}
+
+fn push_source(lines: &mut Vec<Line>, place: u8, source: &Source) -> Result<(), AllocError>
+    ensures { OnOk result (lines.new.items ≡ lines.old.items ++ source_lines place source.now) }
+{
+    match source {
+        Source::Dynamic(rule) => push_filters(lines, place, rule.filters()),
+        Source::Predefined(index) => {
+            lines.push(Line {
+                place,
+                part: Part::Offer(*index),
+            })?;
+            Ok(())
+        }
+    }
+}
+
+/// The lines of some rules, in order.
+pub(crate) fn lines_of(alloc: Global, sources: &[Source]) -> Result<Vec<Line>, AllocError>
+    requires { length sources.now ≤ 64 }
+    ensures { IfOk result (λ v. v.items ≡ lines_from 0 sources.now) }
+{
+    let mut lines = Vec::new(alloc);
+    for place in 0..sources.len() {
+        push_source(&mut lines, place as u8, &sources[place])?;
+    }
+    Ok(lines)
+}

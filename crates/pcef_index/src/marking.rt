@@ -1,0 +1,102 @@
+//! Marks of lines at the cells that they let pass.
+
+ghost use Rattle.std.specs.Prelude.{◌≡◌, ◌<◌, ◌≤◌, ◌+◌, length};
+ghost use Rattle.pcef_index.specs.private.Cells.{filter_passes, is_in, line_passes, place_passes, ports_pass, ranges_pass};
+ghost use Rattle.pcef_index.specs.private.Marks.{Marks};
+
+use crate::cells::{
+    Cells, DOWNLINK, Half, LOCAL_HIGH, LOCAL_LOW, REMOTE_HIGH, REMOTE_LOW, all_octets, local_end,
+    place_cells, proto_cells, range_cells, remote_end, way_cells,
+};
+use crate::lines::{Line, Part};
+use pcef_filter::{Filter, Place, PortRange};
+
+/// Where the marks of a line stand: its bit, in the words from one on.
+#[derive(Clone, Copy)]
+pub(crate) struct Spot {
+    /// The word of the first cell.
+    pub at: usize,
+    /// The bit, 0 to 63.
+    pub bit: u32,
+}
+
+fn mark(words: &mut [u64], spot: Spot, cells: Cells)
+    requires bit { spot.bit < 64 }
+    requires within { spot.at + 2305 < length words.old }
+    requires few { cells.last ≤ 2305 }
+    ensures { Marks words.old words.new spot.at spot.bit (λ k. is_in k cells) }
+{
+    for cell in usize::from(cells.first)..usize::from(cells.last) + 1 {
+        words[spot.at + cell] |= 1 << spot.bit;
+    }
+}
+
+fn mark_place(words: &mut [u64], spot: Spot, place: &Place)
+    requires bit { spot.bit < 64 }
+    requires within { spot.at + 2305 < length words.old }
+    ensures { Marks words.old words.new spot.at spot.bit (place_passes place.now) }
+{
+    mark(words, spot, place_cells(256, 24, place));
+    mark(words, spot, place_cells(512, 16, place));
+    mark(words, spot, place_cells(768, 8, place));
+    mark(words, spot, place_cells(1024, 0, place));
+}
+
+fn mark_ports(words: &mut [u64], spot: Spot, half: Half, base: u16, ranges: &[PortRange])
+    requires bit { spot.bit < 64 }
+    requires within { spot.at + 2305 < length words.old }
+    requires low { base ≤ 2048 }
+    ensures { Marks words.old words.new spot.at spot.bit (ports_pass half base ranges.now) }
+{
+    if ranges.is_empty() {
+        mark(words, spot, all_octets(base));
+    } else {
+        mark_ranges(words, spot, half, base, ranges);
+    }
+}
+
+fn mark_ranges(words: &mut [u64], spot: Spot, half: Half, base: u16, ranges: &[PortRange])
+    requires bit { spot.bit < 64 }
+    requires within { spot.at + 2305 < length words.old }
+    requires low { base ≤ 2048 }
+    ensures { Marks words.old words.new spot.at spot.bit (ranges_pass half base ranges.now) }
+{
+    for range in ranges {
+        mark(words, spot, range_cells(half, base, range));
+    }
+}
+
+fn mark_filter(words: &mut [u64], spot: Spot, filter: &Filter)
+    requires bit { spot.bit < 64 }
+    requires within { spot.at + 2305 < length words.old }
+    ensures { Marks words.old words.new spot.at spot.bit (filter_passes filter.now) }
+{
+    let remote = remote_end(filter);
+    let local = local_end(filter);
+    mark(words, spot, way_cells(filter));
+    mark(words, spot, proto_cells(filter.proto));
+    mark_place(words, spot, &remote.place);
+    mark_ports(words, spot, Half::High, REMOTE_HIGH, &remote.ports);
+    mark_ports(words, spot, Half::Low, REMOTE_LOW, &remote.ports);
+    mark_ports(words, spot, Half::High, LOCAL_HIGH, &local.ports);
+    mark_ports(words, spot, Half::Low, LOCAL_LOW, &local.ports);
+}
+
+/// Marks a line at each cell that it lets pass.
+pub(crate) fn mark_line(words: &mut [u64], spot: Spot, line: &Line)
+    requires bit { spot.bit < 64 }
+    requires within { spot.at + 2305 < length words.old }
+    ensures { Marks words.old words.new spot.at spot.bit (line_passes line.now) }
+{
+    match &line.part {
+        Part::Filter(filter) => mark_filter(words, spot, filter),
+        Part::Offer(_) => mark(
+            words,
+            spot,
+            Cells {
+                first: 0,
+                last: DOWNLINK,
+            },
+        ),
+    }
+}
