@@ -1,0 +1,51 @@
+//! Shares of the ten ledgers.
+
+ghost use Rattle.std.specs.Prelude.{◌≡◌};
+
+use crate::naming::{Naming, Of};
+use crate::tally::Part;
+use std::marker::Model;
+
+/// A share of each ledger of a session, with what was added to it. Contracts see ten amounts: of slots
+/// 0 to 7, of the rows and of the commands. A share that is let go is missing for good.
+#[derive(Drop)]
+pub struct Shares<N: Naming> {
+    pub(crate) slot0: Part<Of<N, 0>>,
+    pub(crate) slot1: Part<Of<N, 1>>,
+    pub(crate) slot2: Part<Of<N, 2>>,
+    pub(crate) slot3: Part<Of<N, 3>>,
+    pub(crate) slot4: Part<Of<N, 4>>,
+    pub(crate) slot5: Part<Of<N, 5>>,
+    pub(crate) slot6: Part<Of<N, 6>>,
+    pub(crate) slot7: Part<Of<N, 7>>,
+    pub(crate) rows: Part<Of<N, 8>>,
+    pub(crate) commands: Part<Of<N, 9>>,
+}
+
+impl<N: Naming> Model for Shares<N> {
+    ghost use Rattle.std.specs.Prelude.{ℕ, List, [], ◌∷◌};
+
+    ghost Value = { List ℕ };
+
+    ghost view = { λ s. s.slot0 ∷ s.slot1 ∷ s.slot2 ∷ s.slot3 ∷ s.slot4 ∷ s.slot5 ∷ s.slot6 ∷ s.slot7 ∷ s.rows ∷ s.commands ∷ [] };
+}
+
+impl<N: Naming> Shares<N> {
+    /// What was added to this share of each ledger: octets of slots 0 to 7, rows, commands.
+    pub fn amounts(&self) -> [u64; 10]
+        ensures { result ≡ self.now }
+    {
+        [
+            self.slot0.amount(),
+            self.slot1.amount(),
+            self.slot2.amount(),
+            self.slot3.amount(),
+            self.slot4.amount(),
+            self.slot5.amount(),
+            self.slot6.amount(),
+            self.slot7.amount(),
+            self.rows.amount(),
+            self.commands.amount(),
+        ]
+    }
+}

@@ -1,0 +1,189 @@
+//! The tallies of the ten ledgers, which move together.
+
+ghost use Rattle.std.specs.Prelude.{◌≡◌, ◌+◌, ◌<◌, ◌≤◌, ◌^◌, slice_index};
+ghost use Rattle.pcef_share.specs.Amounts.{zeros, added, plus};
+ghost use Rattle.pcef_share.specs.Names.{name_at};
+
+use crate::blanks::Blanks;
+use crate::naming::{Naming, Of};
+use crate::shares::Shares;
+use crate::tally::Tally;
+use std::marker::Model;
+
+/// A tally of each ledger. All of them keep equally many parts.
+#[derive(Drop)]
+pub struct Tallies<N: Naming> {
+    slot0: Tally<Of<N, 0>>,
+    slot1: Tally<Of<N, 1>>,
+    slot2: Tally<Of<N, 2>>,
+    slot3: Tally<Of<N, 3>>,
+    slot4: Tally<Of<N, 4>>,
+    slot5: Tally<Of<N, 5>>,
+    slot6: Tally<Of<N, 6>>,
+    slot7: Tally<Of<N, 7>>,
+    rows: Tally<Of<N, 8>>,
+    commands: Tally<Of<N, 9>>,
+}
+
+impl<N: Naming> Model for Tallies<N> {
+    ghost use Rattle.std.specs.Prelude.{◌≡◌, [], ◌∷◌};
+    ghost use Rattle.pcef_share.specs.private.Standings.{Standings};
+
+    ghost Value = { Standings };
+
+    ghost view = { λ t. record { totals = t.slot0.total ∷ t.slot1.total ∷ t.slot2.total ∷ t.slot3.total ∷ t.slot4.total ∷ t.slot5.total ∷ t.slot6.total ∷ t.slot7.total ∷ t.rows.total ∷ t.commands.total ∷ []; parts = t.slot0.parts; amounts = t.slot0.amount ∷ t.slot1.amount ∷ t.slot2.amount ∷ t.slot3.amount ∷ t.slot4.amount ∷ t.slot5.amount ∷ t.slot6.amount ∷ t.slot7.amount ∷ t.rows.amount ∷ t.commands.amount ∷ [] } };
+
+    ghost invariant = { λ t. (t.slot0.parts ≡ t.slot0.parts) × (t.slot1.parts ≡ t.slot0.parts) × (t.slot2.parts ≡ t.slot0.parts) × (t.slot3.parts ≡ t.slot0.parts) × (t.slot4.parts ≡ t.slot0.parts) × (t.slot5.parts ≡ t.slot0.parts) × (t.slot6.parts ≡ t.slot0.parts) × (t.slot7.parts ≡ t.slot0.parts) × (t.rows.parts ≡ t.slot0.parts) × (t.commands.parts ≡ t.slot0.parts) };
+}
+
+impl<N: Naming> Tallies<N> {
+    /// Books with nothing in them, and all parts of their ledgers.
+    pub fn new(blanks: Blanks) -> Tallies<N>
+        requires { N.ledger ≡ name_at blanks }
+        ensures { result ≡ record { totals = zeros; parts = 17; amounts = zeros } }
+    {
+        let Blanks {
+            slot0,
+            slot1,
+            slot2,
+            slot3,
+            slot4,
+            slot5,
+            slot6,
+            slot7,
+            rows,
+            commands,
+        } = blanks;
+        Tallies {
+            slot0: Tally::new(slot0),
+            slot1: Tally::new(slot1),
+            slot2: Tally::new(slot2),
+            slot3: Tally::new(slot3),
+            slot4: Tally::new(slot4),
+            slot5: Tally::new(slot5),
+            slot6: Tally::new(slot6),
+            slot7: Tally::new(slot7),
+            rows: Tally::new(rows),
+            commands: Tally::new(commands),
+        }
+    }
+
+    /// What was added to each book.
+    pub fn totals(&self) -> [u64; 10]
+        ensures { result ≡ self.now.totals }
+    {
+        [
+            self.slot0.total(),
+            self.slot1.total(),
+            self.slot2.total(),
+            self.slot3.total(),
+            self.slot4.total(),
+            self.slot5.total(),
+            self.slot6.total(),
+            self.slot7.total(),
+            self.rows.total(),
+            self.commands.total(),
+        ]
+    }
+
+    /// A share with nothing added to it, and one part less here.
+    pub fn issue(&mut self) -> Shares<N>
+        requires { (0 < self.old.parts) × (self.old.amounts ≡ zeros) }
+        ensures shares { result ≡ zeros }
+        ensures tallies { (self.new.totals ≡ self.old.totals) × (self.new.parts + 1 ≡ self.old.parts) × (self.new.amounts ≡ zeros) }
+    {
+        Shares {
+            slot0: self.slot0.issue(),
+            slot1: self.slot1.issue(),
+            slot2: self.slot2.issue(),
+            slot3: self.slot3.issue(),
+            slot4: self.slot4.issue(),
+            slot5: self.slot5.issue(),
+            slot6: self.slot6.issue(),
+            slot7: self.slot7.issue(),
+            rows: self.rows.issue(),
+            commands: self.commands.issue(),
+        }
+    }
+
+    /// Adds to the share and to the book of one ledger.
+    pub fn add(&mut self, shares: &mut Shares<N>, ledger: u8, amount: u64)
+        requires ledger { ledger < 10 }
+        requires fits { slice_index self.old.totals ledger + amount < 2 ^ 64 }
+        ensures shares { shares.new ≡ plus shares.old ledger amount }
+        ensures totals { self.new ≡ record self.old { totals = plus self.old.totals ledger amount } }
+    {
+        match ledger {
+            0 => self.slot0.add(&mut shares.slot0, amount),
+            1 => self.slot1.add(&mut shares.slot1, amount),
+            2 => self.slot2.add(&mut shares.slot2, amount),
+            3 => self.slot3.add(&mut shares.slot3, amount),
+            4 => self.slot4.add(&mut shares.slot4, amount),
+            5 => self.slot5.add(&mut shares.slot5, amount),
+            6 => self.slot6.add(&mut shares.slot6, amount),
+            7 => self.slot7.add(&mut shares.slot7, amount),
+            8 => self.rows.add(&mut shares.rows, amount),
+            _ => self.commands.add(&mut shares.commands, amount),
+        }
+    }
+
+    /// A share comes back, with what was added to it.
+    pub fn take_back(&mut self, shares: Shares<N>)
+        ensures tallies { self.new ≡ record { totals = self.old.totals; parts = self.old.parts + 1; amounts = added self.old.amounts shares } }
+        ensures bound { self.new.parts ≤ 17 }
+    {
+        let Shares {
+            slot0,
+            slot1,
+            slot2,
+            slot3,
+            slot4,
+            slot5,
+            slot6,
+            slot7,
+            rows,
+            commands,
+        } = shares;
+        self.slot0.take_back(slot0);
+        self.slot1.take_back(slot1);
+        self.slot2.take_back(slot2);
+        self.slot3.take_back(slot3);
+        self.slot4.take_back(slot4);
+        self.slot5.take_back(slot5);
+        self.slot6.take_back(slot6);
+        self.slot7.take_back(slot7);
+        self.rows.take_back(rows);
+        self.commands.take_back(commands);
+    }
+
+    /// The totals where all parts are here: they are what was added to them.
+    pub fn close(self) -> [u64; 10]
+        requires { self.parts ≡ 17 }
+        ensures { (result ≡ self.totals) × (result ≡ self.amounts) }
+    {
+        let Tallies {
+            slot0,
+            slot1,
+            slot2,
+            slot3,
+            slot4,
+            slot5,
+            slot6,
+            slot7,
+            rows,
+            commands,
+        } = self;
+        [
+            slot0.close(),
+            slot1.close(),
+            slot2.close(),
+            slot3.close(),
+            slot4.close(),
+            slot5.close(),
+            slot6.close(),
+            slot7.close(),
+            rows.close(),
+            commands.close(),
+        ]
+    }
+}

@@ -1,0 +1,111 @@
+//! A ledger's book and a part of it, each beside the number that it stands for.
+
+ghost use Rattle.std.specs.Prelude.{◌≡◌, ℕ, ◌+◌, ◌<◌, ◌≤◌, ◌^◌};
+ghost use Rattle.pcef_share.specs.private.Standings.{Standing};
+
+use std::marker::Model;
+use std::sync::ledger::{Blank, Book, Ledger, Share};
+
+/// One part of a ledger, and what was added to it. Contracts see it as that number.
+#[derive(Drop)]
+pub struct Part<L: Ledger> {
+    amount: u64,
+    share: Share<L>,
+}
+
+impl<L: Ledger> Model for Part<L> {
+    ghost Value = { ℕ };
+
+    ghost view = { λ p. p.amount };
+
+    ghost invariant = { λ p. (p.share.parts ≡ 1) × (p.share.amount ≡ p.amount) };
+}
+
+/// The book of a ledger beside its total, with the parts that were not given out or came back.
+#[derive(Drop)]
+pub struct Tally<L: Ledger> {
+    total: u64,
+    book: Book<L>,
+    kept: Share<L>,
+}
+
+impl<L: Ledger> Model for Tally<L> {
+    ghost Value = { Standing };
+
+    ghost view = { λ t. record { total = t.total; parts = t.kept.parts; amount = t.kept.amount } };
+
+    ghost invariant = { λ t. t.total ≡ t.book.total };
+}
+
+impl<L: Ledger> Part<L> {
+    /// What was added to this part.
+    pub fn amount(&self) -> u64
+        ensures { result ≡ self.now }
+    {
+        self.amount
+    }
+}
+
+impl<L: Ledger> Tally<L> {
+    /// A book with nothing in it, and all the parts of its ledger.
+    pub fn new(blank: Blank) -> Tally<L>
+        requires { (blank.name ≡ L.name) × (blank.parts ≡ L.parts) }
+        ensures { result ≡ record { total = 0; parts = L.parts; amount = 0 } }
+    {
+        let (book, kept) = blank.open::<L>();
+        Tally {
+            total: 0,
+            book,
+            kept,
+        }
+    }
+
+    /// What was added to all parts.
+    pub fn total(&self) -> u64
+        ensures { result ≡ self.now.total }
+    {
+        self.total
+    }
+
+    /// One part less here, with nothing added to it.
+    pub fn issue(&mut self) -> Part<L>
+        requires { (0 < self.old.parts) × (self.old.amount ≡ 0) }
+        ensures part { result ≡ 0 }
+        ensures tally { (self.new.total ≡ self.old.total) × (self.new.parts + 1 ≡ self.old.parts) × (self.new.amount ≡ 0) }
+    {
+        Part {
+            amount: 0,
+            share: self.kept.split_off(1, 0),
+        }
+    }
+
+    /// Adds to a part and to the total.
+    pub fn add(&mut self, part: &mut Part<L>, amount: u64)
+        requires { self.old.total + amount < 2 ^ 64 }
+        ensures part { part.new ≡ part.old + amount }
+        ensures tally { self.new ≡ record self.old { total = self.old.total + amount } }
+    {
+        self.book.audit(&mut part.share);
+        self.book.add(&mut part.share, amount);
+        part.amount += amount;
+        self.total += amount;
+    }
+
+    /// A part comes back, with what was added to it.
+    pub fn take_back(&mut self, part: Part<L>)
+        ensures tally { self.new ≡ record { total = self.old.total; parts = self.old.parts + 1; amount = self.old.amount + part } }
+        ensures bound { self.new.parts ≤ L.parts }
+    {
+        let Part { amount: _, share } = part;
+        self.kept.merge(share);
+    }
+
+    /// The total where all parts are here: it is what was added to them.
+    pub fn close(mut self) -> u64
+        requires { self.parts ≡ L.parts }
+        ensures { (result ≡ self.total) × (result ≡ self.amount) }
+    {
+        self.book.audit(&mut self.kept);
+        self.total
+    }
+}
