@@ -1,0 +1,73 @@
+//! Tables beside their history.
+
+ghost use Rattle.std.specs.Prelude.{◌≡◌, ◌+◌, length, IfOk, MatchBool};
+ghost use mathlib.Core.List.{IsPrefix};
+ghost use Rattle.std.specs.Arc.{arc_value};
+ghost use Rattle.pcef_table.specs.Tables.{IsTable};
+ghost use Rattle.pcef_publish.specs.Lists.{Ends, IsLonger, IsSeen};
+
+use crate::front::Front;
+use pcef_share::Naming;
+use pcef_table::Table;
+use std::alloc::AllocError;
+use std::marker::Model;
+use std::sync::Arc;
+
+/// A table with the history that ends with it. Contracts see it as that list.
+#[derive(Drop)]
+pub struct Entry<N: Naming> {
+    table: Arc<Table>,
+    pub front: Front<N>,
+}
+
+impl<N: Naming> Model for Entry<N> {
+    ghost use Rattle.std.specs.Prelude.{List};
+    ghost use Rattle.std.specs.Arc.{arc_value};
+    ghost use Rattle.pcef_table.specs.Tables.{TableValue};
+    ghost use Rattle.pcef_publish.specs.Lists.{Ends};
+
+    ghost Value = { List TableValue };
+
+    ghost view = { λ e. e.front };
+
+    ghost invariant = { λ e. Ends e.front (arc_value e.table) };
+}
+
+impl<N: Naming> Entry<N> {
+    pub fn new(table: Arc<Table>, front: Front<N>) -> Entry<N>
+        requires { Ends front (arc_value table) }
+        ensures { result ≡ front }
+    {
+        Entry { table, front }
+    }
+
+    /// A copy.
+    pub fn again(&self) -> Result<Entry<N>, AllocError>
+        ensures { IfOk result (λ e. e ≡ self.now) }
+    {
+        Ok(Entry {
+            table: Arc::try_clone(&self.table)?,
+            front: self.front.again(),
+        })
+    }
+
+    /// Whether the other goes on from here. If not, it begins this one.
+    pub fn begins(&self, other: &Entry<N>) -> bool
+        ensures { MatchBool result (IsPrefix self.now other.now) (IsLonger other.now self.now) }
+    {
+        self.front.begins(&other.front)
+    }
+
+    /// The table and its generation.
+    #[tactic(auto, using(crate::proofs::Runs::run_length, crate::proofs::Runs::run_seen, crate::proofs::Runs::run_table))]
+    pub fn current(&self) -> (u32, &Arc<Table>)
+        ensures number { result.0 ≡ (arc_value result.1.now).number }
+        ensures last { Ends self.now (arc_value result.1.now) }
+        ensures count { result.0 + 1 ≡ N.first + length self.now }
+        ensures seen { IsSeen N.first self.now result.0 (arc_value result.1.now) }
+        ensures table { IsTable N.setting.catalog (arc_value result.1.now).entries }
+    {
+        let _len = self.front.len();
+        (self.table.generation(), &self.table)
+    }
+}

@@ -1,0 +1,221 @@
+//! The history of published tables, and beginnings of it.
+
+ghost use Rattle.std.specs.Prelude.{◌≡◌, ◌+◌, ◌<◌, ◌++◌, ◌∷◌, [], length, MatchBool};
+ghost use mathlib.Core.List.{IsPrefix};
+ghost use Rattle.std.specs.Arc.{arc_value};
+ghost use Rattle.logbook.specs.Pages.{may_write};
+ghost use Rattle.pcef_table.specs.Tables.{IsTable};
+ghost use Rattle.pcef_publish.specs.Lists.{IsRun, IsLonger};
+ghost use Rattle.pcef_publish.specs.private.Chains.{head_of, items_of, word_of};
+
+use crate::entry::Entry;
+use crate::rule::{Add, Ask, Check, Draw, Law, Note, Nothing};
+use logbook::{Offer, Pen, Seen, Start, Word};
+use pcef_share::Naming;
+use pcef_table::Table;
+use std::marker::{Brand, Model, PhantomData};
+use std::sync::Arc;
+
+// A pen that may write a cell which is not at home.
+fn draw(word: &Word<Note, u64, Law>, seen: &Seen<Note, u64, Law>, item: &Table) -> Pen
+    requires { word.now ≡ word_of seen.now.book }
+    ensures { (result.book ≡ seen.now.book) × (result.nib.right ≡ may_write) }
+{
+    let mut pen = seen.no_pen();
+    let mut look = seen.again();
+    let by = seen.no_pen();
+    let ask = Ask {
+        item,
+        by: &by,
+        next: &by,
+    };
+    let mut offer: Offer<Note, u64, Law, Nothing> = look.plain::<Nothing, Ask<'_>, Add<Brand>>(
+        &ask,
+    );
+    word.compare_exchange::<Draw, Nothing>(0, 0, &mut look, &mut offer, &mut pen);
+    let _made: Word<Note, u64, Law> = Word::tracked(0, &mut pen);
+    pen
+}
+
+/// A history with no table in it, the first table, and the right to add it. It has no name yet.
+#[derive(Drop)]
+pub struct Opened {
+    word: Word<Note, u64, Law>,
+    pub seen: Seen<Note, u64, Law>,
+    pub pen: Pen,
+    pub table: Arc<Table>,
+    ghost none: { seen.log ≡ [] },
+    ghost word_is: { word ≡ word_of seen.book },
+    ghost pen_is: { (pen.book ≡ seen.book) × (pen.nib.right ≡ may_write) },
+}
+
+impl Opened {
+    /// A history that begins with this table, once it has a name. Takes no memory of its own.
+    pub fn new(table: Arc<Table>) -> Opened
+        ensures { result.table ≡ table }
+    {
+        let (seen, mut first, _second) = Seen::open(Start::alone(), 0, 0);
+        let word = Word::tracked(0, &mut first);
+        let pen = draw(&word, &seen, &table);
+        Opened {
+            word,
+            seen,
+            pen,
+            table,
+        }
+    }
+
+    /// The author under a name, and the first table with its history.
+    pub fn named<N: Naming>(self) -> (Author<N>, Entry<N>)
+        requires book { (self.seen.book ≡ N.book) × (self.pen.nib.key ≡ N.root) }
+        requires first { (arc_value self.table).number ≡ N.first }
+        requires table { IsTable N.setting.catalog (arc_value self.table).entries }
+        ensures { (result.0 ≡ arc_value self.table ∷ []) × (result.1 ≡ arc_value self.table ∷ []) }
+    {
+        let Opened {
+            word,
+            seen,
+            pen,
+            table,
+        } = self;
+        let mut author = Author {
+            word,
+            pen,
+            len: 0,
+            seen,
+            of: PhantomData,
+        };
+        author.add(&table);
+        let front = author.front();
+        (author, Entry::new(table, front))
+    }
+}
+
+/// The one who adds to the history. Contracts see it as all its tables.
+#[derive(Drop)]
+pub struct Author<N: Naming> {
+    word: Word<Note, u64, Law>,
+    pen: Pen,
+    len: u64,
+    seen: Seen<Note, u64, Law>,
+    of: PhantomData<N>,
+}
+
+impl<N: Naming> Model for Author<N> {
+    ghost use Rattle.std.specs.Prelude.{◌≡◌, List, length};
+    ghost use Rattle.logbook.specs.Pages.{may_write};
+    ghost use Rattle.pcef_table.specs.Tables.{TableValue};
+    ghost use Rattle.pcef_publish.specs.Lists.{IsRun};
+    ghost use Rattle.pcef_publish.specs.private.Chains.{head_of, items_of, word_of};
+
+    ghost Value = { List TableValue };
+
+    ghost view = { λ a. items_of N.root a.seen.log };
+
+    ghost invariant = { λ a. (a.word ≡ word_of N.book) × (a.seen.book ≡ N.book) × (a.pen.book ≡ N.book) × (a.pen.nib.right ≡ may_write) × (a.pen.nib.key ≡ head_of N.root a.seen.log) × (a.len ≡ length (items_of N.root a.seen.log)) × IsRun N.setting.catalog N.first (items_of N.root a.seen.log) };
+}
+
+impl<N: Naming> Author<N> {
+    /// The whole history.
+    pub fn front(&self) -> Front<N>
+        ensures { result ≡ self.now }
+    {
+        Front {
+            len: self.len,
+            seen: self.seen.again(),
+            of: PhantomData,
+        }
+    }
+
+    /// Adds a table to all that there are. It can't fail.
+    pub fn add(&mut self, table: &Table)
+        requires number { table.now.number ≡ N.first + length self.old }
+        requires table { IsTable N.setting.catalog table.now.entries }
+        ensures { self.new ≡ self.old ++ table.now ∷ [] }
+    {
+        let _generation = table.generation();
+        let next = draw(&self.word, &self.seen, table);
+        let ask = Ask {
+            item: table,
+            by: &self.pen,
+            next: &next,
+        };
+        let mut offer: Offer<Note, u64, Law, Nothing> = self
+            .seen
+            .plain::<Nothing, Ask<'_>, Add<N>>(&ask);
+        self.word
+            .compare_exchange::<Add<N>, Nothing>(0, 0, &mut self.seen, &mut offer, &mut self.pen);
+        self.pen = next;
+        self.len += 1;
+    }
+
+    /// Shows that a front is a beginning of the whole. It can't fail.
+    pub fn knows(&mut self, front: &Front<N>, table: &Table)
+        ensures same { self.new ≡ self.old }
+        ensures begins { IsPrefix front.now self.old }
+    {
+        let ask = Ask {
+            item: table,
+            by: &self.pen,
+            next: &self.pen,
+        };
+        let mut both = self.seen.again();
+        both.learn(&front.seen);
+        let mut offer: Offer<Note, u64, Law, Nothing> = both.plain::<Nothing, Ask<'_>, Add<N>>(
+            &ask,
+        );
+        self.word
+            .compare_exchange::<Check, Nothing>(0, 0, &mut both, &mut offer, &mut self.pen);
+    }
+}
+
+/// A beginning of the history. Contracts see it as its tables.
+#[derive(Drop)]
+pub struct Front<N: Naming> {
+    len: u64,
+    seen: Seen<Note, u64, Law>,
+    of: PhantomData<N>,
+}
+
+impl<N: Naming> Model for Front<N> {
+    ghost use Rattle.std.specs.Prelude.{◌≡◌, List, length};
+    ghost use Rattle.pcef_table.specs.Tables.{TableValue};
+    ghost use Rattle.pcef_publish.specs.Lists.{IsRun};
+    ghost use Rattle.pcef_publish.specs.private.Chains.{items_of};
+
+    ghost Value = { List TableValue };
+
+    ghost view = { λ f. items_of N.root f.seen.log };
+
+    ghost invariant = { λ f. (f.len ≡ length (items_of N.root f.seen.log)) × (f.seen.book ≡ N.book) × IsRun N.setting.catalog N.first (items_of N.root f.seen.log) };
+}
+
+impl<N: Naming> Front<N> {
+    /// How many tables it has.
+    pub fn len(&self) -> u64
+        ensures length { result ≡ length self.now }
+        ensures run { IsRun N.setting.catalog N.first self.now }
+    {
+        self.len
+    }
+
+    /// A copy.
+    pub fn again(&self) -> Front<N>
+        ensures { result ≡ self.now }
+    {
+        Front {
+            len: self.len,
+            seen: self.seen.again(),
+            of: PhantomData,
+        }
+    }
+
+    /// Whether the other goes on from here. If not, it begins this one.
+    pub fn begins(&self, other: &Front<N>) -> bool
+        ensures { MatchBool result (IsPrefix self.now other.now) (IsLonger other.now self.now) }
+    {
+        let mut both = self.seen.again();
+        both.learn(&other.seen);
+        self.len <= other.len
+    }
+}

@@ -1,0 +1,186 @@
+//! The one who publishes the tables of a session's generations.
+
+ghost use Rattle.std.specs.Prelude.{◌≡◌, ◌+◌, ◌^◌, ◌<◌, [], ◌∷◌, ◌++◌, length, All, IfOk, MatchResult};
+ghost use mathlib.Core.List.{IsPrefix};
+ghost use Rattle.std.specs.Arc.{arc_value};
+ghost use Rattle.pcef_table.specs.Tables.{IsTable};
+ghost use Rattle.pcef_publish.specs.Lists.{IsRun, Ends};
+
+use crate::entry::Entry;
+use crate::front::{Author, Front, Opened};
+use crate::shown::{Board, Shown, Slot, Writer};
+use crate::subscriber::Subscriber;
+use left_right::WriteHandle;
+use pcef_share::Naming;
+use pcef_table::Table;
+use std::alloc::{AllocError, Global};
+use std::marker::Model;
+use std::sync::{Arc, OnceLock, Wait};
+
+/// Why a table was not published, or a publication did not begin.
+#[derive(Drop, Debug, Clone, Copy, PartialEq, Eq)]
+pub enum PublishFault {
+    /// The board gave no reader.
+    ReaderRefused,
+    /// A growth was refused.
+    NoMemory,
+}
+
+/// Publishes the tables of a session's generations, one after the other. Contracts see the list of the
+/// published tables. It keeps the allocator that it was made with.
+#[derive(Drop)]
+pub struct Publisher<N: Naming, W: Board<Slot<N>> + Drop> {
+    alloc: Global,
+    author: Author<N>,
+    newest: Entry<N>,
+    board: W,
+}
+
+impl<N: Naming, W: Board<Slot<N>> + Drop> Model for Publisher<N, W> {
+    ghost use Rattle.std.specs.Prelude.{List, ◌≡◌};
+    ghost use Rattle.pcef_table.specs.Tables.{TableValue};
+
+    ghost Value = { List TableValue };
+
+    ghost view = { λ p. p.newest };
+
+    ghost invariant = { λ p. p.author ≡ p.newest };
+}
+
+fn seat<N: Naming, R: Wait + Drop>(
+    writer: &Writer<N, R>,
+    newest: &Entry<N>,
+) -> Result<Subscriber<N>, PublishFault>
+    ensures { IfOk result (λ s. s ≡ newest.now) }
+{
+    let Ok(held) = newest.again() else {
+        return Err(PublishFault::NoMemory);
+    };
+    let Ok(reader) = writer.handle() else {
+        return Err(PublishFault::ReaderRefused);
+    };
+    Ok(Subscriber::new(reader, held))
+}
+
+fn seat_all<N: Naming, R: Wait + Drop>(
+    alloc: Global,
+    writer: &Writer<N, R>,
+    newest: &Entry<N>,
+    places: usize,
+) -> Result<Vec<Subscriber<N>>, PublishFault>
+    ensures newest { IfOk result (λ v. All (λ s. s ≡ newest.now) v.items) }
+    ensures many { IfOk result (λ v. length v.items ≡ places) }
+{
+    let mut subscribers = Vec::new(alloc);
+    for place in 0..places {
+        let subscriber = seat(writer, newest)?;
+        if subscribers.push(subscriber).is_err() {
+            return Err(PublishFault::NoMemory);
+        }
+    }
+    Ok(subscribers)
+}
+
+// A place with the first entry, twice.
+fn first_slots<N: Naming>(
+    alloc: Global,
+    newest: &Entry<N>,
+) -> Result<(Shown<N>, Shown<N>), AllocError>
+    ensures { IfOk result (λ r. arc_value r.0.slot ≡ arc_value r.1.slot) }
+{
+    let slot = Arc::new(alloc, OnceLock::new())?;
+    let _ = slot.try_set(newest.again()?);
+    let second = Arc::try_clone(&slot)?;
+    Ok((Shown { slot }, Shown { slot: second }))
+}
+
+impl<N: Naming, R: Wait + Drop> Publisher<N, Writer<N, R>> {
+    /// A publisher whose list is the one table of the opened history, and as many subscribers as there
+    /// are places, at least one, each of which holds that table. The name stands for the opened history,
+    /// and the table is over the name's catalog. Takes memory. A fault tells that there was none, or
+    /// that the board gave no reader; the opened history is then lost. May wait for readers.
+    pub fn new(
+        rt: R,
+        alloc: Global,
+        opened: Opened,
+        places: usize,
+    ) -> Result<(Publisher<N, Writer<N, R>>, Vec<Subscriber<N>>), PublishFault>
+        requires places { (0 < places) × (places < 2 ^ 32) }
+        requires book { (opened.seen.book ≡ N.book) × (opened.pen.nib.key ≡ N.root) }
+        requires first { (arc_value opened.table).number ≡ N.first }
+        requires table { IsTable N.setting.catalog (arc_value opened.table).entries }
+        ensures list { IfOk result (λ r. (r.0 ≡ arc_value opened.table ∷ []) × All (λ s. s ≡ arc_value opened.table ∷ []) r.1.items) }
+        ensures many { IfOk result (λ r. length r.1.items ≡ places) }
+    {
+        let (author, newest) = opened.named::<N>();
+        let Ok((first, second)) = first_slots(alloc, &newest) else {
+            return Err(PublishFault::NoMemory);
+        };
+        let Ok(writer) = WriteHandle::new(alloc, rt, first, second, places) else {
+            return Err(PublishFault::NoMemory);
+        };
+        let subscribers = seat_all(alloc, &writer, &newest, places)?;
+        let publisher = Publisher {
+            alloc,
+            author,
+            newest,
+            board: writer,
+        };
+        Ok((publisher, subscribers))
+    }
+}
+
+impl<N: Naming, W: Board<Slot<N>> + Drop> Publisher<N, W> {
+    pub(crate) fn newest(&self) -> &Entry<N>
+        ensures { result.now ≡ self.now }
+    {
+        &self.newest
+    }
+
+    /// The generation of the newest published table. Neither waits nor takes memory.
+    pub fn generation(&self) -> u32
+        ensures { result + 1 ≡ N.first + length self.now }
+    {
+        self.newest.current().0
+    }
+
+    /// Shows that a front is a beginning of what is published.
+    pub(crate) fn knows(&mut self, front: &Front<N>)
+        ensures same { self.new ≡ self.old }
+        ensures begins { IsPrefix front.now self.old }
+    {
+        let (_generation, table) = self.newest.current();
+        self.author.knows(front, table);
+    }
+
+    // Shows readers an empty place. All that can be refused is done then.
+    fn open(&mut self) -> Result<Slot<N>, AllocError>
+        ensures { self.new ≡ self.old }
+    {
+        let slot = Arc::new(self.alloc, OnceLock::new())?;
+        let shown = Arc::try_clone(&slot)?;
+        self.board.show(shown)?;
+        Ok(slot)
+    }
+
+    /// Adds the next table to the list, or leaves the list as it was where there is no memory. The table
+    /// is over the name's catalog, and its generation is one above the last published one. May wait for
+    /// readers to leave.
+    pub fn publish(&mut self, table: Arc<Table>) -> Result<(), PublishFault>
+        requires number { (arc_value table).number ≡ N.first + length self.old }
+        requires table { IsTable N.setting.catalog (arc_value table).entries }
+        ensures { MatchResult result (λ _. self.new ≡ self.old ++ arc_value table ∷ []) (λ _. self.new ≡ self.old) }
+    {
+        let Ok(second) = Arc::try_clone(&table) else {
+            return Err(PublishFault::NoMemory);
+        };
+        let Ok(slot) = self.open() else {
+            return Err(PublishFault::NoMemory);
+        };
+        self.author.add(&table);
+        let front = self.author.front();
+        let _ = slot.try_set(Entry::new(second, front.again()));
+        self.newest = Entry::new(table, front);
+        Ok(())
+    }
+}

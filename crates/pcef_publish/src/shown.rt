@@ -1,0 +1,52 @@
+//! What readers find on the board.
+
+ghost use Rattle.std.specs.Arc.{arc_value};
+
+use crate::entry::Entry;
+use left_right::{Absorb, WriteHandle};
+use pcef_share::Naming;
+use std::alloc::AllocError;
+use std::sync::{Arc, OnceLock, Wait};
+
+/// A place for an entry. It is empty until the entry stands in the history.
+pub type Slot<N> = Arc<OnceLock<Entry<N>>>;
+
+/// What readers take: the newest place.
+#[derive(Drop)]
+pub struct Shown<N: Naming> {
+    pub slot: Slot<N>,
+}
+
+impl<N: Naming> Absorb<Slot<N>> for Shown<N> {
+    type State = OnceLock<Entry<N>>;
+
+    ghost state = { λ s. arc_value s.slot };
+
+    ghost applied = { λ s slot. arc_value slot };
+
+    fn absorb_first(&mut self, operation: &Slot<N>, _other: &Shown<N>) -> Result<(), AllocError> {
+        self.slot = Arc::try_clone(operation)?;
+        Ok(())
+    }
+}
+
+/// Where readers find what is newest.
+pub trait Board<O: Drop> {
+    /// What may wait for readers.
+    type Rt: Wait;
+
+    /// Readers find this from now on, or what they found before.
+    fn show(&mut self, newest: O) -> Result<(), AllocError>;
+}
+
+impl<T: Absorb<O> + Drop, O: Drop, R: Wait + Drop> Board<O> for WriteHandle<T, O, R> {
+    type Rt = R;
+
+    fn show(&mut self, newest: O) -> Result<(), AllocError> {
+        self.append(newest).map_err(|_| AllocError)?;
+        self.publish()
+    }
+}
+
+/// The writer's end of the board.
+pub type Writer<N, R> = WriteHandle<Shown<N>, Slot<N>, R>;

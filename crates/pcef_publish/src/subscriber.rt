@@ -1,0 +1,100 @@
+//! One who reads what was published.
+
+ghost use Rattle.std.specs.Prelude.{◌≡◌, ◌+◌, IfSome, IfOk, OnErr, length};
+ghost use mathlib.Core.List.{IsPrefix};
+ghost use Rattle.std.specs.Arc.{arc_value};
+ghost use Rattle.pcef_table.specs.Tables.{IsTable};
+ghost use Rattle.pcef_publish.specs.Lists.{Ends, IsSeen};
+
+use crate::entry::Entry;
+use crate::publisher::Publisher;
+use crate::shown::{Board, Shown, Slot};
+use left_right::ReadHandle;
+use pcef_share::Naming;
+use pcef_table::Table;
+use std::alloc::AllocError;
+use std::marker::Model;
+use std::sync::Arc;
+
+/// Holds a published table. Contracts see the list of tables that it has seen, of which it holds the
+/// last.
+#[derive(Drop)]
+pub struct Subscriber<N: Naming> {
+    reader: ReadHandle<Shown<N>>,
+    held: Entry<N>,
+}
+
+impl<N: Naming> Model for Subscriber<N> {
+    ghost use Rattle.std.specs.Prelude.{List};
+    ghost use Rattle.pcef_table.specs.Tables.{TableValue};
+
+    ghost Value = { List TableValue };
+
+    ghost view = { λ s. s.held };
+}
+
+// Reads once, with no lock.
+fn newer<N: Naming>(reader: &mut ReadHandle<Shown<N>>, held: &Entry<N>) -> Option<Entry<N>>
+    ensures { IfSome result (λ e. IsPrefix held.now e) }
+{
+    let guard = reader.enter()?;
+    let entry = guard.slot.get()?;
+    if entry.begins(held) {
+        return None;
+    }
+    entry.again().ok()
+}
+
+impl<N: Naming> Subscriber<N> {
+    pub(crate) fn new(reader: ReadHandle<Shown<N>>, held: Entry<N>) -> Subscriber<N>
+        ensures { result ≡ held }
+    {
+        Subscriber { reader, held }
+    }
+
+    /// The generation that is held, and its table. Neither waits nor takes memory.
+    pub fn current(&self) -> (u32, &Arc<Table>)
+        ensures number { result.0 ≡ (arc_value result.1.now).number }
+        ensures last { Ends self.now (arc_value result.1.now) }
+        ensures count { result.0 + 1 ≡ N.first + length self.now }
+        ensures seen { IsSeen N.first self.now result.0 (arc_value result.1.now) }
+        ensures table { IsTable N.setting.catalog (arc_value result.1.now).entries }
+    {
+        self.held.current()
+    }
+
+    /// Reads once, with no lock, and answers the generation that is then held, which is never older than
+    /// before. Where the board gives no reading or no copy, the table held stays.
+    pub fn refresh(&mut self) -> u32
+        ensures grows { IsPrefix self.old self.new }
+        ensures number { result + 1 ≡ N.first + length self.new }
+    {
+        if let Some(entry) = newer(&mut self.reader, &self.held) {
+            self.held = entry;
+        }
+        self.held.current().0
+    }
+
+    /// Shows that what was seen is a beginning of what is published. It changes neither.
+    pub fn compare<W: Board<Slot<N>> + Drop>(&self, publisher: &mut Publisher<N, W>)
+        ensures begins { IsPrefix self.now publisher.old }
+        ensures publisher { publisher.new ≡ publisher.old }
+    {
+        publisher.knows(&self.held.front);
+    }
+
+    /// Takes the newest table. Where a copy of it is refused for want of memory, the table held stays.
+    pub fn meet<W: Board<Slot<N>> + Drop>(
+        &mut self,
+        publisher: &mut Publisher<N, W>,
+    ) -> Result<(), AllocError>
+        ensures grows { IsPrefix self.old self.new }
+        ensures newest { IfOk result (λ _. self.new ≡ publisher.old) }
+        ensures refused { OnErr result (self.new ≡ self.old) }
+        ensures publisher { publisher.new ≡ publisher.old }
+    {
+        publisher.knows(&self.held.front);
+        self.held = publisher.newest().again()?;
+        Ok(())
+    }
+}
