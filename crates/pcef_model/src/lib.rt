@@ -9,6 +9,7 @@ mod laws;
 mod profile;
 mod report;
 mod row;
+mod step;
 mod telling;
 mod trigger;
 mod verdict;
@@ -20,6 +21,7 @@ pub use laws::{bearers_have_their_own_ids, journals_grow, usage_is_exact, waitin
 pub use profile::{MAX_CAPACITY, MAX_COMMANDS, Profile};
 pub use report::{Body, Cause, InactiveCause, Report};
 pub use row::Row;
+pub use step::Step;
 pub use telling::Telling;
 pub use trigger::{AccessKind, NoticeValue, OfNotice, TriggerSet};
 pub use verdict::Verdict;
