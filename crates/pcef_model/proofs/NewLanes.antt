@@ -1,5 +1,5 @@
 -- In every lawful journal each row is of a worker that was attached before it.
-use Rattle.std.proofs.Common.{◌≡◌, ◌<◌, ◌+◌, ℕ, true, false, not, ◌==◌, List, [], ◌∷◌, All, length, filter, refl, arith, inl, inr}
+use Rattle.std.proofs.Common.{◌≡◌, ◌≤◌, ◌<◌, ◌+◌, ℕ, true, false, not, ◌==◌, List, [], ◌∷◌, All, length, filter, refl, arith, inl, inr}
 use Rattle.std.specs.List.{list_any}
 use Rattle.std.proofs.lemmas.Bool.{cases_Bool, eqb-true, ne_eqb}
 use Rattle.std.proofs.lemmas.List.Elements.{All-cons, All-filter, All-head, All-nil, All-tail, All-weaker}
@@ -83,3 +83,9 @@ none_of n (r ∷ rs) below =
 -- the next worker has no rows yet
 pub new_lane : (p : Setting) (j : Journal) → Lawful p j → lane j (attach_count j) ≡ []
 new_lane p j l = none_of (attach_count j) (rows j) (lawful_numbered p j l).rows_below
+
+-- nor has any worker that is yet to come
+pub past_lane : (p : Setting) (j : Journal) (n : ℕ) → Lawful p j → attach_count j ≤ n → lane j n ≡ []
+past_lane p j n l past =
+    none_of n (rows j)
+    (All-weaker (λ (r : Row). r.worker < attach_count j) (λ (r : Row). r.worker < n) (λ r below. omega (arith, below, past)) (rows j) (lawful_numbered p j l).rows_below)

@@ -133,7 +133,7 @@ commanded_once p j k c is =
 -- a command that was answered
 pub commanded : (p : Setting) (c : Command) (j k : Journal) (result : Result Accepted Refusal) → Does p c j result k → Commanded p j k
 unfolding command_outcome
-commanded p c j k result (inr none) = commanded_not p j k none.1
+commanded p c j k result (inr none) = commanded_not p j k none.1.1
 commanded p c j k result (inl done) = from (first_of (refusals p j c)) done.1
   where
     from : (o : Option Refusal) → k ≡ (command_outcome_by p j c o).1 → Commanded p j k
@@ -147,7 +147,7 @@ commanded p c j k result (inl done) = from (first_of (refusals p j c)) done.1
 -- a worker comes with the next number
 pub attached_once : (j k : Journal) (number : ℕ) → Attaches j (Ok number) k → (number ≡ attach_count j) × (k ≡ after_attach j)
 unfolding attach_outcome
-attached_once j k number (inr none) = absurd (let e = none.0 in cc)
+attached_once j k number (inr none) = absurd (let e = none.1.0 in cc)
 attached_once j k number (inl done) = from (first_of (attach_faults j)) done
   where
     from : (o : Option AttachFault) → (Ok number ≡ (attach_outcome_by j o).0) × (k ≡ (attach_outcome_by j o).1) → (number ≡ attach_count j) × (k ≡ after_attach j)
@@ -157,7 +157,7 @@ attached_once j k number (inl done) = from (first_of (attach_faults j)) done
 -- or none comes
 pub attached_not : (j k : Journal) (fault : AttachFault) → Attaches j (Err fault) k → k ≡ j
 unfolding attach_outcome
-attached_not j k fault (inr none) = none.1
+attached_not j k fault (inr none) = none.1.1
 attached_not j k fault (inl done) = from (first_of (attach_faults j)) done
   where
     from : (o : Option AttachFault) → (Err fault ≡ (attach_outcome_by j o).0) × (k ≡ (attach_outcome_by j o).1) → k ≡ j
@@ -168,7 +168,7 @@ attached_not j k fault (inl done) = from (first_of (attach_faults j)) done
 pub flushed_once : (p : Setting) (worker : ℕ) (rs : List Row) (j k : Journal) (v : Told) → Flushes p worker rs j (Ok v) k →
     (first_of (flush_refusals p j worker (length rs)) ≡ None) × (k ≡ after_flush p j rs)
 unfolding flush_outcome
-flushed_once p worker rs j k v (inr none) = absurd (let e = none.0 in cc)
+flushed_once p worker rs j k v (inr none) = absurd (let e = none.1.0 in cc)
 flushed_once p worker rs j k v (inl done) = from (first_of (flush_refusals p j worker (length rs))) done
   where
     from : (o : Option FlushRefusal) → (Ok v ≡ (flush_outcome_by p j rs o).0) × (k ≡ (flush_outcome_by p j rs o).1) → (o ≡ None) × (k ≡ after_flush p j rs)
@@ -178,7 +178,7 @@ flushed_once p worker rs j k v (inl done) = from (first_of (flush_refusals p j w
 -- or none is taken over
 pub flushed_not : (p : Setting) (worker : ℕ) (rs : List Row) (j k : Journal) (r : FlushRefusal) → Flushes p worker rs j (Err r) k → k ≡ j
 unfolding flush_outcome
-flushed_not p worker rs j k r (inr none) = none.1
+flushed_not p worker rs j k r (inr none) = none.1.1
 flushed_not p worker rs j k r (inl done) = from (first_of (flush_refusals p j worker (length rs))) done
   where
     from : (o : Option FlushRefusal) → (Err r ≡ (flush_outcome_by p j rs o).0) × (k ≡ (flush_outcome_by p j rs o).1) → k ≡ j

@@ -82,6 +82,9 @@ pub record Told : Type 0 where
 abbrev pub told_of : Verdicts → Told
 told_of v = record { rows = v.rows.items; first_report = v.first_report; past_last_report = v.past_last_report }
 
+abbrev pub told_and_rows : Verdicts × ℕ → Told × ℕ
+told_and_rows v = (told_of v.0, v.1)
+
 abbrev pub told : List Row → Journal → Journal → Told
 told rows before after = record { rows = map judged_of rows; first_report = report_count before; past_last_report = report_count after }
 
@@ -107,27 +110,39 @@ abbrev pub abandon_outcome : Journal → ℕ → ℕ × Journal
 abandon_outcome j worker = (lane_len j worker, if is_attached j worker then after_leave worker j else j)
 
 -- ---- promises
--- a session opens without a fault, or the first fault is told, or memory is wanting
+-- the first fault is told, or where there is none want of memory
+abbrev pub TellsFault : {R : Type 0} → Option R → R → R → Type 0
+TellsFault first want fault = (first ≡ Some fault) ⊎ ((first ≡ None) × (fault ≡ want))
+
+-- a session opens where there is no fault
 abbrev pub Opens : Setting → Option OpenFault → Type 0
 Opens p None = first_of (open_faults p) ≡ None
-Opens p (Some f) = (first_of (open_faults p) ≡ Some f) ⊎ (f ≡ opening.NoMemory)
+Opens p (Some f) = TellsFault (first_of (open_faults p)) opening.NoMemory f
 
--- a command is refused for the first reason, or for want of memory
 abbrev pub IsRefused : Setting → Journal → Command → Refusal → Type 0
-IsRefused p j c r = (first_of (refusals p j c) ≡ Some r) ⊎ (r ≡ refusal.NoMemory)
+IsRefused p j c r = TellsFault (first_of (refusals p j c)) refusal.NoMemory r
 
 -- what was answered, and the journal after it, are as due
 abbrev pub Gives : {A R : Type 0} → Outcome A R → Result A R → Journal → Type 0
 Gives due result after = (result ≡ due.0) × (after ≡ due.1)
 
--- a command gives what is due, or meets want of memory and changes nothing
-abbrev pub Does : Setting → Command → Journal → Result Accepted Refusal → Journal → Type 0
-Does p c before result after = Gives (command_outcome p before c) result after ⊎ Gives (Err refusal.NoMemory, before) result after
+-- what is due, or where nothing refuses it want of memory, which changes nothing
+abbrev pub GivesOrLacks : {A R : Type 0} → Option R → R → Outcome A R → Journal → Result A R → Journal → Type 0
+GivesOrLacks first want due before result after =
+    Gives due result after ⊎ ((first ≡ None) × Gives (Err want, before) result after)
 
--- an attach and a flush likewise
+abbrev pub Does : Setting → Command → Journal → Result Accepted Refusal → Journal → Type 0
+Does p c before result after =
+    GivesOrLacks (first_of (refusals p before c)) refusal.NoMemory (command_outcome p before c) before result after
+
 abbrev pub Attaches : Journal → Result ℕ AttachFault → Journal → Type 0
-Attaches before result after = Gives (attach_outcome before) result after ⊎ Gives (Err attach.NoMemory, before) result after
+Attaches before result after =
+    GivesOrLacks (first_of (attach_faults before)) attach.NoMemory (attach_outcome before) before result after
 
 abbrev pub Flushes : Setting → ℕ → List Row → Journal → Result Told FlushRefusal → Journal → Type 0
 Flushes p worker rows before result after =
-    Gives (flush_outcome p before worker rows) result after ⊎ Gives (Err flush.NoMemory, before) result after
+    GivesOrLacks (first_of (flush_refusals p before worker (length rows))) flush.NoMemory (flush_outcome p before worker rows) before result after
+
+abbrev pub Finishes : Setting → ℕ → List Row → Journal → Result (Told × ℕ) FlushRefusal → Journal → Type 0
+Finishes p worker rows before result after =
+    GivesOrLacks (first_of (flush_refusals p before worker (length rows))) flush.NoMemory (finish_outcome p before worker rows) before result after

@@ -132,26 +132,34 @@ abbrev pub is_bearer : Setting → Journal → ℕ → Bool
 is_bearer p j id = list_any (λ r. (now p j).id_of r.properties.qos == id) (now p j).rules
 
 -- ---- commands
-abbrev pub refusals : Setting → Journal → Command → Conditions Refusal
-refusals p j (Install rule) =
-    common_refusals p j ++ (is_some (offer_named p rule.properties.name), refusal.NameIsPredefined) ∷ becoming_active p j rule.properties
-refusals p j (Activate name) =
-    common_refusals p j ++ (is_none (offer_named p name), refusal.UnknownRule) ∷
+-- what refuses a command whatever it asks for: Close and Terminate have no budget, and a closed session can still be
+-- terminated
+abbrev pub first_refusals : Setting → Journal → Command → Conditions Refusal
+first_refusals p j Close = ended j
+first_refusals p j Terminate = (was_terminated j, refusal.Terminated) ∷ []
+first_refusals p j _ = common_refusals p j
+
+-- what refuses a command for what it asks for
+abbrev pub own_refusals : Setting → Journal → Command → Conditions Refusal
+own_refusals p j (Install rule) =
+    (is_some (offer_named p rule.properties.name), refusal.NameIsPredefined) ∷ becoming_active p j rule.properties
+own_refusals p j (Activate name) =
+    (is_none (offer_named p name), refusal.UnknownRule) ∷
     (if is_active p j name then [] else becoming_active_if p j (offer_named p name))
-refusals p j (Remove name) = common_refusals p j ++ (not (is_active p j name), refusal.UnknownRule) ∷ []
-refusals p j (Stop key) = common_refusals p j ++ (not (is_among key (now p j).on), refusal.UnknownKey) ∷ []
-refusals p j (ReportNow key) = common_refusals p j ++ (not (is_among key (slots p j)), refusal.UnknownKey) ∷ []
-refusals p j (Monitor key amount) =
-    common_refusals p j ++ (amount == 0, refusal.ZeroGrant) ∷ (finds_no_slot p j (Some key), refusal.KeysFull) ∷ []
-refusals p j (Triggers set) = common_refusals p j
-refusals p j (Notice kind value) = common_refusals p j
-refusals p j (LoseBearer id) =
-    common_refusals p j ++ (not (id.0 == default_id) && not (is_bearer p j id.0), refusal.UnknownBearer) ∷
+own_refusals p j (Remove name) = (not (is_active p j name), refusal.UnknownRule) ∷ []
+own_refusals p j (Stop key) = (not (is_among key (now p j).on), refusal.UnknownKey) ∷ []
+own_refusals p j (ReportNow key) = (not (is_among key (slots p j)), refusal.UnknownKey) ∷ []
+own_refusals p j (Monitor key amount) =
+    (amount == 0, refusal.ZeroGrant) ∷ (finds_no_slot p j (Some key), refusal.KeysFull) ∷ []
+own_refusals p j (LoseBearer id) =
+    (not (id.0 == default_id) && not (is_bearer p j id.0), refusal.UnknownBearer) ∷
     (id.0 == default_id, refusal.DefaultBearer) ∷ []
-refusals p j Close = ended j
-refusals p j Terminate =
-    (was_terminated j, refusal.Terminated) ∷
+own_refusals p j Terminate =
     (nat_lt 0 (length (attached j)), refusal.WorkersAttached (length (attached j))) ∷ []
+own_refusals p j _ = []
+
+abbrev pub refusals : Setting → Journal → Command → Conditions Refusal
+refusals p j c = first_refusals p j c ++ own_refusals p j c
 
 -- ---- workers (own choice)
 abbrev pub is_attached : Journal → ℕ → Bool

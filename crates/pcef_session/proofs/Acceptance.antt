@@ -20,23 +20,13 @@ use Rattle.pcef_bearer.specs.Standing.{binding_of}
 use Rattle.pcef_session.specs.declared.prepared.Activation.{Activation}
 use Rattle.pcef_model.specs.Answers.{changes, bearer_named}
 use Rattle.pcef_session.specs.private.Changes.{Binds, CanBind}
-use Rattle.pcef_session.specs.Preparing.{Activates, IsServed}
+use Rattle.pcef_session.specs.Preparing.{Activates}
 use Rattle.pcef_model.specs.declared.answer.Refusal.TheVariants as refusal
-use Rattle.pcef_session.specs.private.Soundness.{IsPlain}
 use Rattle.pcef_session.proofs.Activations.{brought}
 use Rattle.pcef_bearer.proofs.BoundBearers.{length_bound, named_bound, refusals_bound}
-use Rattle.pcef_session.proofs.Refused.{limited_plain, slotless_is}
+use Rattle.pcef_session.proofs.Refused.{slotless_is}
 use Rattle.pcef_model.proofs.Acceptance.{condition_none, conditions_none, can_become, install_accepted, activate_accepted, activate_named, monitor_accepted, report_accepted, stop_accepted, activation_accepted}
 use Rattle.pcef_model.specs.Generations.{Generation}
-
--- ---- the budget of commands
-pub within_budget : (p : Setting) (j : Journal) (n : ℕ) → IsPlain j n → first_of (common_refusals p j) ≡ None → length (commands j) < p.commands
-within_budget p j n plain none =
-    let count = limited_plain j plain.not_closed plain.not_terminated in
-    let first = condition_none (was_terminated j) refusal.Terminated ((was_closed j, refusal.Closed) ∷ (nat_le p.commands (limited_count j), refusal.CommandsFull) ∷ []) none in
-    let second = condition_none (was_closed j) refusal.Closed ((nat_le p.commands (limited_count j), refusal.CommandsFull) ∷ []) first.1 in
-    let third = condition_none (nat_le p.commands (limited_count j)) refusal.CommandsFull [] second.1 in
-    omega (arith, count, leb-false p.commands (limited_count j) third.0)
 
 -- an accepted command that makes no rule active tells of no bearer
 pub names_none : (p : Setting) (j : Journal) (c : Command) (g : Generation) → first_of (refusals p j c) ≡ None → activated p c ≡ None → bearer_named g c ≡ None
@@ -69,26 +59,6 @@ asks_known p j (Notice kind value) accepted = tt
 asks_known p j (LoseBearer id) accepted = tt
 asks_known p j Close accepted = tt
 asks_known p j Terminate accepted = tt
-
--- a command that is served is within the budget
-pub served_budget : (p : Setting) (j : Journal) (n : ℕ) (c : Command) → IsPlain j n → IsServed c → first_of (refusals p j c) ≡ None → length (commands j) < p.commands
-served_budget p j n (Install rule) plain served accepted =
-    within_budget p j n plain (conditions_none (common_refusals p j) ((is_some (offer_named p rule.properties.name), refusal.NameIsPredefined) ∷ becoming_active p j rule.properties) accepted).0
-served_budget p j n (Remove name) plain served accepted =
-    within_budget p j n plain (conditions_none (common_refusals p j) ((not (is_active p j name), refusal.UnknownRule) ∷ []) accepted).0
-served_budget p j n (Monitor key amount) plain served accepted =
-    within_budget p j n plain (conditions_none (common_refusals p j) ((amount == 0, refusal.ZeroGrant) ∷ (finds_no_slot p j (Some key), refusal.KeysFull) ∷ []) accepted).0
-served_budget p j n (Activate name) plain served accepted =
-    within_budget p j n plain (conditions_none (common_refusals p j) ((is_none (offer_named p name), refusal.UnknownRule) ∷ (if is_active p j name then [] else becoming_active_if p j (offer_named p name))) accepted).0
-served_budget p j n (Stop key) plain served accepted =
-    within_budget p j n plain (conditions_none (common_refusals p j) ((not (is_among key (now p j).on), refusal.UnknownKey) ∷ []) accepted).0
-served_budget p j n (ReportNow key) plain served accepted =
-    within_budget p j n plain (conditions_none (common_refusals p j) ((not (is_among key (slots p j)), refusal.UnknownKey) ∷ []) accepted).0
-served_budget p j n (Triggers set) plain served accepted = within_budget p j n plain accepted
-served_budget p j n (Notice kind value) plain served accepted = within_budget p j n plain accepted
-served_budget p j n (LoseBearer id) plain served accepted = absurd served
-served_budget p j n Close plain served accepted = absurd served
-served_budget p j n Terminate plain served accepted = absurd served
 
 -- its key finds a slot
 pub served_slot : (p : Setting) (j : Journal) (c : Command) (states : List KeyState) → keys_of states ≡ slots p j → first_of (refusals p j c) ≡ None → changes p j c ≡ true →

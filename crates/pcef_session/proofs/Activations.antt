@@ -12,7 +12,7 @@ use Rattle.pcef_model.specs.ActiveRules.{Active, dynamic, predefined}
 use Rattle.pcef_model.specs.Commands.{key_named, key_offered, activated}
 use Rattle.pcef_model.proofs.Sameness.{same_name_is}
 use Rattle.pcef_session.specs.declared.prepared.Activation.{Activation}
-use Rattle.pcef_session.specs.Preparing.{Activates, IsActivationOf, IsServed}
+use Rattle.pcef_session.specs.Preparing.{Activates, IsActivationOf}
 use Rattle.pcef_session.specs.private.Changes.{key_of, rule_key}
 use Rattle.pcef_model.specs.Changes.{MakesActive}
 

@@ -39,7 +39,7 @@ use Rattle.pcef_model.specs.declared.answer.Refusal.{Refusal}
 use Rattle.pcef_session.specs.declared.prepared.Activation.{Activation}
 use Rattle.pcef_model.specs.Answers.{Does, Gives, IsRefused, bearer_named, bearer_of, changes, command_outcome}
 use Rattle.pcef_bearer.specs.Standing.{binding_of}
-use Rattle.pcef_session.specs.Preparing.{Activates, IsServed}
+use Rattle.pcef_session.specs.Preparing.{Activates}
 use Rattle.pcef_session.specs.private.Changes.{IsBoundTo, IsRebound, active_after, entered_by, rule_key}
 use Rattle.pcef_model.specs.Lawful.{Lawful, by_command}
 use Rattle.pcef_model.specs.Refusals.{first_of, is_active, refusals}
@@ -172,7 +172,6 @@ ended_command p j c parts agrees asks =
 
 -- ---- all parts
 pub record IsCommanded (p : Setting) (j : Journal) (c : Command) (x : Option Activation) (old new : Parts) (bearer : Option BearerId) : Type 0 where
-  pub served : IsServed c
   pub accepted : first_of (refusals p j c) ≡ None
   pub changing : changes p j c ≡ true
   pub brings : Activates p (activated p c) x
@@ -279,5 +278,5 @@ unfolding command_outcome
 does_refused p j c r refused =
     elim refused [
       | inl first ↦ inl (rw first (refl, refl))
-      | inr wanting ↦ inr (ap (λ x. Err x) wanting, refl)
+      | inr wanting ↦ inr (wanting.0, (ap (λ x. Err x) wanting.1, refl))
     ]

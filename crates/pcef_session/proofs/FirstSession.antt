@@ -1,5 +1,5 @@
--- A session that is opened agrees with the empty journal, and goes on agreeing as workers come.
-use Rattle.std.proofs.Common.{◌≡◌, ℕ, Bool, List, [], refl, sym, ap, subst, arith, Contains, None, false, map}
+-- A session that is opened agrees with the empty journal, and goes on agreeing as workers come and leave.
+use Rattle.std.proofs.Common.{◌≡◌, ℕ, Bool, List, [], refl, sym, ap, subst, arith, Contains, None, true, false, map}
 use Rattle.std.specs.List.{AllByRecursion}
 use Rattle.pcef_table.specs.declared.entry.Entry.{Entry}
 use Rattle.pcef_table.specs.declared.entry.Source.{Source}
@@ -10,14 +10,14 @@ use Rattle.pcef_model.specs.Setting.{Setting}
 use Rattle.pcef_model.specs.Generations.{at_first as before_all, made_by, oldest, slots_of}
 use Rattle.pcef_model.specs.Entries.{Journal}
 use Rattle.pcef_model.specs.Journals.{gen, grant, no_triggers, reported, subscribed}
-use Rattle.pcef_model.specs.Reports.{after_attach}
+use Rattle.pcef_model.specs.Reports.{after_attach, after_leave}
 use Rattle.pcef_usage.specs.declared.usage.KeyState.{KeyState}
 use Rattle.pcef_usage.proofs.Tells.{all_same}
 use Rattle.pcef_session.specs.private.Parts.{Agrees, Parts}
 use Rattle.pcef_session.specs.Agreement.{AreKept, KeyAgrees}
 use Rattle.pcef_bearer.specs.Standing.{binding_of}
-use Rattle.pcef_model.specs.Lawful.{at_first, by_attach}
-use Rattle.pcef_model.specs.Refusals.{attach_faults, first_of}
+use Rattle.pcef_model.specs.Lawful.{at_first, by_attach, by_leave}
+use Rattle.pcef_model.specs.Refusals.{attach_faults, first_of, is_attached}
 use Rattle.pcef_session.specs.Shown.{Shows}
 use Rattle.pcef_session.proofs.ShownLater.{shows_same}
 
@@ -62,4 +62,17 @@ agrees_attached p j parts agrees accepted = record {
       (λ s h. record { on_is = h.on_is; grant_is = h.grant_is; reported_is = h.reported_is; counted_is = h.counted_is }) agrees.usage_is;
   triggers_are = agrees.triggers_are;
   table_shows = shows_same p j (after_attach j) (gen j) parts.table refl agrees.table_shows;
+}
+
+pub agrees_left : (p : Setting) (j : Journal) (worker : ℕ) (parts : Parts) → Agrees p j parts → is_attached j worker ≡ true → Agrees p (after_leave worker j) parts
+unfolding grant reported subscribed
+agrees_left p j worker parts agrees is = record {
+  lawful = by_leave j worker agrees.lawful is;
+  rules_are = agrees.rules_are;
+  binding_is = agrees.binding_is;
+  keys_are = agrees.keys_are;
+  usage_is = all_same (KeyAgrees p j) (KeyAgrees p (after_leave worker j)) parts.keys
+      (λ s h. record { on_is = h.on_is; grant_is = h.grant_is; reported_is = h.reported_is; counted_is = h.counted_is }) agrees.usage_is;
+  triggers_are = agrees.triggers_are;
+  table_shows = shows_same p j (after_leave worker j) (gen j) parts.table refl agrees.table_shows;
 }

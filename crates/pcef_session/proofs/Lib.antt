@@ -2,12 +2,14 @@ pub mod Acceptance
 pub mod Activations
 pub mod BearerLaws
 pub mod Commanding
+pub mod EndedKeys
+pub mod EndsMet
 pub mod FirstSession
 pub mod HeldSound
+pub mod Inserting
 pub mod KeptRules
-pub mod LostKeys
+pub mod Leaving
 pub mod NextTables
-pub mod PlainJournals
 pub mod Refused
 pub mod RowLoops
 pub mod ShownChanges

@@ -1,4 +1,5 @@
 -- What the refusals of commands come to in a journal that nothing ended.
+use Rattle.std.proofs.Common.{Bool}
 use Rattle.std.proofs.Common.{◌≡◌, ◌∙◌, ◌≤◌, ◌<◌, ℕ, true, false, not, ◌&&◌, List, [], ◌∷◌, ◌++◌, length, refl, sym, ap, arith, Some, None, nat_le, true≢false, inl, inr}
 use Rattle.std.specs.Prelude.{Option, is_none, is_some, if◌then◌else◌, ◌==◌}
 use Rattle.std.specs.Option.{option_map}
@@ -19,8 +20,7 @@ use Rattle.pcef_model.specs.declared.answer.Refusal.{Refusal}
 use Rattle.pcef_model.specs.declared.answer.Refusal.TheVariants.{UnknownKey, ZeroGrant, CommandsFull, RulesFull, KeysFull, NameIsPredefined, UnknownRule, ZeroGrant, UnknownKey}
 use Rattle.pcef_model.specs.Refusals.{Conditions, becoming_active, becoming_active_if, bindings, common_refusals, finds_no_slot, first_of, is_active, limited_count, was_closed, was_terminated, refusals}
 use Rattle.pcef_session.specs.declared.prepared.Activation.{Activation}
-use Rattle.pcef_session.specs.Preparing.{Activates, IsServed}
-use Rattle.pcef_session.specs.private.Soundness.{IsPlain}
+use Rattle.pcef_session.specs.Preparing.{Activates}
 use Rattle.pcef_model.specs.declared.command.Command.{Command}
 
 -- ---- conditions one after the other
@@ -60,13 +60,11 @@ limited_plain (entry.Command (Triggers set) ∷ j) closed terminated = let rest 
 limited_plain (entry.Command (Notice kind value) ∷ j) closed terminated = let rest = limited_plain j closed terminated in omega (arith, rest)
 limited_plain (entry.Command (LoseBearer id) ∷ j) closed terminated = let rest = limited_plain j closed terminated in omega (arith, rest)
 
-pub common_full : (p : Setting) (j : Journal) (n : ℕ) → IsPlain j n → p.commands ≤ length (commands j) → Some CommandsFull ≡ first_of (common_refusals p j)
-common_full p j n plain full =
-    let count = limited_plain j plain.not_closed plain.not_terminated in rw (plain.not_terminated, plain.not_closed, count, le-leb p.commands (length (commands j)) full) refl
-
-pub common_none : (p : Setting) (j : Journal) (n : ℕ) → IsPlain j n → length (commands j) < p.commands → None ≡ first_of (common_refusals p j)
-common_none p j n plain few =
-    let count = limited_plain j plain.not_closed plain.not_terminated in rw (plain.not_terminated, plain.not_closed, count, lt-leb p.commands (length (commands j)) few) refl
+-- a journal is full where nothing ended it
+pub full_is : (p : Setting) (j : Journal) (n m : ℕ) (full : Bool) → n ≡ length (commands j) → m ≡ p.commands → full ≡ nat_le m n →
+    was_closed j ≡ false → was_terminated j ≡ false → full ≡ nat_le p.commands (limited_count j)
+full_is p j n m full count number is opened living =
+    is ∙ ap (λ k. nat_le k n) number ∙ ap (nat_le p.commands) (count ∙ sym (limited_plain j opened living))
 
 -- ---- slots
 pub slotless_is : (p : Setting) (j : Journal) (key : Option (List ℕ)) (states : List KeyState) → keys_of states ≡ slots p j → slotless key states ≡ finds_no_slot p j key
@@ -126,17 +124,3 @@ activate_new p j name x r brings isnt is = from (offer_named p name) brings
     from : (o : Option Offer) → Activates p (option_map predefined o) (Some x) → r ≡ first_of (activations p j name o)
     from None brings = absurd brings
     from (Some o) brings = rw isnt (is ∙ ap (λ (q : Properties). first_of (becoming_active p j q)) brings.properties_are)
-
--- ---- what refuses every command that is served
-pub refused_common : (p : Setting) (j : Journal) (c : Command) (r : Refusal) → IsServed c → Some r ≡ first_of (common_refusals p j) → Some r ≡ first_of (refusals p j c)
-refused_common p j (Install rule) r served is = first_before (common_refusals p j) ((is_some (offer_named p rule.properties.name), NameIsPredefined) ∷ becoming_active p j rule.properties) r is
-refused_common p j (Activate name) r served is = first_before (common_refusals p j) (activations p j name (offer_named p name)) r is
-refused_common p j (Remove name) r served is = first_before (common_refusals p j) ((not (is_active p j name), UnknownRule) ∷ []) r is
-refused_common p j (Monitor key amount) r served is = first_before (common_refusals p j) ((amount == 0, ZeroGrant) ∷ (finds_no_slot p j (Some key), KeysFull) ∷ []) r is
-refused_common p j (Stop key) r served is = first_before (common_refusals p j) ((not (is_among key (now p j).on), UnknownKey) ∷ []) r is
-refused_common p j (ReportNow key) r served is = first_before (common_refusals p j) ((not (is_among key (slots p j)), UnknownKey) ∷ []) r is
-refused_common p j (Triggers set) r served is = is
-refused_common p j (Notice kind value) r served is = is
-refused_common p j (LoseBearer id) r served is = absurd served
-refused_common p j Close r served is = absurd served
-refused_common p j Terminate r served is = absurd served

@@ -1,6 +1,16 @@
 -- The counters in the loop over rows that are taken over.
+use Rattle.std.proofs.Common.{◌-◌, [], None, Some, length, set, suc, arith}
+use Rattle.std.specs.Prelude.{slice_get}
+use Rattle.std.proofs.lemmas.List.{length-map}
+use Rattle.pcef_lane.specs.declared.lanes.LaneEnd.{LaneEnd}
+use Rattle.pcef_lane.specs.Lanes.{at_start, last_generation, lengthened}
+use Rattle.pcef_session.specs.private.Taking.{with_lane}
 use Rattle.std.proofs.Common.{◌≡◌, ◌∙◌, ◌≤◌, ◌<◌, ◌+◌, ℕ, List, ◌∷◌, length, sym, ap, subst, drop, get_or}
 use Rattle.std.proofs.lemmas.List.{drop_all, drop_more}
+use Rattle.std.proofs.Common.{map}
+use Rattle.pcef_model.specs.declared.entry.Entry.TheVariants as entry
+use Rattle.pcef_model.specs.Entries.{Journal}
+use Rattle.pcef_model.specs.Reports.{with_rows}
 use Rattle.pcef_model.specs.declared.row.Row.{Row}
 use Rattle.pcef_usage.specs.declared.usage.KeyState.{KeyState}
 use Rattle.pcef_usage.specs.Flushes.{rows_counted}
@@ -39,3 +49,30 @@ counted_step items i item states new all row within is row_is new_is before =
 pub counted_end : (items : List Item) (i : ℕ) (states all : List KeyState) → length items ≤ i → rows_counted row_of slot_of (drop i items) states ≡ all → states ≡ all
 unfolding rows_counted
 counted_end items i states all past before = sym (ap (λ (xs : List Item). rows_counted row_of slot_of xs states) (drop_all i items past)) ∙ before
+
+-- ---- the journal in that loop
+pub taken_step : (items : List Item) (i : ℕ) (item : Item) (j new all : Journal) (row : Row) → i < length items → item ≡ get_or items i item → row ≡ item.row →
+    new ≡ entry.Row row ∷ j → with_rows (map row_of (drop i items)) j ≡ all → with_rows (map row_of (drop (i + 1) items)) new ≡ all
+unfolding with_rows
+taken_step items i item j new all row within is row_is new_is before =
+    ap (with_rows (map row_of (drop (i + 1) items))) (new_is ∙ ap (λ (r : Row). entry.Row r ∷ j) row_is) ∙
+    sym (ap (λ xs. with_rows (map row_of xs) j) (drop_more items i item within ∙ ap (λ (x : Item). x ∷ drop (i + 1) items) (sym is))) ∙ before
+
+pub taken_end : (items : List Item) (i : ℕ) (j all : Journal) → length items ≤ i → with_rows (map row_of (drop i items)) j ≡ all → j ≡ all
+unfolding with_rows
+taken_end items i j all past before = sym (ap (λ xs. with_rows (map row_of xs) j) (drop_all i items past)) ∙ before
+
+-- ---- the lane
+-- the last of some rows is the newest
+last_is : (items : List Item) (item newest : Item) → Some newest ≡ slice_get (item ∷ items) (length items) → last_generation item.row.generation (map row_of items) ≡ newest.row.generation
+last_is [] item newest is = let same : newest ≡ item = cc in ap (λ (i : Item). i.row.generation) (sym same)
+last_is (i ∷ items) item newest is = last_is items i newest is
+
+pub lane_grown : (worker : ℕ) (items : List Item) (newest : Item) (lanes new : List LaneEnd) → new ≡ set lanes worker (lengthened (length items) newest.row.generation (get_or lanes worker at_start)) →
+    slice_get items (length items - 1) ≡ Some newest → new ≡ with_lane worker (map row_of items) lanes
+lane_grown worker [] newest lanes new is last = absurd (let none : None ≡ Some newest = last in cc)
+lane_grown worker (i ∷ items) newest lanes new is last =
+    let one_less : suc (length items) - 1 ≡ length items = omega arith in
+    let there : Some newest ≡ slice_get (i ∷ items) (length items) = sym (sym (ap (slice_get (i ∷ items)) one_less) ∙ last) in
+    is ∙ ap (λ g. set lanes worker (lengthened (suc (length items)) g (get_or lanes worker at_start))) (sym (last_is items i newest there))
+    ∙ ap (λ n. set lanes worker (lengthened n (last_generation i.row.generation (map row_of items)) (get_or lanes worker at_start))) (ap suc (sym (length-map items row_of)))

@@ -40,10 +40,15 @@ use Rattle.pcef_model.proofs.Sameness.{same_name_is}
 use Rattle.pcef_model.specs.declared.answer.FlushRefusal.TheVariants as flush
 use Rattle.pcef_session.specs.declared.state.SessionState.TheInside.{Inside}
 use Rattle.pcef_model.specs.Refusals.{first_of, flush_refusals, is_attached}
-use Rattle.pcef_session.specs.private.Soundness.{IsPlain, IsSound, parts_of}
+use Rattle.pcef_session.specs.private.Soundness.{IsSound, parts_of}
 use Rattle.pcef_model.specs.Terms.{setting_of}
 use Rattle.pcef_model.proofs.Acceptance.{condition_none}
-use Rattle.pcef_session.proofs.PlainJournals.{commands_with, plain_rows, plain_told, rows_with}
+use Rattle.pcef_model.specs.Journals.{attached}
+use Rattle.pcef_model.proofs.Onward.{attached_after_flush}
+use Rattle.pcef_lane.proofs.LaneEnds.{attached_came}
+use Rattle.pcef_session.proofs.EndsMet.{ends_flushed}
+use Rattle.pcef_session.proofs.Leaving.{attached_accepted, commands_with, lanes_flushed, rows_with}
+use Rattle.pcef_session.specs.private.Taking.{with_lane}
 use Rattle.pcef_session.specs.Shown.{Shows}
 use Rattle.pcef_session.proofs.Commanding.{all_agree, commands_told}
 use Rattle.pcef_session.proofs.NextTables.{all_count_from, all_on_from}
@@ -203,10 +208,6 @@ agrees_flushed p j worker items parts new before after agrees keys is left taken
     }
 
 -- ---- a session stays sound
-plain_flushed : (p : Setting) (j : Journal) (n : ℕ) (rs : List Row) → IsPlain j n → IsPlain (after_flush p j rs) n
-plain_flushed p j n [] plain = plain
-plain_flushed p j n (r ∷ rs) plain = plain_told p (thresholds p (with_rows (r ∷ rs) j)) (with_rows (r ∷ rs) j) n (plain_rows j n (r ∷ rs) plain)
-
 commands_flushed : (p : Setting) (j : Journal) (rs : List Row) → commands (after_flush p j rs) ≡ commands j
 commands_flushed p j [] = refl
 commands_flushed p j (r ∷ rs) = commands_told p (thresholds p (with_rows (r ∷ rs) j)) (with_rows (r ∷ rs) j) ∙ commands_with j (r ∷ rs)
@@ -234,8 +235,9 @@ within_rows p j worker count accepted =
 pub sound_flushed : (s t : Inside) (worker : ℕ) (items : List Item) (before : Counted) → IsSound s → first_of (flush_refusals (setting_of s.profile s.listing) s.counted.journal worker (length items)) ≡ None →
     BatchFollows (setting_of s.profile s.listing) s.counted.journal worker (map row_of items) → HasItsSlots (setting_of s.profile s.listing) s.counted.journal items → HasSmallRows items →
     before.states ≡ s.counted.states → before.journal ≡ s.counted.journal → IsTaken s.subscribed.usage_report items before t.counted → t.profile ≡ s.profile → t.listing ≡ s.listing → t.active ≡ s.active →
-    t.bearers ≡ s.bearers → t.table ≡ s.table → t.subscribed ≡ s.subscribed → t.attached ≡ s.attached → IsSound t
-sound_flushed s t worker items before sound accepted follow its small states_are journal_is taken profile listing active bearers table subscribed_is attached =
+    t.bearers ≡ s.bearers → t.table ≡ s.table → t.subscribed ≡ s.subscribed →
+    t.lanes ≡ with_lane worker (map row_of items) s.lanes → t.closed ≡ s.closed → t.terminated ≡ s.terminated → length (attached s.counted.journal) ≤ t.counted.room → IsSound t
+sound_flushed s t worker items before sound accepted follow its small states_are journal_is taken profile listing active bearers table subscribed_is lanes closed terminated room =
     let p : Setting = setting_of s.profile s.listing in
     let q : Setting = setting_of t.profile t.listing in
     let j : Journal = s.counted.journal in
@@ -255,13 +257,16 @@ sound_flushed s t worker items before sound accepted follow its small states_are
     let after : t.counted.journal ≡ after_flush p j rs = flushed_journal p j items (parts_of s) before t.counted sound.agrees states_are journal_is its taken in
     let row_count : length (rows t.counted.journal) ≡ length items + length (rows j) = ap (λ (k : Journal). length (rows k)) after ∙ ap length (rows_after_flush p j rs) ∙ rows_with j rs ∙ ap (λ n. n + length (rows j)) count in
     let within = within_rows p j worker (length items) accepted in
+    let came : worker < length s.lanes = attached_came j s.lanes worker sound.lanes (attached_accepted p j worker (length items) (sym accepted)) in
     let keys_same : length (keys_of t.counted.states) ≡ length (keys_of s.counted.states) =
     ap length (agrees.keys_are ∙ ap (slots_of p) (ap tables after ∙ tables_after_flush p j rs) ∙ sym sound.agrees.keys_are) in
     record {
       agrees = rw same agrees;
-      plain = rw (after, attached) (plain_flushed p j s.attached rs sound.plain);
+      lanes = rw (after, lanes) (lanes_flushed p j worker rs s.lanes came follow.own sound.lanes);
+      ends = rw (after, closed, terminated) (ends_flushed p j rs s.closed s.terminated sound.ends);
+      leaving = rw (after, attached_after_flush p j rs) room;
       limited = record {
-        few_commands = rw (after, profile, commands_flushed p j rs) sound.limited.few_commands;
+        few_commands = rw (after, profile, closed, terminated, commands_flushed p j rs) sound.limited.few_commands;
         most_commands = rw profile sound.limited.most_commands;
         few_rows = rw profile (omega (arith, row_count, within));
         most_rows = rw profile sound.limited.most_rows;

@@ -3,12 +3,12 @@ use Rattle.std.specs.Prelude.{ℕ, ◌≡◌, ◌≤◌, ◌<◌, ◌+◌, true,
 use Rattle.std.specs.Arc.{arc_value}
 use Rattle.std.specs.Option.{option_map}
 use Rattle.pcef_model.specs.declared.command.Command.{Command}
-use Rattle.pcef_model.specs.declared.command.Command.TheVariants.{Activate, Install, Monitor, Notice, Remove, ReportNow, Stop, Triggers}
+use Rattle.pcef_model.specs.declared.command.Command.TheVariants.{Activate}
 use Rattle.pcef_model.specs.Answers.{changes}
 use Rattle.pcef_model.specs.ActiveRules.{Active}
 use Rattle.pcef_model.specs.Commands.{activated, is_table}
 use Rattle.pcef_model.specs.Entries.{Journal}
-use Rattle.pcef_model.specs.Journals.{gen}
+use Rattle.pcef_model.specs.Journals.{attached, gen}
 use Rattle.pcef_model.specs.Refusals.{first_of, is_active, refusals}
 use Rattle.pcef_model.specs.Reports.{after_command, plan}
 use Rattle.pcef_model.specs.Setting.{Setting}
@@ -19,18 +19,6 @@ use Rattle.pcef_session.specs.declared.prepared.Prepared.TheVariants.{Changing, 
 use Rattle.pcef_session.specs.declared.prepared.PreparedChange.{PreparedChange}
 use Rattle.pcef_session.specs.SessionModel.{SessionModel}
 use Rattle.pcef_session.specs.Shown.{Shows, rule_of}
-
--- the commands that a session serves so far
-abbrev pub IsServed : Command → Type 0
-IsServed (Install rule) = Unit {0}
-IsServed (Activate name) = Unit {0}
-IsServed (Remove name) = Unit {0}
-IsServed (Monitor key grant) = Unit {0}
-IsServed (Stop key) = Unit {0}
-IsServed (ReportNow key) = Unit {0}
-IsServed (Triggers set) = Unit {0}
-IsServed (Notice kind value) = Unit {0}
-IsServed _ = ⊥
 
 -- what is prepared of a rule stands for it
 pub record IsActivationOf (p : Setting) (r : Active) (x : Activation) : Type 0 where
@@ -50,16 +38,15 @@ pub record IsTableAfter (p : Setting) (after : Journal) (c : Command) (made : Op
   pub shows : IfSome made (λ t. Shows p after (gen after) t)
 
 -- a command that the session accepts next and that changes something, with the table of the journal after it, the
--- rule that it makes active, what it reports by itself, room in the journal for that and for the thresholds of
--- eight keys, and a place for a rule
+-- rule that it makes active, what it reports by itself, room in the journal for that, for the thresholds of
+-- eight keys and for the leaving of each worker, and a place for a rule
 pub record IsReady (s : SessionModel) (d : PreparedChange) : Type 0 where
-  pub served : IsServed d.command
   pub accepted : first_of (refusals s.setting s.journal d.command) ≡ None
   pub changing : changes s.setting s.journal d.command ≡ true
   pub table : IsTableAfter s.setting (after_command s.setting s.journal d.command) d.command (option_map (λ t. arc_value t) d.table)
   pub rule : Activates s.setting (activated s.setting d.command) d.rule
   pub plan_is : d.reports.items ≡ plan s.setting s.journal d.command
-  pub has_room : length d.reports.items + 9 ≤ s.room.entries
+  pub has_room : length d.reports.items + 9 + length (attached s.journal) ≤ s.room.entries
   pub has_place : 0 < s.room.rules
 
 -- an Activate that the session accepts next, of a rule that is active

@@ -1,13 +1,13 @@
 //! What an accepted command does to what a session keeps. Nothing here takes memory.
 
-ghost use Rattle.std.specs.Prelude.{◌≡◌, ◌<◌, ◌≤◌, ◌+◌, ◌∷◌, filter, length, not, true, false, None, Some, unwrap_or};
+ghost use Rattle.std.specs.Prelude.{◌≡◌, ◌||◌, ◌<◌, ◌≤◌, ◌+◌, ◌∷◌, filter, length, not, true, false, None, Some, unwrap_or};
 ghost use Rattle.std.specs.Arc.{arc_value};
 ghost use Rattle.std.specs.List.{list_any};
 ghost use Rattle.std.specs.Option.{option_copied, option_map};
 ghost use Rattle.indexmap.specs.IndexMap.{insert_entry, spare};
 ghost use Rattle.pcef_model.specs.Commands.{takes_away};
 ghost use Rattle.pcef_model.specs.Setting.{same_name};
-ghost use Rattle.pcef_model.specs.Refusals.{first_of};
+ghost use Rattle.pcef_model.specs.Refusals.{first_of, is_close, is_terminate};
 ghost use Rattle.pcef_bearer.specs.Bindings as binding;
 ghost use Rattle.pcef_usage.specs.Commands.{subscribed_by};
 ghost use Rattle.pcef_usage.specs.Keys.{finds_no_slot, keys_of};
@@ -67,6 +67,7 @@ pub(crate) fn tell(counted: &mut CountedJournal, tellings: &[Telling], subscribe
     requires room { length tellings.now + length counted.old.states ≤ counted.old.room }
     ensures journal { counted.new.journal ≡ told (settled_tellings subscribed (states_told tellings.now (states_stopped tellings.now counted.old.states))) (settled_states subscribed (states_told tellings.now (states_stopped tellings.now counted.old.states))) (told tellings.now (states_stopped tellings.now counted.old.states) counted.old.journal) }
     ensures states { counted.new.states ≡ states_told (settled_tellings subscribed (states_told tellings.now (states_stopped tellings.now counted.old.states))) (settled_states subscribed (states_told tellings.now (states_stopped tellings.now counted.old.states))) }
+    ensures room { counted.old.room ≤ counted.new.room + length tellings.now + length counted.old.states }
 {
     counted.stop_all(tellings);
     counted.tell_all(tellings);
@@ -81,6 +82,20 @@ pub(crate) fn subscribed_by(command: &Command, old: TriggerSet) -> TriggerSet
         Command::Triggers(set) => *set,
         _ => old,
     }
+}
+
+/// Whether the session is closed after a command.
+pub(crate) fn closed_by(command: &Command, old: bool) -> bool
+    ensures { result ≡ (is_close (Entry.Command command.now) || old) }
+{
+    matches!(command, Command::Close) || old
+}
+
+/// Whether the session is terminated after a command.
+pub(crate) fn terminated_by(command: &Command, old: bool) -> bool
+    ensures { result ≡ (is_terminate (Entry.Command command.now) || old) }
+{
+    matches!(command, Command::Terminate) || old
 }
 
 /// Holds the table that a command makes, or goes on holding the old one.

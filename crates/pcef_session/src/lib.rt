@@ -3,10 +3,11 @@
 
 mod applying;
 mod batch;
+mod ended_keys;
 mod entries;
+mod inactive;
 mod keys;
 mod laws;
-mod lost_keys;
 mod planning;
 mod prepared;
 mod rows;
@@ -17,4 +18,4 @@ pub use batch::{Batch, BatchFull, Item, MAX_WAITING};
 pub use laws::{rules_have_their_bearers, shown_tables_judge};
 pub use prepared::{Activation, Prepared, PreparedChange};
 pub use session::Session;
-pub use state::{MAX_RULES, MAX_WORKERS, SessionState};
+pub use state::{MAX_RULES, SessionState};

@@ -1,13 +1,15 @@
 //! Rows that are taken over.
 
-ghost use Rattle.std.specs.Prelude.{◌≡◌, ◌≤◌, ◌<◌, ◌+◌, ◌∷◌, length, map, IfOk};
+ghost use Rattle.std.specs.Prelude.{◌≡◌, ◌≤◌, ◌<◌, ◌+◌, ◌^◌, ◌∷◌, get_or, length, map, IfOk};
+ghost use Rattle.pcef_lane.specs.Lanes.{at_start};
 ghost use Rattle.pcef_model.specs.Reports.{with_rows};
 ghost use Rattle.pcef_model.specs.Answers.{judged_of};
-ghost use Rattle.pcef_session.specs.private.Taking.{CanCountAll, IsTaken};
+ghost use Rattle.pcef_session.specs.private.Taking.{CanCountAll, IsTaken, with_lane};
 ghost use Rattle.pcef_session.specs.Following.{row_of, slot_of};
 ghost use Rattle.pcef_usage.specs.Flushes.{rows_counted};
 
 use crate::batch::Item;
+use pcef_lane::Lanes;
 use pcef_model::Judged;
 use pcef_usage::CountedJournal;
 use std::alloc::{AllocError, Global};
@@ -39,13 +41,25 @@ pub(crate) fn take_rows(counted: &mut CountedJournal, items: &[Item])
     }
 }
 
+/// A worker's lane grows by its rows. No rows change nothing.
+pub(crate) fn lengthen(lanes: &mut Lanes, worker: u8, items: &[Item])
+    requires came { worker < length lanes.old }
+    requires fits { (get_or lanes.old worker at_start).rows + length items.now < 2 ^ 64 }
+    ensures { lanes.new ≡ with_lane worker (map row_of items.now) lanes.old }
+{
+    if let Some(newest) = items.last() {
+        lanes.lengthen(worker, items.len() as u64, newest.row.generation);
+    }
+}
+
 /// Adds rows to the journal, counts their octets and tells the thresholds. No rows change nothing. Takes
 /// no memory.
 pub(crate) fn take_all(counted: &mut CountedJournal, items: &[Item], subscribed: bool)
     requires room { length items.now + 8 ≤ counted.old.room }
     requires few { length counted.old.states ≤ 8 }
     requires fits { CanCountAll items.now counted.old.states }
-    ensures { IsTaken subscribed items.now counted.old counted.new }
+    ensures taken { IsTaken subscribed items.now counted.old counted.new }
+    ensures room { counted.old.room ≤ counted.new.room + length items.now + 8 }
 {
     if items.is_empty() {
         return;

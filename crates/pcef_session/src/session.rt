@@ -1,17 +1,18 @@
 //! A session with its catalog.
 
-ghost use Rattle.std.specs.Prelude.{◌≡◌, [], IfErr, IfOk, Ok, map};
+ghost use Rattle.std.specs.Prelude.{◌≡◌, ◌≤◌, ◌<◌, [], IfErr, IfOk, MatchOption, Ok, map, true};
 ghost use Rattle.std.specs.Arc.{arc_value};
 ghost use Rattle.std.specs.Result.{result_err, result_map_both};
 ghost use Rattle.pcef_catalog.specs.Catalogs.{offers_of};
 
 use crate::batch::Batch;
 use crate::prepared::Prepared;
-use crate::state::SessionState;
+use crate::state::{SessionState, open_fault};
 use indexmap::IndexMap;
 use pcef_bearer::Bearers;
 use pcef_catalog::{Catalog, Offers};
 use pcef_journal::Journal;
+use pcef_lane::LaneEnd;
 use pcef_model::{
     Accepted, AttachFault, Command, FlushRefusal, OpenFault, Profile, Refusal, Verdicts,
 };
@@ -31,14 +32,17 @@ pub struct Session {
 
 impl Session {
     ghost use Rattle.pcef_bearer.specs.Standing.{binding_of};
-    ghost use Rattle.pcef_model.specs.Answers.{Attaches, Does, Flushes, Gives, IsRefused, Opens, command_outcome, told_of};
+    ghost use Rattle.pcef_lane.specs.Lanes.{lane_end};
+    ghost use Rattle.pcef_model.specs.Answers.{Attaches, Does, Finishes, Flushes, Gives, IsRefused, Opens, abandon_outcome, command_outcome, told_and_rows, told_of};
     ghost use Rattle.pcef_model.specs.Entries.{lane};
-    ghost use Rattle.pcef_model.specs.Journals.{gen, now};
+    ghost use Rattle.pcef_model.specs.Journals.{attach_count, gen, now};
     ghost use Rattle.pcef_model.specs.Lawful.{BatchFollows, Lawful};
+    ghost use Rattle.pcef_model.specs.Refusals.{is_attached};
+    ghost use Rattle.pcef_model.specs.Reports.{after_leave};
     ghost use Rattle.pcef_model.specs.Terms.{setting_of};
     ghost use Rattle.pcef_session.specs.Agreement.{AreKept, KeysAgree};
     ghost use Rattle.pcef_session.specs.Following.{HasItsSlots, row_of};
-    ghost use Rattle.pcef_session.specs.Preparing.{IsPreparedFor, IsServed, command_of};
+    ghost use Rattle.pcef_session.specs.Preparing.{IsPreparedFor, command_of};
     ghost use Rattle.pcef_session.specs.SessionModel.{HasAtLeast};
     ghost use Rattle.pcef_session.specs.Sessions.{state_of};
     ghost use Rattle.pcef_session.specs.Shown.{Shows};
@@ -54,6 +58,9 @@ impl Session {
         ensures answer { Opens (setting_of profile (offers_of (arc_value catalog))) (result_err result) }
         ensures made { IfOk result (λ s. ((state_of s).setting ≡ setting_of profile (offers_of (arc_value catalog))) × ((state_of s).journal ≡ [])) }
     {
+        if let Some(fault) = open_fault(&profile) {
+            return Err(fault);
+        }
         let Ok(listing) = catalog.listing().share() else {
             return Err(OpenFault::NoMemory);
         };
@@ -63,7 +70,6 @@ impl Session {
 
     /// As [`SessionState::prepare`].
     pub fn prepare(&mut self, command: Command) -> Result<Prepared, Refusal>
-        requires { IsServed command }
         ensures setting { (state_of self.new).setting ≡ (state_of self.old).setting }
         ensures journal { (state_of self.new).journal ≡ (state_of self.old).journal }
         ensures room { HasAtLeast (state_of self.old).room (state_of self.new).room }
@@ -86,7 +92,6 @@ impl Session {
 
     /// As [`SessionState::command`].
     pub fn command(&mut self, command: Command) -> Result<Accepted, Refusal>
-        requires { IsServed command }
         ensures answer { Does (state_of self.old).setting command (state_of self.old).journal result (state_of self.new).journal }
         ensures setting { (state_of self.new).setting ≡ (state_of self.old).setting }
     {
@@ -110,6 +115,41 @@ impl Session {
         ensures setting { (state_of self.new).setting ≡ (state_of self.old).setting }
     {
         self.state.flush(worker, batch)
+    }
+
+    /// As [`SessionState::lane_end`].
+    pub fn lane_end(&self, worker: u8) -> Option<LaneEnd>
+        ensures { MatchOption result (attach_count (state_of self.now).journal ≤ worker) (λ end. (worker < attach_count (state_of self.now).journal) × (end ≡ lane_end (state_of self.now).journal worker)) }
+    {
+        self.state.lane_end(worker)
+    }
+
+    /// As [`SessionState::detach`].
+    pub fn detach(&mut self, worker: u8)
+        requires { is_attached (state_of self.old).journal worker ≡ true }
+        ensures journal { (state_of self.new).journal ≡ after_leave worker (state_of self.old).journal }
+        ensures setting { (state_of self.new).setting ≡ (state_of self.old).setting }
+    {
+        self.state.detach(worker);
+    }
+
+    /// As [`SessionState::finish`].
+    pub fn finish(&mut self, worker: u8, batch: &Batch) -> Result<(Verdicts, u64), FlushRefusal>
+        requires follow { BatchFollows (state_of self.old).setting (state_of self.old).journal worker (map row_of batch.now) }
+        requires slots { HasItsSlots (state_of self.old).setting (state_of self.old).journal batch.now }
+        ensures answer { Finishes (state_of self.old).setting worker (map row_of batch.now) (state_of self.old).journal (result_map_both told_and_rows (λ e. e) result) (state_of self.new).journal }
+        ensures setting { (state_of self.new).setting ≡ (state_of self.old).setting }
+    {
+        self.state.finish(worker, batch)
+    }
+
+    /// As [`SessionState::abandon`].
+    pub fn abandon(&mut self, worker: u8) -> u64
+        ensures rows { result ≡ (abandon_outcome (state_of self.old).journal worker).0 }
+        ensures journal { (state_of self.new).journal ≡ (abandon_outcome (state_of self.old).journal worker).1 }
+        ensures setting { (state_of self.new).setting ≡ (state_of self.old).setting }
+    {
+        self.state.abandon(worker)
     }
 
     /// The catalog, which offers the predefined rules of the session.

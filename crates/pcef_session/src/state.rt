@@ -1,6 +1,6 @@
 //! A session without the closures of its catalog.
 
-ghost use Rattle.std.specs.Prelude.{◌≡◌, [], IfOk};
+ghost use Rattle.std.specs.Prelude.{◌≡◌, ◌||◌, [], IfOk};
 ghost use Rattle.std.specs.Arc.{arc_value};
 ghost use Rattle.std.specs.Result.{result_err};
 ghost use Rattle.pcef_bearer.specs.Standing.{binding_of};
@@ -9,6 +9,7 @@ ghost use Rattle.pcef_model.specs.Entries.{lane};
 ghost use Rattle.pcef_model.specs.Generations.{at_first};
 ghost use Rattle.pcef_model.specs.Journals.{gen, now};
 ghost use Rattle.pcef_model.specs.Lawful.{Lawful};
+ghost use Rattle.pcef_model.specs.Refusals.{first_of, open_faults, was_closed, was_terminated};
 ghost use Rattle.pcef_model.specs.Terms.{setting_of};
 ghost use Rattle.pcef_session.specs.Agreement.{AreKept, KeysAgree};
 ghost use Rattle.pcef_session.specs.Shown.{Shows};
@@ -17,8 +18,9 @@ use indexmap::IndexMap;
 use pcef_bearer::Bearers;
 use pcef_catalog::Listing;
 use pcef_journal::Journal;
+use pcef_lane::{Lanes, MAX_WORKERS};
 use pcef_model::{AttachFault, Entry, OpenFault, Profile, TriggerSet};
-use pcef_rule::RuleName;
+use pcef_rule::{Kind, RuleName};
 use pcef_table::{Source, Table};
 use pcef_usage::{CountedJournal, Usage};
 use std::alloc::Global;
@@ -27,14 +29,12 @@ use std::sync::Arc;
 
 mod commands;
 mod flushing;
+mod leaving;
 mod preparing;
 mod refusing;
 
 /// How many rules may be active.
 pub const MAX_RULES: usize = 64;
-
-/// The most workers that are ever attached to a session.
-pub const MAX_WORKERS: u8 = 16;
 
 /// A session, without the closures of its catalog.
 #[derive(Drop)]
@@ -47,7 +47,9 @@ pub struct SessionState {
     bearers: Bearers,
     table: Arc<Table>,
     subscribed: TriggerSet,
-    attached: u8,
+    lanes: Lanes,
+    closed: bool,
+    terminated: bool,
 }
 
 impl Model for SessionState {
@@ -60,6 +62,17 @@ impl Model for SessionState {
     ghost view = { model_of };
 
     ghost invariant = { IsSound };
+}
+
+/// Why a session of this profile can't be opened, want of memory aside.
+pub(crate) fn open_fault(profile: &Profile) -> Option<OpenFault>
+    ensures { result ≡ first_of (open_faults (setting_of profile.now [])) }
+{
+    match profile.qcis.kind_of(profile.default_qos.qci) {
+        None => Some(OpenFault::UnknownQci),
+        Some(Kind::Gbr) => Some(OpenFault::DefaultIsGbr),
+        Some(Kind::NonGbr) => None,
+    }
 }
 
 /// The bearers of a session that is opened.
@@ -112,25 +125,37 @@ impl SessionState {
             bearers,
             table,
             subscribed: TriggerSet::default(),
-            attached: 0,
+            lanes: Lanes::new(),
+            closed: false,
+            terminated: false,
         })
     }
 
+    /// Whether the session was closed or terminated.
+    pub fn is_ended(&self) -> bool
+        ensures { result ≡ (was_closed self.now.journal || was_terminated self.now.journal) }
+    {
+        self.closed || self.terminated
+    }
+
     /// Attaches a worker and gives its number. Numbers go up from 0 and are never used again. Takes
-    /// memory for what the journal says of the worker.
+    /// memory for what the journal says of the worker, its leaving included.
     pub fn attach(&mut self) -> Result<u8, AttachFault>
         ensures answer { Attaches self.old.journal result self.new.journal }
         ensures lane { IfOk result (λ worker. lane self.old.journal worker ≡ []) }
         ensures setting { self.new.setting ≡ self.old.setting }
     {
-        if self.attached >= MAX_WORKERS {
+        if self.lanes.len() >= MAX_WORKERS {
             return Err(AttachFault::NoPlace);
         }
-        let worker = self.attached;
-        if self.counted.reserve(2 + usize::from(worker)).is_err() {
+        if self.is_ended() {
+            return Err(AttachFault::Closed);
+        }
+        if self.counted.reserve(2 + self.lanes.attached()).is_err() {
             return Err(AttachFault::NoMemory);
         }
-        self.attached += 1;
+        let worker = self.lanes.len() as u8;
+        self.lanes.come();
         self.counted.enter(Entry::Attach(worker));
         Ok(worker)
     }

@@ -1,4 +1,11 @@
 -- What a command makes of the keys and rules that a session keeps, and of their bearers.
+use Rattle.std.specs.Prelude.{[], map}
+use Rattle.pcef_bearer.specs.Bindings.{rules_on}
+use Rattle.pcef_bearer.specs.declared.bearers.Bound.{Bound}
+use Rattle.pcef_model.specs.declared.command.Command.TheVariants.{LoseBearer}
+use Rattle.pcef_model.specs.declared.telling.Telling.{Telling}
+use Rattle.pcef_model.specs.declared.telling.Telling.TheVariants.{Inactive}
+use Rattle.pcef_model.specs.Reports.{in_order}
 use Rattle.pcef_bearer.specs.Bindings.{is_named}
 use Rattle.std.specs.Prelude.{ℕ, ◌≡◌, List, Option, Some, None, Bool, filter, not}
 use Rattle.std.specs.Option.{option_map}
@@ -65,3 +72,9 @@ IsRebound (Some x) c old new None = ⊥
 IsRebound (Some x) c old new (Some id) = IsBoundTo x.properties old new id
 IsRebound None c old new bearer =
     (bearer ≡ None) × (new ≡ with_rules old (filter (λ b. not (takes_away c b.name b.bearer.0)) old.bound))
+
+-- ---- rules that go with their bearer
+-- the reports of the rules that are bound to a lost bearer, by the bytes of their names
+abbrev pub inactive_by : List Bound → Command → List Telling
+inactive_by bound (LoseBearer id) = map Inactive (in_order (map (λ b. b.name) (rules_on id.0 bound)))
+inactive_by bound _ = []

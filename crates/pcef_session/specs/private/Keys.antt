@@ -1,4 +1,8 @@
 -- Keys that are on, keys that commands switch, and keys that lose their last rule.
+use Rattle.std.specs.Prelude.{nat_lt}
+use Rattle.pcef_model.specs.declared.report.Cause.{Cause}
+use Rattle.pcef_model.specs.declared.report.Cause.TheVariants.{RulesGone, Terminated}
+use Rattle.pcef_model.specs.declared.command.Command.TheVariants.{Terminate}
 use Rattle.std.specs.Prelude.{◌||◌, true}
 use Rattle.pcef_model.specs.declared.command.Command.TheVariants.{Monitor, Stop}
 use Rattle.std.specs.Prelude.{Bool, ℕ, not, ◌&&◌, List, Option, Some, None, false}
@@ -52,6 +56,17 @@ abbrev pub is_lost : List Offer → List Entry → Command → Option Activation
 is_lost offers entries c x s =
     s.on && some_entry offers (has_key s.key) entries
     && not (comes_with x s.key || list_any (stays_with offers c x s.key) entries)
+
+-- ---- keys that a command ends
+-- what is reported of a key that ends
+abbrev pub end_cause : Command → Cause
+end_cause Terminate = Terminated
+end_cause _ = RulesGone
+
+-- Terminate ends all that are on or have unreported octets, another command those that lose their last rule
+abbrev pub is_ended : List Offer → List Entry → Command → Option Activation → KeyState → Bool
+is_ended offers entries Terminate x s = s.on || nat_lt 0 s.unreported
+is_ended offers entries c x s = is_lost offers entries c x s
 
 -- ---- the key that a command switches
 abbrev pub key_switched : Command → Option (List ℕ)

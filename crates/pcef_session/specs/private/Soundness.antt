@@ -1,4 +1,6 @@
 -- What always holds of a session's parts.
+use Rattle.std.specs.Prelude.{Bool, ◌+◌, if◌then◌else◌}
+use Rattle.pcef_lane.specs.Lanes.{LanesAgree}
 use Rattle.std.specs.Prelude.{ℕ, ◌≡◌, ◌≤◌, ◌<◌, ◌^◌, false, List, [], ◌∷◌, All, length, zero, suc}
 use Rattle.std.specs.Arc.{arc_value}
 use Rattle.indexmap.specs.IndexMap.{spare}
@@ -30,22 +32,18 @@ model_of s = record {
 abbrev pub held_of : Inside → Held
 held_of s = record { setting = setting_of s.profile s.listing; journal = s.counted.journal; parts = parts_of s }
 
--- the numbers below n, the highest first
-abbrev pub below : ℕ → List ℕ
-below zero = []
-below (suc n) = n ∷ below n
+-- which ends the journal has met
+pub record EndsAgree (j : Journal) (closed terminated : Bool) : Type 0 where
+  pub closed_is : was_closed j ≡ closed
+  pub terminated_is : was_terminated j ≡ terminated
 
--- a journal to which so many workers were attached, of whom none left, and which nothing ended: the
--- session serves no command that ends it yet
-pub record IsPlain (j : Journal) (workers : ℕ) : Type 0 where
-  pub counted : attach_count j ≡ workers
-  pub attached_are : attached j ≡ below workers
-  pub not_closed : was_closed j ≡ false
-  pub not_terminated : was_terminated j ≡ false
+-- how many commands there may be that have no budget
+abbrev pub ends_met : Bool → Bool → ℕ
+ends_met closed terminated = (if closed then 1 else 0) + (if terminated then 1 else 0)
 
 -- the journal is within the profile's limits, and the octets of each row fit 32 bits
 pub record IsLimited (s : Inside) : Type 0 where
-  pub few_commands : length (commands s.counted.journal) ≤ s.profile.commands
+  pub few_commands : length (commands s.counted.journal) ≤ s.profile.commands + ends_met s.closed s.terminated
   pub most_commands : s.profile.commands ≤ 1000000
   pub few_rows : length (rows s.counted.journal) ≤ s.profile.rows
   pub most_rows : s.profile.rows ≤ 4294967295
@@ -56,8 +54,11 @@ pub record IsSmall (s : Inside) : Type 0 where
   pub few_rules : length s.active.entries ≤ 64
   pub few_keys : length s.counted.states ≤ 8
 
+-- there is room for the leaving of each worker that is attached
 pub record IsSound (s : Inside) : Type 0 where
   pub agrees : Agrees (setting_of s.profile s.listing) s.counted.journal (parts_of s)
-  pub plain : IsPlain s.counted.journal s.attached
+  pub lanes : LanesAgree s.counted.journal s.lanes
+  pub ends : EndsAgree s.counted.journal s.closed s.terminated
+  pub leaving : length (attached s.counted.journal) ≤ s.counted.room
   pub limited : IsLimited s
   pub small : IsSmall s

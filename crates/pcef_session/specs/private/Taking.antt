@@ -1,4 +1,7 @@
 -- Rows that are taken over.
+use Rattle.std.specs.Prelude.{ℕ, length, set, get_or}
+use Rattle.pcef_lane.specs.declared.lanes.LaneEnd.{LaneEnd}
+use Rattle.pcef_lane.specs.Lanes.{at_start, last_generation, lengthened}
 use Rattle.pcef_session.specs.Following.{row_of, slot_of}
 use Rattle.std.specs.Prelude.{◌≡◌, ◌<◌, Bool, List, [], ◌∷◌, Option, All, map, ◌^◌}
 use Rattle.pcef_rule.specs.declared.quantity.Slot.{Slot}
@@ -32,3 +35,9 @@ pub record IsTakenAll (subscribed : Bool) (items : List Item) (old new : Counted
 abbrev pub IsTaken : Bool → List Item → Counted → Counted → Type 0
 IsTaken subscribed [] old new = (new.journal ≡ old.journal) × (new.states ≡ old.states)
 IsTaken subscribed (i ∷ items) old new = IsTakenAll subscribed (i ∷ items) old new
+
+-- the lane of a worker grows by these rows
+abbrev pub with_lane : ℕ → List Row → List LaneEnd → List LaneEnd
+with_lane worker [] lanes = lanes
+with_lane worker (r ∷ rs) lanes =
+    set lanes worker (lengthened (length (r ∷ rs)) (last_generation r.generation rs) (get_or lanes worker at_start))

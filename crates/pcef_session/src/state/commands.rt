@@ -3,10 +3,12 @@
 ghost use Rattle.std.specs.Prelude.{◌≡◌, Ok};
 ghost use Rattle.pcef_model.specs.declared.command.Command.TheVariants as of;
 ghost use Rattle.pcef_model.specs.Answers.{Does, Gives, command_outcome};
-ghost use Rattle.pcef_session.specs.Preparing.{IsIdle, IsPreparedFor, IsReady, IsServed, command_of};
+ghost use Rattle.pcef_session.specs.Preparing.{IsIdle, IsPreparedFor, IsReady, command_of};
 
 use super::SessionState;
-use crate::applying::{change_rules, enter, keep_table, rule_key, subscribed_by, tell};
+use crate::applying::{
+    change_rules, closed_by, enter, keep_table, rule_key, subscribed_by, tell, terminated_by,
+};
 use crate::prepared::{Prepared, PreparedChange};
 use pcef_model::{Accepted, Command, Refusal};
 use pcef_rule::RuleName;
@@ -29,6 +31,8 @@ impl SessionState {
         let bearer = change_rules(&mut self.active, &mut self.bearers, &command, rule);
         keep_table(&mut self.table, table);
         self.subscribed = subscribed_by(&command, self.subscribed);
+        self.closed = closed_by(&command, self.closed);
+        self.terminated = terminated_by(&command, self.terminated);
         enter(&mut self.counted, command, key);
         tell(&mut self.counted, &reports, self.subscribed.usage_report);
         Accepted {
@@ -69,7 +73,6 @@ impl SessionState {
 
     /// Does a command, or answers the first refusal in the order of [`Refusal`], which changes nothing.
     pub fn command(&mut self, command: Command) -> Result<Accepted, Refusal>
-        requires { IsServed command }
         ensures answer { Does self.old.setting command self.old.journal result self.new.journal }
         ensures setting { self.new.setting ≡ self.old.setting }
     {

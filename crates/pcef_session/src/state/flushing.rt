@@ -11,7 +11,7 @@ ghost use Rattle.pcef_model.specs.Refusals.{first_of, flush_refusals};
 
 use super::SessionState;
 use crate::batch::{Batch, Item};
-use crate::rows::{note_rows, take_all};
+use crate::rows::{lengthen, note_rows, take_all};
 use pcef_model::{FlushRefusal, Profile, Verdicts};
 use std::alloc::AllocError;
 
@@ -28,7 +28,7 @@ impl SessionState {
     fn flush_refusal(&self, worker: u8, count: usize) -> Option<FlushRefusal>
         ensures { result ≡ first_of (flush_refusals self.now.setting self.now.journal worker count) }
     {
-        if worker >= self.attached {
+        if !self.is_attached(worker) {
             return Some(FlushRefusal::NotAttached);
         }
         if self
@@ -56,8 +56,10 @@ impl SessionState {
         ensures setting { self.new.setting ≡ self.old.setting }
     {
         let judged = note_rows(self.alloc, items)?;
-        self.counted.reserve(items.len() + 8)?;
+        self.counted
+            .reserve(items.len() + 8 + self.lanes.attached())?;
         let first_report = self.counted.journal().reports_len();
+        lengthen(&mut self.lanes, worker, items);
         take_all(&mut self.counted, items, self.subscribed.usage_report);
         Ok(Verdicts {
             rows: judged,

@@ -1,26 +1,27 @@
 //! The memory that commands take.
 
-ghost use Rattle.std.specs.Prelude.{◌≡◌, ◌++◌, ◌<◌, IfErr, IfNone, IfOk, IfSome, None, Some, true};
+ghost use Rattle.std.specs.Prelude.{◌≡◌, ◌++◌, ◌+◌, ◌≤◌, ◌<◌, IfErr, IfNone, IfOk, IfSome, None, OnOk, Some, length, true};
 ghost use Rattle.std.specs.Arc.{arc_value};
 ghost use Rattle.std.specs.Option.{option_copied, option_map};
 ghost use Rattle.pcef_model.specs.ActiveRules.{predefined};
 ghost use Rattle.pcef_model.specs.Answers.{IsRefused, changes};
 ghost use Rattle.pcef_model.specs.Commands.{activated, is_table};
 ghost use Rattle.pcef_model.specs.declared.command.Command.TheVariants as of;
-ghost use Rattle.pcef_model.specs.Journals.{now};
+ghost use Rattle.pcef_model.specs.Journals.{attached, now};
 ghost use Rattle.pcef_model.specs.Refusals.{first_of, is_active, refusals};
-ghost use Rattle.pcef_model.specs.Reports.{after_command, ended, plan};
+ghost use Rattle.pcef_model.specs.Reports.{after_command, ended, inactive, plan};
 ghost use Rattle.pcef_model.specs.Setting.{offer_named};
 ghost use Rattle.pcef_session.specs.declared.prepared.Prepared.{Prepared};
-ghost use Rattle.pcef_session.specs.Preparing.{Activates, IsPreparedFor, IsReady, IsServed, IsTableAfter, command_of};
+ghost use Rattle.pcef_session.specs.Preparing.{Activates, IsPreparedFor, IsReady, IsTableAfter, command_of};
 ghost use Rattle.pcef_session.specs.private.Entries.{ShowsNext};
 ghost use Rattle.pcef_session.specs.private.Keys.{key_switched};
 ghost use Rattle.pcef_session.specs.SessionModel.{HasAtLeast};
 
 use super::SessionState;
+use crate::ended_keys::add_ended_keys;
 use crate::entries::entry_of;
+use crate::inactive::inactive;
 use crate::keys::{place_of, switched_key, switches_on};
-use crate::lost_keys::lost_keys;
 use crate::planning::{add_asked, add_noticed};
 use crate::prepared::{Activation, Prepared, PreparedChange};
 use pcef_model::{Command, Refusal, Telling};
@@ -134,18 +135,25 @@ impl SessionState {
         }
     }
 
-    /// The reports of the keys that a command ends.
-    fn ended(
+    /// The reports of the rules that a command takes away with their bearer.
+    fn inactive(&self, command: &Command) -> Result<Vec<Telling>, AllocError>
+        ensures { IfOk result (λ v. v.items ≡ inactive (now self.now.setting self.now.journal) command.now) }
+    {
+        inactive(self.alloc, self.bearers.bound(), command)
+    }
+
+    /// Adds the reports of the keys that a command ends.
+    fn add_ended(
         &self,
+        reports: &mut Vec<Telling>,
         command: &Command,
         rule: Option<&Activation>,
-    ) -> Result<Vec<Telling>, AllocError>
-        requires served { IsServed command.now }
+    ) -> Result<(), AllocError>
         requires rule { Activates self.now.setting (activated self.now.setting command.now) (option_copied rule) }
-        ensures { IfOk result (λ v. v.items ≡ ended self.now.setting self.now.journal command.now) }
+        ensures { OnOk result (reports.new.items ≡ reports.old.items ++ ended self.now.setting self.now.journal command.now) }
     {
-        lost_keys(
-            self.alloc,
+        add_ended_keys(
+            reports,
             self.counted.usage().states(),
             self.table.entries(),
             &self.listing,
@@ -156,11 +164,11 @@ impl SessionState {
 
     /// What a command reports by itself.
     fn plan(&self, command: &Command, rule: Option<&Activation>) -> Result<Vec<Telling>, AllocError>
-        requires served { IsServed command.now }
         requires rule { Activates self.now.setting (activated self.now.setting command.now) (option_copied rule) }
         ensures { IfOk result (λ v. v.items ≡ plan self.now.setting self.now.journal command.now) }
     {
-        let mut reports = self.ended(command, rule)?;
+        let mut reports = self.inactive(command)?;
+        self.add_ended(&mut reports, command, rule)?;
         add_asked(&mut reports, command)?;
         add_noticed(&mut reports, command, self.subscribed)?;
         Ok(reports)
@@ -183,9 +191,22 @@ impl SessionState {
         }
     }
 
+    /// Takes room for a rule, and in the journal for a command, these reports, the thresholds of eight keys and the
+    /// leaving of each worker.
+    fn take_room(&mut self, reports: &[Telling]) -> Result<(), AllocError>
+        ensures setting { self.new.setting ≡ self.old.setting }
+        ensures journal { self.new.journal ≡ self.old.journal }
+        ensures room { HasAtLeast self.old.room self.new.room }
+        ensures entries { OnOk result (length reports.now + 9 + length (attached self.old.journal) ≤ self.new.room.entries) }
+        ensures rules { OnOk result (0 < self.new.room.rules) }
+    {
+        self.active.reserve(1)?;
+        self.counted
+            .reserve(reports.len() + 9 + self.lanes.attached())
+    }
+
     /// Takes all memory that an accepted command needs, and changes nothing that can be seen but room.
     fn ready(&mut self, command: Command) -> Result<PreparedChange, AllocError>
-        requires served { IsServed command }
         requires accepted { first_of (refusals self.old.setting self.old.journal command) ≡ None }
         requires changing { changes self.old.setting self.old.journal command ≡ true }
         ensures setting { self.new.setting ≡ self.old.setting }
@@ -197,8 +218,7 @@ impl SessionState {
         let rule = self.activation(&command)?;
         let table = share(self.alloc, self.next_table(&command, rule.as_ref())?)?;
         let reports = self.plan(&command, rule.as_ref())?;
-        self.active.reserve(1)?;
-        self.counted.reserve(reports.len() + 9)?;
+        self.take_room(reports.as_slice())?;
         Ok(PreparedChange {
             command,
             table,
@@ -211,7 +231,6 @@ impl SessionState {
     /// refusal in the order of [`Refusal`]. Changes nothing that can be seen, and leaves no less room: what
     /// was prepared before can still be settled.
     pub fn prepare(&mut self, command: Command) -> Result<Prepared, Refusal>
-        requires { IsServed command }
         ensures setting { self.new.setting ≡ self.old.setting }
         ensures journal { self.new.journal ≡ self.old.journal }
         ensures room { HasAtLeast self.old.room self.new.room }

@@ -1,6 +1,7 @@
 //! Why commands are refused.
 
-ghost use Rattle.std.specs.Prelude.{◌≡◌, ◌==◌, ◌&&◌, ◌∷◌, [], Some, if◌then◌else◌, is_none, is_some, length, nat_le, not};
+ghost use Rattle.std.specs.Prelude.{◌≡◌, ◌==◌, ◌&&◌, ◌∷◌, [], Some, if◌then◌else◌, false, is_none, is_some, length, nat_le, not};
+ghost use Rattle.std.specs.List.{list_any};
 ghost use Rattle.std.specs.Option.{option_copied};
 ghost use Rattle.pcef_model.specs.ActiveRules.{without};
 ghost use Rattle.pcef_model.specs.Journals.{now, slots};
@@ -8,13 +9,14 @@ ghost use Rattle.pcef_model.specs.Setting.{most_rules, offer_named};
 ghost use Rattle.pcef_usage.specs.Keys.{finds_no_slot as slotless, has_slot};
 ghost use Rattle.pcef_model.specs.declared.answer.Refusal.TheVariants as refusal;
 ghost use Rattle.pcef_model.specs.Commands.{is_among};
-ghost use Rattle.pcef_session.specs.Preparing.{IsServed};
-ghost use Rattle.pcef_model.specs.Refusals.{becoming_active, becoming_active_if, bindings, common_refusals, finds_no_slot, first_of, is_active, refusals};
+ghost use Rattle.pcef_model.specs.declared.command.Command.TheVariants as of;
+ghost use Rattle.pcef_model.specs.Refusals.{becoming_active, becoming_active_if, bindings, common_refusals, ended, finds_no_slot, first_of, first_refusals, is_active, is_bearer, limited_count, own_refusals, refusals, was_closed, was_terminated};
 
 use super::{MAX_RULES, SessionState};
 use crate::keys::is_on;
+use pcef_bearer::{Bound, DEFAULT_BEARER};
 use pcef_model::{Command, Profile, Refusal};
-use pcef_rule::{KeyName, Properties, RuleName};
+use pcef_rule::{BearerId, KeyName, Properties, RuleName};
 use pcef_usage::{MAX_KEYS, Usage};
 
 /// How many commands a journal takes.
@@ -34,6 +36,13 @@ fn finds_no_slot(usage: &Usage, key: Option<&KeyName>) -> bool
     }
 }
 
+/// Whether some rule is bound to a bearer.
+fn is_bearer(bound: &[Bound], bearer: BearerId) -> bool
+    ensures { result ≡ list_any (λ b. b.bearer.0 == bearer.0) bound.now }
+{
+    bound.iter().any(|rule| rule.bearer == bearer)
+}
+
 /// Whether a key has a slot.
 fn has_slot(usage: &Usage, key: &KeyName) -> bool
     ensures { result ≡ has_slot key.now usage.now }
@@ -42,13 +51,57 @@ fn has_slot(usage: &Usage, key: &KeyName) -> bool
 }
 
 impl SessionState {
+    /// Whether the journal holds as many commands as the profile allows.
+    fn is_full(&self) -> bool
+        ensures { was_closed self.now.journal ≡ false → was_terminated self.now.journal ≡ false → result ≡ nat_le self.now.setting.commands (limited_count self.now.journal) }
+    {
+        self.counted.journal().commands_len() >= commands_of(&self.profile)
+    }
+
+    /// Why any command is refused that has a budget.
     fn common_refusal(&self) -> Option<Refusal>
         ensures { result ≡ first_of (common_refusals self.now.setting self.now.journal) }
     {
-        if self.counted.journal().commands_len() >= commands_of(&self.profile) {
+        if self.terminated {
+            return Some(Refusal::Terminated);
+        }
+        if self.closed {
+            return Some(Refusal::Closed);
+        }
+        if self.is_full() {
             return Some(Refusal::CommandsFull);
         }
         None
+    }
+
+    /// Why a Close is refused.
+    fn ended_refusal(&self) -> Option<Refusal>
+        ensures { result ≡ first_of (ended self.now.journal) }
+    {
+        if self.terminated {
+            return Some(Refusal::Terminated);
+        }
+        if self.closed {
+            return Some(Refusal::Closed);
+        }
+        None
+    }
+
+    /// Why a command is refused whatever it asks for.
+    fn first_refusal(&self, command: &Command) -> Option<Refusal>
+        ensures { result ≡ first_of (first_refusals self.now.setting self.now.journal command.now) }
+    {
+        match command {
+            Command::Close => self.ended_refusal(),
+            Command::Terminate => {
+                if self.terminated {
+                    Some(Refusal::Terminated)
+                } else {
+                    None
+                }
+            }
+            _ => self.common_refusal(),
+        }
     }
 
     fn finds_no_slot(&self, key: Option<&KeyName>) -> bool
@@ -167,14 +220,41 @@ impl SessionState {
         }
     }
 
-    /// Why a command is refused, want of memory aside: the first reason in the order of [`Refusal`].
-    pub(crate) fn refusal(&self, command: &Command) -> Option<Refusal>
-        requires { IsServed command.now }
-        ensures { result ≡ first_of (refusals self.now.setting self.now.journal command.now) }
+    /// Whether some rule is bound to a bearer.
+    fn is_bearer(&self, bearer: BearerId) -> bool
+        ensures { result ≡ is_bearer self.now.setting self.now.journal bearer.0 }
     {
-        if let Some(refusal) = self.common_refusal() {
-            return Some(refusal);
+        is_bearer(self.bearers.bound(), bearer)
+    }
+
+    fn lose_refusal(&self, bearer: BearerId) -> Option<Refusal>
+        ensures { result ≡ first_of (own_refusals self.now.setting self.now.journal (of.LoseBearer bearer)) }
+    {
+        if bearer == DEFAULT_BEARER {
+            return Some(Refusal::DefaultBearer);
         }
+        if self.is_bearer(bearer) {
+            None
+        } else {
+            Some(Refusal::UnknownBearer)
+        }
+    }
+
+    fn terminate_refusal(&self) -> Option<Refusal>
+        ensures { result ≡ first_of (own_refusals self.now.setting self.now.journal of.Terminate) }
+    {
+        let attached = self.lanes.attached() as u8;
+        if attached > 0 {
+            Some(Refusal::WorkersAttached(attached))
+        } else {
+            None
+        }
+    }
+
+    /// Why a command is refused for what it asks for.
+    fn own_refusal(&self, command: &Command) -> Option<Refusal>
+        ensures { result ≡ first_of (own_refusals self.now.setting self.now.journal command.now) }
+    {
         match command {
             Command::Install(rule) => self.install_refusal(rule.properties()),
             Command::Activate(name) => self.activate_refusal(name),
@@ -182,9 +262,19 @@ impl SessionState {
             Command::Monitor { key, grant } => self.monitor_refusal(key, *grant),
             Command::Stop(key) => self.stop_refusal(key),
             Command::ReportNow(key) => self.report_refusal(key),
-            Command::Triggers(_) => None,
-            Command::Notice { .. } => None,
-            _ => unreachable!(),
+            Command::LoseBearer(bearer) => self.lose_refusal(*bearer),
+            Command::Terminate => self.terminate_refusal(),
+            Command::Triggers(_) | Command::Notice { .. } | Command::Close => None,
         }
+    }
+
+    /// Why a command is refused, want of memory aside: the first reason in the order of [`Refusal`].
+    pub(crate) fn refusal(&self, command: &Command) -> Option<Refusal>
+        ensures { result ≡ first_of (refusals self.now.setting self.now.journal command.now) }
+    {
+        if let Some(refusal) = self.first_refusal(command) {
+            return Some(refusal);
+        }
+        self.own_refusal(command)
     }
 }

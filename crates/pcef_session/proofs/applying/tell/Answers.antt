@@ -13,3 +13,8 @@ pub finish-requires : goal.finish-requires
 finish-requires c =
     let many = length_left c.args.counted.now.states _ _ _ c.args.tellings.now c.args.tellings.now refl c.stop_all.ensures.states c.tell_all.ensures.states in
     omega (arith, many, c.requires.room, c.stop_all.ensures.room, c.tell_all.ensures.room)
+
+pub returns-clause-room : goal.returns-clause-room
+returns-clause-room c =
+    let many = length_left c.args.counted.now.states _ _ _ c.args.tellings.now c.args.tellings.now refl c.stop_all.ensures.states c.tell_all.ensures.states in
+    omega (arith, many, c.stop_all.ensures.room, c.tell_all.ensures.room, c.finish.ensures.room)

@@ -8,3 +8,8 @@ pub finish-requires : goal.finish-requires
 finish-requires c =
     let same = ap (λ (states : List KeyState). length states) c.take_rows.ensures.states ∙ length-rows_counted row_of slot_of c.args.items.now c.args.counted.now.states in
     omega (arith, same, c.take_rows.ensures.room, c.requires.room, c.requires.few)
+
+pub returns-clause-room : goal.returns-clause-room
+returns-clause-room c =
+    let same = ap (λ (states : List KeyState). length states) c.take_rows.ensures.states ∙ length-rows_counted row_of slot_of c.args.items.now c.args.counted.now.states in
+    omega (arith, same, c.take_rows.ensures.room, c.finish.ensures.room, c.requires.few)

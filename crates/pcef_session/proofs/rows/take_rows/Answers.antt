@@ -1,6 +1,5 @@
 use Rattle.std.proofs.Common.{arith}
-use Rattle.pcef_session.proofs.PlainJournals.{taken_end, taken_step}
-use Rattle.pcef_session.proofs.RowLoops.{counted_end, counted_step, fits_here, fits_later}
+use Rattle.pcef_session.proofs.RowLoops.{counted_end, counted_step, fits_here, fits_later, taken_end, taken_step}
 use Rattle.pcef_session.proofs.rows.take_rows.Goals as goal
 
 pub take_row-requires-clause-fits : goal.take_row-requires-clause-fits

@@ -1,35 +1,69 @@
-use Rattle.pcef_model.specs.Entries.{lane}
+use Rattle.std.proofs.Common.{◌≡◌, ◌≤◌, ◌+◌, ◌∙◌, [], ◌∷◌, ap, arith, false, length, refl, suc, sym, subst}
+use Rattle.std.specs.Prelude.{◌||◌}
+use Rattle.pcef_model.specs.declared.entry.Entry.TheVariants as entry
+use Rattle.pcef_model.specs.Entries.{Journal, lane}
+use Rattle.pcef_model.specs.Journals.{attach_count, attached}
+use Rattle.pcef_model.specs.Refusals.{attach_faults, first_of, was_closed, was_terminated}
 use Rattle.pcef_model.specs.Terms.{setting_of}
 use Rattle.pcef_model.proofs.NewLanes.{new_lane}
-use Rattle.std.proofs.Common.{◌≡◌, [], ap, arith, subst, refl, ◌∙◌}
-use Rattle.pcef_model.specs.declared.entry.Entry.TheVariants as entry
-use Rattle.std.specs.Prelude.{◌∷◌, Ok, Err}
-use Rattle.pcef_model.specs.Entries.{Journal}
-use Rattle.pcef_model.specs.declared.answer.AttachFault.TheVariants.{NoPlace}
+use Rattle.std.specs.Prelude.{Err, None, Ok}
 use Rattle.pcef_model.specs.Answers.{Attaches}
+use Rattle.pcef_model.specs.declared.answer.AttachFault.TheVariants.{Closed, NoMemory, NoPlace}
+use Rattle.pcef_lane.proofs.LaneEnds.{attached_len, lanes_count}
 use Rattle.pcef_session.specs.SessionModel.{SessionModel}
-use Rattle.pcef_session.proofs.PlainJournals.{attach_full, attach_next}
+use Rattle.pcef_session.proofs.Leaving.{attach_accepted, attach_ended, attach_full, attach_lacks, attach_next, ok_of}
 use Rattle.pcef_session.proofs.SoundLater.{sound_attached}
 use Rattle.pcef_session.proofs.state.SessionState.attach.Goals as goal
 
-pub returns-then-self-ge-MAX_WORKERS-clause-answer : goal.returns-then-self-ge-MAX_WORKERS-clause-answer
-returns-then-self-ge-MAX_WORKERS-clause-answer c =
-    subst (λ (v : SessionModel). Attaches v.journal (Err NoPlace) v.journal) c.self.view_is (attach_full _ _ c.self.invariant.plain c.if-self-ge-MAX_WORKERS.true)
+pub returns-then-len-ge-MAX_WORKERS-clause-answer : goal.returns-then-len-ge-MAX_WORKERS-clause-answer
+returns-then-len-ge-MAX_WORKERS-clause-answer c =
+    let s = c.self.inside in
+    subst (λ (v : SessionModel). Attaches v.journal (Err NoPlace) v.journal) c.self.view_is
+    (attach_full s.counted.journal (omega (arith, c.if-len-ge-MAX_WORKERS.true, c.len.ensures, lanes_count s.counted.journal s.lanes c.self.invariant.lanes)))
+
+pub returns-then-is_ended-clause-answer : goal.returns-then-is_ended-clause-answer
+returns-then-is_ended-clause-answer c =
+    let s = c.self.inside in
+    let count : attach_count c.args.self.now.journal ≡ length s.lanes =
+    subst (λ (v : SessionModel). attach_count v.journal ≡ length s.lanes) c.self.view_is (sym (lanes_count s.counted.journal s.lanes c.self.invariant.lanes)) in
+    attach_ended c.args.self.now.journal (omega (arith, c.if-len-ge-MAX_WORKERS.false, c.len.ensures, count)) (sym c.if-is_ended.ensures)
+
+pub returns-then-is_err-clause-answer : goal.returns-then-is_err-clause-answer
+returns-then-is_err-clause-answer c =
+    let s = c.self.inside in
+    let ended : (was_closed s.counted.journal || was_terminated s.counted.journal) ≡ false =
+    subst (λ (v : SessionModel). (was_closed v.journal || was_terminated v.journal) ≡ false) (sym c.self.view_is) (sym c.if-is_ended.ensures) in
+    let accepted = attach_accepted s.counted.journal (omega (arith, c.if-len-ge-MAX_WORKERS.false, c.len.ensures, lanes_count s.counted.journal s.lanes c.self.invariant.lanes)) ended in
+    subst (λ (v : SessionModel). Attaches v.journal (Err NoMemory) c.reserve.new.self.journal) c.self.view_is
+    (subst (λ (j : Journal). Attaches s.counted.journal (Err NoMemory) j) (sym c.reserve.ensures.journal) (attach_lacks s.counted.journal accepted))
 
 pub invariant_of-self-2 : goal.invariant_of-self-2
 invariant_of-self-2 c =
-    sound_attached c.self.inside _ c.self.invariant (omega (arith, c.if-self-ge-MAX_WORKERS.false)) refl refl
-    (c.enter.ensures.journal ∙ ap (λ (j : Journal). entry.Attach c.self.inside.attached ∷ j) c.reserve.ensures.journal)
-    (c.enter.ensures.states ∙ c.reserve.ensures.states) refl refl refl refl (omega arith)
+    let s = c.self.inside in
+    let ended : (was_closed s.counted.journal || was_terminated s.counted.journal) ≡ false =
+    subst (λ (v : SessionModel). (was_closed v.journal || was_terminated v.journal) ≡ false) (sym c.self.view_is) (sym c.if-is_ended.ensures) in
+    let count = lanes_count s.counted.journal s.lanes c.self.invariant.lanes in
+    let accepted = attach_accepted s.counted.journal (omega (arith, c.if-len-ge-MAX_WORKERS.false, c.len.ensures, count)) ended in
+    let many = attached_len s.counted.journal s.lanes c.self.invariant.lanes in
+    sound_attached s _ c.len-worker.result c.self.invariant (c.len-worker.ensures ∙ count) accepted refl refl
+    (c.enter.ensures.journal ∙ ap (λ (j : Journal). entry.Attach c.len-worker.result ∷ j) c.reserve.ensures.journal)
+    (c.enter.ensures.states ∙ c.reserve.ensures.states) refl refl refl refl c.come.ensures refl refl
+    (omega (arith, many, c.attached.ensures.number, ok_of c.reserve.result c.reserve.ensures.room c.if-is_err.ensures.value, c.enter.ensures.room))
 
 pub returns-clause-answer : goal.returns-clause-answer
 returns-clause-answer c =
-    subst (λ (v : SessionModel). Attaches v.journal (Ok c.self.inside.attached) c.enter.new.self.journal) c.self.view_is
-    (attach_next _ _ c.self.inside.attached c.self.invariant.plain (omega (arith, c.if-self-ge-MAX_WORKERS.false))
-    (c.enter.ensures.journal ∙ ap (λ j. entry.Attach c.self.inside.attached ∷ j) c.reserve.ensures.journal))
+    let s = c.self.inside in
+    let ended : (was_closed s.counted.journal || was_terminated s.counted.journal) ≡ false =
+    subst (λ (v : SessionModel). (was_closed v.journal || was_terminated v.journal) ≡ false) (sym c.self.view_is) (sym c.if-is_ended.ensures) in
+    let count = lanes_count s.counted.journal s.lanes c.self.invariant.lanes in
+    let accepted = attach_accepted s.counted.journal (omega (arith, c.if-len-ge-MAX_WORKERS.false, c.len.ensures, count)) ended in
+    subst (λ (v : SessionModel). Attaches v.journal (Ok c.len-worker.result) c.enter.new.self.journal) c.self.view_is
+    (attach_next s.counted.journal c.enter.new.self.journal c.len-worker.result (c.len-worker.ensures ∙ count) accepted
+    (c.enter.ensures.journal ∙ ap (λ j. entry.Attach c.len-worker.result ∷ j) c.reserve.ensures.journal))
 
 pub returns-clause-lane : goal.returns-clause-lane
 returns-clause-lane c =
     let s = c.self.inside in
     let empty = new_lane (setting_of s.profile s.listing) s.counted.journal c.self.invariant.agrees.lawful in
-    subst (λ (v : SessionModel). lane v.journal s.attached ≡ []) c.self.view_is (rw c.self.invariant.plain.counted at empty)
+    let number = c.len-worker.ensures ∙ lanes_count s.counted.journal s.lanes c.self.invariant.lanes in
+    subst (λ (v : SessionModel). lane v.journal c.len-worker.result ≡ []) c.self.view_is (subst (λ n. lane s.counted.journal n ≡ []) (sym number) empty)

@@ -4,7 +4,7 @@ use Rattle.std.specs.Arc.{arc_value}
 use Rattle.pcef_model.specs.declared.entry.Entry.TheVariants as entry
 use Rattle.pcef_model.specs.declared.telling.Telling.{Telling}
 use Rattle.pcef_model.specs.Entries.{Journal}
-use Rattle.pcef_model.specs.Journals.{gen, now, report_count, slots}
+use Rattle.pcef_model.specs.Journals.{attached, gen, now, report_count, slots}
 use Rattle.pcef_model.specs.Reports.{after_command, plan}
 use Rattle.std.specs.Option.{option_map}
 use Rattle.pcef_model.specs.declared.entry.Entry.TheVariants as entry
@@ -96,9 +96,13 @@ invariant_of-self c =
     ap (λ (ts : List Telling). told_by b ts c.enter.new.counted.states c.enter.new.counted.journal) planned ∙
     ap (λ (states : List KeyState). told_by b (plan p j command) states c.enter.new.counted.journal) entered ∙
     ap (told_by b (plan p j command) (entered_by (rule_key c.args.change.rule) command s.counted.states)) c.enter.ensures.journal in
+    let few : length (entered_by (rule_key c.args.change.rule) command s.counted.states) ≤ 8 =
+    few_entered_by p s.counted.journal command c.args.change.rule s.counted.states c.self.invariant.agrees.keys_are ready.accepted ready.changing ready.rule c.self.invariant.small.few_keys in
+    let states : length c.enter.new.counted.states ≡ length (entered_by (rule_key c.args.change.rule) command s.counted.states) = ap (λ (states : List KeyState). length states) entered in
+    let reports : length c.deref.result.now ≡ length c.args.change.reports.items = ap (λ (ts : List Telling). length ts) c.deref.ensures.value in
+    let room : length (attached j) ≤ c.tell.new.counted.room = omega (arith, few, states, reports, ready.has_room, c.enter.ensures.room, c.tell.ensures.room) in
     sound_commanded s _ command c.args.change.rule c.change_rules-bearer.result c.self.invariant
     (record {
-      served = ready.served;
       accepted = ready.accepted;
       changing = ready.changing;
       brings = ready.rule;
@@ -108,7 +112,7 @@ invariant_of-self c =
       triggers_are = triggers;
       shows = subst (Shows p (after_command p j command) (gen (after_command p j command))) (sym table) (table_after p j command (arc_value s.table) (option_map (λ t. arc_value t) c.args.change.table) c.self.invariant.agrees.table_shows ready.table);
     })
-    refl refl refl (journal_commanded p j command c.args.change.rule (parts_of s) c.tell.new.counted.journal c.self.invariant.agrees ready.accepted ready.rule journal)
+    refl refl refl c.closed_by-self-inside.ensures c.terminated_by-self-inside.ensures room (journal_commanded p j command c.args.change.rule (parts_of s) c.tell.new.counted.journal c.self.invariant.agrees ready.accepted ready.rule journal)
 
 pub returns-clause-answer : goal.returns-clause-answer
 returns-clause-answer c =
@@ -137,7 +141,6 @@ returns-clause-answer c =
       table = arc_value c.keep_table.new.held;
     } in
     let is : IsCommanded p j command c.args.change.rule (parts_of s) parts c.change_rules-bearer.result = record {
-      served = ready.served;
       accepted = ready.accepted;
       changing = ready.changing;
       brings = ready.rule;

@@ -9,4 +9,4 @@ invariant_of-result c =
     sound_opened _ c.in-Ok-new.ensures.journal c.in-Ok-new.ensures.states (search rules) (search rules)
     (ap (λ (t : TableValue). t.number) c.in-Ok-new-2.ensures.ok ∙ c.in-Ok-empty.ensures.number)
     (ap (λ (t : TableValue). t.entries) c.in-Ok-new-2.ensures.ok ∙ c.in-Ok-empty.ensures.entries)
-    (triggers_first c.default.result c.default.ensures.0 c.default.ensures.1.0 c.default.ensures.1.1.0 c.default.ensures.1.1.1.0 c.default.ensures.1.1.1.1) refl (search rules) (search rules)
+    (triggers_first c.default.result c.default.ensures.0 c.default.ensures.1.0 c.default.ensures.1.1.0 c.default.ensures.1.1.1.0 c.default.ensures.1.1.1.1) c.new-3.ensures refl refl (search rules) (search rules)

@@ -1,3 +1,8 @@
+use Rattle.std.proofs.Common.{ap, ◌<◌, ◌^◌}
+use Rattle.pcef_model.proofs.Lanes.{lane_few}
+use Rattle.pcef_lane.specs.declared.lanes.LaneEnd.{LaneEnd}
+use Rattle.pcef_lane.proofs.LaneEnds.{attached_came, attached_len, end_is}
+use Rattle.pcef_session.proofs.Leaving.{attached_accepted}
 use Rattle.std.proofs.Common.{◌≡◌, ◌+◌, ◌≤◌, sym, subst, refl, arith, length, map, None}
 use Rattle.pcef_model.specs.Entries.{rows}
 use Rattle.pcef_model.specs.Reports.{after_flush}
@@ -22,14 +27,31 @@ take_all-requires-clause-fits c =
     (can_count_all p s.counted.journal c.args.items.now s.counted.states (states_agree p s.counted.journal (parts_of s) c.self.invariant.agrees) its c.requires.octets c.self.invariant.limited.octets
     (omega (arith, within, c.self.invariant.limited.most_rows)))
 
+pub lengthen-requires-clause-came : goal.lengthen-requires-clause-came
+lengthen-requires-clause-came c =
+    let s = c.self.inside in
+    let accepted = subst (λ (v : SessionModel). first_of (flush_refusals v.setting v.journal c.args.worker (length c.args.items.now)) ≡ None) (sym c.self.view_is) c.requires.accepted in
+    attached_came s.counted.journal s.lanes c.args.worker c.self.invariant.lanes (attached_accepted (setting_of s.profile s.listing) s.counted.journal c.args.worker (length c.args.items.now) (sym accepted))
+
+pub lengthen-requires-clause-fits : goal.lengthen-requires-clause-fits
+lengthen-requires-clause-fits c =
+    let s = c.self.inside in
+    let p = setting_of s.profile s.listing in
+    let accepted = subst (λ (v : SessionModel). first_of (flush_refusals v.setting v.journal c.args.worker (length c.args.items.now)) ≡ None) (sym c.self.view_is) c.requires.accepted in
+    let came = attached_came s.counted.journal s.lanes c.args.worker c.self.invariant.lanes (attached_accepted p s.counted.journal c.args.worker (length c.args.items.now) (sym accepted)) in
+    let within : length (rows s.counted.journal) + length c.args.items.now ≤ s.profile.rows = within_rows p s.counted.journal c.args.worker (length c.args.items.now) accepted in
+    let here = ap (λ (e : LaneEnd). e.rows) (end_is s.counted.journal s.lanes c.args.worker c.self.invariant.lanes came) in
+    omega (arith, within, here, lane_few c.args.worker (rows s.counted.journal), c.self.invariant.limited.most_rows)
+
 pub invariant_of-self-2 : goal.invariant_of-self-2
 invariant_of-self-2 c =
     let s = c.self.inside in
     let accepted = subst (λ (v : SessionModel). first_of (flush_refusals v.setting v.journal c.args.worker (length c.args.items.now)) ≡ None) (sym c.self.view_is) c.requires.accepted in
     let its = subst (λ (v : SessionModel). HasItsSlots v.setting v.journal c.args.items.now) (sym c.self.view_is) c.requires.slots in
     let follow = subst (λ (v : SessionModel). BatchFollows v.setting v.journal c.args.worker (map row_of c.args.items.now)) (sym c.self.view_is) c.requires.follow in
-    sound_flushed s _ c.args.worker c.args.items.now c.reserve.new.self c.self.invariant accepted follow its c.requires.octets c.reserve.ensures.states c.reserve.ensures.journal c.take_all.ensures
-    refl refl refl refl refl refl refl
+    sound_flushed s _ c.args.worker c.args.items.now c.reserve.new.self c.self.invariant accepted follow its c.requires.octets c.reserve.ensures.states c.reserve.ensures.journal c.take_all.ensures.taken
+    refl refl refl refl refl refl c.lengthen.ensures refl refl
+    (omega (arith, c.take_all.ensures.room, c.in_ok-reserve.ensures.room, c.attached.ensures.number, attached_len s.counted.journal s.lanes c.self.invariant.lanes))
 
 pub returns-clause-taken : goal.returns-clause-taken
 returns-clause-taken c =
@@ -37,4 +59,4 @@ returns-clause-taken c =
     let p = setting_of s.profile s.listing in
     let its = subst (λ (v : SessionModel). HasItsSlots v.setting v.journal c.args.items.now) (sym c.self.view_is) c.requires.slots in
     subst (λ (v : SessionModel). c.take_all.new.counted.journal ≡ after_flush v.setting v.journal (map row_of c.args.items.now)) c.self.view_is
-    (flushed_journal p s.counted.journal c.args.items.now (parts_of s) c.reserve.new.self c.take_all.new.counted c.self.invariant.agrees c.reserve.ensures.states c.reserve.ensures.journal its c.take_all.ensures)
+    (flushed_journal p s.counted.journal c.args.items.now (parts_of s) c.reserve.new.self c.take_all.new.counted c.self.invariant.agrees c.reserve.ensures.states c.reserve.ensures.journal its c.take_all.ensures.taken)

@@ -1,13 +1,12 @@
-//! The keys that lose their last rule by a command.
+//! The keys that a command ends.
 
-ghost use Rattle.std.specs.Prelude.{◌≡◌, ◌&&◌, ◌++◌, ◌∷◌, [], All, IfOk, OnOk, if◌then◌else◌, not};
+ghost use Rattle.std.specs.Prelude.{◌≡◌, ◌&&◌, ◌++◌, ◌∷◌, [], All, OnOk, if◌then◌else◌, not};
 ghost use Rattle.std.specs.List.{list_any};
 ghost use Rattle.std.specs.Option.{option_copied};
 ghost use Rattle.pcef_model.specs.ActiveRules.{is_key};
-ghost use Rattle.pcef_model.specs.declared.report.Cause.TheVariants as cause;
 ghost use Rattle.pcef_table.specs.Sources.{IsKnown};
 ghost use Rattle.pcef_usage.specs.Commands.{usage_of};
-ghost use Rattle.pcef_session.specs.private.Keys.{comes_named, comes_with, entry_stays, has_key, is_lost, some_entry, stays_with};
+ghost use Rattle.pcef_session.specs.private.Keys.{comes_named, comes_with, end_cause, entry_stays, has_key, is_ended, is_lost, some_entry, stays_with};
 
 use crate::prepared::Activation;
 use pcef_catalog::Listing;
@@ -15,7 +14,7 @@ use pcef_model::{Cause, Command, Telling};
 use pcef_rule::{KeyName, RuleName};
 use pcef_table::Entry;
 use pcef_usage::KeyState;
-use std::alloc::{AllocError, Global};
+use std::alloc::AllocError;
 
 /// Whether a rule has this key.
 fn is_key(key: &KeyName, of: Option<&KeyName>) -> bool
@@ -119,32 +118,65 @@ fn is_lost(
         && !(comes_with(rule, &state.key) || keeps_one(entries, listing, command, rule, &state.key))
 }
 
-/// Adds the report of a key that is lost.
-fn note(reports: &mut Vec<Telling>, state: &KeyState, is_lost: bool) -> Result<(), AllocError>
-    ensures { OnOk result (reports.new.items ≡ reports.old.items ++ (if is_lost then Telling.Usage state.now.key cause.RulesGone ∷ [] else [])) }
+/// Whether a command ends a key: Terminate all that are on or have unreported octets, another command those that lose
+/// their last rule.
+fn is_ended(
+    state: &KeyState,
+    entries: &[Entry],
+    listing: &Listing,
+    command: &Command,
+    rule: Option<&Activation>,
+) -> bool
+    requires { All (λ e. IsKnown listing.now e.source) entries.now }
+    ensures { result ≡ is_ended listing.now entries.now command.now (option_copied rule.entry) state.now }
 {
-    if is_lost {
-        reports.push(Telling::Usage(state.key.copy(), Cause::RulesGone))?;
+    match command {
+        Command::Terminate => state.on || state.unreported > 0,
+        _ => is_lost(state, entries, listing, command, rule),
+    }
+}
+
+/// What a command reports of a key that it ends.
+fn end_cause(command: &Command) -> Cause
+    ensures { result ≡ end_cause command.now }
+{
+    match command {
+        Command::Terminate => Cause::Terminated,
+        _ => Cause::RulesGone,
+    }
+}
+
+/// Adds the report of a key that is ended.
+fn note(
+    reports: &mut Vec<Telling>,
+    state: &KeyState,
+    cause: Cause,
+    is_ended: bool,
+) -> Result<(), AllocError>
+    ensures { OnOk result (reports.new.items ≡ reports.old.items ++ (if is_ended then Telling.Usage state.now.key cause ∷ [] else [])) }
+{
+    if is_ended {
+        reports.push(Telling::Usage(state.key.copy(), cause))?;
     }
     Ok(())
 }
 
-/// The reports of the keys that lose their last rule, in slot order.
-pub(crate) fn lost_keys(
-    alloc: Global,
+/// Adds the reports of the keys that a command ends, in slot order.
+pub(crate) fn add_ended_keys(
+    reports: &mut Vec<Telling>,
     states: &[KeyState],
     entries: &[Entry],
     listing: &Listing,
     command: &Command,
     rule: Option<&Activation>,
-) -> Result<Vec<Telling>, AllocError>
+) -> Result<(), AllocError>
     requires { All (λ e. IsKnown listing.now e.source) entries.now }
-    ensures { IfOk result (λ v. v.items ≡ usage_of cause.RulesGone (is_lost listing.now entries.now command.now (option_copied rule.entry)) states.now) }
+    ensures { OnOk result (reports.new.items ≡ reports.old.items ++ usage_of (end_cause command.now) (is_ended listing.now entries.now command.now (option_copied rule.entry)) states.now) }
 {
-    let mut reports = Vec::new(alloc);
+    let cause = end_cause(command);
     for state in states {
-        let is_lost = is_lost(state, entries, listing, command, rule);
-        note(&mut reports, state, is_lost)?;
+        let is_ended = is_ended(state, entries, listing, command, rule);
+        note(reports, state, cause, is_ended)?;
     }
-    Ok(reports)
+    Ok(())
 }

@@ -1,4 +1,12 @@
--- The keys that a command ends: those that lose their last rule.
+-- What a command reports by itself: rules that go with their bearer, and keys that it ends.
+use Rattle.std.proofs.Common.{◌==◌, map}
+use Rattle.pcef_model.specs.declared.report.Cause.TheVariants.{Terminated}
+use Rattle.pcef_model.specs.declared.telling.Telling.TheVariants.{Inactive}
+use Rattle.pcef_model.specs.Reports.{in_order}
+use Rattle.pcef_bearer.specs.Bindings.{Binding, rules_on}
+use Rattle.pcef_bearer.specs.Standing.{binding_of, bound_of}
+use Rattle.pcef_session.specs.private.Changes.{inactive_by}
+use Rattle.pcef_session.specs.private.Keys.{end_cause, is_ended}
 use Rattle.std.proofs.Common.{◌≡◌, ◌∙◌, Bool, true, false, ◌&&◌, ◌||◌, not, ℕ, List, [], ◌∷◌, refl, sym, ap, inl, inr, filter, Contains, None, Some, subst, ◌++◌, append_assoc}
 use Rattle.std.specs.Prelude.{Option, ◌≢◌}
 use Rattle.std.specs.List.{list_any}
@@ -27,7 +35,7 @@ use Rattle.pcef_usage.specs.declared.usage.KeyState.{KeyState}
 use Rattle.pcef_usage.specs.Commands.{loses_rules, usage_of}
 use Rattle.pcef_usage.specs.Keys.{keys_of}
 use Rattle.pcef_usage.specs.Tellings.{AllOn}
-use Rattle.pcef_usage.proofs.Plans.{rules_gone, lost_by_states}
+use Rattle.pcef_usage.proofs.Plans.{ended_by_states, lost_by_states, rules_gone}
 use Rattle.pcef_session.specs.private.Parts.{Agrees, Parts}
 use Rattle.pcef_session.specs.declared.prepared.Activation.{Activation}
 use Rattle.pcef_model.specs.Changes.{MakesActive}
@@ -39,8 +47,8 @@ use Rattle.pcef_lists.proofs.Found.{any_from}
 use Rattle.pcef_model.proofs.Members.{first_there, later_there}
 use Rattle.pcef_model.proofs.Decisive.{made_once}
 use Rattle.pcef_session.proofs.ShownVerdicts.{rule_is}
-use Rattle.pcef_session.proofs.NextTables.{all_on_from}
-use Rattle.pcef_session.specs.Preparing.{Activates, IsServed}
+use Rattle.pcef_session.proofs.NextTables.{all_count_from, all_on_from}
+use Rattle.pcef_session.specs.Preparing.{Activates}
 use Rattle.pcef_model.specs.Commands.{activated, takes_away}
 use Rattle.pcef_session.proofs.ShownChanges.{name_is, only_now, each_now}
 use Rattle.pcef_model.proofs.RulesAfter.{rules_left, rules_put}
@@ -186,24 +194,53 @@ ended_agree p j c x parts agrees differs prepared =
     (λ s. lost_alike p j c x parts.table s prepared (made_once p (tables j)) agrees.table_shows)
     ∙ lost_by_states p j c parts.keys differs agrees.keys_are (all_on_from p j parts.keys agrees.usage_is)
 
--- Terminate isn't served yet
-pub served_stays : (c : Command) → IsServed c → c ≢ Terminate
-served_stays c served is = subst IsServed is served
+-- what a session reports of the keys that a command ends
+pub ended_keys : (p : Setting) (j : Journal) (c : Command) (x : Option Activation) (parts : Parts) → Agrees p j parts → Activates p (activated p c) x →
+    usage_of (end_cause c) (is_ended p.catalog parts.table.entries c x) parts.keys ≡ ended p j c
+ended_keys p j (Install rule) x parts agrees prepared = ended_agree p j (Install rule) x parts agrees (λ same. cc) prepared
+ended_keys p j (Activate name) x parts agrees prepared = ended_agree p j (Activate name) x parts agrees (λ same. cc) prepared
+ended_keys p j (Remove name) x parts agrees prepared = ended_agree p j (Remove name) x parts agrees (λ same. cc) prepared
+ended_keys p j (Monitor key amount) x parts agrees prepared = ended_agree p j (Monitor key amount) x parts agrees (λ same. cc) prepared
+ended_keys p j (Stop key) x parts agrees prepared = ended_agree p j (Stop key) x parts agrees (λ same. cc) prepared
+ended_keys p j (ReportNow key) x parts agrees prepared = ended_agree p j (ReportNow key) x parts agrees (λ same. cc) prepared
+ended_keys p j (Triggers set) x parts agrees prepared = ended_agree p j (Triggers set) x parts agrees (λ same. cc) prepared
+ended_keys p j (Notice kind value) x parts agrees prepared = ended_agree p j (Notice kind value) x parts agrees (λ same. cc) prepared
+ended_keys p j (LoseBearer id) x parts agrees prepared = ended_agree p j (LoseBearer id) x parts agrees (λ same. cc) prepared
+ended_keys p j Close x parts agrees prepared = ended_agree p j Close x parts agrees (λ same. cc) prepared
+ended_keys p j Terminate x parts agrees prepared =
+    ended_by_states p j parts.keys agrees.keys_are (all_count_from p j parts.keys agrees.usage_is) (all_on_from p j parts.keys agrees.usage_is)
 
-none_inactive : (g : Generation) (c : Command) → IsServed c → inactive g c ≡ []
-none_inactive g (Install rule) served = refl
-none_inactive g (Activate name) served = refl
-none_inactive g (Remove name) served = refl
-none_inactive g (Monitor key amount) served = refl
-none_inactive g (Stop key) served = refl
-none_inactive g (ReportNow key) served = refl
-none_inactive g (Triggers set) served = refl
-none_inactive g (Notice kind value) served = refl
-none_inactive g (LoseBearer id) served = absurd served
-none_inactive g Close served = refl
-none_inactive g Terminate served = refl
+-- ---- the rules that go with a lost bearer
+on_bearer : (g : Generation) (id : ℕ) (rules : List Active) →
+    map (λ b. b.name) (rules_on id (bound_of g rules)) ≡ map (λ r. r.properties.name) (filter (λ r. g.id_of r.properties.qos == id) rules)
+on_bearer g id [] = refl
+on_bearer g id (r ∷ rules) =
+    elim (cases_Bool (g.id_of r.properties.qos == id)) [
+      | inl is ↦ rw is (ap (λ names. r.properties.name ∷ names) (on_bearer g id rules))
+      | inr isnt ↦ rw isnt (on_bearer g id rules)
+    ]
+
+pub bearer_bound : (g : Generation) (id : ℕ) (rules : List Active) → list_any (λ b. b.bearer.0 == id) (bound_of g rules) ≡ list_any (λ r. g.id_of r.properties.qos == id) rules
+bearer_bound g id [] = refl
+bearer_bound g id (r ∷ rules) = ap (λ b. (g.id_of r.properties.qos == id) || b) (bearer_bound g id rules)
+
+pub inactive_is : (p : Setting) (g : Generation) (c : Command) (b : Binding) → b ≡ binding_of p g → inactive_by b.bound c ≡ inactive g c
+inactive_is p g (LoseBearer id) b is =
+    ap (λ (d : Binding). map Inactive (in_order (map (λ b. b.name) (rules_on id.0 d.bound)))) is
+    ∙ ap (λ names. map Inactive (in_order names)) (on_bearer g id.0 g.rules)
+inactive_is p g (Install rule) b is = refl
+inactive_is p g (Activate name) b is = refl
+inactive_is p g (Remove name) b is = refl
+inactive_is p g (Monitor key amount) b is = refl
+inactive_is p g (Stop key) b is = refl
+inactive_is p g (ReportNow key) b is = refl
+inactive_is p g (Triggers set) b is = refl
+inactive_is p g (Notice kind value) b is = refl
+inactive_is p g Close b is = refl
+inactive_is p g Terminate b is = refl
 
 -- what is planned part by part
-pub plan_is : (p : Setting) (j : Journal) (c : Command) → IsServed c → ended p j c ++ asked c ++ noticed j c ≡ plan p j c
-plan_is p j c served =
-    append_assoc (ended p j c) (asked c) (noticed j c) ∙ ap (λ ts. ts ++ (ended p j c ++ (asked c ++ noticed j c))) (sym (none_inactive (now p j) c served))
+pub plan_is : (p : Setting) (j : Journal) (c : Command) → ((inactive (now p j) c ++ ended p j c) ++ asked c) ++ noticed j c ≡ plan p j c
+plan_is p j c =
+    append_assoc (inactive (now p j) c ++ ended p j c) (asked c) (noticed j c)
+    ∙ append_assoc (inactive (now p j) c) (ended p j c) (asked c ++ noticed j c)

@@ -1,0 +1,81 @@
+//! Workers that leave.
+
+ghost use Rattle.std.specs.Prelude.{◌≡◌, ◌≤◌, ◌<◌, MatchOption, map, true};
+ghost use Rattle.std.specs.Result.{result_map_both};
+ghost use Rattle.pcef_lane.specs.Lanes.{lane_end};
+ghost use Rattle.pcef_model.specs.Answers.{Finishes, abandon_outcome, told_and_rows};
+ghost use Rattle.pcef_model.specs.Journals.{attach_count, lane_len};
+ghost use Rattle.pcef_model.specs.Lawful.{BatchFollows};
+ghost use Rattle.pcef_model.specs.Refusals.{is_attached};
+ghost use Rattle.pcef_model.specs.Reports.{after_leave};
+ghost use Rattle.pcef_session.specs.Following.{HasItsSlots, row_of};
+
+use super::SessionState;
+use crate::batch::Batch;
+use pcef_lane::LaneEnd;
+use pcef_model::{Entry, FlushRefusal, Verdicts};
+
+impl SessionState {
+    /// Where a worker's lane ends, and whether the worker is attached; or `None` of a worker that never came.
+    pub fn lane_end(&self, worker: u8) -> Option<LaneEnd>
+        ensures { MatchOption result (attach_count self.now.journal ≤ worker) (λ end. (worker < attach_count self.now.journal) × (end ≡ lane_end self.now.journal worker)) }
+    {
+        self.lanes.get(worker).copied()
+    }
+
+    /// Whether a worker is attached.
+    pub fn is_attached(&self, worker: u8) -> bool
+        ensures { result ≡ is_attached self.now.journal worker }
+    {
+        self.lanes.is_attached(worker)
+    }
+
+    /// How many rows of a worker the journal has.
+    pub fn lane_len(&self, worker: u8) -> u64
+        ensures { result ≡ lane_len self.now.journal worker }
+    {
+        self.lanes.rows(worker)
+    }
+
+    /// A worker leaves. Takes no memory.
+    pub fn detach(&mut self, worker: u8)
+        requires { is_attached self.old.journal worker ≡ true }
+        ensures journal { self.new.journal ≡ after_leave worker self.old.journal }
+        ensures setting { self.new.setting ≡ self.old.setting }
+    {
+        self.lanes.leave(worker);
+        self.counted.enter(Entry::Leave(worker));
+    }
+
+    /// Takes over a worker's last rows, as [`SessionState::flush`] does, and lets it leave. Gives the length of its
+    /// lane too. A refusal changes nothing, and the worker stays attached.
+    pub fn finish(&mut self, worker: u8, batch: &Batch) -> Result<(Verdicts, u64), FlushRefusal>
+        requires follow { BatchFollows self.old.setting self.old.journal worker (map row_of batch.now) }
+        requires slots { HasItsSlots self.old.setting self.old.journal batch.now }
+        ensures answer { Finishes self.old.setting worker (map row_of batch.now) self.old.journal (result_map_both told_and_rows (λ e. e) result) self.new.journal }
+        ensures setting { self.new.setting ≡ self.old.setting }
+    {
+        match self.flush(worker, batch) {
+            Err(refusal) => Err(refusal),
+            Ok(verdicts) => {
+                let rows = self.lane_len(worker);
+                self.detach(worker);
+                Ok((verdicts, rows))
+            }
+        }
+    }
+
+    /// Lets a worker leave without its waiting rows, which get no verdict, and gives the length of its lane. One
+    /// that isn't attached stays away. Takes no memory.
+    pub fn abandon(&mut self, worker: u8) -> u64
+        ensures rows { result ≡ (abandon_outcome self.old.journal worker).0 }
+        ensures journal { self.new.journal ≡ (abandon_outcome self.old.journal worker).1 }
+        ensures setting { self.new.setting ≡ self.old.setting }
+    {
+        let rows = self.lane_len(worker);
+        if self.is_attached(worker) {
+            self.detach(worker);
+        }
+        rows
+    }
+}
