@@ -3,7 +3,6 @@
 ghost use Rattle.std.specs.Prelude.{◌≡◌, ◌≢◌, Err, IfOk, Some, false, string_bytes};
 ghost use Rattle.pcef_model.specs.Journals.{gen};
 ghost use Rattle.pcef_model.specs.Setting.{Setting};
-ghost use Rattle.pcef_session.specs.Preparing.{IsServed};
 ghost use Rattle.pcef_line.specs.LineOf.{LineOf};
 ghost use Rattle.pcef_script.specs.ScriptAnswers.{AnswersAs, AnswersDue, Comes, Commands, DueWithin, Standing, Steps, standing_of};
 ghost use Rattle.pcef_line.specs.declared.fault.LineFault.TheVariants.{LineTooLong, NoMemory};
@@ -50,7 +49,6 @@ fn generation(session: &SessionState) -> u32
 
 /// Does a command. Where memory is wanting there is no answer, for this step and for the next ones.
 fn command(alloc: Global, world: &mut WorldState, command: Command) -> Result<String, AllocError>
-    requires { IsServed command }
     ensures answer { IfOk result (λ text. Commands world.old.core.setting (standing_of world.old) command (string_bytes text) (standing_of world.new)) }
     ensures setting { world.new.core.setting ≡ world.old.core.setting }
 {

@@ -4,7 +4,7 @@ use Rattle.std.proofs.Common.{◌≡◌, ◌∙◌, ◌≤◌, ◌<◌, ◌+◌,
 use Rattle.std.specs.Result.{is_err}
 use Rattle.std.specs.Prelude.{All, OnOk, Option, Result, filter, nat_le, nat_lt, ◌||◌, ◌==◌, if◌then◌else◌}
 use Rattle.std.specs.List.{list_any}
-use Rattle.std.proofs.lemmas.Bool.{le-leb, le-ltb, lt-leb, lt-ltb}
+use Rattle.std.proofs.lemmas.Bool.{le-leb, le-ltb, leb-false, lt-leb, lt-ltb}
 use Rattle.pcef_model.specs.declared.entry.Entry.TheVariants as entry
 use Rattle.pcef_model.specs.declared.row.Row.{Row}
 use Rattle.pcef_model.specs.declared.answer.AttachFault.{AttachFault}
@@ -21,6 +21,7 @@ use Rattle.pcef_model.specs.Journals.{attach_count, attached, lane_len, report_c
 use Rattle.pcef_model.specs.Answers.{Attaches, Finishes, Flushes, Told, attach_outcome, finish_outcome, flush_outcome, flush_outcome_by, told}
 use Rattle.pcef_model.specs.Refusals.{attach_faults, first_of, flush_refusals, is_attached, own_refusals, was_closed, was_terminated}
 use Rattle.pcef_model.specs.Reports.{after_command, after_finish, after_flush, after_leave, body_of, plan, tell, thresholds, with_rows}
+use Rattle.pcef_model.proofs.Acceptance.{condition_none}
 use Rattle.pcef_model.proofs.Onward.{attach_count_after_command, attach_count_after_flush, attached_after_command, attached_after_flush, flushed_once, rows_after_command, rows_after_flush}
 use Rattle.pcef_lane.specs.declared.lanes.LaneEnd.{LaneEnd}
 use Rattle.pcef_lane.specs.Lanes.{LanesAgree, at_start}
@@ -47,16 +48,21 @@ reports_with j (r ∷ rs) = reports_with (entry.Row r ∷ j) rs
 
 
 -- ---- attaching
-pub attach_full : (j : Journal) → 16 ≤ attach_count j → Attaches j (Err attach.NoPlace) j
-unfolding attach_outcome
-attach_full j full = inl (rw (le-leb 16 (attach_count j) full) (refl, refl))
+pub attach_full : (j : Journal) → 16 ≤ attach_count j → Some attach.NoPlace ≡ first_of (attach_faults j)
+attach_full j full = rw (le-leb 16 (attach_count j) full) refl
 
-pub attach_ended : (j : Journal) → attach_count j < 16 → (was_closed j || was_terminated j) ≡ true → Attaches j (Err attach.Closed) j
-unfolding attach_outcome
-attach_ended j few ended = inl (rw (lt-leb 16 (attach_count j) few, ended) (refl, refl))
+pub attach_ended : (j : Journal) → attach_count j < 16 → (was_closed j || was_terminated j) ≡ true → Some attach.Closed ≡ first_of (attach_faults j)
+attach_ended j few ended = rw (lt-leb 16 (attach_count j) few, ended) refl
 
-pub attach_accepted : (j : Journal) → attach_count j < 16 → (was_closed j || was_terminated j) ≡ false → first_of (attach_faults j) ≡ None
-attach_accepted j few opened = rw (lt-leb 16 (attach_count j) few, opened) refl
+pub attach_accepted : (j : Journal) → attach_count j < 16 → (was_closed j || was_terminated j) ≡ false → None ≡ first_of (attach_faults j)
+attach_accepted j few living = rw (lt-leb 16 (attach_count j) few, living) refl
+
+pub attach_few : (j : Journal) → first_of (attach_faults j) ≡ None → attach_count j < 16
+attach_few j accepted = leb-false 16 (attach_count j) (condition_none (nat_le 16 (attach_count j)) attach.NoPlace ((was_closed j || was_terminated j, attach.Closed) ∷ []) accepted).0
+
+pub attach_refused : (j : Journal) (f : AttachFault) → first_of (attach_faults j) ≡ Some f → Attaches j (Err f) j
+unfolding attach_outcome
+attach_refused j f is = inl (rw is (refl, refl))
 
 pub attach_next : (j new : Journal) (n : ℕ) → n ≡ attach_count j → first_of (attach_faults j) ≡ None → new ≡ entry.Attach n ∷ j → Attaches j (Ok n) new
 unfolding attach_outcome

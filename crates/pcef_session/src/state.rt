@@ -9,7 +9,7 @@ ghost use Rattle.pcef_model.specs.Entries.{lane};
 ghost use Rattle.pcef_model.specs.Generations.{at_first};
 ghost use Rattle.pcef_model.specs.Journals.{gen, now};
 ghost use Rattle.pcef_model.specs.Lawful.{Lawful};
-ghost use Rattle.pcef_model.specs.Refusals.{first_of, open_faults, was_closed, was_terminated};
+ghost use Rattle.pcef_model.specs.Refusals.{attach_faults, first_of, open_faults, was_closed, was_terminated};
 ghost use Rattle.pcef_model.specs.Terms.{setting_of};
 ghost use Rattle.pcef_session.specs.Agreement.{AreKept, KeysAgree};
 ghost use Rattle.pcef_session.specs.Shown.{Shows};
@@ -138,6 +138,19 @@ impl SessionState {
         self.closed || self.terminated
     }
 
+    /// Why no worker can come, want of memory aside: the first reason in the order of [`AttachFault`].
+    pub fn attach_fault(&self) -> Option<AttachFault>
+        ensures { result ≡ first_of (attach_faults self.now.journal) }
+    {
+        if self.lanes.len() >= MAX_WORKERS {
+            return Some(AttachFault::NoPlace);
+        }
+        if self.is_ended() {
+            return Some(AttachFault::Closed);
+        }
+        None
+    }
+
     /// Attaches a worker and gives its number. Numbers go up from 0 and are never used again. Takes
     /// memory for what the journal says of the worker, its leaving included.
     pub fn attach(&mut self) -> Result<u8, AttachFault>
@@ -145,11 +158,8 @@ impl SessionState {
         ensures lane { IfOk result (λ worker. lane self.old.journal worker ≡ []) }
         ensures setting { self.new.setting ≡ self.old.setting }
     {
-        if self.lanes.len() >= MAX_WORKERS {
-            return Err(AttachFault::NoPlace);
-        }
-        if self.is_ended() {
-            return Err(AttachFault::Closed);
+        if let Some(fault) = self.attach_fault() {
+            return Err(fault);
         }
         if self.counted.reserve(2 + self.lanes.attached()).is_err() {
             return Err(AttachFault::NoMemory);

@@ -6,7 +6,6 @@ ghost use Rattle.std.specs.Result.{result_err, result_map_both};
 ghost use Rattle.pcef_model.specs.Journals.{attach_count, gen};
 ghost use Rattle.pcef_session.specs.Shown.{Shows};
 ghost use Rattle.pcef_model.specs.Answers.{Attaches, Does, Opens, told_of};
-ghost use Rattle.pcef_session.specs.Preparing.{IsServed};
 ghost use Rattle.pcef_model.specs.Terms.{setting_of};
 ghost use Rattle.pcef_world.specs.Worlds.{AreInTurn, HandsOver, Refreshes, Takes, after_attaching};
 
@@ -85,7 +84,6 @@ impl WorldState {
 
     /// As [`SessionState::command`].
     pub fn command(&mut self, command: Command) -> Result<Accepted, Refusal>
-        requires { IsServed command }
         ensures answer { Does self.old.core.setting command self.old.core.journal result self.new.core.journal }
         ensures workers { self.new.workers ≡ self.old.workers }
         ensures setting { self.new.core.setting ≡ self.old.core.setting }
@@ -100,6 +98,9 @@ impl WorldState {
         ensures number { IfOk result (λ number. number ≡ length self.old.workers) }
         ensures setting { self.new.core.setting ≡ self.old.core.setting }
     {
+        if let Some(fault) = self.session.attach_fault() {
+            return Err(fault);
+        }
         if self.workers.reserve(1).is_err() {
             return Err(AttachFault::NoMemory);
         }

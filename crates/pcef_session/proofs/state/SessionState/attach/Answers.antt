@@ -8,42 +8,44 @@ use Rattle.pcef_model.specs.Terms.{setting_of}
 use Rattle.pcef_model.proofs.NewLanes.{new_lane}
 use Rattle.std.specs.Prelude.{Err, None, Ok}
 use Rattle.pcef_model.specs.Answers.{Attaches}
-use Rattle.pcef_model.specs.declared.answer.AttachFault.TheVariants.{Closed, NoMemory, NoPlace}
+use Rattle.pcef_model.specs.declared.answer.AttachFault.TheVariants.{NoMemory}
 use Rattle.pcef_lane.proofs.LaneEnds.{attached_len, lanes_count}
 use Rattle.pcef_session.specs.SessionModel.{SessionModel}
-use Rattle.pcef_session.proofs.Leaving.{attach_accepted, attach_ended, attach_full, attach_lacks, attach_next, ok_of}
+use Rattle.pcef_session.proofs.Leaving.{attach_few, attach_lacks, attach_next, attach_refused, ok_of}
 use Rattle.pcef_session.proofs.SoundLater.{sound_attached}
 use Rattle.pcef_session.proofs.state.SessionState.attach.Goals as goal
 
-pub returns-then-len-ge-MAX_WORKERS-clause-answer : goal.returns-then-len-ge-MAX_WORKERS-clause-answer
-returns-then-len-ge-MAX_WORKERS-clause-answer c =
-    let s = c.self.inside in
-    subst (λ (v : SessionModel). Attaches v.journal (Err NoPlace) v.journal) c.self.view_is
-    (attach_full s.counted.journal (omega (arith, c.if-len-ge-MAX_WORKERS.true, c.len.ensures, lanes_count s.counted.journal s.lanes c.self.invariant.lanes)))
-
-pub returns-then-is_ended-clause-answer : goal.returns-then-is_ended-clause-answer
-returns-then-is_ended-clause-answer c =
-    let s = c.self.inside in
-    let count : attach_count c.args.self.now.journal ≡ length s.lanes =
-    subst (λ (v : SessionModel). attach_count v.journal ≡ length s.lanes) c.self.view_is (sym (lanes_count s.counted.journal s.lanes c.self.invariant.lanes)) in
-    attach_ended c.args.self.now.journal (omega (arith, c.if-len-ge-MAX_WORKERS.false, c.len.ensures, count)) (sym c.if-is_ended.ensures)
+pub returns-in-Some-clause-answer : goal.returns-in-Some-clause-answer
+returns-in-Some-clause-answer c = attach_refused c.args.self.now.journal c.in-Some.fault (sym c.in-Some.ensures)
 
 pub returns-then-is_err-clause-answer : goal.returns-then-is_err-clause-answer
 returns-then-is_err-clause-answer c =
     let s = c.self.inside in
-    let ended : (was_closed s.counted.journal || was_terminated s.counted.journal) ≡ false =
-    subst (λ (v : SessionModel). (was_closed v.journal || was_terminated v.journal) ≡ false) (sym c.self.view_is) (sym c.if-is_ended.ensures) in
-    let accepted = attach_accepted s.counted.journal (omega (arith, c.if-len-ge-MAX_WORKERS.false, c.len.ensures, lanes_count s.counted.journal s.lanes c.self.invariant.lanes)) ended in
+    let accepted : first_of (attach_faults s.counted.journal) ≡ None =
+    subst (λ (v : SessionModel). first_of (attach_faults v.journal) ≡ None) (sym c.self.view_is) (sym c.in_default.ensures) in
     subst (λ (v : SessionModel). Attaches v.journal (Err NoMemory) c.reserve.new.self.journal) c.self.view_is
     (subst (λ (j : Journal). Attaches s.counted.journal (Err NoMemory) j) (sym c.reserve.ensures.journal) (attach_lacks s.counted.journal accepted))
+
+pub overflow_cast-worker : goal.overflow_cast-worker
+overflow_cast-worker c =
+    let s = c.self.inside in
+    let accepted : first_of (attach_faults s.counted.journal) ≡ None =
+    subst (λ (v : SessionModel). first_of (attach_faults v.journal) ≡ None) (sym c.self.view_is) (sym c.in_default.ensures) in
+    omega (arith, attach_few s.counted.journal accepted, c.len-worker.ensures, lanes_count s.counted.journal s.lanes c.self.invariant.lanes)
+
+pub come-requires : goal.come-requires
+come-requires c =
+    let s = c.self.inside in
+    let accepted : first_of (attach_faults s.counted.journal) ≡ None =
+    subst (λ (v : SessionModel). first_of (attach_faults v.journal) ≡ None) (sym c.self.view_is) (sym c.in_default.ensures) in
+    omega (arith, attach_few s.counted.journal accepted, lanes_count s.counted.journal s.lanes c.self.invariant.lanes)
 
 pub invariant_of-self-2 : goal.invariant_of-self-2
 invariant_of-self-2 c =
     let s = c.self.inside in
-    let ended : (was_closed s.counted.journal || was_terminated s.counted.journal) ≡ false =
-    subst (λ (v : SessionModel). (was_closed v.journal || was_terminated v.journal) ≡ false) (sym c.self.view_is) (sym c.if-is_ended.ensures) in
     let count = lanes_count s.counted.journal s.lanes c.self.invariant.lanes in
-    let accepted = attach_accepted s.counted.journal (omega (arith, c.if-len-ge-MAX_WORKERS.false, c.len.ensures, count)) ended in
+    let accepted : first_of (attach_faults s.counted.journal) ≡ None =
+    subst (λ (v : SessionModel). first_of (attach_faults v.journal) ≡ None) (sym c.self.view_is) (sym c.in_default.ensures) in
     let many = attached_len s.counted.journal s.lanes c.self.invariant.lanes in
     sound_attached s _ c.len-worker.result c.self.invariant (c.len-worker.ensures ∙ count) accepted refl refl
     (c.enter.ensures.journal ∙ ap (λ (j : Journal). entry.Attach c.len-worker.result ∷ j) c.reserve.ensures.journal)
@@ -53,10 +55,9 @@ invariant_of-self-2 c =
 pub returns-clause-answer : goal.returns-clause-answer
 returns-clause-answer c =
     let s = c.self.inside in
-    let ended : (was_closed s.counted.journal || was_terminated s.counted.journal) ≡ false =
-    subst (λ (v : SessionModel). (was_closed v.journal || was_terminated v.journal) ≡ false) (sym c.self.view_is) (sym c.if-is_ended.ensures) in
     let count = lanes_count s.counted.journal s.lanes c.self.invariant.lanes in
-    let accepted = attach_accepted s.counted.journal (omega (arith, c.if-len-ge-MAX_WORKERS.false, c.len.ensures, count)) ended in
+    let accepted : first_of (attach_faults s.counted.journal) ≡ None =
+    subst (λ (v : SessionModel). first_of (attach_faults v.journal) ≡ None) (sym c.self.view_is) (sym c.in_default.ensures) in
     subst (λ (v : SessionModel). Attaches v.journal (Ok c.len-worker.result) c.enter.new.self.journal) c.self.view_is
     (attach_next s.counted.journal c.enter.new.self.journal c.len-worker.result (c.len-worker.ensures ∙ count) accepted
     (c.enter.ensures.journal ∙ ap (λ j. entry.Attach c.len-worker.result ∷ j) c.reserve.ensures.journal))

@@ -1,3 +1,4 @@
+use Rattle.pcef_session.proofs.Leaving.{attach_refused}
 use Rattle.std.proofs.Common.{refl, sym, ◌∙◌}
 use Rattle.std.proofs.lemmas.List.{length-map}
 use Rattle.pcef_world.specs.WorldSoundness.{seen}
@@ -20,3 +21,7 @@ returns-clause-number c =
     rw (← c.self.view_is)
     (attached_number c.self.inside.session c.attach.new.self c.self.inside.workers.items c.in_ok-number.number c.self.invariant c.in_ok-number.ensures.answer
     ∙ sym (length-map c.self.inside.workers.items seen))
+
+pub returns-in-Some-clause-answer : goal.returns-in-Some-clause-answer
+returns-in-Some-clause-answer c =
+    rw (← c.self.view_is) (attach_refused c.self.inside.session.journal c.in-Some.fault (sym c.in-Some.ensures))
