@@ -113,7 +113,7 @@ lanes_come j n lanes is none agree =
     }
 
 -- a worker leaves
-leave_other : (j : Journal) (n w : ℕ) (ns : List ℕ) → (w ≡ n → ⊥) → list_any (λ v. v == w) (filter (λ v. not (v == n)) ns) ≡ list_any (λ v. v == w) ns
+pub leave_other : (j : Journal) (n w : ℕ) (ns : List ℕ) → (w ≡ n → ⊥) → list_any (λ v. v == w) (filter (λ v. not (v == n)) ns) ≡ list_any (λ v. v == w) ns
 leave_other j n w [] differ = refl
 leave_other j n w (m ∷ ns) differ =
     elim (cases_Bool (m == n)) [

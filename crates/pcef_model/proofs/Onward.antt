@@ -120,15 +120,16 @@ pub record Commanded (p : Setting) (j k : Journal) : Type 0 where
   pub onward : Onward p j k
   pub rows_are : rows k ≡ rows j
   pub count_is : attach_count k ≡ attach_count j
+  pub attached_are : attached k ≡ attached j
 
 -- where nothing changed
 commanded_not : (p : Setting) (j k : Journal) → k ≡ j → Commanded p j k
-commanded_not p j k same = record { onward = onward_same p j k (ap tables same); rows_are = ap rows same; count_is = ap attach_count same }
+commanded_not p j k same = record { onward = onward_same p j k (ap tables same); rows_are = ap rows same; count_is = ap attach_count same; attached_are = ap attached same }
 
 -- where the command was done
 commanded_once : (p : Setting) (j k : Journal) (c : Command) → k ≡ after_command p j c → Commanded p j k
 commanded_once p j k c is =
-    rw is (record { onward = onward_command p j c; rows_are = rows_after_command p j c; count_is = attach_count_after_command p j c })
+    rw is (record { onward = onward_command p j c; rows_are = rows_after_command p j c; count_is = attach_count_after_command p j c; attached_are = attached_after_command p j c })
 
 -- a command that was answered
 pub commanded : (p : Setting) (c : Command) (j k : Journal) (result : Result Accepted Refusal) → Does p c j result k → Commanded p j k

@@ -18,7 +18,7 @@ use Rattle.pcef_model.specs.declared.telling.Telling.{Telling}
 use Rattle.pcef_model.specs.Setting.{Setting}
 use Rattle.pcef_model.specs.Entries.{Journal, commands, lane, rows}
 use Rattle.pcef_model.specs.Journals.{attach_count, attached, lane_len, report_count}
-use Rattle.pcef_model.specs.Answers.{Attaches, Finishes, Flushes, Told, attach_outcome, finish_outcome, flush_outcome, flush_outcome_by, told}
+use Rattle.pcef_model.specs.Answers.{Attaches, Finishes, Flushes, Told, attach_outcome, finish_outcome, finish_outcome_by, flush_outcome, flush_outcome_by, told}
 use Rattle.pcef_model.specs.Refusals.{attach_faults, first_of, flush_refusals, is_attached, own_refusals, was_closed, was_terminated}
 use Rattle.pcef_model.specs.Reports.{after_command, after_finish, after_flush, after_leave, body_of, plan, tell, thresholds, with_rows}
 use Rattle.pcef_model.proofs.Acceptance.{condition_none}
@@ -131,6 +131,27 @@ finish_done p j k new worker rs v n flushes count is =
       ap (λ (t : Told). Ok (t, n)) value ∙ ap (λ (m : ℕ). Ok (told rs j (after_flush p j rs), m)) (count ∙ ap (λ l. lane_len l worker) once.1),
       is ∙ ap (after_leave worker) once.1,
     ))
+
+-- rows that were refused changed nothing
+pub finished_not : (p : Setting) (j k : Journal) (worker : ℕ) (rs : List Row) (r : FlushRefusal) → Finishes p worker rs j (Err r) k → k ≡ j
+unfolding finish_outcome
+finished_not p j k worker rs r (inr none) = none.1.1
+finished_not p j k worker rs r (inl done) = from (first_of (flush_refusals p j worker (length rs))) done
+  where
+    from : (o : Option FlushRefusal) → (Err r ≡ (finish_outcome_by p j worker rs o).0) × (k ≡ (finish_outcome_by p j worker rs o).1) → k ≡ j
+    from (Some f) is = is.1
+    from None is = absurd (let e = is.0 in cc)
+
+-- and rows that weren't stand in the journal that the worker left
+pub finished_once : (p : Setting) (j k : Journal) (worker : ℕ) (rs : List Row) (v : Told × ℕ) → Finishes p worker rs j (Ok v) k →
+    (first_of (flush_refusals p j worker (length rs)) ≡ None) × (k ≡ after_leave worker (after_flush p j rs))
+unfolding finish_outcome
+finished_once p j k worker rs v (inr none) = absurd (let e = none.1.0 in cc)
+finished_once p j k worker rs v (inl done) = from (first_of (flush_refusals p j worker (length rs))) done
+  where
+    from : (o : Option FlushRefusal) → (Ok v ≡ (finish_outcome_by p j worker rs o).0) × (k ≡ (finish_outcome_by p j worker rs o).1) → (o ≡ None) × (k ≡ after_leave worker (after_flush p j rs))
+    from (Some f) is = absurd (let e = is.0 in cc)
+    from None is = (refl, is.1)
 
 -- an attached worker was never refused
 pub attached_accepted : (p : Setting) (j : Journal) (worker count : ℕ) → None ≡ first_of (flush_refusals p j worker count) → is_attached j worker ≡ true

@@ -1,3 +1,4 @@
 pub mod WorkersWait
 pub mod WorldAnswers
 pub mod WorldSteps
+pub mod WrittenLists

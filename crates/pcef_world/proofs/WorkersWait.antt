@@ -1,6 +1,8 @@
 -- What always holds of a worker stays as the journal grows, and as the worker works.
+use Rattle.pcef_lane.proofs.LaneEnds.{leave_other}
 use Rattle.std.proofs.Common.{◌≡◌, ◌∙◌, ◌≤◌, ◌<◌, ◌+◌, ℕ, Bool, true, false, ◌==◌, List, [], ◌∷◌, ◌++◌, All, length, filter, map, refl, sym, ap, subst, arith, Some, None, find, length-append}
-use Rattle.std.specs.Prelude.{Option, if◌then◌else◌, slice_index_or}
+use Rattle.std.specs.Prelude.{Option, ◌||◌, if◌then◌else◌, slice_index_or}
+use Rattle.std.specs.List.{list_any}
 use Rattle.std.specs.Option.{option_map, option_map_or}
 use Rattle.std.proofs.lemmas.Bool.{eq-eqb}
 use Rattle.std.proofs.lemmas.List.{length-map, map-append}
@@ -19,20 +21,20 @@ use Rattle.pcef_model.specs.declared.row.Row.{Row}
 use Rattle.pcef_model.specs.Setting.{Setting}
 use Rattle.pcef_model.specs.Generations.{made_by, oldest}
 use Rattle.pcef_model.specs.Entries.{Journal, lane, rows}
-use Rattle.pcef_model.specs.Journals.{at, attach_count, gen, judged, lane_len, slots, tables}
-use Rattle.pcef_model.specs.Reports.{after_attach, after_flush, with_rows}
+use Rattle.pcef_model.specs.Journals.{at, attach_count, attached, gen, judged, lane_len, slots, tables}
+use Rattle.pcef_model.specs.Reports.{after_attach, after_flush, after_leave, with_rows}
 use Rattle.pcef_model.proofs.AfterEvents.{tables_after_rows}
 use Rattle.pcef_session.specs.declared.batch.Item.{Item}
 use Rattle.pcef_world.specs.declared.worker.Worker.{Worker}
 use Rattle.pcef_model.specs.Slots.{CountsFor, IsWithin, slot_of}
 use Rattle.pcef_session.specs.Following.{HasItsSlots, row_of}
 use Rattle.pcef_model.specs.Lawful.{BatchFollows, Lawful, RowFollows, RowsFollow, newest_generation}
-use Rattle.pcef_model.specs.Refusals.{first_of, flush_refusals}
+use Rattle.pcef_model.specs.Refusals.{first_of, flush_refusals, is_attached}
 use Rattle.pcef_session.specs.Shown.{Shows}
 use Rattle.pcef_world.specs.Workers.{IsJudged, Waits, held_by, with_item}
 use Rattle.pcef_model.proofs.Lanes.{lane_few, lane_len_with, lane_other, lane_with, with_rows_push}
 use Rattle.pcef_model.proofs.NewLanes.{new_lane}
-use Rattle.pcef_model.proofs.Onward.{Onward, flushed_fits, onward_same, rows_after_flush, tables_after_flush}
+use Rattle.pcef_model.proofs.Onward.{Onward, attached_after_flush, flushed_fits, onward_same, rows_after_flush, tables_after_flush}
 use Rattle.pcef_model.proofs.RowsLater.{batch_empty, batch_later, batch_push}
 use Rattle.pcef_session.proofs.ShownLater.{shows_later, shows_same}
 use Rattle.pcef_session.proofs.ShownSlots.{shown_counts}
@@ -63,14 +65,14 @@ slots_later p j k items onward known has = λ m d inside.
 
 -- ---- as the journal grows
 -- a worker whose lane is as it was
-pub waits_later : (p : Setting) (j k : Journal) (n : ℕ) (w : Worker) → Onward p j k → lane k n ≡ lane j n → Waits p j n w → Waits p k n w
-waits_later p j k n w onward lane_is waits = record {
+pub waits_later : (p : Setting) (j k : Journal) (n : ℕ) (w : Worker) → Onward p j k → lane k n ≡ lane j n → is_attached k n ≡ is_attached j n → Waits p j n w → Waits p k n w
+waits_later p j k n w onward lane_is attached_is waits = record {
   number_is = waits.number_is;
   known = omega (arith, waits.known, onward.gen_more);
   shows = shows_later p j k (held_by w).number (held_by w) (onward.at_is (held_by w).number waits.known) onward.grows waits.shows;
   follow = batch_later p n j k (map row_of w.waiting) (record { lane_is = lane_is; gen_more = onward.gen_more; at_is = onward.at_is }) waits.follow;
   slots = slots_later p j k w.waiting onward (rows_known p j w.waiting waits.follow.follow) waits.slots;
-  handed_over = waits.handed_over ∙ sym (ap length lane_is);
+  attached = attached_is ∙ waits.attached;
   few = omega (arith, waits.few, ap length lane_is);
   not_older = subst (λ rs. newest_generation rs ≤ (held_by w).number) (sym (lane_with n (map row_of w.waiting) j k lane_is)) waits.not_older;
 }
@@ -78,16 +80,16 @@ waits_later p j k n w onward lane_is waits = record {
 -- ---- a worker that comes
 -- its lane is empty, and nothing waits
 pub waits_new : (p : Setting) (j k : Journal) (w : Worker) → lane j (attach_count j) ≡ [] → k ≡ after_attach j → Shows p j (gen j) (held_by w) → w.number ≡ attach_count j →
-    w.waiting ≡ [] → w.handed_over ≡ 0 → Waits p k (attach_count j) w
-unfolding with_rows
-waits_new p j k w new is shows number_is none first =
+    w.waiting ≡ [] → Waits p k (attach_count j) w
+unfolding with_rows attached
+waits_new p j k w new is shows number_is none =
     rw is (record {
       number_is = number_is;
       known = omega (arith, shows.number_is);
       shows = subst (λ m. Shows p (after_attach j) m (held_by w)) (sym shows.number_is) (shows_same p j (after_attach j) (gen j) (held_by w) refl shows);
       follow = rw none (batch_empty p (attach_count j) (after_attach j));
       slots = rw none (All-nil (λ (i : Item). IsWithin (slots p (after_attach j)) i.slot × CountsFor p (after_attach j) i.row i.slot));
-      handed_over = first ∙ sym (ap length new);
+      attached = ap (λ b. b || is_attached j (attach_count j)) (eq-eqb (attach_count j) (attach_count j) refl);
       few = omega (arith, ap length new);
       not_older = rw (none, new) (omega arith);
     })
@@ -125,17 +127,17 @@ row_of_fields : (r : Row) (worker seq generation : ℕ) (header : Header) (verdi
 row_of_fields r worker seq generation header verdict a b c d e = rw (← a, ← b, ← c, ← d, ← e) refl
 
 -- the verdict is that of the generation that the worker holds
-pub verdict_taken : (p : Setting) (j : Journal) (n : ℕ) (w : Worker) (header : Header) (i : Item) → Waits p j n w → IsJudged p.catalog p.ue header w i →
+pub verdict_taken : (p : Setting) (j : Journal) (n : ℕ) (w : Worker) (header : Header) (i : Item) → Waits p j n w → IsJudged p.catalog p.ue header (lane_len j n) w i →
     i.row.verdict ≡ judged p (at p j (held_by w).number) header
 verdict_taken p j n w header i waits made =
     shown_judges p j (held_by w).number (held_by w) header i.row.verdict waits.shows (made_once p (oldest (held_by w).number (tables j))) made.verdict_is
 
 -- the row that waits then
-pub row_made : (p : Setting) (j : Journal) (n : ℕ) (w : Worker) (header : Header) (i : Item) → Waits p j n w → IsJudged p.catalog p.ue header w i →
+pub row_made : (p : Setting) (j : Journal) (n : ℕ) (w : Worker) (header : Header) (i : Item) → Waits p j n w → IsJudged p.catalog p.ue header (lane_len j n) w i →
     i.row ≡ record { worker = n; seq = lane_len j n + length (map row_of w.waiting); generation = (held_by w).number; header = header; verdict = judged p (at p j (held_by w).number) header }
 row_made p j n w header i waits made =
     row_of_fields i.row n (lane_len j n + length (map row_of w.waiting)) (held_by w).number header (judged p (at p j (held_by w).number) header)
-    (made.worker_is ∙ waits.number_is) (omega (arith, made.seq_is, waits.handed_over, length-map w.waiting row_of)) made.generation_is made.header_is (verdict_taken p j n w header i waits made)
+    (made.worker_is ∙ waits.number_is) (omega (arith, made.seq_is, length-map w.waiting row_of)) made.generation_is made.header_is (verdict_taken p j n w header i waits made)
 
 -- it may come after those that wait
 taken_follows : (p : Setting) (j : Journal) (n : ℕ) (w : Worker) (header : Header) (r : Row) → Waits p j n w →
@@ -152,7 +154,7 @@ taken_follows p j n w header r waits is =
     })
 
 -- one more item waits
-pub waits_take : (p : Setting) (j : Journal) (n : ℕ) (w : Worker) (header : Header) (i : Item) → Waits p j n w → IsJudged p.catalog p.ue header w i → Waits p j n (with_item i w)
+pub waits_take : (p : Setting) (j : Journal) (n : ℕ) (w : Worker) (header : Header) (i : Item) → Waits p j n w → IsJudged p.catalog p.ue header (lane_len j n) w i → Waits p j n (with_item i w)
 waits_take p j n w header i waits made =
     let rs : List Row = map row_of w.waiting in
     let all : map row_of (w.waiting ++ i ∷ []) ≡ rs ++ i.row ∷ [] = map-append row_of w.waiting (i ∷ []) in
@@ -170,22 +172,21 @@ waits_take p j n w header i waits made =
       shows = waits.shows;
       follow = subst (BatchFollows p j n) (sym all) (batch_push p n j rs i.row waits.follow own follows);
       slots = All-push (λ (x : Item). IsWithin (slots p j) x.slot × CountsFor p j x.row x.slot) w.waiting i waits.slots (within, counting);
-      handed_over = waits.handed_over;
+      attached = waits.attached;
       few = waits.few;
       not_older = rw (longer, mine) (omega (arith, made.generation_is));
     }
 
 -- ---- the newest generation is taken
 -- its rows go on waiting
-pub waits_refresh : (p : Setting) (j : Journal) (n : ℕ) (w new : Worker) → Waits p j n w → Shows p j (gen j) (held_by new) → new.number ≡ w.number → new.waiting ≡ w.waiting →
-    new.handed_over ≡ w.handed_over → Waits p j n new
-waits_refresh p j n w new waits shows number_is waiting_is handed_is = record {
+pub waits_refresh : (p : Setting) (j : Journal) (n : ℕ) (w new : Worker) → Waits p j n w → Shows p j (gen j) (held_by new) → new.number ≡ w.number → new.waiting ≡ w.waiting → Waits p j n new
+waits_refresh p j n w new waits shows number_is waiting_is = record {
   number_is = number_is ∙ waits.number_is;
   known = omega (arith, shows.number_is);
   shows = subst (λ m. Shows p j m (held_by new)) (sym shows.number_is) shows;
   follow = rw waiting_is waits.follow;
   slots = rw waiting_is waits.slots;
-  handed_over = handed_is ∙ waits.handed_over;
+  attached = waits.attached;
   few = waits.few;
   not_older = rw waiting_is (omega (arith, waits.not_older, waits.known, shows.number_is));
 }
@@ -193,7 +194,7 @@ waits_refresh p j n w new waits shows number_is waiting_is handed_is = record {
 -- ---- rows that are taken over
 -- those of the worker itself
 pub waits_flushed : (p : Setting) (j k : Journal) (n : ℕ) (w : Worker) → Waits p j n w → first_of (flush_refusals p j n (length (map row_of w.waiting))) ≡ None →
-    k ≡ after_flush p j (map row_of w.waiting) → Waits p k n (record w { waiting = []; handed_over = w.handed_over + length w.waiting })
+    k ≡ after_flush p j (map row_of w.waiting) → Waits p k n (record w { waiting = [] })
 unfolding with_rows
 waits_flushed p j k n w waits accepted is =
     let rs : List Row = map row_of w.waiting in
@@ -207,7 +208,7 @@ waits_flushed p j k n w waits accepted is =
       shows = shows_same p j k (held_by w).number (held_by w) same waits.shows;
       follow = batch_empty p n k;
       slots = All-nil (λ (i : Item). IsWithin (slots p k) i.slot × CountsFor p k i.row i.slot);
-      handed_over = omega (arith, waits.handed_over, longer, length-map w.waiting row_of);
+      attached = ap (λ ns. list_any (λ v. v == n) ns) (ap attached is ∙ attached_after_flush p j rs) ∙ waits.attached;
       few = omega (arith, longer, fits, lane_few n (rows j));
       not_older = subst (λ xs. newest_generation xs ≤ (held_by w).number) (sym lane_is) waits.not_older;
     }
@@ -218,4 +219,10 @@ pub waits_beside : (p : Setting) (j k : Journal) (n m : ℕ) (rs : List Row) (w 
 waits_beside p j k n m rs w waits differ own is =
     let lane_is : lane k n ≡ lane j n = ap (filter (λ (r : Row). r.worker == n)) (ap rows is ∙ rows_after_flush p j rs) ∙ lane_other n m rs j differ own in
     let same : tables k ≡ tables j = ap tables is ∙ tables_after_flush p j rs in
-    waits_later p j k n w (onward_same p j k same) lane_is waits
+    waits_later p j k n w (onward_same p j k same) lane_is (ap (λ ns. list_any (λ v. v == n) ns) (ap attached is ∙ attached_after_flush p j rs)) waits
+
+-- ---- another worker leaves
+pub waits_left : (p : Setting) (j : Journal) (n m : ℕ) (w : Worker) → (n ≡ m → ⊥) → Waits p j n w → Waits p (after_leave m j) n w
+unfolding attached
+waits_left p j n m w differ waits =
+    waits_later p j (after_leave m j) n w (onward_same p j (after_leave m j) refl) refl (leave_other j m n (attached j) differ) waits

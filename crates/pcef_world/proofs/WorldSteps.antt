@@ -1,6 +1,10 @@
 -- What always holds of a world stays as its session and its workers step.
+use Rattle.std.specs.Option.{IfSome}
+use Rattle.pcef_table.specs.Tables.{IsTable}
 use Rattle.std.proofs.Common.{◌≡◌, ◌∙◌, ◌≤◌, ◌<◌, ◌+◌, ℕ, suc, ◌==◌, List, [], ◌∷◌, ◌++◌, filter, length, map, refl, sym, ap, subst, arith, inl, inr, None, Ok, Err, get_or}
-use Rattle.std.specs.Prelude.{Result, slice_set}
+use Rattle.std.specs.Prelude.{Option, Result, Some, slice_get, slice_set, true}
+use Rattle.std.specs.Option.{option_map}
+use Rattle.std.specs.List.{list_any}
 use Rattle.std.specs.Result.{result_map_both}
 use Rattle.std.proofs.lemmas.Bool.{cases_eq, cases_lt, ne_eqb}
 use Rattle.std.proofs.lemmas.List.{get_or-map, get_or-set_other, get_or-set_same, get_or_append_left, get_or_push, length-map, length-set, length_push}
@@ -11,8 +15,8 @@ use Rattle.pcef_model.specs.declared.command.Command.{Command}
 use Rattle.pcef_model.specs.declared.row.Row.{Row}
 use Rattle.pcef_model.specs.Setting.{Setting}
 use Rattle.pcef_model.specs.Entries.{Journal, lane}
-use Rattle.pcef_model.specs.Journals.{attach_count, tables, gen}
-use Rattle.pcef_model.specs.Reports.{after_attach, after_flush}
+use Rattle.pcef_model.specs.Journals.{attach_count, attached, gen, lane_len, tables}
+use Rattle.pcef_model.specs.Reports.{after_attach, after_flush, after_leave}
 use Rattle.pcef_model.specs.declared.answer.Accepted.{Accepted}
 use Rattle.pcef_model.specs.declared.answer.AttachFault.{AttachFault}
 use Rattle.pcef_model.specs.declared.answer.FlushRefusal.{FlushRefusal}
@@ -21,59 +25,65 @@ use Rattle.pcef_model.specs.declared.answer.Verdicts.{Verdicts}
 use Rattle.pcef_session.specs.declared.batch.BatchFull.{BatchFull}
 use Rattle.pcef_world.specs.declared.worker.Worker.{Worker}
 use Rattle.pcef_session.specs.private.Parts.{Agrees}
-use Rattle.pcef_model.specs.Answers.{Attaches, Does, Flushes, told_of}
+use Rattle.pcef_model.specs.Answers.{Attaches, Does, Finishes, Flushes, told_and_rows, told_of}
 use Rattle.pcef_session.specs.SessionModel.{SessionModel}
 use Rattle.pcef_session.specs.Following.{row_of}
-use Rattle.pcef_model.specs.Refusals.{first_of, flush_refusals}
+use Rattle.pcef_model.specs.Refusals.{first_of, flush_refusals, is_attached}
 use Rattle.pcef_model.specs.Terms.{setting_of}
-use Rattle.pcef_world.specs.Workers.{AllWait, TakesItem, Waits, after_flushing, held_by}
+use Rattle.pcef_world.specs.Workers.{AbandonsAt, AllWait, FinishesPlace, HandsOverAt, HoldsAt, MayHandOver, TakesAt, TakesItem, Waits, after_finishing, after_flushing, held_by}
 use Rattle.pcef_world.specs.WorldSoundness.{IsSoundWith, seen}
-use Rattle.pcef_world.specs.Worlds.{AreInTurn, IsInTurn}
+use Rattle.pcef_world.specs.Worlds.{AreInTurn, IsInTurn, if_there, worker_at}
+use Rattle.pcef_world.specs.declared.world.Abandoned.{Abandoned}
+use Rattle.pcef_world.specs.declared.world.StepRefusal.{StepRefusal}
+use Rattle.pcef_world.proofs.WrittenLists.{get_beside, get_mapped, get_pushed, get_written, set_same, set_twice}
+use Rattle.std.proofs.lemmas.Option.{slice_get_within}
+use Rattle.pcef_table.specs.Tables.{TableValue}
+use Rattle.pcef_model.specs.Lawful.{BatchFollows}
+use Rattle.pcef_session.proofs.Leaving.{finished_not, finished_once}
+use Rattle.pcef_world.specs.Worlds.{Waiting}
+use Rattle.std.specs.Prelude.{◌||◌}
 use Rattle.pcef_model.proofs.Onward.{Commanded, attach_count_after_flush, attached_not, attached_once, commanded, flushed_not, flushed_once, onward_same}
-use Rattle.pcef_world.proofs.WorkersWait.{waits_beside, waits_flushed, waits_later, waits_new, waits_refresh, waits_take}
+use Rattle.pcef_world.proofs.WorkersWait.{waits_beside, waits_flushed, waits_later, waits_left, waits_new, waits_refresh, waits_take}
 use Rattle.pcef_session.specs.Shown.{Shows}
 
--- ---- workers in their list
--- the worker at a place
-pub waits_at : (p : Setting) (j : Journal) (workers : List Worker) (i : ℕ) (w : Worker) → AllWait p j workers → i < length workers → w ≡ get_or workers i w → Waits p j i w
-waits_at p j workers i w all within is = subst (Waits p j i) (sym is) (all i w within)
-
--- a worker changes, and the others stay as they are
-all_set : (p : Setting) (j k : Journal) (workers : List Worker) (i : ℕ) (new : Worker) → i < length workers → AllWait p j workers → Waits p k i new →
-    ((n : ℕ) (w : Worker) → (n ≡ i → ⊥) → Waits p j n w → Waits p k n w) → AllWait p k (slice_set workers i new)
-all_set p j k workers i new within all here others = λ m d inside.
-    let there : m < length workers = omega (arith, inside, length-set workers i new) in
+-- ---- workers at their places
+-- a place changes, and what stands at the others goes on waiting
+all_set : (p : Setting) (j k : Journal) (workers : List (Option Worker)) (i : ℕ) (new : Option Worker) → i < length workers → AllWait p j workers →
+    ((v : Worker) → new ≡ Some v → Waits p k i v) → ((n : ℕ) (w : Worker) → (n ≡ i → ⊥) → Waits p j n w → Waits p k n w) → AllWait p k (slice_set workers i new)
+all_set p j k workers i new within all here others = λ m w there.
     elim (cases_eq m i) [
-      | inl same ↦ subst (λ n. Waits p k n (get_or (slice_set workers i new) n d)) (sym same) (subst (Waits p k i) (sym (get_or-set_same workers i new d within)) here)
-      | inr differs ↦ subst (Waits p k m) (sym (get_or-set_other workers i m new d differs)) (others m (get_or workers m d) differs (all m d there))
+      | inl same ↦
+          let at_i : slice_get (slice_set workers i new) i ≡ Some (Some w) = subst (λ n. slice_get (slice_set workers i new) n ≡ Some (Some w)) same there in
+          let is : new ≡ Some w = let both : Some new ≡ Some (Some w) = sym (get_written workers i new within) ∙ at_i in cc in
+          subst (λ n. Waits p k n w) (sym same) (here w is)
+      | inr differs ↦ others m w differs (all m w (sym (get_beside workers i m new differs) ∙ there))
     ]
 
 -- a worker comes
-all_push : (p : Setting) (k : Journal) (workers : List Worker) (new : Worker) → AllWait p k workers → Waits p k (length workers) new → AllWait p k (workers ++ new ∷ [])
-all_push p k workers new all here = λ m d inside.
-    let fits : m < suc (length workers) = omega (arith, inside, length_push workers new) in
-    elim (cases_lt m (length workers)) [
-      | inl before ↦ subst (Waits p k m) (sym (get_or_append_left workers (new ∷ []) d m before)) (all m d before)
-      | inr past ↦
-          let same : length workers ≡ m = omega (arith, fits, past) in
-          subst (Waits p k m) (sym (get_or_push workers new d m same)) (subst (λ n. Waits p k n new) same here)
+all_push : (p : Setting) (k : Journal) (workers : List (Option Worker)) (new : Worker) → AllWait p k workers → Waits p k (length workers) new → AllWait p k (workers ++ Some new ∷ [])
+all_push p k workers new all here = λ m w there.
+    elim (get_pushed workers (Some w) (Some new) m there) [
+      | inl before ↦ all m w before
+      | inr last ↦
+          let is : new ≡ w = let both : Some new ≡ Some w = last.1 in cc in
+          subst (λ n. Waits p k n w) (sym last.0) (subst (Waits p k (length workers)) is here)
     ]
 
 -- what callers see of workers
-pub all_in_turn : (p : Setting) (j : Journal) (workers : List Worker) → AllWait p j workers → AreInTurn p j (map seen workers)
-all_in_turn p j workers all = λ i x inside.
-    let within : i < length workers = omega (arith, inside, length-map workers seen) in
-    let w : Worker = some_worker workers i within in
-    let waits : Waits p j i (get_or workers i w) = all i w within in
-    subst (IsInTurn p j i) (sym (get_or-map seen workers i w x within)) (record { known = waits.known; follow = waits.follow })
+pub all_in_turn : (p : Setting) (j : Journal) (workers : List (Option Worker)) → AllWait p j workers → AreInTurn p j (map (option_map seen) workers)
+all_in_turn p j workers all = λ i x there. from i (slice_get workers i) refl x (sym (ap if_there (get_mapped (option_map seen) workers i)) ∙ there)
   where
-    some_worker : (ws : List Worker) (i : ℕ) → i < length ws → Worker
-    some_worker [] i within = absurd (omega (arith, within))
-    some_worker (w ∷ ws) i within = w
+    from : (i : ℕ) (o : Option (Option Worker)) → slice_get workers i ≡ o → (x : Waiting) → if_there (option_map (option_map seen) o) ≡ Some x → IsInTurn p j i x
+    from i None at x is = absurd cc
+    from i (Some None) at x is = absurd cc
+    from i (Some (Some w)) at x is =
+        let waits : Waits p j i w = all i w at in
+        let same : seen w ≡ x = cc in
+        subst (IsInTurn p j i) same (record { attached = waits.attached; known = waits.known; follow = waits.follow })
 
 -- ---- commands
 -- the lanes and the workers stay
-pub sound_command : (s t : SessionModel) (workers : List Worker) (c : Command) (result : Result Accepted Refusal) → IsSoundWith s workers → Does s.setting c s.journal result t.journal →
+pub sound_command : (s t : SessionModel) (workers : List (Option Worker)) (c : Command) (result : Result Accepted Refusal) → IsSoundWith s workers → Does s.setting c s.journal result t.journal →
     t.setting ≡ s.setting → IsSoundWith t workers
 sound_command s t workers c result sound does setting =
     let p : Setting = s.setting in
@@ -82,12 +92,12 @@ sound_command s t workers c result sound does setting =
       counted = done.count_is ∙ sound.counted;
       few_rows = omega (arith, sound.few_rows, ap (λ (x : Setting). x.rows) setting);
       wait = subst (λ q. AllWait q t.journal workers) (sym setting)
-          (λ i d inside. waits_later p s.journal t.journal i (get_or workers i d) done.onward (ap (filter (λ (r : Row). r.worker == i)) done.rows_are) (sound.wait i d inside));
+          (λ i w there. waits_later p s.journal t.journal i w done.onward (ap (filter (λ (r : Row). r.worker == i)) done.rows_are) (ap (list_any (λ v. v == i)) done.attached_are) (sound.wait i w there));
     }
 
 -- ---- a worker comes
 -- it doesn't
-pub sound_attached_not : (s t : SessionModel) (workers : List Worker) (fault : AttachFault) → IsSoundWith s workers → Attaches s.journal (Err fault) t.journal →
+pub sound_attached_not : (s t : SessionModel) (workers : List (Option Worker)) (fault : AttachFault) → IsSoundWith s workers → Attaches s.journal (Err fault) t.journal →
     t.setting ≡ s.setting → IsSoundWith t workers
 sound_attached_not s t workers fault sound attaches setting =
     let same : t.journal ≡ s.journal = attached_not s.journal t.journal fault attaches in
@@ -98,98 +108,180 @@ sound_attached_not s t workers fault sound attaches setting =
     }
 
 -- its number is its place
-pub attached_number : (s t : SessionModel) (workers : List Worker) (number : ℕ) → IsSoundWith s workers → Attaches s.journal (Ok number) t.journal → number ≡ length workers
+pub attached_number : (s t : SessionModel) (workers : List (Option Worker)) (number : ℕ) → IsSoundWith s workers → Attaches s.journal (Ok number) t.journal → number ≡ length workers
 attached_number s t workers number sound attaches = (attached_once s.journal t.journal number attaches).0 ∙ sound.counted
 
+-- a worker that is there has a number that was given before
+below_count : (workers : List (Option Worker)) (i n : ℕ) (w : Worker) → slice_get workers i ≡ Some (Some w) → n ≡ length workers → i ≡ n → ⊥
+below_count workers i n w there is same = let within = slice_get_within workers i (Some w) there in omega (arith, within, is, same)
+
 -- it waits with no rows
-pub sound_attached : (s t : SessionModel) (workers : List Worker) (number : ℕ) (w : Worker) → IsSoundWith s workers → lane s.journal number ≡ [] → Shows s.setting s.journal (gen s.journal) (held_by w) →
-    Attaches s.journal (Ok number) t.journal → t.setting ≡ s.setting → w.number ≡ number → w.waiting ≡ [] → w.handed_over ≡ 0 →
-    IsSoundWith t (workers ++ w ∷ [])
-unfolding attach_count
-sound_attached s t workers number w sound empty shows attaches setting number_is none first =
+pub sound_attached : (s t : SessionModel) (workers : List (Option Worker)) (number : ℕ) (w : Worker) → IsSoundWith s workers → lane s.journal number ≡ [] → Shows s.setting s.journal (gen s.journal) (held_by w) →
+    Attaches s.journal (Ok number) t.journal → t.setting ≡ s.setting → w.number ≡ number → w.waiting ≡ [] → IsSoundWith t (workers ++ Some w ∷ [])
+unfolding attach_count attached
+sound_attached s t workers number w sound empty shows attaches setting number_is none =
     let p : Setting = s.setting in
     let come : (number ≡ attach_count s.journal) × (t.journal ≡ after_attach s.journal) = attached_once s.journal t.journal number attaches in
     let more : attach_count t.journal ≡ attach_count s.journal + 1 = ap attach_count come.1 in
     let new : Waits p t.journal (attach_count s.journal) w =
-    waits_new p s.journal t.journal w (rw come.0 at empty) come.1 shows (number_is ∙ come.0) none first in
-    let others : AllWait p t.journal workers = λ i d inside.
-    waits_later p s.journal t.journal i (get_or workers i d) (onward_same p s.journal t.journal (ap tables come.1)) (ap (λ j. lane j i) come.1) (sound.wait i d inside) in
+    waits_new p s.journal t.journal w (rw come.0 at empty) come.1 shows (number_is ∙ come.0) none in
+    let others : AllWait p t.journal workers = λ i x there.
+    waits_later p s.journal t.journal i x (onward_same p s.journal t.journal (ap tables come.1)) (ap (λ j. lane j i) come.1)
+    (ap (λ j. is_attached j i) come.1
+    ∙ ap (λ b. b || is_attached s.journal i) (ne_eqb (attach_count s.journal) i (λ e. below_count workers i (attach_count s.journal) x there sound.counted (sym e))))
+    (sound.wait i x there) in
     record {
-      counted = omega (arith, more, sound.counted, length_push workers w);
+      counted = omega (arith, more, sound.counted, length_push workers (Some w));
       few_rows = omega (arith, sound.few_rows, ap (λ (x : Setting). x.rows) setting);
-      wait = subst (λ q. AllWait q t.journal (workers ++ w ∷ [])) (sym setting)
+      wait = subst (λ q. AllWait q t.journal (workers ++ Some w ∷ [])) (sym setting)
           (all_push p t.journal workers w others (subst (λ n. Waits p t.journal n w) sound.counted new));
     }
 
 -- ---- a packet is taken
 -- one item more waits, or none
-pub sound_taken : (s : SessionModel) (workers : List Worker) (i : ℕ) (w new : Worker) (offers : List Offer) (ue : Addr) (header : Header) (result : Result ℕ BatchFull) →
-    IsSoundWith s workers → i < length workers → w ≡ get_or workers i w → offers ≡ s.setting.catalog → ue ≡ s.setting.ue → TakesItem offers ue header w result new →
+pub sound_taken : (s : SessionModel) (workers : List (Option Worker)) (i : ℕ) (o new : Option Worker) (offers : List Offer) (ue : Addr) (header : Header) (handed_over : ℕ) (out : Result ℕ (StepRefusal BatchFull)) →
+    IsSoundWith s workers → slice_get workers i ≡ Some o → offers ≡ s.setting.catalog → ue ≡ s.setting.ue → handed_over ≡ lane_len s.journal i → TakesAt offers ue header handed_over o out new →
     IsSoundWith s (slice_set workers i new)
-sound_taken s workers i w new offers ue header result sound within is offers_are ue_is takes =
+sound_taken s workers i o new offers ue header handed_over out sound there offers_are ue_is handed_is takes =
     let p : Setting = s.setting in
-    let waits : Waits p s.journal i w = waits_at p s.journal workers i w sound.wait within is in
-    let after : Waits p s.journal i new = from result (subst (λ u. TakesItem s.setting.catalog u header w result new) ue_is (subst (λ o. TakesItem o ue header w result new) offers_are takes)) waits in
+    let own : TakesAt p.catalog p.ue header (lane_len s.journal i) o out new =
+    subst (λ n. TakesAt p.catalog p.ue header n o out new) handed_is (subst (λ u. TakesAt p.catalog u header handed_over o out new) ue_is (subst (λ c. TakesAt c ue header handed_over o out new) offers_are takes)) in
     record {
       counted = sound.counted ∙ sym (length-set workers i new);
       few_rows = sound.few_rows;
-      wait = all_set p s.journal s.journal workers i new within sound.wait after (λ n v differs before. before);
+      wait = all_set p s.journal s.journal workers i new (slice_get_within workers i o there) sound.wait (λ v is. from o there own v is) (λ n v differs before. before);
     }
   where
-    from : (r : Result ℕ BatchFull) → TakesItem s.setting.catalog s.setting.ue header w r new → Waits s.setting s.journal i w → Waits s.setting s.journal i new
-    from (Ok count) (few, count_is, item, made, new_is) waits = rw new_is (waits_take s.setting s.journal i w header item waits made)
-    from (Err full) (many, same) waits = rw same waits
+    from : (o : Option Worker) → slice_get workers i ≡ Some o → TakesAt s.setting.catalog s.setting.ue header (lane_len s.journal i) o out new → (v : Worker) → new ≡ Some v → Waits s.setting s.journal i v
+    from None there takes v is = absurd (let none : None ≡ Some v = sym takes.1 ∙ is in cc)
+    from (Some w) there (Ok count, x, (few, count_is, item, made, new_is), out_is, put) v is =
+        let same : x ≡ v = let both : Some x ≡ Some v = sym put ∙ is in cc in
+        subst (Waits s.setting s.journal i) same (rw new_is (waits_take s.setting s.journal i w header item (sound.wait i w there) made))
+    from (Some w) there (Err full, x, (many, kept), out_is, put) v is =
+        let same : x ≡ v = let both : Some x ≡ Some v = sym put ∙ is in cc in
+        subst (Waits s.setting s.journal i) (sym kept ∙ same) (sound.wait i w there)
 
 -- ---- the newest generation is taken
 -- the worker holds it then
-pub sound_refreshed : (s : SessionModel) (workers : List Worker) (i : ℕ) (w new : Worker) → IsSoundWith s workers → Shows s.setting s.journal (gen s.journal) (held_by new) → i < length workers →
-    w ≡ get_or workers i w → new.number ≡ w.number → new.waiting ≡ w.waiting → new.handed_over ≡ w.handed_over → IsSoundWith s (slice_set workers i new)
-sound_refreshed s workers i w new sound shows within is number_is waiting_is handed_is =
-    let p : Setting = s.setting in
-    let waits : Waits p s.journal i w = waits_at p s.journal workers i w sound.wait within is in
-    record {
-      counted = sound.counted ∙ sym (length-set workers i new);
-      few_rows = sound.few_rows;
-      wait = all_set p s.journal s.journal workers i new within sound.wait
-          (waits_refresh p s.journal i w new waits shows number_is waiting_is handed_is) (λ n v differs before. before);
-    }
+pub sound_refreshed : (s : SessionModel) (workers : List (Option Worker)) (i : ℕ) (o new : Option Worker) (table : TableValue) (out : Option ℕ) → IsSoundWith s workers → Shows s.setting s.journal (gen s.journal) table →
+    slice_get workers i ≡ Some o → HoldsAt table o out new → IsSoundWith s (slice_set workers i new)
+sound_refreshed s workers i o new table out sound shows there holds = record {
+  counted = sound.counted ∙ sym (length-set workers i new);
+  few_rows = sound.few_rows;
+  wait = all_set s.setting s.journal s.journal workers i new (slice_get_within workers i o there) sound.wait (λ v is. from o there holds v is) (λ n v differs before. before);
+}
+  where
+    from : (o : Option Worker) → slice_get workers i ≡ Some o → HoldsAt table o out new → (v : Worker) → new ≡ Some v → Waits s.setting s.journal i v
+    from None there holds v is = absurd (let none : None ≡ Some v = sym holds.1 ∙ is in cc)
+    from (Some w) there (x, table_is, number_is, waiting_is, out_is, put) v is =
+        let same : x ≡ v = let both : Some x ≡ Some v = sym put ∙ is in cc in
+        subst (Waits s.setting s.journal i) same
+        (waits_refresh s.setting s.journal i w x (sound.wait i w there) (subst (Shows s.setting s.journal (gen s.journal)) (sym table_is) shows) number_is waiting_is)
 
 -- ---- rows are handed over
--- the journal takes them, or refuses them
-pub sound_flushed : (s t : SessionModel) (workers : List Worker) (i : ℕ) (w new : Worker) (result : Result Verdicts FlushRefusal) → IsSoundWith s workers → i < length workers → w ≡ get_or workers i w →
-    Flushes s.setting w.number (map row_of w.waiting) s.journal (result_map_both told_of (λ e. e) result) t.journal → new ≡ after_flushing result w →
-    t.setting ≡ s.setting → IsSoundWith t (slice_set workers i new)
-sound_flushed s t workers i w new (Err r) sound within is flushes new_is setting =
-    let p : Setting = s.setting in
-    let same : t.journal ≡ s.journal = flushed_not p w.number (map row_of w.waiting) s.journal t.journal r flushes in
-    let waits : Waits p s.journal i w = waits_at p s.journal workers i w sound.wait within is in
+-- a worker may hand its rows over
+pub may_hand_over : (s : SessionModel) (workers : List (Option Worker)) (i : ℕ) (w : Worker) → IsSoundWith s workers → slice_get workers i ≡ Some (Some w) → MayHandOver s.setting s.journal w
+may_hand_over s workers i w sound there =
+    let waits : Waits s.setting s.journal i w = sound.wait i w there in
+    record { follow = subst (λ n. BatchFollows s.setting s.journal n (map row_of w.waiting)) (sym waits.number_is) waits.follow; slots = waits.slots }
+
+pub hands_if : (s : SessionModel) (workers : List (Option Worker)) (i : ℕ) (o : Option Worker) → IsSoundWith s workers → slice_get workers i ≡ Some o → IfSome o (MayHandOver s.setting s.journal)
+hands_if s workers i None sound there = tt
+hands_if s workers i (Some w) sound there = may_hand_over s workers i w sound there
+
+-- a worker that is there is attached, holds a table, and has no more rows than the profile allows
+pub attached_if : (s : SessionModel) (workers : List (Option Worker)) (i : ℕ) (o : Option Worker) → IsSoundWith s workers → slice_get workers i ≡ Some o → IfSome o (λ w. is_attached s.journal w.number ≡ true)
+attached_if s workers i None sound there = tt
+attached_if s workers i (Some w) sound there =
+    let waits = sound.wait i w there in ap (is_attached s.journal) waits.number_is ∙ waits.attached
+
+pub table_if : (s : SessionModel) (workers : List (Option Worker)) (i : ℕ) (o : Option Worker) (offers : List Offer) → IsSoundWith s workers → slice_get workers i ≡ Some o → offers ≡ s.setting.catalog →
+    IfSome o (λ w. IsTable offers (held_by w).entries)
+table_if s workers i None offers sound there is = tt
+table_if s workers i (Some w) offers sound there is = subst (λ c. IsTable c (held_by w).entries) (sym is) (sound.wait i w there).shows.ordered
+
+pub few_if : (s : SessionModel) (workers : List (Option Worker)) (i n : ℕ) (o : Option Worker) → IsSoundWith s workers → slice_get workers i ≡ Some o → n ≡ lane_len s.journal i → IfSome o (λ w. n ≤ 4294967295)
+few_if s workers i n None sound there is = tt
+few_if s workers i n (Some w) sound there is = omega (arith, is, (sound.wait i w there).few, sound.few_rows)
+
+-- where the journal is as it was
+kept_as : (s t : SessionModel) (workers : List (Option Worker)) (i : ℕ) (o new : Option Worker) → IsSoundWith s workers → slice_get workers i ≡ Some o → t.journal ≡ s.journal → t.setting ≡ s.setting → new ≡ o →
+    IsSoundWith t (slice_set workers i new)
+kept_as s t workers i o new sound there same setting kept =
+    let unchanged : slice_set workers i new ≡ workers = ap (slice_set workers i) kept ∙ set_same workers i o there in
     record {
-      counted = ap attach_count same ∙ sound.counted ∙ sym (length-set workers i new);
+      counted = ap attach_count same ∙ sound.counted ∙ sym (ap (λ (ws : List (Option Worker)). length ws) unchanged);
       few_rows = omega (arith, sound.few_rows, ap (λ (x : Setting). x.rows) setting);
-      wait = rw (setting, same) (all_set p s.journal s.journal workers i new within sound.wait (rw new_is waits) (λ n v differs before. before));
+      wait = rw (unchanged, setting, same) sound.wait;
     }
-sound_flushed s t workers i w new (Ok v) sound within is flushes new_is setting =
+
+-- the journal takes them, or refuses them
+pub sound_flushed : (s t : SessionModel) (workers : List (Option Worker)) (i : ℕ) (o new : Option Worker) (out : Result Verdicts (StepRefusal FlushRefusal)) → IsSoundWith s workers → slice_get workers i ≡ Some o →
+    HandsOverAt s.setting s.journal o out t.journal new → t.setting ≡ s.setting → IsSoundWith t (slice_set workers i new)
+sound_flushed s t workers i None new out sound there (out_is, same, kept) setting = kept_as s t workers i None new sound there same setting kept
+sound_flushed s t workers i (Some w) new out sound there (Err r, flushes, out_is, kept) setting =
+    kept_as s t workers i (Some w) new sound there (flushed_not s.setting w.number (map row_of w.waiting) s.journal t.journal r flushes) setting kept
+sound_flushed s t workers i (Some w) new out sound there (Ok v, flushes, out_is, put) setting =
     let p : Setting = s.setting in
     let rs : List Row = map row_of w.waiting in
-    let waits : Waits p s.journal i w = waits_at p s.journal workers i w sound.wait within is in
+    let waits : Waits p s.journal i w = sound.wait i w there in
     let done : (first_of (flush_refusals p s.journal i (length rs)) ≡ None) × (t.journal ≡ after_flush p s.journal rs) =
     flushed_once p i rs s.journal t.journal (told_of v) (subst (λ n. Flushes p n rs s.journal (Ok (told_of v)) t.journal) waits.number_is flushes) in
-    let after : Waits p t.journal i new = rw new_is (waits_flushed p s.journal t.journal i w waits done.0 done.1) in
     let others : (n : ℕ) (x : Worker) → (n ≡ i → ⊥) → Waits p s.journal n x → Waits p t.journal n x = λ n x differs before.
     waits_beside p s.journal t.journal n i rs x before (ne_eqb i n (λ e. differs (sym e))) waits.follow.own done.1 in
     record {
       counted = ap attach_count done.1 ∙ attach_count_after_flush p s.journal rs ∙ sound.counted ∙ sym (length-set workers i new);
       few_rows = omega (arith, sound.few_rows, ap (λ (x : Setting). x.rows) setting);
       wait = subst (λ q. AllWait q t.journal (slice_set workers i new)) (sym setting)
-          (all_set p s.journal t.journal workers i new within sound.wait after others);
+          (all_set p s.journal t.journal workers i new (slice_get_within workers i (Some w) there) sound.wait
+          (λ x is. subst (Waits p t.journal i) (let both : Some (record w { waiting = [] }) ≡ Some x = sym put ∙ is in cc) (waits_flushed p s.journal t.journal i w waits done.0 done.1)) others);
     }
+
+-- ---- a worker leaves
+-- its place is empty, and the others go on waiting
+left_place : (s t : SessionModel) (workers : List (Option Worker)) (i : ℕ) (o new : Option Worker) (k : Journal) → AllWait s.setting k workers → attach_count k ≡ length workers → s.setting.rows ≤ 4294967295 →
+    slice_get workers i ≡ Some o → t.journal ≡ after_leave i k → t.setting ≡ s.setting → new ≡ None → IsSoundWith t (slice_set workers i new)
+unfolding attach_count
+left_place s t workers i o new k wait counted few there is setting none = record {
+  counted = ap attach_count is ∙ counted ∙ sym (length-set workers i new);
+  few_rows = omega (arith, few, ap (λ (x : Setting). x.rows) setting);
+  wait = subst (λ q. AllWait q t.journal (slice_set workers i new)) (sym setting)
+      (subst (λ (l : Journal). AllWait s.setting l (slice_set workers i new)) (sym is)
+      (all_set s.setting k (after_leave i k) workers i new (slice_get_within workers i o there) wait
+      (λ v there_is. absurd (let some : None ≡ Some v = sym none ∙ there_is in cc)) (λ n v differs before. waits_left s.setting k n i v differs before)));
+}
+
+pub sound_finished : (s t : SessionModel) (workers : List (Option Worker)) (i : ℕ) (o new : Option Worker) (out : Result (Verdicts × ℕ) (StepRefusal FlushRefusal)) → IsSoundWith s workers → slice_get workers i ≡ Some o →
+    FinishesPlace s.setting s.journal o out t.journal new → t.setting ≡ s.setting → IsSoundWith t (slice_set workers i new)
+sound_finished s t workers i None new out sound there (out_is, same, kept) setting = kept_as s t workers i None new sound there same setting kept
+sound_finished s t workers i (Some w) new out sound there (Err r, finishes, out_is, kept) setting =
+    kept_as s t workers i (Some w) new sound there (finished_not s.setting s.journal t.journal w.number (map row_of w.waiting) r finishes) setting kept
+sound_finished s t workers i (Some w) new out sound there (Ok v, finishes, out_is, put) setting =
+    let p : Setting = s.setting in
+    let rs : List Row = map row_of w.waiting in
+    let waits : Waits p s.journal i w = sound.wait i w there in
+    let done = finished_once p s.journal t.journal i rs (told_and_rows v) (subst (λ n. Finishes p n rs s.journal (Ok (told_and_rows v)) t.journal) waits.number_is finishes) in
+    let after : Journal = after_flush p s.journal rs in
+    let wait : AllWait p after (slice_set workers i None) =
+    all_set p s.journal after workers i None (slice_get_within workers i (Some w) there) sound.wait (λ x is. absurd cc)
+    (λ n x differs before. waits_beside p s.journal after n i rs x before (ne_eqb i n (λ e. differs (sym e))) waits.follow.own refl) in
+    let length_is : length (slice_set workers i None) ≡ length workers = length-set workers i None in
+    let left = left_place s t (slice_set workers i None) i None None after wait (attach_count_after_flush p s.journal rs ∙ sound.counted ∙ sym length_is) sound.few_rows
+    (get_written workers i None (slice_get_within workers i (Some w) there)) done.1 setting refl in
+    subst (IsSoundWith t) (ap (λ (o : Option Worker). slice_set (slice_set workers i None) i o) refl ∙ set_twice workers i None ∙ ap (slice_set workers i) (sym put)) left
+
+pub sound_abandoned : (s t : SessionModel) (workers : List (Option Worker)) (i : ℕ) (o new : Option Worker) (out : Option Abandoned) → IsSoundWith s workers → slice_get workers i ≡ Some o →
+    AbandonsAt s.journal o out t.journal new → t.setting ≡ s.setting → IsSoundWith t (slice_set workers i new)
+sound_abandoned s t workers i None new out sound there (out_is, same, kept) setting = kept_as s t workers i None new sound there same setting kept
+sound_abandoned s t workers i (Some w) new out sound there (out_is, is, none) setting =
+    left_place s t workers i (Some w) new s.journal sound.wait sound.counted sound.few_rows there (is ∙ ap (λ n. after_leave n s.journal) (sound.wait i w there).number_is) setting none
 
 -- ---- a world that is opened
 -- it has no workers
-pub sound_new : (s : SessionModel) (workers : List Worker) → s.journal ≡ [] → workers ≡ [] → s.setting.rows ≤ 4294967295 → IsSoundWith s workers
+pub sound_new : (s : SessionModel) (workers : List (Option Worker)) → s.journal ≡ [] → workers ≡ [] → s.setting.rows ≤ 4294967295 → IsSoundWith s workers
 unfolding attach_count
 sound_new s workers journal_is none few = record {
   counted = rw (journal_is, none) refl;
   few_rows = few;
-  wait = rw none (λ i w inside. absurd (omega (arith, inside)));
+  wait = rw none (λ i w there. absurd cc);
 }

@@ -1,5 +1,6 @@
 -- What always holds of a world's parts.
-use Rattle.std.specs.Prelude.{◌≡◌, ◌≤◌, List, length, map}
+use Rattle.std.specs.Prelude.{◌≡◌, ◌≤◌, List, Option, length, map}
+use Rattle.std.specs.Option.{option_map}
 use Rattle.pcef_model.specs.Journals.{attach_count}
 use Rattle.pcef_world.specs.declared.world.WorldState.TheInside.{Inside}
 use Rattle.pcef_world.specs.declared.worker.Worker.{Worker}
@@ -13,10 +14,10 @@ abbrev pub seen : Worker → Waiting
 seen w = record { generation = (held_by w).number; rows = map row_of w.waiting }
 
 abbrev pub world_of : Inside → World
-world_of w = record { core = w.session; workers = map seen w.workers.items }
+world_of w = record { session = w.session; workers = map (option_map seen) w.workers.items }
 
--- as many workers there are as were attached, and each of them waits with rows that may come next
-pub record IsSoundWith (s : SessionModel) (workers : List Worker) : Type 0 where
+-- there is a place for each worker that was attached, and each that is there waits with rows that may come next
+pub record IsSoundWith (s : SessionModel) (workers : List (Option Worker)) : Type 0 where
   pub counted : attach_count s.journal ≡ length workers
   pub few_rows : s.setting.rows ≤ 4294967295
   pub wait : AllWait s.setting s.journal workers

@@ -1,9 +1,11 @@
 //! The workers of a script.
 
-ghost use Rattle.std.specs.Prelude.{◌≡◌, ◌≤◌, map};
+ghost use Rattle.std.specs.Prelude.{◌≡◌, ◌≤◌, Err, IfSome, MatchOption, None, Some, map};
+ghost use Rattle.std.specs.Arc.{arc_value};
 ghost use Rattle.std.specs.Result.{result_map_both};
 ghost use Rattle.pcef_table.specs.Tables.{IsTable};
-ghost use Rattle.pcef_model.specs.Answers.{Flushes, told_of};
+ghost use Rattle.pcef_model.specs.Answers.{Finishes, Flushes, told_and_rows, told_of};
+ghost use Rattle.pcef_model.specs.Journals.{lane_len};
 ghost use Rattle.pcef_session.specs.Following.{HasItsSlots, row_of};
 ghost use Rattle.pcef_model.specs.Lawful.{BatchFollows};
 ghost use Rattle.pcef_world.specs.Workers.{IsJudged, TakesItem, after_flushing, held_by};
@@ -24,23 +26,21 @@ pub struct Worker {
     pub table: Arc<Table>,
     /// The rows that wait.
     pub waiting: Batch,
-    /// How many rows it has handed over.
-    pub handed_over: u64,
 }
 
 impl Worker {
-    /// Judges a packet by the table that the worker holds.
-    fn judge<C: Offers>(&self, catalog: &C, ue: Addr, header: &Header) -> Item
+    /// Judges a packet by the table that the worker holds, after so many rows that it has handed over.
+    fn judge<C: Offers>(&self, catalog: &C, ue: Addr, handed_over: u64, header: &Header) -> Item
         requires table { IsTable (C.offers catalog.now) (held_by self.now).entries }
-        requires few { self.now.handed_over ≤ 4294967295 }
-        ensures { IsJudged (C.offers catalog.now) ue header.now self.now result }
+        requires few { handed_over ≤ 4294967295 }
+        ensures { IsJudged (C.offers catalog.now) ue header.now handed_over self.now result }
     {
         let verdict = self.table.classify(catalog, ue, header);
         let slot = self.table.counts(catalog, &verdict);
         Item {
             row: Row {
                 worker: self.number,
-                seq: self.handed_over + self.waiting.len() as u64,
+                seq: handed_over + self.waiting.len() as u64,
                 generation: self.table.generation(),
                 header: *header,
                 verdict,
@@ -54,16 +54,17 @@ impl Worker {
         &mut self,
         catalog: &C,
         ue: Addr,
+        handed_over: u64,
         header: &Header,
     ) -> Result<u8, BatchFull>
         requires table { IsTable (C.offers catalog.now) (held_by self.old).entries }
-        requires few { self.old.handed_over ≤ 4294967295 }
-        ensures { TakesItem (C.offers catalog.now) ue header.now self.old result self.new }
+        requires few { handed_over ≤ 4294967295 }
+        ensures { TakesItem (C.offers catalog.now) ue header.now handed_over self.old result self.new }
     {
         if self.waiting.len() >= MAX_WAITING {
             return Err(BatchFull);
         }
-        let item = self.judge(catalog, ue, header);
+        let item = self.judge(catalog, ue, handed_over, header);
         self.waiting.push(item);
         Ok(self.waiting.len() as u8)
     }
@@ -72,14 +73,22 @@ impl Worker {
     pub(crate) fn flush(&mut self, session: &mut SessionState) -> Result<Verdicts, FlushRefusal>
         requires follow { BatchFollows session.old.setting session.old.journal self.old.number (map row_of self.old.waiting) }
         requires slots { HasItsSlots session.old.setting session.old.journal self.old.waiting }
-        requires few { self.old.handed_over ≤ 4294967295 }
         ensures answer { Flushes session.old.setting self.old.number (map row_of self.old.waiting) session.old.journal (result_map_both told_of (λ e. e) result) session.new.journal }
         ensures worker { self.new ≡ after_flushing result self.old }
         ensures setting { session.new.setting ≡ session.old.setting }
     {
         let verdicts = session.flush(self.number, &self.waiting)?;
-        self.handed_over += self.waiting.len() as u64;
         self.waiting.clear();
         Ok(verdicts)
+    }
+
+    /// Hands the waiting rows over to the session, which the worker leaves. A refusal keeps it there.
+    pub(crate) fn finish(&self, session: &mut SessionState) -> Result<(Verdicts, u64), FlushRefusal>
+        requires follow { BatchFollows session.old.setting session.old.journal self.now.number (map row_of self.now.waiting) }
+        requires slots { HasItsSlots session.old.setting session.old.journal self.now.waiting }
+        ensures answer { Finishes session.old.setting self.now.number (map row_of self.now.waiting) session.old.journal (result_map_both told_and_rows (λ e. e) result) session.new.journal }
+        ensures setting { session.new.setting ≡ session.old.setting }
+    {
+        session.finish(self.number, &self.waiting)
     }
 }

@@ -5,10 +5,11 @@ ghost use Rattle.std.specs.Arc.{arc_value};
 ghost use Rattle.std.specs.Result.{result_err, result_map_both};
 ghost use Rattle.pcef_model.specs.Journals.{attach_count, gen};
 ghost use Rattle.pcef_session.specs.Shown.{Shows};
-ghost use Rattle.pcef_model.specs.Answers.{Attaches, Does, Opens, told_of};
+ghost use Rattle.pcef_model.specs.Answers.{Attaches, Does, Opens, told_and_rows, told_of};
 ghost use Rattle.pcef_model.specs.Terms.{setting_of};
-ghost use Rattle.pcef_world.specs.Worlds.{AreInTurn, HandsOver, Refreshes, Takes, after_attaching};
+ghost use Rattle.pcef_world.specs.Worlds.{Abandons, AreInTurn, FinishesAt, HandsOver, Refreshes, Takes, after_attaching};
 
+use crate::places::{abandon_at, finish_at, flush_at, refresh_at, take_at};
 use crate::worker::Worker;
 use pcef_catalog::{Listing, Offers};
 use pcef_model::{
@@ -30,12 +31,21 @@ pub enum StepRefusal<E> {
     Refused(E),
 }
 
-/// A session without the closures of its catalog, and its workers.
+/// What is told of a worker that left without its waiting rows.
+#[derive(Clone, Copy, Debug, PartialEq, Eq)]
+pub struct Abandoned {
+    /// How many rows waited, and get no verdict.
+    pub waiting: u8,
+    /// How many rows the worker's lane has.
+    pub rows: u64,
+}
+
+/// A session without the closures of its catalog, and a place for each worker that ever came.
 #[derive(Drop)]
 pub struct WorldState {
     alloc: Global,
     session: SessionState,
-    workers: Vec<Worker>,
+    workers: Vec<Option<Worker>>,
 }
 
 impl Model for WorldState {
@@ -62,7 +72,7 @@ impl WorldState {
     /// A session with an empty journal and no workers, or the first fault in the order of [`OpenFault`].
     pub fn open(alloc: Global, profile: Profile, listing: Listing) -> Result<WorldState, OpenFault>
         ensures answer { Opens (setting_of profile listing) (result_err result) }
-        ensures made { IfOk result (λ w. (w.core.setting ≡ setting_of profile listing) × (w.core.journal ≡ []) × (w.workers ≡ [])) }
+        ensures made { IfOk result (λ w. (w.session.setting ≡ setting_of profile listing) × (w.session.journal ≡ []) × (w.workers ≡ [])) }
     {
         let _rows = profile.rows;
         let session = SessionState::open(alloc, profile, listing)?;
@@ -73,30 +83,31 @@ impl WorldState {
         })
     }
 
-    /// The session. As many workers there are as were attached, and the rows of each may come next.
+    /// The session. There is a place for each worker that ever came, and the rows of each that is there may come
+    /// next.
     pub fn session(&self) -> &SessionState
-        ensures session { result.now ≡ self.now.core }
-        ensures attached { attach_count self.now.core.journal ≡ length self.now.workers }
-        ensures in_turn { AreInTurn self.now.core.setting self.now.core.journal self.now.workers }
+        ensures session { result.now ≡ self.now.session }
+        ensures places { attach_count self.now.session.journal ≡ length self.now.workers }
+        ensures in_turn { AreInTurn self.now.session.setting self.now.session.journal self.now.workers }
     {
         &self.session
     }
 
     /// As [`SessionState::command`].
     pub fn command(&mut self, command: Command) -> Result<Accepted, Refusal>
-        ensures answer { Does self.old.core.setting command self.old.core.journal result self.new.core.journal }
+        ensures answer { Does self.old.session.setting command self.old.session.journal result self.new.session.journal }
         ensures workers { self.new.workers ≡ self.old.workers }
-        ensures setting { self.new.core.setting ≡ self.old.core.setting }
+        ensures setting { self.new.session.setting ≡ self.old.session.setting }
     {
         self.session.command(command)
     }
 
     /// Attaches a worker, which holds the newest generation. Takes memory for its waiting rows.
     pub fn attach(&mut self) -> Result<u8, AttachFault>
-        ensures answer { Attaches self.old.core.journal result self.new.core.journal }
-        ensures workers { self.new.workers ≡ after_attaching self.old.core.journal result self.old.workers }
+        ensures answer { Attaches self.old.session.journal result self.new.session.journal }
+        ensures workers { self.new.workers ≡ after_attaching self.old.session.journal result self.old.workers }
         ensures number { IfOk result (λ number. number ≡ length self.old.workers) }
-        ensures setting { self.new.core.setting ≡ self.old.core.setting }
+        ensures setting { self.new.session.setting ≡ self.old.session.setting }
     {
         if let Some(fault) = self.session.attach_fault() {
             return Err(fault);
@@ -111,12 +122,11 @@ impl WorldState {
             return Err(AttachFault::NoMemory);
         };
         let number = self.session.attach()?;
-        self.workers.push_reserved(Worker {
+        self.workers.push_reserved(Some(Worker {
             number,
             table,
             waiting,
-            handed_over: 0,
-        });
+        }));
         Ok(number)
     }
 
@@ -128,46 +138,64 @@ impl WorldState {
         worker: u8,
         header: &Header,
     ) -> Result<u8, StepRefusal<BatchFull>>
-        requires { C.offers catalog.now ≡ self.old.core.setting.catalog }
-        ensures answer { Takes self.old.core.setting self.old.core.journal worker header.now self.old.workers result self.new.workers }
-        ensures core { self.new.core ≡ self.old.core }
+        requires { C.offers catalog.now ≡ self.old.session.setting.catalog }
+        ensures answer { Takes self.old.session.setting self.old.session.journal worker header.now self.old.workers result self.new.workers }
+        ensures session { self.new.session ≡ self.old.session }
     {
         let ue = self.session.profile().ue;
-        let Some(worker) = self.workers.get_mut(usize::from(worker)) else {
+        let handed_over = self.session.lane_len(worker);
+        let Some(place) = self.workers.get_mut(usize::from(worker)) else {
             return Err(StepRefusal::NoWorker);
         };
-        worker
-            .take(catalog, ue, header)
-            .map_err(StepRefusal::Refused)
+        take_at(place, catalog, ue, handed_over, header)
     }
 
     /// A worker takes the newest generation, by which it judges from then on, and its number is given. Its rows
-    /// go on waiting. `None` where the worker isn't attached; want of memory, which changes nothing, where the
+    /// go on waiting. `None` where the worker isn't there; want of memory, which changes nothing, where the
     /// table can't be shared.
     pub fn refresh(&mut self, worker: u8) -> Result<Option<u32>, AllocError>
-        ensures answer { IfOk result (λ answer. Refreshes self.old.core.journal worker self.old.workers answer self.new.workers) }
+        ensures answer { IfOk result (λ answer. Refreshes self.old.session.journal worker self.old.workers answer self.new.workers) }
         ensures kept { OnErr result (self.new.workers ≡ self.old.workers) }
-        ensures core { self.new.core ≡ self.old.core }
+        ensures session { self.new.session ≡ self.old.session }
     {
-        if usize::from(worker) >= self.workers.len() {
-            return Ok(None);
-        }
         let table = newest(&self.session)?;
-        let worker = &mut self.workers[usize::from(worker)];
-        worker.table = table;
-        Ok(Some(worker.table.generation()))
+        let Some(place) = self.workers.get_mut(usize::from(worker)) else {
+            return Ok(None);
+        };
+        Ok(refresh_at(place, table))
     }
 
     /// Hands the waiting rows of a worker over. A refusal keeps them.
     pub fn flush(&mut self, worker: u8) -> Result<Verdicts, StepRefusal<FlushRefusal>>
-        ensures answer { HandsOver self.old.core.setting worker self.old.core.journal self.old.workers (result_map_both told_of (λ e. e) result) self.new.core.journal self.new.workers }
-        ensures setting { self.new.core.setting ≡ self.old.core.setting }
+        ensures answer { HandsOver self.old.session.setting worker self.old.session.journal self.old.workers (result_map_both told_of (λ e. e) result) self.new.session.journal self.new.workers }
+        ensures setting { self.new.session.setting ≡ self.old.session.setting }
     {
-        let Some(worker) = self.workers.get_mut(usize::from(worker)) else {
-            return Err(StepRefusal::NoWorker);
-        };
-        worker
-            .flush(&mut self.session)
-            .map_err(StepRefusal::Refused)
+        match self.workers.get_mut(usize::from(worker)) {
+            None => Err(StepRefusal::NoWorker),
+            Some(place) => flush_at(place, &mut self.session),
+        }
+    }
+
+    /// Hands the waiting rows of a worker over, which leaves, and gives the length of its lane too. A refusal keeps
+    /// it and its rows.
+    pub fn finish(&mut self, worker: u8) -> Result<(Verdicts, u64), StepRefusal<FlushRefusal>>
+        ensures answer { FinishesAt self.old.session.setting worker self.old.session.journal self.old.workers (result_map_both told_and_rows (λ e. e) result) self.new.session.journal self.new.workers }
+        ensures setting { self.new.session.setting ≡ self.old.session.setting }
+    {
+        match self.workers.get_mut(usize::from(worker)) {
+            None => Err(StepRefusal::NoWorker),
+            Some(place) => finish_at(place, &mut self.session),
+        }
+    }
+
+    /// A worker leaves without its waiting rows, which get no verdict. `None` where it isn't there. Takes no memory.
+    pub fn abandon(&mut self, worker: u8) -> Option<Abandoned>
+        ensures answer { Abandons worker self.old.session.journal self.old.workers result self.new.session.journal self.new.workers }
+        ensures setting { self.new.session.setting ≡ self.old.session.setting }
+    {
+        match self.workers.get_mut(usize::from(worker)) {
+            None => None,
+            Some(place) => abandon_at(place, &mut self.session),
+        }
     }
 }

@@ -1,4 +1,5 @@
 use Rattle.pcef_session.proofs.Leaving.{attach_refused}
+use Rattle.std.specs.Option.{option_map}
 use Rattle.std.proofs.Common.{refl, sym, ◌∙◌}
 use Rattle.std.proofs.lemmas.List.{length-map}
 use Rattle.pcef_world.specs.WorldSoundness.{seen}
@@ -14,13 +15,13 @@ pub invariant_of-self-2 : goal.invariant_of-self-2
 invariant_of-self-2 c =
     rw (c.push_reserved.ensures.items, c.reserve.ensures.items)
     (sound_attached c.self.inside.session c.attach.new.self c.self.inside.workers.items c.in_ok-number.number _ c.self.invariant c.in_ok-number.ensures.lane c.in-Ok-newest.ensures c.in_ok-number.ensures.answer
-    c.attach.ensures.setting refl c.in-Ok.ensures refl)
+    c.attach.ensures.setting refl c.in-Ok.ensures)
 
 pub returns-clause-number : goal.returns-clause-number
 returns-clause-number c =
     rw (← c.self.view_is)
     (attached_number c.self.inside.session c.attach.new.self c.self.inside.workers.items c.in_ok-number.number c.self.invariant c.in_ok-number.ensures.answer
-    ∙ sym (length-map c.self.inside.workers.items seen))
+    ∙ sym (length-map c.self.inside.workers.items (option_map seen)))
 
 pub returns-in-Some-clause-answer : goal.returns-in-Some-clause-answer
 returns-in-Some-clause-answer c =

@@ -1,19 +1,31 @@
-use Rattle.std.proofs.Common.{arith}
-use Rattle.pcef_world.proofs.WorldAnswers.{hands_over_answer, hands_over_nowhere, past_from, wrapped_is}
-use Rattle.pcef_world.proofs.WorldSteps.{sound_flushed}
+use Rattle.std.proofs.Common.{◌≡◌, ◌∙◌, ◌≤◌, ◌<◌, Some, ap, arith, length, map, refl, sym}
+use Rattle.std.specs.Prelude.{slice_get}
+use Rattle.std.proofs.lemmas.Option.{slice_get_read}
+use Rattle.pcef_world.proofs.WorldAnswers.{hands_over_answer, hands_over_nowhere, past_from}
+use Rattle.pcef_world.proofs.WorldSteps.{hands_if, sound_flushed}
 use Rattle.pcef_world.proofs.world.WorldState.flush.Goals as goal
 
-pub returns-in_default-clause-answer : goal.returns-in_default-clause-answer
-returns-in_default-clause-answer c =
-    rw (← c.self.view_is, ← c.from.ensures) (hands_over_nowhere _ _ c.self.inside.workers.items c.from.result (omega (arith, past_from c.from.result _ c.in_default.ensures.variant.1, c.self.inside.workers.ok.0)))
+pub flush_at-requires : goal.flush_at-requires
+flush_at-requires c =
+    let there : slice_get c.self.inside.workers.items c.from.result ≡ Some c.in-Some.place.now =
+    slice_get_read c.self.inside.workers.items (length c.self.inside.workers.items) c.from.result c.in-Some.place.now refl c.in-Some.ensures.item.3.0 c.in-Some.ensures.value in
+    hands_if c.self.inside.session c.self.inside.workers.items c.from.result c.in-Some.place.now c.self.invariant there
 
-pub invariant_of-self-2 : goal.invariant_of-self-2
-invariant_of-self-2 c =
-    sound_flushed c.self.inside.session c.flush.new.session c.self.inside.workers.items c.from.result c.in-Some.worker.now c.flush.new.self c.flush.result c.self.invariant
-    c.in-Some.ensures.item.3.0 c.in-Some.ensures.value c.flush.ensures.answer c.flush.ensures.worker c.flush.ensures.setting
+pub invariant_of-self-in-Some : goal.invariant_of-self-in-Some
+invariant_of-self-in-Some c =
+    let there : slice_get c.self.inside.workers.items c.from.result ≡ Some c.in-Some.place.now =
+    slice_get_read c.self.inside.workers.items (length c.self.inside.workers.items) c.from.result c.in-Some.place.now refl c.in-Some.ensures.item.3.0 c.in-Some.ensures.value in
+    sound_flushed c.self.inside.session c.flush_at.new.session c.self.inside.workers.items c.from.result c.in-Some.place.now c.flush_at.new.place c.flush_at.result c.self.invariant there
+    c.flush_at.ensures.answer c.flush_at.ensures.setting
 
-pub returns-clause-answer : goal.returns-clause-answer
-returns-clause-answer c =
+pub returns-in-None-clause-answer : goal.returns-in-None-clause-answer
+returns-in-None-clause-answer c =
     rw (← c.self.view_is, ← c.from.ensures)
-    (hands_over_answer c.self.inside.session c.flush.new.session c.self.inside.workers.items c.from.result c.in-Some.worker.now c.flush.new.self c.flush.result c.map_err.result
-    c.self.invariant c.in-Some.ensures.item.3.0 c.in-Some.ensures.value c.flush.ensures.answer c.flush.ensures.worker (wrapped_is c.flush.result c.map_err.result c.map_err.ensures.cases))
+    (hands_over_nowhere _ _ c.self.inside.workers.items c.from.result (omega (arith, past_from c.from.result _ c.in-None.ensures.variant.1, c.self.inside.workers.ok.0)))
+
+pub returns-in-Some-clause-answer : goal.returns-in-Some-clause-answer
+returns-in-Some-clause-answer c =
+    let there : slice_get c.self.inside.workers.items c.from.result ≡ Some c.in-Some.place.now =
+    slice_get_read c.self.inside.workers.items (length c.self.inside.workers.items) c.from.result c.in-Some.place.now refl c.in-Some.ensures.item.3.0 c.in-Some.ensures.value in
+    rw (← c.self.view_is, ← c.from.ensures)
+    (hands_over_answer c.self.inside.session c.flush_at.new.session c.self.inside.workers.items c.from.result c.in-Some.place.now c.flush_at.new.place c.flush_at.result c.self.invariant there c.flush_at.ensures.answer)

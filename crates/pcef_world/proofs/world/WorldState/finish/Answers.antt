@@ -1,0 +1,31 @@
+use Rattle.std.proofs.Common.{◌≡◌, ◌∙◌, ◌≤◌, ◌<◌, Some, ap, arith, length, map, refl, sym}
+use Rattle.std.specs.Prelude.{slice_get}
+use Rattle.std.proofs.lemmas.Option.{slice_get_read}
+use Rattle.pcef_world.proofs.WorldAnswers.{finishes_answer, finishes_nowhere, past_from}
+use Rattle.pcef_world.proofs.WorldSteps.{hands_if, sound_finished}
+use Rattle.pcef_world.proofs.world.WorldState.finish.Goals as goal
+
+pub finish_at-requires : goal.finish_at-requires
+finish_at-requires c =
+    let there : slice_get c.self.inside.workers.items c.from.result ≡ Some c.in-Some.place.now =
+    slice_get_read c.self.inside.workers.items (length c.self.inside.workers.items) c.from.result c.in-Some.place.now refl c.in-Some.ensures.item.3.0 c.in-Some.ensures.value in
+    hands_if c.self.inside.session c.self.inside.workers.items c.from.result c.in-Some.place.now c.self.invariant there
+
+pub invariant_of-self-in-Some : goal.invariant_of-self-in-Some
+invariant_of-self-in-Some c =
+    let there : slice_get c.self.inside.workers.items c.from.result ≡ Some c.in-Some.place.now =
+    slice_get_read c.self.inside.workers.items (length c.self.inside.workers.items) c.from.result c.in-Some.place.now refl c.in-Some.ensures.item.3.0 c.in-Some.ensures.value in
+    sound_finished c.self.inside.session c.finish_at.new.session c.self.inside.workers.items c.from.result c.in-Some.place.now c.finish_at.new.place c.finish_at.result c.self.invariant there
+    c.finish_at.ensures.answer c.finish_at.ensures.setting
+
+pub returns-in-None-clause-answer : goal.returns-in-None-clause-answer
+returns-in-None-clause-answer c =
+    rw (← c.self.view_is, ← c.from.ensures)
+    (finishes_nowhere _ _ c.self.inside.workers.items c.from.result (omega (arith, past_from c.from.result _ c.in-None.ensures.variant.1, c.self.inside.workers.ok.0)))
+
+pub returns-in-Some-clause-answer : goal.returns-in-Some-clause-answer
+returns-in-Some-clause-answer c =
+    let there : slice_get c.self.inside.workers.items c.from.result ≡ Some c.in-Some.place.now =
+    slice_get_read c.self.inside.workers.items (length c.self.inside.workers.items) c.from.result c.in-Some.place.now refl c.in-Some.ensures.item.3.0 c.in-Some.ensures.value in
+    rw (← c.self.view_is, ← c.from.ensures)
+    (finishes_answer c.self.inside.session c.finish_at.new.session c.self.inside.workers.items c.from.result c.in-Some.place.now c.finish_at.new.place c.finish_at.result c.self.invariant there c.finish_at.ensures.answer)
