@@ -8,7 +8,7 @@ use Rattle.pcef_filter.specs.declared.filter.Flow.{Flow}
 use Rattle.pcef_filter.specs.Reading.{reading_of}
 use Rattle.pcef_filter.proofs.FilterLaws.{fault_once, fault_or_filter, filter_again, read_fault, read_found}
 use Rattle.pcef_line.specs.declared.line.Line.{Line}
-use Rattle.pcef_line.specs.declared.line.Line.TheVariants.{Install}
+use Rattle.pcef_model.specs.declared.command.Command.TheVariants.{Install}
 use Rattle.pcef_line.specs.declared.fault.LineFault.{LineFault}
 use Rattle.pcef_line.specs.declared.fault.LineFault.TheVariants.{BadFilter, NotJson, UnknownField}
 use Rattle.pcef_line.specs.declared.field.Field.TheVariants as field
@@ -16,7 +16,7 @@ use Rattle.pcef_line.specs.declared.word.Word.{Word}
 use Rattle.pcef_line.specs.declared.word.Word.TheVariants as word
 use Rattle.pcef_line.specs.FilterReads.{FilterReading, IsExact, IsReadAs}
 use Rattle.pcef_line.specs.LineRules.{filter_at, filters_of, filters_at, flow_at, rule_at}
-use Rattle.pcef_line.specs.LineOf.{LineOf, fields_at, line_at, line_by, word_at}
+use Rattle.pcef_line.specs.LineOf.{LineOf, fields_at, line_at, line_by, of_command, word_at}
 use Rattle.pcef_line.specs.LineShape.{is_known}
 use Rattle.pcef_line.specs.LineValues.{list_at, object_at, text_at}
 use Rattle.pcef_reading.specs.Readings.{◌>>=◌, or_fault, passing, under}
@@ -64,14 +64,23 @@ same_rule a b same d = rw (same_list a b same d) refl
 
 same_fields : (a b : FilterReading) → AreSame a b → (w : Word) (d : Data) → fields_at a w d ≡ fields_at b w d
 unfolding fields_at
-same_fields a b same word.Install d = then_same (object_at field.Rule d) _ _ (λ whole. ap (λ r. r >>= λ rule. Ok (Install rule)) (same_rule a b same whole))
+same_fields a b same word.Install d = then_same (object_at field.Rule d) _ _ (λ whole. ap (λ r. r >>= λ rule. Ok (of_command (Install rule))) (same_rule a b same whole))
 same_fields a b same word.Activate d = refl
 same_fields a b same word.Remove d = refl
 same_fields a b same word.Monitor d = refl
+same_fields a b same word.Stop d = refl
+same_fields a b same word.Report d = refl
+same_fields a b same word.Triggers d = refl
+same_fields a b same word.Notice d = refl
+same_fields a b same word.Lose d = refl
+same_fields a b same word.Close d = refl
+same_fields a b same word.Terminate d = refl
 same_fields a b same word.Attach d = refl
 same_fields a b same word.Take d = refl
 same_fields a b same word.Refresh d = refl
 same_fields a b same word.Flush d = refl
+same_fields a b same word.Finish d = refl
+same_fields a b same word.Abandon d = refl
 same_fields a b same word.Show d = refl
 
 same_data : (a b : FilterReading) → AreSame a b → (d : Data) → line_at a d ≡ line_at b d

@@ -1,5 +1,5 @@
 -- Which fields a line, and the objects in it, may have (own choice).
-use Rattle.std.specs.Prelude.{List, Bool, true, ◌&&◌}
+use Rattle.std.specs.Prelude.{List, Bool, true, false, ◌&&◌, ◌||◌}
 use Rattle.serde_json.specs.Data.{Data, Items, no_items, item, Members, no_members, member}
 use Rattle.serde_json.specs.Find.{get, as_object, as_array}
 use Rattle.pcef_line.specs.declared.field.Field.{Field}
@@ -8,6 +8,15 @@ use Rattle.pcef_line.specs.declared.word.Word.{Word}
 use Rattle.pcef_line.specs.declared.word.Word.TheVariants as word
 use Rattle.pcef_line.specs.LineWords.{field_text, fields_of, fields_of_rule, fields_of_filter, fields_of_arp, fields_of_gbr}
 use Rattle.pcef_reading.specs.Readings.{if_there, names_one_of}
+
+-- a test of each item of a list, and of some
+abbrev pub each_item : (Data → Bool) → Items → Bool
+each_item test no_items = true
+each_item test (item d ds) = test d && each_item test ds
+
+abbrev pub some_item : (Data → Bool) → Items → Bool
+some_item test no_items = false
+some_item test (item d ds) = test d || some_item test ds
 
 -- a test of a field's value
 abbrev pub holds_at : Field → (Data → Bool) → Data → Bool
@@ -22,8 +31,7 @@ abbrev pub has_only : List Field → Data → Bool
 has_only fields d = if_there (members_known fields) (as_object d)
 
 abbrev pub items_have_only : List Field → Items → Bool
-items_have_only fields no_items = true
-items_have_only fields (item d ds) = has_only fields d && items_have_only fields ds
+items_have_only fields = each_item (has_only fields)
 
 -- the same of each item of a list
 abbrev pub each_has_only : List Field → Data → Bool

@@ -12,6 +12,10 @@ field_text field.Do = codes "do"
 field_text field.Rule = codes "rule"
 field_text field.Key = codes "key"
 field_text field.Grant = codes "grant"
+field_text field.Events = codes "events"
+field_text field.Event = codes "event"
+field_text field.Value = codes "value"
+field_text field.Bearer = codes "bearer"
 field_text field.Worker = codes "worker"
 field_text field.Dir = codes "dir"
 field_text field.Packet = codes "packet"
@@ -37,10 +41,19 @@ word_of text =
     else if bytes_eq text (codes "activate") then Some word.Activate
     else if bytes_eq text (codes "remove") then Some word.Remove
     else if bytes_eq text (codes "monitor") then Some word.Monitor
+    else if bytes_eq text (codes "stop") then Some word.Stop
+    else if bytes_eq text (codes "report") then Some word.Report
+    else if bytes_eq text (codes "triggers") then Some word.Triggers
+    else if bytes_eq text (codes "notice") then Some word.Notice
+    else if bytes_eq text (codes "lose") then Some word.Lose
+    else if bytes_eq text (codes "close") then Some word.Close
+    else if bytes_eq text (codes "terminate") then Some word.Terminate
     else if bytes_eq text (codes "attach") then Some word.Attach
     else if bytes_eq text (codes "take") then Some word.Take
     else if bytes_eq text (codes "refresh") then Some word.Refresh
     else if bytes_eq text (codes "flush") then Some word.Flush
+    else if bytes_eq text (codes "finish") then Some word.Finish
+    else if bytes_eq text (codes "abandon") then Some word.Abandon
     else if bytes_eq text (codes "show") then Some word.Show
     else None
 
@@ -50,10 +63,19 @@ fields_of word.Install = field.Do ∷ field.Rule ∷ []
 fields_of word.Activate = field.Do ∷ field.Name ∷ []
 fields_of word.Remove = field.Do ∷ field.Name ∷ []
 fields_of word.Monitor = field.Do ∷ field.Key ∷ field.Grant ∷ []
+fields_of word.Stop = field.Do ∷ field.Key ∷ []
+fields_of word.Report = field.Do ∷ field.Key ∷ []
+fields_of word.Triggers = field.Do ∷ field.Events ∷ []
+fields_of word.Notice = field.Do ∷ field.Event ∷ field.Value ∷ []
+fields_of word.Lose = field.Do ∷ field.Bearer ∷ []
+fields_of word.Close = field.Do ∷ []
+fields_of word.Terminate = field.Do ∷ []
 fields_of word.Attach = field.Do ∷ []
 fields_of word.Take = field.Do ∷ field.Worker ∷ field.Dir ∷ field.Packet ∷ []
 fields_of word.Refresh = field.Do ∷ field.Worker ∷ []
 fields_of word.Flush = field.Do ∷ field.Worker ∷ []
+fields_of word.Finish = field.Do ∷ field.Worker ∷ []
+fields_of word.Abandon = field.Do ∷ field.Worker ∷ []
 fields_of word.Show = field.Do ∷ []
 
 -- those of a rule, and of the objects in it

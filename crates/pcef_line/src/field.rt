@@ -14,6 +14,14 @@ pub enum Field {
     Key,
     /// A grant in octets.
     Grant,
+    /// Event triggers.
+    Events,
+    /// An access event.
+    Event,
+    /// The value of an access event.
+    Value,
+    /// The id of a bearer.
+    Bearer,
     /// The number of a worker.
     Worker,
     /// The direction of a packet.
@@ -60,6 +68,10 @@ impl Field {
             Field::Rule => "rule",
             Field::Key => "key",
             Field::Grant => "grant",
+            Field::Events => "events",
+            Field::Event => "event",
+            Field::Value => "value",
+            Field::Bearer => "bearer",
             Field::Worker => "worker",
             Field::Dir => "dir",
             Field::Packet => "packet",

@@ -1,6 +1,7 @@
 //! The lines of a script: one JSON object each (RFC 8259), whose `do` says what it asks for.
 #![tactic(auto)]
 
+mod command;
 mod fault;
 mod field;
 mod known;
@@ -8,8 +9,10 @@ mod laws;
 mod line;
 mod reading;
 mod rule;
+mod trigger;
 mod values;
 mod word;
+mod worker;
 
 pub use fault::LineFault;
 pub use field::Field;

@@ -5,22 +5,21 @@ ghost use Rattle.serde_json.specs.View.{view};
 ghost use Rattle.pcef_filter.specs.Reading.{reading_of};
 ghost use Rattle.pcef_line.specs.declared.line.Line.{Line};
 ghost use Rattle.pcef_line.specs.declared.fault.LineFault.{LineFault};
-ghost use Rattle.pcef_line.specs.declared.word.Word.TheVariants.{Monitor, Take};
 ghost use Rattle.pcef_line.specs.LineValues.{Gives};
-ghost use Rattle.pcef_line.specs.LineOf.{word_at, worker_at, fields_at, line_at, line_by, LineOf};
+ghost use Rattle.pcef_line.specs.LineOf.{word_at, fields_at, line_at, line_by, LineOf};
 
+use crate::command::{
+    activate, install, lose, monitor, notice, of_command, remove, report, stop, triggers,
+};
 use crate::fault::LineFault;
 use crate::field::Field;
 use crate::known::is_known;
 use crate::line::Line;
-use crate::rule::rule;
-use crate::values::{dir_field, name_field, number_field, object_field, packet_field};
 use crate::word::Word;
+use crate::worker::{abandon, finish, flush, refresh, take};
+use pcef_model::{Command, Step};
 use serde_json::Value;
 use std::alloc::Global;
-
-/// The highest number of a worker.
-const LAST_WORKER: u64 = 15;
 
 #[tactic(auto, unfolding(crate::specs::LineOf::word_at))]
 fn word_field(line: &Value) -> Result<Word, LineFault>
@@ -36,57 +35,29 @@ fn word_field(line: &Value) -> Result<Word, LineFault>
     }
 }
 
-#[tactic(auto, unfolding(crate::specs::LineOf::worker_at))]
-fn worker_field(line: &Value) -> Result<u8, LineFault>
-    ensures { Gives (λ n. n) result (worker_at (view line.now)) }
-{
-    Ok(number_field(line, Field::Worker, Field::Worker, 0, LAST_WORKER)? as u8)
-}
-
-#[tactic(auto, unfolding(crate::specs::LineOf::fields_at))]
-fn monitor(line: &Value) -> Result<Line, LineFault>
-    ensures { Gives (λ l. l) result (fields_at reading_of Monitor (view line.now)) }
-{
-    let key = name_field(line, Field::Key)?;
-    let grant = number_field(line, Field::Grant, Field::Grant, 0, u64::MAX)?;
-    Ok(Line::Monitor { key, grant })
-}
-
-#[tactic(auto, unfolding(crate::specs::LineOf::fields_at))]
-fn take(alloc: Global, line: &Value) -> Result<Line, LineFault>
-    ensures { Gives (λ l. l) result (fields_at reading_of Take (view line.now)) }
-{
-    let worker = worker_field(line)?;
-    let dir = dir_field(line, Field::Dir)?;
-    let header = packet_field(alloc, line, Field::Packet, dir)?;
-    Ok(Line::Take { worker, header })
-}
-
+/// What the fields of a line with this word tell.
 #[tactic(auto, unfolding(crate::specs::LineOf::fields_at))]
 fn fields(alloc: Global, word: Word, line: &Value) -> Result<Line, LineFault>
     ensures { Gives (λ l. l) result (fields_at reading_of word (view line.now)) }
 {
     match word {
-        Word::Install => Ok(Line::Install(rule(alloc, object_field(line, Field::Rule)?)?)),
-        Word::Activate => {
-            let rule = name_field(line, Field::Name)?;
-            Ok(Line::Activate(rule))
-        }
-        Word::Remove => {
-            let name = name_field(line, Field::Name)?;
-            Ok(Line::Remove(name))
-        }
+        Word::Install => install(alloc, line),
+        Word::Activate => activate(line),
+        Word::Remove => remove(line),
         Word::Monitor => monitor(line),
-        Word::Attach => Ok(Line::Attach),
+        Word::Stop => stop(line),
+        Word::Report => report(line),
+        Word::Triggers => triggers(line),
+        Word::Notice => notice(line),
+        Word::Lose => lose(line),
+        Word::Close => Ok(of_command(Command::Close)),
+        Word::Terminate => Ok(of_command(Command::Terminate)),
+        Word::Attach => Ok(Line::Step(Step::Attach)),
         Word::Take => take(alloc, line),
-        Word::Refresh => {
-            let worker = worker_field(line)?;
-            Ok(Line::Refresh { worker })
-        }
-        Word::Flush => {
-            let worker = worker_field(line)?;
-            Ok(Line::Flush { worker })
-        }
+        Word::Refresh => refresh(line),
+        Word::Flush => flush(line),
+        Word::Finish => finish(line),
+        Word::Abandon => abandon(line),
         Word::Show => Ok(Line::Show),
     }
 }

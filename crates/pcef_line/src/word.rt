@@ -12,10 +12,19 @@ pub enum Word {
     Activate,
     Remove,
     Monitor,
+    Stop,
+    Report,
+    Triggers,
+    Notice,
+    Lose,
+    Close,
+    Terminate,
     Attach,
     Take,
     Refresh,
     Flush,
+    Finish,
+    Abandon,
     Show,
 }
 
@@ -29,10 +38,19 @@ impl Word {
             "activate" => Some(Word::Activate),
             "remove" => Some(Word::Remove),
             "monitor" => Some(Word::Monitor),
+            "stop" => Some(Word::Stop),
+            "report" => Some(Word::Report),
+            "triggers" => Some(Word::Triggers),
+            "notice" => Some(Word::Notice),
+            "lose" => Some(Word::Lose),
+            "close" => Some(Word::Close),
+            "terminate" => Some(Word::Terminate),
             "attach" => Some(Word::Attach),
             "take" => Some(Word::Take),
             "refresh" => Some(Word::Refresh),
             "flush" => Some(Word::Flush),
+            "finish" => Some(Word::Finish),
+            "abandon" => Some(Word::Abandon),
             "show" => Some(Word::Show),
             _ => None,
         }
@@ -46,9 +64,15 @@ impl Word {
             Word::Install => &[Field::Do, Field::Rule],
             Word::Activate | Word::Remove => &[Field::Do, Field::Name],
             Word::Monitor => &[Field::Do, Field::Key, Field::Grant],
-            Word::Attach | Word::Show => &[Field::Do],
+            Word::Stop | Word::Report => &[Field::Do, Field::Key],
+            Word::Triggers => &[Field::Do, Field::Events],
+            Word::Notice => &[Field::Do, Field::Event, Field::Value],
+            Word::Lose => &[Field::Do, Field::Bearer],
+            Word::Close | Word::Terminate | Word::Attach | Word::Show => &[Field::Do],
             Word::Take => &[Field::Do, Field::Worker, Field::Dir, Field::Packet],
-            Word::Refresh | Word::Flush => &[Field::Do, Field::Worker],
+            Word::Refresh | Word::Flush | Word::Finish | Word::Abandon => {
+                &[Field::Do, Field::Worker]
+            }
         }
     }
 }

@@ -9,4 +9,4 @@ use Rattle.pcef_line.proofs.known.items_have_only.Goals as goal
 pub returns : goal.returns
 returns c =
     all_from_yields_List (λ value. has_only c.args.fields.now (view value)) _ _ _ c.all.ensures.ran (YieldsList-from_slice c.args.items.now cc) (λ x b q k. search (rules, tests))
-    ∙ all_items c.args.fields.now c.args.items.now
+    ∙ all_items (has_only c.args.fields.now) c.args.items.now
