@@ -7,6 +7,7 @@ mod declared_profile;
 mod declared_script;
 mod ends;
 mod line;
+mod line_steps;
 mod memory;
 mod profile;
 mod saturated;

@@ -2,6 +2,7 @@
 
 use pcef_filter::FilterFault;
 use pcef_line::{Field, Line, LineFault, read_line};
+use pcef_model::{Command, Step};
 use pcef_packet::{Addr, Dir, Header, PacketFault, Ports};
 use pcef_rule::RuleFault;
 use std::alloc::Global;
@@ -358,10 +359,12 @@ fn a_take_has_its_header(rt: HostRuntime) {
     let text =
         "{\"do\":\"take\",\"worker\":3,\"dir\":\"down\",\"packet\":\"4500001C0000000040110000C63364070A0000020035138800080000\"}";
     let Ok(
-        Line::Take {
-            worker,
-            header: read,
-        },
+        Line::Step(
+            Step::Take {
+                worker,
+                header: read,
+            },
+        ),
     ) = read_line(rt.alloc(), text)
     else {
         panic!(rt; "no take line");
@@ -374,7 +377,7 @@ fn a_take_has_its_header(rt: HostRuntime) {
 fn an_install_has_its_rule(rt: HostRuntime) {
     let text =
         "{\"do\":\"install\",\"rule\":{\"name\":\"web\",\"precedence\":100,\"filters\":[{\"text\":\"permit out 17 from any 53 to assigned\"}],\"qci\":9,\"arp\":{\"level\":8,\"capability\":false,\"vulnerability\":true},\"gate\":\"ENABLED\",\"key\":\"vid\"}}";
-    let Ok(Line::Install(rule)) = read_line(rt.alloc(), text) else {
+    let Ok(Line::Step(Step::Command(Command::Install(rule)))) = read_line(rt.alloc(), text) else {
         panic!(rt; "no install line");
     };
     let properties = rule.properties();
@@ -394,7 +397,7 @@ fn an_install_has_its_rule(rt: HostRuntime) {
 fn an_activate_has_its_name(rt: HostRuntime) {
     let text = "{\"name\":\"video\",\"do\":\"activate\"}";
     let line = read_line(rt.alloc(), text);
-    let Ok(Line::Activate(name)) = &line else {
+    let Ok(Line::Step(Step::Command(Command::Activate(name)))) = &line else {
         panic!(rt; "no activate line");
     };
     assert_eq!(rt; name.as_str(), "video");
