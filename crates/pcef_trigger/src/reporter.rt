@@ -1,0 +1,25 @@
+//! Who takes reports.
+
+ghost use Rattle.std.specs.Prelude.{List};
+ghost use Rattle.pcef_model.specs.declared.report.Report.{Report};
+ghost use Rattle.pcef_trigger.specs.Deliveries.{Answers};
+
+use pcef_model::Report;
+
+/// What a reporter answers.
+#[derive(Clone, Copy, Debug, PartialEq, Eq)]
+pub enum Answer {
+    /// It took the report.
+    Taken,
+    /// It didn't, and may be asked again.
+    Refused,
+}
+
+/// Takes reports. What contracts see of a reporter is the list of those that it took, the oldest first.
+pub trait Reporter: Drop {
+    ghost taken: { Self → List Report };
+
+    /// Takes a report, or refuses it: then the list stays as it was. A reporter that finds no memory refuses.
+    fn report(&mut self, report: &Report) -> Answer
+        ensures { Answers (taken self.old) report.now result (taken self.new) };
+}
