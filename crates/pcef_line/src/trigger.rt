@@ -12,9 +12,9 @@ use serde_json::Value;
 pub enum Trigger {
     /// `NO_EVENT_TRIGGERS`: no event is subscribed.
     NoEventTriggers,
-    /// `USAGE_REPORT`: reached grants are.
+    /// `USAGE_REPORT`: reached grants are reported.
     UsageReport,
-    /// An access event is.
+    /// An access event is reported.
     Access(AccessKind),
 }
 

@@ -8,6 +8,7 @@ use Rattle.pcef_trigger.specs.declared.kind.ReportKind.{ReportKind}
 use Rattle.pcef_trigger.specs.declared.kind.ReportKind.TheVariants.{Usage, Access, Inactive}
 use Rattle.pcef_trigger.specs.declared.reporter.Answer.{Answer}
 use Rattle.pcef_trigger.specs.declared.reporter.Answer.TheVariants.{Taken, Refused}
+use Rattle.pcef_trigger.specs.declared.outlet.Delivered.{Delivered}
 use Rattle.pcef_trigger.specs.declared.outlet.Outlet.{Outlet}
 use Rattle.pcef_trigger.specs.Kinds.{kind_of, of_kind, same_kind}
 
@@ -16,13 +17,6 @@ use Rattle.pcef_trigger.specs.Kinds.{kind_of, of_kind, same_kind}
 abbrev pub Answers : List Report → Report → Answer → List Report → Type 0
 Answers old report Taken new = new ≡ old ++ report ∷ []
 Answers old report Refused new = new ≡ old
-
--- the same where there may be no reporter: then the report counts as taken
-abbrev pub AnswersAt : Option (List Report) → Report → Answer → Option (List Report) → Type 0
-AnswersAt None report Taken new = new ≡ None
-AnswersAt None report Refused new = ⊥
-AnswersAt (Some old) report Taken new = new ≡ Some (old ++ report ∷ [])
-AnswersAt (Some old) report Refused new = new ≡ Some old
 
 -- ---- at most one reporter for each kind
 -- what the reporter of each kind has taken, if there is one
@@ -37,7 +31,11 @@ list_of Access lists = lists.access
 list_of Inactive lists = lists.inactive
 
 abbrev pub lists : {B : Type 0} → (B → List Report) → Option B → Option B → Option B → TakenLists
-lists taken usage access inactive = record { usage = option_map taken usage; access = option_map taken access; inactive = option_map taken inactive }
+lists taken usage access inactive = record {
+  usage = option_map taken usage;
+  access = option_map taken access;
+  inactive = option_map taken inactive;
+}
 
 -- those of an outlet, where `taken` says what a reporter has taken
 abbrev pub lists_of : {d : Type 0} {h : d → Type 0} → (DynBox d Global h → List Report) → Outlet d h → TakenLists
@@ -49,7 +47,15 @@ taken_in kind taken [] = None
 taken_in kind taken (first ∷ others) = if same_kind kind first.0 then Some (taken first.1) else taken_in kind taken others
 
 abbrev pub lists_in : {B : Type 0} → (B → List Report) → List (ReportKind × B) → TakenLists
-lists_in taken reporters = record { usage = taken_in Usage taken reporters; access = taken_in Access taken reporters; inactive = taken_in Inactive taken reporters }
+lists_in taken reporters = record {
+  usage = taken_in Usage taken reporters;
+  access = taken_in Access taken reporters;
+  inactive = taken_in Inactive taken reporters;
+}
+
+-- an outlet has the reporters of a list
+abbrev pub Keeps : {d : Type 0} {h : d → Type 0} → (DynBox d Global h → List Report) → Outlet d h → List (ReportKind × DynBox d Global h) → Type 0
+Keeps taken outlet reporters = lists_of taken outlet ≡ lists_in taken reporters
 
 -- ---- deliveries
 abbrev pub with_more : List Report → Option (List Report) → Option (List Report)
@@ -63,16 +69,18 @@ lists_after old reports = record {
   inactive = with_more (of_kind Inactive reports) old.inactive;
 }
 
+abbrev pub Sends : {d : Type 0} {h : d → Type 0} → (DynBox d Global h → List Report) → Outlet d h → Outlet d h → List Report → Type 0
+Sends taken old new reports = lists_of taken new ≡ lists_after (lists_of taken old) reports
+
 -- there is a reporter of the report's kind
 abbrev pub HasReporter : TakenLists → Report → Type 0
-HasReporter old report = IsTrue (is_some (list_of (kind_of report) old))
+HasReporter lists report = IsTrue (is_some (list_of (kind_of report) lists))
 
-abbrev pub TakesOne : TakenLists → Report → Answer → TakenLists → Type 0
-TakesOne old report Taken new = new ≡ lists_after old (report ∷ [])
-TakesOne old report Refused new = (new ≡ old) × HasReporter new report
-
--- none is named where all were sent, and else the first after those that were: a report whose kind has a reporter
+-- none is named where all were sent, and else the first after those that were: its reporter refused it
 abbrev pub IsRefusal : TakenLists → List Report → ℕ → Option ℕ → Type 0
-IsRefusal new reports sent None = sent ≡ length reports
-IsRefusal new reports sent (Some number) =
-    (report : Report) × (slice_get reports sent ≡ Some report) × (number ≡ report.number) × HasReporter new report
+IsRefusal lists reports sent None = sent ≡ length reports
+IsRefusal lists reports sent (Some number) =
+    (report : Report) × (slice_get reports sent ≡ Some report) × (number ≡ report.number) × HasReporter lists report
+
+abbrev pub Refuses : {d : Type 0} {h : d → Type 0} → (DynBox d Global h → List Report) → Outlet d h → List Report → Delivered → Type 0
+Refuses taken new reports delivered = IsRefusal (lists_of taken new) reports delivered.sent delivered.refused

@@ -1,3 +1,4 @@
+pub mod Deliveries
 pub mod Kinds
 pub mod Laws
-pub mod Deliveries
+pub mod private

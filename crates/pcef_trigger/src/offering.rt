@@ -1,7 +1,7 @@
 //! One reporter, if there is one.
 
-ghost use Rattle.std.specs.Option.{option_map};
-ghost use Rattle.pcef_trigger.specs.Deliveries.{Answers, AnswersAt};
+ghost use Rattle.pcef_trigger.specs.Deliveries.{Answers};
+ghost use Rattle.pcef_trigger.specs.private.Taking.{AnswersAt};
 
 use crate::reporter::{Answer, Reporter};
 use pcef_model::Report;
@@ -15,7 +15,7 @@ fn hand(to: &mut Box<dyn Reporter + Send>, report: &Report) -> Answer
 
 /// Hands a report to the reporter, if there is one. Where there is none it counts as taken.
 pub(crate) fn offer(to: &mut Option<Box<dyn Reporter + Send>>, report: &Report) -> Answer
-    ensures { AnswersAt (option_map (λ b. taken b) to.old) report.now result (option_map (λ b. taken b) to.new) }
+    ensures { AnswersAt (λ b. taken b) to.old report.now result to.new }
 {
     match to {
         None => Answer::Taken,

@@ -2,7 +2,8 @@
 
 ghost use Rattle.std.specs.Prelude.{◌≡◌, ◌↔◌, ◌≤◌, IfErr, IfOk, IsOk, false, length, take};
 ghost use Rattle.pcef_trigger.specs.Kinds.{repeats};
-ghost use Rattle.pcef_trigger.specs.Deliveries.{IsRefusal, TakesOne, lists_after, lists_in, lists_of};
+ghost use Rattle.pcef_trigger.specs.Deliveries.{Keeps, Refuses, Sends};
+ghost use Rattle.pcef_trigger.specs.private.Taking.{TakesOne};
 
 use crate::kind::{ReportKind, kind_of, repeats};
 use crate::offering::offer;
@@ -38,7 +39,7 @@ impl Outlet {
     /// The outlet of these reporters, at most one of each kind, with what they have taken so far; or the list again,
     /// where two have one kind. Takes no memory.
     pub fn new(reporters: Vec<(ReportKind, Box<dyn Reporter + Send>)>) -> Result<Outlet, SameKind>
-        ensures keeps { IfOk result (λ o. lists_of (λ b. taken b) o ≡ lists_in (λ b. taken b) reporters.items) }
+        ensures keeps { IfOk result (λ o. Keeps (λ b. taken b) o reporters.items) }
         ensures exact { IsOk result ↔ (repeats reporters.items ≡ false) }
         ensures back { IfErr result (λ e. e.reporters ≡ reporters) }
     {
@@ -50,7 +51,7 @@ impl Outlet {
 
     /// Hands one report on.
     fn one(&mut self, report: &Report) -> Answer
-        ensures { TakesOne (lists_of (λ b. taken b) self.old) report.now result (lists_of (λ b. taken b) self.new) }
+        ensures { TakesOne (λ b. taken b) self.old report.now result self.new }
     {
         match kind_of(report) {
             ReportKind::Usage => offer(&mut self.usage, report),
@@ -64,8 +65,8 @@ impl Outlet {
     /// once ([`deliveries_join`](crate::deliveries_join)). Takes no memory beside that of the reporters.
     pub fn deliver(&mut self, reports: &[Report]) -> Delivered
         ensures sent { result.sent ≤ length reports.now }
-        ensures taken { lists_of (λ b. taken b) self.new ≡ lists_after (lists_of (λ b. taken b) self.old) (take result.sent reports.now) }
-        ensures refused { IsRefusal (lists_of (λ b. taken b) self.new) reports.now result.sent result.refused }
+        ensures taken { Sends (λ b. taken b) self.old self.new (take result.sent reports.now) }
+        ensures refused { Refuses (λ b. taken b) self.new reports.now result }
     {
         let mut sent = 0;
         for report in reports {
@@ -89,7 +90,7 @@ impl Outlet {
 /// The outlet of these reporters: of each kind the first.
 #[tactic(auto, using(crate::proofs::First::taken_in_last, crate::proofs::First::or_else_none, crate::proofs::First::or_else_again))]
 fn outlet_of(reporters: Vec<(ReportKind, Box<dyn Reporter + Send>)>) -> Outlet
-    ensures { lists_of (λ b. taken b) result ≡ lists_in (λ b. taken b) reporters.items }
+    ensures { Keeps (λ b. taken b) result reporters.items }
 {
     let mut reporters = reporters;
     let mut outlet = Outlet {
