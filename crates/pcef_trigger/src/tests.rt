@@ -39,19 +39,15 @@ impl Reporter for Keeper {
     }
 }
 
-fn keeper_of(
-    alloc: Global,
-    digits: &Arc<AtomicU64>,
-    refuses_at: u64,
-) -> Result<Box<dyn Reporter + Send>, AllocError> {
-    let keeper = Keeper {
-        reports: Vec::new(alloc),
-        digits: Arc::try_clone(digits)?,
-        calls: 0,
-        refuses_at,
-    };
-    let boxed: Box<dyn Reporter + Send> = Box::new(alloc, keeper)?;
-    Ok(boxed)
+impl Keeper {
+    fn new(alloc: Global, digits: &Arc<AtomicU64>, refuses_at: u64) -> Result<Keeper, AllocError> {
+        Ok(Keeper {
+            reports: Vec::new(alloc),
+            digits: Arc::try_clone(digits)?,
+            calls: 0,
+            refuses_at,
+        })
+    }
 }
 
 fn usage(number: u64) -> Result<Report, Fail> {
@@ -90,11 +86,16 @@ fn a_refused_report_is_delivered_again(rt: HostRuntime) -> Result<(), Fail> {
     let usage_digits = Arc::new(rt.alloc(), AtomicU64::new(7))?;
     let access_digits = Arc::new(rt.alloc(), AtomicU64::new(7))?;
     let mut reporters = Vec::new(rt.alloc());
-    reporters.push((ReportKind::Usage, keeper_of(rt.alloc(), &usage_digits, 2)?))?;
-    reporters.push((
-        ReportKind::Access,
-        keeper_of(rt.alloc(), &access_digits, 0)?,
-    ))?;
+    let keeper: Box<dyn Reporter + Send> = Box::new(
+        rt.alloc(),
+        Keeper::new(rt.alloc(), &usage_digits, 2)?,
+    )?;
+    reporters.push((ReportKind::Usage, keeper))?;
+    let keeper: Box<dyn Reporter + Send> = Box::new(
+        rt.alloc(),
+        Keeper::new(rt.alloc(), &access_digits, 0)?,
+    )?;
+    reporters.push((ReportKind::Access, keeper))?;
     let Ok(mut outlet) = Outlet::new(reporters) else {
         panic!(rt; "two reporters have one kind");
     };
@@ -132,15 +133,21 @@ fn each_kind_goes_to_its_reporter(rt: HostRuntime) -> Result<(), Fail> {
     let access_digits = Arc::new(rt.alloc(), AtomicU64::new(7))?;
     let inactive_digits = Arc::new(rt.alloc(), AtomicU64::new(7))?;
     let mut reporters = Vec::new(rt.alloc());
-    reporters.push((
-        ReportKind::Inactive,
-        keeper_of(rt.alloc(), &inactive_digits, 0)?,
-    ))?;
-    reporters.push((ReportKind::Usage, keeper_of(rt.alloc(), &usage_digits, 0)?))?;
-    reporters.push((
-        ReportKind::Access,
-        keeper_of(rt.alloc(), &access_digits, 0)?,
-    ))?;
+    let keeper: Box<dyn Reporter + Send> = Box::new(
+        rt.alloc(),
+        Keeper::new(rt.alloc(), &inactive_digits, 0)?,
+    )?;
+    reporters.push((ReportKind::Inactive, keeper))?;
+    let keeper: Box<dyn Reporter + Send> = Box::new(
+        rt.alloc(),
+        Keeper::new(rt.alloc(), &usage_digits, 0)?,
+    )?;
+    reporters.push((ReportKind::Usage, keeper))?;
+    let keeper: Box<dyn Reporter + Send> = Box::new(
+        rt.alloc(),
+        Keeper::new(rt.alloc(), &access_digits, 0)?,
+    )?;
+    reporters.push((ReportKind::Access, keeper))?;
     let Ok(mut outlet) = Outlet::new(reporters) else {
         panic!(rt; "two reporters have one kind");
     };
@@ -168,7 +175,11 @@ fn each_kind_goes_to_its_reporter(rt: HostRuntime) -> Result<(), Fail> {
 fn a_kind_without_a_reporter_is_passed_over(rt: HostRuntime) -> Result<(), Fail> {
     let digits = Arc::new(rt.alloc(), AtomicU64::new(7))?;
     let mut reporters = Vec::new(rt.alloc());
-    reporters.push((ReportKind::Inactive, keeper_of(rt.alloc(), &digits, 1)?))?;
+    let keeper: Box<dyn Reporter + Send> = Box::new(
+        rt.alloc(),
+        Keeper::new(rt.alloc(), &digits, 1)?,
+    )?;
+    reporters.push((ReportKind::Inactive, keeper))?;
     let Ok(mut outlet) = Outlet::new(reporters) else {
         panic!(rt; "two reporters have one kind");
     };
@@ -228,7 +239,11 @@ fn no_reporter_and_no_report(rt: HostRuntime) -> Result<(), Fail> {
 fn a_refusal_at_the_first_sends_nothing(rt: HostRuntime) -> Result<(), Fail> {
     let digits = Arc::new(rt.alloc(), AtomicU64::new(7))?;
     let mut reporters = Vec::new(rt.alloc());
-    reporters.push((ReportKind::Access, keeper_of(rt.alloc(), &digits, 1)?))?;
+    let keeper: Box<dyn Reporter + Send> = Box::new(
+        rt.alloc(),
+        Keeper::new(rt.alloc(), &digits, 1)?,
+    )?;
+    reporters.push((ReportKind::Access, keeper))?;
     let Ok(mut outlet) = Outlet::new(reporters) else {
         panic!(rt; "two reporters have one kind");
     };
@@ -251,9 +266,21 @@ fn a_refusal_at_the_first_sends_nothing(rt: HostRuntime) -> Result<(), Fail> {
 fn two_reporters_of_a_kind_come_back(rt: HostRuntime) -> Result<(), Fail> {
     let digits = Arc::new(rt.alloc(), AtomicU64::new(7))?;
     let mut reporters = Vec::new(rt.alloc());
-    reporters.push((ReportKind::Usage, keeper_of(rt.alloc(), &digits, 0)?))?;
-    reporters.push((ReportKind::Access, keeper_of(rt.alloc(), &digits, 0)?))?;
-    reporters.push((ReportKind::Usage, keeper_of(rt.alloc(), &digits, 0)?))?;
+    let keeper: Box<dyn Reporter + Send> = Box::new(
+        rt.alloc(),
+        Keeper::new(rt.alloc(), &digits, 0)?,
+    )?;
+    reporters.push((ReportKind::Usage, keeper))?;
+    let keeper: Box<dyn Reporter + Send> = Box::new(
+        rt.alloc(),
+        Keeper::new(rt.alloc(), &digits, 0)?,
+    )?;
+    reporters.push((ReportKind::Access, keeper))?;
+    let keeper: Box<dyn Reporter + Send> = Box::new(
+        rt.alloc(),
+        Keeper::new(rt.alloc(), &digits, 0)?,
+    )?;
+    reporters.push((ReportKind::Usage, keeper))?;
     let Err(same) = Outlet::new(reporters) else {
         panic!(rt; "two reporters of a kind are taken");
     };
