@@ -1,11 +1,15 @@
 //! New ledgers.
 
-ghost use Rattle.std.specs.Prelude.{◌≡◌};
-
+use crate::books::MAX_SHARES;
+use std::marker::Model;
 use std::sync::ledger::Blank;
 
-/// Ten new ledgers, which no name stands for yet: of the eight slots, of the rows and of the
-/// commands. Each can be cut into seventeen parts, one for each share.
+/// Into how many parts a ledger can be cut: one for each share.
+const PARTS: u64 = MAX_SHARES as u64;
+
+/// Ten new ledgers, which no session goes by yet: of the eight slots, of the rows and of the commands.
+/// Each can be cut into seventeen parts, one for each share. Contracts see the ledgers' names in this
+/// order.
 #[derive(Drop)]
 pub struct Blanks {
     pub(crate) slot0: Blank,
@@ -18,25 +22,37 @@ pub struct Blanks {
     pub(crate) slot7: Blank,
     pub(crate) rows: Blank,
     pub(crate) commands: Blank,
-    ghost first_slots: { (slot0.parts ≡ 17) × (slot1.parts ≡ 17) × (slot2.parts ≡ 17) × (slot3.parts ≡ 17) },
-    ghost last_slots: { (slot4.parts ≡ 17) × (slot5.parts ≡ 17) × (slot6.parts ≡ 17) × (slot7.parts ≡ 17) },
-    ghost others: { (rows.parts ≡ 17) × (commands.parts ≡ 17) },
+}
+
+impl Model for Blanks {
+    ghost use Rattle.std.specs.Prelude.{ℕ, List, [], ◌∷◌, ◌≡◌};
+
+    ghost Value = { List ℕ };
+
+    ghost view = { λ b.
+        b.slot0.name ∷ b.slot1.name ∷ b.slot2.name ∷ b.slot3.name ∷ b.slot4.name
+        ∷ b.slot5.name ∷ b.slot6.name ∷ b.slot7.name ∷ b.rows.name ∷ b.commands.name ∷ [] };
+
+    ghost invariant = { λ b.
+        (b.slot0.parts ≡ 17) × (b.slot1.parts ≡ 17) × (b.slot2.parts ≡ 17) × (b.slot3.parts ≡ 17)
+        × (b.slot4.parts ≡ 17) × (b.slot5.parts ≡ 17) × (b.slot6.parts ≡ 17) × (b.slot7.parts ≡ 17)
+        × (b.rows.parts ≡ 17) × (b.commands.parts ≡ 17) };
 }
 
 impl Blanks {
     /// Ten new ledgers. Takes no memory.
     pub fn new() -> Blanks {
         Blanks {
-            slot0: Blank::new(17),
-            slot1: Blank::new(17),
-            slot2: Blank::new(17),
-            slot3: Blank::new(17),
-            slot4: Blank::new(17),
-            slot5: Blank::new(17),
-            slot6: Blank::new(17),
-            slot7: Blank::new(17),
-            rows: Blank::new(17),
-            commands: Blank::new(17),
+            slot0: Blank::new(PARTS),
+            slot1: Blank::new(PARTS),
+            slot2: Blank::new(PARTS),
+            slot3: Blank::new(PARTS),
+            slot4: Blank::new(PARTS),
+            slot5: Blank::new(PARTS),
+            slot6: Blank::new(PARTS),
+            slot7: Blank::new(PARTS),
+            rows: Blank::new(PARTS),
+            commands: Blank::new(PARTS),
         }
     }
 }

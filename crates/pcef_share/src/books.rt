@@ -7,7 +7,7 @@ ghost use Rattle.pcef_share.specs.Names.{name_at};
 use crate::blanks::Blanks;
 use crate::naming::Naming;
 use crate::shares::Shares;
-use crate::tallies::Tallies;
+use crate::tallies::{COMMANDS, ROWS, Tallies};
 use arrayvec::ArrayVec;
 use pcef_rule::Slot;
 use std::marker::Model;
@@ -16,7 +16,8 @@ use std::marker::Model;
 pub const MAX_SHARES: usize = 17;
 
 /// The books of a session: one for each of its eight slots, one for its rows and one for its commands.
-/// Contracts see their totals in this order, and how many shares were issued.
+/// Contracts see their totals in this order, and how many shares were issued. Each book is the exact sum
+/// of what was added to the shares, in whatever order threads added it.
 #[derive(Drop)]
 pub struct Books<N: Naming> {
     tallies: Tallies<N>,
@@ -34,7 +35,7 @@ impl<N: Naming> Model for Books<N> {
     ghost invariant = { λ b. (b.tallies.parts + b.issued ≡ 17) × (b.tallies.amounts ≡ zeros) };
 }
 
-/// How many of the issued shares are missing, from 1 to 17.
+/// Where books are gathered: how many of the issued shares weren't handed in, from 1 to 17.
 #[derive(Clone, Copy, Debug, PartialEq, Eq)]
 pub struct SharesOut(pub u8);
 
@@ -51,7 +52,7 @@ fn handed_in<N: Naming>(shares: &ArrayVec<Option<Shares<N>>, 17>) -> u8
 
 impl<N: Naming> Books<N> {
     /// Books with nothing in them, of which no share is issued yet. The blanks are those that the name
-    /// stands for. Takes no memory.
+    /// stands for. Takes no memory, and so can't fail.
     pub fn new(blanks: Blanks) -> Books<N>
         requires { N.ledger ≡ name_at blanks }
         ensures { result ≡ record { totals = zeros; issued = 0 } }
@@ -62,21 +63,23 @@ impl<N: Naming> Books<N> {
         }
     }
 
-    /// How many shares were issued, at most 17.
+    /// How many shares were issued, at most 17. By this a caller knows that one more can be issued.
     pub fn issued(&self) -> u8
         ensures { result ≡ self.now.issued }
     {
         self.issued
     }
 
-    /// What was added to each book: octets of slots 0 to 7, rows, commands.
+    /// What was added to each book: octets of slots 0 to 7, rows, commands. By this a caller knows that a
+    /// book has room for more.
     pub fn totals(&self) -> [u64; 10]
         ensures { result ≡ self.now.totals }
     {
         self.tallies.totals()
     }
 
-    /// A share to which nothing was added yet. At most seventeen can be issued.
+    /// A share to which nothing was added yet. At most seventeen can be issued: that there are fewer is
+    /// the caller's condition.
     pub fn issue(&mut self) -> Shares<N>
         requires { self.old.issued < 17 }
         ensures shares { result ≡ zeros }
@@ -102,7 +105,7 @@ impl<N: Naming> Books<N> {
         ensures shares { shares.new ≡ plus shares.old row_ledger 1 }
         ensures books { self.new ≡ record self.old { totals = plus self.old.totals row_ledger 1 } }
     {
-        self.tallies.add(shares, 8, 1)
+        self.tallies.add(shares, ROWS, 1)
     }
 
     /// Adds commands to the book of the commands and to a share of it. The book has to fit 64 bits.
@@ -111,12 +114,12 @@ impl<N: Naming> Books<N> {
         ensures shares { shares.new ≡ plus shares.old command_ledger count }
         ensures books { self.new ≡ record self.old { totals = plus self.old.totals command_ledger count } }
     {
-        self.tallies.add(shares, 9, count)
+        self.tallies.add(shares, COMMANDS, count)
     }
 
     /// The totals of the books, where all issued shares are handed in; they are the sums over the
-    /// shares. Else all that was handed in comes back, with the number of shares that are missing.
-    /// A place may hold none. Takes no memory.
+    /// shares. Else the books and all that was handed in come back as they were, with the number of shares
+    /// that are missing. A place may hold none. Takes no memory.
     #[tactic(auto, using(crate::proofs::Sums::sums_some, crate::proofs::Sums::sums_none, crate::proofs::Sums::count_some, crate::proofs::Sums::count_none))]
     pub fn gather(
         self,

@@ -1,13 +1,12 @@
 //! Shares of the ten ledgers.
 
-ghost use Rattle.std.specs.Prelude.{◌≡◌};
-
 use crate::naming::{Naming, Of};
 use crate::tally::Part;
 use std::marker::Model;
 
-/// A share of each ledger of a session, with what was added to it. Contracts see ten amounts: of slots
-/// 0 to 7, of the rows and of the commands. A share that is let go is missing for good.
+/// A share of each ledger of a session. Contracts see what was added to it, ten amounts: octets of
+/// slots 0 to 7, rows, commands. It takes no bytes, since the books keep the sums. A share that is let
+/// go is missing for good.
 #[derive(Drop)]
 pub struct Shares<N: Naming> {
     pub(crate) slot0: Part<Of<N, 0>>,
@@ -27,25 +26,7 @@ impl<N: Naming> Model for Shares<N> {
 
     ghost Value = { List ℕ };
 
-    ghost view = { λ s. s.slot0 ∷ s.slot1 ∷ s.slot2 ∷ s.slot3 ∷ s.slot4 ∷ s.slot5 ∷ s.slot6 ∷ s.slot7 ∷ s.rows ∷ s.commands ∷ [] };
-}
-
-impl<N: Naming> Shares<N> {
-    /// What was added to this share of each ledger: octets of slots 0 to 7, rows, commands.
-    pub fn amounts(&self) -> [u64; 10]
-        ensures { result ≡ self.now }
-    {
-        [
-            self.slot0.amount(),
-            self.slot1.amount(),
-            self.slot2.amount(),
-            self.slot3.amount(),
-            self.slot4.amount(),
-            self.slot5.amount(),
-            self.slot6.amount(),
-            self.slot7.amount(),
-            self.rows.amount(),
-            self.commands.amount(),
-        ]
-    }
+    ghost view = { λ s.
+        s.slot0 ∷ s.slot1 ∷ s.slot2 ∷ s.slot3 ∷ s.slot4
+        ∷ s.slot5 ∷ s.slot6 ∷ s.slot7 ∷ s.rows ∷ s.commands ∷ [] };
 }

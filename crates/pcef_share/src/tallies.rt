@@ -10,6 +10,12 @@ use crate::shares::Shares;
 use crate::tally::Tally;
 use std::marker::Model;
 
+/// The number of the ledger of the rows.
+pub const ROWS: u8 = 8;
+
+/// The number of the ledger of the commands.
+pub const COMMANDS: u8 = 9;
+
 /// A tally of each ledger. All of them keep equally many parts.
 #[derive(Drop)]
 pub struct Tallies<N: Naming> {
@@ -31,9 +37,18 @@ impl<N: Naming> Model for Tallies<N> {
 
     ghost Value = { Standings };
 
-    ghost view = { λ t. record { totals = t.slot0.total ∷ t.slot1.total ∷ t.slot2.total ∷ t.slot3.total ∷ t.slot4.total ∷ t.slot5.total ∷ t.slot6.total ∷ t.slot7.total ∷ t.rows.total ∷ t.commands.total ∷ []; parts = t.slot0.parts; amounts = t.slot0.amount ∷ t.slot1.amount ∷ t.slot2.amount ∷ t.slot3.amount ∷ t.slot4.amount ∷ t.slot5.amount ∷ t.slot6.amount ∷ t.slot7.amount ∷ t.rows.amount ∷ t.commands.amount ∷ [] } };
+    ghost view = { λ t. record {
+      totals = t.slot0.total ∷ t.slot1.total ∷ t.slot2.total ∷ t.slot3.total ∷ t.slot4.total
+          ∷ t.slot5.total ∷ t.slot6.total ∷ t.slot7.total ∷ t.rows.total ∷ t.commands.total ∷ [];
+      parts = t.slot0.parts;
+      amounts = t.slot0.amount ∷ t.slot1.amount ∷ t.slot2.amount ∷ t.slot3.amount ∷ t.slot4.amount
+          ∷ t.slot5.amount ∷ t.slot6.amount ∷ t.slot7.amount ∷ t.rows.amount ∷ t.commands.amount ∷ [];
+    } };
 
-    ghost invariant = { λ t. (t.slot0.parts ≡ t.slot0.parts) × (t.slot1.parts ≡ t.slot0.parts) × (t.slot2.parts ≡ t.slot0.parts) × (t.slot3.parts ≡ t.slot0.parts) × (t.slot4.parts ≡ t.slot0.parts) × (t.slot5.parts ≡ t.slot0.parts) × (t.slot6.parts ≡ t.slot0.parts) × (t.slot7.parts ≡ t.slot0.parts) × (t.rows.parts ≡ t.slot0.parts) × (t.commands.parts ≡ t.slot0.parts) };
+    ghost invariant = { λ t.
+        (t.slot0.parts ≡ t.slot1.parts) × (t.slot0.parts ≡ t.slot2.parts) × (t.slot0.parts ≡ t.slot3.parts)
+        × (t.slot0.parts ≡ t.slot4.parts) × (t.slot0.parts ≡ t.slot5.parts) × (t.slot0.parts ≡ t.slot6.parts)
+        × (t.slot0.parts ≡ t.slot7.parts) × (t.slot0.parts ≡ t.rows.parts) × (t.slot0.parts ≡ t.commands.parts) };
 }
 
 impl<N: Naming> Tallies<N> {
@@ -42,29 +57,17 @@ impl<N: Naming> Tallies<N> {
         requires { N.ledger ≡ name_at blanks }
         ensures { result ≡ record { totals = zeros; parts = 17; amounts = zeros } }
     {
-        let Blanks {
-            slot0,
-            slot1,
-            slot2,
-            slot3,
-            slot4,
-            slot5,
-            slot6,
-            slot7,
-            rows,
-            commands,
-        } = blanks;
         Tallies {
-            slot0: Tally::new(slot0),
-            slot1: Tally::new(slot1),
-            slot2: Tally::new(slot2),
-            slot3: Tally::new(slot3),
-            slot4: Tally::new(slot4),
-            slot5: Tally::new(slot5),
-            slot6: Tally::new(slot6),
-            slot7: Tally::new(slot7),
-            rows: Tally::new(rows),
-            commands: Tally::new(commands),
+            slot0: Tally::new(blanks.slot0),
+            slot1: Tally::new(blanks.slot1),
+            slot2: Tally::new(blanks.slot2),
+            slot3: Tally::new(blanks.slot3),
+            slot4: Tally::new(blanks.slot4),
+            slot5: Tally::new(blanks.slot5),
+            slot6: Tally::new(blanks.slot6),
+            slot7: Tally::new(blanks.slot7),
+            rows: Tally::new(blanks.rows),
+            commands: Tally::new(blanks.commands),
         }
     }
 
@@ -90,7 +93,9 @@ impl<N: Naming> Tallies<N> {
     pub fn issue(&mut self) -> Shares<N>
         requires { (0 < self.old.parts) × (self.old.amounts ≡ zeros) }
         ensures shares { result ≡ zeros }
-        ensures tallies { (self.new.totals ≡ self.old.totals) × (self.new.parts + 1 ≡ self.old.parts) × (self.new.amounts ≡ zeros) }
+        ensures totals { self.new.totals ≡ self.old.totals }
+        ensures parts { self.new.parts + 1 ≡ self.old.parts }
+        ensures amounts { self.new.amounts ≡ zeros }
     {
         Shares {
             slot0: self.slot0.issue(),
@@ -122,38 +127,28 @@ impl<N: Naming> Tallies<N> {
             5 => self.slot5.add(&mut shares.slot5, amount),
             6 => self.slot6.add(&mut shares.slot6, amount),
             7 => self.slot7.add(&mut shares.slot7, amount),
-            8 => self.rows.add(&mut shares.rows, amount),
+            ROWS => self.rows.add(&mut shares.rows, amount),
             _ => self.commands.add(&mut shares.commands, amount),
         }
     }
 
     /// A share comes back, with what was added to it.
     pub fn take_back(&mut self, shares: Shares<N>)
-        ensures tallies { self.new ≡ record { totals = self.old.totals; parts = self.old.parts + 1; amounts = added self.old.amounts shares } }
+        ensures totals { self.new.totals ≡ self.old.totals }
+        ensures parts { self.new.parts ≡ self.old.parts + 1 }
+        ensures amounts { self.new.amounts ≡ added self.old.amounts shares }
         ensures bound { self.new.parts ≤ 17 }
     {
-        let Shares {
-            slot0,
-            slot1,
-            slot2,
-            slot3,
-            slot4,
-            slot5,
-            slot6,
-            slot7,
-            rows,
-            commands,
-        } = shares;
-        self.slot0.take_back(slot0);
-        self.slot1.take_back(slot1);
-        self.slot2.take_back(slot2);
-        self.slot3.take_back(slot3);
-        self.slot4.take_back(slot4);
-        self.slot5.take_back(slot5);
-        self.slot6.take_back(slot6);
-        self.slot7.take_back(slot7);
-        self.rows.take_back(rows);
-        self.commands.take_back(commands);
+        self.slot0.take_back(shares.slot0);
+        self.slot1.take_back(shares.slot1);
+        self.slot2.take_back(shares.slot2);
+        self.slot3.take_back(shares.slot3);
+        self.slot4.take_back(shares.slot4);
+        self.slot5.take_back(shares.slot5);
+        self.slot6.take_back(shares.slot6);
+        self.slot7.take_back(shares.slot7);
+        self.rows.take_back(shares.rows);
+        self.commands.take_back(shares.commands);
     }
 
     /// The totals where all parts are here: they are what was added to them.
@@ -161,29 +156,17 @@ impl<N: Naming> Tallies<N> {
         requires { self.parts ≡ 17 }
         ensures { (result ≡ self.totals) × (result ≡ self.amounts) }
     {
-        let Tallies {
-            slot0,
-            slot1,
-            slot2,
-            slot3,
-            slot4,
-            slot5,
-            slot6,
-            slot7,
-            rows,
-            commands,
-        } = self;
         [
-            slot0.close(),
-            slot1.close(),
-            slot2.close(),
-            slot3.close(),
-            slot4.close(),
-            slot5.close(),
-            slot6.close(),
-            slot7.close(),
-            rows.close(),
-            commands.close(),
+            self.slot0.close(),
+            self.slot1.close(),
+            self.slot2.close(),
+            self.slot3.close(),
+            self.slot4.close(),
+            self.slot5.close(),
+            self.slot6.close(),
+            self.slot7.close(),
+            self.rows.close(),
+            self.commands.close(),
         ]
     }
 }

@@ -6,19 +6,19 @@ ghost use Rattle.pcef_share.specs.private.Standings.{Standing};
 use std::marker::Model;
 use std::sync::ledger::{Blank, Book, Ledger, Share};
 
-/// One part of a ledger, and what was added to it. Contracts see it as that number.
+/// One part of a ledger. Contracts see it as what was added to it, of which nothing is kept when it
+/// runs.
 #[derive(Drop)]
 pub struct Part<L: Ledger> {
-    amount: u64,
     share: Share<L>,
 }
 
 impl<L: Ledger> Model for Part<L> {
     ghost Value = { ℕ };
 
-    ghost view = { λ p. p.amount };
+    ghost view = { λ p. p.share.amount };
 
-    ghost invariant = { λ p. (p.share.parts ≡ 1) × (p.share.amount ≡ p.amount) };
+    ghost invariant = { λ p. p.share.parts ≡ 1 };
 }
 
 /// The book of a ledger beside its total, with the parts that were not given out or came back.
@@ -35,15 +35,6 @@ impl<L: Ledger> Model for Tally<L> {
     ghost view = { λ t. record { total = t.total; parts = t.kept.parts; amount = t.kept.amount } };
 
     ghost invariant = { λ t. t.total ≡ t.book.total };
-}
-
-impl<L: Ledger> Part<L> {
-    /// What was added to this part.
-    pub fn amount(&self) -> u64
-        ensures { result ≡ self.now }
-    {
-        self.amount
-    }
 }
 
 impl<L: Ledger> Tally<L> {
@@ -71,10 +62,11 @@ impl<L: Ledger> Tally<L> {
     pub fn issue(&mut self) -> Part<L>
         requires { (0 < self.old.parts) × (self.old.amount ≡ 0) }
         ensures part { result ≡ 0 }
-        ensures tally { (self.new.total ≡ self.old.total) × (self.new.parts + 1 ≡ self.old.parts) × (self.new.amount ≡ 0) }
+        ensures total { self.new.total ≡ self.old.total }
+        ensures parts { self.new.parts + 1 ≡ self.old.parts }
+        ensures amount { self.new.amount ≡ 0 }
     {
         Part {
-            amount: 0,
             share: self.kept.split_off(1, 0),
         }
     }
@@ -87,16 +79,17 @@ impl<L: Ledger> Tally<L> {
     {
         self.book.audit(&mut part.share);
         self.book.add(&mut part.share, amount);
-        part.amount += amount;
         self.total += amount;
     }
 
     /// A part comes back, with what was added to it.
     pub fn take_back(&mut self, part: Part<L>)
-        ensures tally { self.new ≡ record { total = self.old.total; parts = self.old.parts + 1; amount = self.old.amount + part } }
+        ensures total { self.new.total ≡ self.old.total }
+        ensures parts { self.new.parts ≡ self.old.parts + 1 }
+        ensures amount { self.new.amount ≡ self.old.amount + part }
         ensures bound { self.new.parts ≤ L.parts }
     {
-        let Part { amount: _, share } = part;
+        let Part { share } = part;
         self.kept.merge(share);
     }
 
