@@ -37,22 +37,38 @@ fn draw(word: &Word<Note, u64, Law>, seen: &Seen<Note, u64, Law>, item: &Table) 
     pen
 }
 
-/// A history with no table in it, the first table, and the right to add it. It has no name yet.
+/// A history with no table in it, the table that it is to begin with, and the right to add it. No
+/// session goes by it yet. Contracts see its book, the key of its first pen and that table.
 #[derive(Drop)]
 pub struct Opened {
     word: Word<Note, u64, Law>,
-    pub seen: Seen<Note, u64, Law>,
-    pub pen: Pen,
-    pub table: Arc<Table>,
-    ghost none: { seen.log ≡ [] },
-    ghost word_is: { word ≡ word_of seen.book },
-    ghost pen_is: { (pen.book ≡ seen.book) × (pen.nib.right ≡ may_write) },
+    seen: Seen<Note, u64, Law>,
+    pen: Pen,
+    table: Arc<Table>,
+}
+
+impl Model for Opened {
+    ghost use Rattle.std.specs.Prelude.{◌≡◌, []};
+    ghost use Rattle.std.specs.Arc.{arc_value};
+    ghost use Rattle.logbook.specs.Pages.{may_write};
+    ghost use Rattle.pcef_publish.specs.Lists.{Opening};
+    ghost use Rattle.pcef_publish.specs.private.Chains.{word_of};
+
+    ghost Value = { Opening };
+
+    ghost view = { λ o. record { book = o.seen.book; root = o.pen.nib.key; table = arc_value o.table } };
+
+    ghost invariant = { λ o.
+        (o.seen.log ≡ [])
+        × (o.word ≡ word_of o.seen.book)
+        × (o.pen.book ≡ o.seen.book)
+        × (o.pen.nib.right ≡ may_write) };
 }
 
 impl Opened {
     /// A history that begins with this table, once it has a name. Takes no memory of its own.
     pub fn new(table: Arc<Table>) -> Opened
-        ensures { result.table ≡ table }
+        ensures { result.table ≡ arc_value table }
     {
         let (seen, mut first, _second) = Seen::open(Start::alone(), 0, 0);
         let word = Word::tracked(0, &mut first);
@@ -67,10 +83,11 @@ impl Opened {
 
     /// The author under a name, and the first table with its history.
     pub fn named<N: Naming>(self) -> (Author<N>, Entry<N>)
-        requires book { (self.seen.book ≡ N.book) × (self.pen.nib.key ≡ N.root) }
-        requires first { (arc_value self.table).number ≡ N.first }
-        requires table { IsTable N.setting.catalog (arc_value self.table).entries }
-        ensures { (result.0 ≡ arc_value self.table ∷ []) × (result.1 ≡ arc_value self.table ∷ []) }
+        requires book { (self.book ≡ N.book) × (self.root ≡ N.root) }
+        requires first { self.table.number ≡ N.first }
+        requires table { IsTable N.setting.catalog self.table.entries }
+        ensures author { result.0 ≡ self.table ∷ [] }
+        ensures entry { result.1 ≡ self.table ∷ [] }
     {
         let Opened {
             word,
@@ -112,7 +129,14 @@ impl<N: Naming> Model for Author<N> {
 
     ghost view = { λ a. items_of N.root a.seen.log };
 
-    ghost invariant = { λ a. (a.word ≡ word_of N.book) × (a.seen.book ≡ N.book) × (a.pen.book ≡ N.book) × (a.pen.nib.right ≡ may_write) × (a.pen.nib.key ≡ head_of N.root a.seen.log) × (a.len ≡ length (items_of N.root a.seen.log)) × IsRun N.setting.catalog N.first (items_of N.root a.seen.log) };
+    ghost invariant = { λ a.
+        (a.word ≡ word_of N.book)
+        × (a.seen.book ≡ N.book)
+        × (a.pen.book ≡ N.book)
+        × (a.pen.nib.right ≡ may_write)
+        × (a.pen.nib.key ≡ head_of N.root a.seen.log)
+        × (a.len ≡ length (items_of N.root a.seen.log))
+        × IsRun N.setting.catalog N.first (items_of N.root a.seen.log) };
 }
 
 impl<N: Naming> Author<N> {
@@ -187,7 +211,10 @@ impl<N: Naming> Model for Front<N> {
 
     ghost view = { λ f. items_of N.root f.seen.log };
 
-    ghost invariant = { λ f. (f.len ≡ length (items_of N.root f.seen.log)) × (f.seen.book ≡ N.book) × IsRun N.setting.catalog N.first (items_of N.root f.seen.log) };
+    ghost invariant = { λ f.
+        (f.len ≡ length (items_of N.root f.seen.log))
+        × (f.seen.book ≡ N.book)
+        × IsRun N.setting.catalog N.first (items_of N.root f.seen.log) };
 }
 
 impl<N: Naming> Front<N> {

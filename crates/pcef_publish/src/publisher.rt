@@ -1,6 +1,6 @@
 //! The one who publishes the tables of a session's generations.
 
-ghost use Rattle.std.specs.Prelude.{◌≡◌, ◌+◌, ◌^◌, ◌<◌, [], ◌∷◌, ◌++◌, length, All, IfOk, MatchResult};
+ghost use Rattle.std.specs.Prelude.{◌≡◌, ◌+◌, ◌^◌, ◌<◌, [], ◌∷◌, ◌++◌, length, All, IfOk, OnOk, OnErr};
 ghost use mathlib.Core.List.{IsPrefix};
 ghost use Rattle.std.specs.Arc.{arc_value};
 ghost use Rattle.pcef_table.specs.Tables.{IsTable};
@@ -17,13 +17,19 @@ use std::alloc::{AllocError, Global};
 use std::marker::Model;
 use std::sync::{Arc, OnceLock, Wait};
 
-/// Why a table was not published, or a publication did not begin.
+/// Why a publication did not begin.
 #[derive(Drop, Debug, Clone, Copy, PartialEq, Eq)]
 pub enum PublishFault {
     /// The board gave no reader.
     ReaderRefused,
-    /// A growth was refused.
+    /// There was no memory.
     NoMemory,
+}
+
+impl From<AllocError> for PublishFault {
+    fn from(_error: AllocError) -> PublishFault {
+        PublishFault::NoMemory
+    }
 }
 
 /// Publishes the tables of a session's generations, one after the other. Contracts see the list of the
@@ -53,9 +59,7 @@ fn seat<N: Naming, R: Wait + Drop>(
 ) -> Result<Subscriber<N>, PublishFault>
     ensures { IfOk result (λ s. s ≡ newest.now) }
 {
-    let Ok(held) = newest.again() else {
-        return Err(PublishFault::NoMemory);
-    };
+    let held = newest.again()?;
     let Ok(reader) = writer.handle() else {
         return Err(PublishFault::ReaderRefused);
     };
@@ -106,19 +110,16 @@ impl<N: Naming, R: Wait + Drop> Publisher<N, Writer<N, R>> {
         places: usize,
     ) -> Result<(Publisher<N, Writer<N, R>>, Vec<Subscriber<N>>), PublishFault>
         requires places { (0 < places) × (places < 2 ^ 32) }
-        requires book { (opened.seen.book ≡ N.book) × (opened.pen.nib.key ≡ N.root) }
-        requires first { (arc_value opened.table).number ≡ N.first }
-        requires table { IsTable N.setting.catalog (arc_value opened.table).entries }
-        ensures list { IfOk result (λ r. (r.0 ≡ arc_value opened.table ∷ []) × All (λ s. s ≡ arc_value opened.table ∷ []) r.1.items) }
+        requires book { (opened.book ≡ N.book) × (opened.root ≡ N.root) }
+        requires first { opened.table.number ≡ N.first }
+        requires table { IsTable N.setting.catalog opened.table.entries }
+        ensures list { IfOk result (λ r. r.0 ≡ opened.table ∷ []) }
+        ensures held { IfOk result (λ r. All (λ s. s ≡ opened.table ∷ []) r.1.items) }
         ensures many { IfOk result (λ r. length r.1.items ≡ places) }
     {
         let (author, newest) = opened.named::<N>();
-        let Ok((first, second)) = first_slots(alloc, &newest) else {
-            return Err(PublishFault::NoMemory);
-        };
-        let Ok(writer) = WriteHandle::new(alloc, rt, first, second, places) else {
-            return Err(PublishFault::NoMemory);
-        };
+        let (first, second) = first_slots(alloc, &newest)?;
+        let writer = WriteHandle::new(alloc, rt, first, second, places)?;
         let subscribers = seat_all(alloc, &writer, &newest, places)?;
         let publisher = Publisher {
             alloc,
@@ -137,7 +138,8 @@ impl<N: Naming, W: Board<Slot<N>> + Drop> Publisher<N, W> {
         &self.newest
     }
 
-    /// The generation of the newest published table. Neither waits nor takes memory.
+    /// The generation of the newest published table. By this a caller knows which comes next. Takes no
+    /// memory.
     pub fn generation(&self) -> u32
         ensures { result + 1 ≡ N.first + length self.now }
     {
@@ -163,20 +165,17 @@ impl<N: Naming, W: Board<Slot<N>> + Drop> Publisher<N, W> {
         Ok(slot)
     }
 
-    /// Adds the next table to the list, or leaves the list as it was where there is no memory. The table
-    /// is over the name's catalog, and its generation is one above the last published one. May wait for
-    /// readers to leave.
-    pub fn publish(&mut self, table: Arc<Table>) -> Result<(), PublishFault>
+    /// Adds the next table to the list. The table is over the name's catalog, and its generation is one
+    /// above the last published one: both are the caller's condition. Takes memory; where there is none,
+    /// the list stays as it was. May wait for readers to leave.
+    pub fn publish(&mut self, table: Arc<Table>) -> Result<(), AllocError>
         requires number { (arc_value table).number ≡ N.first + length self.old }
         requires table { IsTable N.setting.catalog (arc_value table).entries }
-        ensures { MatchResult result (λ _. self.new ≡ self.old ++ arc_value table ∷ []) (λ _. self.new ≡ self.old) }
+        ensures published { OnOk result (self.new ≡ self.old ++ arc_value table ∷ []) }
+        ensures refused { OnErr result (self.new ≡ self.old) }
     {
-        let Ok(second) = Arc::try_clone(&table) else {
-            return Err(PublishFault::NoMemory);
-        };
-        let Ok(slot) = self.open() else {
-            return Err(PublishFault::NoMemory);
-        };
+        let second = Arc::try_clone(&table)?;
+        let slot = self.open()?;
         self.author.add(&table);
         let front = self.author.front();
         let _ = slot.try_set(Entry::new(second, front.again()));

@@ -4,7 +4,8 @@ use pcef_share::Naming;
 use pcef_table::Table;
 use std::marker::PhantomData;
 
-/// An item that the author of the chain `root` added by the pen of the key `by`. The pen of the key `next` adds the next one. No value of it is made.
+/// An item that the author of the chain `root` added by the pen of the key `by`. The pen of the key `next`
+/// adds the next one. No value of it is made.
 pub struct Note {
     pub root: u64,
     pub by: u64,
@@ -71,7 +72,12 @@ impl<N: Naming> Play<Note, u64> for Add<N> {
 impl<'a, N: Naming> Plain<Ask<'a>, Note, u64> for Add<N> {
     ghost use Rattle.std.specs.Prelude.{None};
 
-    ghost ask = { λ a. record { root = N.root; by = a.by.now.nib.key; next = a.next.now.nib.key; item = a.item.now } };
+    ghost ask = { λ a. record {
+      root = N.root;
+      by = a.by.now.nib.key;
+      next = a.next.now.nib.key;
+      item = a.item.now;
+    } };
 
     ghost state = { λ a. None };
 }

@@ -72,10 +72,11 @@ impl<N: Naming> Subscriber<N> {
         if let Some(entry) = newer(&mut self.reader, &self.held) {
             self.held = entry;
         }
-        self.held.current().0
+        self.current().0
     }
 
-    /// Shows that what was seen is a beginning of what is published. It changes neither.
+    /// Shows that what was seen is a beginning of what is published. It changes neither, takes no memory
+    /// and can't fail.
     pub fn compare<W: Board<Slot<N>> + Drop>(&self, publisher: &mut Publisher<N, W>)
         ensures begins { IsPrefix self.now publisher.old }
         ensures publisher { publisher.new ≡ publisher.old }
@@ -83,7 +84,9 @@ impl<N: Naming> Subscriber<N> {
         publisher.knows(&self.held.front);
     }
 
-    /// Takes the newest table. Where a copy of it is refused for want of memory, the table held stays.
+    /// Takes the newest table: what was seen is then all that is published. Where a further owner of the
+    /// table is refused, the table held stays. The publisher is as it was. Counts as a call that may wait,
+    /// as every call with a publisher, though nothing in it does.
     pub fn meet<W: Board<Slot<N>> + Drop>(
         &mut self,
         publisher: &mut Publisher<N, W>,
@@ -93,7 +96,7 @@ impl<N: Naming> Subscriber<N> {
         ensures refused { OnErr result (self.new ≡ self.old) }
         ensures publisher { publisher.new ≡ publisher.old }
     {
-        publisher.knows(&self.held.front);
+        self.compare(publisher);
         self.held = publisher.newest().again()?;
         Ok(())
     }

@@ -5,13 +5,14 @@ ghost use Rattle.std.specs.Arc.{arc_value};
 use super::*;
 use pcef_share::Naming;
 use pcef_table::Table;
-use std::alloc::Global;
+use std::alloc::{AllocError, Global};
 use std::marker::Brand;
 use std::sync::{Arc, Wait};
 use std::test::*;
+use std::thread::{Threads, join};
 
 // The empty table of a generation.
-fn table(alloc: Global, generation: u32) -> Result<Arc<Table>, Fail>
+fn table(alloc: Global, generation: u32) -> Result<Arc<Table>, AllocError>
     ensures number { IfOk result (λ t. (arc_value t).number ≡ generation) }
     ensures entries { IfOk result (λ t. (arc_value t).entries ≡ []) }
 {
@@ -32,10 +33,10 @@ fn finds_the_newest<N: Naming, R: Wait + Drop>(
     alloc: Global,
     opened: Opened,
 ) -> Result<[u32; 6], Fail>
-    requires book { (opened.seen.book ≡ N.book) × (opened.pen.nib.key ≡ N.root) }
+    requires book { (opened.book ≡ N.book) × (opened.root ≡ N.root) }
     requires first { N.first ≡ 5 }
-    requires number { (arc_value opened.table).number ≡ 5 }
-    requires entries { (arc_value opened.table).entries ≡ [] }
+    requires number { opened.table.number ≡ 5 }
+    requires entries { opened.table.entries ≡ [] }
 {
     let (mut publisher, mut subscribers) = Publisher::<N, _>::new(rt, alloc, opened, 2)?;
     let begun = publisher.generation();
@@ -73,10 +74,10 @@ fn meets_the_newest<N: Naming, R: Wait + Drop>(
     alloc: Global,
     opened: Opened,
 ) -> Result<[u32; 3], Fail>
-    requires book { (opened.seen.book ≡ N.book) × (opened.pen.nib.key ≡ N.root) }
+    requires book { (opened.book ≡ N.book) × (opened.root ≡ N.root) }
     requires first { N.first ≡ 0 }
-    requires number { (arc_value opened.table).number ≡ 0 }
-    requires entries { (arc_value opened.table).entries ≡ [] }
+    requires number { opened.table.number ≡ 0 }
+    requires entries { opened.table.entries ≡ [] }
 {
     let (mut publisher, mut subscribers) = Publisher::<N, _>::new(rt, alloc, opened, 1)?;
     let first = table(alloc, 1)?;
@@ -88,4 +89,72 @@ fn meets_the_newest<N: Naming, R: Wait + Drop>(
     let (met, newest) = one.current();
     let number = newest.generation();
     Ok([met, number, one.refresh()])
+}
+
+#[test]
+fn a_reader_beside_the_publisher_never_goes_back(rt: HostRuntime) -> Result<(), Fail> {
+    let opened = Opened::new(table(rt.alloc(), 0)?);
+    let read = read_beside_the_publisher::<Brand, _, _>(&rt, &rt, rt.alloc(), opened);
+    assert_eq!(rt; read, Some((200, 200)));
+    Ok(())
+}
+
+// One thread publishes two hundred tables while another refreshes: the generations that are held after a
+// meeting and after a refresh that follows.
+fn read_beside_the_publisher<
+    N: Naming + Send + Sync,
+    R: Threads + Wait + Sync,
+    W: Wait + Drop + Send,
+>(rt: &R, board_rt: W, alloc: Global, opened: Opened) -> Option<(u32, u32)>
+    requires book { (opened.book ≡ N.book) × (opened.root ≡ N.root) }
+    requires first { opened.table.number ≡ N.first }
+    requires entries { opened.table.entries ≡ [] }
+{
+    let begun = Publisher::<N, Writer<N, W>>::new(board_rt, alloc, opened, 1).ok();
+    let (publisher, mut subscribers) = begun?;
+    let subscriber = subscribers.pop()?;
+    let (mut publisher, mut subscriber) = at_once(rt, alloc, publisher, subscriber)?;
+    subscriber.meet(&mut publisher).ok()?;
+    let met = subscriber.current().0;
+    Some((met, subscriber.refresh()))
+}
+
+// Both at once, each in a thread of its own.
+fn at_once<N: Naming + Send + Sync, R: Threads + Wait + Sync, W: Board<Slot<N>> + Drop + Send>(
+    rt: &R,
+    alloc: Global,
+    publisher: Publisher<N, W>,
+    subscriber: Subscriber<N>,
+) -> Option<(Publisher<N, W>, Subscriber<N>)> {
+    let (publisher, subscriber) = join(
+        rt,
+        || with_two_hundred(alloc, publisher),
+        || never_older(subscriber),
+    );
+    publisher.zip(subscriber)
+}
+
+// Publishes empty tables up to generation 200.
+fn with_two_hundred<N: Naming, W: Board<Slot<N>> + Drop>(
+    alloc: Global,
+    mut publisher: Publisher<N, W>,
+) -> Option<Publisher<N, W>> {
+    'tables: while publisher.generation() < 200 {
+        let next = table(alloc, publisher.generation() + 1).ok()?;
+        publisher.publish(next).ok()?;
+    }
+    Some(publisher)
+}
+
+// Refreshes many times, and gives the subscriber back where no generation was older than one before.
+fn never_older<N: Naming>(mut subscriber: Subscriber<N>) -> Option<Subscriber<N>> {
+    let mut newest = subscriber.current().0;
+    for _ in 0..100_000u32 {
+        let read = subscriber.refresh();
+        if read < newest {
+            return None;
+        }
+        newest = read;
+    }
+    Some(subscriber)
 }
