@@ -158,3 +158,61 @@ fn never_older<N: Naming>(mut subscriber: Subscriber<N>) -> Option<Subscriber<N>
     }
     Some(subscriber)
 }
+
+/// `rt try --test --fail-alloc N` lets the Nth allocation fail.
+#[test]
+fn a_table_that_finds_no_memory_can_come_again(rt: HostRuntime) -> Result<(), Fail> {
+    for _ in 0..2u8 {
+        let Ok(first) = table(rt.alloc(), 0) else {
+            continue;
+        };
+        if let Some(read) = twice_published::<Brand, _>(&rt, rt.alloc(), Opened::new(first)) {
+            assert_eq!(rt; read, (2, 2));
+            return Ok(());
+        }
+    }
+    Err("a growth was refused twice")?
+}
+
+// The newest generation and the one that is held, after two tables.
+fn twice_published<N: Naming, R: Wait + Drop>(
+    rt: R,
+    alloc: Global,
+    opened: Opened,
+) -> Option<(u32, u32)>
+    requires book { (opened.book ≡ N.book) × (opened.root ≡ N.root) }
+    requires first { opened.table.number ≡ N.first }
+    requires entries { opened.table.entries ≡ [] }
+{
+    let begun = Publisher::<N, _>::new(rt, alloc, opened, 1).ok();
+    let (mut publisher, mut subscribers) = begun?;
+    let mut subscriber = subscribers.pop()?;
+    publish_next(alloc, &mut publisher, &mut subscriber)?;
+    publish_next(alloc, &mut publisher, &mut subscriber)?;
+    Some((publisher.generation(), subscriber.current().0))
+}
+
+// Publishes the next table, where it is refused once more. A refused table leaves no trace.
+fn publish_next<N: Naming, W: Board<Slot<N>> + Drop>(
+    alloc: Global,
+    publisher: &mut Publisher<N, W>,
+    subscriber: &mut Subscriber<N>,
+) -> Option<()> {
+    for _ in 0..2u8 {
+        let before = publisher.generation();
+        let Ok(next) = table(alloc, before.checked_add(1)?) else {
+            continue;
+        };
+        let published = publisher.publish(next).is_ok();
+        if subscriber.refresh() != publisher.generation() {
+            return None;
+        }
+        if published {
+            return Some(());
+        }
+        if publisher.generation() != before {
+            return None;
+        }
+    }
+    None
+}

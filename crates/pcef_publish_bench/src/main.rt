@@ -1,11 +1,11 @@
-//! Publishes tables and refreshes a subscriber, again and again: what a refresh takes.
+//! Publishes tables and refreshes subscribers, again and again: what a refresh takes.
 //!
-//! `pcef_publish_bench TABLES REFRESHES` publishes so many empty tables, one after the other, and after
-//! each lets a subscriber refresh so many times. At the end the newest generation and the one that the
-//! subscriber holds are written.
+//! `pcef_publish_bench SUBSCRIBERS TABLES REFRESHES` publishes so many empty tables, one after the other,
+//! and after each lets each of so many subscribers refresh so many times. At the end the newest generation
+//! and the one that the last subscriber holds are written.
 #![tactic(auto)]
 
-ghost use Rattle.std.specs.Prelude.{◌≡◌, [], IfOk};
+ghost use Rattle.std.specs.Prelude.{◌≡◌, ◌<◌, [], IfOk};
 ghost use Rattle.std.specs.Arc.{arc_value};
 
 use pcef_publish::{Opened, Publisher, Subscriber};
@@ -17,18 +17,29 @@ use std::process::ExitCode;
 use std::sync::{Arc, Wait};
 use std::{env, io};
 
-/// The numbers of tables and of refreshes, where both are there.
-fn numbers(rt: &HostRuntime) -> io::Result<Option<(u32, u32)>> {
-    let mut words = Vec::new(rt.alloc());
+/// What is to be done.
+#[derive(Clone, Copy)]
+struct Load {
+    subscribers: u32,
+    tables: u32,
+    refreshes: u32,
+}
+
+/// The numbers after the program's name, where three are there.
+fn read_load(rt: &HostRuntime) -> io::Result<Option<Load>> {
+    let mut numbers = Vec::new(rt.alloc());
     for word in env::args(rt)?.skip(1) {
-        words.push(word)?;
+        let Ok(number) = word.as_str().parse::<u32>() else {
+            return Ok(None);
+        };
+        numbers.push(number)?;
     }
-    match words.as_slice() {
-        [tables, refreshes] => {
-            let tables = tables.as_str().parse::<u32>().ok();
-            let refreshes = refreshes.as_str().parse::<u32>().ok();
-            Ok(tables.zip(refreshes))
-        }
+    match numbers.as_slice() {
+        [subscribers, tables, refreshes] => Ok(Some(Load {
+            subscribers: *subscribers,
+            tables: *tables,
+            refreshes: *refreshes,
+        })),
         _ => Ok(None),
     }
 }
@@ -41,49 +52,53 @@ fn empty_table(alloc: Global, generation: u32) -> Result<Arc<Table>, AllocError>
     Ok(Arc::new(alloc, Table::empty(alloc, generation)?)?)
 }
 
-fn refresh<N: Naming>(subscriber: &mut Subscriber<N>, times: u32) {
-    for _ in 0..times {
-        subscriber.refresh();
+fn refresh_each<N: Naming>(subscribers: &mut [Subscriber<N>], times: u32) {
+    for subscriber in subscribers {
+        for _ in 0..times {
+            subscriber.refresh();
+        }
     }
 }
 
-/// The newest generation, and the one that the subscriber holds.
+/// The newest generation, and the one that the last subscriber holds.
 fn measured<N: Naming, R: Wait + Drop>(
     rt: R,
     alloc: Global,
     opened: Opened,
-    tables: u32,
-    refreshes: u32,
+    load: Load,
 ) -> Option<(u32, u32)>
     requires book { (opened.book ≡ N.book) × (opened.root ≡ N.root) }
     requires first { opened.table.number ≡ N.first }
     requires entries { opened.table.entries ≡ [] }
+    requires subscribers { 0 < load.subscribers }
 {
-    let begun = Publisher::<N, _>::new(rt, alloc, opened, 1).ok();
+    let begun = Publisher::<N, _>::new(rt, alloc, opened, load.subscribers as usize).ok();
     let (mut publisher, mut subscribers) = begun?;
-    let mut subscriber = subscribers.pop()?;
-    for _ in 0..tables {
+    for _ in 0..load.tables {
         let generation = publisher.generation().checked_add(1)?;
         let table = empty_table(alloc, generation).ok()?;
         publisher.publish(table).ok()?;
-        refresh(&mut subscriber, refreshes);
+        refresh_each(&mut subscribers, load.refreshes);
     }
-    Some((publisher.generation(), subscriber.current().0))
+    let newest = publisher.generation();
+    Some((newest, subscribers.last()?.current().0))
 }
 
 fn main(rt: HostRuntime) -> ExitCode {
-    let Ok(numbers) = numbers(&rt) else {
+    let Ok(load) = read_load(&rt) else {
         return ExitCode::from(4);
     };
-    let Some((tables, refreshes)) = numbers else {
+    let Some(load) = load else {
         return ExitCode::from(2);
     };
+    if load.subscribers == 0 {
+        return ExitCode::from(2);
+    }
     let Ok(first) = empty_table(rt.alloc(), 0) else {
         return ExitCode::from(4);
     };
     let opened = Opened::new(first);
-    let Some((newest, held)) = measured::<Brand, _>(&rt, rt.alloc(), opened, tables, refreshes)
-    else {
+    let Some((newest, held)) = measured::<Brand, _>(&rt, rt.alloc(), opened, load) else {
         return ExitCode::from(4);
     };
     match println!(rt; "newest {newest} held {held}") {
