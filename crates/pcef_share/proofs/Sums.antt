@@ -3,7 +3,8 @@ use Rattle.std.proofs.Common.{◌≡◌, ℕ, List, [], ◌∷◌, ◌++◌, ref
 use Rattle.std.proofs.lemmas.List.Sums.{sum_by_push}
 use Rattle.pcef_share.specs.Amounts.{added, sums}
 
-pub sums_some : (at : List ℕ) (xs : List (Option (List ℕ))) (s : List ℕ) → sums at (xs ++ Some s ∷ []) ≡ added (sums at xs) s
+pub sums_some : (at : List ℕ) (xs : List (Option (List ℕ))) (s : List ℕ)
+    → sums at (xs ++ Some s ∷ []) ≡ added (sums at xs) s
 sums_some at [] s = refl
 sums_some at (None ∷ xs) s = sums_some at xs s
 sums_some at (Some x ∷ xs) s = sums_some (added at x) xs s
@@ -13,8 +14,10 @@ sums_none at [] = refl
 sums_none at (None ∷ xs) = sums_none at xs
 sums_none at (Some x ∷ xs) = sums_none (added at x) xs
 
-pub count_some : (xs : List (Option (List ℕ))) (s : List ℕ) → count_by is_some (xs ++ Some s ∷ []) ≡ count_by is_some xs + 1
+pub count_some : (xs : List (Option (List ℕ))) (s : List ℕ)
+    → count_by is_some (xs ++ Some s ∷ []) ≡ count_by is_some xs + 1
 count_some xs s = sum_by_push (λ x. cond (is_some x) 1 0) xs (Some s)
 
-pub count_none : (xs : List (Option (List ℕ))) → count_by is_some (xs ++ None ∷ []) ≡ count_by is_some xs
+pub count_none : (xs : List (Option (List ℕ)))
+    → count_by is_some (xs ++ None ∷ []) ≡ count_by is_some xs
 count_none xs = sum_by_push (λ x. cond (is_some x) 1 0) xs None ∙ add-zero _

@@ -1,5 +1,7 @@
 //! New ledgers.
 
+ghost use Rattle.std.specs.Prelude.{◌≡◌, length};
+
 use crate::books::MAX_SHARES;
 use std::marker::Model;
 use std::sync::ledger::Blank;
@@ -41,7 +43,9 @@ impl Model for Blanks {
 
 impl Blanks {
     /// Ten new ledgers. Takes no memory.
-    pub fn new() -> Blanks {
+    pub fn new() -> Blanks
+        ensures { length result ≡ 10 }
+    {
         Blanks {
             slot0: Blank::new(PARTS),
             slot1: Blank::new(PARTS),

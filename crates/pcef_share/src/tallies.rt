@@ -46,9 +46,11 @@ impl<N: Naming> Model for Tallies<N> {
     } };
 
     ghost invariant = { λ t.
-        (t.slot0.parts ≡ t.slot1.parts) × (t.slot0.parts ≡ t.slot2.parts) × (t.slot0.parts ≡ t.slot3.parts)
-        × (t.slot0.parts ≡ t.slot4.parts) × (t.slot0.parts ≡ t.slot5.parts) × (t.slot0.parts ≡ t.slot6.parts)
-        × (t.slot0.parts ≡ t.slot7.parts) × (t.slot0.parts ≡ t.rows.parts) × (t.slot0.parts ≡ t.commands.parts) };
+        (t.slot0.parts ≡ t.slot1.parts) × (t.slot0.parts ≡ t.slot2.parts)
+        × (t.slot0.parts ≡ t.slot3.parts) × (t.slot0.parts ≡ t.slot4.parts)
+        × (t.slot0.parts ≡ t.slot5.parts) × (t.slot0.parts ≡ t.slot6.parts)
+        × (t.slot0.parts ≡ t.slot7.parts) × (t.slot0.parts ≡ t.rows.parts)
+        × (t.slot0.parts ≡ t.commands.parts) };
 }
 
 impl<N: Naming> Tallies<N> {

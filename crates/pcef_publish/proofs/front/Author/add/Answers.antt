@@ -17,7 +17,10 @@ compare_exchange-requires g c =
       c.self.invariant.1 ∙ sym (ap (λ w. w.book) h),
       c.self.invariant.2 ∙ sym (ap (λ w. w.book) h),
       offer.0,
-      rw (ap (λ w. w.key) h, offer.3) (adds_moves c.self.inside.seen.log c.plain-offer.result.ask c.self.inside.pen.nib c.self.invariant.3 (sym (ap (λ a. a.by) ask)) (ap (λ a. a.by) ask ∙ (c.self.invariant.4 ∙ sym (ap (λ a. head_of a.root c.self.inside.seen.log) ask)))),
+      rw (ap (λ w. w.key) h, offer.3) (adds_moves c.self.inside.seen.log c.plain-offer.result.ask
+          c.self.inside.pen.nib c.self.invariant.3 (sym (ap (λ a. a.by) ask))
+          (ap (λ a. a.by) ask ∙ (c.self.invariant.4
+          ∙ sym (ap (λ a. head_of a.root c.self.inside.seen.log) ask)))),
     )
 
 pub invariant_of-self : goal.invariant_of-self
@@ -32,7 +35,11 @@ invariant_of-self g c =
     let book : c.compare_exchange.new.seen.book ≡ g.N.Naming.book = search rules in
     let next : c.draw-next.result.book ≡ g.N.Naming.book = search rules in
     let right : c.draw-next.result.nib.right ≡ may_write = search rules in
-    let number : t.number ≡ g.N.Naming.first + length (items_of root v) = c.requires.number ∙ ap (λ (xs : List TableValue). g.N.Naming.first + length xs) (sym c.self.view_is) in
+    let number : t.number ≡ g.N.Naming.first + length (items_of root v) = c.requires.number
+        ∙ ap (λ (xs : List TableValue). g.N.Naming.first + length xs) (sym c.self.view_is) in
     let run : IsRun g.N.Naming.setting.catalog g.N.Naming.first (items_of root w) =
-    subst (IsRun g.N.Naming.setting.catalog g.N.Naming.first) (sym items) (run_snoc g.N.Naming.setting.catalog g.N.Naming.first (items_of root v) t c.self.invariant.6 number c.requires.table) in
-    (c.self.invariant.0, book, next, right, sym head, omega (arith, c.self.invariant.5, ap length items, length_push (items_of root v) t), run)
+    subst (IsRun g.N.Naming.setting.catalog g.N.Naming.first) (sym items)
+        (run_snoc g.N.Naming.setting.catalog g.N.Naming.first (items_of root v) t c.self.invariant.6
+        number c.requires.table) in
+    (c.self.invariant.0, book, next, right, sym head, omega
+        (arith, c.self.invariant.5, ap length items, length_push (items_of root v) t), run)

@@ -16,7 +16,8 @@ compare_exchange-requires g c =
       book ∙ sym (ap (λ w. w.book) h),
       c.self.invariant.2 ∙ sym (ap (λ w. w.book) h),
       offer.0,
-      rw (ap (λ w. w.key) h, offer.3) (checks_moves c.learn.new.self.log c.plain-offer.result.ask c.self.inside.pen.nib c.self.invariant.3 (sym (ap (λ a. a.by) offer.1))),
+      rw (ap (λ w. w.key) h, offer.3) (checks_moves c.learn.new.self.log c.plain-offer.result.ask
+          c.self.inside.pen.nib c.self.invariant.3 (sym (ap (λ a. a.by) offer.1))),
     )
 
 pub returns-clause-begins : goal.returns-clause-begins
@@ -29,9 +30,14 @@ returns-clause-begins g c =
     let ask = c.plain-offer.result.ask in
     let e = ap (λ a. a.root) c.plain-offer.ensures.1 in
     let by = ap (λ a. a.by) c.plain-offer.ensures.1 in
-    let this : IsPrefix v both = subst (λ (l : List Note). IsPrefix l both) (ap (λ s. s.log) c.again-both.ensures) c.learn.ensures.2 in
+    let this : IsPrefix v both = subst (λ (l : List Note). IsPrefix l both)
+        (ap (λ s. s.log) c.again-both.ensures) c.learn.ensures.2 in
     let h : head_of ask.root v ≡ ask.by = ap (λ r. head_of r v) e ∙ (sym c.self.invariant.4 ∙ sym by) in
     let tells : items_of ask.root w ≡ items_of ask.root v = c.compare_exchange.ensures.7.1 v this h in
-    let all : items_of root w ≡ items_of root v = sym (ap (λ r. items_of r w) e) ∙ (tells ∙ ap (λ r. items_of r v) e) in
-    let long : IsPrefix (items_of root f) (items_of root w) = items_begin root f w (prefix_trans f both w c.learn.ensures.3 c.compare_exchange.ensures.6) in
-    rw (← c.front.view_is, ← c.self.view_is) (subst (λ (xs : List TableValue). IsPrefix (items_of root f) xs) all long)
+    let all : items_of root w ≡ items_of root v = sym (ap (λ r. items_of r w) e)
+        ∙ (tells ∙ ap (λ r. items_of r v) e) in
+    let long : IsPrefix (items_of root f) (items_of root w) =
+        items_begin root f w (prefix_trans f both w c.learn.ensures.3 c.compare_exchange.ensures.6)
+        in
+    rw (← c.front.view_is, ← c.self.view_is) (subst
+        (λ (xs : List TableValue). IsPrefix (items_of root f) xs) all long)
