@@ -70,16 +70,18 @@ pub alone_step : (cs : List Cell) (root : ℕ) (v : List Note) (e : Note) (more 
 alone_step cs root v e more log is kept away true t =
     let same : e.root ≡ root = grind (arith, nat_tests, t) in
     let at : slice_get log (length v) ≡ Some e =
-        subst (λ (l : List Note). slice_get l (length v) ≡ Some e) is (get_at v more e) in
+    subst (λ (l : List Note). slice_get l (length v) ≡ Some e) is (get_at v more e) in
     let front : take (length v) log ≡ v = subst (λ (l : List Note). take (length v) l ≡ v) is
-        (take_at v (e ∷ more)) in
+    (take_at v (e ∷ more)) in
     let by : e.by ≡ head_of root v = kept.chained (length v) e at
-        ∙ (ap (λ l. head_of e.root l) front ∙ ap (λ (r : ℕ). head_of r v) same) in
+    ∙ (ap (λ l. head_of e.root l) front ∙ ap (λ (r : ℕ). head_of r v) same) in
     let home : IsHome cs (head_of root v) = subst (λ (k : ℕ). IsHome cs k) by (kept.spent (length v) e at) in
     absurd (cc (home, away))
-alone_step cs root v e more log is kept away false t =
-    (head_snoc root v e ∙ ap (λ b. pick b e.next (head_of root v)) t, items_snoc root v e
-        ∙ ap (λ b. pick b (items_of root v ++ e.item ∷ []) (items_of root v)) t)
+alone_step cs root v e more log is kept away false t = (
+  head_snoc root v e ∙ ap (λ b. pick b e.next (head_of root v)) t,
+  items_snoc root v e
+      ∙ ap (λ b. pick b (items_of root v ++ e.item ∷ []) (items_of root v)) t,
+)
 
 -- then the chain is as it was seen
 pub alone : (cs : List Cell) (root : ℕ) (v more log : List Note) → v ++ more ≡ log → IsKept cs log
@@ -90,7 +92,7 @@ alone cs root v [] log is kept away =
 alone cs root v (e ∷ more) log is kept away =
     let one = alone_step cs root v e more log is kept away (e.root == root) refl in
     let rest = alone cs root (v ++ e ∷ []) more log (append_assoc v (e ∷ []) more ∙ is) kept
-        (subst (λ (k : ℕ). (cell cs k).1 ≡ false) (sym one.0) away) in
+    (subst (λ (k : ℕ). (cell cs k).1 ≡ false) (sym one.0) away) in
     (rest.0 ∙ one.0, rest.1 ∙ one.1)
 
 abbrev pub shown : List Note → List Note
@@ -115,7 +117,7 @@ draws_moves v a cs log kept pre away =
     let x = either ((cell cs 0).0 == 0) 0 (cell cs 0).0 in
     let set = kept_set cs log 0 x kept in
     let kept' : IsKept (slice_set cs 0 (x, true) ++ (0, false) ∷ []) (log ++ []) =
-        rw (append-nil log) (record {
+    rw (append-nil log) (record {
       some = omega (arith, length-append (slice_set cs 0 (x, true)) ((0, false) ∷ []));
       word = home_before (slice_set cs 0 (x, true)) (0, false) 0 set.word;
       spent = λ i e at. home_before (slice_set cs 0 (x, true)) (0, false) e.by (set.spent i e at);
@@ -126,17 +128,17 @@ draws_moves v a cs log kept pre away =
 pub adds_moves : (v : List Note) (a : Note) (p : Nib) → p.right ≡ may_write → p.key ≡ a.by → a.by
     ≡ head_of a.root v
     → Moves IsKept shown moved 0 (v, (p, None)) (λ n. either (n == 0) 0 n)
-        (Adds (step 0 0 0 a) (v, (p, None)))
+    (Adds (step 0 0 0 a) (v, (p, None)))
 adds_moves v a p right key by cs log kept pre away =
     let x = either ((cell cs 0).0 == 0) 0 (cell cs 0).0 in
     let cs' = slice_set cs 0 (x, true) in
     let out = away right in
     let off : (cell cs (head_of a.root v)).1 ≡ false =
-        subst (λ (k : ℕ). (cell cs k).1 ≡ false) (key ∙ by) out.1 in
+    subst (λ (k : ℕ). (cell cs k).1 ≡ false) (key ∙ by) out.1 in
     let same = alone cs a.root v pre.0 log pre.1 kept off in
     let set = kept_set cs' log p.key p.value (kept_set cs log 0 x kept) in
     let here : IsHome (slice_set cs' p.key (p.value, true)) p.key =
-        made_home cs' p.key p.value (omega (arith, as_long cs 0 (x, true), out.0)) in
+    made_home cs' p.key p.value (omega (arith, as_long cs 0 (x, true), out.0)) in
     let kept' : IsKept (slice_set cs' p.key (p.value, true)) (log ++ a ∷ []) = record {
       some = set.some;
       word = set.word;
@@ -146,34 +148,34 @@ adds_moves v a p right key by cs log kept pre away =
           (get_snoc log a e i at);
       chained = λ i e at. ⊎_elim
           (λ old. kept.chained i e old ∙ ap (λ l. head_of e.root l)
-              (sym (take-append-le i log (a ∷ []) (let s = get_short log i e old in omega arith))))
+          (sym (take-append-le i log (a ∷ []) (let s = get_short log i e old in omega arith))))
           (λ new. subst (λ (n : Note). n.by ≡ head_of n.root (take i (log ++ a ∷ []))) new.1
-              (by ∙ (sym same.0 ∙ ap (λ l. head_of a.root l)
-              (sym (ap (λ (n : ℕ). take n (log ++ a ∷ [])) new.0 ∙ take_at log (a ∷ []))))))
+          (by ∙ (sym same.0 ∙ ap (λ l. head_of a.root l)
+          (sym (ap (λ (n : ℕ). take n (log ++ a ∷ [])) new.0 ∙ take_at log (a ∷ []))))))
           (get_snoc log a e i at);
     } in
     let own : (a.root == a.root) ≡ true = grind (arith, nat_tests) in
     let items : items_of a.root (log ++ a ∷ []) ≡ items_of a.root v ++ a.item ∷ [] =
-        items_snoc a.root log a ∙ (ap (λ b. pick b (items_of a.root log ++ a.item ∷ [])
-        (items_of a.root log)) own ∙ ap (λ xs. xs ++ a.item ∷ []) same.1) in
+    items_snoc a.root log a ∙ (ap (λ b. pick b (items_of a.root log ++ a.item ∷ [])
+    (items_of a.root log)) own ∙ ap (λ xs. xs ++ a.item ∷ []) same.1) in
     let head : head_of a.root (log ++ a ∷ []) ≡ a.next = head_snoc a.root log a
-        ∙ ap (λ b. pick b a.next (head_of a.root log)) own in
+    ∙ ap (λ b. pick b a.next (head_of a.root log)) own in
     (kept.some, kept.word, (gives, a ∷ [], None, right, kept', inl (refl, refl), (items, head)))
 
 pub checks_moves : (v : List Note) (a : Note) (p : Nib) → p.right ≡ may_write → p.key ≡ a.by
     → Moves IsKept shown moved 0 (v, (p, None)) (λ n. either (n == 0) 0 n)
-        (Checks (step 0 0 0 a) (v, (p, None)))
+    (Checks (step 0 0 0 a) (v, (p, None)))
 checks_moves v a p right key cs log kept pre away =
     let x = either ((cell cs 0).0 == 0) 0 (cell cs 0).0 in
     let out = away right in
     let all : log ++ [] ≡ log = append-nil log in
     let kept' : IsKept (slice_set cs 0 (x, true)) (log ++ []) = rw all (kept_set cs log 0 x kept) in
     let tells : (u : List Note) → IsPrefix u v → head_of a.root u ≡ a.by
-        → items_of a.root (log ++ []) ≡ items_of a.root u = λ u q h.
+    → items_of a.root (log ++ []) ≡ items_of a.root u = λ u q h.
     let off : (cell cs (head_of a.root u)).1 ≡ false =
-        subst (λ (k : ℕ). (cell cs k).1 ≡ false) (key ∙ sym h) out.1 in
+    subst (λ (k : ℕ). (cell cs k).1 ≡ false) (key ∙ sym h) out.1 in
     ap (λ l. items_of a.root l) all ∙ (alone cs a.root u (q.0 ++ pre.0) log
-        (sym (append_assoc u q.0 pre.0) ∙ (ap (λ w. w ++ pre.0) q.1 ∙ pre.1)) kept off).1 in
+    (sym (append_assoc u q.0 pre.0) ∙ (ap (λ w. w ++ pre.0) q.1 ∙ pre.1)) kept off).1 in
     (kept.some, kept.word, (keeps, [], None, tt, kept', inl (refl, refl), (refl, tells)))
 
 pub empty_kept : (a b : ℕ) → IsKept ((a, true) ∷ (b, true) ∷ []) []
@@ -182,8 +184,11 @@ empty_kept a b =
 
 pub items_one : (root : ℕ) (v : List Note) (e : Note) → (b : Bool) → (e.root == root) ≡ b
     → IsPrefix (items_of root v) (items_of root (v ++ e ∷ []))
-items_one root v e true t = (e.item ∷ [], sym (items_snoc root v e
-    ∙ ap (λ b. pick b (items_of root v ++ e.item ∷ []) (items_of root v)) t))
+items_one root v e true t = (
+  e.item ∷ [],
+  sym (items_snoc root v e
+      ∙ ap (λ b. pick b (items_of root v ++ e.item ∷ []) (items_of root v)) t),
+)
 items_one root v e false t =
     let same = items_snoc root v e ∙ ap (λ b. pick b (items_of root v ++ e.item ∷ []) (items_of root v)) t in
     ([], append-nil (items_of root v) ∙ sym same)
@@ -194,7 +199,7 @@ items_prefix root v [] = ([], append-nil (items_of root v) ∙ ap (λ l. items_o
 items_prefix root v (e ∷ more) =
     let one = items_one root v e (e.root == root) refl in
     let rest = subst (λ (l : List Note). IsPrefix (items_of root (v ++ e ∷ [])) (items_of root l))
-        (append_assoc v (e ∷ []) more) (items_prefix root (v ++ e ∷ []) more) in
+    (append_assoc v (e ∷ []) more) (items_prefix root (v ++ e ∷ []) more) in
     prefix_trans (items_of root v) (items_of root (v ++ e ∷ [])) (items_of root (v ++ e ∷ more)) one rest
 
 pub items_begin : (root : ℕ) (v log : List Note) → IsPrefix v log

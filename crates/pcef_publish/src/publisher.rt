@@ -16,17 +16,24 @@ use pcef_table::Table;
 use std::alloc::{AllocError, Global};
 use std::marker::Model;
 use std::sync::{Arc, OnceLock, Wait};
+use thiserror::Error;
 
 /// Why a publication did not begin.
-#[derive(Drop, Debug, Clone, Copy, PartialEq, Eq)]
+#[derive(Clone, Copy, Debug, PartialEq, Eq, Error)]
 pub enum PublishFault {
     /// The board gave no reader.
+    #[error("the board gave no reader")]
     ReaderRefused,
-    /// There was no memory.
+    /// There is no memory left.
+    #[error("there is no memory left")]
     NoMemory,
 }
 
 impl From<AllocError> for PublishFault {
+    ghost use Rattle.pcef_publish.specs.declared.publisher.PublishFault.TheVariants.{NoMemory};
+
+    ghost from_gives = { λ _ fault. fault ≡ NoMemory };
+
     fn from(_error: AllocError) -> PublishFault {
         PublishFault::NoMemory
     }

@@ -11,6 +11,7 @@ use crate::tallies::{COMMANDS, ROWS, Tallies};
 use arrayvec::ArrayVec;
 use pcef_rule::Slot;
 use std::marker::Model;
+use thiserror::Error;
 
 /// How many shares can be issued: the desk's, and one for each of sixteen workers.
 pub const MAX_SHARES: usize = 17;
@@ -36,7 +37,8 @@ impl<N: Naming> Model for Books<N> {
 }
 
 /// Where books are gathered: how many of the issued shares weren't handed in, from 1 to 17.
-#[derive(Clone, Copy, Debug, PartialEq, Eq)]
+#[derive(Clone, Copy, Debug, PartialEq, Eq, Error)]
+#[error("issued shares that were not handed in: {0}")]
 pub struct SharesOut(pub u8);
 
 /// How many of these places hold a share.

@@ -36,10 +36,17 @@ invariant_of-self g c =
     let next : c.draw-next.result.book ≡ g.N.Naming.book = search rules in
     let right : c.draw-next.result.nib.right ≡ may_write = search rules in
     let number : t.number ≡ g.N.Naming.first + length (items_of root v) = c.requires.number
-        ∙ ap (λ (xs : List TableValue). g.N.Naming.first + length xs) (sym c.self.view_is) in
+    ∙ ap (λ (xs : List TableValue). g.N.Naming.first + length xs) (sym c.self.view_is) in
     let run : IsRun g.N.Naming.setting.catalog g.N.Naming.first (items_of root w) =
     subst (IsRun g.N.Naming.setting.catalog g.N.Naming.first) (sym items)
-        (run_snoc g.N.Naming.setting.catalog g.N.Naming.first (items_of root v) t c.self.invariant.6
-        number c.requires.table) in
-    (c.self.invariant.0, book, next, right, sym head, omega
-        (arith, c.self.invariant.5, ap length items, length_push (items_of root v) t), run)
+    (run_snoc g.N.Naming.setting.catalog g.N.Naming.first (items_of root v) t c.self.invariant.6
+    number c.requires.table) in (
+      c.self.invariant.0,
+      book,
+      next,
+      right,
+      sym head,
+      omega
+          (arith, c.self.invariant.5, ap length items, length_push (items_of root v) t),
+      run,
+    )

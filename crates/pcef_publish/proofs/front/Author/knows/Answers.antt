@@ -31,13 +31,13 @@ returns-clause-begins g c =
     let e = ap (λ a. a.root) c.plain-offer.ensures.1 in
     let by = ap (λ a. a.by) c.plain-offer.ensures.1 in
     let this : IsPrefix v both = subst (λ (l : List Note). IsPrefix l both)
-        (ap (λ s. s.log) c.again-both.ensures) c.learn.ensures.2 in
+    (ap (λ s. s.log) c.again-both.ensures) c.learn.ensures.2 in
     let h : head_of ask.root v ≡ ask.by = ap (λ r. head_of r v) e ∙ (sym c.self.invariant.4 ∙ sym by) in
     let tells : items_of ask.root w ≡ items_of ask.root v = c.compare_exchange.ensures.7.1 v this h in
     let all : items_of root w ≡ items_of root v = sym (ap (λ r. items_of r w) e)
-        ∙ (tells ∙ ap (λ r. items_of r v) e) in
+    ∙ (tells ∙ ap (λ r. items_of r v) e) in
     let long : IsPrefix (items_of root f) (items_of root w) =
-        items_begin root f w (prefix_trans f both w c.learn.ensures.3 c.compare_exchange.ensures.6)
-        in
+    items_begin root f w (prefix_trans f both w c.learn.ensures.3 c.compare_exchange.ensures.6)
+    in
     rw (← c.front.view_is, ← c.self.view_is) (subst
-        (λ (xs : List TableValue). IsPrefix (items_of root f) xs) all long)
+    (λ (xs : List TableValue). IsPrefix (items_of root f) xs) all long)

@@ -14,9 +14,9 @@ returns g c =
     let theirs = c.other.inside.seen.log in
     let both = c.learn.new.self.log in
     let this : IsPrefix mine both = subst (λ (l : List Note). IsPrefix l both)
-        (ap (λ s. s.log) c.again-both.ensures) c.learn.ensures.2 in
+    (ap (λ s. s.log) c.again-both.ensures) c.learn.ensures.2 in
     rw (← c.self.view_is, ← c.other.view_is) (begins_or_longer (items_of root mine)
-        (items_of root theirs) (items_of root both) c.self.inside.len c.other.inside.len
-        c.self.invariant.0 c.other.invariant.0 (items_begin root mine both this)
-        (items_begin root theirs both c.learn.ensures.3) (leb c.self.inside.len c.other.inside.len)
-        refl)
+    (items_of root theirs) (items_of root both) c.self.inside.len c.other.inside.len
+    c.self.invariant.0 c.other.invariant.0 (items_begin root mine both this)
+    (items_begin root theirs both c.learn.ensures.3) (leb c.self.inside.len c.other.inside.len)
+    refl)
