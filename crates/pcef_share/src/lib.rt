@@ -11,7 +11,7 @@ mod tally;
 
 pub use blanks::Blanks;
 pub use books::{Books, MAX_SHARES, SharesOut};
-pub use naming::{Naming, Of};
+pub use naming::Naming;
 pub use shares::Shares;
 
 #[cfg(test)]
