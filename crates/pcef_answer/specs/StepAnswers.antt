@@ -15,6 +15,7 @@ use Rattle.pcef_model.specs.declared.answer.Judged.{Judged}
 use Rattle.pcef_model.specs.declared.answer.Refusal.{Refusal}
 use Rattle.pcef_model.specs.declared.answer.Verdicts.{Verdicts}
 use Rattle.pcef_session.specs.declared.batch.BatchFull.{BatchFull}
+use Rattle.pcef_world.specs.declared.world.Abandoned.{Abandoned}
 use Rattle.pcef_world.specs.declared.world.StepRefusal.{StepRefusal}
 use Rattle.pcef_world.specs.declared.world.StepRefusal.TheVariants.{NoWorker, Refused}
 use Rattle.pcef_answer.specs.FaultAnswers.{count}
@@ -112,3 +113,26 @@ unfoldable pub flushed_text : Journal → Result Verdicts (StepRefusal FlushRefu
 flushed_text journal (Ok verdicts) = compact_text (flushed_data journal verdicts)
 flushed_text journal (Err NoWorker) = no_worker_text
 flushed_text journal (Err (Refused refusal)) = flush_refusal_text refusal
+
+-- ---- workers that leave
+abbrev pub finished_data : Journal → Verdicts → ℕ → Data
+finished_data journal verdicts rows =
+    object (member (codes "ok") (boolean true)
+    (member (codes "reports") (reports_data (reports_told journal verdicts.first_report verdicts.past_last_report))
+    (member (codes "rows") (count rows)
+    (member (codes "verdicts") (verdicts_data verdicts.rows.items) no_members))))
+
+unfoldable pub finished_text : Journal → Result (Verdicts × ℕ) (StepRefusal FlushRefusal) → List ℕ
+finished_text journal (Ok finished) = compact_text (finished_data journal finished.0 finished.1)
+finished_text journal (Err NoWorker) = no_worker_text
+finished_text journal (Err (Refused refusal)) = flush_refusal_text refusal
+
+abbrev pub abandoned_data : Abandoned → Data
+abandoned_data abandoned =
+    object (member (codes "abandoned") (count abandoned.waiting)
+    (member (codes "ok") (boolean true)
+    (member (codes "rows") (count abandoned.rows) no_members)))
+
+unfoldable pub abandoned_text : Option Abandoned → List ℕ
+abandoned_text (Some abandoned) = compact_text (abandoned_data abandoned)
+abandoned_text None = no_worker_text

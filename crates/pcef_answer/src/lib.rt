@@ -11,4 +11,7 @@ mod written;
 
 pub use fault::fault_text;
 pub use show::show_answer;
-pub use step::{attached_answer, command_answer, flushed_answer, refreshed_answer, taken_answer};
+pub use step::{
+    abandoned_answer, attached_answer, command_answer, finished_answer, flushed_answer,
+    refreshed_answer, taken_answer,
+};

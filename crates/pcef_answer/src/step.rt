@@ -2,7 +2,7 @@
 
 ghost use Rattle.std.specs.Prelude.{◌≡◌, IfOk, string_bytes};
 ghost use Rattle.serde_json.specs.View.{view};
-ghost use Rattle.pcef_answer.specs.StepAnswers.{accepted_data, command_text, attached_data, attached_text, taken_text, refreshed_data, refreshed_text, flushed_text};
+ghost use Rattle.pcef_answer.specs.StepAnswers.{abandoned_data, abandoned_text, accepted_data, command_text, attached_data, attached_text, taken_text, refreshed_data, refreshed_text, finished_text, flushed_text};
 
 use crate::refusal::{
     attach_fault_answer, flush_refusal_answer, no_worker_answer, refusal_answer, refused_answer,
@@ -12,7 +12,7 @@ use crate::written;
 use pcef_journal::Journal;
 use pcef_model::{Accepted, AttachFault, FlushRefusal, Refusal, Verdicts};
 use pcef_session::BatchFull;
-use pcef_world::StepRefusal;
+use pcef_world::{Abandoned, StepRefusal};
 use serde_json::{Value, json};
 use std::alloc::{AllocError, Global};
 
@@ -118,4 +118,36 @@ pub fn flushed_answer(
         Err(StepRefusal::Refused(refusal)) => flush_refusal_answer(alloc, *refusal),
         Ok(verdicts) => written::flushed(alloc, journal, verdicts),
     }
+}
+
+/// The answer to `finish`: the verdicts, with the reports that the journal has for them, and the length of the
+/// worker's lane.
+pub fn finished_answer(
+    alloc: Global,
+    journal: &Journal,
+    answer: &Result<(Verdicts, u64), StepRefusal<FlushRefusal>>,
+) -> Result<String, AllocError>
+    ensures { IfOk result (λ text. string_bytes text ≡ finished_text journal.now.entries answer.now) }
+{
+    match answer {
+        Err(StepRefusal::NoWorker) => no_worker_answer(alloc),
+        Err(StepRefusal::Refused(refusal)) => flush_refusal_answer(alloc, *refusal),
+        Ok((verdicts, rows)) => written::finished(alloc, journal, verdicts, *rows),
+    }
+}
+
+/// The answer to `abandon`: how many rows waited, and the length of the worker's lane.
+pub fn abandoned_answer(alloc: Global, answer: Option<Abandoned>) -> Result<String, AllocError>
+    ensures { IfOk result (λ text. string_bytes text ≡ abandoned_text answer) }
+{
+    match answer {
+        None => no_worker_answer(alloc),
+        Some(abandoned) => abandoned_value(alloc, abandoned)?.to_string(alloc),
+    }
+}
+
+fn abandoned_value(alloc: Global, abandoned: Abandoned) -> Result<Value, AllocError>
+    ensures { IfOk result (λ v. view v ≡ abandoned_data abandoned) }
+{
+    json!(in alloc; { "abandoned": abandoned.waiting, "ok": true, "rows": abandoned.rows })
 }

@@ -8,7 +8,7 @@ ghost use Rattle.serde_json.specs.Written.{comma_if, compact_text};
 ghost use Rattle.pcef_answer.specs.ReportAnswers.{reports_data, reports_told};
 ghost use Rattle.pcef_rule.specs.Name.{IsVisible};
 ghost use Rattle.pcef_model.specs.declared.verdict.Verdict.TheVariants.{Gated, Passed};
-ghost use Rattle.pcef_answer.specs.StepAnswers.{flushed_data, judged_data, taken_data, verdict_data, verdicts_data};
+ghost use Rattle.pcef_answer.specs.StepAnswers.{finished_data, flushed_data, judged_data, taken_data, verdict_data, verdicts_data};
 
 use crate::report::report_list;
 use pcef_journal::Journal;
@@ -45,6 +45,33 @@ pub(crate) fn flushed(
         verdicts.first_report,
         verdicts.past_last_report,
     )?;
+    text.push_str(",\"verdicts\":")?;
+    push_verdicts(&mut text, &verdicts.rows)?;
+    text.push_str("}")?;
+    Ok(text)
+}
+
+/// The answer to a finish: as that to a flush, and the length of the worker's lane.
+pub(crate) fn finished(
+    alloc: Global,
+    journal: &Journal,
+    verdicts: &Verdicts,
+    rows: u64,
+) -> Result<String, AllocError>
+    ensures { IfOk result (λ text. string_bytes text ≡ compact_text (finished_data journal.now.entries verdicts.now rows)) }
+{
+    let room = verdicts.rows.len().saturating_mul(96).saturating_add(96);
+    let mut text = String::with_capacity(alloc, room)?;
+    text.push_str("{\"ok\":true,\"reports\":")?;
+    push_reports(
+        &mut text,
+        alloc,
+        journal,
+        verdicts.first_report,
+        verdicts.past_last_report,
+    )?;
+    text.push_str(",\"rows\":")?;
+    push_number(&mut text, rows)?;
     text.push_str(",\"verdicts\":")?;
     push_verdicts(&mut text, &verdicts.rows)?;
     text.push_str("}")?;

@@ -24,7 +24,7 @@ one_longer : (input : List ℕ) (b : ℕ) → length (input ++ b ∷ []) ≡ len
 one_longer input b = length-append input (b ∷ [])
 
 -- the start
-pub at_first : (p : Setting) (start : Option (List ℕ)) (line : Kept) (faults : ℕ) (w : World) → line ≡ kept_of [] 0 → faults ≡ 0 → w.core.setting ≡ p → w.core.journal ≡ [] → w.workers ≡ []
+pub at_first : (p : Setting) (start : Option (List ℕ)) (line : Kept) (faults : ℕ) (w : World) → line ≡ kept_of [] 0 → faults ≡ 0 → w.session.setting ≡ p → w.session.journal ≡ [] → w.workers ≡ []
     → IsAfter p start start line faults w []
 unfolding cut
 at_first p start line faults w is none setting journal workers =
@@ -83,7 +83,7 @@ answers_on p lines line x y n k s t h g =
 
 -- a line feed
 pub line_ends : (p : Setting) (start a b : Option (List ℕ)) (old new : Kept) (faults n : ℕ) (v w : World) (input : List ℕ) → IsAfter p start a old faults v input → length input < script_most
-    → new ≡ kept_of [] (old.read + 1) → w.core.setting ≡ p → EndsLine p v w (last_line input) faults n a b → IsAfter p start b new n w (input ++ 10 ∷ [])
+    → new ≡ kept_of [] (old.read + 1) → w.session.setting ≡ p → EndsLine p v w (last_line input) faults n a b → IsAfter p start b new n w (input ++ 10 ∷ [])
 line_ends p start a b old new faults n v w input h lt is setting e =
     let len = one_longer input 10 in
     let lines : ended_lines (input ++ 10 ∷ []) ≡ all_lines input = ap (λ (c : List (List ℕ) × List ℕ). c.0) (cut_end input) in

@@ -33,7 +33,7 @@ pub record IsAfter (p : Setting) (start now : Option (List ℕ)) (line : Kept) (
   pub kept : line ≡ kept_of (last_line input) (length input)
   pub most : length input ≤ script_most
   pub few : faults ≤ length input
-  pub setting : world.core.setting ≡ p
+  pub setting : world.session.setting ≡ p
   pub text : List ℕ
   pub answers : Answers p at_start (answered (ended_lines input)) text faults (standing_of world)
   pub written : Appends start now text

@@ -3,7 +3,8 @@ use Rattle.std.specs.Prelude.{ℕ, ◌≡◌, ◌≢◌, ◌+◌, Bool, true, fa
 use Rattle.std.specs.Result.{result_map_both}
 use Rattle.std.specs.Str.{is_utf8}
 use Rattle.pcef_model.specs.declared.command.Command.{Command}
-use Rattle.pcef_model.specs.declared.command.Command.TheVariants as command
+use Rattle.pcef_model.specs.declared.step.Step.{Step}
+use Rattle.pcef_model.specs.declared.step.Step.TheVariants as step
 use Rattle.pcef_model.specs.Setting.{Setting}
 use Rattle.pcef_model.specs.Entries.{Journal}
 use Rattle.pcef_model.specs.Journals.{gen}
@@ -18,28 +19,30 @@ use Rattle.pcef_model.specs.declared.answer.Verdicts.{Verdicts}
 use Rattle.pcef_session.specs.declared.batch.BatchFull.{BatchFull}
 use Rattle.pcef_world.specs.declared.world.StepRefusal.{StepRefusal}
 use Rattle.pcef_world.specs.declared.world.StepRefusal.TheVariants.{Refused}
-use Rattle.pcef_model.specs.Answers.{Attaches, Does, told_of}
-use Rattle.pcef_world.specs.Worlds.{HandsOver, Refreshes, Takes, Waiting, World, after_attaching}
+use Rattle.pcef_model.specs.Answers.{Attaches, Does, told_and_rows, told_of}
+use Rattle.pcef_world.specs.Worlds.{Abandons, FinishesAt, HandsOver, Refreshes, Takes, Waiting, World, after_attaching}
+use Rattle.pcef_world.specs.declared.world.Abandoned.{Abandoned}
 use Rattle.pcef_line.specs.declared.line.Line.{Line}
-use Rattle.pcef_line.specs.declared.line.Line.TheVariants.{Install, Activate, Remove, Monitor, Attach, Take, Refresh, Flush, Show}
+use Rattle.pcef_line.specs.declared.line.Line.TheVariants.{Show}
+use Rattle.pcef_line.specs.declared.line.Line.TheVariants as line
 use Rattle.pcef_line.specs.declared.fault.LineFault.{LineFault}
 use Rattle.pcef_line.specs.declared.fault.LineFault.TheVariants.{LineTooLong, NotUtf8}
 use Rattle.pcef_answer.specs.FaultAnswers.{fault_text}
 use Rattle.pcef_line.specs.LineOf.{LineOf}
 use Rattle.pcef_script.specs.ScriptLines.{is_blank, within_limit}
 use Rattle.pcef_answer.specs.ShowAnswers.{TellsSession}
-use Rattle.pcef_answer.specs.StepAnswers.{attached_text, command_text, flushed_text, refreshed_text, taken_text}
+use Rattle.pcef_answer.specs.StepAnswers.{abandoned_text, attached_text, command_text, finished_text, flushed_text, refreshed_text, taken_text}
 
--- how a session stands between two lines: its journal, and its workers
+-- how a session stands between two lines: its journal, and the places of its workers
 pub record Standing : Type 0 where
   pub journal : Journal
-  pub workers : List Waiting
+  pub workers : List (Option Waiting)
 
 abbrev pub at_start : Standing
 at_start = record { journal = []; workers = [] }
 
 abbrev pub standing_of : World → Standing
-standing_of w = record { journal = w.core.journal; workers = w.workers }
+standing_of w = record { journal = w.session.journal; workers = w.workers }
 
 -- ---- what a line asks for is done
 -- a command, with the reports that the journal has for it; want of memory is no answer, but ends the script
@@ -54,22 +57,29 @@ Comes before text after =
     × (after.workers ≡ after_attaching before.journal answer before.workers) × (text ≡ attached_text (gen after.journal) answer)
 
 -- each step is the session's own, and its answer is told
-abbrev pub Steps : Setting → Standing → Line → List ℕ → Standing → Type 0
-Steps p before (Install rule) text after = Commands p before (command.Install rule) text after
-Steps p before (Activate name) text after = Commands p before (command.Activate name) text after
-Steps p before (Remove name) text after = Commands p before (command.Remove name) text after
-Steps p before (Monitor key grant) text after = Commands p before (command.Monitor key grant) text after
-Steps p before Attach text after = Comes before text after
-Steps p before (Take worker header) text after =
+abbrev pub StepsBy : Setting → Standing → Step → List ℕ → Standing → Type 0
+StepsBy p before (step.Command c) text after = Commands p before c text after
+StepsBy p before step.Attach text after = Comes before text after
+StepsBy p before (step.Take worker header) text after =
     (answer : Result ℕ (StepRefusal BatchFull)) × Takes p before.journal worker header before.workers answer after.workers
     × (after.journal ≡ before.journal) × (text ≡ taken_text answer)
-Steps p before (Refresh worker) text after =
+StepsBy p before (step.Refresh worker) text after =
     (answer : Option ℕ) × Refreshes before.journal worker before.workers answer after.workers
     × (after.journal ≡ before.journal) × (text ≡ refreshed_text answer)
-Steps p before (Flush worker) text after =
+StepsBy p before (step.Flush worker) text after =
     (answer : Result Verdicts (StepRefusal FlushRefusal))
     × HandsOver p worker before.journal before.workers (result_map_both told_of (λ e. e) answer) after.journal after.workers
     × (answer ≢ Err (Refused flush.NoMemory)) × (text ≡ flushed_text after.journal answer)
+StepsBy p before (step.Finish worker) text after =
+    (answer : Result (Verdicts × ℕ) (StepRefusal FlushRefusal))
+    × FinishesAt p worker before.journal before.workers (result_map_both told_and_rows (λ e. e) answer) after.journal after.workers
+    × (answer ≢ Err (Refused flush.NoMemory)) × (text ≡ finished_text after.journal answer)
+StepsBy p before (step.Abandon worker) text after =
+    (answer : Option Abandoned) × Abandons worker before.journal before.workers answer after.journal after.workers
+    × (text ≡ abandoned_text answer)
+
+abbrev pub Steps : Setting → Standing → Line → List ℕ → Standing → Type 0
+Steps p before (line.Step s) text after = StepsBy p before s text after
 Steps p before Show text after = TellsSession p before.journal text × (after ≡ before)
 
 -- ---- lines

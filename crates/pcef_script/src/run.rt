@@ -23,7 +23,7 @@ use std::io::{Read, Write};
 use std::sync::Arc;
 
 fn open(alloc: Global, profile: Profile, catalog: &Catalog) -> Result<WorldState, ScriptFault>
-    ensures made { IfOk result (λ w. (w.core.setting ≡ setting_of profile (offers_of catalog.now)) × (w.core.journal ≡ []) × (w.workers ≡ [])) }
+    ensures made { IfOk result (λ w. (w.session.setting ≡ setting_of profile (offers_of catalog.now)) × (w.session.journal ≡ []) × (w.workers ≡ [])) }
     ensures opened { Opened (setting_of profile (offers_of catalog.now)) result }
     ensures fault { IfErr result OpenFails }
 {
@@ -56,11 +56,11 @@ fn run<C: Offers, R: Read, W: Write>(
     reader: &mut R,
     writer: &mut W,
 ) -> Result<u64, ScriptFault>
-    requires offered { C.offers catalog.now ≡ world.core.setting.catalog }
-    requires journal { world.core.journal ≡ [] }
+    requires offered { C.offers catalog.now ≡ world.session.setting.catalog }
+    requires journal { world.session.journal ≡ [] }
     requires workers { world.workers ≡ [] }
     ensures opened { (p : Setting) → first_of (open_faults p) ≡ None → Opened p result }
-    ensures answers { Runs world.core.setting result (R.remaining reader.old) (R.remaining reader.new)
+    ensures answers { Runs world.session.setting result (R.remaining reader.old) (R.remaining reader.new)
         (W.contents writer.old) (W.contents writer.new) }
 {
     let mut script = Running::new(alloc, world);

@@ -42,9 +42,9 @@ fn answer_of<C: Offers>(
     world: &mut WorldState,
     line: &Pending,
 ) -> Result<Answer, AllocError>
-    requires { C.offers catalog.now ≡ world.old.core.setting.catalog }
-    ensures answer { (whole : List ℕ) → line.now ≡ kept_of whole line.now.read → IfOk result (λ a. AnswersLine world.old.core.setting (standing_of world.old) whole (string_bytes a.text) a.is_fault (standing_of world.new)) }
-    ensures setting { world.new.core.setting ≡ world.old.core.setting }
+    requires { C.offers catalog.now ≡ world.old.session.setting.catalog }
+    ensures answer { (whole : List ℕ) → line.now ≡ kept_of whole line.now.read → IfOk result (λ a. AnswersLine world.old.session.setting (standing_of world.old) whole (string_bytes a.text) a.is_fault (standing_of world.new)) }
+    ensures setting { world.new.session.setting ≡ world.old.session.setting }
 {
     match line.bytes() {
         None => answer_too_long(alloc),
@@ -75,10 +75,10 @@ pub(crate) fn end_line<C: Offers, W: Write>(
     faults: u64,
     writer: &mut W,
 ) -> Result<u64, ScriptFault>
-    requires { C.offers catalog.now ≡ world.old.core.setting.catalog }
-    ensures ok { (whole : List ℕ) → line.now ≡ kept_of whole line.now.read → faults < 2 ^ 63 → IfOk result (λ n. EndsLine world.old.core.setting world.old world.new whole faults n (W.contents writer.old) (W.contents writer.new)) }
-    ensures err { (whole : List ℕ) → line.now ≡ kept_of whole line.now.read → IfErr result (λ e. EndFails world.old.core.setting world.old whole e (W.contents writer.old) (W.contents writer.new)) }
-    ensures setting { world.new.core.setting ≡ world.old.core.setting }
+    requires { C.offers catalog.now ≡ world.old.session.setting.catalog }
+    ensures ok { (whole : List ℕ) → line.now ≡ kept_of whole line.now.read → faults < 2 ^ 63 → IfOk result (λ n. EndsLine world.old.session.setting world.old world.new whole faults n (W.contents writer.old) (W.contents writer.new)) }
+    ensures err { (whole : List ℕ) → line.now ≡ kept_of whole line.now.read → IfErr result (λ e. EndFails world.old.session.setting world.old whole e (W.contents writer.old) (W.contents writer.new)) }
+    ensures setting { world.new.session.setting ≡ world.old.session.setting }
 {
     if line.is_blank() {
         return Ok(faults);
@@ -97,10 +97,10 @@ fn take_byte<C: Offers, W: Write>(
     writer: &mut W,
     byte: u8,
 ) -> Result<(), ScriptFault>
-    requires { C.offers catalog.now ≡ script.old.world.core.setting.catalog }
+    requires { C.offers catalog.now ≡ script.old.world.session.setting.catalog }
     ensures ok { (p : Setting) (start : Option (List ℕ)) (input : List ℕ) → IsAfter p start (W.contents writer.old) script.old.line script.old.faults script.old.world input → OnOk result (IsAfter p start (W.contents writer.new) script.new.line script.new.faults script.new.world (input ++ byte ∷ [])) }
     ensures err { (p : Setting) (start : Option (List ℕ)) (input : List ℕ) → IsAfter p start (W.contents writer.old) script.old.line script.old.faults script.old.world input → IfErr result (λ e. Stopped p e byte start (W.contents writer.new) input) }
-    ensures offers { script.new.world.core.setting.catalog ≡ script.old.world.core.setting.catalog }
+    ensures offers { script.new.world.session.setting.catalog ≡ script.old.world.session.setting.catalog }
 {
     if !script.line.take(byte)? {
         return Ok(());
@@ -126,12 +126,12 @@ fn take_some<C: Offers, W: Write>(
     writer: &mut W,
     bytes: &[u8],
 ) -> Result<usize, ScriptFault>
-    requires offered { C.offers catalog.now ≡ script.old.world.core.setting.catalog }
+    requires offered { C.offers catalog.now ≡ script.old.world.session.setting.catalog }
     requires some { 0 < length bytes.now }
     ensures ok { (p : Setting) (start : Option (List ℕ)) (input : List ℕ) → IsAfter p start (W.contents writer.old) script.old.line script.old.faults script.old.world input → IfOk result (λ n. IsAfter p start (W.contents writer.new) script.new.line script.new.faults script.new.world (input ++ take n bytes.now)) }
     ensures goes_on { IfOk result (λ n. (0 < n) × (n ≤ length bytes.now)) }
     ensures err { (p : Setting) (start : Option (List ℕ)) (input : List ℕ) → IsAfter p start (W.contents writer.old) script.old.line script.old.faults script.old.world input → IfErr result (λ e. StoppedIn p e start (W.contents writer.new) input bytes.now) }
-    ensures offers { script.new.world.core.setting.catalog ≡ script.old.world.core.setting.catalog }
+    ensures offers { script.new.world.session.setting.catalog ≡ script.old.world.session.setting.catalog }
 {
     let taken = script.line.take_plain(bytes);
     if taken == bytes.len() {
@@ -149,10 +149,10 @@ pub(crate) fn take_block<C: Offers, W: Write>(
     writer: &mut W,
     block: &[u8],
 ) -> Result<(), ScriptFault>
-    requires { C.offers catalog.now ≡ script.old.world.core.setting.catalog }
+    requires { C.offers catalog.now ≡ script.old.world.session.setting.catalog }
     ensures ok { (p : Setting) (start : Option (List ℕ)) (input : List ℕ) → IsAfter p start (W.contents writer.old) script.old.line script.old.faults script.old.world input → OnOk result (IsAfter p start (W.contents writer.new) script.new.line script.new.faults script.new.world (input ++ block.now)) }
     ensures err { (p : Setting) (start : Option (List ℕ)) (input : List ℕ) → IsAfter p start (W.contents writer.old) script.old.line script.old.faults script.old.world input → IfErr result (λ e. StoppedIn p e start (W.contents writer.new) input block.now) }
-    ensures offers { script.new.world.core.setting.catalog ≡ script.old.world.core.setting.catalog }
+    ensures offers { script.new.world.session.setting.catalog ≡ script.old.world.session.setting.catalog }
 {
     let mut rest = block;
     while !rest.is_empty() {

@@ -13,6 +13,7 @@ mod profile;
 mod saturated;
 mod script;
 mod session;
+mod session_ends;
 
 use pcef_catalog::Catalog;
 use pcef_profile::read_profile;

@@ -6,7 +6,7 @@
 use super::PROFILE;
 use pcef_catalog::Listing;
 use pcef_line::{Line, read_line};
-use pcef_model::{Accepted, AttachFault, Command, Refusal};
+use pcef_model::{Accepted, AttachFault, Refusal, Step};
 use pcef_profile::read_profile;
 use pcef_world::WorldState;
 use std::alloc::{AllocError, Global};
@@ -25,10 +25,7 @@ const LINES: [&str; 6] = [
 /// Does the command of a line, or is refused.
 fn obey(world: &mut WorldState, line: Line) -> Result<Accepted, Refusal> {
     match line {
-        Line::Install(rule) => world.command(Command::Install(rule)),
-        Line::Activate(name) => world.command(Command::Activate(name)),
-        Line::Remove(name) => world.command(Command::Remove(name)),
-        Line::Monitor { key, grant } => world.command(Command::Monitor { key, grant }),
+        Line::Step(Step::Command(command)) => world.command(command),
         _ => Err(Refusal::Closed),
     }
 }

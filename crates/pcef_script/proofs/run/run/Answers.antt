@@ -17,9 +17,9 @@ loop-script-init g c =
     record {
       input = [];
       read = Consumes-nil (g.R.Read.remaining c.args.reader.now);
-      after = at_first world.core.setting (g.W.Write.contents c.args.writer.now) script.line script.faults script.world made.line made.faults
-          (ap (λ w. w.core.setting) made.world) (ap (λ w. w.core.journal) made.world ∙ c.requires.journal) (ap (λ w. w.workers) made.world ∙ c.requires.workers);
-      offers = ap (λ w. w.core.setting.catalog) made.world;
+      after = at_first world.session.setting (g.W.Write.contents c.args.writer.now) script.line script.faults script.world made.line made.faults
+          (ap (λ w. w.session.setting) made.world) (ap (λ w. w.session.journal) made.world ∙ c.requires.journal) (ap (λ w. w.workers) made.world ∙ c.requires.workers);
+      offers = ap (λ w. w.session.setting.catalog) made.world;
       room = search rules;
     }
 
@@ -28,14 +28,14 @@ returns-in-Ok-eq0-clause-opened g c = λ p is.
     let h = c.loop-script.invariant in
     let script = c.loop-script.script in
     let contents = g.W.Write.contents in
-    opened_end c.end_line.result script.world.core.setting p (contents c.loop-script.writer) (contents c.end_line.new.writer) script.world (last_line h.input)
+    opened_end c.end_line.result script.world.session.setting p (contents c.loop-script.writer) (contents c.end_line.new.writer) script.world (last_line h.input)
     (c.end_line.ensures.err (last_line h.input) (kept_now script.line h.input h.after.kept)) is
 
 pub returns-in-Ok-eq0-clause-answers : goal.returns-in-Ok-eq0-clause-answers
 returns-in-Ok-eq0-clause-answers g c =
     let h = c.loop-script.invariant in
     let script = c.loop-script.script in
-    let p = c.args.world.core.setting in
+    let p = c.args.world.session.setting in
     let remaining = g.R.Read.remaining in
     let contents = g.W.Write.contents in
     let a = contents c.loop-script.writer in
@@ -56,7 +56,7 @@ pub loop-script-smaller : goal.loop-script-smaller
 loop-script-smaller g c =
     let h = c.loop-script.invariant in
     let block = take c.in-Ok.n c.read_some.new.block in
-    let p = c.args.world.core.setting in
+    let p = c.args.world.session.setting in
     let after = c.in_ok-take_block-in-Ok.ensures.ok p (g.W.Write.contents c.args.writer.now) h.input h.after in
     let old = c.loop-script.script.line in
     let new = c.take_block.new.script.line in
@@ -68,7 +68,7 @@ loop-script-preserved g c =
     let h = c.loop-script.invariant in
     let remaining = g.R.Read.remaining in
     let block = take c.in-Ok.n c.read_some.new.block in
-    let p = c.args.world.core.setting in
+    let p = c.args.world.session.setting in
     record {
       input = h.input ++ block;
       read = Consumes-trans (remaining c.args.reader.now) (remaining c.loop-script.reader) (remaining c.read_some.new.reader) h.input block h.read c.in-Ok.ensures.bytes.0;
@@ -84,8 +84,8 @@ returns-in_err-take_block-in-Ok-clause-opened g c = λ p is.
     let contents = g.W.Write.contents in
     let block = take c.in-Ok.n c.read_some.new.block in
     let e = c.in_err-take_block-in-Ok.field-0.0 in
-    rw (q.1, q.2) (opened_stopped c.args.world.core.setting p e (contents c.args.writer.now) (contents c.take_block.new.writer) h.input block
-    (c.in_err-take_block-in-Ok.ensures.err c.args.world.core.setting (contents c.args.writer.now) h.input h.after) is)
+    rw (q.1, q.2) (opened_stopped c.args.world.session.setting p e (contents c.args.writer.now) (contents c.take_block.new.writer) h.input block
+    (c.in_err-take_block-in-Ok.ensures.err c.args.world.session.setting (contents c.args.writer.now) h.input h.after) is)
 
 pub returns-in_err-take_block-in-Ok-clause-answers : goal.returns-in_err-take_block-in-Ok-clause-answers
 returns-in_err-take_block-in-Ok-clause-answers g c =
@@ -93,7 +93,7 @@ returns-in_err-take_block-in-Ok-clause-answers g c =
     let h = c.loop-script.invariant in
     let remaining = g.R.Read.remaining in
     let contents = g.W.Write.contents in
-    let p = c.args.world.core.setting in
+    let p = c.args.world.session.setting in
     let start = contents c.args.writer.now in
     let block = take c.in-Ok.n c.read_some.new.block in
     let e = c.in_err-take_block-in-Ok.field-0.0 in
@@ -122,5 +122,5 @@ returns-in-Err-clause-answers g c =
       h.input,
       Consumes-kept (remaining c.args.reader.now) (remaining c.loop-script.reader) (remaining c.read_some.new.reader) h.input h.read c.in-Err.ensures.bytes,
       h.after.most,
-      (script.faults, wrote c.args.world.core.setting (contents c.args.writer.now) (contents c.loop-script.writer) script.line script.faults script.world h.input h.after),
+      (script.faults, wrote c.args.world.session.setting (contents c.args.writer.now) (contents c.loop-script.writer) script.line script.faults script.world h.input h.after),
     )

@@ -8,8 +8,8 @@ abbrev pub invariant-loop-script : goal.invariant-loop-script
 invariant-loop-script g l = record {
   input : List ℕ;
   read : Consumes (g.R.Read.remaining l.fn.reader) (g.R.Read.remaining l.reader) input;
-  after : IsAfter l.fn.world.core.setting (g.W.Write.contents l.fn.writer) (g.W.Write.contents l.writer) l.script.line l.script.faults l.script.world input;
-  offers : l.script.world.core.setting.catalog ≡ l.fn.world.core.setting.catalog;
+  after : IsAfter l.fn.world.session.setting (g.W.Write.contents l.fn.writer) (g.W.Write.contents l.writer) l.script.line l.script.faults l.script.world input;
+  offers : l.script.world.session.setting.catalog ≡ l.fn.world.session.setting.catalog;
   room : length l.block ≡ 8192;
 }
 

@@ -8,14 +8,14 @@ pub returns-then-is_blank-clause-ok : goal.returns-then-is_blank-clause-ok
 returns-then-is_blank-clause-ok g c = λ whole kept few.
     let world = c.args.world.now in
     let blank : is_blank whole ≡ true = sym (c.is_blank.ensures whole kept) ∙ c.if-is_blank.true in
-    blank_ends world.core.setting world whole c.args.faults (g.W.Write.contents c.args.writer.now) blank
+    blank_ends world.session.setting world whole c.args.faults (g.W.Write.contents c.args.writer.now) blank
 
 pub returns-in-Ok-clause-ok : goal.returns-in-Ok-clause-ok
 returns-in-Ok-clause-ok g c = λ whole kept few.
     let world = c.args.world.now in
     let contents = g.W.Write.contents in
     let filled : is_blank whole ≡ false = sym (c.is_blank.ensures whole kept) ∙ c.if-is_blank.false in
-    told_ends c.tell.result world.core.setting world c.answer_of.new.world whole (string_bytes c.in-Ok.answer.text) c.in-Ok.answer.is_fault c.args.faults
+    told_ends c.tell.result world.session.setting world c.answer_of.new.world whole (string_bytes c.in-Ok.answer.text) c.in-Ok.answer.is_fault c.args.faults
     (contents c.args.writer.now) (contents c.tell.new.writer) filled (c.in-Ok.ensures.answer whole kept) (c.tell.ensures.count few) c.tell.ensures.all
 
 pub returns-in-Ok-clause-err : goal.returns-in-Ok-clause-err
@@ -23,7 +23,7 @@ returns-in-Ok-clause-err g c = λ whole kept.
     let world = c.args.world.now in
     let contents = g.W.Write.contents in
     let filled : is_blank whole ≡ false = sym (c.is_blank.ensures whole kept) ∙ c.if-is_blank.false in
-    told_fails c.tell.result world.core.setting world c.answer_of.new.world whole (string_bytes c.in-Ok.answer.text) c.in-Ok.answer.is_fault
+    told_fails c.tell.result world.session.setting world c.answer_of.new.world whole (string_bytes c.in-Ok.answer.text) c.in-Ok.answer.is_fault
     (contents c.args.writer.now) (contents c.tell.new.writer) filled (c.in-Ok.ensures.answer whole kept) c.tell.ensures.front
 
 pub returns-in-Err-clause-err : goal.returns-in-Err-clause-err

@@ -10,7 +10,7 @@ invariant-loop-rest g l = record {
   after : (p : Setting) (start : Option (List ℕ)) (input : List ℕ)
       → IsAfter p start (g.W.Write.contents l.fn.writer) l.fn.script.line l.fn.script.faults l.fn.script.world input
       → IsAfter p start (g.W.Write.contents l.writer) l.script.line l.script.faults l.script.world (input ++ front);
-  offers : l.script.world.core.setting.catalog ≡ l.fn.script.world.core.setting.catalog;
+  offers : l.script.world.session.setting.catalog ≡ l.fn.script.world.session.setting.catalog;
 }
 
 abbrev pub decreases-loop-rest : goal.decreases-loop-rest

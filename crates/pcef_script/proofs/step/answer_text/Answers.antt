@@ -5,10 +5,10 @@ use Rattle.pcef_script.proofs.step.answer_text.Goals as goal
 pub returns-in-Ok-clause-answer : goal.returns-in-Ok-clause-answer
 returns-in-Ok-clause-answer g c =
     let world = c.args.world.now in
-    line_answered c.done.result world.core.setting (standing_of world) (standing_of c.done.new.world) c.args.text.now c.in-Ok.line c.in-Ok.ensures c.done.ensures.text c.done.ensures.counts
+    line_answered c.done.result world.session.setting (standing_of world) (standing_of c.done.new.world) c.args.text.now c.in-Ok.line c.in-Ok.ensures c.done.ensures.text c.done.ensures.counts
 
 pub returns-in-Err-clause-answer : goal.returns-in-Err-clause-answer
 returns-in-Err-clause-answer g c =
     let world = c.args.world.now in
-    fault_read c.read_fault.result world.core.setting (standing_of world) c.args.text.now c.in-Err.at_fault c.in-Err.ensures
-    (c.read_fault.ensures world.core.setting (standing_of world))
+    fault_read c.read_fault.result world.session.setting (standing_of world) c.args.text.now c.in-Err.at_fault c.in-Err.ensures
+    (c.read_fault.ensures world.session.setting (standing_of world))
