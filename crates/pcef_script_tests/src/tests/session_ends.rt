@@ -2,33 +2,48 @@
 
 use super::{PROFILE, run, script_of};
 use std::alloc::Global;
+use std::process::Abort;
 use std::test::Fail;
 
-const WEB: &str = r#"{"do":"install","rule":{"name":"web","precedence":100,"filters":[{"text":"permit out 17 from any 53 to assigned"}],"qci":9,"arp":{"level":8,"capability":false,"vulnerability":true},"gate":"ENABLED","key":"vid"}}"#;
-const VOICE: &str = r#"{"do":"install","rule":{"name":"voice","precedence":10,"filters":[{"text":"permit out ip from any to any"}],"qci":1,"arp":{"level":2,"capability":false,"vulnerability":false},"gbr":{"up":64000,"down":64000},"gate":"ENABLED","key":"vid"}}"#;
+const WEB: &str =
+    r#"{"do":"install","rule":{"name":"web","precedence":100,"filters":[{"text":"permit out 17 from any 53 to assigned"}],"qci":9,"arp":{"level":8,"capability":false,"vulnerability":true},"gate":"ENABLED","key":"vid"}}"#;
+
+const VOICE: &str =
+    r#"{"do":"install","rule":{"name":"voice","precedence":10,"filters":[{"text":"permit out ip from any to any"}],"qci":1,"arp":{"level":2,"capability":false,"vulnerability":false},"gbr":{"up":64000,"down":64000},"gate":"ENABLED","key":"vid"}}"#;
+
 const MONITOR: &str = r#"{"do":"monitor","key":"vid","grant":1000}"#;
+
 const ATTACH: &str = r#"{"do":"attach"}"#;
 /// A UDP packet of 28 octets from 198.51.100.7 port 53 to 10.0.0.2 port 5000.
 const TAKE: &str =
     r#"{"do":"take","worker":0,"dir":"down","packet":"4500001c0000000040110000c63364070a0000020035138800080000"}"#;
+
 const FLUSH: &str = r#"{"do":"flush","worker":0}"#;
+
 const FINISH: &str = r#"{"do":"finish","worker":0}"#;
+
 const ABANDON: &str = r#"{"do":"abandon","worker":0}"#;
+
 const CLOSE: &str = r#"{"do":"close"}"#;
+
 const TERMINATE: &str = r#"{"do":"terminate"}"#;
+
 const SHOW: &str = r#"{"do":"show"}"#;
+
 const REPORT: &str = r#"{"do":"report","key":"vid"}"#;
+
 const STOP: &str = r#"{"do":"stop","key":"vid"}"#;
+
 const USAGE_REPORT: &str = r#"{"do":"triggers","events":["USAGE_REPORT"]}"#;
 
 /// These lines are answered by those, none of which is a line's fault.
 fn answers(
-    rt: &HostRuntime,
+    rt: &impl Abort,
+    alloc: Global,
     profile: &str,
     lines: &[&str],
     expected: &[&str],
 ) -> Result<(), Fail> {
-    let alloc = rt.alloc();
     let script = script_of(alloc, lines)?;
     let wanted = script_of(alloc, expected)?;
     let (text, faults) = run(alloc, profile, script.as_str())?;
@@ -44,7 +59,9 @@ fn profile_with(alloc: Global, rows: &str, commands: &str) -> Result<String, Fai
     text.push_str(rows)?;
     text.push_str("\ncommands = ")?;
     text.push_str(commands)?;
-    text.push_str("\n\n[default]\nqci = 9\nlevel = 8\ncapability = false\nvulnerability = true\n\n[capacity]\nup = 1000000\ndown = 2000000\n")?;
+    text.push_str(
+        "\n\n[default]\nqci = 9\nlevel = 8\ncapability = false\nvulnerability = true\n\n[capacity]\nup = 1000000\ndown = 2000000\n",
+    )?;
     Ok(text)
 }
 
@@ -52,6 +69,7 @@ fn profile_with(alloc: Global, rows: &str, commands: &str) -> Result<String, Fai
 fn a_session_ends_with_all_reported(rt: HostRuntime) -> Result<(), Fail> {
     answers(
         &rt,
+        rt.alloc(),
         PROFILE,
         &[
             WEB,
@@ -84,9 +102,11 @@ fn a_session_ends_with_all_reported(rt: HostRuntime) -> Result<(), Fail> {
 fn ended_sessions_refuse(rt: HostRuntime) -> Result<(), Fail> {
     answers(
         &rt,
+        rt.alloc(),
         PROFILE,
         &[
-            ATTACH, TERMINATE, ABANDON, CLOSE, CLOSE, WEB, ATTACH, TERMINATE, MONITOR, CLOSE, ATTACH,
+            ATTACH, TERMINATE, ABANDON, CLOSE, CLOSE, WEB, ATTACH, TERMINATE, MONITOR, CLOSE,
+            ATTACH,
         ],
         &[
             r#"{"generation":0,"ok":true,"worker":0}"#,
@@ -109,6 +129,7 @@ fn rows_over_the_limit_wait_until_they_are_abandoned(rt: HostRuntime) -> Result<
     let profile = profile_with(rt.alloc(), "1", "1000")?;
     answers(
         &rt,
+        rt.alloc(),
         profile.as_str(),
         &[
             ATTACH, TAKE, TAKE, FLUSH, FLUSH, FINISH, TAKE, ABANDON, FINISH, ABANDON, TAKE,
@@ -132,7 +153,9 @@ fn rows_over_the_limit_wait_until_they_are_abandoned(rt: HostRuntime) -> Result<
 /// A UDP packet of 600 octets, taken in downlink by worker 0.
 fn take_600(alloc: Global) -> Result<String, Fail> {
     let mut line = String::new(alloc);
-    line.push_str(r#"{"do":"take","worker":0,"dir":"down","packet":"450002580000000040110000c63364070a0000020035138802440000"#)?;
+    line.push_str(
+        r#"{"do":"take","worker":0,"dir":"down","packet":"450002580000000040110000c63364070a0000020035138802440000"#,
+    )?;
     for _ in 0..572u16 {
         line.push_str("00")?;
     }
@@ -145,6 +168,7 @@ fn a_reached_grant_tells_all_that_is_unreported(rt: HostRuntime) -> Result<(), F
     let take = take_600(rt.alloc())?;
     answers(
         &rt,
+        rt.alloc(),
         PROFILE,
         &[
             USAGE_REPORT,
@@ -173,6 +197,7 @@ fn a_reached_grant_tells_all_that_is_unreported(rt: HostRuntime) -> Result<(), F
 fn a_subscription_tells_a_grant_that_was_reached_before(rt: HostRuntime) -> Result<(), Fail> {
     answers(
         &rt,
+        rt.alloc(),
         PROFILE,
         &[
             WEB,
@@ -199,6 +224,7 @@ fn a_subscription_tells_a_grant_that_was_reached_before(rt: HostRuntime) -> Resu
 fn a_lost_bearer_takes_its_rules_and_their_key(rt: HostRuntime) -> Result<(), Fail> {
     answers(
         &rt,
+        rt.alloc(),
         PROFILE,
         &[
             VOICE,
@@ -223,6 +249,7 @@ fn a_lost_bearer_takes_its_rules_and_their_key(rt: HostRuntime) -> Result<(), Fa
 fn rules_of_a_lost_bearer_are_told_by_their_names(rt: HostRuntime) -> Result<(), Fail> {
     answers(
         &rt,
+        rt.alloc(),
         PROFILE,
         &[
             r#"{"do":"install","rule":{"name":"b","precedence":1,"filters":[{"text":"permit out ip from any to any"}],"qci":8,"arp":{"level":1,"capability":false,"vulnerability":false},"gate":"ENABLED"}}"#,
@@ -248,6 +275,7 @@ fn an_end_needs_no_budget(rt: HostRuntime) -> Result<(), Fail> {
     let profile = profile_with(rt.alloc(), "1000", "1")?;
     answers(
         &rt,
+        rt.alloc(),
         profile.as_str(),
         &[WEB, r#"{"do":"remove","name":"web"}"#, CLOSE, TERMINATE],
         &[
@@ -263,6 +291,7 @@ fn an_end_needs_no_budget(rt: HostRuntime) -> Result<(), Fail> {
 fn a_key_is_reported_and_stopped(rt: HostRuntime) -> Result<(), Fail> {
     answers(
         &rt,
+        rt.alloc(),
         PROFILE,
         &[
             WEB,
@@ -290,9 +319,12 @@ fn a_key_is_reported_and_stopped(rt: HostRuntime) -> Result<(), Fail> {
 }
 
 #[test]
-fn a_late_packet_of_a_stopped_key_counts_by_its_own_generation(rt: HostRuntime) -> Result<(), Fail> {
+fn a_late_packet_of_a_stopped_key_counts_by_its_own_generation(
+    rt: HostRuntime,
+) -> Result<(), Fail> {
     answers(
         &rt,
+        rt.alloc(),
         PROFILE,
         &[WEB, MONITOR, ATTACH, TAKE, STOP, FLUSH, REPORT],
         &[
@@ -311,6 +343,7 @@ fn a_late_packet_of_a_stopped_key_counts_by_its_own_generation(rt: HostRuntime) 
 fn a_key_that_loses_its_last_rule_tells_what_it_counted(rt: HostRuntime) -> Result<(), Fail> {
     answers(
         &rt,
+        rt.alloc(),
         PROFILE,
         &[WEB, MONITOR, ATTACH, TAKE, FLUSH, CLOSE, FINISH, TERMINATE],
         &[
@@ -331,6 +364,7 @@ fn a_subscribed_event_is_noticed(rt: HostRuntime) -> Result<(), Fail> {
     let notice = r#"{"do":"notice","event":"RAT_CHANGE","value":"eutran"}"#;
     answers(
         &rt,
+        rt.alloc(),
         PROFILE,
         &[
             notice,
@@ -351,6 +385,7 @@ fn a_subscribed_event_is_noticed(rt: HostRuntime) -> Result<(), Fail> {
 fn a_number_of_a_worker_is_never_used_again(rt: HostRuntime) -> Result<(), Fail> {
     answers(
         &rt,
+        rt.alloc(),
         PROFILE,
         &[
             ATTACH,
