@@ -5,6 +5,7 @@ pub mod BoundRules
 pub mod Bounds
 pub mod Capacity
 pub mod Decisive
+pub mod Ending
 pub mod Exactness
 pub mod ExampleSession
 pub mod Examples

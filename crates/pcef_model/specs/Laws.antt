@@ -1,4 +1,12 @@
 -- Laws of journals, for whoever reads the definitions.
+use Rattle.std.specs.Prelude.{◌≢◌, None, Some}
+use Rattle.pcef_model.specs.declared.answer.FlushRefusal.TheVariants as flush
+use Rattle.pcef_model.specs.declared.answer.Refusal.TheVariants as refusal
+use Rattle.pcef_model.specs.declared.command.Command.TheVariants.{Terminate}
+use Rattle.pcef_model.specs.Commands.{is_among}
+use Rattle.pcef_model.specs.Journals.{slots}
+use Rattle.pcef_model.specs.Refusals.{attach_faults, first_of, flush_refusals, refusals}
+use Rattle.pcef_model.specs.Reports.{after_command}
 use Rattle.std.specs.Prelude.{ℕ, ◌≡◌, ◌≤◌, ◌+◌, true, List, ◌∷◌, if◌then◌else◌, ◌==◌, false, Option}
 use Rattle.pcef_model.specs.declared.command.Command.{Command}
 use Rattle.pcef_model.specs.declared.entry.Entry.TheVariants as entry
@@ -72,3 +80,18 @@ SlotsStay = (p : Setting) (j : Journal) (c : Command) (row : Row) (slot : Option
 abbrev pub RatesAreWithinCapacity : Type 0
 RatesAreWithinCapacity = (p : Setting) (j : Journal) → Lawful p j →
     (total_up (now p j).rules ≤ p.capacity.up) × (total_down (now p j).rules ≤ p.capacity.down)
+
+-- ---- the end of a session (TS 29.212, clauses 4.5.16 and 4.5.17; own choice)
+-- after a Terminate no key that has a slot has unreported octets
+abbrev pub NothingIsUnreportedAtTheEnd : Type 0
+NothingIsUnreportedAtTheEnd = (p : Setting) (j : Journal) → Lawful p j → (key : List ℕ) → is_among key (slots p j) ≡ true →
+    unreported p (after_command p j Terminate) key ≡ 0
+
+-- no row, no worker and no command is accepted any more
+pub record IsOver (p : Setting) (j : Journal) : Type 0 where
+  pub no_row : (worker count : ℕ) → first_of (flush_refusals p j worker count) ≡ Some flush.NotAttached
+  pub no_worker : first_of (attach_faults j) ≢ None
+  pub no_command : (c : Command) → first_of (refusals p j c) ≡ Some refusal.Terminated
+
+abbrev pub NothingFollowsTheEnd : Type 0
+NothingFollowsTheEnd = (p : Setting) (j : Journal) → first_of (refusals p j Terminate) ≡ None → IsOver p (after_command p j Terminate)

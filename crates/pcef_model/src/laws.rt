@@ -1,6 +1,6 @@
 //! Laws of the definitions, proved for whoever reads them.
 
-ghost use Rattle.pcef_model.specs.Laws.{EarlierGenerationsStay, IdsAreDistinct, IdsAreInRange, NothingIsLost, NothingIsReportedTwice, RatesAreWithinCapacity, ReportsLeaveGenerations, RowsCountByTheirOwnGeneration, RowsLeaveGenerations, SlotsStay, TableCommandsMakeTheNext, WaitingRowsStay, WaitingRowsStayBesideOthers};
+ghost use Rattle.pcef_model.specs.Laws.{EarlierGenerationsStay, IdsAreDistinct, IdsAreInRange, NothingFollowsTheEnd, NothingIsLost, NothingIsReportedTwice, NothingIsUnreportedAtTheEnd, RatesAreWithinCapacity, ReportsLeaveGenerations, RowsCountByTheirOwnGeneration, RowsLeaveGenerations, SlotsStay, TableCommandsMakeTheNext, WaitingRowsStay, WaitingRowsStayBesideOthers};
 
 /// How journals grow: earlier generations stay, and each row counts by its own.
 pub fn journals_grow()
@@ -30,4 +30,10 @@ pub fn waiting_rows_stay()
     ensures commands { WaitingRowsStay }
     ensures others { WaitingRowsStayBesideOthers }
     ensures slots { SlotsStay }
+{}
+
+/// The end of a session: a Terminate leaves nothing unreported, and nothing is accepted after it.
+pub fn sessions_end_whole()
+    ensures reported { NothingIsUnreportedAtTheEnd }
+    ensures over { NothingFollowsTheEnd }
 {}

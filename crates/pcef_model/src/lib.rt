@@ -17,7 +17,10 @@ mod verdict;
 pub use answer::{Accepted, AttachFault, FlushRefusal, Judged, OpenFault, Refusal, Verdicts};
 pub use command::Command;
 pub use entry::Entry;
-pub use laws::{bearers_have_their_own_ids, journals_grow, usage_is_exact, waiting_rows_stay};
+pub use laws::{
+    bearers_have_their_own_ids, journals_grow, sessions_end_whole, usage_is_exact,
+    waiting_rows_stay,
+};
 pub use profile::{MAX_CAPACITY, MAX_COMMANDS, Profile};
 pub use report::{Body, Cause, InactiveCause, Report};
 pub use row::Row;
