@@ -11,6 +11,7 @@ pub mod ExampleSession
 pub mod Examples
 pub mod Growth
 pub mod Lanes
+pub mod LawfulRows
 pub mod Members
 pub mod Names
 pub mod NewLanes

@@ -1,4 +1,9 @@
 -- Laws of journals, for whoever reads the definitions.
+use Rattle.std.specs.Prelude.{[], length}
+use Rattle.std.specs.List.{AllByRecursion}
+use Rattle.pcef_model.specs.Entries.{lane, rows}
+use Rattle.pcef_model.specs.Journals.{judged}
+use Rattle.pcef_model.specs.Lawful.{newest_generation}
 use Rattle.std.specs.Prelude.{◌≢◌, None, Some}
 use Rattle.pcef_model.specs.declared.answer.FlushRefusal.TheVariants as flush
 use Rattle.pcef_model.specs.declared.answer.Refusal.TheVariants as refusal
@@ -95,3 +100,23 @@ pub record IsOver (p : Setting) (j : Journal) : Type 0 where
 
 abbrev pub NothingFollowsTheEnd : Type 0
 NothingFollowsTheEnd = (p : Setting) (j : Journal) → first_of (refusals p j Terminate) ≡ None → IsOver p (after_command p j Terminate)
+
+-- ---- rows
+-- each row has the verdict of its own generation, which was made before it came
+pub record HasItsVerdict (p : Setting) (j : Journal) (r : Row) : Type 0 where
+  pub known : r.generation ≤ gen j
+  pub verdict_is : r.verdict ≡ judged p (at p j r.generation) r.header
+
+abbrev pub RowsHaveTheirVerdicts : Type 0
+RowsHaveTheirVerdicts = (p : Setting) (j : Journal) → Lawful p j → AllByRecursion (HasItsVerdict p j) (rows j)
+
+-- the rows of a lane are numbered from 0 on, and their generations never fall
+abbrev pub IsNumberedLane : List Row → Type 0
+IsNumberedLane [] = Unit {0}
+IsNumberedLane (r ∷ before) = (r.seq ≡ length before) × (newest_generation before ≤ r.generation) × IsNumberedLane before
+
+abbrev pub LanesAreNumbered : Type 0
+LanesAreNumbered = (p : Setting) (j : Journal) → Lawful p j → (worker : ℕ) → IsNumberedLane (lane j worker)
+
+abbrev pub RowsAreWithinTheProfile : Type 0
+RowsAreWithinTheProfile = (p : Setting) (j : Journal) → Lawful p j → length (rows j) ≤ p.rows

@@ -1,6 +1,6 @@
 //! Laws of the definitions, proved for whoever reads them.
 
-ghost use Rattle.pcef_model.specs.Laws.{EarlierGenerationsStay, IdsAreDistinct, IdsAreInRange, NothingFollowsTheEnd, NothingIsLost, NothingIsReportedTwice, NothingIsUnreportedAtTheEnd, RatesAreWithinCapacity, ReportsLeaveGenerations, RowsCountByTheirOwnGeneration, RowsLeaveGenerations, SlotsStay, TableCommandsMakeTheNext, WaitingRowsStay, WaitingRowsStayBesideOthers};
+ghost use Rattle.pcef_model.specs.Laws.{EarlierGenerationsStay, IdsAreDistinct, IdsAreInRange, NothingFollowsTheEnd, NothingIsLost, NothingIsReportedTwice, NothingIsUnreportedAtTheEnd, LanesAreNumbered, RatesAreWithinCapacity, ReportsLeaveGenerations, RowsAreWithinTheProfile, RowsCountByTheirOwnGeneration, RowsHaveTheirVerdicts, RowsLeaveGenerations, SlotsStay, TableCommandsMakeTheNext, WaitingRowsStay, WaitingRowsStayBesideOthers};
 
 /// How journals grow: earlier generations stay, and each row counts by its own.
 pub fn journals_grow()
@@ -30,6 +30,14 @@ pub fn waiting_rows_stay()
     ensures commands { WaitingRowsStay }
     ensures others { WaitingRowsStayBesideOthers }
     ensures slots { SlotsStay }
+{}
+
+/// Rows: each has the verdict of its own generation, those of a worker are numbered from 0 on and never go back in
+/// generations, and there are no more than the profile allows.
+pub fn rows_are_lawful()
+    ensures verdicts { RowsHaveTheirVerdicts }
+    ensures lanes { LanesAreNumbered }
+    ensures within { RowsAreWithinTheProfile }
 {}
 
 /// The end of a session: a Terminate leaves nothing unreported, and nothing is accepted after it.

@@ -30,22 +30,10 @@ use Rattle.pcef_session.specs.private.Soundness.{EndsAgree}
 use Rattle.pcef_session.specs.private.Taking.{with_lane}
 
 -- ---- rows
-pub rows_with : (j : Journal) (rs : List Row) → length (rows (with_rows rs j)) ≡ length rs + length (rows j)
-unfolding with_rows
-rows_with j [] = omega arith
-rows_with j (r ∷ rs) = let more = rows_with (entry.Row r ∷ j) rs in omega (arith, more)
-
 pub commands_with : (j : Journal) (rs : List Row) → commands (with_rows rs j) ≡ commands j
 unfolding with_rows
 commands_with j [] = refl
 commands_with j (r ∷ rs) = commands_with (entry.Row r ∷ j) rs
-
-pub reports_with : (j : Journal) (rs : List Row) → report_count (with_rows rs j) ≡ report_count j
-unfolding with_rows
-reports_with j [] = refl
-reports_with j (r ∷ rs) = reports_with (entry.Row r ∷ j) rs
-
-
 
 -- ---- attaching
 pub attach_full : (j : Journal) → 16 ≤ attach_count j → Some attach.NoPlace ≡ first_of (attach_faults j)

@@ -47,7 +47,8 @@ use Rattle.pcef_model.specs.Journals.{attached}
 use Rattle.pcef_model.proofs.Onward.{attached_after_flush}
 use Rattle.pcef_lane.proofs.LaneEnds.{attached_came}
 use Rattle.pcef_session.proofs.EndsMet.{ends_flushed}
-use Rattle.pcef_session.proofs.Leaving.{attached_accepted, commands_with, lanes_flushed, rows_with}
+use Rattle.pcef_session.proofs.Leaving.{attached_accepted, commands_with, lanes_flushed}
+use Rattle.pcef_model.proofs.LawfulRows.{rows_with}
 use Rattle.pcef_session.specs.private.Taking.{with_lane}
 use Rattle.pcef_session.specs.Shown.{Shows}
 use Rattle.pcef_session.proofs.Commanding.{all_agree, commands_told}
