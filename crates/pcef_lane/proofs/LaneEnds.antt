@@ -1,9 +1,9 @@
 -- The ends of lanes, as a journal grows.
-use Rattle.std.proofs.Common.{◌≡◌, ◌∙◌, ◌≤◌, ◌<◌, ◌+◌, ◌++◌, ◌==◌, ◌||◌, ℕ, suc, zero, List, [], ◌∷◌, Bool, true, false, length, refl, sym, ap, subst, arith, inl, inr, set, get_or, Some, None}
-use Rattle.std.specs.Prelude.{All, MatchOption, Option, filter, nat_lt, not, slice_get}
+use Rattle.std.proofs.Common.{◌≡◌, ◌∙◌, ◌≤◌, ◌<◌, ◌+◌, ◌++◌, ◌==◌, ◌||◌, ℕ, suc, zero, List, [], ◌∷◌, true, false, length, refl, sym, ap, arith, inl, inr, set, get_or, Some}
+use Rattle.std.specs.Prelude.{All, MatchOption, filter, nat_lt, not, slice_get}
 use Rattle.std.specs.Option.{option_map_or}
 use Rattle.std.specs.List.{list_any}
-use Rattle.std.proofs.lemmas.Bool.{cases_Bool, eq-eqb, eqb-true, le-ltb, lt-ltb, ltb-false, ltb-true}
+use Rattle.std.proofs.lemmas.Bool.{cases_Bool, eq-eqb, eqb-true, ltb-false, ltb-true}
 use Rattle.std.proofs.lemmas.List.Elements.{All-head, All-tail}
 use Rattle.std.proofs.lemmas.Option.{slice_get_past}
 use Rattle.pcef_lists.proofs.Tests.{contrary}
@@ -16,7 +16,7 @@ use Rattle.pcef_model.specs.Refusals.{is_attached}
 use Rattle.pcef_model.specs.Reports.{with_rows}
 use Rattle.pcef_model.proofs.Lanes.{lane_len_with, lane_other}
 use Rattle.pcef_lane.specs.declared.lanes.LaneEnd.{LaneEnd}
-use Rattle.pcef_lane.specs.Lanes.{LanesAgree, at_start, end_of, ends_from, lane_end, lane_ends, last_generation, left, lengthened, present}
+use Rattle.pcef_lane.specs.Lanes.{LanesAgree, at_start, end_of, ends_from, lane_end, last_generation, left, lengthened, present}
 use Rattle.pcef_lane.proofs.Present.{none_past, other_number, own_number, present_come, present_count, present_leave, present_lengthen}
 
 -- ---- the ends from one worker on
@@ -105,10 +105,10 @@ lanes_come j n lanes is none agree =
     let own : n ≡ 0 + n = omega arith in
     let more : suc n ≡ attach_count j + 1 = omega (arith, is) in
     record {
-  ends_are =
-      ap (λ ends. ends ++ at_start ∷ []) (agree.ends_are ∙ ap (ends_from j 0) (sym is) ∙ sym (ends_same j (entry.Attach n ∷ j) 0 n (λ w within. come_other j n w (omega (arith, within)))))
-      ∙ ap (λ end. ends_from (entry.Attach n ∷ j) 0 n ++ end ∷ []) (sym (come_new j n none) ∙ ap (lane_end (entry.Attach n ∷ j)) own)
-      ∙ ends_more (entry.Attach n ∷ j) 0 n ∙ ap (ends_from (entry.Attach n ∷ j) 0) more;
+      ends_are =
+          ap (λ ends. ends ++ at_start ∷ []) (agree.ends_are ∙ ap (ends_from j 0) (sym is) ∙ sym (ends_same j (entry.Attach n ∷ j) 0 n (λ w within. come_other j n w (omega (arith, within)))))
+          ∙ ap (λ end. ends_from (entry.Attach n ∷ j) 0 n ++ end ∷ []) (sym (come_new j n none) ∙ ap (lane_end (entry.Attach n ∷ j)) own)
+          ∙ ends_more (entry.Attach n ∷ j) 0 n ∙ ap (ends_from (entry.Attach n ∷ j) 0) more;
       attached_are = ap (λ ns. n ∷ ns) agree.attached_are ∙ ap (λ m. m ∷ present 0 lanes) next ∙ sym (present_come 0 lanes);
     }
 

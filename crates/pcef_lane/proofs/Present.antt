@@ -1,11 +1,10 @@
 -- The workers that are attached, as workers come and leave.
-use Rattle.std.proofs.Common.{◌≡◌, ◌∙◌, ◌≤◌, ◌<◌, ◌+◌, ◌++◌, ◌==◌, ◌||◌, ℕ, suc, zero, List, [], ◌∷◌, Bool, true, false, length, refl, sym, ap, arith, inl, inr, not, set, get_or, filter, if◌then◌else◌, append-nil, append_assoc}
+use Rattle.std.proofs.Common.{◌≡◌, ◌∙◌, ◌≤◌, ◌<◌, ◌+◌, ◌++◌, ◌==◌, ℕ, suc, zero, List, [], ◌∷◌, Bool, true, false, length, refl, sym, ap, arith, inl, inr, not, set, get_or, filter, if◌then◌else◌, append-nil}
 use Rattle.std.specs.List.{list_any}
 use Rattle.std.proofs.lemmas.Bool.{cases_Bool, eq-eqb, eqb-true, false_from_ne_true}
 use Rattle.std.proofs.lemmas.List.{length-append}
 use Rattle.std.proofs.lemmas.List.Elements.{filter-append}
 use Rattle.std.proofs.lemmas.List.Folds.{list_any-append}
-use Rattle.pcef_lists.proofs.Tests.{contrary}
 use Rattle.pcef_lane.specs.declared.lanes.LaneEnd.{LaneEnd}
 use Rattle.pcef_lane.specs.Lanes.{at_start, left, lengthened, present}
 

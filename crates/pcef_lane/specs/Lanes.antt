@@ -1,5 +1,5 @@
 -- Where the lanes of a session's workers end, read off its journal (own choice).
-use Rattle.std.specs.Prelude.{ℕ, ◌≡◌, ◌+◌, ◌++◌, ◌<◌, zero, suc, true, false, List, [], ◌∷◌, Option, slice_get, if◌then◌else◌}
+use Rattle.std.specs.Prelude.{ℕ, ◌≡◌, ◌+◌, ◌++◌, zero, suc, true, false, List, [], ◌∷◌, Option, slice_get, if◌then◌else◌}
 use Rattle.pcef_model.specs.Entries.{Journal, lane}
 use Rattle.pcef_model.specs.Journals.{attach_count, attached, lane_len}
 use Rattle.pcef_model.specs.Lawful.{newest_generation}

@@ -1,28 +1,24 @@
 -- What a Terminate leaves: nothing unreported, and nothing that could follow.
-use Rattle.std.proofs.Common.{◌≡◌, ◌≤◌, ◌+◌, ◌-◌, ◌∙◌, ◌++◌, ◌||◌, ℕ, Bool, true, false, List, [], ◌∷◌, Some, None, filter, length, map, refl, sym, ap, subst, arith, inl, inr}
+use Rattle.std.proofs.Common.{◌≡◌, ◌-◌, ◌∙◌, ◌||◌, ℕ, Bool, true, false, List, [], ◌∷◌, Some, None, filter, length, map, refl, sym, ap, arith, inl, inr}
 use Rattle.std.specs.Prelude.{◌==◌, nat_lt}
 use Rattle.std.specs.List.{list_any}
 use Rattle.std.proofs.lemmas.Bool.{cases_Bool, ltb-false}
 use Rattle.std.proofs.lemmas.List.{append-nil}
-use Rattle.std.proofs.lemmas.List.Folds.{list_any-append}
-use Rattle.pcef_lists.proofs.Tests.{contrary}
 use Rattle.pcef_model.specs.declared.command.Command.{Command}
 use Rattle.pcef_model.specs.declared.command.Command.TheVariants.{Install, Activate, Remove, Monitor, Stop, ReportNow, Triggers, Notice, LoseBearer, Close, Terminate}
 use Rattle.pcef_model.specs.declared.entry.Entry.TheVariants as entry
 use Rattle.pcef_model.specs.declared.report.Cause.TheVariants.{Terminated}
-use Rattle.pcef_model.specs.declared.report.Report.{Report}
 use Rattle.pcef_model.specs.declared.answer.AttachFault.TheVariants as attach
-use Rattle.pcef_model.specs.declared.answer.FlushRefusal.TheVariants as flush
 use Rattle.pcef_model.specs.declared.answer.Refusal.TheVariants as refusal
 use Rattle.pcef_model.specs.declared.telling.Telling.{Telling}
 use Rattle.pcef_model.specs.declared.telling.Telling.TheVariants.{Access, Inactive, Usage}
 use Rattle.pcef_model.specs.Setting.{Setting, same_name}
 use Rattle.pcef_model.specs.Commands.{is_among}
-use Rattle.pcef_model.specs.Entries.{Journal, rows}
-use Rattle.pcef_model.specs.Journals.{attach_count, attached, counted, now, octets_told, report_count, reported, slots, unreported}
+use Rattle.pcef_model.specs.Entries.{Journal}
+use Rattle.pcef_model.specs.Journals.{attached, counted, now, octets_told, report_count, reported, slots, unreported}
 use Rattle.pcef_model.specs.Laws.{IsOver}
 use Rattle.pcef_model.specs.Lawful.{Lawful}
-use Rattle.pcef_model.specs.Refusals.{attach_faults, first_of, flush_refusals, is_attached, is_terminate, refusals, was_closed, was_terminated}
+use Rattle.pcef_model.specs.Refusals.{attach_faults, first_of, is_attached, refusals, was_closed, was_terminated}
 use Rattle.pcef_model.specs.Reports.{after_command, body_of, ended, plan, tell, thresholds}
 use Rattle.pcef_model.proofs.Acceptance.{condition_none}
 use Rattle.pcef_model.proofs.Exactness.{lawful_exact}

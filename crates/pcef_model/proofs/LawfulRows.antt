@@ -6,7 +6,7 @@ use Rattle.pcef_model.specs.declared.entry.Entry.TheVariants as entry
 use Rattle.pcef_model.specs.declared.row.Row.{Row}
 use Rattle.pcef_model.specs.Setting.{Setting}
 use Rattle.pcef_model.specs.Entries.{Journal, lane, rows}
-use Rattle.pcef_model.specs.Journals.{at, gen, judged}
+use Rattle.pcef_model.specs.Journals.{judged}
 use Rattle.pcef_model.specs.Laws.{HasItsVerdict, IsNumberedLane}
 use Rattle.pcef_model.specs.Lawful.{Lawful, RowsFollow, at_first, by_attach, by_command, by_flush, by_leave, newest_generation}
 use Rattle.pcef_model.specs.Reports.{after_command, after_flush, with_rows}

@@ -10,7 +10,7 @@ use Rattle.pcef_rule.specs.declared.rule.Properties.{Properties}
 use Rattle.pcef_rule.specs.QciKinds.{kind_of}
 use Rattle.pcef_catalog.specs.declared.listing.Offer.{Offer}
 use Rattle.pcef_model.specs.declared.command.Command.{Command}
-use Rattle.pcef_model.specs.declared.command.Command.TheVariants.{Install, Activate, Remove, Monitor, Stop, ReportNow, Triggers, Notice, LoseBearer, Close, Terminate}
+use Rattle.pcef_model.specs.declared.command.Command.TheVariants.{Install, Activate, Remove, Monitor, Stop, ReportNow, LoseBearer, Close, Terminate}
 use Rattle.pcef_model.specs.declared.entry.Entry.{Entry}
 use Rattle.pcef_model.specs.declared.entry.Entry.TheVariants as entry
 use Rattle.pcef_model.specs.Setting.{Setting, most_keys, most_rules, offer_named, same_qos}

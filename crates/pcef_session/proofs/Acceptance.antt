@@ -1,17 +1,17 @@
 -- What it takes that a command isn't refused.
-use Rattle.std.proofs.Common.{◌≡◌, ◌∙◌, ◌<◌, ℕ, true, false, not, List, [], ◌∷◌, length, refl, sym, subst, arith, Some, None, nat_le}
-use Rattle.std.specs.Prelude.{Option, is_none, is_some, ◌==◌, if◌then◌else◌}
+use Rattle.std.proofs.Common.{◌≡◌, ◌∙◌, true, false, List, length, refl, sym, subst, arith, Some, None, nat_le}
+use Rattle.std.specs.Prelude.{Option, is_none}
 use Rattle.std.specs.Option.{option_map}
 use Rattle.std.proofs.lemmas.Bool.{leb-false}
 use Rattle.pcef_rule.specs.declared.rule.Properties.{Properties}
 use Rattle.pcef_catalog.specs.declared.listing.Offer.{Offer}
-use Rattle.pcef_model.specs.Refusals.{becoming_active, becoming_active_if, common_refusals, finds_no_slot, first_of, is_active, limited_count, refusals, was_closed, was_terminated}
+use Rattle.pcef_model.specs.Refusals.{becoming_active, first_of, is_active, refusals}
 use Rattle.pcef_model.specs.declared.command.Command.{Command}
 use Rattle.pcef_model.specs.declared.command.Command.TheVariants.{Install, Activate, Remove, Monitor, Stop, ReportNow, Triggers, Notice, LoseBearer, Close, Terminate}
 use Rattle.pcef_model.specs.Setting.{most_rules, Setting, offer_named}
-use Rattle.pcef_model.specs.ActiveRules.{Active, dynamic, predefined, is_named, put, without}
-use Rattle.pcef_model.specs.Commands.{key_named, key_offered, is_among, activated}
-use Rattle.pcef_model.specs.Entries.{Journal, commands}
+use Rattle.pcef_model.specs.ActiveRules.{predefined}
+use Rattle.pcef_model.specs.Commands.{key_named, key_offered, activated}
+use Rattle.pcef_model.specs.Entries.{Journal}
 use Rattle.pcef_model.specs.Journals.{now, slots}
 use Rattle.pcef_usage.specs.declared.usage.KeyState.{KeyState}
 use Rattle.pcef_usage.specs.Commands.{Asks}
@@ -21,11 +21,10 @@ use Rattle.pcef_session.specs.declared.prepared.Activation.{Activation}
 use Rattle.pcef_model.specs.Answers.{changes, bearer_named}
 use Rattle.pcef_session.specs.private.Changes.{Binds, CanBind}
 use Rattle.pcef_session.specs.Preparing.{Activates}
-use Rattle.pcef_model.specs.declared.answer.Refusal.TheVariants as refusal
 use Rattle.pcef_session.proofs.Activations.{brought}
 use Rattle.pcef_bearer.proofs.BoundBearers.{length_bound, named_bound, refusals_bound}
 use Rattle.pcef_session.proofs.Refused.{slotless_is}
-use Rattle.pcef_model.proofs.Acceptance.{condition_none, conditions_none, can_become, install_accepted, activate_accepted, activate_named, monitor_accepted, report_accepted, stop_accepted, activation_accepted}
+use Rattle.pcef_model.proofs.Acceptance.{can_become, install_accepted, activate_accepted, activate_named, monitor_accepted, report_accepted, stop_accepted, activation_accepted}
 use Rattle.pcef_model.specs.Generations.{Generation}
 
 -- an accepted command that makes no rule active tells of no bearer

@@ -1,20 +1,16 @@
 -- The rules that are prepared to become active.
-use Rattle.std.proofs.Common.{◌≡◌, ◌∙◌, ℕ, List, [], ◌∷◌, refl, sym, ap, subst, Some, None, find, inl, inr}
+use Rattle.std.proofs.Common.{◌≡◌, refl, sym, ap, subst, Some, None}
 use Rattle.std.specs.Prelude.{Option}
 use Rattle.std.specs.Option.{option_map}
-use Rattle.std.proofs.lemmas.Bool.{cases_Bool}
-use Rattle.pcef_rule.specs.Definition.{Definition}
 use Rattle.pcef_catalog.specs.declared.listing.Offer.{Offer}
 use Rattle.pcef_model.specs.declared.command.Command.{Command}
 use Rattle.pcef_model.specs.declared.command.Command.TheVariants.{Install, Activate, Remove, Monitor, Stop, ReportNow, Triggers, Notice, LoseBearer, Close, Terminate}
-use Rattle.pcef_model.specs.Setting.{Setting, offer_named, same_name}
-use Rattle.pcef_model.specs.ActiveRules.{Active, dynamic, predefined}
+use Rattle.pcef_model.specs.Setting.{Setting, offer_named}
+use Rattle.pcef_model.specs.ActiveRules.{Active, predefined}
 use Rattle.pcef_model.specs.Commands.{key_named, key_offered, activated}
-use Rattle.pcef_model.proofs.Sameness.{same_name_is}
 use Rattle.pcef_session.specs.declared.prepared.Activation.{Activation}
 use Rattle.pcef_session.specs.Preparing.{Activates, IsActivationOf}
 use Rattle.pcef_session.specs.private.Changes.{key_of, rule_key}
-use Rattle.pcef_model.specs.Changes.{MakesActive}
 
 -- the rule that is prepared is the one that the command makes active
 pub record IsPrepared (p : Setting) (c : Command) (x : Activation) : Type 0 where

@@ -1,12 +1,10 @@
 -- What a session's bearers are, rule by rule.
 use Rattle.std.proofs.lemmas.Bool.{eq-eqb, eqb-true, or_left, or_right}
 use Rattle.pcef_catalog.proofs.Alternatives.{list_any_map}
-use Rattle.std.proofs.Common.{◌≡◌, ◌∙◌, ℕ, Bool, true, false, List, [], ◌∷◌, refl, sym, ap, arith, inl, inr, filter, Contains, Some, None, find, ◌==◌}
-use Rattle.std.specs.Prelude.{if◌then◌else◌}
+use Rattle.std.proofs.Common.{◌≡◌, ◌∙◌, ℕ, Bool, true, false, List, [], ◌∷◌, refl, sym, ap, arith, inl, inr, filter, Contains, Some, find, ◌==◌}
 use Rattle.std.specs.List.{list_any}
 use Rattle.std.proofs.lemmas.Bool.{cases_Bool}
-use Rattle.pcef_rule.specs.declared.quantity.Sums.{Sums}
-use Rattle.pcef_bearer.specs.Bindings.{Binding, bearer_of, guaranteed, is_present, rules_on, total_down as bound_down, total_up as bound_up}
+use Rattle.pcef_bearer.specs.Bindings.{bearer_of, guaranteed, is_present, rules_on, total_down as bound_down, total_up as bound_up}
 use Rattle.pcef_model.proofs.Names.{Once}
 use Rattle.pcef_model.specs.Setting.{Setting, same_name, same_qos}
 use Rattle.pcef_model.specs.ActiveRules.{Active, is_named}
@@ -15,10 +13,9 @@ use Rattle.pcef_model.specs.Entries.{Journal}
 use Rattle.pcef_model.specs.Journals.{now, tables}
 use Rattle.pcef_lists.proofs.Tests.{contrary}
 use Rattle.pcef_model.proofs.Sameness.{same_name_is, same_name_of, same_qos_self, same_qos_is}
-use Rattle.pcef_session.specs.private.Parts.{Agrees, Parts}
 use Rattle.pcef_model.specs.Answers.{bearer_of as told_bearer}
 use Rattle.pcef_bearer.specs.Standing.{bound_of, binding_of}
-use Rattle.pcef_model.specs.Refusals.{total_down, total_up, rate_of}
+use Rattle.pcef_model.specs.Refusals.{total_up, rate_of}
 use Rattle.pcef_bearer.proofs.BoundBearers.{total_down_bound, total_up_bound, bound_by}
 use Rattle.pcef_model.proofs.BoundRules.{NamesOnce}
 use Rattle.pcef_lists.proofs.Found.{any_from}

@@ -20,7 +20,7 @@ use Rattle.pcef_model.specs.Generations.{Generation, next, rules_after}
 use Rattle.pcef_model.specs.Commands.{key_named, is_table, activated, takes_away}
 use Rattle.pcef_model.specs.declared.trigger.TriggerSet.{TriggerSet}
 use Rattle.pcef_model.specs.Entries.{Journal, commands}
-use Rattle.pcef_model.specs.Journals.{gen, now, report_count, slots, subscribed, tables}
+use Rattle.pcef_model.specs.Journals.{gen, now, report_count, slots, tables}
 use Rattle.pcef_model.specs.Reports.{after_command, body_of, plan, tell, thresholds}
 use Rattle.pcef_model.proofs.Growth.{now_after_table}
 use Rattle.pcef_model.proofs.Sameness.{same_name_of}
@@ -51,7 +51,7 @@ use Rattle.pcef_model.proofs.BearerIds.{lawful_bound, IsBound}
 use Rattle.pcef_bearer.proofs.BoundBearers.{next_id, next_put, next_left, named_bound}
 use Rattle.pcef_model.proofs.Exactness.{lawful_exact}
 use Rattle.pcef_model.proofs.RulesNow.{rules_then, now_after_other, rules_now}
-use Rattle.pcef_session.proofs.KeptRules.{kept_put, kept_without}
+use Rattle.pcef_session.proofs.KeptRules.{kept_put}
 use Rattle.pcef_session.proofs.NextTables.{all_count_from, all_on_from}
 use Rattle.pcef_model.proofs.Decisive.{made_once}
 use Rattle.pcef_bearer.specs.declared.bearers.Bound.{Bound}

@@ -1,17 +1,16 @@
 -- What a command reports by itself: rules that go with their bearer, and keys that it ends.
 use Rattle.std.proofs.Common.{◌==◌, map}
-use Rattle.pcef_model.specs.declared.report.Cause.TheVariants.{Terminated}
 use Rattle.pcef_model.specs.declared.telling.Telling.TheVariants.{Inactive}
 use Rattle.pcef_model.specs.Reports.{in_order}
 use Rattle.pcef_bearer.specs.Bindings.{Binding, rules_on}
 use Rattle.pcef_bearer.specs.Standing.{binding_of, bound_of}
 use Rattle.pcef_session.specs.private.Changes.{inactive_by}
 use Rattle.pcef_session.specs.private.Keys.{end_cause, is_ended}
-use Rattle.std.proofs.Common.{◌≡◌, ◌∙◌, Bool, true, false, ◌&&◌, ◌||◌, not, ℕ, List, [], ◌∷◌, refl, sym, ap, inl, inr, filter, Contains, None, Some, subst, ◌++◌, append_assoc}
+use Rattle.std.proofs.Common.{◌≡◌, ◌∙◌, Bool, true, false, ◌&&◌, ◌||◌, not, ℕ, List, [], ◌∷◌, refl, sym, ap, inl, inr, filter, None, Some, ◌++◌, append_assoc}
 use Rattle.std.specs.Prelude.{Option, ◌≢◌}
 use Rattle.std.specs.List.{list_any}
 use Rattle.std.specs.Option.{option_map_or}
-use Rattle.std.proofs.lemmas.Bool.{cases_Bool, or_cases, or_parts}
+use Rattle.std.proofs.lemmas.Bool.{cases_Bool, or_parts}
 use Rattle.pcef_rule.specs.declared.rule.Properties.{Properties}
 use Rattle.pcef_table.specs.declared.entry.Entry.{Entry}
 use Rattle.pcef_table.specs.Sources.{properties_of}
@@ -21,30 +20,25 @@ use Rattle.pcef_model.specs.declared.command.Command.{Command}
 use Rattle.pcef_model.specs.declared.command.Command.TheVariants.{Install, Activate, Remove, Monitor, Stop, ReportNow, Triggers, Notice, LoseBearer, Close, Terminate}
 use Rattle.pcef_model.specs.declared.report.Cause.{Cause}
 use Rattle.pcef_model.specs.declared.report.Cause.TheVariants.{RulesGone}
-use Rattle.pcef_model.specs.declared.telling.Telling.{Telling}
 use Rattle.pcef_model.specs.declared.telling.Telling.TheVariants.{Usage}
 use Rattle.pcef_model.specs.Setting.{Setting, same_name}
 use Rattle.pcef_model.specs.ActiveRules.{Active, has_key, is_key, is_named, put, without}
 use Rattle.pcef_model.specs.Generations.{Generation, rules_after}
 use Rattle.pcef_model.specs.Entries.{Journal}
-use Rattle.pcef_model.specs.Journals.{at, gen, now, slots, tables}
+use Rattle.pcef_model.specs.Journals.{at, gen, now, tables}
 use Rattle.pcef_model.specs.Reports.{asked, ended, inactive, noticed, plan}
 use Rattle.pcef_model.proofs.Growth.{at_newest}
 use Rattle.pcef_model.proofs.Sameness.{same_name_is}
 use Rattle.pcef_usage.specs.declared.usage.KeyState.{KeyState}
 use Rattle.pcef_usage.specs.Commands.{loses_rules, usage_of}
-use Rattle.pcef_usage.specs.Keys.{keys_of}
-use Rattle.pcef_usage.specs.Tellings.{AllOn}
-use Rattle.pcef_usage.proofs.Plans.{ended_by_states, lost_by_states, rules_gone}
+use Rattle.pcef_usage.proofs.Plans.{ended_by_states, lost_by_states}
 use Rattle.pcef_session.specs.private.Parts.{Agrees, Parts}
 use Rattle.pcef_session.specs.declared.prepared.Activation.{Activation}
-use Rattle.pcef_model.specs.Changes.{MakesActive}
 use Rattle.pcef_session.specs.private.Keys.{some_entry, comes_named, stays_with, comes_with, is_lost}
 use Rattle.pcef_session.specs.private.Keys as kept
 use Rattle.pcef_session.specs.Shown.{Shows, StandsFor}
 use Rattle.pcef_model.proofs.BoundRules.{NamesOnce}
 use Rattle.pcef_lists.proofs.Found.{any_from}
-use Rattle.pcef_model.proofs.Members.{first_there, later_there}
 use Rattle.pcef_model.proofs.Decisive.{made_once}
 use Rattle.pcef_session.proofs.ShownVerdicts.{rule_is}
 use Rattle.pcef_session.proofs.NextTables.{all_count_from, all_on_from}

@@ -2,7 +2,7 @@
 use Rattle.std.proofs.Common.{◌≡◌, ◌∙◌, ◌≤◌, ◌<◌, ◌+◌, ◌||◌, ℕ, suc, Bool, true, false, List, [], ◌∷◌, length, refl, sym, ap, arith, None}
 use Rattle.std.specs.List.{list_any}
 use Rattle.std.specs.Prelude.{nat_le}
-use Rattle.std.proofs.lemmas.Bool.{leb-false, le-leb, lt-leb}
+use Rattle.std.proofs.lemmas.Bool.{leb-false}
 use Rattle.pcef_model.specs.declared.answer.Refusal.TheVariants as refusal
 use Rattle.pcef_model.specs.declared.command.Command.{Command}
 use Rattle.pcef_model.specs.declared.command.Command.TheVariants.{Install, Activate, Remove, Monitor, Stop, ReportNow, Triggers, Notice, LoseBearer, Close, Terminate}
@@ -14,8 +14,7 @@ use Rattle.pcef_model.specs.declared.telling.Telling.{Telling}
 use Rattle.pcef_model.specs.Setting.{Setting}
 use Rattle.pcef_model.specs.Entries.{Journal, commands}
 use Rattle.pcef_model.specs.Journals.{report_count}
-use Rattle.pcef_model.specs.Refusals.{Conditions, common_refusals, ended, first_of, first_refusals, is_close, is_terminate, limited_count, own_refusals, refusals, was_closed, was_terminated}
-use Rattle.pcef_model.specs.declared.answer.Refusal.{Refusal}
+use Rattle.pcef_model.specs.Refusals.{common_refusals, first_of, first_refusals, is_close, is_terminate, limited_count, own_refusals, refusals, was_closed, was_terminated}
 use Rattle.pcef_model.specs.Reports.{after_command, after_flush, body_of, plan, tell, thresholds, with_rows}
 use Rattle.pcef_model.proofs.Acceptance.{condition_none, conditions_none}
 use Rattle.pcef_session.specs.private.Soundness.{EndsAgree, ends_met}

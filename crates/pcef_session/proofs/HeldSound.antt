@@ -1,5 +1,5 @@
 -- What always holds of all that a session keeps.
-use Rattle.std.proofs.Common.{◌≡◌, ◌≤◌, ◌+◌, ℕ, Bool, true, false, [], ◌∷◌, length, ap, subst, arith, inl, inr}
+use Rattle.std.proofs.Common.{◌≤◌, ◌+◌, ℕ, Bool, true, false, [], ◌∷◌, length, ap, arith, inl, inr}
 use Rattle.std.proofs.lemmas.Bool.{cases_Bool}
 use Rattle.pcef_model.specs.declared.entry.Entry.TheVariants as entry
 use Rattle.pcef_model.specs.Entries.{Journal, commands}
@@ -7,7 +7,6 @@ use Rattle.pcef_model.specs.Journals.{gen}
 use Rattle.pcef_model.specs.Commands.{is_table}
 use Rattle.pcef_model.proofs.Growth.{tables_of_other, tables_of_table}
 use Rattle.pcef_session.specs.private.Parts.{Agrees, Held}
-use Rattle.pcef_session.specs.SessionModel.{SessionModel}
 use Rattle.pcef_session.specs.private.Soundness.{IsSound, ends_met, held_of}
 use Rattle.pcef_session.specs.declared.state.SessionState.TheInside.{Inside}
 

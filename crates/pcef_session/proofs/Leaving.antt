@@ -1,6 +1,6 @@
 -- Workers that come and leave, and the room that each leaving has.
 use Rattle.std.proofs.Common.{Bool}
-use Rattle.std.proofs.Common.{◌≡◌, ◌∙◌, ◌≤◌, ◌<◌, ◌+◌, ℕ, suc, List, [], ◌∷◌, length, refl, sym, ap, subst, arith, inl, inr, Ok, Err, Some, None, true, false, not, map}
+use Rattle.std.proofs.Common.{◌≡◌, ◌∙◌, ◌≤◌, ◌<◌, ◌+◌, ℕ, List, [], ◌∷◌, length, refl, sym, ap, arith, inl, inr, Ok, Err, Some, None, true, false}
 use Rattle.std.specs.Result.{is_err}
 use Rattle.std.specs.Prelude.{All, OnOk, Option, Result, filter, nat_le, nat_lt, ◌||◌, ◌==◌, if◌then◌else◌}
 use Rattle.std.specs.List.{list_any}
@@ -14,19 +14,17 @@ use Rattle.pcef_model.specs.declared.answer.FlushRefusal.TheVariants as flush
 use Rattle.pcef_model.specs.declared.answer.Refusal.TheVariants as refusal
 use Rattle.pcef_model.specs.declared.command.Command.{Command}
 use Rattle.pcef_model.specs.declared.command.Command.TheVariants.{Terminate}
-use Rattle.pcef_model.specs.declared.telling.Telling.{Telling}
 use Rattle.pcef_model.specs.Setting.{Setting}
-use Rattle.pcef_model.specs.Entries.{Journal, commands, lane, rows}
-use Rattle.pcef_model.specs.Journals.{attach_count, attached, lane_len, report_count}
+use Rattle.pcef_model.specs.Entries.{Journal, commands, rows}
+use Rattle.pcef_model.specs.Journals.{attach_count, attached, lane_len}
 use Rattle.pcef_model.specs.Answers.{Attaches, Finishes, Flushes, Told, attach_outcome, finish_outcome, finish_outcome_by, flush_outcome, flush_outcome_by, told}
 use Rattle.pcef_model.specs.Refusals.{attach_faults, first_of, flush_refusals, is_attached, own_refusals, was_closed, was_terminated}
-use Rattle.pcef_model.specs.Reports.{after_command, after_finish, after_flush, after_leave, body_of, plan, tell, thresholds, with_rows}
+use Rattle.pcef_model.specs.Reports.{after_command, after_flush, after_leave, with_rows}
 use Rattle.pcef_model.proofs.Acceptance.{condition_none}
 use Rattle.pcef_model.proofs.Onward.{attach_count_after_command, attach_count_after_flush, attached_after_command, attached_after_flush, flushed_once, rows_after_command, rows_after_flush}
 use Rattle.pcef_lane.specs.declared.lanes.LaneEnd.{LaneEnd}
-use Rattle.pcef_lane.specs.Lanes.{LanesAgree, at_start}
+use Rattle.pcef_lane.specs.Lanes.{LanesAgree}
 use Rattle.pcef_lane.proofs.LaneEnds.{attached_with, count_with, lanes_rows, lanes_same}
-use Rattle.pcef_session.specs.private.Soundness.{EndsAgree}
 use Rattle.pcef_session.specs.private.Taking.{with_lane}
 
 -- ---- rows
@@ -74,8 +72,6 @@ pub flush_taken : (p : Setting) (j new : Journal) (worker : ℕ) (rs : List Row)
     new ≡ after_flush p j rs → v ≡ told rs j new → Flushes p worker rs j (Ok v) new
 unfolding flush_outcome
 flush_taken p j new worker rs v is after told_is = inl (rw (← is) (ap (λ w. Ok w) (told_is ∙ ap (told rs j) after), after))
-
-
 
 pub flush_lacks : (p : Setting) (j : Journal) (worker : ℕ) (rs : List Row) → None ≡ first_of (flush_refusals p j worker (length rs)) → Flushes p worker rs j (Err flush.NoMemory) j
 flush_lacks p j worker rs accepted = inr (sym accepted, (refl, refl))

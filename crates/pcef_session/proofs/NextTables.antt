@@ -17,7 +17,7 @@ use Rattle.pcef_table.specs.declared.entry.Source.{Source}
 use Rattle.pcef_table.specs.declared.entry.Source.TheVariants.{Dynamic, Predefined}
 use Rattle.pcef_catalog.specs.declared.listing.Offer.{Offer}
 use Rattle.pcef_table.specs.Sources.{IsKnown, name_of, rank_of}
-use Rattle.pcef_table.specs.Tables.{GoesBefore, IsTable, TableValue, placed, with_counting, without, without_taken, is_taken}
+use Rattle.pcef_table.specs.Tables.{GoesBefore, IsTable, TableValue, placed, with_counting, without_taken, is_taken}
 use Rattle.pcef_lists.proofs.Foremost.{ordered_head, ordered_tail}
 use Rattle.pcef_table.proofs.Ordered.{apart, counting_is_table, placed_is_table, part_is_table}
 use Rattle.pcef_model.specs.declared.entry.Entry.TheVariants as entry
@@ -40,14 +40,13 @@ use Rattle.pcef_usage.specs.Keys.{has_slot, keys_of, place_of as place_in}
 use Rattle.pcef_usage.specs.Tellings.{AllCount, AllOn, Counts, OnIs}
 use Rattle.pcef_usage.proofs.Slots.{slot_of_on}
 use Rattle.pcef_usage.proofs.Tells.{all_same}
-use Rattle.pcef_session.specs.private.Parts.{Agrees, Held}
+use Rattle.pcef_session.specs.private.Parts.{Held}
 use Rattle.pcef_session.specs.Agreement.{KeyAgrees}
 use Rattle.pcef_bearer.specs.Bindings.{Binding, id_beside, without as bound_without}
 use Rattle.pcef_session.specs.declared.prepared.Activation.{Activation}
 use Rattle.pcef_bearer.specs.Standing.{binding_of}
 use Rattle.pcef_session.specs.Preparing.{IsActivationOf, IsTableAfter}
 use Rattle.pcef_model.specs.Changes.{MakesActive}
-use Rattle.pcef_session.specs.SessionModel.{SessionModel}
 use Rattle.pcef_session.specs.private.Keys.{is_on, key_switched, switches_on}
 use Rattle.pcef_model.specs.Refusals.{becoming_active, first_of, refusals}
 use Rattle.pcef_session.specs.Shown.{Shows, StandsFor, rule_of}

@@ -1,27 +1,25 @@
 -- What the refusals of commands come to in a journal that nothing ended.
 use Rattle.std.proofs.Common.{Bool}
-use Rattle.std.proofs.Common.{◌≡◌, ◌∙◌, ◌≤◌, ◌<◌, ℕ, true, false, not, ◌&&◌, List, [], ◌∷◌, ◌++◌, length, refl, sym, ap, arith, Some, None, nat_le, true≢false, inl, inr}
-use Rattle.std.specs.Prelude.{Option, is_none, is_some, if◌then◌else◌, ◌==◌}
+use Rattle.std.proofs.Common.{◌≡◌, ◌∙◌, ℕ, true, false, not, ◌&&◌, List, [], ◌∷◌, ◌++◌, length, refl, sym, ap, arith, Some, None, nat_le, true≢false, inl, inr}
+use Rattle.std.specs.Prelude.{Option, is_none, is_some, if◌then◌else◌}
 use Rattle.std.specs.Option.{option_map}
-use Rattle.std.proofs.lemmas.Bool.{cases_Bool, le-leb, lt-leb}
+use Rattle.std.proofs.lemmas.Bool.{cases_Bool}
 use Rattle.pcef_rule.specs.declared.rule.Properties.{Properties}
 use Rattle.pcef_catalog.specs.declared.listing.Offer.{Offer}
 use Rattle.pcef_model.specs.declared.command.Command.TheVariants.{Install, Activate, Remove, Monitor, Stop, ReportNow, Triggers, Notice, LoseBearer, Close, Terminate}
 use Rattle.pcef_model.specs.declared.entry.Entry.TheVariants as entry
 use Rattle.pcef_model.specs.Setting.{most_rules, Setting, offer_named}
 use Rattle.pcef_model.specs.ActiveRules.{predefined, without}
-use Rattle.pcef_model.specs.Commands.{is_among}
 use Rattle.pcef_model.specs.Entries.{Journal, commands}
 use Rattle.pcef_model.specs.Journals.{now, slots}
 use Rattle.pcef_usage.specs.declared.usage.KeyState.{KeyState}
 use Rattle.pcef_usage.specs.Keys.{finds_no_slot as slotless, keys_of}
 use Rattle.pcef_usage.proofs.Monitors.{finds_no_slot_is}
 use Rattle.pcef_model.specs.declared.answer.Refusal.{Refusal}
-use Rattle.pcef_model.specs.declared.answer.Refusal.TheVariants.{UnknownKey, ZeroGrant, CommandsFull, RulesFull, KeysFull, NameIsPredefined, UnknownRule, ZeroGrant, UnknownKey}
-use Rattle.pcef_model.specs.Refusals.{Conditions, becoming_active, becoming_active_if, bindings, common_refusals, finds_no_slot, first_of, is_active, limited_count, was_closed, was_terminated, refusals}
+use Rattle.pcef_model.specs.declared.answer.Refusal.TheVariants.{RulesFull, KeysFull, NameIsPredefined, UnknownRule}
+use Rattle.pcef_model.specs.Refusals.{Conditions, becoming_active, becoming_active_if, bindings, finds_no_slot, first_of, is_active, limited_count, was_closed, was_terminated}
 use Rattle.pcef_session.specs.declared.prepared.Activation.{Activation}
 use Rattle.pcef_session.specs.Preparing.{Activates}
-use Rattle.pcef_model.specs.declared.command.Command.{Command}
 
 -- ---- conditions one after the other
 pub first_after : {R : Type 0} (cs ds : Conditions R) → None ≡ first_of cs → first_of (cs ++ ds) ≡ first_of ds

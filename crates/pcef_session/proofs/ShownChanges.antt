@@ -17,10 +17,9 @@ use Rattle.pcef_table.specs.Sources.{name_of, no_rank, origin_of, properties_of,
 use Rattle.pcef_table.specs.Tables.{IsTable, TableValue, has_other_name, is_before, is_behind, is_slot, placed, with_counting, without}
 use Rattle.pcef_model.specs.declared.entry.Entry.TheVariants as entry
 use Rattle.pcef_model.specs.declared.command.Command.{Command}
-use Rattle.pcef_model.specs.declared.command.Command.TheVariants.{Remove, Monitor, Stop}
+use Rattle.pcef_model.specs.declared.command.Command.TheVariants.{Monitor, Stop}
 use Rattle.pcef_model.specs.Setting.{Setting, same_name, same_qos}
 use Rattle.pcef_model.specs.ActiveRules.{Active, has_key, is_key, put}
-use Rattle.pcef_model.specs.ActiveRules as rules
 use Rattle.pcef_model.specs.Generations.{Generation, id_after, next, rules_after, slots_of, still_on}
 use Rattle.pcef_model.specs.Commands.{add_key, is_among, switched, is_table}
 use Rattle.pcef_model.specs.Bearers.{default_id}
@@ -30,7 +29,6 @@ use Rattle.pcef_model.proofs.Growth.{at_newest, gen_after_table, now_after_table
 use Rattle.pcef_lists.proofs.Tests.{contrary}
 use Rattle.pcef_model.proofs.Sameness.{same_name_is, same_name_of, same_qos_self, same_name_not, same_name_turned}
 use Rattle.pcef_model.specs.declared.entry.Entry.TheVariants as entry
-use Rattle.pcef_model.specs.ActiveRules as rules
 use Rattle.pcef_usage.proofs.Gone.{among_filter}
 use Rattle.pcef_usage.proofs.Slots.{is_among_add}
 use Rattle.pcef_model.specs.Changes.{MakesActive}

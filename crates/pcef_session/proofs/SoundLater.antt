@@ -19,9 +19,7 @@ use Rattle.std.specs.Prelude.{Option, not}
 use Rattle.pcef_lists.proofs.Keeping.{filter_length}
 use Rattle.pcef_rule.specs.declared.quantity.BearerId.{BearerId}
 use Rattle.pcef_model.specs.declared.command.Command.{Command}
-use Rattle.pcef_model.specs.declared.command.Command.TheVariants.{Install, Activate, Remove, Monitor, Stop, ReportNow, Triggers, Notice, LoseBearer, Close, Terminate}
 use Rattle.pcef_model.specs.declared.entry.Entry.TheVariants as entry
-use Rattle.pcef_model.specs.ActiveRules.{is_named}
 use Rattle.pcef_model.specs.Reports.{after_command}
 use Rattle.pcef_usage.specs.Keys.{finds_no_slot as slotless, keys_of}
 use Rattle.pcef_usage.proofs.Afterwards.{few_entered}
@@ -33,7 +31,7 @@ use Rattle.pcef_model.specs.Refusals.{first_of, refusals}
 use Rattle.pcef_model.specs.declared.row.Row.{Row}
 use Rattle.pcef_model.specs.Setting.{Setting}
 use Rattle.pcef_model.specs.Entries.{Journal, commands}
-use Rattle.pcef_model.specs.Generations.{Generation, at_first as before_all, rules_after, stays}
+use Rattle.pcef_model.specs.Generations.{at_first as before_all, rules_after, stays}
 use Rattle.pcef_model.specs.Commands.{key_named, activated}
 use Rattle.pcef_model.specs.Journals.{attach_count, no_triggers, now, slots}
 use Rattle.pcef_usage.specs.declared.usage.KeyState.{KeyState}

@@ -1,38 +1,27 @@
 -- The rules that a command takes away: what it leaves of the table, and of what a session keeps by name.
-use Rattle.std.proofs.Common.{◌≡◌, ◌∙◌, ◌+◌, ℕ, Bool, true, false, ◌&&◌, ◌||◌, not, List, [], ◌∷◌, length, refl, sym, ap, subst, arith, inl, inr, filter, map, Contains, Some, None, ◌==◌}
-use Rattle.std.specs.Prelude.{Option}
+use Rattle.std.proofs.Common.{◌≡◌, ◌∙◌, ◌+◌, ℕ, Bool, true, false, not, List, [], ◌∷◌, refl, sym, ap, subst, arith, inl, inr, filter, Contains, None}
 use Rattle.std.specs.List.{list_any}
 use Rattle.std.proofs.lemmas.Bool.{cases_Bool}
 use Rattle.pcef_table.specs.declared.entry.Entry.{Entry}
-use Rattle.std.specs.Option.{option_map_or}
-use Rattle.pcef_rule.specs.declared.rule.Properties.{Properties}
-use Rattle.pcef_table.specs.Sources.{name_of, properties_of}
 use Rattle.pcef_table.specs.Tables.{IsTable, TableValue, is_taken, without_taken}
 use Rattle.pcef_catalog.specs.declared.listing.Offer.{Offer}
-use Rattle.pcef_bearer.specs.Bindings.{Binding, with_rules}
-use Rattle.pcef_bearer.specs.declared.bearers.Bound.{Bound}
+use Rattle.pcef_bearer.specs.Bindings.{Binding}
 use Rattle.pcef_model.specs.declared.command.Command.{Command}
 use Rattle.pcef_model.specs.declared.command.Command.TheVariants.{Install, Activate, Remove, Monitor, Stop, ReportNow, Triggers, Notice, LoseBearer, Close, Terminate}
 use Rattle.pcef_model.specs.declared.entry.Entry.TheVariants as entry
-use Rattle.pcef_model.specs.Setting.{Setting, same_name}
+use Rattle.pcef_model.specs.Setting.{Setting}
 use Rattle.pcef_model.specs.ActiveRules.{is_named as rule_named}
 use Rattle.pcef_bearer.specs.Bindings.{is_named}
 use Rattle.pcef_model.specs.ActiveRules.{Active}
-use Rattle.pcef_model.specs.Generations.{Generation, id_after, next, rules_after, stays}
+use Rattle.pcef_model.specs.Generations.{Generation, next, rules_after, stays}
 use Rattle.pcef_model.specs.Commands.{switched, is_table, activated, takes_away}
 use Rattle.pcef_model.specs.Entries.{Journal}
-use Rattle.pcef_model.specs.Journals.{at, gen, now}
+use Rattle.pcef_model.specs.Journals.{gen, now}
 use Rattle.pcef_model.proofs.Growth.{at_newest}
-use Rattle.pcef_bearer.specs.Standing.{binding_of, bound_of}
-use Rattle.pcef_usage.specs.declared.usage.KeyState.{KeyState}
-use Rattle.pcef_usage.specs.Commands.{loses_rules}
-use Rattle.pcef_session.specs.private.Keys.{some_entry, key_switched}
+use Rattle.pcef_session.specs.private.Keys.{key_switched}
 use Rattle.pcef_session.specs.Shown.{Shows, StandsFor}
 use Rattle.pcef_model.specs.Slots.{counts_now}
 use Rattle.pcef_lists.proofs.Found.{any_from}
-use Rattle.pcef_session.proofs.ShownVerdicts.{rule_is}
-use Rattle.pcef_model.proofs.BearerIds.{IsBound}
-use Rattle.pcef_bearer.proofs.BoundBearers.{bound_by, filter_map_of, part_bound}
 use Rattle.pcef_model.proofs.Members.{filter_from, filter_to, first_there, later_there}
 use Rattle.pcef_session.proofs.ShownChanges.{Fives, each_now, name_is, only_now, shows_next, stands_next, still}
 use Rattle.pcef_model.proofs.BoundRules.{NamesOnce}

@@ -1,10 +1,7 @@
 -- Tests, and lists of which some element passes one.
-use Rattle.std.proofs.Common.{◌≡◌, ◌∙◌, Bool, true, false, ◌&&◌, ◌||◌, not, ℕ, List, [], ◌∷◌, refl, sym, ap, inl, inr, filter, Contains, None, Some}
-use Rattle.std.specs.Prelude.{Option}
+use Rattle.std.proofs.Common.{◌≡◌, Bool, true, false, ◌&&◌, ◌||◌, not, List, [], ◌∷◌, refl, sym, ap, inl, inr, filter, Contains}
 use Rattle.std.specs.List.{list_any}
-use Rattle.std.specs.Option.{option_map_or}
-use Rattle.std.proofs.lemmas.Bool.{cases_Bool, or_cases, or_parts}
-use Rattle.pcef_lists.proofs.Found.{any_from}
+use Rattle.std.proofs.lemmas.Bool.{cases_Bool, or_cases}
 use Rattle.pcef_model.proofs.Members.{first_there, later_there}
 
 -- two tests that imply each other are one

@@ -1,20 +1,15 @@
 -- When what a session keeps beside its journal agrees with it.
 use Rattle.std.specs.Prelude.{ℕ, ◌≡◌, ◌+◌, List, [], ◌∷◌, Some, map}
 use Rattle.std.specs.List.{AllByRecursion}
-use Rattle.pcef_bearer.specs.Bindings.{Binding}
-use Rattle.pcef_model.specs.declared.trigger.TriggerSet.{TriggerSet}
 use Rattle.pcef_model.specs.Setting.{Setting}
 use Rattle.pcef_model.specs.ActiveRules.{Active}
 use Rattle.pcef_model.specs.Commands.{is_among}
 use Rattle.pcef_model.specs.Entries.{Journal}
-use Rattle.pcef_model.specs.Journals.{counted, gen, grant, now, reported, slots, subscribed}
+use Rattle.pcef_model.specs.Journals.{counted, grant, now, reported, slots}
 use Rattle.pcef_table.specs.declared.entry.Source.{Source}
 use Rattle.pcef_catalog.specs.declared.listing.Offer.{Offer}
-use Rattle.pcef_table.specs.Tables.{TableValue}
 use Rattle.pcef_usage.specs.declared.usage.KeyState.{KeyState}
-use Rattle.pcef_bearer.specs.Standing.{binding_of}
-use Rattle.pcef_model.specs.Lawful.{Lawful}
-use Rattle.pcef_session.specs.Shown.{Shows, rule_of}
+use Rattle.pcef_session.specs.Shown.{rule_of}
 
 -- ---- rules
 -- these are the rules by name, in their order: a dynamic rule is kept itself, a predefined one by its

@@ -1,16 +1,10 @@
 -- The slots that rows count for.
-use Rattle.std.specs.Prelude.{◌≡◌, ◌<◌, Bool, List, [], ◌∷◌, Option, All, map, ◌^◌}
+use Rattle.std.specs.Prelude.{◌<◌, List, Option, All, ◌^◌}
 use Rattle.pcef_rule.specs.declared.quantity.Slot.{Slot}
 use Rattle.pcef_model.specs.declared.row.Row.{Row}
 use Rattle.pcef_model.specs.Setting.{Setting}
 use Rattle.pcef_model.specs.Entries.{Journal}
-use Rattle.pcef_model.specs.Journals.{counts, slots}
-use Rattle.pcef_usage.specs.declared.usage.KeyState.{KeyState}
-use Rattle.pcef_usage.specs.Counted.{Counted}
-use Rattle.pcef_usage.specs.Flushes.{rows_counted}
-use Rattle.pcef_usage.specs.Keys.{CanCount, with_octets}
-use Rattle.pcef_usage.specs.Tellings.{settled_states, settled_tellings, states_told, told}
-use Rattle.pcef_model.specs.Reports.{with_rows}
+use Rattle.pcef_model.specs.Journals.{slots}
 use Rattle.pcef_session.specs.declared.batch.Item.{Item}
 use Rattle.pcef_model.specs.Slots.{CountsFor, IsWithin}
 

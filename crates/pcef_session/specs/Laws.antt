@@ -1,27 +1,20 @@
 -- Laws of lawful journals, for whoever reads the definitions.
-use Rattle.std.specs.Prelude.{ℕ, ◌≡◌, ◌≤◌, ◌+◌, ◌==◌, true, List, ◌∷◌, Some, map, filter, Contains}
+use Rattle.std.specs.Prelude.{ℕ, ◌≡◌, ◌≤◌, true, List, ◌∷◌, Some, Contains}
 use Rattle.pcef_packet.specs.declared.header.Header.{Header}
-use Rattle.pcef_rule.specs.declared.quantity.Slot.{Slot}
-use Rattle.pcef_rule.specs.declared.quantity.Sums.{Sums}
 use Rattle.pcef_bearer.specs.Bindings.{bearer_of, guaranteed}
-use Rattle.pcef_rule.specs.Definition.{Definition}
 use Rattle.pcef_model.specs.declared.verdict.Verdict.{Verdict}
-use Rattle.pcef_table.specs.declared.entry.Entry.{Entry}
-use Rattle.pcef_table.specs.Tables.{IsTable, TableValue, placed, with_counting, without}
+use Rattle.pcef_table.specs.Tables.{TableValue}
 use Rattle.pcef_table.specs.Verdicts.{IsVerdict, slot_for}
 use Rattle.pcef_model.specs.declared.command.Command.{Command}
-use Rattle.pcef_model.specs.declared.command.Command.TheVariants.{Activate, Install, Monitor, Remove}
 use Rattle.pcef_model.specs.declared.entry.Entry.TheVariants as entry
-use Rattle.pcef_model.specs.ActiveRules.{Active, dynamic, predefined}
-use Rattle.pcef_catalog.specs.declared.listing.Offer.{Offer}
-use Rattle.pcef_model.specs.Setting.{Setting, offer_named}
+use Rattle.pcef_model.specs.ActiveRules.{Active}
+use Rattle.pcef_model.specs.Setting.{Setting}
 use Rattle.pcef_model.specs.Entries.{Journal}
 use Rattle.pcef_model.specs.Journals.{at, counts_in, gen, judged, now, slots}
-use Rattle.pcef_session.specs.private.Parts.{Agrees, Parts}
-use Rattle.pcef_model.specs.Refusals.{total_down, total_up, rate_of}
-use Rattle.pcef_model.specs.Slots.{has_this_slot, place_of}
+use Rattle.pcef_model.specs.Refusals.{rate_of}
+use Rattle.pcef_model.specs.Slots.{has_this_slot}
 use Rattle.pcef_model.specs.Lawful.{Lawful}
-use Rattle.pcef_session.specs.Shown.{Shows, StandsFor}
+use Rattle.pcef_session.specs.Shown.{Shows}
 use Rattle.pcef_bearer.specs.Standing.{binding_of}
 use Rattle.pcef_rule.specs.declared.quantity.Qos.{Qos}
 use Rattle.pcef_model.specs.Generations.{has_bearer}

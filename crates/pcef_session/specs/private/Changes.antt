@@ -8,23 +8,19 @@ use Rattle.pcef_model.specs.declared.telling.Telling.TheVariants.{Inactive}
 use Rattle.pcef_model.specs.Reports.{in_order}
 use Rattle.pcef_bearer.specs.Bindings.{is_named}
 use Rattle.std.specs.Prelude.{ℕ, ◌≡◌, List, Option, Some, None, Bool, filter, not}
-use Rattle.std.specs.Option.{option_map}
-use Rattle.indexmap.specs.IndexMap.{insert_entry, shift_remove_entry}
+use Rattle.indexmap.specs.IndexMap.{insert_entry}
 use Rattle.pcef_rule.specs.declared.quantity.BearerId.{BearerId}
 use Rattle.pcef_rule.specs.declared.rule.Properties.{Properties}
 use Rattle.pcef_bearer.specs.Bindings.{Binding, HasRoom, bound_at, id_beside, put, refusals, with_rules, without}
 use Rattle.pcef_model.specs.Refusals.{first_of}
 use Rattle.pcef_model.specs.declared.command.Command.{Command}
-use Rattle.pcef_model.specs.declared.command.Command.TheVariants.{Activate, Install, Monitor, Remove}
-use Rattle.pcef_model.specs.Setting.{Setting, offer_named, same_name}
-use Rattle.pcef_model.specs.ActiveRules.{Active, dynamic, predefined}
+use Rattle.pcef_model.specs.declared.command.Command.TheVariants.{Monitor}
+use Rattle.pcef_model.specs.Setting.{same_name}
 use Rattle.pcef_table.specs.declared.entry.Source.{Source}
 use Rattle.pcef_usage.specs.declared.usage.KeyState.{KeyState}
 use Rattle.pcef_usage.specs.Commands.{started_by}
 use Rattle.pcef_usage.specs.Keys.{with_slot}
 use Rattle.pcef_session.specs.declared.prepared.Activation.{Activation}
-use Rattle.pcef_session.specs.Shown.{rule_of}
-use Rattle.pcef_model.specs.Changes.{MakesActive}
 use Rattle.std.specs.List.{list_any}
 use Rattle.pcef_model.specs.Commands.{takes_away}
 

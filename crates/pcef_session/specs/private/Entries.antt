@@ -1,5 +1,5 @@
 -- Entries of tables for rules that become active.
-use Rattle.std.specs.Prelude.{ℕ, ◌≡◌, ◌∷◌, List, Some}
+use Rattle.std.specs.Prelude.{◌≡◌, ◌∷◌, List, Some}
 use Rattle.std.specs.Option.{option_map}
 use Rattle.pcef_model.specs.declared.command.Command.{Command}
 use Rattle.pcef_model.specs.declared.entry.Entry.TheVariants as entry

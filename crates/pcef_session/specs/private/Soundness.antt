@@ -1,12 +1,12 @@
 -- What always holds of a session's parts.
 use Rattle.std.specs.Prelude.{Bool, ◌+◌, if◌then◌else◌}
 use Rattle.pcef_lane.specs.Lanes.{LanesAgree}
-use Rattle.std.specs.Prelude.{ℕ, ◌≡◌, ◌≤◌, ◌<◌, ◌^◌, false, List, [], ◌∷◌, All, length, zero, suc}
+use Rattle.std.specs.Prelude.{ℕ, ◌≡◌, ◌≤◌, ◌<◌, ◌^◌, All, length}
 use Rattle.std.specs.Arc.{arc_value}
 use Rattle.indexmap.specs.IndexMap.{spare}
 use Rattle.pcef_model.specs.declared.row.Row.{Row}
 use Rattle.pcef_model.specs.Entries.{Journal, commands, rows}
-use Rattle.pcef_model.specs.Journals.{attach_count, attached}
+use Rattle.pcef_model.specs.Journals.{attached}
 use Rattle.pcef_session.specs.private.Parts.{Agrees, Parts, Held}
 use Rattle.pcef_model.specs.Refusals.{was_closed, was_terminated}
 use Rattle.pcef_model.specs.Terms.{setting_of}

@@ -3,12 +3,8 @@ use Rattle.std.specs.Prelude.{ℕ, length, set, get_or}
 use Rattle.pcef_lane.specs.declared.lanes.LaneEnd.{LaneEnd}
 use Rattle.pcef_lane.specs.Lanes.{at_start, last_generation, lengthened}
 use Rattle.pcef_session.specs.Following.{row_of, slot_of}
-use Rattle.std.specs.Prelude.{◌≡◌, ◌<◌, Bool, List, [], ◌∷◌, Option, All, map, ◌^◌}
-use Rattle.pcef_rule.specs.declared.quantity.Slot.{Slot}
+use Rattle.std.specs.Prelude.{◌≡◌, Bool, List, [], ◌∷◌, map}
 use Rattle.pcef_model.specs.declared.row.Row.{Row}
-use Rattle.pcef_model.specs.Setting.{Setting}
-use Rattle.pcef_model.specs.Entries.{Journal}
-use Rattle.pcef_model.specs.Journals.{counts, slots}
 use Rattle.pcef_usage.specs.declared.usage.KeyState.{KeyState}
 use Rattle.pcef_usage.specs.Counted.{Counted}
 use Rattle.pcef_usage.specs.Flushes.{rows_counted}
@@ -16,7 +12,6 @@ use Rattle.pcef_usage.specs.Keys.{CanCount, with_octets}
 use Rattle.pcef_usage.specs.Tellings.{settled_states, settled_tellings, states_told, told}
 use Rattle.pcef_model.specs.Reports.{with_rows}
 use Rattle.pcef_session.specs.declared.batch.Item.{Item}
-use Rattle.pcef_model.specs.Slots.{CountsFor, IsWithin}
 use Rattle.pcef_session.specs.Following.{row_of}
 
 -- the octets of each row can be counted when its turn comes

@@ -1,4 +1,4 @@
-use Rattle.std.proofs.Common.{rules, ◌∙◌, ap, sym}
+use Rattle.std.proofs.Common.{◌∙◌, ap, sym}
 use Rattle.pcef_bearer.specs.Bindings.{number_of, without}
 use Rattle.pcef_bearer.proofs.GivenIds.{gets_id}
 use Rattle.pcef_bearer.proofs.Kept.{accepted}

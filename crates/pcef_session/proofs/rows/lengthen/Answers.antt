@@ -1,4 +1,4 @@
-use Rattle.std.proofs.Common.{◌≡◌, ◌∙◌, Some, map, sym}
+use Rattle.std.proofs.Common.{sym}
 use Rattle.pcef_session.proofs.RowLoops.{lane_grown}
 use Rattle.pcef_session.proofs.rows.lengthen.Goals as goal
 

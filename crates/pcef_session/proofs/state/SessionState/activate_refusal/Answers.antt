@@ -5,7 +5,6 @@ use Rattle.pcef_model.specs.ActiveRules.{predefined}
 use Rattle.pcef_model.specs.Setting.{offer_named}
 use Rattle.pcef_session.specs.declared.prepared.Activation.{Activation}
 use Rattle.pcef_session.specs.Preparing.{Activates}
-use Rattle.pcef_session.specs.SessionModel.{SessionModel}
 use Rattle.pcef_session.proofs.Refused.{activate_again, activate_new}
 use Rattle.pcef_session.proofs.state.SessionState.activate_refusal.Goals as goal
 

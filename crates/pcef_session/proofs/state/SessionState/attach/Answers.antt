@@ -1,9 +1,7 @@
-use Rattle.std.proofs.Common.{◌≡◌, ◌≤◌, ◌+◌, ◌∙◌, [], ◌∷◌, ap, arith, false, length, refl, suc, sym, subst}
-use Rattle.std.specs.Prelude.{◌||◌}
+use Rattle.std.proofs.Common.{◌≡◌, ◌∙◌, [], ◌∷◌, ap, arith, refl, sym, subst}
 use Rattle.pcef_model.specs.declared.entry.Entry.TheVariants as entry
 use Rattle.pcef_model.specs.Entries.{Journal, lane}
-use Rattle.pcef_model.specs.Journals.{attach_count, attached}
-use Rattle.pcef_model.specs.Refusals.{attach_faults, first_of, was_closed, was_terminated}
+use Rattle.pcef_model.specs.Refusals.{attach_faults, first_of}
 use Rattle.pcef_model.specs.Terms.{setting_of}
 use Rattle.pcef_model.proofs.NewLanes.{new_lane}
 use Rattle.std.specs.Prelude.{Err, None, Ok}

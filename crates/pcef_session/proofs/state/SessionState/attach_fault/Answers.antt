@@ -1,5 +1,5 @@
-use Rattle.std.proofs.Common.{◌≡◌, ◌≤◌, ◌<◌, ◌∙◌, ap, arith, length, sym, subst}
-use Rattle.std.specs.Prelude.{None, Some}
+use Rattle.std.proofs.Common.{◌≡◌, arith, length, sym, subst}
+use Rattle.std.specs.Prelude.{Some}
 use Rattle.pcef_model.specs.Journals.{attach_count}
 use Rattle.pcef_model.specs.Refusals.{attach_faults, first_of}
 use Rattle.pcef_model.specs.declared.answer.AttachFault.TheVariants.{NoPlace}

@@ -1,5 +1,4 @@
 use Rattle.std.proofs.Common.{rules, ◌∙◌, sym}
-use Rattle.pcef_session.specs.SessionModel.{SessionModel}
 use Rattle.pcef_session.proofs.Refused.{becoming_bound, becoming_full, becoming_slotless}
 use Rattle.pcef_session.proofs.state.SessionState.becoming_active.Goals as goal
 

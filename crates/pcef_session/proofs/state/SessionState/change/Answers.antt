@@ -22,7 +22,7 @@ use Rattle.pcef_session.specs.private.Parts.{Parts}
 use Rattle.pcef_session.specs.private.Changes.{CanBind, entered_by, key_of, rule_key}
 use Rattle.pcef_session.specs.SessionModel.{SessionModel}
 use Rattle.pcef_session.specs.Shown.{Shows}
-use Rattle.pcef_session.specs.private.Soundness.{parts_of, held_of, model_of}
+use Rattle.pcef_session.specs.private.Soundness.{parts_of, model_of}
 use Rattle.pcef_model.specs.Terms.{setting_of}
 use Rattle.pcef_model.specs.Commands.{key_named}
 use Rattle.pcef_session.proofs.Activations.{served_key}

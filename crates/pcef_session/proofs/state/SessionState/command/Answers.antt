@@ -1,7 +1,6 @@
 use Rattle.std.proofs.Common.{rules, subst, sym, Err}
 use Rattle.pcef_model.specs.Entries.{Journal}
 use Rattle.pcef_model.specs.Answers.{Does}
-use Rattle.pcef_session.specs.SessionModel.{SessionModel}
 use Rattle.pcef_session.proofs.Commanding.{does_refused}
 use Rattle.pcef_session.proofs.state.SessionState.command.Goals as goal
 

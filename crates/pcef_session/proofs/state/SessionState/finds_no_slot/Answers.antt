@@ -1,4 +1,4 @@
-use Rattle.std.proofs.Common.{◌≡◌, ◌∙◌, subst, ap, refl}
+use Rattle.std.proofs.Common.{◌≡◌, ◌∙◌, subst, ap}
 use Rattle.std.specs.Option.{option_copied}
 use Rattle.pcef_usage.specs.Keys.{finds_no_slot as slotless}
 use Rattle.pcef_session.specs.SessionModel.{SessionModel}

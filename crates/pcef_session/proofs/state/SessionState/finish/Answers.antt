@@ -1,4 +1,4 @@
-use Rattle.std.proofs.Common.{◌≡◌, map}
+use Rattle.std.proofs.Common.{map}
 use Rattle.pcef_session.specs.Following.{row_of}
 use Rattle.pcef_session.proofs.Leaving.{finish_done, finish_refused, flushed_attached}
 use Rattle.pcef_session.proofs.state.SessionState.finish.Goals as goal

@@ -4,7 +4,6 @@ use Rattle.pcef_model.specs.Answers.{told}
 use Rattle.pcef_model.specs.Reports.{after_flush}
 use Rattle.pcef_session.specs.Following.{row_of}
 use Rattle.pcef_model.specs.Refusals.{first_of, flush_refusals}
-use Rattle.pcef_model.specs.Terms.{setting_of}
 use Rattle.pcef_session.proofs.Leaving.{flush_refused, flush_taken}
 use Rattle.pcef_session.proofs.state.SessionState.flush.Goals as goal
 

@@ -1,6 +1,6 @@
 use Rattle.std.proofs.Common.{◌≡◌, ◌∙◌, ◌++◌, ap, subst}
 use Rattle.pcef_model.specs.Journals.{now, subscribed}
-use Rattle.pcef_model.specs.Reports.{asked, ended, inactive, noticed, noticed_by, plan}
+use Rattle.pcef_model.specs.Reports.{asked, ended, inactive, noticed_by}
 use Rattle.pcef_session.specs.SessionModel.{SessionModel}
 use Rattle.pcef_session.proofs.EndedKeys.{plan_is}
 use Rattle.pcef_session.proofs.state.SessionState.plan.Goals as goal

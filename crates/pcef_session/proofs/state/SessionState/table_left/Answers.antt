@@ -1,4 +1,4 @@
-use Rattle.std.proofs.Common.{◌≡◌, ◌∙◌, Some, None, ap, subst, sym}
+use Rattle.std.proofs.Common.{◌≡◌, None, subst, sym}
 use Rattle.pcef_model.specs.Commands.{activated}
 use Rattle.pcef_session.specs.SessionModel.{SessionModel}
 use Rattle.pcef_session.specs.private.Entries.{ShowsNext}

@@ -1,7 +1,5 @@
-use Rattle.std.proofs.Common.{◌≡◌, ◌∙◌, Some, None, ap, subst, sym, refl, true}
+use Rattle.std.proofs.Common.{◌≡◌, Some, None, subst, sym, refl, true}
 use Rattle.pcef_bearer.specs.Bindings.{Binding, refusals as bound_refusals, without}
-use Rattle.pcef_bearer.specs.Standing.{binding_of}
-use Rattle.pcef_model.specs.Journals.{now}
 use Rattle.pcef_model.specs.Refusals.{first_of, refusals, becoming_active}
 use Rattle.pcef_model.specs.Answers.{changes}
 use Rattle.pcef_model.specs.Commands.{activated}

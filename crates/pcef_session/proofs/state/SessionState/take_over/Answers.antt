@@ -1,4 +1,4 @@
-use Rattle.std.proofs.Common.{ap, ◌<◌, ◌^◌}
+use Rattle.std.proofs.Common.{ap}
 use Rattle.pcef_model.proofs.Lanes.{lane_few}
 use Rattle.pcef_lane.specs.declared.lanes.LaneEnd.{LaneEnd}
 use Rattle.pcef_lane.proofs.LaneEnds.{attached_came, attached_len, end_is}
