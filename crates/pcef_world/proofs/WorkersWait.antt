@@ -28,12 +28,11 @@ use Rattle.pcef_session.specs.declared.batch.Item.{Item}
 use Rattle.pcef_world.specs.declared.worker.Worker.{Worker}
 use Rattle.pcef_model.specs.Slots.{CountsFor, IsWithin, slot_of}
 use Rattle.pcef_session.specs.Following.{HasItsSlots, row_of}
-use Rattle.pcef_model.specs.Lawful.{BatchFollows, Lawful, RowFollows, RowsFollow, newest_generation}
+use Rattle.pcef_model.specs.Lawful.{BatchFollows, RowFollows, RowsFollow, newest_generation}
 use Rattle.pcef_model.specs.Refusals.{first_of, flush_refusals, is_attached}
 use Rattle.pcef_session.specs.Shown.{Shows}
 use Rattle.pcef_world.specs.Workers.{IsJudged, Waits, held_by, with_item}
 use Rattle.pcef_model.proofs.Lanes.{lane_few, lane_len_with, lane_other, lane_with, with_rows_push}
-use Rattle.pcef_model.proofs.NewLanes.{new_lane}
 use Rattle.pcef_model.proofs.Onward.{Onward, attached_after_flush, flushed_fits, onward_same, rows_after_flush, tables_after_flush}
 use Rattle.pcef_model.proofs.RowsLater.{batch_empty, batch_later, batch_push}
 use Rattle.pcef_session.proofs.ShownLater.{shows_later, shows_same}

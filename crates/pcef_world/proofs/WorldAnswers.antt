@@ -1,12 +1,11 @@
 -- What the steps of a world's workers answer, as its callers see them.
-use Rattle.std.proofs.Common.{◌≡◌, ◌∙◌, ◌≤◌, ◌<◌, ℕ, true, false, List, [], ◌∷◌, ◌++◌, length, map, refl, sym, ap, subst, arith, inl, inr, Some, None, Ok, Err, get_or}
-use Rattle.std.specs.Prelude.{MatchResult, Option, Result, nat_le, slice_get, slice_set}
+use Rattle.std.proofs.Common.{◌≡◌, ◌∙◌, ◌≤◌, ◌<◌, ℕ, true, false, List, [], ◌∷◌, ◌++◌, length, map, refl, sym, ap, subst, arith, inl, inr, Some, None, Ok, Err}
+use Rattle.std.specs.Prelude.{Option, Result, nat_le, slice_get, slice_set}
 use Rattle.std.specs.Option.{option_map}
-use Rattle.std.specs.Result.{IsErrAnd, result_map_both}
+use Rattle.std.specs.Result.{result_map_both}
 use Rattle.std.proofs.lemmas.Bool.{cases_lt, false≢true, le-leb, lt-leb}
-use Rattle.std.proofs.lemmas.List.{length-map, map-append, map-set}
-use Rattle.std.proofs.lemmas.Option.{slice_get-map, slice_get_past, slice_get_read}
-use Rattle.std.proofs.Math.Seq.{map-set_same}
+use Rattle.std.proofs.lemmas.List.{length-map, map-append}
+use Rattle.std.proofs.lemmas.Option.{slice_get_past}
 use Rattle.pcef_packet.specs.declared.header.Addr.{Addr}
 use Rattle.pcef_packet.specs.declared.header.Header.{Header}
 use Rattle.pcef_catalog.specs.declared.listing.Offer.{Offer}
@@ -19,14 +18,13 @@ use Rattle.pcef_session.specs.declared.batch.BatchFull.{BatchFull}
 use Rattle.pcef_session.specs.declared.batch.Item.{Item}
 use Rattle.pcef_world.specs.declared.worker.Worker.{Worker}
 use Rattle.pcef_world.specs.declared.world.StepRefusal.{StepRefusal}
-use Rattle.pcef_world.specs.declared.world.StepRefusal.TheVariants.{NoWorker, Refused}
-use Rattle.pcef_session.specs.private.Parts.{Agrees}
+use Rattle.pcef_world.specs.declared.world.StepRefusal.TheVariants.{NoWorker}
 use Rattle.pcef_model.specs.Answers.{Finishes, Flushes, told_and_rows, told_of}
 use Rattle.pcef_session.specs.SessionModel.{SessionModel}
 use Rattle.pcef_session.specs.Following.{row_of}
-use Rattle.pcef_world.specs.Workers.{AbandonsAt, FinishesPlace, HandsOverAt, HoldsAt, IsJudged, TakesAt, Waits, after_finishing, after_flushing, held_by, with_item, wrapped}
+use Rattle.pcef_world.specs.Workers.{AbandonsAt, FinishesPlace, HandsOverAt, HoldsAt, IsJudged, TakesAt, Waits, held_by, with_item}
 use Rattle.pcef_world.specs.WorldSoundness.{IsSoundWith, seen}
-use Rattle.pcef_world.specs.Worlds.{Abandons, FinishesAt, FinishesBy, HandsOver, HandsOverBy, Refreshes, Takes, Waiting, abandoned_of, if_there, refresh_outcome, row_taken, take_outcome, take_outcome_by, with_generation, with_row, worker_at}
+use Rattle.pcef_world.specs.Worlds.{Abandons, FinishesAt, HandsOver, Refreshes, Takes, Waiting, if_there, refresh_outcome, row_taken, take_outcome, take_outcome_by, with_generation, with_row, worker_at}
 use Rattle.pcef_world.proofs.WorkersWait.{row_made}
 use Rattle.pcef_world.proofs.WrittenLists.{get_mapped, set_mapped, set_same}
 use Rattle.pcef_world.specs.declared.world.Abandoned.{Abandoned}
@@ -86,7 +84,7 @@ taken_as s workers i (Some w) new header out sound there (Ok count, v, (few, cou
     rw room (
       out_is ∙ ap (λ n. Ok n) (omega (arith, count_is, same)),
       seen_set workers i new (Some (with_row (row_taken s.setting s.journal i (seen w) header) (seen w)))
-      (ap (option_map seen) put ∙ ap (λ (x : Waiting). Some x) (seen_taken s i w v header item waits made new_is)),
+          (ap (option_map seen) put ∙ ap (λ (x : Waiting). Some x) (seen_taken s i w v header item waits made new_is)),
     )
 taken_as s workers i (Some w) new header out sound there (Err full, v, (many, kept), out_is, put) =
     let full_is : nat_le 32 (length (map row_of w.waiting)) ≡ true = le-leb 32 (length (map row_of w.waiting)) (omega (arith, many, length-map w.waiting row_of)) in
@@ -186,7 +184,7 @@ abandons_answer s t workers i (Some w) new out sound there (out_is, is, none) =
     let number : w.number ≡ i = (sound.wait i w there).number_is in
     rw (seen_at workers i (Some w) there) (
       out_is ∙ ap (λ n. Some (record { waiting = n; rows = lane_len s.journal w.number })) (sym (length-map w.waiting row_of))
-      ∙ ap (λ n. Some (record { waiting = length (map row_of w.waiting); rows = lane_len s.journal n })) number,
+          ∙ ap (λ n. Some (record { waiting = length (map row_of w.waiting); rows = lane_len s.journal n })) number,
       is ∙ ap (λ n. after_leave n s.journal) number,
       seen_set workers i new None (ap (option_map seen) none),
     )

@@ -1,13 +1,12 @@
 -- What always holds of a world stays as its session and its workers step.
 use Rattle.std.specs.Option.{IfSome}
 use Rattle.pcef_table.specs.Tables.{IsTable}
-use Rattle.std.proofs.Common.{◌≡◌, ◌∙◌, ◌≤◌, ◌<◌, ◌+◌, ℕ, suc, ◌==◌, List, [], ◌∷◌, ◌++◌, filter, length, map, refl, sym, ap, subst, arith, inl, inr, None, Ok, Err, get_or}
+use Rattle.std.proofs.Common.{◌≡◌, ◌∙◌, ◌≤◌, ◌<◌, ◌+◌, ℕ, ◌==◌, List, [], ◌∷◌, ◌++◌, filter, length, map, refl, sym, ap, subst, arith, inl, inr, None, Ok, Err}
 use Rattle.std.specs.Prelude.{Option, Result, Some, slice_get, slice_set, true}
 use Rattle.std.specs.Option.{option_map}
 use Rattle.std.specs.List.{list_any}
-use Rattle.std.specs.Result.{result_map_both}
-use Rattle.std.proofs.lemmas.Bool.{cases_eq, cases_lt, ne_eqb}
-use Rattle.std.proofs.lemmas.List.{get_or-map, get_or-set_other, get_or-set_same, get_or_append_left, get_or_push, length-map, length-set, length_push}
+use Rattle.std.proofs.lemmas.Bool.{cases_eq, ne_eqb}
+use Rattle.std.proofs.lemmas.List.{length-set, length_push}
 use Rattle.pcef_packet.specs.declared.header.Addr.{Addr}
 use Rattle.pcef_packet.specs.declared.header.Header.{Header}
 use Rattle.pcef_catalog.specs.declared.listing.Offer.{Offer}
@@ -24,15 +23,13 @@ use Rattle.pcef_model.specs.declared.answer.Refusal.{Refusal}
 use Rattle.pcef_model.specs.declared.answer.Verdicts.{Verdicts}
 use Rattle.pcef_session.specs.declared.batch.BatchFull.{BatchFull}
 use Rattle.pcef_world.specs.declared.worker.Worker.{Worker}
-use Rattle.pcef_session.specs.private.Parts.{Agrees}
 use Rattle.pcef_model.specs.Answers.{Attaches, Does, Finishes, Flushes, told_and_rows, told_of}
 use Rattle.pcef_session.specs.SessionModel.{SessionModel}
 use Rattle.pcef_session.specs.Following.{row_of}
 use Rattle.pcef_model.specs.Refusals.{first_of, flush_refusals, is_attached}
-use Rattle.pcef_model.specs.Terms.{setting_of}
-use Rattle.pcef_world.specs.Workers.{AbandonsAt, AllWait, FinishesPlace, HandsOverAt, HoldsAt, MayHandOver, TakesAt, TakesItem, Waits, after_finishing, after_flushing, held_by}
+use Rattle.pcef_world.specs.Workers.{AbandonsAt, AllWait, FinishesPlace, HandsOverAt, HoldsAt, MayHandOver, TakesAt, Waits, held_by}
 use Rattle.pcef_world.specs.WorldSoundness.{IsSoundWith, seen}
-use Rattle.pcef_world.specs.Worlds.{AreInTurn, IsInTurn, if_there, worker_at}
+use Rattle.pcef_world.specs.Worlds.{AreInTurn, IsInTurn, if_there}
 use Rattle.pcef_world.specs.declared.world.Abandoned.{Abandoned}
 use Rattle.pcef_world.specs.declared.world.StepRefusal.{StepRefusal}
 use Rattle.pcef_world.proofs.WrittenLists.{get_beside, get_mapped, get_pushed, get_written, set_same, set_twice}

@@ -1,6 +1,6 @@
 -- The places of a list that is written at one place.
-use Rattle.std.proofs.Common.{◌≡◌, ◌≤◌, ◌<◌, ◌++◌, ◌⊎◌, map, ℕ, suc, zero, List, [], ◌∷◌, length, refl, sym, ap, arith, inl, inr, None, Some}
-use Rattle.std.specs.Prelude.{Option, slice_get, slice_set}
+use Rattle.std.proofs.Common.{◌≡◌, ◌<◌, ◌++◌, ◌⊎◌, map, ℕ, suc, zero, List, [], ◌∷◌, length, refl, sym, ap, arith, inl, inr, Some}
+use Rattle.std.specs.Prelude.{slice_get, slice_set}
 use Rattle.std.specs.Option.{option_map}
 
 pub get_written : {X : Type 0} (xs : List X) (i : ℕ) (y : X) → i < length xs → slice_get (slice_set xs i y) i ≡ Some y

@@ -1,4 +1,4 @@
-use Rattle.std.proofs.Common.{◌≡◌, ◌∙◌, ◌≤◌, ◌<◌, Some, ap, arith, length, map, refl, sym}
+use Rattle.std.proofs.Common.{◌≡◌, Some, arith, length, refl}
 use Rattle.std.specs.Prelude.{slice_get}
 use Rattle.std.proofs.lemmas.Option.{slice_get_read}
 use Rattle.pcef_world.proofs.WorldAnswers.{hands_over_answer, hands_over_nowhere, past_from}
