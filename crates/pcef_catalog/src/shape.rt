@@ -15,7 +15,7 @@ use std::marker::Model;
 pub enum Test {
     /// The protocol is this one.
     Proto(u8),
-    /// The code point is this one.
+    /// The DSCP is this one.
     Dscp(u8),
     /// There are ports, and the remote one lies between these, both included.
     RemotePort(u16, u16),

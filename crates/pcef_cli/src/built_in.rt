@@ -95,7 +95,7 @@ pub(crate) fn dns_shape() -> Shape
     Shape::new(alternatives)
 }
 
-/// Expedited forwarding (RFC 3246): the code point is 46.
+/// Expedited forwarding (RFC 3246): the DSCP is 46.
 pub(crate) fn expedited_shape() -> Shape
     ensures { result ≡ expedited_shape }
 {

@@ -7,7 +7,7 @@ use crate::trigger::{AccessKind, NoticeValue, TriggerSet};
 use pcef_rule::{BearerId, KeyName, Rule, RuleName};
 use std::alloc::AllocError;
 
-/// A command of the policy function or the access network.
+/// A command of the PCRF or the access network.
 #[derive(Drop)]
 pub enum Command {
     /// Makes a dynamic rule active, or replaces the active one of its name.
@@ -38,7 +38,7 @@ pub enum Command {
     },
     /// Tells that a bearer was lost, with the rules that are bound to it.
     LoseBearer(BearerId),
-    /// Ends what the policy function may do, and takes all rules away.
+    /// Ends what the PCRF may do, and takes all rules away.
     Close,
     /// Ends the session.
     Terminate,

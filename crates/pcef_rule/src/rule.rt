@@ -57,7 +57,7 @@ impl Properties {
 /// Where a rule comes from.
 #[derive(Clone, Copy, Debug, PartialEq, Eq)]
 pub enum Origin {
-    /// The policy function defined it.
+    /// The PCRF defined it.
     Dynamic,
     /// It stands in the gateway's catalog.
     Predefined,
