@@ -152,7 +152,8 @@ impl SessionState {
     }
 
     /// Attaches a worker and gives its number. Numbers go up from 0 and are never used again. Takes
-    /// memory for what the journal says of the worker, its leaving included.
+    /// memory for what the journal says of the worker, its leaving included. Refused, in this order, where sixteen
+    /// workers came, where the session was closed or terminated, and for want of memory.
     pub fn attach(&mut self) -> Result<u8, AttachFault>
         ensures answer { Attaches self.old.journal result self.new.journal }
         ensures lane { IfOk result (λ worker. lane self.old.journal worker ≡ []) }

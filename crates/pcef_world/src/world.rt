@@ -34,7 +34,7 @@ pub enum StepRefusal<E> {
 /// What is told of a worker that left without its waiting rows.
 #[derive(Clone, Copy, Debug, PartialEq, Eq)]
 pub struct Abandoned {
-    /// How many rows waited, and get no verdict.
+    /// How many rows waited, 0 to 32, and get no verdict.
     pub waiting: u8,
     /// How many rows the worker's lane has.
     pub rows: u64,
@@ -74,6 +74,7 @@ impl WorldState {
         ensures answer { Opens (setting_of profile listing) (result_err result) }
         ensures made { IfOk result (λ w. (w.session.setting ≡ setting_of profile listing) × (w.session.journal ≡ []) × (w.workers ≡ [])) }
     {
+        // What holds of a profile is known where a field is read.
         let _rows = profile.rows;
         let session = SessionState::open(alloc, profile, listing)?;
         Ok(WorldState {
@@ -83,8 +84,8 @@ impl WorldState {
         })
     }
 
-    /// The session. There is a place for each worker that ever came, and the rows of each that is there may come
-    /// next.
+    /// The session. There is a place for each worker that ever came. The waiting rows of a worker that is there are
+    /// rows that the journal may have next.
     pub fn session(&self) -> &SessionState
         ensures session { result.now ≡ self.now.session }
         ensures places { attach_count self.now.session.journal ≡ length self.now.workers }
@@ -165,7 +166,8 @@ impl WorldState {
         Ok(refresh_at(place, table))
     }
 
-    /// Hands the waiting rows of a worker over. A refusal keeps them.
+    /// Hands the waiting rows of a worker over: NoWorker where it isn't there, else as [`SessionState::flush`]. A
+    /// refusal keeps the rows.
     pub fn flush(&mut self, worker: u8) -> Result<Verdicts, StepRefusal<FlushRefusal>>
         ensures answer { HandsOver self.old.session.setting worker self.old.session.journal self.old.workers (result_map_both told_of (λ e. e) result) self.new.session.journal self.new.workers }
         ensures setting { self.new.session.setting ≡ self.old.session.setting }
@@ -176,8 +178,8 @@ impl WorldState {
         }
     }
 
-    /// Hands the waiting rows of a worker over, which leaves, and gives the length of its lane too. A refusal keeps
-    /// it and its rows.
+    /// Hands over a worker's waiting rows and lets it leave. Gives the length of its lane too. A refusal, as for
+    /// [`WorldState::flush`], keeps the worker and its rows.
     pub fn finish(&mut self, worker: u8) -> Result<(Verdicts, u64), StepRefusal<FlushRefusal>>
         ensures answer { FinishesAt self.old.session.setting worker self.old.session.journal self.old.workers (result_map_both told_and_rows (λ e. e) result) self.new.session.journal self.new.workers }
         ensures setting { self.new.session.setting ≡ self.old.session.setting }

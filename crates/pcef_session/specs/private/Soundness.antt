@@ -37,7 +37,7 @@ pub record EndsAgree (j : Journal) (closed terminated : Bool) : Type 0 where
   pub closed_is : was_closed j ≡ closed
   pub terminated_is : was_terminated j ≡ terminated
 
--- how many commands there may be that have no budget
+-- how many commands that have no budget there may be: one Close and one Terminate
 abbrev pub ends_met : Bool → Bool → ℕ
 ends_met closed terminated = (if closed then 1 else 0) + (if terminated then 1 else 0)
 

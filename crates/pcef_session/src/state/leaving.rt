@@ -37,7 +37,7 @@ impl SessionState {
         self.lanes.rows(worker)
     }
 
-    /// A worker leaves. Takes no memory.
+    /// A worker that is attached leaves. Rows that wait with it never reach the journal. Takes no memory.
     pub fn detach(&mut self, worker: u8)
         requires { is_attached self.old.journal worker ≡ true }
         ensures journal { self.new.journal ≡ after_leave worker self.old.journal }
@@ -47,8 +47,8 @@ impl SessionState {
         self.counted.enter(Entry::Leave(worker));
     }
 
-    /// Takes over a worker's last rows, as [`SessionState::flush`] does, and lets it leave. Gives the length of its
-    /// lane too. A refusal changes nothing, and the worker stays attached.
+    /// Takes over a worker's last rows and lets it leave. Gives the length of its lane too. Takes memory, and is
+    /// refused, as [`SessionState::flush`]; a refusal changes nothing, and the worker stays attached.
     pub fn finish(&mut self, worker: u8, batch: &Batch) -> Result<(Verdicts, u64), FlushRefusal>
         requires follow { BatchFollows self.old.setting self.old.journal worker (map row_of batch.now) }
         requires slots { HasItsSlots self.old.setting self.old.journal batch.now }
