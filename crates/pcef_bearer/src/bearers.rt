@@ -1,6 +1,6 @@
 //! The bearers of a session, and the rules that are bound to them.
 
-ghost use Rattle.std.specs.Prelude.{not, ◌≡◌, ◌≤◌, ◌<◌, ◌↔◌, ◌&&◌, is_none, is_some, [], ◌∷◌, ◌++◌, IfOk, OnErr, Err, Some, None, filter, find, length, true, false};
+ghost use Rattle.std.specs.Prelude.{not, ◌≡◌, ◌≤◌, ◌<◌, ◌↔◌, ◌&&◌, is_none, is_some, [], ◌∷◌, ◌++◌, IfOk, IsOk, OnErr, Err, Some, None, filter, find, length, true, false};
 ghost use Rattle.std.specs.List.{list_any};
 ghost use Rattle.pcef_rule.specs.declared.qci.Kind.TheVariants as kind;
 ghost use Rattle.pcef_rule.specs.QciKinds.{kind_of};
@@ -13,9 +13,10 @@ ghost use Rattle.pcef_model.specs.Bearers.{is_gbr, is_non_gbr};
 use crate::ids::{count_on, finds_no_bearer, id_beside, is_present};
 use crate::lookup::{drop_named, drop_taken, has_name, named, put};
 use crate::rates::{is_over, sums_beside, sums_of, sums_on};
+use crate::vacant::{BoundRules, Vacant};
+use arrayvec::ArrayVec;
 use pcef_model::{Command, OpenFault, Refusal};
 use pcef_rule::{BearerId, Kind, QciTable, Qos, Rates, RuleName, Sums};
-use std::alloc::Global;
 use std::marker::Model;
 
 /// The most rules that are bound.
@@ -43,18 +44,18 @@ pub struct Released {
     pub ended: bool,
 }
 
-/// The bearers of a session, with memory for all rules that may be bound: two rules are on one bearer
-/// exactly where they have the same QCI and the same ARP (TS 23.203, clause 6.1.1.4).
+/// The bearers of a session, which hold all rules that may be bound in themselves and take no memory: two
+/// rules are on one bearer exactly where they have the same QCI and the same ARP (TS 23.203, clause 6.1.1.4).
 #[derive(Drop)]
 pub struct Bearers {
     default_qos: Qos,
     capacity: Sums,
     qcis: QciTable,
-    bound: Vec<Bound>,
+    bound: BoundRules,
 }
 
 impl Model for Bearers {
-    ghost use Rattle.std.specs.Prelude.{◌≤◌, ◌<◌, ◌^◌, vec_capacity};
+    ghost use Rattle.std.specs.Prelude.{◌<◌, ◌^◌};
     ghost use Rattle.pcef_bearer.specs.Bindings.{Binding};
     ghost use Rattle.pcef_bearer.specs.Bindings.{IsBinding};
 
@@ -62,7 +63,7 @@ impl Model for Bearers {
 
     ghost view = { λ b. record { default_qos = b.default_qos; capacity = b.capacity; qcis = b.qcis; bound = b.bound.items } };
 
-    ghost invariant = { λ b. IsBinding (record { default_qos = b.default_qos; capacity = b.capacity; qcis = b.qcis; bound = b.bound.items }) × (64 ≤ vec_capacity b.bound) × (b.capacity.up < 2 ^ 64) × (b.capacity.down < 2 ^ 64) };
+    ghost invariant = { λ b. IsBinding (record { default_qos = b.default_qos; capacity = b.capacity; qcis = b.qcis; bound = b.bound.items }) × (b.capacity.up < 2 ^ 64) × (b.capacity.down < 2 ^ 64) };
 }
 
 /// Whether a rule of a GBR QCI has no rates.
@@ -95,29 +96,22 @@ fn has_unwanted_rates(kind: Option<Kind>, rates: Option<Rates>) -> bool
 
 impl Bearers {
     /// The default bearer for this pair of QCI and ARP, up to this capacity, or the first fault in the
-    /// order of [`OpenFault`]. Takes memory for all rules that may be bound.
-    pub fn new(
-        alloc: Global,
-        default_qos: Qos,
-        capacity: Sums,
-        qcis: QciTable,
-    ) -> Result<Bearers, OpenFault>
+    /// order of [`OpenFault`]. Takes no memory, so it never answers want of it.
+    pub fn new(default_qos: Qos, capacity: Sums, qcis: QciTable) -> Result<Bearers, OpenFault>
         ensures unknown { (result ≡ Err fault.UnknownQci) ↔ (kind_of qcis default_qos.qci.0 ≡ None) }
         ensures gbr { (result ≡ Err fault.DefaultIsGbr) ↔ (kind_of qcis default_qos.qci.0 ≡ Some kind.Gbr) }
+        ensures accepted { IsOk result ↔ (kind_of qcis default_qos.qci.0 ≡ Some kind.NonGbr) }
         ensures made { IfOk result (λ b. b ≡ record { default_qos = default_qos; capacity = capacity; qcis = qcis; bound = [] }) }
     {
         match qcis.kind_of(default_qos.qci) {
             None => Err(OpenFault::UnknownQci),
             Some(Kind::Gbr) => Err(OpenFault::DefaultIsGbr),
-            Some(Kind::NonGbr) => match Vec::with_capacity(alloc, MAX_BOUND) {
-                Err(_) => Err(OpenFault::NoMemory),
-                Ok(bound) => Ok(Bearers {
-                    default_qos,
-                    capacity,
-                    qcis,
-                    bound,
-                }),
-            },
+            Some(Kind::NonGbr) => Ok(Bearers {
+                default_qos,
+                capacity,
+                qcis,
+                bound: ArrayVec::new_in(Vacant),
+            }),
         }
     }
 

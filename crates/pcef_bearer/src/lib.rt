@@ -5,6 +5,7 @@ mod bearers;
 mod ids;
 mod lookup;
 mod rates;
+mod vacant;
 
 pub use bearers::{Bearers, Bound, MAX_BOUND, Released};
 pub use ids::DEFAULT_BEARER;

@@ -1,6 +1,6 @@
 //! Rules that are bound, by their names and by their pairs of QCI and ARP.
 
-ghost use Rattle.std.specs.Prelude.{◌≡◌, ◌<◌, filter, find, length, not, position, vec_capacity, true};
+ghost use Rattle.std.specs.Prelude.{◌≡◌, filter, find, length, not, position, true};
 ghost use Rattle.std.specs.List.{list_any};
 ghost use Rattle.std.specs.Option.{option_copied};
 ghost use Rattle.pcef_model.specs.Commands.{takes_away};
@@ -8,6 +8,7 @@ ghost use Rattle.pcef_model.specs.Setting.{same_flag, same_qos};
 ghost use Rattle.pcef_bearer.specs.Bindings.{is_named, put, without, HasRoom};
 
 use crate::bearers::Bound;
+use crate::vacant::BoundRules;
 use pcef_model::Command;
 use pcef_rule::{Qos, RuleName};
 
@@ -85,37 +86,34 @@ pub(crate) fn has_pair_beside(name: &RuleName, bound: &[Bound], qos: &Qos) -> bo
 }
 
 /// Drops the rule of this name.
-pub(crate) fn drop_named(bound: &mut Vec<Bound>, name: &RuleName)
-    ensures items { bound.new.items ≡ without name.now bound.old.items }
-    ensures capacity { vec_capacity bound.new ≡ vec_capacity bound.old }
+pub(crate) fn drop_named(bound: &mut BoundRules, name: &RuleName)
+    ensures { bound.new.items ≡ without name.now bound.old.items }
 {
     bound.retain(
-        |b: &Bound| -> bool
-            ensures { result ≡ not (is_named name.entry.now b.now) }
+        |b: &mut Bound| -> bool
+            ensures { (result ≡ not (is_named name.entry.now b.old)) × (b.new ≡ b.old) }
         { !is_named(name, b) },
     );
 }
 
 /// Drops the rules that a command takes away.
-pub(crate) fn drop_taken(bound: &mut Vec<Bound>, command: &Command)
-    ensures items { bound.new.items ≡ filter (λ b. not (takes_away command.now b.name b.bearer.0)) bound.old.items }
-    ensures capacity { vec_capacity bound.new ≡ vec_capacity bound.old }
+pub(crate) fn drop_taken(bound: &mut BoundRules, command: &Command)
+    ensures { bound.new.items ≡ filter (λ b. not (takes_away command.now b.name b.bearer.0)) bound.old.items }
 {
     bound.retain(
-        |b: &Bound| -> bool
-            ensures { result ≡ not (takes_away command.entry.now b.now.name b.now.bearer.0) }
+        |b: &mut Bound| -> bool
+            ensures { (result ≡ not (takes_away command.entry.now b.old.name b.old.bearer.0)) × (b.new ≡ b.old) }
         { !command.takes_away(&b.name, b.bearer) },
     );
 }
 
 /// Puts a rule in the place of the one of its name, or behind all others.
-pub(crate) fn put(bound: &mut Vec<Bound>, new: Bound)
-    requires { HasRoom new.name (vec_capacity bound.old) bound.old.items }
-    ensures items { bound.new.items ≡ put new bound.old.items }
-    ensures capacity { vec_capacity bound.new ≡ vec_capacity bound.old }
+pub(crate) fn put(bound: &mut BoundRules, new: Bound)
+    requires { HasRoom new.name 64 bound.old.items }
+    ensures { bound.new.items ≡ put new bound.old.items }
 {
     match place_of(bound, &new.name) {
         Some(place) => bound[place] = new,
-        None => bound.push_reserved(new),
+        None => bound.push(new),
     }
 }

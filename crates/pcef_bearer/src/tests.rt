@@ -2,7 +2,6 @@
 use super::*;
 use pcef_model::{OpenFault, Refusal};
 use pcef_rule::{Arp, BearerId, Kind, Qci, QciTable, Qos, Rates, RuleName, Sums};
-use std::alloc::Global;
 use std::test::Fail;
 
 fn pair(qci: u8, level: u8) -> Result<Qos, Fail> {
@@ -13,9 +12,9 @@ fn pair(qci: u8, level: u8) -> Result<Qos, Fail> {
 }
 
 /// Bearers whose default pair has QCI 9 and level 15.
-fn bearers(alloc: Global, capacity: Sums) -> Result<Bearers, Fail> {
+fn bearers(capacity: Sums) -> Result<Bearers, Fail> {
     let qcis = QciTable::new(&[(128, Kind::Gbr)])?;
-    Ok(Bearers::new(alloc, pair(9, 15)?, capacity, qcis)?)
+    Ok(Bearers::new(pair(9, 15)?, capacity, qcis)?)
 }
 
 /// Binds a rule, or binds it anew.
@@ -38,8 +37,8 @@ fn set(
 const NAMES: [&str; 10] = ["r1", "r2", "r3", "r4", "r5", "r6", "r7", "r8", "r9", "r10"];
 
 /// Ten rules on ten bearers beside the default one.
-fn ten(alloc: Global) -> Result<Bearers, Fail> {
-    let mut bearers = bearers(alloc, Sums { up: 0, down: 0 })?;
+fn ten() -> Result<Bearers, Fail> {
+    let mut bearers = bearers(Sums { up: 0, down: 0 })?;
     let mut level = 0u8;
     for name in NAMES {
         level = level.saturating_add(1);
@@ -50,7 +49,7 @@ fn ten(alloc: Global) -> Result<Bearers, Fail> {
 
 #[test]
 fn each_pair_gets_a_bearer(rt: HostRuntime) -> Result<(), Fail> {
-    let bearers = ten(rt.alloc())?;
+    let bearers = ten()?;
     assert_eq!(rt; bearers.bound().len(), 10);
     let mut id = 5u8;
     for name in NAMES {
@@ -68,7 +67,7 @@ fn each_pair_gets_a_bearer(rt: HostRuntime) -> Result<(), Fail> {
 
 #[test]
 fn an_eleventh_pair_finds_no_bearer(rt: HostRuntime) -> Result<(), Fail> {
-    let mut bearers = ten(rt.alloc())?;
+    let mut bearers = ten()?;
     let eleven = pair(8, 11)?;
     let name = RuleName::new("r11")?;
     assert_eq!(rt;
@@ -101,7 +100,7 @@ fn an_eleventh_pair_finds_no_bearer(rt: HostRuntime) -> Result<(), Fail> {
 
 #[test]
 fn the_default_pair_is_on_the_default_bearer(rt: HostRuntime) -> Result<(), Fail> {
-    let mut bearers = ten(rt.alloc())?;
+    let mut bearers = ten()?;
     let name = RuleName::new("plain")?;
     assert_eq!(rt;
         bearers.bearer_for(&name, pair(9, 15)?),
@@ -128,7 +127,7 @@ fn the_default_pair_is_on_the_default_bearer(rt: HostRuntime) -> Result<(), Fail
 
 #[test]
 fn a_bearer_ends_with_its_last_rule(rt: HostRuntime) -> Result<(), Fail> {
-    let mut bearers = ten(rt.alloc())?;
+    let mut bearers = ten()?;
     assert_eq!(rt;
         set(&mut bearers, "also", pair(8, 4)?, None)?,
         Some(Ok(BearerId(9)))
@@ -163,7 +162,7 @@ fn a_bearer_ends_with_its_last_rule(rt: HostRuntime) -> Result<(), Fail> {
 
 #[test]
 fn rates_at_the_capacity(rt: HostRuntime) -> Result<(), Fail> {
-    let mut bearers = bearers(rt.alloc(), Sums { up: 300, down: 500 })?;
+    let mut bearers = bearers(Sums { up: 300, down: 500 })?;
     let video = pair(128, 2)?;
     assert_eq!(rt;
         set(
@@ -251,7 +250,7 @@ fn rates_at_the_capacity(rt: HostRuntime) -> Result<(), Fail> {
 
 #[test]
 fn refusals_of_kinds(rt: HostRuntime) -> Result<(), Fail> {
-    let bearers = ten(rt.alloc())?;
+    let bearers = ten()?;
     let name = RuleName::new("new")?;
     let rates = Some(Rates { up: 1, down: 1 });
     for (qci, rates, refusal) in [
@@ -280,7 +279,7 @@ fn faults(rt: HostRuntime) -> Result<(), Fail> {
         (1, Some(OpenFault::DefaultIsGbr)),
         (9, None),
     ] {
-        let made = Bearers::new(rt.alloc(), pair(qci, 1)?, capacity, QciTable::new(&[])?);
+        let made = Bearers::new(pair(qci, 1)?, capacity, QciTable::new(&[])?);
         assert_eq!(rt; made.err(), fault, "QCI {qci}");
     }
     Ok(())

@@ -5,9 +5,8 @@ use Rattle.pcef_bearer.proofs.bearers.Bearers.new.Goals as goal
 
 pub invariant_of-result : goal.invariant_of-result
 invariant_of-result c = (
-  empty_binding c.args.default_qos c.args.capacity c.args.qcis c.in-Ok.bound.items
-      (sym c.kind_of.ensures ∙ c.in-Some-NonGbr.is ∙ ap (λ (k : Kind). Some k) c.in-Some-NonGbr.field-0-is) c.in-Ok.ensures.items,
-  omega (arith, c.in-Ok.ensures.exact),
+  empty_binding c.args.default_qos c.args.capacity c.args.qcis _
+      (sym c.kind_of.ensures ∙ c.in-Some-NonGbr.is ∙ ap (λ (k : Kind). Some k) c.in-Some-NonGbr.field-0-is) c.new_in.ensures,
   omega arith,
   omega arith,
 )

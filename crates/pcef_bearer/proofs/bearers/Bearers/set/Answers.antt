@@ -1,4 +1,4 @@
-use Rattle.std.proofs.Common.{◌≡◌, ◌∙◌, None, arith, sym}
+use Rattle.std.proofs.Common.{◌≡◌, ◌∙◌, None, sym}
 use Rattle.pcef_bearer.specs.Bindings.{id_beside, without}
 use Rattle.pcef_bearer.proofs.GivenIds.{gets_id}
 use Rattle.pcef_bearer.proofs.Kept.{accepted, kept_put_at}
@@ -14,12 +14,11 @@ unreachable-requires c =
 
 pub invariant_of-self : goal.invariant_of-self
 invariant_of-self c = (
-  rw c.put.ensures.items
+  rw c.put.ensures
       (kept_put_at
       (record { default_qos = c.self.inside.default_qos; capacity = c.self.inside.capacity; qcis = c.self.inside.qcis; bound = c.self.inside.bound.items })
       c.args.self.now c.args.name c.args.qos.now c.args.rates c.in-Some-bearer_beside.bearer.0 c.self.view_is c.self.invariant.0 c.requires
       (sym c.refusal_beside.ensures ∙ c.in_default.is) (sym (rw c.in-Some-bearer_beside.is at c.bearer_beside.ensures))),
-  omega (arith, c.put.ensures.capacity, c.self.invariant.1),
+  c.self.invariant.1,
   c.self.invariant.2,
-  c.self.invariant.3,
 )
