@@ -49,7 +49,7 @@ impl Session {
     ghost use Rattle.pcef_session.specs.declared.prepared.Prepared.{Prepared};
 
     /// A session with an empty journal, or the first fault in the order of [`OpenFault`]. Takes memory for the rules
-    /// and keys that may come.
+    /// that may come, and for the first table.
     pub fn open(
         alloc: Global,
         profile: Profile,

@@ -76,21 +76,16 @@ pub(crate) fn open_fault(profile: &Profile) -> Option<OpenFault>
 }
 
 /// The bearers of a session that is opened.
-fn open_bearers(alloc: Global, profile: &Profile) -> Result<Bearers, OpenFault>
+fn open_bearers(profile: &Profile) -> Result<Bearers, OpenFault>
     ensures answer { Opens (setting_of profile.now []) (result_err result) }
     ensures made { IfOk result (λ b. b ≡ binding_of (setting_of profile.now []) at_first) }
 {
-    match Bearers::new(alloc, profile.default_qos, profile.capacity, profile.qcis) {
-        Ok(bearers) => Ok(bearers),
-        Err(OpenFault::UnknownQci) => Err(OpenFault::UnknownQci),
-        Err(OpenFault::DefaultIsGbr) => Err(OpenFault::DefaultIsGbr),
-        Err(OpenFault::NoMemory) => Err(OpenFault::NoMemory),
-    }
+    Bearers::new(profile.default_qos, profile.capacity, profile.qcis)
 }
 
 impl SessionState {
     /// A session with an empty journal, or the first fault in the order of [`OpenFault`]. Takes memory for
-    /// the rules and keys that may come.
+    /// the rules that may come, and for the first table.
     pub fn open(
         alloc: Global,
         profile: Profile,
@@ -99,13 +94,11 @@ impl SessionState {
         ensures answer { Opens (setting_of profile listing) (result_err result) }
         ensures made { IfOk result (λ s. (s.setting ≡ setting_of profile listing) × (s.journal ≡ [])) }
     {
-        let bearers = match open_bearers(alloc, &profile) {
+        let bearers = match open_bearers(&profile) {
             Ok(bearers) => bearers,
             Err(fault) => return Err(fault),
         };
-        let Ok(counted) = CountedJournal::new(alloc) else {
-            return Err(OpenFault::NoMemory);
-        };
+        let counted = CountedJournal::new(alloc);
         // One place more than rules: a command is given a free one before it is known to want it.
         let Ok(active) = IndexMap::with_capacity(alloc, MAX_RULES + 1) else {
             return Err(OpenFault::NoMemory);

@@ -1,6 +1,6 @@
 //! The journal, and the counters that go with it.
 
-ghost use Rattle.std.specs.Prelude.{◌≡◌, ◌<◌, ◌≤◌, ◌+◌, [], ◌∷◌, map, length, false, true, IfOk, OnOk, All};
+ghost use Rattle.std.specs.Prelude.{◌≡◌, ◌<◌, ◌≤◌, ◌+◌, [], ◌∷◌, map, length, false, true, OnOk, All};
 ghost use Rattle.std.specs.Option.{option_copied};
 ghost use Rattle.pcef_model.specs.Commands.{is_among};
 ghost use Rattle.pcef_model.specs.Journals.{ends_grant, report_count};
@@ -33,16 +33,15 @@ impl Model for CountedJournal {
 }
 
 impl CountedJournal {
-    /// An empty journal in which no key has a slot, or want of memory.
-    pub fn new(alloc: Global) -> Result<CountedJournal, AllocError>
-        ensures journal { IfOk result (λ c. c.journal ≡ []) }
-        ensures states { IfOk result (λ c. c.states ≡ []) }
+    /// An empty journal in which no key has a slot. Takes no memory.
+    pub fn new(alloc: Global) -> CountedJournal
+        ensures journal { result.journal ≡ [] }
+        ensures states { result.states ≡ [] }
     {
-        let usage = Usage::new(alloc)?;
-        Ok(CountedJournal {
+        CountedJournal {
             journal: Journal::new(alloc),
-            usage,
-        })
+            usage: Usage::new(),
+        }
     }
 
     /// Takes memory for so many more entries, or answers want of it.

@@ -4,6 +4,7 @@
 
 mod counted;
 mod usage;
+mod vacant;
 
 pub use counted::CountedJournal;
 pub use usage::{KeyState, MAX_KEYS, Usage};

@@ -106,13 +106,13 @@ fn usage_report(number: u64, key: &KeyName, octets: u64, cause: Cause) -> Report
 
 #[test]
 fn an_empty_journal(rt: HostRuntime) -> Result<(), Fail> {
-    let mut counted = CountedJournal::new(rt.alloc())?;
+    let mut counted = CountedJournal::new(rt.alloc());
     counted.reserve(3)?;
     assert_eq!(rt; counted.journal().rows_len(), 0);
     assert_eq!(rt; counted.journal().reports_len(), 0);
     assert_eq!(rt; counted.usage().states().len(), 0);
     assert_eq!(rt; counted.usage().find(&KeyName::new("video")?), None);
-    let usage = Usage::new(rt.alloc())?;
+    let usage = Usage::new();
     assert_eq!(rt; usage.states().len(), 0);
     Ok(())
 }
@@ -121,7 +121,7 @@ fn an_empty_journal(rt: HostRuntime) -> Result<(), Fail> {
 fn a_grant_is_reached(rt: HostRuntime) -> Result<(), Fail> {
     let video = KeyName::new("video")?;
     let audio = KeyName::new("audio")?;
-    let mut counted = CountedJournal::new(rt.alloc())?;
+    let mut counted = CountedJournal::new(rt.alloc());
     counted.reserve(64)?;
     monitor(&rt, &mut counted, &video, 100);
     monitor(&rt, &mut counted, &audio, 1000);
@@ -145,7 +145,7 @@ fn a_grant_is_reached(rt: HostRuntime) -> Result<(), Fail> {
 fn a_key_loses_its_rules(rt: HostRuntime) -> Result<(), Fail> {
     let video = KeyName::new("video")?;
     let audio = KeyName::new("audio")?;
-    let mut counted = CountedJournal::new(rt.alloc())?;
+    let mut counted = CountedJournal::new(rt.alloc());
     counted.reserve(64)?;
     monitor(&rt, &mut counted, &video, 100);
     monitor(&rt, &mut counted, &audio, 28);

@@ -1,11 +1,11 @@
 //! The counters of monitoring keys.
 
-ghost use Rattle.std.specs.Prelude.{◌≡◌, ◌<◌, ◌≤◌, ◌+◌, ◌^◌, [], ◌++◌, ◌∷◌, map, length, true, false, Some, MatchOption, IfOk, if◌then◌else◌};
+ghost use Rattle.std.specs.Prelude.{◌≡◌, ◌<◌, ◌≤◌, ◌+◌, ◌^◌, [], ◌++◌, ◌∷◌, map, length, true, false, Some, MatchOption, if◌then◌else◌};
 ghost use Rattle.pcef_usage.specs.Keys.{CanCount, added, at_place, finds_no_slot, fresh, has_slot, is_reached, place_of, reached_places, reported_on, started, state_at, stopped, ungranted_if_reached, with_octets, with_slot};
 
+use crate::vacant::{KeyStates, Vacant};
 use arrayvec::ArrayVec;
 use pcef_rule::{KeyName, Slot};
-use std::alloc::{AllocError, Global};
 use std::marker::Model;
 
 /// How many keys may have a slot.
@@ -81,14 +81,14 @@ impl KeyState {
     }
 }
 
-/// The keys that have a slot, in slot order, with memory for all that may come.
+/// The keys that have a slot, in slot order. It holds all that may come in itself and takes no memory.
 #[derive(Drop)]
 pub struct Usage {
-    states: Vec<KeyState>,
+    states: KeyStates,
 }
 
 impl Model for Usage {
-    ghost use Rattle.std.specs.Prelude.{List, ◌≤◌, length, vec_capacity};
+    ghost use Rattle.std.specs.Prelude.{List, ◌≤◌, length};
     ghost use Rattle.pcef_usage.specs.declared.usage.KeyState.{KeyState};
     ghost use Rattle.pcef_usage.specs.Keys.{AllFit};
 
@@ -96,7 +96,7 @@ impl Model for Usage {
 
     ghost view = { λ u. u.states.items };
 
-    ghost invariant = { λ u. (length u.states.items ≤ 8) × (8 ≤ vec_capacity u.states) × AllFit u.states.items };
+    ghost invariant = { λ u. (length u.states.items ≤ 8) × AllFit u.states.items };
 }
 
 fn note(reached: &mut ArrayVec<Slot, 8>, is_reached: bool, place: u8)
@@ -110,12 +110,13 @@ fn note(reached: &mut ArrayVec<Slot, 8>, is_reached: bool, place: u8)
 }
 
 impl Usage {
-    /// No key has a slot. Takes the memory for all that may come, or answers want of it.
-    pub fn new(alloc: Global) -> Result<Usage, AllocError>
-        ensures { IfOk result (λ u. u ≡ []) }
+    /// No key has a slot.
+    pub fn new() -> Usage
+        ensures { result ≡ [] }
     {
-        let states = Vec::with_capacity(alloc, MAX_KEYS)?;
-        Ok(Usage { states })
+        Usage {
+            states: ArrayVec::new_in(Vacant),
+        }
     }
 
     /// What is kept of each key that has a slot, in slot order.
@@ -146,7 +147,7 @@ impl Usage {
         if let Some(_slot) = self.find(key) {
             return;
         }
-        self.states.push_reserved(KeyState {
+        self.states.push(KeyState {
             key: key.copy(),
             on: false,
             grant: None,

@@ -14,12 +14,11 @@ pub invariant_of-self : goal.invariant_of-self
 invariant_of-self c =
     let within = subst (λ (v : List KeyState). c.args.slot.0 < length v) (sym c.self.view_is) c.requires.known in
     let room = subst (λ (v : List KeyState). (state_at c.args.slot.0 v).reported + (state_at c.args.slot.0 v).unreported + c.args.octets < 2 ^ 64) (sym c.self.view_is) c.requires.fits in (
-      omega (arith, length_refill c.self.inside.states.len c.self.inside.states.items (set c.as_mut_slice-states.result.now c.args.slot.0 c.count.new.self) c.self.inside.states.ok.0, c.self.inside.states.ok.0, c.self.invariant.0),
-      c.self.invariant.1,
+      omega (arith, length_refill (length c.self.inside.states.items) c.self.inside.states.items (set c.as_mut_slice-states.result.now c.args.slot.0 c.count.new.self) refl, c.self.invariant.0),
       subst AllFit
-          (sym (written (added c.args.octets) _ c.self.inside.states.items c.self.inside.states.items _ _ _ _ c.self.inside.states.ok.0 refl within c.as_mut_slice-states.ensures.value c.count.ensures))
-          (all_at_place (λ (s : KeyState). s.reported + s.unreported < 2 ^ 64) (added c.args.octets) c.self.inside.states.items c.args.slot.0 c.self.invariant.2 (λ h. omega (arith, room))),
+          (sym (written (added c.args.octets) _ c.self.inside.states.items c.self.inside.states.items _ _ _ _ refl refl within c.as_mut_slice-states.ensures.value c.count.ensures))
+          (all_at_place (λ (s : KeyState). s.reported + s.unreported < 2 ^ 64) (added c.args.octets) c.self.inside.states.items c.args.slot.0 c.self.invariant.1 (λ h. omega (arith, room))),
     )
 
 pub returns : goal.returns
-returns c = written (added c.args.octets) _ _ _ _ _ _ _ c.self.inside.states.ok.0 c.self.view_is c.requires.known c.as_mut_slice-states.ensures.value c.count.ensures
+returns c = written (added c.args.octets) _ _ _ _ _ _ _ refl c.self.view_is c.requires.known c.as_mut_slice-states.ensures.value c.count.ensures

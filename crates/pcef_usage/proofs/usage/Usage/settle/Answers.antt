@@ -1,4 +1,4 @@
-use Rattle.std.proofs.Common.{arith, map, [], ◌∷◌, ◌++◌, if◌then◌else◌, ◌∙◌, ap}
+use Rattle.std.proofs.Common.{arith, length, map, refl, [], ◌∷◌, ◌++◌, if◌then◌else◌, ◌∙◌, ap}
 use Rattle.std.specs.List.{length_refill}
 use Rattle.pcef_usage.specs.Keys.{ungranted_if_reached, is_reached}
 use Rattle.pcef_usage.proofs.Places.{map_step, reached_step, same_at, fit_settled}
@@ -6,9 +6,8 @@ use Rattle.pcef_usage.proofs.usage.Usage.settle.Goals as goal
 
 pub invariant_of-self : goal.invariant_of-self
 invariant_of-self c = (
-  omega (arith, length_refill c.self.inside.states.len c.self.inside.states.items c.loop-state.state-items c.self.inside.states.ok.0, c.self.inside.states.ok.0, c.self.invariant.0),
-  c.self.invariant.1,
-  fit_settled _ c.self.inside.states.items _ _ c.loop-state.state-index c.self.inside.states.ok.0 c.as_mut_slice-state-items.ensures.value c.self.invariant.2 c.loop-state-test.false
+  omega (arith, length_refill (length c.self.inside.states.items) c.self.inside.states.items c.loop-state.state-items refl, c.self.invariant.0),
+  fit_settled _ c.self.inside.states.items _ _ c.loop-state.state-index refl c.as_mut_slice-state-items.ensures.value c.self.invariant.1 c.loop-state-test.false
       c.loop-state.auto.state-items c.loop-state.invariant.states,
 )
 
