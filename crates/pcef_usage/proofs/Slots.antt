@@ -1,6 +1,8 @@
 -- Keys that have a slot: each stands once, and a key that has none was never on and counts nothing.
 use Rattle.std.proofs.Common.{◌≡◌, ◌∙◌, ℕ, Bool, true, false, List, [], ◌∷◌, ◌++◌, length, refl, sym, ap, arith, inl, inr, nat_le}
-use Rattle.std.specs.Prelude.{Option, Some, None, not, ◌||◌, ◌&&◌, filter}
+use Rattle.std.specs.Prelude.{Err, IfOk, Ok, OnOk, Option, Result, Some, None, not, ◌||◌, ◌&&◌, filter}
+use Rattle.pcef_rule.specs.declared.quantity.Slot.{Slot}
+use Rattle.pcef_usage.specs.declared.usage.KeysFull.{KeysFull}
 use Rattle.std.proofs.lemmas.Bool.{cases_Bool}
 use Rattle.std.proofs.lemmas.List.{map_push}
 use Rattle.pcef_model.specs.declared.command.Command.{Command}
@@ -12,9 +14,9 @@ use Rattle.pcef_model.specs.Generations.{add_if_some, made_by, oldest, rules_aft
 use Rattle.pcef_model.specs.Commands.{add_key, is_among, key_named, switched}
 use Rattle.pcef_model.specs.Entries.{Journal, rows}
 use Rattle.pcef_model.specs.Journals.{at, counted, counts, decision, now, octets_of, passed_for, slots, tables}
-use Rattle.pcef_model.proofs.Sameness.{same_name_is, same_name_not}
+use Rattle.pcef_model.proofs.Sameness.{same_name_is, same_name_not, same_name_of}
 use Rattle.pcef_usage.specs.declared.usage.KeyState.{KeyState}
-use Rattle.pcef_usage.specs.Keys.{fresh, has_slot, keys_of, with_slot}
+use Rattle.pcef_usage.specs.Keys.{fresh, has_slot, keys_of, place_of, with_slot}
 use Rattle.pcef_usage.specs.Tellings.{Distinct}
 use Rattle.pcef_usage.proofs.Places.{or_no}
 use Rattle.pcef_usage.proofs.Tells.{has_slot_is}
@@ -30,6 +32,19 @@ or_assoc false b c = refl
 pub and_no : (a b : Bool) → b ≡ false → (a && b) ≡ false
 and_no true b absent = absent
 and_no false b absent = refl
+
+-- ---- a key that gets a slot
+place_fresh : (k : List ℕ) (states : List KeyState) → has_slot k states ≡ false → place_of k (states ++ fresh k ∷ []) ≡ length states
+place_fresh k [] absent = rw (same_name_of k k refl) refl
+place_fresh k (s ∷ states) absent =
+    let parts = or_no (same_name k s.key) (has_slot k states) absent in
+    rw (parts.0, place_fresh k states parts.1) refl
+
+-- it gets the next one
+pub slot_is_place : (r : Result Slot KeysFull) (k : List ℕ) (old new : List KeyState) → has_slot k old ≡ false →
+    IfOk r (λ s. s.0 ≡ length old) → OnOk r (new ≡ old ++ fresh k ∷ []) → IfOk r (λ s. s.0 ≡ place_of k new)
+slot_is_place (Ok s) k old new absent is states = is ∙ sym (ap (place_of k) states ∙ place_fresh k old absent)
+slot_is_place (Err e) k old new absent is states = tt
 
 -- ---- one key more, or some fewer
 pub is_among_append : (k l : List ℕ) (keys : List (List ℕ)) → is_among k (keys ++ l ∷ []) ≡ (is_among k keys || same_name k l)

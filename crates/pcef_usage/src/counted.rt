@@ -1,6 +1,6 @@
 //! The journal, and the counters that go with it.
 
-ghost use Rattle.std.specs.Prelude.{◌≡◌, ◌<◌, ◌≤◌, ◌+◌, [], ◌∷◌, map, length, false, true, OnOk, All};
+ghost use Rattle.std.specs.Prelude.{◌≡◌, ◌<◌, ◌≤◌, ◌+◌, [], ◌∷◌, map, length, false, true, OnOk, Some, All};
 ghost use Rattle.std.specs.Option.{option_copied};
 ghost use Rattle.pcef_model.specs.Commands.{is_among};
 ghost use Rattle.pcef_model.specs.Journals.{ends_grant, report_count};
@@ -73,7 +73,7 @@ impl CountedJournal {
         ensures states { self.new.states ≡ with_octets slot row.header.octets self.old.states }
         ensures room { self.old.room ≤ self.new.room + 1 }
     {
-        self.usage.count(slot, row.header.octets);
+        count_for(&mut self.usage, slot, row.header.octets);
         self.journal.append(Entry::Row(row));
     }
 
@@ -85,7 +85,7 @@ impl CountedJournal {
         ensures room { self.new.room ≡ self.old.room }
     {
         if let Some(key) = key {
-            self.usage.keep_slot(key);
+            keep_slot(&mut self.usage, key);
         }
     }
 
@@ -186,6 +186,25 @@ impl CountedJournal {
                 stop_key(&mut self.usage, key);
             }
         }
+    }
+}
+
+fn keep_slot(usage: &mut Usage, key: &KeyName)
+    requires { finds_no_slot (Some key.now) usage.old ≡ false }
+    ensures { usage.new ≡ with_slot (Some key.now) usage.old }
+{
+    match usage.slot(key) {
+        Ok(_) => {}
+        Err(_) => unreachable!(),
+    }
+}
+
+fn count_for(usage: &mut Usage, slot: Option<Slot>, octets: u32)
+    requires { CanCount slot octets usage.old }
+    ensures { usage.new ≡ with_octets slot octets usage.old }
+{
+    if let Some(slot) = slot {
+        usage.count(slot, octets);
     }
 }
 

@@ -7,7 +7,7 @@ mod usage;
 mod vacant;
 
 pub use counted::CountedJournal;
-pub use usage::{KeyState, MAX_KEYS, Usage};
+pub use usage::{KeyState, KeysFull, MAX_KEYS, Usage};
 
 #[cfg(test)]
 mod tests;

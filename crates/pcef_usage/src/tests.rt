@@ -1,6 +1,6 @@
 //! Small journals, whose counters and reports were worked out by hand from TS 29.212, clauses 4.5.16 and 4.5.17.
 
-ghost use Rattle.std.specs.Prelude.{◌≡◌, ◌≤◌, ◌+◌};
+ghost use Rattle.std.specs.Prelude.{◌≡◌, ◌<◌, ◌≤◌, ◌+◌, length};
 
 use super::*;
 use pcef_model::{Body, Cause, Command, Entry, Report, Row, Telling, Verdict};
@@ -159,5 +159,104 @@ fn a_key_loses_its_rules(rt: HostRuntime) -> Result<(), Fail> {
     assert_eq!(rt; state(&counted, 1), Some((false, None, 28, 0)));
     finish(&mut counted, true);
     assert_eq!(rt; counted.journal().reports_len(), 1);
+    Ok(())
+}
+
+/// Counters of so many keys, k0, k1, and so on.
+fn usage_of(names: &[&str]) -> Result<Usage, Fail> {
+    let mut usage = Usage::new();
+    for name in names {
+        let _slot = usage.slot(&KeyName::new(name)?)?;
+    }
+    Ok(usage)
+}
+
+/// A slot that a key has.
+fn known(rt: &impl Abort, usage: &Usage, slot: Slot)
+    ensures { slot.0 < length usage.now }
+{
+    assert!(rt; (slot.0 as usize) < usage.states().len());
+}
+
+fn start(rt: &impl Abort, usage: &mut Usage, slot: Slot, amount: u64) {
+    known(rt, usage, slot);
+    usage.start(slot, amount);
+}
+
+fn stop(rt: &impl Abort, usage: &mut Usage, slot: Slot) {
+    known(rt, usage, slot);
+    usage.stop(slot);
+}
+
+fn count(rt: &impl Abort, usage: &mut Usage, slot: Slot, octets: u32) {
+    known(rt, usage, slot);
+    assert!(rt; usage.reported(slot) < 1000);
+    assert!(rt; usage.unreported(slot) < 1000);
+    usage.count(slot, octets);
+}
+
+fn take_report(rt: &impl Abort, usage: &mut Usage, slot: Slot) -> u64 {
+    known(rt, usage, slot);
+    usage.take_report(slot)
+}
+
+/// Whether the key of a slot is on, and its reported and unreported octets.
+fn figures(rt: &impl Abort, usage: &Usage, slot: Slot) -> (bool, u64, u64) {
+    known(rt, usage, slot);
+    (
+        usage.is_on(slot),
+        usage.reported(slot),
+        usage.unreported(slot),
+    )
+}
+
+#[test]
+fn eight_keys_have_slots(rt: HostRuntime) -> Result<(), Fail> {
+    let names = ["k0", "k1", "k2", "k3", "k4", "k5", "k6", "k7"];
+    let mut usage = usage_of(&names)?;
+    assert_eq!(rt; usage.states().len(), 8);
+    for (place, name) in names.iter().enumerate() {
+        assert_eq!(rt; usage.slot(&KeyName::new(name)?), Ok(Slot(place as u8)));
+        assert_eq!(rt; usage.find(&KeyName::new(name)?), Some(Slot(place as u8)));
+    }
+    assert_eq!(rt; usage.slot(&KeyName::new("k8")?), Err(KeysFull));
+    assert_eq!(rt; usage.find(&KeyName::new("k8")?), None);
+    assert_eq!(rt; usage.states().len(), 8);
+    Ok(())
+}
+
+#[test]
+fn a_key_is_switched_and_counts(rt: HostRuntime) -> Result<(), Fail> {
+    let mut usage = usage_of(&["video", "audio"])?;
+    assert_eq!(rt; figures(&rt, &usage, Slot(1)), (false, 0, 0));
+    start(&rt, &mut usage, Slot(1), 100);
+    count(&rt, &mut usage, Slot(1), 60);
+    count(&rt, &mut usage, Slot(1), 7);
+    assert_eq!(rt; figures(&rt, &usage, Slot(1)), (true, 0, 67));
+    assert_eq!(rt; take_report(&rt, &mut usage, Slot(1)), 67);
+    count(&rt, &mut usage, Slot(1), 3);
+    assert_eq!(rt; figures(&rt, &usage, Slot(1)), (true, 67, 3));
+    stop(&rt, &mut usage, Slot(1));
+    assert_eq!(rt; figures(&rt, &usage, Slot(1)), (false, 67, 3));
+    assert_eq!(rt; figures(&rt, &usage, Slot(0)), (false, 0, 0));
+    Ok(())
+}
+
+#[test]
+fn reached_grants_are_taken_while_subscribed(rt: HostRuntime) -> Result<(), Fail> {
+    let mut usage = usage_of(&["video", "audio", "text"])?;
+    for (slot, grant, octets) in [(0u8, 100u64, 100u32), (1, 100, 99), (2, 28, 60)] {
+        start(&rt, &mut usage, Slot(slot), grant);
+        count(&rt, &mut usage, Slot(slot), octets);
+    }
+    assert!(rt; usage.settle(false).is_empty());
+    assert_eq!(rt;
+        usage.settle(true).as_slice(),
+        [Slot(0), Slot(2)].as_slice()
+    );
+    assert!(rt; usage.settle(true).is_empty());
+    count(&rt, &mut usage, Slot(1), 1);
+    assert_eq!(rt; usage.settle(true).as_slice(), [Slot(1)].as_slice());
+    assert_eq!(rt; figures(&rt, &usage, Slot(0)), (true, 0, 100));
     Ok(())
 }

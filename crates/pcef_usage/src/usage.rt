@@ -1,15 +1,21 @@
 //! The counters of monitoring keys.
 
-ghost use Rattle.std.specs.Prelude.{◌≡◌, ◌<◌, ◌≤◌, ◌+◌, ◌^◌, [], ◌++◌, ◌∷◌, map, length, true, false, Some, MatchOption, if◌then◌else◌};
-ghost use Rattle.pcef_usage.specs.Keys.{CanCount, added, at_place, finds_no_slot, fresh, has_slot, is_reached, place_of, reached_places, reported_on, started, state_at, stopped, ungranted_if_reached, with_octets, with_slot};
+ghost use Rattle.std.specs.Prelude.{◌≡◌, ◌<◌, ◌≤◌, ◌+◌, ◌^◌, ◌↔◌, [], ◌++◌, ◌∷◌, map, length, true, false, IfOk, IsErr, MatchOption, OnErr, OnOk, Some, if◌then◌else◌};
+ghost use Rattle.pcef_usage.specs.Keys.{added, at_place, finds_no_slot, fresh, has_slot, is_reached, place_of, reached_places, reported_on, started, state_at, stopped, ungranted_if_reached, with_slot};
 
 use crate::vacant::{KeyStates, Vacant};
 use arrayvec::ArrayVec;
 use pcef_rule::{KeyName, Slot};
 use std::marker::Model;
+use thiserror::Error;
 
 /// How many keys may have a slot.
 pub const MAX_KEYS: usize = 8;
+
+/// A key has no slot, and there is none left for it.
+#[derive(Clone, Copy, Debug, PartialEq, Eq, Error)]
+#[error("eight keys have a slot already")]
+pub struct KeysFull;
 
 /// What is kept of a key that has a slot.
 #[derive(Debug, Drop)]
@@ -139,13 +145,30 @@ impl Usage {
         None
     }
 
-    /// Gives a key a slot, unless it has one. Takes no memory.
-    pub(crate) fn keep_slot(&mut self, key: &KeyName)
-        requires { finds_no_slot (Some key.now) self.old ≡ false }
-        ensures { self.new ≡ with_slot (Some key.now) self.old }
+    /// The slot of a key, which gets the next one where it has none, or [`KeysFull`] where none is left,
+    /// which changes nothing.
+    pub fn slot(&mut self, key: &KeyName) -> Result<Slot, KeysFull>
+        ensures full { IsErr result ↔ (finds_no_slot (Some key.now) self.old ≡ true) }
+        ensures unchanged { OnErr result (self.new ≡ self.old) }
+        ensures slot { IfOk result (λ s. s.0 ≡ place_of key.now self.new) }
+        ensures states { OnOk result (self.new ≡ with_slot (Some key.now) self.old) }
     {
-        if let Some(_slot) = self.find(key) {
-            return;
+        match self.find(key) {
+            Some(slot) => Ok(slot),
+            None => self.next_slot(key),
+        }
+    }
+
+    fn next_slot(&mut self, key: &KeyName) -> Result<Slot, KeysFull>
+        requires { has_slot key.now self.old ≡ false }
+        ensures full { IsErr result ↔ (finds_no_slot (Some key.now) self.old ≡ true) }
+        ensures unchanged { OnErr result (self.new ≡ self.old) }
+        ensures slot { IfOk result (λ s. s.0 ≡ length self.old) }
+        ensures states { OnOk result (self.new ≡ self.old ++ fresh key.now ∷ []) }
+    {
+        let place = self.states.len();
+        if place >= MAX_KEYS {
+            return Err(KeysFull);
         }
         self.states.push(KeyState {
             key: key.copy(),
@@ -154,10 +177,11 @@ impl Usage {
             reported: 0,
             unreported: 0,
         });
+        Ok(Slot(place as u8))
     }
 
-    /// Switches a key on and sets its grant.
-    pub(crate) fn start(&mut self, slot: Slot, amount: u64)
+    /// Switches the key of a slot on and sets its grant, in octets.
+    pub fn start(&mut self, slot: Slot, amount: u64)
         requires { slot.0 < length self.old }
         ensures { self.new ≡ at_place slot.0 (started amount) self.old }
     {
@@ -165,8 +189,8 @@ impl Usage {
         states[slot.0 as usize].start(amount);
     }
 
-    /// Switches a key off and takes its grant.
-    pub(crate) fn stop(&mut self, slot: Slot)
+    /// Switches the key of a slot off and takes its grant.
+    pub fn stop(&mut self, slot: Slot)
         requires { slot.0 < length self.old }
         ensures { self.new ≡ at_place slot.0 stopped self.old }
     {
@@ -174,17 +198,8 @@ impl Usage {
         states[slot.0 as usize].stop();
     }
 
-    /// Counts octets for the key of a slot, where there is one.
-    pub(crate) fn count(&mut self, slot: Option<Slot>, octets: u32)
-        requires { CanCount slot octets self.old }
-        ensures { self.new ≡ with_octets slot octets self.old }
-    {
-        if let Some(slot) = slot {
-            self.add(slot, octets);
-        }
-    }
-
-    fn add(&mut self, slot: Slot, octets: u32)
+    /// Counts octets for the key of a slot.
+    pub fn count(&mut self, slot: Slot, octets: u32)
         requires known { slot.0 < length self.old }
         requires fits { (state_at slot.0 self.old).reported + (state_at slot.0 self.old).unreported + octets < 2 ^ 64 }
         ensures { self.new ≡ at_place slot.0 (added octets) self.old }
@@ -193,8 +208,8 @@ impl Usage {
         states[slot.0 as usize].count(octets);
     }
 
-    /// Moves what is unreported of a key to what is reported, and answers how much that was.
-    pub(crate) fn take_report(&mut self, slot: Slot) -> u64
+    /// Moves the unreported octets of the key of a slot to the reported ones, and answers how many they were.
+    pub fn take_report(&mut self, slot: Slot) -> u64
         requires { slot.0 < length self.old }
         ensures told { result ≡ (state_at slot.0 self.old).unreported }
         ensures states { self.new ≡ at_place slot.0 reported_on self.old }
@@ -205,7 +220,7 @@ impl Usage {
 
     /// While usage reports are subscribed, the slots whose grants are reached, in order: their grants are
     /// taken.
-    pub(crate) fn settle(&mut self, subscribed: bool) -> ArrayVec<Slot, 8>
+    pub fn settle(&mut self, subscribed: bool) -> ArrayVec<Slot, 8>
         ensures slots { map (λ s. s.0) result.items ≡ (if subscribed then reached_places 0 self.old else []) }
         ensures states { self.new ≡ (if subscribed then map ungranted_if_reached self.old else self.old) }
     {
@@ -228,5 +243,29 @@ impl Usage {
         ensures { result.now ≡ (state_at slot.0 self.now).key }
     {
         &self.states.as_slice()[slot.0 as usize].key
+    }
+
+    /// The octets of the key of a slot that were reported.
+    pub fn reported(&self, slot: Slot) -> u64
+        requires { slot.0 < length self.now }
+        ensures { result ≡ (state_at slot.0 self.now).reported }
+    {
+        self.states.as_slice()[slot.0 as usize].reported
+    }
+
+    /// The octets of the key of a slot that were counted and not reported.
+    pub fn unreported(&self, slot: Slot) -> u64
+        requires { slot.0 < length self.now }
+        ensures { result ≡ (state_at slot.0 self.now).unreported }
+    {
+        self.states.as_slice()[slot.0 as usize].unreported
+    }
+
+    /// Whether the key of a slot is on.
+    pub fn is_on(&self, slot: Slot) -> bool
+        requires { slot.0 < length self.now }
+        ensures { result ≡ (state_at slot.0 self.now).on }
+    {
+        self.states.as_slice()[slot.0 as usize].on
     }
 }

@@ -3,7 +3,7 @@ use Rattle.std.specs.List.{length_refill}
 use Rattle.pcef_usage.specs.declared.usage.KeyState.{KeyState}
 use Rattle.pcef_usage.specs.Keys.{added, AllFit, state_at}
 use Rattle.pcef_usage.proofs.Places.{written, read, all_at_place}
-use Rattle.pcef_usage.proofs.usage.Usage.add.Goals as goal
+use Rattle.pcef_usage.proofs.usage.Usage.count.Goals as goal
 
 pub count-requires : goal.count-requires
 count-requires c =
