@@ -194,13 +194,7 @@ impl Bearers {
         let Some(bearer) = self.bearer_beside(&name, qos) else {
             unreachable!()
         };
-        let new = Bound {
-            name,
-            qos: *qos,
-            rates,
-            bearer,
-        };
-        put(&mut self.bound, new);
+        self.bind_to(name, *qos, rates, bearer);
         Ok(bearer)
     }
 
@@ -239,6 +233,23 @@ impl Bearers {
         ensures bound { IfOk result (λ id. self.new ≡ with_rules self.old (put (bound_at name qos rates id.0) self.old.bound)) }
     {
         self.set(name, &qos, rates)
+    }
+
+    /// Binds a rule, anew where it is bound, to the bearer that [`Bearers::bearer_for`] gives for it, where
+    /// [`Bearers::refusal`] finds nothing against it. Judges nothing again, and takes no memory.
+    pub fn bind_to(&mut self, name: RuleName, qos: Qos, rates: Option<Rates>, bearer: BearerId)
+        requires accepted { first_of (refusals self.old (without name self.old.bound) qos rates) ≡ None }
+        requires gets { id_beside self.old.default_qos self.old.bound (without name self.old.bound) qos ≡ Some bearer.0 }
+        requires room { HasRoom name 64 self.old.bound }
+        ensures { self.new ≡ with_rules self.old (put (bound_at name qos rates bearer.0) self.old.bound) }
+    {
+        let new = Bound {
+            name,
+            qos,
+            rates,
+            bearer,
+        };
+        put(&mut self.bound, new);
     }
 
     /// Drops the rule of this name, and tells what it leaves, or `None` where no rule of this name is

@@ -34,6 +34,23 @@ fn set(
     Ok(None)
 }
 
+/// Binds a rule to the bearer that is found for it, and tells whether there is one.
+fn bind_to_found(bearers: &mut Bearers, name: RuleName, qos: &Qos, rates: Option<Rates>) -> bool {
+    if bearers.bound().len() >= MAX_BOUND {
+        return false;
+    }
+    if bearers.refusal(&name, *qos, rates).is_some() {
+        return false;
+    }
+    match bearers.bearer_for(&name, *qos) {
+        Some(bearer) => {
+            bearers.bind_to(name, *qos, rates, bearer);
+            true
+        }
+        None => false,
+    }
+}
+
 const NAMES: [&str; 10] = ["r1", "r2", "r3", "r4", "r5", "r6", "r7", "r8", "r9", "r10"];
 
 /// Ten rules on ten bearers beside the default one.
@@ -157,6 +174,20 @@ fn a_bearer_ends_with_its_last_rule(rt: HostRuntime) -> Result<(), Fail> {
         set(&mut bearers, "r12", pair(7, 11)?, None)?,
         Some(Ok(BearerId(14)))
     );
+    Ok(())
+}
+
+#[test]
+fn a_rule_is_bound_to_the_bearer_that_was_found(rt: HostRuntime) -> Result<(), Fail> {
+    let mut bearers = ten()?;
+    let also = RuleName::new("also")?;
+    assert!(rt; bind_to_found(&mut bearers, also.copy(), &pair(8, 4)?, None));
+    assert_eq!(rt; bearers.bearer_of(&also), Some(BearerId(9)));
+    assert!(rt; bind_to_found(&mut bearers, RuleName::new("r4")?, &pair(8, 5)?, None));
+    assert_eq!(rt; bearers.rules_on(BearerId(9)), 1);
+    assert_eq!(rt; bearers.rules_on(BearerId(10)), 2);
+    assert!(rt; !bind_to_found(&mut bearers, RuleName::new("r11")?, &pair(8, 11)?, None));
+    assert_eq!(rt; bearers.bound().len(), 11);
     Ok(())
 }
 

@@ -1,6 +1,14 @@
 -- A session that is opened agrees with the empty journal, and goes on agreeing as workers come and leave.
-use Rattle.std.proofs.Common.{◌≡◌, ℕ, Bool, List, [], refl, sym, ap, subst, arith, Contains, None, true, false, map}
+use Rattle.std.proofs.Common.{◌≡◌, ℕ, Bool, List, [], refl, sym, ap, subst, arith, inl, Contains, None, true, false, map}
+use Rattle.std.specs.Prelude.{◌↔◌, Err, IsOk, Ok, Option, Result, Some}
 use Rattle.std.specs.List.{AllByRecursion}
+use Rattle.std.specs.Result.{result_err}
+use Rattle.pcef_rule.specs.declared.qci.Kind.{Kind}
+use Rattle.pcef_rule.specs.declared.qci.Kind.TheVariants as kind
+use Rattle.pcef_rule.specs.QciKinds.{kind_of}
+use Rattle.pcef_model.specs.declared.answer.OpenFault.{OpenFault}
+use Rattle.pcef_model.specs.declared.answer.OpenFault.TheVariants as fault
+use Rattle.pcef_model.specs.Answers.{Opens}
 use Rattle.pcef_table.specs.declared.entry.Entry.{Entry}
 use Rattle.pcef_table.specs.declared.entry.Source.{Source}
 use Rattle.pcef_table.specs.Tables.{TableValue}
@@ -20,6 +28,23 @@ use Rattle.pcef_model.specs.Lawful.{at_first, by_attach, by_leave}
 use Rattle.pcef_model.specs.Refusals.{attach_faults, first_of, is_attached}
 use Rattle.pcef_session.specs.Shown.{Shows}
 use Rattle.pcef_session.proofs.ShownLater.{shows_same}
+
+-- ---- opening
+-- the bearers are made exactly where no fault is found
+pub opens_as_made : {B : Type 0} (p : Setting) (r : Result B OpenFault) →
+    ((r ≡ Err fault.UnknownQci) ↔ (kind_of p.qcis p.default_qos.qci.0 ≡ None)) →
+    ((r ≡ Err fault.DefaultIsGbr) ↔ (kind_of p.qcis p.default_qos.qci.0 ≡ Some kind.Gbr)) →
+    (IsOk r ↔ (kind_of p.qcis p.default_qos.qci.0 ≡ Some kind.NonGbr)) → Opens p (result_err r)
+opens_as_made {B} p r unknown gbr accepted = from (kind_of p.qcis p.default_qos.qci.0) refl
+  where
+    from : (k : Option Kind) → kind_of p.qcis p.default_qos.qci.0 ≡ k → Opens p (result_err r)
+    from None is = rw (unknown.1 is) (inl (rw is refl))
+    from (Some kind.Gbr) is = rw (gbr.1 is) (inl (rw is refl))
+    from (Some kind.NonGbr) is = made r (accepted.1 is)
+      where
+        made : (s : Result B OpenFault) → IsOk s → Opens p (result_err s)
+        made (Ok b) ok = rw is refl
+        made (Err f) ok = absurd cc
 
 flags_first : (usage rat plmn location zone : Bool) → usage ≡ false → rat ≡ false → plmn ≡ false → location ≡ false → zone ≡ false →
     record { usage_report = usage; rat_change = rat; plmn_change = plmn; user_location_change = location; ue_time_zone_change = zone } ≡ no_triggers

@@ -45,7 +45,8 @@ use Rattle.pcef_session.specs.Agreement.{KeyAgrees}
 use Rattle.pcef_bearer.specs.Bindings.{Binding, id_beside, without as bound_without}
 use Rattle.pcef_session.specs.declared.prepared.Activation.{Activation}
 use Rattle.pcef_bearer.specs.Standing.{binding_of}
-use Rattle.pcef_session.specs.Preparing.{IsActivationOf, IsTableAfter}
+use Rattle.pcef_rule.specs.declared.quantity.BearerId.{BearerId}
+use Rattle.pcef_session.specs.Preparing.{GetsBearer, IsActivationOf, IsBearerOf, IsTableAfter}
 use Rattle.pcef_model.specs.Changes.{MakesActive}
 use Rattle.pcef_session.specs.private.Keys.{is_on, key_switched, switches_on}
 use Rattle.pcef_model.specs.Refusals.{becoming_active, first_of, refusals}
@@ -63,7 +64,7 @@ use Rattle.pcef_session.proofs.ShownChanges.{Fives, after_is, lawful_fives, name
 use Rattle.pcef_model.proofs.Decisive.{made_once, once_is}
 use Rattle.pcef_session.proofs.ShownVerdicts.{rule_is}
 use Rattle.pcef_session.proofs.ShownLater.{shows_same, shows_after}
-use Rattle.pcef_session.specs.private.Entries.{with_command, IsEntryOf, ShowsNext}
+use Rattle.pcef_session.specs.private.Entries.{with_command, IsEntryOf, IsEntryOn, ShowsNext}
 use Rattle.pcef_session.proofs.TakenAway.{shows_left, stay_counted}
 use Rattle.pcef_model.specs.Reports.{after_command}
 
@@ -294,6 +295,18 @@ entry_stands v c r x e sound makes is_of is =
     (sym (next_id p g c r e.bearer.0 makes (lawful_bound p v.journal sound.agrees.lawful) bound))
     (is.slot_is ∙ ap (λ (q : Properties). option_map (λ k. place_in k v.parts.keys) q.key) same)
     (is.counted_is ∙ on_is p v.journal v.parts.keys x.properties.key sound.agrees.keys_are sound.agrees.usage_is ∙ ap (λ (q : Properties). counts_now g.on q.key) same)
+
+-- the entry that was made for a rule on the bearer that it gets
+pub entry_made : (v : Held) (x : Activation) (id : BearerId) (e : Entry) → IsSoundHeld v → GetsBearer v.setting v.journal (Some x) (Some id) →
+    IsEntryOn id v.parts.keys x e → IsEntryOf v.parts.binding v.parts.keys x e
+entry_made v x id e sound gets is =
+    let found : IsBearerOf v.parts.binding x id = subst (λ (b : Binding). IsBearerOf b x id) (sym sound.agrees.binding_is) gets in
+    record {
+      source_is = is.source_is;
+      bearer_is = found ∙ ap (λ (n : BearerId). Some n.0) (sym is.bearer_is);
+      slot_is = is.slot_is;
+      counted_is = is.counted_is;
+    }
 
 -- the place of a rule is in the catalog
 known_of : (offers : List Offer) (source : Source) (r : Active) → rule_of offers source ≡ Some r → IsKnown offers source

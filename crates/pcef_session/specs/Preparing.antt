@@ -2,13 +2,16 @@
 use Rattle.std.specs.Prelude.{ℕ, ◌≡◌, ◌≤◌, ◌<◌, ◌+◌, true, List, Option, Some, None, IfSome, is_some, length}
 use Rattle.std.specs.Arc.{arc_value}
 use Rattle.std.specs.Option.{option_map}
+use Rattle.pcef_bearer.specs.Bindings.{Binding, id_beside, without}
+use Rattle.pcef_bearer.specs.Standing.{binding_of}
+use Rattle.pcef_rule.specs.declared.quantity.BearerId.{BearerId}
 use Rattle.pcef_model.specs.declared.command.Command.{Command}
 use Rattle.pcef_model.specs.declared.command.Command.TheVariants.{Activate}
 use Rattle.pcef_model.specs.Answers.{changes}
 use Rattle.pcef_model.specs.ActiveRules.{Active}
 use Rattle.pcef_model.specs.Commands.{activated, is_table}
 use Rattle.pcef_model.specs.Entries.{Journal}
-use Rattle.pcef_model.specs.Journals.{attached, gen}
+use Rattle.pcef_model.specs.Journals.{attached, gen, now}
 use Rattle.pcef_model.specs.Refusals.{first_of, is_active, refusals}
 use Rattle.pcef_model.specs.Reports.{after_command, plan}
 use Rattle.pcef_model.specs.Setting.{Setting}
@@ -32,19 +35,33 @@ Activates p None (Some x) = ⊥
 Activates p (Some r) None = ⊥
 Activates p (Some r) (Some x) = IsActivationOf p r x
 
+-- the bearer that a rule gets: the one of its pair of QCI and ARP, or else the least id that is free
+abbrev pub IsBearerOf : Binding → Activation → BearerId → Type 0
+IsBearerOf b x id = id_beside b.default_qos b.bound (without x.properties.name b.bound) x.properties.qos ≡ Some id.0
+
+-- a bearer is prepared where a rule becomes active, and it is the one that this rule gets
+abbrev pub IsBearerFor : Binding → Option Activation → Option BearerId → Type 0
+IsBearerFor b None bearer = bearer ≡ None
+IsBearerFor b (Some x) None = ⊥
+IsBearerFor b (Some x) (Some id) = IsBearerOf b x id
+
+abbrev pub GetsBearer : Setting → Journal → Option Activation → Option BearerId → Type 0
+GetsBearer p j x bearer = IsBearerFor (binding_of p (now p j)) x bearer
+
 -- a table is made exactly by a table command, and shows the newest generation of the journal after it
 pub record IsTableAfter (p : Setting) (after : Journal) (c : Command) (made : Option TableValue) : Type 0 where
   pub makes : is_some made ≡ is_table c
   pub shows : IfSome made (λ t. Shows p after (gen after) t)
 
 -- a command that the session accepts next and that changes something, with the table of the journal after it, the
--- rule that it makes active, what it reports by itself, room in the journal for that, for the thresholds of
+-- rule that it makes active and the bearer of this rule, what it reports by itself, room in the journal for that, for the thresholds of
 -- eight keys and for the leaving of each worker, and a place for a rule
 pub record IsReady (s : SessionModel) (d : PreparedChange) : Type 0 where
   pub accepted : first_of (refusals s.setting s.journal d.command) ≡ None
   pub changing : changes s.setting s.journal d.command ≡ true
   pub table : IsTableAfter s.setting (after_command s.setting s.journal d.command) d.command (option_map (λ t. arc_value t) d.table)
   pub rule : Activates s.setting (activated s.setting d.command) d.rule
+  pub bearer : GetsBearer s.setting s.journal d.rule d.bearer
   pub plan_is : d.reports.items ≡ plan s.setting s.journal d.command
   pub has_room : length d.reports.items + 9 + length (attached s.journal) ≤ s.room.entries
   pub has_place : 0 < s.room.rules

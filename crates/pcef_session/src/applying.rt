@@ -1,24 +1,25 @@
 //! What an accepted command does to what a session keeps. Nothing here takes memory.
 
-ghost use Rattle.std.specs.Prelude.{◌≡◌, ◌||◌, ◌<◌, ◌≤◌, ◌+◌, ◌∷◌, filter, length, not, true, false, None, Some, unwrap_or};
+ghost use Rattle.std.specs.Prelude.{◌≡◌, ◌||◌, ◌<◌, ◌≤◌, ◌+◌, ◌∷◌, filter, length, not, false, unwrap_or};
 ghost use Rattle.std.specs.Arc.{arc_value};
 ghost use Rattle.std.specs.List.{list_any};
 ghost use Rattle.std.specs.Option.{option_copied, option_map};
 ghost use Rattle.indexmap.specs.IndexMap.{insert_entry, spare};
 ghost use Rattle.pcef_model.specs.Commands.{takes_away};
 ghost use Rattle.pcef_model.specs.Setting.{same_name};
-ghost use Rattle.pcef_model.specs.Refusals.{first_of, is_close, is_terminate};
+ghost use Rattle.pcef_model.specs.Refusals.{is_close, is_terminate};
+ghost use Rattle.pcef_session.specs.Preparing.{IsBearerFor, IsBearerOf};
 ghost use Rattle.pcef_bearer.specs.Bindings as binding;
 ghost use Rattle.pcef_usage.specs.Commands.{subscribed_by};
 ghost use Rattle.pcef_usage.specs.Keys.{finds_no_slot, keys_of};
 ghost use Rattle.pcef_usage.specs.Tellings.{KnowsAll, settled_states, settled_tellings, states_stopped, states_told, told};
-ghost use Rattle.pcef_session.specs.private.Changes.{CanBind, IsRebound, active_after, entered_by, is_still_bound, key_of, rule_key};
+ghost use Rattle.pcef_session.specs.private.Changes.{Binds, CanBind, IsBoundTo, IsRebound, active_after, entered_by, is_still_bound, key_of, rule_key};
 
 use crate::prepared::Activation;
 use indexmap::IndexMap;
 use pcef_bearer::Bearers;
 use pcef_model::{Command, Entry, Telling, TriggerSet};
-use pcef_rule::{BearerId, KeyName, Properties, RuleName};
+use pcef_rule::{BearerId, KeyName, RuleName};
 use pcef_table::{Source, Table};
 use pcef_usage::CountedJournal;
 use std::sync::Arc;
@@ -107,24 +108,6 @@ pub(crate) fn keep_table(held: &mut Arc<Table>, made: Option<Arc<Table>>)
     }
 }
 
-/// Binds a rule to the bearer of its pair, which was found to be possible.
-pub(crate) fn bind(bearers: &mut Bearers, rule: &Properties) -> BearerId
-    requires accepted { first_of (binding.refusals bearers.old (binding.without rule.now.name bearers.old.bound) rule.now.qos rule.now.rates) ≡ None }
-    requires room { binding.HasRoom rule.now.name 64 bearers.old.bound }
-    ensures bearer { binding.id_beside bearers.old.default_qos bearers.old.bound (binding.without rule.now.name bearers.old.bound) rule.now.qos ≡ Some result.0 }
-    ensures bound { bearers.new ≡ binding.with_rules bearers.old (binding.put (binding.bound_at rule.now.name rule.now.qos rule.now.rates result.0) bearers.old.bound) }
-{
-    let bound = if bearers.is_bound(&rule.name) {
-        bearers.rebind(rule.name.copy(), rule.qos, rule.rates)
-    } else {
-        bearers.bind(rule.name.copy(), rule.qos, rule.rates)
-    };
-    match bound {
-        Ok(bearer) => bearer,
-        Err(_) => unreachable!(),
-    }
-}
-
 /// Keeps a rule that became active, in the place of the one of its name or behind all others.
 pub(crate) fn keep_rule(active: &mut IndexMap<RuleName, Source>, name: RuleName, source: Source)
     requires { 0 < spare active.old }
@@ -156,28 +139,49 @@ fn take_away(active: &mut IndexMap<RuleName, Source>, bearers: &mut Bearers, com
     keep_bound(active, bearers);
 }
 
-/// Changes the active rules and their bearers as a command says, and gives the bearer of the rule that
-/// becomes active.
+/// Binds a rule to the bearer that was found for it, and keeps it.
+fn activate(
+    active: &mut IndexMap<RuleName, Source>,
+    bearers: &mut Bearers,
+    rule: Activation,
+    bearer: BearerId,
+)
+    requires place { 0 < spare active.old }
+    requires can { Binds rule.properties bearers.old }
+    requires gets { IsBearerOf bearers.old rule bearer }
+    ensures active { active.new.entries ≡ insert_entry same_name active.old.entries rule.properties.name rule.source }
+    ensures bearers { IsBoundTo rule.properties bearers.old bearers.new bearer }
+{
+    let name = rule.properties.name.copy();
+    bearers.bind_to(
+        name.copy(),
+        rule.properties.qos,
+        rule.properties.rates,
+        bearer,
+    );
+    keep_rule(active, name, rule.source);
+}
+
+/// Changes the active rules and their bearers as a command says. The rule that becomes active gets this
+/// bearer.
 pub(crate) fn change_rules(
     active: &mut IndexMap<RuleName, Source>,
     bearers: &mut Bearers,
     command: &Command,
     rule: Option<Activation>,
-) -> Option<BearerId>
+    bearer: Option<BearerId>,
+)
     requires place { 0 < spare active.old }
     requires can { CanBind rule bearers.old }
+    requires gets { IsBearerFor bearers.old rule bearer }
     ensures active { active.new.entries ≡ active_after rule bearers.new active.old.entries }
-    ensures bearers { IsRebound rule command.now bearers.old bearers.new result }
+    ensures bearers { IsRebound rule command.now bearers.old bearers.new bearer }
 {
     match rule {
-        Some(rule) => {
-            let bearer = bind(bearers, &rule.properties);
-            keep_rule(active, rule.properties.name.copy(), rule.source);
-            Some(bearer)
-        }
-        None => {
-            take_away(active, bearers, command);
-            None
-        }
+        Some(rule) => match bearer {
+            Some(bearer) => activate(active, bearers, rule, bearer),
+            None => unreachable!(),
+        },
+        None => take_away(active, bearers, command),
     }
 }

@@ -3,7 +3,7 @@
 ghost use Rattle.std.specs.Prelude.{◌≡◌, IfOk, None, Some};
 ghost use Rattle.pcef_bearer.specs.Bindings as binding;
 ghost use Rattle.pcef_model.specs.Refusals.{first_of};
-ghost use Rattle.pcef_session.specs.private.Entries.{IsEntryOf};
+ghost use Rattle.pcef_session.specs.private.Entries.{IsEntryOn};
 
 use crate::keys::{is_on, slot_of};
 use crate::prepared::Activation;
@@ -14,7 +14,7 @@ use pcef_usage::Usage;
 use std::alloc::AllocError;
 
 /// The bearer of a rule that can be bound.
-fn bearer_for(bearers: &Bearers, rule: &Properties) -> BearerId
+pub(crate) fn bearer_for(bearers: &Bearers, rule: &Properties) -> BearerId
     requires { first_of (binding.refusals bearers.now (binding.without rule.now.name bearers.now.bound) rule.now.qos rule.now.rates) ≡ None }
     ensures { binding.id_beside bearers.now.default_qos bearers.now.bound (binding.without rule.now.name bearers.now.bound) rule.now.qos ≡ Some result.0 }
 {
@@ -24,20 +24,19 @@ fn bearer_for(bearers: &Bearers, rule: &Properties) -> BearerId
     }
 }
 
-/// The entry of a rule that becomes active and can be bound.
+/// The entry of a rule that becomes active, on this bearer.
 pub(crate) fn entry_of(
-    bearers: &Bearers,
     usage: &Usage,
     rule: &Activation,
+    bearer: BearerId,
 ) -> Result<Entry, AllocError>
-    requires { first_of (binding.refusals bearers.now (binding.without rule.now.properties.name bearers.now.bound) rule.now.properties.qos rule.now.properties.rates) ≡ None }
-    ensures { IfOk result (λ e. IsEntryOf bearers.now usage.now rule.now e) }
+    ensures { IfOk result (λ e. IsEntryOn bearer usage.now rule.now e) }
 {
     let source = rule.source.copy()?;
     let key = rule.properties.key.as_ref();
     Ok(Entry {
         source,
-        bearer: bearer_for(bearers, &rule.properties),
+        bearer,
         slot: slot_of(usage, key),
         counted: is_on(usage, key),
     })

@@ -6,7 +6,7 @@ ghost use Rattle.std.specs.Option.{option_copied, option_map};
 ghost use Rattle.pcef_session.specs.Preparing.{table_made};
 
 use pcef_model::{Command, Telling};
-use pcef_rule::{Properties, RuleName};
+use pcef_rule::{BearerId, Properties, RuleName};
 use pcef_table::{Source, Table};
 use std::sync::Arc;
 
@@ -28,6 +28,8 @@ pub struct PreparedChange {
     pub table: Option<Arc<Table>>,
     /// The rule that the command makes active.
     pub rule: Option<Activation>,
+    /// The bearer that this rule gets.
+    pub bearer: Option<BearerId>,
     /// What the command reports by itself, in order.
     pub reports: Vec<Telling>,
 }

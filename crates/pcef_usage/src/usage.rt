@@ -250,7 +250,8 @@ impl Usage {
         requires { slot.0 < length self.now }
         ensures { result ≡ (state_at slot.0 self.now).reported }
     {
-        self.states.as_slice()[slot.0 as usize].reported
+        let states = self.states.as_slice();
+        states[slot.0 as usize].reported
     }
 
     /// The octets of the key of a slot that were counted and not reported.
@@ -258,7 +259,8 @@ impl Usage {
         requires { slot.0 < length self.now }
         ensures { result ≡ (state_at slot.0 self.now).unreported }
     {
-        self.states.as_slice()[slot.0 as usize].unreported
+        let states = self.states.as_slice();
+        states[slot.0 as usize].unreported
     }
 
     /// Whether the key of a slot is on.
@@ -266,6 +268,7 @@ impl Usage {
         requires { slot.0 < length self.now }
         ensures { result ≡ (state_at slot.0 self.now).on }
     {
-        self.states.as_slice()[slot.0 as usize].on
+        let states = self.states.as_slice();
+        states[slot.0 as usize].on
     }
 }

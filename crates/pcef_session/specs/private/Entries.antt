@@ -6,6 +6,7 @@ use Rattle.pcef_model.specs.declared.entry.Entry.TheVariants as entry
 use Rattle.pcef_model.specs.Entries.{Journal}
 use Rattle.pcef_model.specs.Journals.{gen}
 use Rattle.pcef_model.specs.Setting.{Setting}
+use Rattle.pcef_rule.specs.declared.quantity.BearerId.{BearerId}
 use Rattle.pcef_bearer.specs.Bindings.{Binding, id_beside, without}
 use Rattle.pcef_table.specs.declared.entry.Entry.{Entry}
 use Rattle.pcef_table.specs.Tables.{TableValue}
@@ -22,6 +23,14 @@ with_command c j = entry.Command c ∷ j
 -- a table of the generation that a command makes
 abbrev pub ShowsNext : Setting → Journal → Command → TableValue → Type 0
 ShowsNext p j c t = Shows p (with_command c j) (gen (with_command c j)) t
+
+-- an entry for a rule that becomes active on this bearer: the slot that its key has or gets, and whether the key
+-- is on
+pub record IsEntryOn (id : BearerId) (keys : List KeyState) (x : Activation) (e : Entry) : Type 0 where
+  pub source_is : e.source ≡ x.source
+  pub bearer_is : e.bearer ≡ id
+  pub slot_is : option_map (λ s. s.0) e.slot ≡ option_map (λ k. place_of k keys) x.properties.key
+  pub counted_is : e.counted ≡ is_on x.properties.key keys
 
 -- an entry for a rule that becomes active: the bearer of its pair, the slot that its key has or gets, and whether
 -- the key is on

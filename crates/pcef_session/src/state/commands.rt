@@ -24,11 +24,12 @@ impl SessionState {
             command,
             table,
             rule,
+            bearer,
             reports,
         } = change;
         let first_report = self.counted.journal().reports_len();
         let key = rule_key(rule.as_ref());
-        let bearer = change_rules(&mut self.active, &mut self.bearers, &command, rule);
+        change_rules(&mut self.active, &mut self.bearers, &command, rule, bearer);
         keep_table(&mut self.table, table);
         self.subscribed = subscribed_by(&command, self.subscribed);
         self.closed = closed_by(&command, self.closed);

@@ -12,20 +12,20 @@ ghost use Rattle.pcef_model.specs.Refusals.{first_of, is_active, refusals};
 ghost use Rattle.pcef_model.specs.Reports.{after_command, ended, inactive, plan};
 ghost use Rattle.pcef_model.specs.Setting.{offer_named};
 ghost use Rattle.pcef_session.specs.declared.prepared.Prepared.{Prepared};
-ghost use Rattle.pcef_session.specs.Preparing.{Activates, IsPreparedFor, IsReady, IsTableAfter, command_of};
+ghost use Rattle.pcef_session.specs.Preparing.{Activates, GetsBearer, IsPreparedFor, IsReady, IsTableAfter, command_of};
 ghost use Rattle.pcef_session.specs.private.Entries.{ShowsNext};
 ghost use Rattle.pcef_session.specs.private.Keys.{key_switched};
 ghost use Rattle.pcef_session.specs.SessionModel.{HasAtLeast};
 
 use super::SessionState;
 use crate::ended_keys::add_ended_keys;
-use crate::entries::entry_of;
+use crate::entries::{bearer_for, entry_of};
 use crate::inactive::inactive;
 use crate::keys::{place_of, switched_key, switches_on};
 use crate::planning::{add_asked, add_noticed};
 use crate::prepared::{Activation, Prepared, PreparedChange};
 use pcef_model::{Command, Refusal, Telling};
-use pcef_rule::{KeyName, RuleName};
+use pcef_rule::{BearerId, KeyName, RuleName};
 use pcef_table::{Source, Table};
 use std::alloc::{AllocError, Global};
 use std::sync::Arc;
@@ -68,14 +68,33 @@ impl SessionState {
         }
     }
 
+    /// The bearer that the rule gets which a command makes active.
+    fn bearer_for_rule(&self, command: &Command, rule: Option<&Activation>) -> Option<BearerId>
+        requires accepted { first_of (refusals self.now.setting self.now.journal command.now) ≡ None }
+        requires changing { changes self.now.setting self.now.journal command.now ≡ true }
+        requires rule { Activates self.now.setting (activated self.now.setting command.now) (option_copied rule) }
+        ensures { GetsBearer self.now.setting self.now.journal (option_copied rule.entry) result }
+    {
+        match rule {
+            Some(rule) => Some(bearer_for(&self.bearers, &rule.properties)),
+            None => None,
+        }
+    }
+
     /// The table with the rule that a command makes active.
-    fn table_with(&self, command: &Command, rule: &Activation) -> Result<Table, AllocError>
+    fn table_with(
+        &self,
+        command: &Command,
+        rule: &Activation,
+        bearer: BearerId,
+    ) -> Result<Table, AllocError>
         requires accepted { first_of (refusals self.now.setting self.now.journal command.now) ≡ None }
         requires changing { changes self.now.setting self.now.journal command.now ≡ true }
         requires rule { Activates self.now.setting (activated self.now.setting command.now) (Some rule.now) }
+        requires bearer { GetsBearer self.now.setting self.now.journal (Some rule.now) (Some bearer) }
         ensures { IfOk result (λ t. ShowsNext self.now.setting self.now.journal command.now t) }
     {
-        let entry = entry_of(&self.bearers, self.counted.usage(), rule)?;
+        let entry = entry_of(self.counted.usage(), rule, bearer)?;
         self.table.with(&self.listing, entry)
     }
 
@@ -101,15 +120,24 @@ impl SessionState {
     }
 
     /// The table that a command makes.
-    fn table_made(&self, command: &Command, rule: Option<&Activation>) -> Result<Table, AllocError>
+    fn table_made(
+        &self,
+        command: &Command,
+        rule: Option<&Activation>,
+        bearer: Option<BearerId>,
+    ) -> Result<Table, AllocError>
         requires accepted { first_of (refusals self.now.setting self.now.journal command.now) ≡ None }
         requires changing { changes self.now.setting self.now.journal command.now ≡ true }
         requires rule { Activates self.now.setting (activated self.now.setting command.now) (option_copied rule) }
+        requires bearer { GetsBearer self.now.setting self.now.journal (option_copied rule) bearer }
         requires table { is_table command.now ≡ true }
         ensures { IfOk result (λ t. ShowsNext self.now.setting self.now.journal command.now t) }
     {
         match rule {
-            Some(rule) => self.table_with(command, rule),
+            Some(rule) => match bearer {
+                Some(bearer) => self.table_with(command, rule, bearer),
+                None => unreachable!(),
+            },
             None => match switched_key(command) {
                 Some(key) => self.table_switched(command, key),
                 None => self.table_left(command),
@@ -122,14 +150,16 @@ impl SessionState {
         &self,
         command: &Command,
         rule: Option<&Activation>,
+        bearer: Option<BearerId>,
     ) -> Result<Option<Table>, AllocError>
         requires accepted { first_of (refusals self.now.setting self.now.journal command.now) ≡ None }
         requires changing { changes self.now.setting self.now.journal command.now ≡ true }
         requires rule { Activates self.now.setting (activated self.now.setting command.now) (option_copied rule) }
+        requires bearer { GetsBearer self.now.setting self.now.journal (option_copied rule) bearer }
         ensures { IfOk result (λ t. IsTableAfter self.now.setting (after_command self.now.setting self.now.journal command.now) command.now t) }
     {
         if command.is_table() {
-            Ok(Some(self.table_made(command, rule)?))
+            Ok(Some(self.table_made(command, rule, bearer)?))
         } else {
             Ok(None)
         }
@@ -216,13 +246,18 @@ impl SessionState {
         ensures command { IfOk result (λ d. d.command ≡ command) }
     {
         let rule = self.activation(&command)?;
-        let table = share(self.alloc, self.next_table(&command, rule.as_ref())?)?;
+        let bearer = self.bearer_for_rule(&command, rule.as_ref());
+        let table = share(
+            self.alloc,
+            self.next_table(&command, rule.as_ref(), bearer)?,
+        )?;
         let reports = self.plan(&command, rule.as_ref())?;
         self.take_room(reports.as_slice())?;
         Ok(PreparedChange {
             command,
             table,
             rule,
+            bearer,
             reports,
         })
     }

@@ -1,7 +1,7 @@
 use Rattle.std.proofs.Common.{◌≡◌, ◌∙◌, None, sym}
 use Rattle.pcef_bearer.specs.Bindings.{id_beside, without}
 use Rattle.pcef_bearer.proofs.GivenIds.{gets_id}
-use Rattle.pcef_bearer.proofs.Kept.{accepted, kept_put_at}
+use Rattle.pcef_bearer.proofs.Kept.{accepted}
 use Rattle.pcef_bearer.proofs.bearers.Bearers.set.Goals as goal
 
 pub unreachable-requires : goal.unreachable-requires
@@ -12,13 +12,5 @@ unreachable-requires c =
     rw c.in_default-bearer_beside.is at c.bearer_beside.ensures in
     gets_id c.args.self.now.default_qos c.args.name c.args.self.now.bound c.args.qos.now passes.0 (sym none)
 
-pub invariant_of-self : goal.invariant_of-self
-invariant_of-self c = (
-  rw c.put.ensures
-      (kept_put_at
-      (record { default_qos = c.self.inside.default_qos; capacity = c.self.inside.capacity; qcis = c.self.inside.qcis; bound = c.self.inside.bound.items })
-      c.args.self.now c.args.name c.args.qos.now c.args.rates c.in-Some-bearer_beside.bearer.0 c.self.view_is c.self.invariant.0 c.requires
-      (sym c.refusal_beside.ensures ∙ c.in_default.is) (sym (rw c.in-Some-bearer_beside.is at c.bearer_beside.ensures))),
-  c.self.invariant.1,
-  c.self.invariant.2,
-)
+pub bind_to-requires-clause-gets : goal.bind_to-requires-clause-gets
+bind_to-requires-clause-gets c = sym (rw c.in-Some-bearer_beside.is at c.bearer_beside.ensures)

@@ -30,15 +30,22 @@ use Rattle.pcef_session.proofs.Acceptance.{asks_known, can_bind, served_slot}
 use Rattle.pcef_session.proofs.Commanding.{IsCommanded, bearer_commanded, entering, journal_commanded, left_by, outcome_commanded, told_by}
 use Rattle.pcef_session.proofs.SoundLater.{few_entered_by, sound_commanded}
 use Rattle.pcef_session.proofs.state.SessionState.change.Goals as goal
-use Rattle.pcef_session.specs.Preparing.{IsReady}
+use Rattle.pcef_bearer.specs.Bindings.{Binding}
+use Rattle.pcef_session.specs.Preparing.{IsBearerFor, IsReady}
 use Rattle.pcef_session.proofs.NextTables.{table_after}
 
-pub change_rules-bearer-requires-clause-can : goal.change_rules-bearer-requires-clause-can
-change_rules-bearer-requires-clause-can c =
+pub change_rules-requires-clause-can : goal.change_rules-requires-clause-can
+change_rules-requires-clause-can c =
     let s = c.self.inside in
     let p = setting_of s.profile s.listing in
     let ready : IsReady (model_of s) c.args.change = subst (λ (v : SessionModel). IsReady v c.args.change) (sym c.self.view_is) c.requires in
     subst (CanBind c.args.change.rule) (sym c.self.invariant.agrees.binding_is) (can_bind p s.counted.journal c.args.change.command c.args.change.rule ready.accepted ready.changing ready.rule)
+
+pub change_rules-requires-clause-gets : goal.change_rules-requires-clause-gets
+change_rules-requires-clause-gets c =
+    let s = c.self.inside in
+    let ready : IsReady (model_of s) c.args.change = subst (λ (v : SessionModel). IsReady v c.args.change) (sym c.self.view_is) c.requires in
+    subst (λ (b : Binding). IsBearerFor b c.args.change.rule c.args.change.bearer) (sym c.self.invariant.agrees.binding_is) ready.bearer
 
 pub enter-requires-clause-slot : goal.enter-requires-clause-slot
 enter-requires-clause-slot c =
@@ -101,13 +108,13 @@ invariant_of-self c =
     let states : length c.enter.new.counted.states ≡ length (entered_by (rule_key c.args.change.rule) command s.counted.states) = ap (λ (states : List KeyState). length states) entered in
     let reports : length c.deref.result.now ≡ length c.args.change.reports.items = ap (λ (ts : List Telling). length ts) c.deref.ensures.value in
     let room : length (attached j) ≤ c.tell.new.counted.room = omega (arith, few, states, reports, ready.has_room, c.enter.ensures.room, c.tell.ensures.room) in
-    sound_commanded s _ command c.args.change.rule c.change_rules-bearer.result c.self.invariant
+    sound_commanded s _ command c.args.change.rule c.args.change.bearer c.self.invariant
     (record {
       accepted = ready.accepted;
       changing = ready.changing;
       brings = ready.rule;
-      rules_are = c.change_rules-bearer.ensures.active;
-      rebound = c.change_rules-bearer.ensures.bearers;
+      rules_are = c.change_rules.ensures.active;
+      rebound = c.change_rules.ensures.bearers;
       keys_are = c.tell.ensures.states ∙ ap (λ (t : TriggerSet). left_by t.usage_report c.deref.result.now c.enter.new.counted.states) triggers ∙ ap (λ (ts : List Telling). left_by b ts c.enter.new.counted.states) planned ∙ ap (left_by b (plan p j command)) entered;
       triggers_are = triggers;
       shows = subst (Shows p (after_command p j command) (gen (after_command p j command))) (sym table) (table_after p j command (arc_value s.table) (option_map (λ t. arc_value t) c.args.change.table) c.self.invariant.agrees.table_shows ready.table);
@@ -134,26 +141,26 @@ returns-clause-answer c =
     ap (told_by b (plan p j command) (entered_by (rule_key c.args.change.rule) command s.counted.states)) c.enter.ensures.journal in
     let after : c.tell.new.counted.journal ≡ after_command p j command = journal_commanded p j command c.args.change.rule (parts_of s) c.tell.new.counted.journal c.self.invariant.agrees ready.accepted ready.rule journal in
     let parts : Parts = record {
-      rules = c.change_rules-bearer.new.active.entries;
-      binding = c.change_rules-bearer.new.bearers;
+      rules = c.change_rules.new.active.entries;
+      binding = c.change_rules.new.bearers;
       keys = c.tell.new.counted.states;
       triggers = c.subscribed_by-self-inside.result;
       table = arc_value c.keep_table.new.held;
     } in
-    let is : IsCommanded p j command c.args.change.rule (parts_of s) parts c.change_rules-bearer.result = record {
+    let is : IsCommanded p j command c.args.change.rule (parts_of s) parts c.args.change.bearer = record {
       accepted = ready.accepted;
       changing = ready.changing;
       brings = ready.rule;
-      rules_are = c.change_rules-bearer.ensures.active;
-      rebound = c.change_rules-bearer.ensures.bearers;
+      rules_are = c.change_rules.ensures.active;
+      rebound = c.change_rules.ensures.bearers;
       keys_are = c.tell.ensures.states ∙ ap (λ (t : TriggerSet). left_by t.usage_report c.deref.result.now c.enter.new.counted.states) triggers ∙ ap (λ (ts : List Telling). left_by b ts c.enter.new.counted.states) planned ∙ ap (left_by b (plan p j command)) entered;
       triggers_are = triggers;
       shows = subst (Shows p (after_command p j command) (gen (after_command p j command))) (sym table) (table_after p j command (arc_value s.table) (option_map (λ t. arc_value t) c.args.change.table) c.self.invariant.agrees.table_shows ready.table);
     } in
-    let a : Accepted = record { generation = c.generation.result; bearer = c.change_rules-bearer.result; first_report = c.reports_len-first_report.result; past_last_report = c.reports_len.result; unchanged = false } in
+    let a : Accepted = record { generation = c.generation.result; bearer = c.args.change.bearer; first_report = c.reports_len-first_report.result; past_last_report = c.reports_len.result; unchanged = false } in
     let given : Gives (command_outcome p j command) (Ok a) c.tell.new.counted.journal =
     outcome_commanded p j command a c.tell.new.counted.journal ready.accepted ready.changing after
     (c.generation.ensures ∙ ap (λ (t : TableValue). t.number) (c.deref-2.ensures ∙ table) ∙ (table_after p j command (arc_value s.table) (option_map (λ t. arc_value t) c.args.change.table) c.self.invariant.agrees.table_shows ready.table).number_is ∙ sym (ap gen after))
-    (bearer_commanded p j command c.args.change.rule (parts_of s) parts c.change_rules-bearer.result c.self.invariant.agrees is ∙ ap (λ (k : Journal). bearer_named (now p k) command) (sym after))
+    (bearer_commanded p j command c.args.change.rule (parts_of s) parts c.args.change.bearer c.self.invariant.agrees is ∙ ap (λ (k : Journal). bearer_named (now p k) command) (sym after))
     (c.reports_len-first_report.ensures ∙ ap report_count c.journal.ensures) (c.reports_len.ensures ∙ ap report_count c.journal-2.ensures) refl in
     subst (λ (v : SessionModel). Gives (command_outcome v.setting v.journal command) (Ok a) c.tell.new.counted.journal) c.self.view_is given

@@ -6,7 +6,7 @@ use Rattle.pcef_session.proofs.state.SessionState.open.Goals as goal
 
 pub invariant_of-result : goal.invariant_of-result
 invariant_of-result c =
-    sound_opened _ c.in-Ok-new.ensures.journal c.in-Ok-new.ensures.states (search rules) (search rules)
-    (ap (λ (t : TableValue). t.number) c.in-Ok-new-2.ensures.ok ∙ c.in-Ok-empty.ensures.number)
-    (ap (λ (t : TableValue). t.entries) c.in-Ok-new-2.ensures.ok ∙ c.in-Ok-empty.ensures.entries)
-    (triggers_first c.default.result c.default.ensures.0 c.default.ensures.1.0 c.default.ensures.1.1.0 c.default.ensures.1.1.1.0 c.default.ensures.1.1.1.1) c.new-3.ensures refl refl (search rules) (search rules)
+    sound_opened _ c.new-counted.ensures.journal c.new-counted.ensures.states (search rules) (search rules)
+    (ap (λ (t : TableValue). t.number) c.in-Ok-new.ensures.ok ∙ c.in-Ok-empty.ensures.number)
+    (ap (λ (t : TableValue). t.entries) c.in-Ok-new.ensures.ok ∙ c.in-Ok-empty.ensures.entries)
+    (triggers_first c.default.result c.default.ensures.0 c.default.ensures.1.0 c.default.ensures.1.1.0 c.default.ensures.1.1.1.0 c.default.ensures.1.1.1.1) c.new-2.ensures refl refl (search rules) (search rules)

@@ -4,4 +4,4 @@ use Rattle.pcef_usage.proofs.Places.{read}
 use Rattle.pcef_usage.proofs.usage.Usage.unreported.Goals as goal
 
 pub returns : goal.returns
-returns c = ap (λ (s : KeyState). s.unreported) (read _ _ _ _ _ c.self.view_is c.requires c.as_slice.ensures.value)
+returns c = ap (λ (s : KeyState). s.unreported) (read _ _ _ _ _ c.self.view_is c.requires c.as_slice-states.ensures.value)
