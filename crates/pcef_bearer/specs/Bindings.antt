@@ -9,7 +9,7 @@ use Rattle.pcef_rule.specs.declared.quantity.Sums.{Sums}
 use Rattle.pcef_rule.specs.QciKinds.{kind_of}
 use Rattle.pcef_model.specs.Setting.{same_name, same_qos}
 use Rattle.pcef_model.specs.Bearers.{default_id, has_pair, least_free as free, sum_down, sum_up}
-use Rattle.pcef_model.specs.Refusals.{Conditions, bind_refusals}
+use Rattle.pcef_model.specs.Refusals.{Conditions, bind_refusals, first_of}
 use Rattle.pcef_model.specs.declared.answer.Refusal.{Refusal}
 use Rattle.pcef_rule.specs.declared.quantity.BearerId.{BearerId}
 use Rattle.pcef_bearer.specs.declared.bearers.Bound.{Bound}
@@ -108,6 +108,18 @@ with_rules v bound = record { default_qos = v.default_qos; capacity = v.capacity
 abbrev pub number_of : Option BearerId → Option ℕ
 number_of None = None
 number_of (Some id) = Some id.0
+
+-- the binding with a rule of this name bound to this id, in its old place or behind all others
+abbrev pub bound_with : Binding → List ℕ → Qos → Option Rates → ℕ → Binding
+bound_with v name q rates id = with_rules v (put (bound_at name q rates id) v.bound)
+
+-- nothing refuses to bind a rule of this name with this pair and these rates
+abbrev pub IsAccepted : Binding → List ℕ → Qos → Option Rates → Type 0
+IsAccepted v name q rates = first_of (refusals v (without name v.bound) q rates) ≡ None
+
+-- this is the id that a rule of this name gets by this pair
+abbrev pub GetsId : Binding → List ℕ → Qos → ℕ → Type 0
+GetsId v name q id = id_beside v.default_qos v.bound (without name v.bound) q ≡ Some id
 
 -- why a binding was refused, where it was
 abbrev pub refusal_in : Result BearerId Refusal → Option Refusal

@@ -5,7 +5,7 @@ ghost use Rattle.std.specs.List.{list_any};
 ghost use Rattle.pcef_rule.specs.declared.qci.Kind.TheVariants as kind;
 ghost use Rattle.pcef_rule.specs.QciKinds.{kind_of};
 ghost use Rattle.pcef_model.specs.declared.answer.OpenFault.TheVariants as fault;
-ghost use Rattle.pcef_bearer.specs.Bindings.{bearer_of, bound_at, guaranteed, id_beside, is_named, number_of, put, refusal_in, refusals, released, rules_on, with_rules, without, HasRoom, IsBinding};
+ghost use Rattle.pcef_bearer.specs.Bindings.{bearer_of, bound_at, bound_with, guaranteed, id_beside, is_named, number_of, put, refusal_in, refusals, released, rules_on, with_rules, without, GetsId, HasRoom, IsAccepted, IsBinding};
 ghost use Rattle.pcef_model.specs.Commands.{takes_away};
 ghost use Rattle.pcef_model.specs.Refusals.{first_of};
 ghost use Rattle.pcef_model.specs.Bearers.{is_gbr, is_non_gbr};
@@ -44,8 +44,9 @@ pub struct Released {
     pub ended: bool,
 }
 
-/// The bearers of a session, which hold all rules that may be bound in themselves and take no memory: two
-/// rules are on one bearer exactly where they have the same QCI and the same ARP (TS 23.203, clause 6.1.1.4).
+/// The bearers of a session, which hold all rules that may be bound in themselves and take no memory.
+/// Two rules are on one bearer exactly where they have the same QCI and the same ARP (TS 23.203, clause
+/// 6.1.1.4).
 #[derive(Drop)]
 pub struct Bearers {
     default_qos: Qos,
@@ -235,13 +236,13 @@ impl Bearers {
         self.set(name, &qos, rates)
     }
 
-    /// Binds a rule, anew where it is bound, to the bearer that [`Bearers::bearer_for`] gives for it, where
+    /// Binds a rule, anew where it is bound, to the bearer that [`Bearers::bearer_for`] gives for it.
     /// [`Bearers::refusal`] finds nothing against it. Judges nothing again, and takes no memory.
     pub fn bind_to(&mut self, name: RuleName, qos: Qos, rates: Option<Rates>, bearer: BearerId)
-        requires accepted { first_of (refusals self.old (without name self.old.bound) qos rates) ≡ None }
-        requires gets { id_beside self.old.default_qos self.old.bound (without name self.old.bound) qos ≡ Some bearer.0 }
+        requires accepted { IsAccepted self.old name qos rates }
+        requires gets { GetsId self.old name qos bearer.0 }
         requires room { HasRoom name 64 self.old.bound }
-        ensures { self.new ≡ with_rules self.old (put (bound_at name qos rates bearer.0) self.old.bound) }
+        ensures { self.new ≡ bound_with self.old name qos rates bearer.0 }
     {
         let new = Bound {
             name,

@@ -2,7 +2,7 @@
 use Rattle.std.specs.Prelude.{ℕ, ◌≡◌, ◌≤◌, ◌<◌, ◌+◌, true, List, Option, Some, None, IfSome, is_some, length}
 use Rattle.std.specs.Arc.{arc_value}
 use Rattle.std.specs.Option.{option_map}
-use Rattle.pcef_bearer.specs.Bindings.{Binding, id_beside, without}
+use Rattle.pcef_bearer.specs.Bindings.{Binding, GetsId}
 use Rattle.pcef_bearer.specs.Standing.{binding_of}
 use Rattle.pcef_rule.specs.declared.quantity.BearerId.{BearerId}
 use Rattle.pcef_model.specs.declared.command.Command.{Command}
@@ -37,7 +37,7 @@ Activates p (Some r) (Some x) = IsActivationOf p r x
 
 -- the bearer that a rule gets: the one of its pair of QCI and ARP, or else the least id that is free
 abbrev pub IsBearerOf : Binding → Activation → BearerId → Type 0
-IsBearerOf b x id = id_beside b.default_qos b.bound (without x.properties.name b.bound) x.properties.qos ≡ Some id.0
+IsBearerOf b x id = GetsId b x.properties.name x.properties.qos id.0
 
 -- a bearer is prepared where a rule becomes active, and it is the one that this rule gets
 abbrev pub IsBearerFor : Binding → Option Activation → Option BearerId → Type 0

@@ -1,6 +1,6 @@
 //! What an accepted command does to what a session keeps. Nothing here takes memory.
 
-ghost use Rattle.std.specs.Prelude.{◌≡◌, ◌||◌, ◌<◌, ◌≤◌, ◌+◌, ◌∷◌, filter, length, not, false, unwrap_or};
+ghost use Rattle.std.specs.Prelude.{◌≡◌, ◌||◌, ◌<◌, ◌≤◌, ◌+◌, ◌∷◌, filter, length, not, false, unwrap_or, Some};
 ghost use Rattle.std.specs.Arc.{arc_value};
 ghost use Rattle.std.specs.List.{list_any};
 ghost use Rattle.std.specs.Option.{option_copied, option_map};
@@ -149,7 +149,7 @@ fn activate(
     requires place { 0 < spare active.old }
     requires can { Binds rule.properties bearers.old }
     requires gets { IsBearerOf bearers.old rule bearer }
-    ensures active { active.new.entries ≡ insert_entry same_name active.old.entries rule.properties.name rule.source }
+    ensures active { active.new.entries ≡ active_after (Some rule) bearers.new active.old.entries }
     ensures bearers { IsBoundTo rule.properties bearers.old bearers.new bearer }
 {
     let name = rule.properties.name.copy();
@@ -162,8 +162,8 @@ fn activate(
     keep_rule(active, name, rule.source);
 }
 
-/// Changes the active rules and their bearers as a command says. The rule that becomes active gets this
-/// bearer.
+/// Changes the active rules and their bearers as a command says. The rule that becomes active gets
+/// this bearer.
 pub(crate) fn change_rules(
     active: &mut IndexMap<RuleName, Source>,
     bearers: &mut Bearers,

@@ -87,7 +87,7 @@ impl KeyState {
     }
 }
 
-/// The keys that have a slot, in slot order. It holds all that may come in itself and takes no memory.
+/// The keys that have a slot, in slot order. It holds all that may come in itself, and takes no memory.
 #[derive(Drop)]
 pub struct Usage {
     states: KeyStates,
@@ -145,8 +145,8 @@ impl Usage {
         None
     }
 
-    /// The slot of a key, which gets the next one where it has none, or [`KeysFull`] where none is left,
-    /// which changes nothing.
+    /// The slot of a key, which gets the next one where it has none, or [`KeysFull`] where none is
+    /// left, which changes nothing.
     pub fn slot(&mut self, key: &KeyName) -> Result<Slot, KeysFull>
         ensures full { IsErr result ↔ (finds_no_slot (Some key.now) self.old ≡ true) }
         ensures unchanged { OnErr result (self.new ≡ self.old) }
@@ -208,7 +208,8 @@ impl Usage {
         states[slot.0 as usize].count(octets);
     }
 
-    /// Moves the unreported octets of the key of a slot to the reported ones, and answers how many they were.
+    /// Moves the unreported octets of the key of a slot to the reported ones, and answers how many
+    /// they were.
     pub fn take_report(&mut self, slot: Slot) -> u64
         requires { slot.0 < length self.old }
         ensures told { result ≡ (state_at slot.0 self.old).unreported }
