@@ -13,11 +13,10 @@ use Rattle.pcef_model.specs.declared.answer.AttachFault.{AttachFault}
 use Rattle.pcef_model.specs.declared.answer.FlushRefusal.{FlushRefusal}
 use Rattle.pcef_model.specs.declared.answer.Judged.{Judged}
 use Rattle.pcef_model.specs.declared.answer.Refusal.{Refusal}
-use Rattle.pcef_model.specs.declared.answer.Verdicts.{Verdicts}
+use Rattle.pcef_model.specs.Answers.{Told}
 use Rattle.pcef_session.specs.declared.batch.BatchFull.{BatchFull}
-use Rattle.pcef_world.specs.declared.world.Abandoned.{Abandoned}
-use Rattle.pcef_world.specs.declared.world.StepRefusal.{StepRefusal}
-use Rattle.pcef_world.specs.declared.world.StepRefusal.TheVariants.{NoWorker, Refused}
+use Rattle.pcef_world.specs.declared.answer.Abandoned.{Abandoned}
+use Rattle.pcef_world.specs.Steps.{Reply, abandon_reply, attach_reply, command_reply, finish_reply, flush_reply, no_worker, refresh_reply, take_reply}
 use Rattle.pcef_answer.specs.FaultAnswers.{count}
 use Rattle.pcef_answer.specs.RefusalAnswers.{refusal_text, attach_fault_text, batch_full_text, flush_refusal_text, no_worker_text}
 use Rattle.pcef_answer.specs.ReportAnswers.{reports_told, reports_data}
@@ -64,20 +63,15 @@ taken_data waiting =
     object (member (codes "ok") (boolean true)
     (member (codes "waiting") (count waiting) no_members))
 
-unfoldable pub taken_text : Result ℕ (StepRefusal BatchFull) → List ℕ
+unfoldable pub taken_text : Result ℕ BatchFull → List ℕ
 taken_text (Ok waiting) = compact_text (taken_data waiting)
-taken_text (Err NoWorker) = no_worker_text
-taken_text (Err (Refused full)) = batch_full_text
+taken_text (Err full) = batch_full_text
 
 -- a worker that takes the newest generation
 abbrev pub refreshed_data : ℕ → Data
 refreshed_data generation =
     object (member (codes "generation") (count generation)
     (member (codes "ok") (boolean true) no_members))
-
-unfoldable pub refreshed_text : Option ℕ → List ℕ
-refreshed_text (Some generation) = compact_text (refreshed_data generation)
-refreshed_text None = no_worker_text
 
 -- ---- rows that are taken over
 abbrev pub verdict_data : ℕ → Verdict → Data
@@ -103,29 +97,27 @@ judged_data judged = verdict_data judged.generation judged.verdict
 abbrev pub verdicts_data : List Judged → Data
 verdicts_data rows = array (items_of (map judged_data rows))
 
-abbrev pub flushed_data : Journal → Verdicts → Data
-flushed_data journal verdicts =
+abbrev pub flushed_data : Journal → Told → Data
+flushed_data journal told =
     object (member (codes "ok") (boolean true)
-    (member (codes "reports") (reports_data (reports_told journal verdicts.first_report verdicts.past_last_report))
-    (member (codes "verdicts") (verdicts_data verdicts.rows.items) no_members)))
+    (member (codes "reports") (reports_data (reports_told journal told.first_report told.past_last_report))
+    (member (codes "verdicts") (verdicts_data told.rows) no_members)))
 
-unfoldable pub flushed_text : Journal → Result Verdicts (StepRefusal FlushRefusal) → List ℕ
-flushed_text journal (Ok verdicts) = compact_text (flushed_data journal verdicts)
-flushed_text journal (Err NoWorker) = no_worker_text
-flushed_text journal (Err (Refused refusal)) = flush_refusal_text refusal
+unfoldable pub flushed_text : Journal → Result Told FlushRefusal → List ℕ
+flushed_text journal (Ok told) = compact_text (flushed_data journal told)
+flushed_text journal (Err refusal) = flush_refusal_text refusal
 
 -- ---- workers that leave
-abbrev pub finished_data : Journal → Verdicts → ℕ → Data
-finished_data journal verdicts rows =
+abbrev pub finished_data : Journal → Told → ℕ → Data
+finished_data journal told rows =
     object (member (codes "ok") (boolean true)
-    (member (codes "reports") (reports_data (reports_told journal verdicts.first_report verdicts.past_last_report))
+    (member (codes "reports") (reports_data (reports_told journal told.first_report told.past_last_report))
     (member (codes "rows") (count rows)
-    (member (codes "verdicts") (verdicts_data verdicts.rows.items) no_members))))
+    (member (codes "verdicts") (verdicts_data told.rows) no_members))))
 
-unfoldable pub finished_text : Journal → Result (Verdicts × ℕ) (StepRefusal FlushRefusal) → List ℕ
+unfoldable pub finished_text : Journal → Result (Told × ℕ) FlushRefusal → List ℕ
 finished_text journal (Ok finished) = compact_text (finished_data journal finished.0 finished.1)
-finished_text journal (Err NoWorker) = no_worker_text
-finished_text journal (Err (Refused refusal)) = flush_refusal_text refusal
+finished_text journal (Err refusal) = flush_refusal_text refusal
 
 abbrev pub abandoned_data : Abandoned → Data
 abandoned_data abandoned =
@@ -133,6 +125,14 @@ abandoned_data abandoned =
     (member (codes "ok") (boolean true)
     (member (codes "rows") (count abandoned.rows) no_members)))
 
-unfoldable pub abandoned_text : Option Abandoned → List ℕ
-abandoned_text (Some abandoned) = compact_text (abandoned_data abandoned)
-abandoned_text None = no_worker_text
+-- ---- steps
+-- the answer to a step, after which the journal and the number of the newest generation are so
+abbrev pub step_text : Journal → ℕ → Reply → List ℕ
+step_text journal generation (command_reply answer) = command_text journal answer
+step_text journal generation (attach_reply answer) = attached_text generation answer
+step_text journal generation (refresh_reply held) = compact_text (refreshed_data held)
+step_text journal generation (take_reply answer) = taken_text answer
+step_text journal generation (flush_reply answer) = flushed_text journal answer
+step_text journal generation (finish_reply answer) = finished_text journal answer
+step_text journal generation (abandon_reply abandoned) = compact_text (abandoned_data abandoned)
+step_text journal generation no_worker = no_worker_text

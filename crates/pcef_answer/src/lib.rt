@@ -11,7 +11,4 @@ mod written;
 
 pub use fault::fault_text;
 pub use show::show_answer;
-pub use step::{
-    abandoned_answer, attached_answer, command_answer, finished_answer, flushed_answer,
-    refreshed_answer, taken_answer,
-};
+pub use step::step_answer;

@@ -1,8 +1,12 @@
 //! The answers to commands and to the steps of workers.
 
 ghost use Rattle.std.specs.Prelude.{◌≡◌, IfOk, string_bytes};
+ghost use Rattle.std.specs.Result.{result_map_both};
 ghost use Rattle.serde_json.specs.View.{view};
-ghost use Rattle.pcef_answer.specs.StepAnswers.{abandoned_data, abandoned_text, accepted_data, command_text, attached_data, attached_text, taken_text, refreshed_data, refreshed_text, finished_text, flushed_text};
+ghost use Rattle.serde_json.specs.Written.{compact_text};
+ghost use Rattle.pcef_model.specs.Answers.{told_and_rows, told_of};
+ghost use Rattle.pcef_world.specs.Steps.{reply_of};
+ghost use Rattle.pcef_answer.specs.StepAnswers.{abandoned_data, accepted_data, command_text, attached_data, attached_text, taken_text, refreshed_data, finished_text, flushed_text, step_text};
 
 use crate::refusal::{
     attach_fault_answer, flush_refusal_answer, no_worker_answer, refusal_answer, refused_answer,
@@ -12,21 +16,43 @@ use crate::written;
 use pcef_journal::Journal;
 use pcef_model::{Accepted, AttachFault, FlushRefusal, Refusal, Verdicts};
 use pcef_session::BatchFull;
-use pcef_world::{Abandoned, StepRefusal};
+use pcef_world::{Abandoned, StepAnswer};
 use serde_json::{Value, json};
 use std::alloc::{AllocError, Global};
 
-/// The answer to a command: what the session answered, with the reports that its journal has for it.
-pub fn command_answer(
+/// The answer to a step that was made: what was answered, with the reports that the journal after it has for it, and the
+/// number of the newest generation where a worker came.
+pub fn step_answer(
     alloc: Global,
     journal: &Journal,
-    answer: Result<Accepted, Refusal>,
+    generation: u32,
+    answer: &StepAnswer,
 ) -> Result<String, AllocError>
-    ensures { IfOk result (λ text. string_bytes text ≡ command_text journal.now.entries answer) }
+    ensures { IfOk result (λ text. string_bytes text ≡ step_text journal.now.entries generation (reply_of answer.now)) }
 {
     match answer {
-        Err(refusal) => refusal_answer(alloc, refusal),
-        Ok(accepted) => accepted_value(alloc, journal, accepted)?.to_string(alloc),
+        StepAnswer::Command(answer) => command_answer(alloc, journal, answer),
+        StepAnswer::Attach(answer) => attached_answer(alloc, generation, answer),
+        StepAnswer::Refresh(held) => refreshed_answer(alloc, *held),
+        StepAnswer::Take(answer) => taken_answer(alloc, answer),
+        StepAnswer::Flush(answer) => flushed_answer(alloc, journal, answer),
+        StepAnswer::Finish(answer) => finished_answer(alloc, journal, answer),
+        StepAnswer::Abandon(abandoned) => abandoned_answer(alloc, *abandoned),
+        StepAnswer::NoWorker => no_worker_answer(alloc),
+    }
+}
+
+// What the session answered, with the reports that its journal has for it.
+fn command_answer(
+    alloc: Global,
+    journal: &Journal,
+    answer: &Result<Accepted, Refusal>,
+) -> Result<String, AllocError>
+    ensures { IfOk result (λ text. string_bytes text ≡ command_text journal.now.entries answer.now) }
+{
+    match answer {
+        Err(refusal) => refusal_answer(alloc, *refusal),
+        Ok(accepted) => accepted_value(alloc, journal, *accepted)?.to_string(alloc),
     }
 }
 
@@ -55,17 +81,17 @@ fn accepted_value(alloc: Global, journal: &Journal, accepted: Accepted) -> Resul
     }
 }
 
-/// The answer to `attach`, in this generation.
-pub fn attached_answer(
+// A worker comes in this generation.
+fn attached_answer(
     alloc: Global,
     generation: u32,
-    answer: Result<u8, AttachFault>,
+    answer: &Result<u8, AttachFault>,
 ) -> Result<String, AllocError>
-    ensures { IfOk result (λ text. string_bytes text ≡ attached_text generation answer) }
+    ensures { IfOk result (λ text. string_bytes text ≡ attached_text generation answer.now) }
 {
     match answer {
-        Err(fault) => attach_fault_answer(alloc, fault),
-        Ok(worker) => attached_value(alloc, generation, worker)?.to_string(alloc),
+        Err(fault) => attach_fault_answer(alloc, *fault),
+        Ok(worker) => attached_value(alloc, generation, *worker)?.to_string(alloc),
     }
 }
 
@@ -75,28 +101,20 @@ fn attached_value(alloc: Global, generation: u32, worker: u8) -> Result<Value, A
     json!(in alloc; { "generation": generation, "ok": true, "worker": worker })
 }
 
-/// The answer to `take`.
-pub fn taken_answer(
-    alloc: Global,
-    answer: Result<u8, StepRefusal<BatchFull>>,
-) -> Result<String, AllocError>
-    ensures { IfOk result (λ text. string_bytes text ≡ taken_text answer) }
+fn taken_answer(alloc: Global, answer: &Result<u8, BatchFull>) -> Result<String, AllocError>
+    ensures { IfOk result (λ text. string_bytes text ≡ taken_text answer.now) }
 {
     match answer {
-        Err(StepRefusal::NoWorker) => no_worker_answer(alloc),
-        Err(StepRefusal::Refused(BatchFull)) => refused_answer(alloc, "BatchFull", 1),
-        Ok(waiting) => written::taken(alloc, waiting),
+        Err(BatchFull) => refused_answer(alloc, "BatchFull", 1),
+        Ok(waiting) => written::taken(alloc, *waiting),
     }
 }
 
-/// The answer to `refresh`, with the generation that the worker holds then.
-pub fn refreshed_answer(alloc: Global, answer: Option<u32>) -> Result<String, AllocError>
-    ensures { IfOk result (λ text. string_bytes text ≡ refreshed_text answer) }
+// With the generation that the worker holds then.
+fn refreshed_answer(alloc: Global, generation: u32) -> Result<String, AllocError>
+    ensures { IfOk result (λ text. string_bytes text ≡ compact_text (refreshed_data generation)) }
 {
-    match answer {
-        None => no_worker_answer(alloc),
-        Some(generation) => refreshed_value(alloc, generation)?.to_string(alloc),
-    }
+    refreshed_value(alloc, generation)?.to_string(alloc)
 }
 
 fn refreshed_value(alloc: Global, generation: u32) -> Result<Value, AllocError>
@@ -105,45 +123,39 @@ fn refreshed_value(alloc: Global, generation: u32) -> Result<Value, AllocError>
     json!(in alloc; { "generation": generation, "ok": true })
 }
 
-/// The answer to `flush`: the verdicts, with the reports that the journal has for them.
-pub fn flushed_answer(
+// The verdicts, with the reports that the journal has for them.
+fn flushed_answer(
     alloc: Global,
     journal: &Journal,
-    answer: &Result<Verdicts, StepRefusal<FlushRefusal>>,
+    answer: &Result<Verdicts, FlushRefusal>,
 ) -> Result<String, AllocError>
-    ensures { IfOk result (λ text. string_bytes text ≡ flushed_text journal.now.entries answer.now) }
+    ensures { IfOk result (λ text. string_bytes text ≡ flushed_text journal.now.entries (result_map_both told_of (λ e. e) answer.now)) }
 {
     match answer {
-        Err(StepRefusal::NoWorker) => no_worker_answer(alloc),
-        Err(StepRefusal::Refused(refusal)) => flush_refusal_answer(alloc, *refusal),
+        Err(refusal) => flush_refusal_answer(alloc, *refusal),
         Ok(verdicts) => written::flushed(alloc, journal, verdicts),
     }
 }
 
-/// The answer to `finish`: the verdicts, with the reports that the journal has for them, and the length of the
-/// worker's lane.
-pub fn finished_answer(
+// The verdicts, with the reports that the journal has for them, and the length of the worker's lane.
+fn finished_answer(
     alloc: Global,
     journal: &Journal,
-    answer: &Result<(Verdicts, u64), StepRefusal<FlushRefusal>>,
+    answer: &Result<(Verdicts, u64), FlushRefusal>,
 ) -> Result<String, AllocError>
-    ensures { IfOk result (λ text. string_bytes text ≡ finished_text journal.now.entries answer.now) }
+    ensures { IfOk result (λ text. string_bytes text ≡ finished_text journal.now.entries (result_map_both told_and_rows (λ e. e) answer.now)) }
 {
     match answer {
-        Err(StepRefusal::NoWorker) => no_worker_answer(alloc),
-        Err(StepRefusal::Refused(refusal)) => flush_refusal_answer(alloc, *refusal),
+        Err(refusal) => flush_refusal_answer(alloc, *refusal),
         Ok((verdicts, rows)) => written::finished(alloc, journal, verdicts, *rows),
     }
 }
 
-/// The answer to `abandon`: how many rows waited, and the length of the worker's lane.
-pub fn abandoned_answer(alloc: Global, answer: Option<Abandoned>) -> Result<String, AllocError>
-    ensures { IfOk result (λ text. string_bytes text ≡ abandoned_text answer) }
+// How many rows waited, and the length of the worker's lane.
+fn abandoned_answer(alloc: Global, abandoned: Abandoned) -> Result<String, AllocError>
+    ensures { IfOk result (λ text. string_bytes text ≡ compact_text (abandoned_data abandoned)) }
 {
-    match answer {
-        None => no_worker_answer(alloc),
-        Some(abandoned) => abandoned_value(alloc, abandoned)?.to_string(alloc),
-    }
+    abandoned_value(alloc, abandoned)?.to_string(alloc)
 }
 
 fn abandoned_value(alloc: Global, abandoned: Abandoned) -> Result<Value, AllocError>

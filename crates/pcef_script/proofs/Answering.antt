@@ -8,7 +8,8 @@ use Rattle.pcef_model.specs.Setting.{Setting}
 use Rattle.pcef_world.specs.Worlds.{World}
 use Rattle.pcef_script.specs.declared.fault.ScriptFault.{ScriptFault}
 use Rattle.pcef_script.specs.declared.fault.ScriptFault.TheVariants as fault
-use Rattle.pcef_script.specs.ScriptAnswers.{Answers, AnswersLine, Standing, answered, number_of, standing_of}
+use Rattle.pcef_script.specs.ScriptAnswers.{Answers, AnswersLine, answered, number_of}
+use Rattle.pcef_world.specs.Steps.{Standing, standing_of}
 use Rattle.pcef_script.specs.ScriptLines.{AppendsFront, is_blank}
 use Rattle.pcef_script.specs.Running.{EndFails, EndsLine}
 

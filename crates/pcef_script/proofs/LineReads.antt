@@ -1,18 +1,24 @@
 -- What is due to a line, by whether it is UTF-8, and the answer to what is due.
-use Rattle.std.proofs.Common.{◌≡◌, ℕ, Bool, true, false, List, inl, inr, refl}
+use Rattle.std.proofs.Common.{◌≡◌, ◌∙◌, ap, ℕ, Bool, true, false, List, inl, inr, refl}
 use Rattle.std.proofs.lemmas.Result.{IfOk-weaker}
-use Rattle.std.specs.Prelude.{◌≢◌, Some, Result, Ok, Err, IfOk, string_bytes}
+use Rattle.std.specs.Prelude.{◌≢◌, Some, String, Result, Ok, Err, IfOk, string_bytes}
+use Rattle.std.specs.declared.alloc.Global.{Global}
 use Rattle.std.specs.declared.alloc.AllocError.{AllocError}
 use Rattle.std.specs.Str.{IsUtf8, is_utf8}
 use Rattle.std.proofs.lemmas.Str.{IsUtf8-from_is_utf8, is_utf8-from_IsUtf8}
 use Rattle.pcef_model.specs.Setting.{Setting}
+use Rattle.pcef_model.specs.Entries.{Journal}
+use Rattle.pcef_model.specs.Journals.{gen}
 use Rattle.pcef_line.specs.declared.line.Line.{Line}
 use Rattle.pcef_line.specs.declared.fault.LineFault.{LineFault}
 use Rattle.pcef_line.specs.declared.fault.LineFault.TheVariants.{NoMemory, NotUtf8}
 use Rattle.pcef_line.specs.LineOf.{LineOf}
 use Rattle.pcef_line.specs.LineValues.{Gives}
 use Rattle.pcef_script.specs.declared.step.Answer.{Answer}
-use Rattle.pcef_script.specs.ScriptAnswers.{AnswersAs, AnswersDue, DueWithin, Standing, Steps}
+use Rattle.pcef_script.specs.ScriptAnswers.{AnswersAs, AnswersDue, DoesLine, DueWithin, IsDue}
+use Rattle.pcef_answer.specs.StepAnswers.{step_text}
+use Rattle.pcef_world.specs.Steps.{Reply, Standing, standing_of}
+use Rattle.pcef_world.specs.Worlds.{World}
 
 pub text_due : (line : List ℕ) (due : Result Line LineFault) → IsUtf8 line → LineOf line due → DueWithin (Some line) due
 text_due line due holds read = rw (is_utf8-from_IsUtf8 line holds) read
@@ -35,7 +41,7 @@ fault_answered r Due p s fault is told = IfOk-weaker r _ _ (λ a known. (Err fau
 
 -- a line that was read is what is due
 pub line_answered : (r : Result Answer AllocError) (p : Setting) (s t : Standing) (text : List ℕ) (line : Line) → (due : Result Line LineFault) × LineOf text due × Gives (λ l. l) (Ok line) due
-    → IfOk r (λ a. Steps p s line (string_bytes a.text) t) → IfOk r (λ a. a.is_fault ≡ false) → IfOk r (λ a. AnswersDue (LineOf text) p s (string_bytes a.text) a.is_fault t)
+    → IfOk r (λ a. DoesLine p s line (string_bytes a.text) t) → IfOk r (λ a. a.is_fault ≡ false) → IfOk r (λ a. AnswersDue (LineOf text) p s (string_bytes a.text) a.is_fault t)
 line_answered (Ok a) p s t text line read steps counts = (read.0, read.1, rw read.2 (steps, counts))
 line_answered (Err e) p s t text line read steps counts = tt
 
@@ -44,3 +50,13 @@ pub fault_read : (r : Result Answer AllocError) (p : Setting) (s : Standing) (te
     → IfOk r (λ a. (fault ≢ NoMemory) × AnswersAs p s (Err fault) (string_bytes a.text) a.is_fault s) → IfOk r (λ a. AnswersDue (LineOf text) p s (string_bytes a.text) a.is_fault s)
 fault_read r p s text fault (due, read, inl none) told = IfOk-weaker r _ _ (λ a known. absurd (known.0 none)) told
 fault_read r p s text fault (due, read, inr is) told = IfOk-weaker r _ _ (λ a known. (due, read, rw is known.1)) told
+
+-- the answer to a step that was made is the one that is due
+pub step_told : (r : Result (String Global) AllocError) (w : World) (j : Journal) (generation : ℕ) (reply : Reply) (due : Reply × Standing) → j ≡ w.session.journal → generation ≡ gen w.session.journal
+    → reply ≡ due.0 → standing_of w ≡ due.1 → IfOk r (λ text. string_bytes text ≡ step_text j generation reply) → IfOk r (λ text. IsDue due (string_bytes text) (standing_of w))
+step_told r w j generation reply due journal_is generation_is replied stands told =
+    IfOk-weaker r _ _ (λ text is. (
+      is ∙ ap (λ l. step_text l generation reply) journal_is ∙ ap (λ n. step_text w.session.journal n reply) generation_is
+      ∙ ap (step_text w.session.journal (gen w.session.journal)) replied ∙ ap (λ (s : Standing). step_text s.journal (gen s.journal) due.0) stands,
+      stands,
+    )) told

@@ -13,7 +13,8 @@ use Rattle.pcef_model.specs.Terms.{setting_of}
 use Rattle.pcef_world.specs.Worlds.{World}
 use Rattle.pcef_script.specs.declared.fault.ScriptFault.{ScriptFault}
 use Rattle.pcef_script.specs.declared.fault.ScriptFault.TheVariants as fault
-use Rattle.pcef_script.specs.ScriptAnswers.{Answers, Standing, answered, at_start, standing_of}
+use Rattle.pcef_script.specs.ScriptAnswers.{Answers, answered}
+use Rattle.pcef_world.specs.Steps.{Standing, at_start, standing_of}
 use Rattle.pcef_script.specs.ScriptLines.{Kept, Takes, has_feed, kept_of, script_most}
 use Rattle.pcef_script.specs.Running.{EndFails, EndsLine, IsAfter, OpenFails, Stopped, StoppedIn}
 use Rattle.pcef_script.specs.Scripts.{Opened, Ran, Wrote, all_lines, cut, ended_lines, last_line}

@@ -5,7 +5,8 @@ use Rattle.pcef_model.specs.Setting.{Setting}
 use Rattle.pcef_world.specs.Worlds.{World}
 use Rattle.pcef_script.specs.declared.fault.ScriptFault.{ScriptFault}
 use Rattle.pcef_script.specs.declared.fault.ScriptFault.TheVariants as fault
-use Rattle.pcef_script.specs.ScriptAnswers.{Answers, Standing, answered, at_start, standing_of}
+use Rattle.pcef_script.specs.ScriptAnswers.{Answers, answered}
+use Rattle.pcef_world.specs.Steps.{Standing, at_start, standing_of}
 use Rattle.pcef_script.specs.ScriptLines.{AppendsFront, Kept, kept_of, script_most}
 use Rattle.pcef_script.specs.Scripts.{Wrote, WroteFront, all_lines, ended_lines, last_line}
 

@@ -5,7 +5,8 @@ use Rattle.pcef_model.specs.Setting.{Setting}
 use Rattle.pcef_model.specs.Refusals.{first_of, open_faults}
 use Rattle.pcef_script.specs.declared.fault.ScriptFault.{ScriptFault}
 use Rattle.pcef_script.specs.declared.fault.ScriptFault.TheVariants as fault
-use Rattle.pcef_script.specs.ScriptAnswers.{Answers, Standing, answered, at_start}
+use Rattle.pcef_script.specs.ScriptAnswers.{Answers, answered}
+use Rattle.pcef_world.specs.Steps.{Standing, at_start}
 use Rattle.pcef_script.specs.ScriptLines.{AppendsFront, script_most}
 
 -- ---- lines

@@ -4,7 +4,8 @@ ghost use Rattle.std.specs.Prelude.{◌≡◌, ◌<◌, ◌≤◌, ◌+◌, ◌+
 ghost use Rattle.std.specs.Io.KnownBytes.{Appends};
 ghost use Rattle.pcef_model.specs.Setting.{Setting};
 ghost use Rattle.pcef_script.specs.declared.fault.ScriptFault.TheVariants.{Write as WriteFault};
-ghost use Rattle.pcef_script.specs.ScriptAnswers.{AnswersLine, number_of, standing_of};
+ghost use Rattle.pcef_script.specs.ScriptAnswers.{AnswersLine, number_of};
+ghost use Rattle.pcef_world.specs.Steps.{standing_of};
 ghost use Rattle.pcef_script.specs.ScriptLines.{AppendsFront, kept_of};
 ghost use Rattle.pcef_script.specs.Running.{EndFails, EndsLine, IsAfter, StoppedIn, Stopped};
 

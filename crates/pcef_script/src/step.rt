@@ -3,21 +3,16 @@
 ghost use Rattle.std.specs.Prelude.{◌≡◌, ◌≢◌, Err, IfOk, Some, false, string_bytes};
 ghost use Rattle.pcef_model.specs.Setting.{Setting};
 ghost use Rattle.pcef_line.specs.LineOf.{LineOf};
-ghost use Rattle.pcef_script.specs.ScriptAnswers.{AnswersAs, AnswersDue, Comes, Commands, DueWithin, Standing, Steps, StepsBy, standing_of};
+ghost use Rattle.pcef_script.specs.ScriptAnswers.{AnswersAs, AnswersDue, DoesLine, DueWithin, IsDue};
+ghost use Rattle.pcef_world.specs.Steps.{Standing, standing_of, step_outcome};
 ghost use Rattle.pcef_line.specs.declared.fault.LineFault.TheVariants.{LineTooLong, NoMemory};
 ghost use Rattle.pcef_line.specs.declared.line.Line.TheVariants.{Show};
-ghost use Rattle.pcef_model.specs.declared.step.Step.{Step};
-ghost use Rattle.pcef_model.specs.declared.step.Step.TheVariants as of;
 
-use pcef_answer::{
-    abandoned_answer, attached_answer, command_answer, fault_text, finished_answer, flushed_answer,
-    refreshed_answer, show_answer, taken_answer,
-};
+use pcef_answer::{fault_text, show_answer, step_answer};
 use pcef_catalog::Offers;
 use pcef_line::{Line, LineFault, read_line};
-use pcef_model::{AttachFault, Command, FlushRefusal, Refusal, Step};
-use pcef_packet::Header;
-use pcef_world::{StepRefusal, WorldState};
+use pcef_model::Step;
+use pcef_world::WorldState;
 use std::alloc::{AllocError, Global};
 use std::str;
 
@@ -39,80 +34,8 @@ fn fault(alloc: Global, fault: LineFault) -> Result<Answer, AllocError>
     })
 }
 
-/// Does a command. Where memory is wanting there is no answer, for this step and for the next ones.
-fn command(alloc: Global, world: &mut WorldState, command: Command) -> Result<String, AllocError>
-    ensures answer { IfOk result (λ text. Commands world.old.session.setting (standing_of world.old) command (string_bytes text) (standing_of world.new)) }
-    ensures setting { world.new.session.setting ≡ world.old.session.setting }
-{
-    match world.command(command) {
-        Err(Refusal::NoMemory) => Err(AllocError),
-        answer => command_answer(alloc, world.session().journal(), answer),
-    }
-}
-
-fn attach(alloc: Global, world: &mut WorldState) -> Result<String, AllocError>
-    ensures answer { IfOk result (λ text. Comes (standing_of world.old) (string_bytes text) (standing_of world.new)) }
-    ensures setting { world.new.session.setting ≡ world.old.session.setting }
-{
-    match world.attach() {
-        Err(AttachFault::NoMemory) => Err(AllocError),
-        answer => attached_answer(alloc, world.session().generation(), answer),
-    }
-}
-
-fn take<C: Offers>(
-    alloc: Global,
-    catalog: &C,
-    world: &mut WorldState,
-    worker: u8,
-    header: &Header,
-) -> Result<String, AllocError>
-    requires { C.offers catalog.now ≡ world.old.session.setting.catalog }
-    ensures answer { IfOk result (λ text. StepsBy world.old.session.setting (standing_of world.old) (of.Take worker header.now) (string_bytes text) (standing_of world.new)) }
-    ensures session { world.new.session ≡ world.old.session }
-{
-    let answer = world.take(catalog, worker, header);
-    taken_answer(alloc, answer)
-}
-
-fn refresh(alloc: Global, world: &mut WorldState, worker: u8) -> Result<String, AllocError>
-    ensures answer { IfOk result (λ text. StepsBy world.old.session.setting (standing_of world.old) (of.Refresh worker) (string_bytes text) (standing_of world.new)) }
-    ensures session { world.new.session ≡ world.old.session }
-{
-    let answer = world.refresh(worker)?;
-    refreshed_answer(alloc, answer)
-}
-
-fn flush(alloc: Global, world: &mut WorldState, worker: u8) -> Result<String, AllocError>
-    ensures answer { IfOk result (λ text. StepsBy world.old.session.setting (standing_of world.old) (of.Flush worker) (string_bytes text) (standing_of world.new)) }
-    ensures setting { world.new.session.setting ≡ world.old.session.setting }
-{
-    match world.flush(worker) {
-        Err(StepRefusal::Refused(FlushRefusal::NoMemory)) => Err(AllocError),
-        answer => flushed_answer(alloc, world.session().journal(), &answer),
-    }
-}
-
-fn finish(alloc: Global, world: &mut WorldState, worker: u8) -> Result<String, AllocError>
-    ensures answer { IfOk result (λ text. StepsBy world.old.session.setting (standing_of world.old) (of.Finish worker) (string_bytes text) (standing_of world.new)) }
-    ensures setting { world.new.session.setting ≡ world.old.session.setting }
-{
-    match world.finish(worker) {
-        Err(StepRefusal::Refused(FlushRefusal::NoMemory)) => Err(AllocError),
-        answer => finished_answer(alloc, world.session().journal(), &answer),
-    }
-}
-
-fn abandon(alloc: Global, world: &mut WorldState, worker: u8) -> Result<String, AllocError>
-    ensures answer { IfOk result (λ text. StepsBy world.old.session.setting (standing_of world.old) (of.Abandon worker) (string_bytes text) (standing_of world.new)) }
-    ensures setting { world.new.session.setting ≡ world.old.session.setting }
-{
-    let answer = world.abandon(worker);
-    abandoned_answer(alloc, answer)
-}
-
 fn show(alloc: Global, world: &WorldState) -> Result<String, AllocError>
-    ensures { IfOk result (λ text. Steps world.now.session.setting (standing_of world.now) Show (string_bytes text) (standing_of world.now)) }
+    ensures { IfOk result (λ text. DoesLine world.now.session.setting (standing_of world.now) Show (string_bytes text) (standing_of world.now)) }
 {
     show_answer(alloc, world.session())
 }
@@ -124,18 +47,12 @@ fn step<C: Offers>(
     step: Step,
 ) -> Result<String, AllocError>
     requires { C.offers catalog.now ≡ world.old.session.setting.catalog }
-    ensures answer { IfOk result (λ text. StepsBy world.old.session.setting (standing_of world.old) step (string_bytes text) (standing_of world.new)) }
+    ensures answer { IfOk result (λ text. IsDue (step_outcome world.old.session.setting (standing_of world.old) step) (string_bytes text) (standing_of world.new)) }
     ensures setting { world.new.session.setting ≡ world.old.session.setting }
 {
-    match step {
-        Step::Command(asked) => command(alloc, world, asked),
-        Step::Attach => attach(alloc, world),
-        Step::Take { worker, header } => take(alloc, catalog, world, worker, &header),
-        Step::Refresh { worker } => refresh(alloc, world, worker),
-        Step::Flush { worker } => flush(alloc, world, worker),
-        Step::Finish { worker } => finish(alloc, world, worker),
-        Step::Abandon { worker } => abandon(alloc, world, worker),
-    }
+    let answer = world.step(catalog, step)?;
+    let session = world.session();
+    step_answer(alloc, session.journal(), session.generation(), &answer)
 }
 
 fn line_text<C: Offers>(
@@ -145,7 +62,7 @@ fn line_text<C: Offers>(
     line: Line,
 ) -> Result<String, AllocError>
     requires { C.offers catalog.now ≡ world.old.session.setting.catalog }
-    ensures answer { IfOk result (λ text. Steps world.old.session.setting (standing_of world.old) line (string_bytes text) (standing_of world.new)) }
+    ensures answer { IfOk result (λ text. DoesLine world.old.session.setting (standing_of world.old) line (string_bytes text) (standing_of world.new)) }
     ensures setting { world.new.session.setting ≡ world.old.session.setting }
 {
     match line {
@@ -161,7 +78,7 @@ fn done<C: Offers>(
     line: Line,
 ) -> Result<Answer, AllocError>
     requires { C.offers catalog.now ≡ world.old.session.setting.catalog }
-    ensures text { IfOk result (λ a. Steps world.old.session.setting (standing_of world.old) line (string_bytes a.text) (standing_of world.new)) }
+    ensures text { IfOk result (λ a. DoesLine world.old.session.setting (standing_of world.old) line (string_bytes a.text) (standing_of world.new)) }
     ensures counts { IfOk result (λ a. a.is_fault ≡ false) }
     ensures setting { world.new.session.setting ≡ world.old.session.setting }
 {

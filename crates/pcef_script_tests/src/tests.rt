@@ -14,6 +14,7 @@ mod saturated;
 mod script;
 mod session;
 mod session_ends;
+mod world_steps;
 
 use pcef_catalog::Catalog;
 use pcef_profile::read_profile;

@@ -1,3 +1,5 @@
+pub mod StepsMore
+pub mod WantOfMemory
 pub mod WorkersWait
 pub mod WorldAnswers
 pub mod WorldSteps

@@ -1,8 +1,10 @@
--- What the steps of a world's workers answer, as its callers see them.
+-- What the steps of a session and its workers answer, as callers see them.
 use Rattle.std.proofs.Common.{◌≡◌, ◌∙◌, ◌≤◌, ◌<◌, ℕ, true, false, List, [], ◌∷◌, ◌++◌, length, map, refl, sym, ap, subst, arith, inl, inr, Some, None, Ok, Err}
-use Rattle.std.specs.Prelude.{Option, Result, nat_le, slice_get, slice_set}
+use Rattle.std.specs.Prelude.{◌≢◌, Option, Result, IfErr, IfOk, nat_le, slice_get, slice_set}
 use Rattle.std.specs.Option.{option_map}
 use Rattle.std.specs.Result.{result_map_both}
+use Rattle.std.specs.Allocator.{alloc_error}
+use Rattle.std.specs.declared.alloc.AllocError.{AllocError}
 use Rattle.std.proofs.lemmas.Bool.{cases_lt, false≢true, le-leb, lt-leb}
 use Rattle.std.proofs.lemmas.List.{length-map, map-append}
 use Rattle.std.proofs.lemmas.Option.{slice_get_past}
@@ -11,27 +13,37 @@ use Rattle.pcef_packet.specs.declared.header.Header.{Header}
 use Rattle.pcef_catalog.specs.declared.listing.Offer.{Offer}
 use Rattle.pcef_model.specs.Setting.{Setting}
 use Rattle.pcef_model.specs.Entries.{Journal}
-use Rattle.pcef_model.specs.Journals.{gen}
+use Rattle.pcef_model.specs.Journals.{gen, lane_len}
+use Rattle.pcef_model.specs.Reports.{after_leave}
+use Rattle.pcef_model.specs.Answers.{Attaches, Does, Finishes, Flushes, Outcome, Told, attach_outcome, command_outcome, finish_outcome, flush_outcome, told_and_rows, told_of}
+use Rattle.pcef_model.specs.declared.answer.Accepted.{Accepted}
+use Rattle.pcef_model.specs.declared.answer.AttachFault.{AttachFault}
+use Rattle.pcef_model.specs.declared.answer.AttachFault.TheVariants as attach
 use Rattle.pcef_model.specs.declared.answer.FlushRefusal.{FlushRefusal}
+use Rattle.pcef_model.specs.declared.answer.FlushRefusal.TheVariants as flush
+use Rattle.pcef_model.specs.declared.answer.Refusal.{Refusal}
+use Rattle.pcef_model.specs.declared.answer.Refusal.TheVariants as refusal
 use Rattle.pcef_model.specs.declared.answer.Verdicts.{Verdicts}
+use Rattle.pcef_model.specs.declared.command.Command.{Command}
+use Rattle.pcef_model.specs.declared.step.Step.{Step}
+use Rattle.pcef_model.specs.declared.step.Step.TheVariants as of
 use Rattle.pcef_session.specs.declared.batch.BatchFull.{BatchFull}
 use Rattle.pcef_session.specs.declared.batch.Item.{Item}
-use Rattle.pcef_world.specs.declared.worker.Worker.{Worker}
-use Rattle.pcef_world.specs.declared.world.StepRefusal.{StepRefusal}
-use Rattle.pcef_world.specs.declared.world.StepRefusal.TheVariants.{NoWorker}
-use Rattle.pcef_model.specs.Answers.{Finishes, Flushes, told_and_rows, told_of}
 use Rattle.pcef_session.specs.SessionModel.{SessionModel}
 use Rattle.pcef_session.specs.Following.{row_of}
-use Rattle.pcef_world.specs.Workers.{AbandonsAt, FinishesPlace, HandsOverAt, HoldsAt, IsJudged, TakesAt, Waits, held_by, with_item}
-use Rattle.pcef_world.specs.WorldSoundness.{IsSoundWith, seen}
-use Rattle.pcef_world.specs.Worlds.{Abandons, FinishesAt, HandsOver, Refreshes, Takes, Waiting, if_there, refresh_outcome, row_taken, take_outcome, take_outcome_by, with_generation, with_row, worker_at}
+use Rattle.pcef_world.specs.declared.answer.StepAnswer.{StepAnswer}
+use Rattle.pcef_world.specs.declared.answer.StepAnswer.TheVariants as answer
+use Rattle.pcef_world.specs.declared.worker.Worker.{Worker}
+use Rattle.pcef_world.specs.private.Places.{AbandonsAt, FinishesAt, FlushesAt, RefreshesAt, TakesAt, after_coming, after_finishing, attach_told, finish_told, flush_told}
+use Rattle.pcef_world.specs.private.Soundness.{IsSoundWith, seen}
+use Rattle.pcef_world.specs.private.Workers.{IsJudged, Waits, after_flushing, held_by, with_item}
+use Rattle.pcef_world.specs.Steps.{Lacks, Plays, Reply, Standing, abandon_reply, attach_step, finished, handed_over, is_error, is_refusal, new_worker, reply_of, row_taken, standing_of, step_outcome, take_reply, take_step, with_generation, with_none, with_place, with_row}
+use Rattle.pcef_model.proofs.Onward.{attached_not, flushed_not}
+use Rattle.pcef_session.proofs.Leaving.{finished_not}
+use Rattle.pcef_world.specs.Worlds.{Waiting, World, if_there, worker_at}
+use Rattle.pcef_world.proofs.WantOfMemory.{attach_given, attach_lacking, command_given, command_lacking, finish_given, finish_lacking, flush_given, flush_lacking}
 use Rattle.pcef_world.proofs.WorkersWait.{row_made}
 use Rattle.pcef_world.proofs.WrittenLists.{get_mapped, set_mapped, set_same}
-use Rattle.pcef_world.specs.declared.world.Abandoned.{Abandoned}
-use Rattle.pcef_table.specs.Tables.{TableValue}
-use Rattle.pcef_model.specs.Journals.{lane_len}
-use Rattle.pcef_model.specs.Reports.{after_leave}
-use Rattle.pcef_session.specs.Shown.{Shows}
 
 -- where no place is found there is none
 pub past_from : (i n : ℕ) → (i < n → false ≡ true) → n ≤ i
@@ -55,10 +67,77 @@ seen_same workers i o new there kept = ap all_seen (ap (slice_set workers i) kep
 seen_set : (workers : List (Option Worker)) (i : ℕ) (new : Option Worker) (x : Option Waiting) → option_map seen new ≡ x → all_seen (slice_set workers i new) ≡ slice_set (all_seen workers) i x
 seen_set workers i new x is = set_mapped (option_map seen) workers i new ∙ ap (slice_set (all_seen workers) i) is
 
+-- how a journal and workers stand
+abbrev stand : Journal → List (Option Worker) → Standing
+stand j workers = record { journal = j; workers = all_seen workers }
+
+-- a step answers as due, or memory is wanting for it
+abbrev pub Steps : Setting → Standing → Step → Result StepAnswer AllocError → Standing → Type 0
+Steps p before step out after =
+    IfOk out (λ a. Plays p before step a after) × IfErr out (λ _. Lacks p before step after)
+
+-- ---- what is accepted
+flush_accepted : (due : Outcome Told FlushRefusal) (s : Standing) (i : ℕ) (w : Waiting) → is_error due.0 ≡ false → is_refusal (handed_over s i w due).0 ≡ false
+flush_accepted (Ok told, after) s i w accepted = refl
+flush_accepted (Err r, after) s i w accepted = accepted
+
+finish_accepted : (due : Outcome (Told × ℕ) FlushRefusal) (s : Standing) (i : ℕ) → is_error due.0 ≡ false → is_refusal (finished s i due).0 ≡ false
+finish_accepted (Ok told, after) s i accepted = refl
+finish_accepted (Err r, after) s i accepted = accepted
+
+attach_accepted : (due : Outcome ℕ AttachFault) (s : Standing) → is_error due.0 ≡ false → is_refusal (attach_step s due).0 ≡ false
+attach_accepted (Ok number, after) s accepted = refl
+attach_accepted (Err fault, after) s accepted = accepted
+
+-- ---- commands
+command_plays : (p : Setting) (c : Command) (j k : Journal) (workers : List (Option Waiting)) (r : Result Accepted Refusal) → Does p c j r k → (r ≡ Err refusal.NoMemory → ⊥) →
+    Plays p (record { journal = j; workers = workers }) (of.Command c) (answer.Command r) (record { journal = k; workers = workers })
+unfolding step_outcome
+command_plays p c j k workers r does other = rw (command_given p c j k r does other) (refl, refl)
+
+command_lacks : (p : Setting) (c : Command) (j k : Journal) (workers : List (Option Waiting)) → Does p c j (Err refusal.NoMemory) k →
+    Lacks p (record { journal = j; workers = workers }) (of.Command c) (record { journal = k; workers = workers })
+unfolding step_outcome
+command_lacks p c j k workers does =
+    let lacks = command_lacking p c j k does in (lacks.0, ap (λ l. record { journal = l; workers = workers }) lacks.1)
+
+pub command_answer : (p : Setting) (c : Command) (j k : Journal) (workers : List (Option Waiting)) (r : Result Accepted Refusal) (out : Result StepAnswer AllocError) → Does p c j r k →
+    IfOk out (λ a. (a ≡ answer.Command r) × (r ≢ Err refusal.NoMemory)) → IfErr out (λ _. r ≡ Err refusal.NoMemory) →
+    Steps p (record { journal = j; workers = workers }) (of.Command c) out (record { journal = k; workers = workers })
+command_answer p c j k workers r (Ok a) does told lack = rw told.0 (command_plays p c j k workers r does told.1, tt)
+command_answer p c j k workers r (Err e) does told lack = (tt, command_lacks p c j k workers (subst (λ x. Does p c j x k) lack does))
+
+-- ---- a worker comes
+come_plays : (p : Setting) (j k : Journal) (workers : List (Option Waiting)) (r : Result ℕ AttachFault) → Attaches j r k → (r ≡ Err attach.NoMemory → ⊥) →
+    Plays p (record { journal = j; workers = workers }) of.Attach (answer.Attach r) (record { journal = k; workers = after_coming j r workers })
+unfolding step_outcome
+come_plays p j k workers (Ok number) attaches other = rw (attach_given j k (Ok number) attaches other) (refl, refl)
+come_plays p j k workers (Err f) attaches other =
+    rw (attach_given j k (Err f) attaches other) (refl, ap (λ l. record { journal = l; workers = workers }) (attached_not j k f attaches))
+
+come_lacks : (p : Setting) (j k : Journal) (workers : List (Option Waiting)) → Attaches j (Err attach.NoMemory) k →
+    Lacks p (record { journal = j; workers = workers }) of.Attach (record { journal = k; workers = workers })
+unfolding step_outcome
+come_lacks p j k workers attaches =
+    let lacks = attach_lacking j k attaches in
+    (attach_accepted (attach_outcome j) (record { journal = j; workers = workers }) lacks.0, ap (λ l. record { journal = l; workers = workers }) lacks.1)
+
+pub attach_answer : (p : Setting) (v w : World) (r : Result ℕ AttachFault) → Attaches v.session.journal r w.session.journal → w.workers ≡ after_coming v.session.journal r v.workers →
+    Steps p (standing_of v) of.Attach (attach_told r) (standing_of w)
+attach_answer p v w r attaches workers_are = rw workers_are (from r attaches)
+  where
+    from : (r : Result ℕ AttachFault) → Attaches v.session.journal r w.session.journal →
+        Steps p (standing_of v) of.Attach (attach_told r) (record { journal = w.session.journal; workers = after_coming v.session.journal r v.workers })
+    from (Ok number) attaches = (come_plays p v.session.journal w.session.journal v.workers (Ok number) attaches (λ e. cc), tt)
+    from (Err attach.NoMemory) attaches = (tt, come_lacks p v.session.journal w.session.journal v.workers attaches)
+    from (Err attach.NoPlace) attaches = (come_plays p v.session.journal w.session.journal v.workers (Err attach.NoPlace) attaches (λ e. cc), tt)
+    from (Err attach.Closed) attaches = (come_plays p v.session.journal w.session.journal v.workers (Err attach.Closed) attaches (λ e. cc), tt)
+
 -- ---- a packet is taken
 -- by no worker
-pub takes_nowhere : (p : Setting) (j : Journal) (workers : List (Option Worker)) (i : ℕ) (header : Header) → length workers ≤ i → Takes p j i header (all_seen workers) (Err NoWorker) (all_seen workers)
-unfolding take_outcome
+pub takes_nowhere : (p : Setting) (j : Journal) (workers : List (Option Worker)) (i : ℕ) (header : Header) → length workers ≤ i →
+    Plays p (stand j workers) (of.Take i header) answer.NoWorker (stand j workers)
+unfolding step_outcome
 takes_nowhere p j workers i header past = rw (seen_past workers i past) (refl, refl)
 
 -- the item that waits then, as callers see it
@@ -70,121 +149,192 @@ seen_taken s i w new header item waits made new_is =
     (all ∙ ap (λ r. map row_of w.waiting ++ r ∷ []) (row_made s.setting s.journal i w header item waits made))
 
 -- what is answered, where a worker is there or isn't
-abbrev TakesAs : SessionModel → List (Option Waiting) → ℕ → Header → Option Waiting → Result ℕ (StepRefusal BatchFull) → List (Option Waiting) → Type 0
+abbrev TakesAs : SessionModel → List (Option Worker) → ℕ → Header → Option Waiting → StepAnswer → List (Option Worker) → Type 0
 TakesAs s before i header o out after =
-    (out ≡ (take_outcome_by s.setting s.journal before i header o).0) × (after ≡ (take_outcome_by s.setting s.journal before i header o).1)
+    let due : Reply × Standing = take_step s.setting (stand s.journal before) i header o in
+    (reply_of out ≡ due.0) × (stand s.journal after ≡ due.1)
 
-taken_as : (s : SessionModel) (workers : List (Option Worker)) (i : ℕ) (o new : Option Worker) (header : Header) (out : Result ℕ (StepRefusal BatchFull)) → IsSoundWith s workers →
-    slice_get workers i ≡ Some o → TakesAt s.setting.catalog s.setting.ue header (lane_len s.journal i) o out new → TakesAs s (all_seen workers) i header (option_map seen o) out (all_seen (slice_set workers i new))
-taken_as s workers i None new header out sound there (out_is, kept) = (out_is, seen_same workers i None new there kept)
+-- a place that is written, where the journal is so
+place_set : (j : Journal) (workers : List (Option Worker)) (i : ℕ) (new : Option Worker) (x : Option Waiting) → option_map seen new ≡ x →
+    stand j (slice_set workers i new) ≡ with_place i x (stand j workers)
+place_set j workers i new x is = ap (λ ws. record { journal = j; workers = ws }) (seen_set workers i new x is)
+
+place_same : (j : Journal) (workers : List (Option Worker)) (i : ℕ) (o new : Option Worker) → slice_get workers i ≡ Some o → new ≡ o → stand j (slice_set workers i new) ≡ stand j workers
+place_same j workers i o new there kept = ap (λ ws. record { journal = j; workers = ws }) (seen_same workers i o new there kept)
+
+taken_as : (s : SessionModel) (workers : List (Option Worker)) (i : ℕ) (o new : Option Worker) (header : Header) (out : StepAnswer) → IsSoundWith s workers →
+    slice_get workers i ≡ Some o → TakesAt s.setting.catalog s.setting.ue header (lane_len s.journal i) o out new → TakesAs s workers i header (option_map seen o) out (slice_set workers i new)
+taken_as s workers i None new header out sound there (out_is, kept) = (ap reply_of out_is, place_same s.journal workers i None new there kept)
 taken_as s workers i (Some w) new header out sound there (Ok count, v, (few, count_is, item, made, new_is), out_is, put) =
     let waits : Waits s.setting s.journal i w = sound.wait i w there in
     let same : length (map row_of w.waiting) ≡ length w.waiting = length-map w.waiting row_of in
     let room : nat_le 32 (length (map row_of w.waiting)) ≡ false = lt-leb 32 (length (map row_of w.waiting)) (omega (arith, few, same)) in
     rw room (
-      out_is ∙ ap (λ n. Ok n) (omega (arith, count_is, same)),
-      seen_set workers i new (Some (with_row (row_taken s.setting s.journal i (seen w) header) (seen w)))
+      ap reply_of out_is ∙ ap (λ n. take_reply (Ok n)) (omega (arith, count_is, same)),
+      place_set s.journal workers i new (Some (with_row (row_taken s.setting s.journal i (seen w) header) (seen w)))
           (ap (option_map seen) put ∙ ap (λ (x : Waiting). Some x) (seen_taken s i w v header item waits made new_is)),
     )
 taken_as s workers i (Some w) new header out sound there (Err full, v, (many, kept), out_is, put) =
     let full_is : nat_le 32 (length (map row_of w.waiting)) ≡ true = le-leb 32 (length (map row_of w.waiting)) (omega (arith, many, length-map w.waiting row_of)) in
-    rw full_is (out_is, seen_same workers i (Some w) new there (put ∙ ap (λ (x : Worker). Some x) kept))
+    rw full_is (ap reply_of out_is, place_same s.journal workers i (Some w) new there (put ∙ ap (λ (x : Worker). Some x) kept))
 
 -- at a place of the list
-pub takes_answer : (s : SessionModel) (workers : List (Option Worker)) (i : ℕ) (o new : Option Worker) (offers : List Offer) (ue : Addr) (header : Header) (handed_over : ℕ) (out : Result ℕ (StepRefusal BatchFull)) →
+pub takes_answer : (s : SessionModel) (workers : List (Option Worker)) (i : ℕ) (o new : Option Worker) (offers : List Offer) (ue : Addr) (header : Header) (handed_over : ℕ) (out : StepAnswer) →
     IsSoundWith s workers → slice_get workers i ≡ Some o → offers ≡ s.setting.catalog → ue ≡ s.setting.ue → handed_over ≡ lane_len s.journal i → TakesAt offers ue header handed_over o out new →
-    Takes s.setting s.journal i header (all_seen workers) out (all_seen (slice_set workers i new))
-unfolding take_outcome
+    Plays s.setting (stand s.journal workers) (of.Take i header) out (stand s.journal (slice_set workers i new))
+unfolding step_outcome
 takes_answer s workers i o new offers ue header handed_over out sound there offers_are ue_is handed_is takes =
     let p : Setting = s.setting in
     let own : TakesAt p.catalog p.ue header (lane_len s.journal i) o out new =
     subst (λ n. TakesAt p.catalog p.ue header n o out new) handed_is (subst (λ u. TakesAt p.catalog u header handed_over o out new) ue_is (subst (λ c. TakesAt c ue header handed_over o out new) offers_are takes)) in
-    subst (λ x. TakesAs s (all_seen workers) i header x out (all_seen (slice_set workers i new))) (sym (seen_at workers i o there))
+    subst (λ x. TakesAs s workers i header x out (slice_set workers i new)) (sym (seen_at workers i o there))
     (taken_as s workers i o new header out sound there own)
 
 -- ---- the newest generation is taken
-pub refreshes_nowhere : (j : Journal) (workers : List (Option Worker)) (i : ℕ) → length workers ≤ i → Refreshes j i (all_seen workers) None (all_seen workers)
-unfolding refresh_outcome
-refreshes_nowhere j workers i past = rw (seen_past workers i past) (refl, refl)
+pub refreshes_nowhere : (p : Setting) (j : Journal) (workers : List (Option Worker)) (i : ℕ) → length workers ≤ i →
+    Plays p (stand j workers) (of.Refresh i) answer.NoWorker (stand j workers)
+unfolding step_outcome
+refreshes_nowhere p j workers i past = rw (seen_past workers i past) (refl, refl)
 
 -- at a place of the list
-pub refreshes_answer : (s : SessionModel) (workers : List (Option Worker)) (i : ℕ) (o new : Option Worker) (table : TableValue) (out : Option ℕ) → Shows s.setting s.journal (gen s.journal) table →
-    slice_get workers i ≡ Some o → HoldsAt table o out new → Refreshes s.journal i (all_seen workers) out (all_seen (slice_set workers i new))
-unfolding refresh_outcome
-refreshes_answer s workers i None new table out shows there (out_is, kept) =
-    rw (seen_at workers i None there) (out_is, seen_same workers i None new there kept)
-refreshes_answer s workers i (Some w) new table out shows there (v, table_is, number_is, waiting_is, out_is, put) =
-    let newest : table.number ≡ gen s.journal = shows.number_is in
+pub refreshes_answer : (s : SessionModel) (workers : List (Option Worker)) (i : ℕ) (o new : Option Worker) (out : Result StepAnswer AllocError) →
+    slice_get workers i ≡ Some o → RefreshesAt s.setting s.journal o out new →
+    Steps s.setting (stand s.journal workers) (of.Refresh i) out (stand s.journal (slice_set workers i new))
+unfolding step_outcome
+refreshes_answer s workers i None new out there (out_is, kept) =
+    rw (out_is, seen_at workers i None there) ((refl, place_same s.journal workers i None new there kept), tt)
+refreshes_answer s workers i (Some w) new (Ok a) there (v, (shows, number_is, waiting_is), out_is, put) =
     let looks : seen v ≡ with_generation (gen s.journal) (seen w) =
-    ap (λ g. record { generation = g; rows = map row_of v.waiting }) (ap (λ (t : TableValue). t.number) table_is ∙ newest)
+    ap (λ g. record { generation = g; rows = map row_of v.waiting }) shows.number_is
     ∙ ap (λ items. record { generation = gen s.journal; rows = map row_of items }) waiting_is in
     rw (seen_at workers i (Some w) there) (
-      out_is ∙ ap (λ n. Some n) newest,
-      seen_set workers i new (Some (with_generation (gen s.journal) (seen w))) (ap (option_map seen) put ∙ ap (λ (x : Waiting). Some x) looks),
+      (
+        ap reply_of out_is,
+        place_set s.journal workers i new (Some (with_generation (gen s.journal) (seen w))) (ap (option_map seen) put ∙ ap (λ (x : Waiting). Some x) looks),
+      ),
+      tt,
     )
+refreshes_answer s workers i (Some w) new (Err lack) there put =
+    rw (seen_at workers i (Some w) there) (tt, (refl, place_same s.journal workers i (Some w) new there put))
 
 -- ---- rows are handed over
 -- by no worker
-pub hands_over_nowhere : (p : Setting) (j : Journal) (workers : List (Option Worker)) (i : ℕ) → length workers ≤ i → HandsOver p i j (all_seen workers) (Err NoWorker) j (all_seen workers)
-unfolding HandsOver
-hands_over_nowhere p j workers i past = rw (seen_past workers i past) (refl, refl, refl)
+pub flushes_nowhere : (p : Setting) (j : Journal) (workers : List (Option Worker)) (i : ℕ) → length workers ≤ i →
+    Plays p (stand j workers) (of.Flush i) answer.NoWorker (stand j workers)
+unfolding step_outcome
+flushes_nowhere p j workers i past = rw (seen_past workers i past) (refl, refl)
+
+flush_nobody : (p : Setting) (j : Journal) (workers : List (Option Worker)) (i : ℕ) (new : Option Worker) → slice_get workers i ≡ Some None → new ≡ None →
+    Plays p (stand j workers) (of.Flush i) answer.NoWorker (stand j (slice_set workers i new))
+unfolding step_outcome
+flush_nobody p j workers i new there kept = rw (seen_at workers i None there) (refl, place_same j workers i None new there kept)
+
+-- by a worker, which keeps them where they are refused
+flush_plays : (p : Setting) (j k : Journal) (workers : List (Option Worker)) (i : ℕ) (w : Worker) (new : Option Worker) (r : Result Verdicts FlushRefusal) → slice_get workers i ≡ Some (Some w) →
+    Flushes p i (map row_of w.waiting) j (result_map_both told_of (λ e. e) r) k → (r ≡ Err flush.NoMemory → ⊥) → new ≡ Some (after_flushing r w) →
+    Plays p (stand j workers) (of.Flush i) (answer.Flush r) (stand k (slice_set workers i new))
+unfolding step_outcome
+flush_plays p j k workers i w new (Ok v) there flushes other put =
+    rw (seen_at workers i (Some w) there, flush_given p j k i (map row_of w.waiting) (Ok (told_of v)) flushes (λ e. cc))
+    (refl, place_set k workers i new (Some (with_none (seen w))) (ap (option_map seen) put))
+flush_plays p j k workers i w new (Err r) there flushes other put =
+    let same : k ≡ j = flushed_not p i (map row_of w.waiting) j k r flushes in
+    rw (seen_at workers i (Some w) there, flush_given p j k i (map row_of w.waiting) (Err r) flushes (λ e. other (let is : r ≡ flush.NoMemory = cc in ap (λ x. Err x) is)))
+    (refl, ap (λ l. stand l (slice_set workers i new)) same ∙ place_same j workers i (Some w) new there put)
+
+flush_lacks : (p : Setting) (j k : Journal) (workers : List (Option Worker)) (i : ℕ) (w : Worker) (new : Option Worker) → slice_get workers i ≡ Some (Some w) →
+    Flushes p i (map row_of w.waiting) j (Err flush.NoMemory) k → new ≡ Some w →
+    Lacks p (stand j workers) (of.Flush i) (stand k (slice_set workers i new))
+unfolding step_outcome
+flush_lacks p j k workers i w new there flushes put =
+    let lacks = flush_lacking p j k i (map row_of w.waiting) flushes in
+    rw (seen_at workers i (Some w) there) (
+      flush_accepted (flush_outcome p j i (map row_of w.waiting)) (stand j workers) i (seen w) lacks.0,
+      ap (λ l. stand l (slice_set workers i new)) lacks.1 ∙ place_same j workers i (Some w) new there put,
+    )
 
 -- at a place of the list
-pub hands_over_answer : (s t : SessionModel) (workers : List (Option Worker)) (i : ℕ) (o new : Option Worker) (out : Result Verdicts (StepRefusal FlushRefusal)) →
-    IsSoundWith s workers → slice_get workers i ≡ Some o → HandsOverAt s.setting s.journal o out t.journal new →
-    HandsOver s.setting i s.journal (all_seen workers) (result_map_both told_of (λ e. e) out) t.journal (all_seen (slice_set workers i new))
-unfolding HandsOver
-hands_over_answer s t workers i None new out sound there (out_is, same, kept) =
-    rw (out_is, seen_at workers i None there) (refl, same, seen_same workers i None new there kept)
-hands_over_answer s t workers i (Some w) new out sound there (Ok v, flushes, out_is, put) =
-    rw (out_is, seen_at workers i (Some w) there) (
-      subst (λ n. Flushes s.setting n (map row_of w.waiting) s.journal (Ok (told_of v)) t.journal) (sound.wait i w there).number_is flushes,
-      seen_set workers i new (Some (record { generation = (held_by w).number; rows = [] })) (ap (option_map seen) put),
-    )
-hands_over_answer s t workers i (Some w) new out sound there (Err r, flushes, out_is, kept) =
-    rw (out_is, seen_at workers i (Some w) there) (
-      subst (λ n. Flushes s.setting n (map row_of w.waiting) s.journal (Err r) t.journal) (sound.wait i w there).number_is flushes,
-      seen_same workers i (Some w) new there kept,
-    )
+pub flushes_answer : (s t : SessionModel) (workers : List (Option Worker)) (i : ℕ) (o new : Option Worker) (out : Result StepAnswer AllocError) →
+    IsSoundWith s workers → slice_get workers i ≡ Some o → FlushesAt s.setting s.journal o out t.journal new →
+    Steps s.setting (stand s.journal workers) (of.Flush i) out (stand t.journal (slice_set workers i new))
+flushes_answer s t workers i None new out sound there (out_is, same, kept) = rw (out_is, same) (flush_nobody s.setting s.journal workers i new there kept, tt)
+flushes_answer s t workers i (Some w) new out sound there (r, flushes, out_is, put) =
+    rw out_is (from r (subst (λ n. Flushes s.setting n (map row_of w.waiting) s.journal (result_map_both told_of (λ e. e) r) t.journal) (sound.wait i w there).number_is flushes) put)
+  where
+    from : (r : Result Verdicts FlushRefusal) → Flushes s.setting i (map row_of w.waiting) s.journal (result_map_both told_of (λ e. e) r) t.journal → new ≡ Some (after_flushing r w) →
+        Steps s.setting (stand s.journal workers) (of.Flush i) (flush_told r) (stand t.journal (slice_set workers i new))
+    from (Ok v) flushes put = (flush_plays s.setting s.journal t.journal workers i w new (Ok v) there flushes (λ e. cc) put, tt)
+    from (Err flush.NoMemory) flushes put = (tt, flush_lacks s.setting s.journal t.journal workers i w new there flushes put)
+    from (Err flush.NotAttached) flushes put = (flush_plays s.setting s.journal t.journal workers i w new (Err flush.NotAttached) there flushes (λ e. cc) put, tt)
+    from (Err flush.RowsFull) flushes put = (flush_plays s.setting s.journal t.journal workers i w new (Err flush.RowsFull) there flushes (λ e. cc) put, tt)
 
 -- ---- a worker finishes
-pub finishes_nowhere : (p : Setting) (j : Journal) (workers : List (Option Worker)) (i : ℕ) → length workers ≤ i → FinishesAt p i j (all_seen workers) (Err NoWorker) j (all_seen workers)
-unfolding FinishesAt
-finishes_nowhere p j workers i past = rw (seen_past workers i past) (refl, refl, refl)
+pub finishes_nowhere : (p : Setting) (j : Journal) (workers : List (Option Worker)) (i : ℕ) → length workers ≤ i →
+    Plays p (stand j workers) (of.Finish i) answer.NoWorker (stand j workers)
+unfolding step_outcome
+finishes_nowhere p j workers i past = rw (seen_past workers i past) (refl, refl)
 
-pub finishes_answer : (s t : SessionModel) (workers : List (Option Worker)) (i : ℕ) (o new : Option Worker) (out : Result (Verdicts × ℕ) (StepRefusal FlushRefusal)) →
-    IsSoundWith s workers → slice_get workers i ≡ Some o → FinishesPlace s.setting s.journal o out t.journal new →
-    FinishesAt s.setting i s.journal (all_seen workers) (result_map_both told_and_rows (λ e. e) out) t.journal (all_seen (slice_set workers i new))
-unfolding FinishesAt
-finishes_answer s t workers i None new out sound there (out_is, same, kept) =
-    rw (out_is, seen_at workers i None there) (refl, same, seen_same workers i None new there kept)
-finishes_answer s t workers i (Some w) new out sound there (Ok v, finishes, out_is, put) =
-    rw (out_is, seen_at workers i (Some w) there) (
-      subst (λ n. Finishes s.setting n (map row_of w.waiting) s.journal (Ok (told_and_rows v)) t.journal) (sound.wait i w there).number_is finishes,
-      seen_set workers i new None (ap (option_map seen) put),
+finish_nobody : (p : Setting) (j : Journal) (workers : List (Option Worker)) (i : ℕ) (new : Option Worker) → slice_get workers i ≡ Some None → new ≡ None →
+    Plays p (stand j workers) (of.Finish i) answer.NoWorker (stand j (slice_set workers i new))
+unfolding step_outcome
+finish_nobody p j workers i new there kept = rw (seen_at workers i None there) (refl, place_same j workers i None new there kept)
+
+-- it stays where its rows are refused
+finish_plays : (p : Setting) (j k : Journal) (workers : List (Option Worker)) (i : ℕ) (w : Worker) (new : Option Worker) (r : Result (Verdicts × ℕ) FlushRefusal) → slice_get workers i ≡ Some (Some w) →
+    Finishes p i (map row_of w.waiting) j (result_map_both told_and_rows (λ e. e) r) k → (r ≡ Err flush.NoMemory → ⊥) → new ≡ after_finishing r w →
+    Plays p (stand j workers) (of.Finish i) (answer.Finish r) (stand k (slice_set workers i new))
+unfolding step_outcome
+finish_plays p j k workers i w new (Ok v) there finishes other put =
+    rw (seen_at workers i (Some w) there, finish_given p j k i (map row_of w.waiting) (Ok (told_and_rows v)) finishes (λ e. cc))
+    (refl, place_set k workers i new None (ap (option_map seen) put))
+finish_plays p j k workers i w new (Err r) there finishes other put =
+    let same : k ≡ j = finished_not p j k i (map row_of w.waiting) r finishes in
+    rw (seen_at workers i (Some w) there, finish_given p j k i (map row_of w.waiting) (Err r) finishes (λ e. other (let is : r ≡ flush.NoMemory = cc in ap (λ x. Err x) is)))
+    (refl, ap (λ l. stand l (slice_set workers i new)) same ∙ place_same j workers i (Some w) new there put)
+
+finish_lacks : (p : Setting) (j k : Journal) (workers : List (Option Worker)) (i : ℕ) (w : Worker) (new : Option Worker) → slice_get workers i ≡ Some (Some w) →
+    Finishes p i (map row_of w.waiting) j (Err flush.NoMemory) k → new ≡ Some w →
+    Lacks p (stand j workers) (of.Finish i) (stand k (slice_set workers i new))
+unfolding step_outcome
+finish_lacks p j k workers i w new there finishes put =
+    let lacks = finish_lacking p j k i (map row_of w.waiting) finishes in
+    rw (seen_at workers i (Some w) there) (
+      finish_accepted (finish_outcome p j i (map row_of w.waiting)) (stand j workers) i lacks.0,
+      ap (λ l. stand l (slice_set workers i new)) lacks.1 ∙ place_same j workers i (Some w) new there put,
     )
-finishes_answer s t workers i (Some w) new out sound there (Err r, finishes, out_is, kept) =
-    rw (out_is, seen_at workers i (Some w) there) (
-      subst (λ n. Finishes s.setting n (map row_of w.waiting) s.journal (Err r) t.journal) (sound.wait i w there).number_is finishes,
-      seen_same workers i (Some w) new there kept,
-    )
+
+pub finishes_answer : (s t : SessionModel) (workers : List (Option Worker)) (i : ℕ) (o new : Option Worker) (out : Result StepAnswer AllocError) →
+    IsSoundWith s workers → slice_get workers i ≡ Some o → FinishesAt s.setting s.journal o out t.journal new →
+    Steps s.setting (stand s.journal workers) (of.Finish i) out (stand t.journal (slice_set workers i new))
+finishes_answer s t workers i None new out sound there (out_is, same, kept) = rw (out_is, same) (finish_nobody s.setting s.journal workers i new there kept, tt)
+finishes_answer s t workers i (Some w) new out sound there (r, finishes, out_is, put) =
+    rw out_is (from r (subst (λ n. Finishes s.setting n (map row_of w.waiting) s.journal (result_map_both told_and_rows (λ e. e) r) t.journal) (sound.wait i w there).number_is finishes) put)
+  where
+    from : (r : Result (Verdicts × ℕ) FlushRefusal) → Finishes s.setting i (map row_of w.waiting) s.journal (result_map_both told_and_rows (λ e. e) r) t.journal → new ≡ after_finishing r w →
+        Steps s.setting (stand s.journal workers) (of.Finish i) (finish_told r) (stand t.journal (slice_set workers i new))
+    from (Ok v) finishes put = (finish_plays s.setting s.journal t.journal workers i w new (Ok v) there finishes (λ e. cc) put, tt)
+    from (Err flush.NoMemory) finishes put = (tt, finish_lacks s.setting s.journal t.journal workers i w new there finishes put)
+    from (Err flush.NotAttached) finishes put = (finish_plays s.setting s.journal t.journal workers i w new (Err flush.NotAttached) there finishes (λ e. cc) put, tt)
+    from (Err flush.RowsFull) finishes put = (finish_plays s.setting s.journal t.journal workers i w new (Err flush.RowsFull) there finishes (λ e. cc) put, tt)
 
 -- ---- a worker leaves without its rows
-pub abandons_nowhere : (j : Journal) (workers : List (Option Worker)) (i : ℕ) → length workers ≤ i → Abandons i j (all_seen workers) None j (all_seen workers)
-unfolding Abandons
-abandons_nowhere j workers i past = rw (seen_past workers i past) (refl, refl, refl)
+pub abandons_nowhere : (p : Setting) (j : Journal) (workers : List (Option Worker)) (i : ℕ) → length workers ≤ i →
+    Plays p (stand j workers) (of.Abandon i) answer.NoWorker (stand j workers)
+unfolding step_outcome
+abandons_nowhere p j workers i past = rw (seen_past workers i past) (refl, refl)
 
-pub abandons_answer : (s t : SessionModel) (workers : List (Option Worker)) (i : ℕ) (o new : Option Worker) (out : Option Abandoned) →
+pub abandons_answer : (s t : SessionModel) (workers : List (Option Worker)) (i : ℕ) (o new : Option Worker) (out : StepAnswer) →
     IsSoundWith s workers → slice_get workers i ≡ Some o → AbandonsAt s.journal o out t.journal new →
-    Abandons i s.journal (all_seen workers) out t.journal (all_seen (slice_set workers i new))
-unfolding Abandons
+    Plays s.setting (stand s.journal workers) (of.Abandon i) out (stand t.journal (slice_set workers i new))
+unfolding step_outcome
 abandons_answer s t workers i None new out sound there (out_is, same, kept) =
-    rw (seen_at workers i None there) (out_is, same, seen_same workers i None new there kept)
+    rw (seen_at workers i None there, same) (ap reply_of out_is, place_same s.journal workers i None new there kept)
 abandons_answer s t workers i (Some w) new out sound there (out_is, is, none) =
     let number : w.number ≡ i = (sound.wait i w there).number_is in
     rw (seen_at workers i (Some w) there) (
-      out_is ∙ ap (λ n. Some (record { waiting = n; rows = lane_len s.journal w.number })) (sym (length-map w.waiting row_of))
-          ∙ ap (λ n. Some (record { waiting = length (map row_of w.waiting); rows = lane_len s.journal n })) number,
-      is ∙ ap (λ n. after_leave n s.journal) number,
-      seen_set workers i new None (ap (option_map seen) none),
+      ap reply_of out_is
+          ∙ ap (λ n. abandon_reply (record { waiting = n; rows = lane_len s.journal w.number })) (sym (length-map w.waiting row_of))
+          ∙ ap (λ n. abandon_reply (record { waiting = length (map row_of w.waiting); rows = lane_len s.journal n })) number,
+      ap (λ l. stand l (slice_set workers i new)) (is ∙ ap (λ n. after_leave n s.journal) number)
+          ∙ place_set (after_leave i s.journal) workers i new None (ap (option_map seen) none),
     )

@@ -27,11 +27,12 @@ use Rattle.pcef_model.specs.Answers.{Attaches, Does, Finishes, Flushes, told_and
 use Rattle.pcef_session.specs.SessionModel.{SessionModel}
 use Rattle.pcef_session.specs.Following.{row_of}
 use Rattle.pcef_model.specs.Refusals.{first_of, flush_refusals, is_attached}
-use Rattle.pcef_world.specs.Workers.{AbandonsAt, AllWait, FinishesPlace, HandsOverAt, HoldsAt, MayHandOver, TakesAt, Waits, held_by}
-use Rattle.pcef_world.specs.WorldSoundness.{IsSoundWith, seen}
+use Rattle.pcef_world.specs.private.Places.{AbandonsAt, FinishesAt, FlushesAt, RefreshesAt, TakesAt}
+use Rattle.pcef_world.specs.private.Workers.{AllWait, MayHandOver, Waits, held_by}
+use Rattle.pcef_world.specs.private.Soundness.{IsSoundWith, seen}
 use Rattle.pcef_world.specs.Worlds.{AreInTurn, IsInTurn, if_there}
-use Rattle.pcef_world.specs.declared.world.Abandoned.{Abandoned}
-use Rattle.pcef_world.specs.declared.world.StepRefusal.{StepRefusal}
+use Rattle.pcef_world.specs.declared.answer.StepAnswer.{StepAnswer}
+use Rattle.std.specs.declared.alloc.AllocError.{AllocError}
 use Rattle.pcef_world.proofs.WrittenLists.{get_beside, get_mapped, get_pushed, get_written, set_same, set_twice}
 use Rattle.std.proofs.lemmas.Option.{slice_get_within}
 use Rattle.pcef_table.specs.Tables.{TableValue}
@@ -136,7 +137,7 @@ sound_attached s t workers number w sound empty shows attaches setting number_is
 
 -- ---- a packet is taken
 -- one item more waits, or none
-pub sound_taken : (s : SessionModel) (workers : List (Option Worker)) (i : ℕ) (o new : Option Worker) (offers : List Offer) (ue : Addr) (header : Header) (handed_over : ℕ) (out : Result ℕ (StepRefusal BatchFull)) →
+pub sound_taken : (s : SessionModel) (workers : List (Option Worker)) (i : ℕ) (o new : Option Worker) (offers : List Offer) (ue : Addr) (header : Header) (handed_over : ℕ) (out : StepAnswer) →
     IsSoundWith s workers → slice_get workers i ≡ Some o → offers ≡ s.setting.catalog → ue ≡ s.setting.ue → handed_over ≡ lane_len s.journal i → TakesAt offers ue header handed_over o out new →
     IsSoundWith s (slice_set workers i new)
 sound_taken s workers i o new offers ue header handed_over out sound there offers_are ue_is handed_is takes =
@@ -160,20 +161,22 @@ sound_taken s workers i o new offers ue header handed_over out sound there offer
 
 -- ---- the newest generation is taken
 -- the worker holds it then
-pub sound_refreshed : (s : SessionModel) (workers : List (Option Worker)) (i : ℕ) (o new : Option Worker) (table : TableValue) (out : Option ℕ) → IsSoundWith s workers → Shows s.setting s.journal (gen s.journal) table →
-    slice_get workers i ≡ Some o → HoldsAt table o out new → IsSoundWith s (slice_set workers i new)
-sound_refreshed s workers i o new table out sound shows there holds = record {
+pub sound_refreshed : (s : SessionModel) (workers : List (Option Worker)) (i : ℕ) (o new : Option Worker) (out : Result StepAnswer AllocError) → IsSoundWith s workers →
+    slice_get workers i ≡ Some o → RefreshesAt s.setting s.journal o out new → IsSoundWith s (slice_set workers i new)
+sound_refreshed s workers i o new out sound there holds = record {
   counted = sound.counted ∙ sym (length-set workers i new);
   few_rows = sound.few_rows;
-  wait = all_set s.setting s.journal s.journal workers i new (slice_get_within workers i o there) sound.wait (λ v is. from o there holds v is) (λ n v differs before. before);
+  wait = all_set s.setting s.journal s.journal workers i new (slice_get_within workers i o there) sound.wait (λ v is. from o out there holds v is) (λ n v differs before. before);
 }
   where
-    from : (o : Option Worker) → slice_get workers i ≡ Some o → HoldsAt table o out new → (v : Worker) → new ≡ Some v → Waits s.setting s.journal i v
-    from None there holds v is = absurd (let none : None ≡ Some v = sym holds.1 ∙ is in cc)
-    from (Some w) there (x, table_is, number_is, waiting_is, out_is, put) v is =
+    from : (o : Option Worker) (out : Result StepAnswer AllocError) → slice_get workers i ≡ Some o → RefreshesAt s.setting s.journal o out new → (v : Worker) → new ≡ Some v → Waits s.setting s.journal i v
+    from None out there holds v is = absurd (let none : None ≡ Some v = sym holds.1 ∙ is in cc)
+    from (Some w) (Ok a) there (x, (shows, number_is, waiting_is), out_is, put) v is =
         let same : x ≡ v = let both : Some x ≡ Some v = sym put ∙ is in cc in
-        subst (Waits s.setting s.journal i) same
-        (waits_refresh s.setting s.journal i w x (sound.wait i w there) (subst (Shows s.setting s.journal (gen s.journal)) (sym table_is) shows) number_is waiting_is)
+        subst (Waits s.setting s.journal i) same (waits_refresh s.setting s.journal i w x (sound.wait i w there) shows number_is waiting_is)
+    from (Some w) (Err lack) there put v is =
+        let same : w ≡ v = let both : Some w ≡ Some v = sym put ∙ is in cc in
+        subst (Waits s.setting s.journal i) same (sound.wait i w there)
 
 -- ---- rows are handed over
 -- a worker may hand its rows over
@@ -213,8 +216,8 @@ kept_as s t workers i o new sound there same setting kept =
     }
 
 -- the journal takes them, or refuses them
-pub sound_flushed : (s t : SessionModel) (workers : List (Option Worker)) (i : ℕ) (o new : Option Worker) (out : Result Verdicts (StepRefusal FlushRefusal)) → IsSoundWith s workers → slice_get workers i ≡ Some o →
-    HandsOverAt s.setting s.journal o out t.journal new → t.setting ≡ s.setting → IsSoundWith t (slice_set workers i new)
+pub sound_flushed : (s t : SessionModel) (workers : List (Option Worker)) (i : ℕ) (o new : Option Worker) (out : Result StepAnswer AllocError) → IsSoundWith s workers → slice_get workers i ≡ Some o →
+    FlushesAt s.setting s.journal o out t.journal new → t.setting ≡ s.setting → IsSoundWith t (slice_set workers i new)
 sound_flushed s t workers i None new out sound there (out_is, same, kept) setting = kept_as s t workers i None new sound there same setting kept
 sound_flushed s t workers i (Some w) new out sound there (Err r, flushes, out_is, kept) setting =
     kept_as s t workers i (Some w) new sound there (flushed_not s.setting w.number (map row_of w.waiting) s.journal t.journal r flushes) setting kept
@@ -248,8 +251,8 @@ left_place s t workers i o new k wait counted few there is setting none = record
       (λ v there_is. absurd (let some : None ≡ Some v = sym none ∙ there_is in cc)) (λ n v differs before. waits_left s.setting k n i v differs before)));
 }
 
-pub sound_finished : (s t : SessionModel) (workers : List (Option Worker)) (i : ℕ) (o new : Option Worker) (out : Result (Verdicts × ℕ) (StepRefusal FlushRefusal)) → IsSoundWith s workers → slice_get workers i ≡ Some o →
-    FinishesPlace s.setting s.journal o out t.journal new → t.setting ≡ s.setting → IsSoundWith t (slice_set workers i new)
+pub sound_finished : (s t : SessionModel) (workers : List (Option Worker)) (i : ℕ) (o new : Option Worker) (out : Result StepAnswer AllocError) → IsSoundWith s workers → slice_get workers i ≡ Some o →
+    FinishesAt s.setting s.journal o out t.journal new → t.setting ≡ s.setting → IsSoundWith t (slice_set workers i new)
 sound_finished s t workers i None new out sound there (out_is, same, kept) setting = kept_as s t workers i None new sound there same setting kept
 sound_finished s t workers i (Some w) new out sound there (Err r, finishes, out_is, kept) setting =
     kept_as s t workers i (Some w) new sound there (finished_not s.setting s.journal t.journal w.number (map row_of w.waiting) r finishes) setting kept
@@ -267,7 +270,7 @@ sound_finished s t workers i (Some w) new out sound there (Ok v, finishes, out_i
     (get_written workers i None (slice_get_within workers i (Some w) there)) done.1 setting refl in
     subst (IsSoundWith t) (ap (λ (o : Option Worker). slice_set (slice_set workers i None) i o) refl ∙ set_twice workers i None ∙ ap (slice_set workers i) (sym put)) left
 
-pub sound_abandoned : (s t : SessionModel) (workers : List (Option Worker)) (i : ℕ) (o new : Option Worker) (out : Option Abandoned) → IsSoundWith s workers → slice_get workers i ≡ Some o →
+pub sound_abandoned : (s t : SessionModel) (workers : List (Option Worker)) (i : ℕ) (o new : Option Worker) (out : StepAnswer) → IsSoundWith s workers → slice_get workers i ≡ Some o →
     AbandonsAt s.journal o out t.journal new → t.setting ≡ s.setting → IsSoundWith t (slice_set workers i new)
 sound_abandoned s t workers i None new out sound there (out_is, same, kept) setting = kept_as s t workers i None new sound there same setting kept
 sound_abandoned s t workers i (Some w) new out sound there (out_is, is, none) setting =

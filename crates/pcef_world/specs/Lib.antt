@@ -1,3 +1,3 @@
-pub mod Workers
-pub mod WorldSoundness
+pub mod private
+pub mod Steps
 pub mod Worlds

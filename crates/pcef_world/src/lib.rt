@@ -1,8 +1,11 @@
-//! What a script works on: a session and its workers.
+//! A session and its workers, step by step.
 #![tactic(auto)]
 
+mod answer;
 mod places;
+mod play;
 mod worker;
 mod world;
 
-pub use world::{Abandoned, StepRefusal, WorldState};
+pub use answer::{Abandoned, StepAnswer};
+pub use world::WorldState;

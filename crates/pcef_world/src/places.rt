@@ -1,22 +1,17 @@
 //! What is done at the place of a worker, which is there or has left.
 
-ghost use Rattle.std.specs.Prelude.{◌≡◌, ◌≤◌, Err, IfSome, MatchOption, None, Some, map, true};
-ghost use Rattle.std.specs.Arc.{arc_value};
-ghost use Rattle.std.specs.Result.{result_map_both};
-ghost use Rattle.pcef_model.specs.Answers.{told_and_rows, told_of};
-ghost use Rattle.pcef_model.specs.Lawful.{BatchFollows};
+ghost use Rattle.std.specs.Prelude.{◌≡◌, ◌≤◌, IfSome, true};
 ghost use Rattle.pcef_model.specs.Refusals.{is_attached};
-ghost use Rattle.pcef_session.specs.Following.{HasItsSlots, row_of};
 ghost use Rattle.pcef_table.specs.Tables.{IsTable};
-ghost use Rattle.pcef_world.specs.Workers.{AbandonsAt, FinishesPlace, HandsOverAt, HoldsAt, MayHandOver, TakesAt, held_by};
+ghost use Rattle.pcef_world.specs.private.Places.{AbandonsAt, FinishesAt, FlushesAt, RefreshesAt, TakesAt};
+ghost use Rattle.pcef_world.specs.private.Workers.{MayHandOver, held_by};
 
+use crate::answer::{Abandoned, StepAnswer, finish_told, flush_told};
 use crate::worker::Worker;
-use crate::world::{Abandoned, StepRefusal};
 use pcef_catalog::Offers;
-use pcef_model::{FlushRefusal, Verdicts};
 use pcef_packet::{Addr, Header};
-use pcef_session::{BatchFull, SessionState};
-use pcef_table::Table;
+use pcef_session::SessionState;
+use std::alloc::AllocError;
 use std::sync::Arc;
 
 /// A worker takes a packet, after so many rows that it has handed over.
@@ -26,29 +21,33 @@ pub(crate) fn take_at<C: Offers>(
     ue: Addr,
     handed_over: u64,
     header: &Header,
-) -> Result<u8, StepRefusal<BatchFull>>
+) -> StepAnswer
     requires table { IfSome place.old (λ w. IsTable (C.offers catalog.now) (held_by w).entries) }
     requires few { IfSome place.old (λ w. handed_over ≤ 4294967295) }
     ensures { TakesAt (C.offers catalog.now) ue header.now handed_over place.old result place.new }
 {
     match place {
-        None => Err(StepRefusal::NoWorker),
-        Some(worker) => worker
-            .take(catalog, ue, handed_over, header)
-            .map_err(StepRefusal::Refused),
+        None => StepAnswer::NoWorker,
+        Some(worker) => StepAnswer::Take(worker.take(catalog, ue, handed_over, header)),
     }
 }
 
-/// A worker takes a table, and its generation is given.
-pub(crate) fn refresh_at(place: &mut Option<Worker>, table: Arc<Table>) -> Option<u32>
-    ensures { HoldsAt (arc_value table) place.old result place.new }
+/// A worker takes the session's newest table, and its generation is given.
+pub(crate) fn refresh_at(
+    place: &mut Option<Worker>,
+    session: &SessionState,
+) -> Result<StepAnswer, AllocError>
+    ensures { RefreshesAt session.now.setting session.now.journal place.old result place.new }
 {
     match place {
-        None => None,
-        Some(worker) => {
-            worker.table = table;
-            Some(worker.table.generation())
-        }
+        None => Ok(StepAnswer::NoWorker),
+        Some(worker) => match Arc::try_clone(session.table()) {
+            Err(lack) => Err(lack),
+            Ok(table) => {
+                worker.table = table;
+                Ok(StepAnswer::Refresh(worker.table.generation()))
+            }
+        },
     }
 }
 
@@ -56,14 +55,14 @@ pub(crate) fn refresh_at(place: &mut Option<Worker>, table: Arc<Table>) -> Optio
 pub(crate) fn flush_at(
     place: &mut Option<Worker>,
     session: &mut SessionState,
-) -> Result<Verdicts, StepRefusal<FlushRefusal>>
+) -> Result<StepAnswer, AllocError>
     requires { IfSome place.old (MayHandOver session.old.setting session.old.journal) }
-    ensures answer { HandsOverAt session.old.setting session.old.journal place.old result session.new.journal place.new }
+    ensures answer { FlushesAt session.old.setting session.old.journal place.old result session.new.journal place.new }
     ensures setting { session.new.setting ≡ session.old.setting }
 {
     match place {
-        None => Err(StepRefusal::NoWorker),
-        Some(worker) => worker.flush(session).map_err(StepRefusal::Refused),
+        None => Ok(StepAnswer::NoWorker),
+        Some(worker) => flush_told(worker.flush(session)),
     }
 }
 
@@ -71,40 +70,37 @@ pub(crate) fn flush_at(
 pub(crate) fn finish_at(
     place: &mut Option<Worker>,
     session: &mut SessionState,
-) -> Result<(Verdicts, u64), StepRefusal<FlushRefusal>>
+) -> Result<StepAnswer, AllocError>
     requires { IfSome place.old (MayHandOver session.old.setting session.old.journal) }
-    ensures answer { FinishesPlace session.old.setting session.old.journal place.old result session.new.journal place.new }
+    ensures answer { FinishesAt session.old.setting session.old.journal place.old result session.new.journal place.new }
     ensures setting { session.new.setting ≡ session.old.setting }
 {
     let answer = match &*place {
-        None => return Err(StepRefusal::NoWorker),
+        None => return Ok(StepAnswer::NoWorker),
         Some(worker) => worker.finish(session),
     };
     match answer {
-        Err(refusal) => Err(StepRefusal::Refused(refusal)),
+        Err(refusal) => finish_told(Err(refusal)),
         Ok(finished) => {
             *place = None;
-            Ok(finished)
+            Ok(StepAnswer::Finish(Ok(finished)))
         }
     }
 }
 
 /// A worker leaves its place without its waiting rows.
-pub(crate) fn abandon_at(
-    place: &mut Option<Worker>,
-    session: &mut SessionState,
-) -> Option<Abandoned>
+pub(crate) fn abandon_at(place: &mut Option<Worker>, session: &mut SessionState) -> StepAnswer
     requires { IfSome place.old (λ w. is_attached session.old.journal w.number ≡ true) }
     ensures answer { AbandonsAt session.old.journal place.old result session.new.journal place.new }
     ensures setting { session.new.setting ≡ session.old.setting }
 {
     let abandoned = match &*place {
-        None => return None,
+        None => return StepAnswer::NoWorker,
         Some(worker) => Abandoned {
             waiting: worker.waiting.len() as u8,
             rows: session.abandon(worker.number),
         },
     };
     *place = None;
-    Some(abandoned)
+    StepAnswer::Abandon(abandoned)
 }

@@ -1,4 +1,4 @@
-//! The workers of a script.
+//! A worker.
 
 ghost use Rattle.std.specs.Prelude.{◌≡◌, ◌≤◌, Err, IfSome, MatchOption, None, Some, map};
 ghost use Rattle.std.specs.Arc.{arc_value};
@@ -8,7 +8,7 @@ ghost use Rattle.pcef_model.specs.Answers.{Finishes, Flushes, told_and_rows, tol
 ghost use Rattle.pcef_model.specs.Journals.{lane_len};
 ghost use Rattle.pcef_session.specs.Following.{HasItsSlots, row_of};
 ghost use Rattle.pcef_model.specs.Lawful.{BatchFollows};
-ghost use Rattle.pcef_world.specs.Workers.{IsJudged, TakesItem, after_flushing, held_by};
+ghost use Rattle.pcef_world.specs.private.Workers.{IsJudged, TakesItem, after_flushing, held_by};
 
 use pcef_catalog::Offers;
 use pcef_model::{FlushRefusal, Row, Verdicts};

@@ -1,44 +1,29 @@
-//! What a script works on: a session and its workers.
+//! A session and its workers.
 
-ghost use Rattle.std.specs.Prelude.{◌≡◌, ◌≤◌, [], IfOk, OnErr, length};
+ghost use Rattle.std.specs.Prelude.{◌≡◌, ◌≤◌, [], IfErr, IfOk, length};
 ghost use Rattle.std.specs.Arc.{arc_value};
-ghost use Rattle.std.specs.Result.{result_err, result_map_both};
+ghost use Rattle.std.specs.Result.{result_err};
+ghost use Rattle.pcef_model.specs.Answers.{Attaches, Opens};
 ghost use Rattle.pcef_model.specs.Journals.{attach_count, gen};
-ghost use Rattle.pcef_session.specs.Shown.{Shows};
-ghost use Rattle.pcef_model.specs.Answers.{Attaches, Does, Opens, told_and_rows, told_of};
 ghost use Rattle.pcef_model.specs.Terms.{setting_of};
-ghost use Rattle.pcef_world.specs.Worlds.{Abandons, AreInTurn, FinishesAt, HandsOver, Refreshes, Takes, after_attaching};
+ghost use Rattle.pcef_model.specs.declared.step.Step.{Step};
+ghost use Rattle.pcef_model.specs.declared.step.Step.TheVariants as of;
+ghost use Rattle.pcef_session.specs.Shown.{Shows};
+ghost use Rattle.pcef_world.specs.Steps.{Lacks, Plays, standing_of};
+ghost use Rattle.pcef_world.specs.Worlds.{AreInTurn};
+ghost use Rattle.pcef_world.specs.private.Places.{after_coming};
 
+use crate::answer::{StepAnswer, attach_told, command_told};
 use crate::places::{abandon_at, finish_at, flush_at, refresh_at, take_at};
 use crate::worker::Worker;
 use pcef_catalog::{Listing, Offers};
-use pcef_model::{
-    Accepted, AttachFault, Command, FlushRefusal, OpenFault, Profile, Refusal, Verdicts,
-};
+use pcef_model::{AttachFault, Command, OpenFault, Profile, Step};
 use pcef_packet::Header;
-use pcef_session::{Batch, BatchFull, SessionState};
+use pcef_session::{Batch, SessionState};
 use pcef_table::Table;
 use std::alloc::{AllocError, Global};
 use std::marker::Model;
 use std::sync::Arc;
-
-/// Why a step of a worker is refused.
-#[derive(Clone, Copy, Debug, PartialEq, Eq)]
-pub enum StepRefusal<E> {
-    /// The worker isn't attached.
-    NoWorker,
-    /// The step's own refusal.
-    Refused(E),
-}
-
-/// What is told of a worker that left without its waiting rows.
-#[derive(Clone, Copy, Debug, PartialEq, Eq)]
-pub struct Abandoned {
-    /// How many rows waited, 0 to 32, and get no verdict.
-    pub waiting: u8,
-    /// How many rows the worker's lane has.
-    pub rows: u64,
-}
 
 /// A session without the closures of its catalog, and a place for each worker that ever came.
 #[derive(Drop)]
@@ -53,8 +38,8 @@ impl Model for WorldState {
 
     ghost Value = { World };
 
-    ghost use Rattle.pcef_world.specs.WorldSoundness.{IsSoundWorld};
-    ghost use Rattle.pcef_world.specs.WorldSoundness.{world_of};
+    ghost use Rattle.pcef_world.specs.private.Soundness.{IsSoundWorld};
+    ghost use Rattle.pcef_world.specs.private.Soundness.{world_of};
 
     ghost view = { world_of };
 
@@ -94,20 +79,42 @@ impl WorldState {
         &self.session
     }
 
-    /// As [`SessionState::command`].
-    pub fn command(&mut self, command: Command) -> Result<Accepted, Refusal>
-        ensures answer { Does self.old.session.setting command self.old.session.journal result self.new.session.journal }
-        ensures workers { self.new.workers ≡ self.old.workers }
+    /// Makes one step: a command of the session, or what a worker does.
+    ///
+    /// A command and a worker that comes or leaves are answered as by [`SessionState`]. A worker judges a packet by
+    /// the generation that it holds, and up to 32 rows wait. A flush hands them over; where it is refused they go on
+    /// waiting. A worker finishes with a last flush, or is abandoned, and then its waiting rows get no verdict. The step of
+    /// a worker that isn't attached answers [`StepAnswer::NoWorker`] and changes nothing. Takes memory, but not for `Take`
+    /// and `Abandon`. Want of memory comes only where the step isn't refused, and changes nothing.
+    pub fn step<C: Offers>(&mut self, catalog: &C, step: Step) -> Result<StepAnswer, AllocError>
+        requires { C.offers catalog.now ≡ self.old.session.setting.catalog }
+        ensures answer { IfOk result (λ a. Plays self.old.session.setting (standing_of self.old) step a (standing_of self.new)) }
+        ensures lacks { IfErr result (λ _. Lacks self.old.session.setting (standing_of self.old) step (standing_of self.new)) }
         ensures setting { self.new.session.setting ≡ self.old.session.setting }
     {
-        self.session.command(command)
+        match step {
+            Step::Command(command) => self.command(command),
+            Step::Attach => self.attach(),
+            Step::Take { worker, header } => Ok(self.take(catalog, worker, &header)),
+            Step::Refresh { worker } => self.refresh(worker),
+            Step::Flush { worker } => self.flush(worker),
+            Step::Finish { worker } => self.finish(worker),
+            Step::Abandon { worker } => Ok(self.abandon(worker)),
+        }
     }
 
-    /// Attaches a worker, which holds the newest generation. Takes memory for its waiting rows.
-    pub fn attach(&mut self) -> Result<u8, AttachFault>
+    fn command(&mut self, command: Command) -> Result<StepAnswer, AllocError>
+        ensures answer { IfOk result (λ a. Plays self.old.session.setting (standing_of self.old) (of.Command command) a (standing_of self.new)) }
+        ensures lacks { IfErr result (λ _. Lacks self.old.session.setting (standing_of self.old) (of.Command command) (standing_of self.new)) }
+        ensures setting { self.new.session.setting ≡ self.old.session.setting }
+    {
+        command_told(self.session.command(command))
+    }
+
+    // A worker that comes holds the newest generation, and no row waits.
+    fn come(&mut self) -> Result<u8, AttachFault>
         ensures answer { Attaches self.old.session.journal result self.new.session.journal }
-        ensures workers { self.new.workers ≡ after_attaching self.old.session.journal result self.old.workers }
-        ensures number { IfOk result (λ number. number ≡ length self.old.workers) }
+        ensures workers { self.new.workers ≡ after_coming self.old.session.journal result self.old.workers }
         ensures setting { self.new.session.setting ≡ self.old.session.setting }
     {
         if let Some(fault) = self.session.attach_fault() {
@@ -131,72 +138,66 @@ impl WorldState {
         Ok(number)
     }
 
-    /// Judges a packet by the generation that a worker holds, lets it wait, and gives how many wait
-    /// then. Takes no memory.
-    pub fn take<C: Offers>(
-        &mut self,
-        catalog: &C,
-        worker: u8,
-        header: &Header,
-    ) -> Result<u8, StepRefusal<BatchFull>>
+    fn attach(&mut self) -> Result<StepAnswer, AllocError>
+        ensures answer { IfOk result (λ a. Plays self.old.session.setting (standing_of self.old) of.Attach a (standing_of self.new)) }
+        ensures lacks { IfErr result (λ _. Lacks self.old.session.setting (standing_of self.old) of.Attach (standing_of self.new)) }
+        ensures setting { self.new.session.setting ≡ self.old.session.setting }
+    {
+        attach_told(self.come())
+    }
+
+    fn take<C: Offers>(&mut self, catalog: &C, worker: u8, header: &Header) -> StepAnswer
         requires { C.offers catalog.now ≡ self.old.session.setting.catalog }
-        ensures answer { Takes self.old.session.setting self.old.session.journal worker header.now self.old.workers result self.new.workers }
-        ensures session { self.new.session ≡ self.old.session }
+        ensures answer { Plays self.old.session.setting (standing_of self.old) (of.Take worker header.now) result (standing_of self.new) }
+        ensures setting { self.new.session.setting ≡ self.old.session.setting }
     {
         let ue = self.session.profile().ue;
         let handed_over = self.session.lane_len(worker);
         let Some(place) = self.workers.get_mut(usize::from(worker)) else {
-            return Err(StepRefusal::NoWorker);
+            return StepAnswer::NoWorker;
         };
         take_at(place, catalog, ue, handed_over, header)
     }
 
-    /// A worker takes the newest generation, by which it judges from then on, and its number is given. Its rows
-    /// go on waiting. `None` where the worker isn't there; want of memory, which changes nothing, where the
-    /// table can't be shared.
-    pub fn refresh(&mut self, worker: u8) -> Result<Option<u32>, AllocError>
-        ensures answer { IfOk result (λ answer. Refreshes self.old.session.journal worker self.old.workers answer self.new.workers) }
-        ensures kept { OnErr result (self.new.workers ≡ self.old.workers) }
-        ensures session { self.new.session ≡ self.old.session }
+    fn refresh(&mut self, worker: u8) -> Result<StepAnswer, AllocError>
+        ensures answer { IfOk result (λ a. Plays self.old.session.setting (standing_of self.old) (of.Refresh worker) a (standing_of self.new)) }
+        ensures lacks { IfErr result (λ _. Lacks self.old.session.setting (standing_of self.old) (of.Refresh worker) (standing_of self.new)) }
+        ensures setting { self.new.session.setting ≡ self.old.session.setting }
     {
-        let table = newest(&self.session)?;
         let Some(place) = self.workers.get_mut(usize::from(worker)) else {
-            return Ok(None);
+            return Ok(StepAnswer::NoWorker);
         };
-        Ok(refresh_at(place, table))
+        refresh_at(place, &self.session)
     }
 
-    /// Hands the waiting rows of a worker over: NoWorker where it isn't there, else as [`SessionState::flush`]. A
-    /// refusal keeps the rows.
-    pub fn flush(&mut self, worker: u8) -> Result<Verdicts, StepRefusal<FlushRefusal>>
-        ensures answer { HandsOver self.old.session.setting worker self.old.session.journal self.old.workers (result_map_both told_of (λ e. e) result) self.new.session.journal self.new.workers }
+    fn flush(&mut self, worker: u8) -> Result<StepAnswer, AllocError>
+        ensures answer { IfOk result (λ a. Plays self.old.session.setting (standing_of self.old) (of.Flush worker) a (standing_of self.new)) }
+        ensures lacks { IfErr result (λ _. Lacks self.old.session.setting (standing_of self.old) (of.Flush worker) (standing_of self.new)) }
         ensures setting { self.new.session.setting ≡ self.old.session.setting }
     {
         match self.workers.get_mut(usize::from(worker)) {
-            None => Err(StepRefusal::NoWorker),
+            None => Ok(StepAnswer::NoWorker),
             Some(place) => flush_at(place, &mut self.session),
         }
     }
 
-    /// Hands over a worker's waiting rows and lets it leave. Gives the length of its lane too. A refusal, as for
-    /// [`WorldState::flush`], keeps the worker and its rows.
-    pub fn finish(&mut self, worker: u8) -> Result<(Verdicts, u64), StepRefusal<FlushRefusal>>
-        ensures answer { FinishesAt self.old.session.setting worker self.old.session.journal self.old.workers (result_map_both told_and_rows (λ e. e) result) self.new.session.journal self.new.workers }
+    fn finish(&mut self, worker: u8) -> Result<StepAnswer, AllocError>
+        ensures answer { IfOk result (λ a. Plays self.old.session.setting (standing_of self.old) (of.Finish worker) a (standing_of self.new)) }
+        ensures lacks { IfErr result (λ _. Lacks self.old.session.setting (standing_of self.old) (of.Finish worker) (standing_of self.new)) }
         ensures setting { self.new.session.setting ≡ self.old.session.setting }
     {
         match self.workers.get_mut(usize::from(worker)) {
-            None => Err(StepRefusal::NoWorker),
+            None => Ok(StepAnswer::NoWorker),
             Some(place) => finish_at(place, &mut self.session),
         }
     }
 
-    /// A worker leaves without its waiting rows, which get no verdict. `None` where it isn't there. Takes no memory.
-    pub fn abandon(&mut self, worker: u8) -> Option<Abandoned>
-        ensures answer { Abandons worker self.old.session.journal self.old.workers result self.new.session.journal self.new.workers }
+    fn abandon(&mut self, worker: u8) -> StepAnswer
+        ensures answer { Plays self.old.session.setting (standing_of self.old) (of.Abandon worker) result (standing_of self.new) }
         ensures setting { self.new.session.setting ≡ self.old.session.setting }
     {
         match self.workers.get_mut(usize::from(worker)) {
-            None => None,
+            None => StepAnswer::NoWorker,
             Some(place) => abandon_at(place, &mut self.session),
         }
     }

@@ -1,8 +1,6 @@
 //! Answers that were written by hand.
 
-use pcef_answer::{
-    attached_answer, command_answer, fault_text, flushed_answer, refreshed_answer, taken_answer,
-};
+use pcef_answer::{fault_text, step_answer};
 use pcef_filter::FilterFault;
 use pcef_journal::Journal;
 use pcef_line::{Field, LineFault};
@@ -13,7 +11,7 @@ use pcef_model::{
 use pcef_packet::PacketFault;
 use pcef_rule::{BearerId, KeyName, RuleName};
 use pcef_session::BatchFull;
-use pcef_world::StepRefusal;
+use pcef_world::{Abandoned, StepAnswer};
 use std::alloc::{AllocError, Global};
 use std::test::Fail;
 
@@ -91,7 +89,7 @@ fn answers_to_refused_commands(rt: HostRuntime) -> Result<(), AllocError> {
             "{\"name\":\"OverCapacityDown\",\"refused\":18}",
         ),
     ] {
-        let answer = command_answer(alloc, &journal, Err(refusal))?;
+        let answer = step_answer(alloc, &journal, 1, &StepAnswer::Command(Err(refusal)))?;
         assert_eq!(rt; answer.as_str(), text);
     }
     Ok(())
@@ -145,67 +143,59 @@ fn answers_to_accepted_commands(rt: HostRuntime) -> Result<(), Fail> {
             past_last_report,
             unchanged,
         };
-        let answer = command_answer(alloc, &journal, Ok(accepted))?;
+        let answer = step_answer(alloc, &journal, 1, &StepAnswer::Command(Ok(accepted)))?;
         assert_eq!(rt; answer.as_str(), text);
     }
     Ok(())
 }
 
 #[test]
-fn answers_to_attaches_refreshes_and_takes(rt: HostRuntime) -> Result<(), AllocError> {
+fn answers_to_the_other_steps(rt: HostRuntime) -> Result<(), AllocError> {
     let alloc = rt.alloc();
+    let journal = Journal::new(alloc);
     for (answer, text) in [
         (
-            attached_answer(alloc, 2, Ok(0))?,
+            StepAnswer::Attach(Ok(0)),
             "{\"generation\":2,\"ok\":true,\"worker\":0}",
         ),
         (
-            attached_answer(alloc, 2, Err(AttachFault::NoPlace))?,
+            StepAnswer::Attach(Err(AttachFault::NoPlace)),
             "{\"name\":\"NoPlace\",\"refused\":1}",
         ),
         (
-            refreshed_answer(alloc, Some(2))?,
-            "{\"generation\":2,\"ok\":true}",
+            StepAnswer::Refresh(1),
+            "{\"generation\":1,\"ok\":true}",
         ),
         (
-            refreshed_answer(alloc, None)?,
-            "{\"name\":\"NoWorker\",\"refused\":0}",
+            StepAnswer::Take(Ok(32)),
+            "{\"ok\":true,\"waiting\":32}",
         ),
-        (taken_answer(alloc, Ok(32))?, "{\"ok\":true,\"waiting\":32}"),
         (
-            taken_answer(alloc, Err(StepRefusal::Refused(BatchFull)))?,
+            StepAnswer::Take(Err(BatchFull)),
             "{\"name\":\"BatchFull\",\"refused\":1}",
         ),
         (
-            taken_answer(alloc, Err(StepRefusal::NoWorker))?,
-            "{\"name\":\"NoWorker\",\"refused\":0}",
-        ),
-    ] {
-        assert_eq!(rt; answer.as_str(), text);
-    }
-    Ok(())
-}
-
-#[test]
-fn answers_to_refused_flushes(rt: HostRuntime) -> Result<(), AllocError> {
-    let alloc = rt.alloc();
-    let journal = Journal::new(alloc);
-    for (refusal, text) in [
-        (
-            StepRefusal::NoWorker,
-            "{\"name\":\"NoWorker\",\"refused\":0}",
-        ),
-        (
-            StepRefusal::Refused(FlushRefusal::NotAttached),
+            StepAnswer::Flush(Err(FlushRefusal::NotAttached)),
             "{\"name\":\"NotAttached\",\"refused\":1}",
         ),
         (
-            StepRefusal::Refused(FlushRefusal::RowsFull),
+            StepAnswer::Finish(Err(FlushRefusal::RowsFull)),
             "{\"name\":\"RowsFull\",\"refused\":2}",
         ),
+        (
+            StepAnswer::Abandon(Abandoned {
+                waiting: 3,
+                rows: 5,
+            }),
+            "{\"abandoned\":3,\"ok\":true,\"rows\":5}",
+        ),
+        (
+            StepAnswer::NoWorker,
+            "{\"name\":\"NoWorker\",\"refused\":0}",
+        ),
     ] {
-        let answer = flushed_answer(alloc, &journal, &Err(refusal))?;
-        assert_eq!(rt; answer.as_str(), text);
+        let told = step_answer(alloc, &journal, 2, &answer)?;
+        assert_eq!(rt; told.as_str(), text);
     }
     Ok(())
 }
@@ -242,7 +232,7 @@ fn answers_to_flushes_escape_names(rt: HostRuntime) -> Result<(), Fail> {
         first_report: 0,
         past_last_report: 3,
     };
-    let answer = flushed_answer(alloc, &journal, &Ok(verdicts))?;
+    let answer = step_answer(alloc, &journal, 2, &StepAnswer::Flush(Ok(verdicts)))?;
     assert_eq!(rt;
         answer.as_str(),
         "{\"ok\":true,\"reports\":[{\"cause\":\"Threshold\",\"key\":\"vid\",\"number\":0,\"octets\":1200},{\"event\":\"RAT_CHANGE\",\"number\":1,\"value\":\"eutran\"},{\"cause\":\"BearerLost\",\"number\":2,\"rule\":\"voice\"}],\"verdicts\":[{\"bearer\":5,\"generation\":2,\"rule\":\"web\",\"verdict\":\"Passed\"},{\"generation\":2,\"rule\":\"a\\\"b\\\\c\",\"verdict\":\"Gated\"},{\"generation\":0,\"verdict\":\"Unmatched\"},{\"generation\":0,\"verdict\":\"Stray\"}]}"
@@ -279,7 +269,7 @@ fn answers_to_flushes_of_nothing_and_of_large_numbers(rt: HostRuntime) -> Result
             "{\"ok\":true,\"reports\":[{\"cause\":\"BearerLost\",\"number\":2,\"rule\":\"voice\"}],\"verdicts\":[{\"bearer\":15,\"generation\":4294967295,\"rule\":\"\\\\a\\\"\",\"verdict\":\"Passed\"}]}",
         ),
     ] {
-        let answer = flushed_answer(alloc, &journal, &Ok(verdicts))?;
+        let answer = step_answer(alloc, &journal, 2, &StepAnswer::Flush(Ok(verdicts)))?;
         assert_eq!(rt; answer.as_str(), text);
     }
     Ok(())

@@ -4,12 +4,14 @@
 //! allocation fail.
 
 use super::PROFILE;
-use pcef_catalog::Listing;
+use pcef_catalog::Catalog;
+use pcef_core::World;
 use pcef_line::{Line, read_line};
-use pcef_model::{Accepted, AttachFault, Refusal, Step};
+use pcef_model::Step;
 use pcef_profile::read_profile;
-use pcef_world::WorldState;
+use pcef_world::StepAnswer;
 use std::alloc::{AllocError, Global};
+use std::sync::Arc;
 use std::test::Fail;
 
 /// Two rules of one key, of which one is modified and both are removed, and the key switched on.
@@ -22,24 +24,27 @@ const LINES: [&str; 6] = [
     "{\"do\":\"remove\",\"name\":\"web\"}",
 ];
 
-/// Does the command of a line, or is refused.
-fn obey(world: &mut WorldState, line: Line) -> Result<Accepted, Refusal> {
+/// Makes the step of a line.
+fn obey(world: &mut World, line: Line) -> Result<StepAnswer, AllocError> {
     match line {
-        Line::Step(Step::Command(command)) => world.command(command),
-        _ => Err(Refusal::Closed),
+        Line::Step(step) => world.step(step),
+        Line::Show => Err(AllocError),
     }
 }
 
 /// A world of this profile, made again where the first found no memory.
-fn open(alloc: Global) -> Result<WorldState, Fail> {
+fn open(alloc: Global) -> Result<World, Fail> {
     for _ in 0..2u8 {
         let Ok(profile) = read_profile(alloc, PROFILE) else {
             continue;
         };
-        let Ok(listing) = Listing::new(alloc, Vec::new(alloc)) else {
+        let Ok(catalog) = Catalog::new(alloc, Vec::new(alloc)) else {
             continue;
         };
-        if let Ok(world) = WorldState::open(alloc, profile, listing) {
+        let Ok(catalog) = Arc::new(alloc, catalog) else {
+            continue;
+        };
+        if let Ok(world) = World::open(alloc, profile, catalog) {
             return Ok(world);
         }
     }
@@ -58,12 +63,12 @@ fn refused_commands_leave_no_trace(rt: HostRuntime) -> Result<(), Fail> {
                 continue;
             };
             match obey(&mut world, line) {
-                Ok(_) => {
+                Ok(answer) => {
+                    assert!(rt; matches!(answer, StepAnswer::Command(Ok(_))));
                     done = done.saturating_add(1);
                     break;
                 }
-                Err(refusal) => {
-                    assert!(rt; refusal == Refusal::NoMemory);
+                Err(_) => {
                     assert_eq!(rt; world.session().journal().commands_len(), before);
                     assert_eq!(rt; u64::from(world.session().generation()), before);
                 }
@@ -84,12 +89,9 @@ fn a_refused_attach_leaves_no_trace(rt: HostRuntime) -> Result<(), Fail> {
     let mut world = open(alloc)?;
     for expected in 0..3u8 {
         for _ in 0..2u8 {
-            match world.attach() {
-                Ok(number) => {
-                    assert_eq!(rt; number, expected);
-                    break;
-                }
-                Err(fault) => assert!(rt; fault == AttachFault::NoMemory),
+            if let Ok(answer) = world.step(Step::Attach) {
+                assert!(rt; matches!(answer, StepAnswer::Attach(Ok(number)) if number == expected));
+                break;
             }
         }
     }

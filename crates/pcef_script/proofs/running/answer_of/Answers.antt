@@ -1,6 +1,7 @@
 use Rattle.std.proofs.Common.{refl}
 use Rattle.pcef_line.specs.declared.fault.LineFault.TheVariants.{LineTooLong}
-use Rattle.pcef_script.specs.ScriptAnswers.{LineDue, standing_of}
+use Rattle.pcef_script.specs.ScriptAnswers.{LineDue}
+use Rattle.pcef_world.specs.Steps.{standing_of}
 use Rattle.pcef_script.proofs.LineReads.{fault_answered}
 use Rattle.pcef_script.proofs.running.answer_of.Goals as goal
 

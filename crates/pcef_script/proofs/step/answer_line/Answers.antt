@@ -2,7 +2,8 @@ use Rattle.std.proofs.Common.{subst}
 use Rattle.std.specs.Prelude.{Some}
 use Rattle.pcef_line.specs.LineOf.{LineOf}
 use Rattle.pcef_line.specs.declared.fault.LineFault.TheVariants.{NotUtf8}
-use Rattle.pcef_script.specs.ScriptAnswers.{DueWithin, standing_of}
+use Rattle.pcef_script.specs.ScriptAnswers.{DueWithin}
+use Rattle.pcef_world.specs.Steps.{standing_of}
 use Rattle.pcef_script.proofs.LineReads.{due_answered, fault_answered, other_due, text_due}
 use Rattle.pcef_script.proofs.step.answer_line.Goals as goal
 

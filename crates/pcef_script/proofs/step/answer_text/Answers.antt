@@ -1,4 +1,4 @@
-use Rattle.pcef_script.specs.ScriptAnswers.{standing_of}
+use Rattle.pcef_world.specs.Steps.{standing_of}
 use Rattle.pcef_script.proofs.LineReads.{fault_read, line_answered}
 use Rattle.pcef_script.proofs.step.answer_text.Goals as goal
 

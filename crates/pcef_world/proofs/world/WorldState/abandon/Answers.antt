@@ -21,7 +21,7 @@ invariant_of-self-in-Some c =
 pub returns-in-None-clause-answer : goal.returns-in-None-clause-answer
 returns-in-None-clause-answer c =
     rw (← c.self.view_is, ← c.from.ensures)
-    (abandons_nowhere _ c.self.inside.workers.items c.from.result (omega (arith, past_from c.from.result _ c.in-None.ensures.variant.1, c.self.inside.workers.ok.0)))
+    (abandons_nowhere _ _ c.self.inside.workers.items c.from.result (omega (arith, past_from c.from.result _ c.in-None.ensures.variant.1, c.self.inside.workers.ok.0)))
 
 pub returns-in-Some-clause-answer : goal.returns-in-Some-clause-answer
 returns-in-Some-clause-answer c =

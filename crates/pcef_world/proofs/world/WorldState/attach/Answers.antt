@@ -1,28 +1,8 @@
-use Rattle.pcef_session.proofs.Leaving.{attach_refused}
-use Rattle.std.specs.Option.{option_map}
-use Rattle.std.proofs.Common.{refl, sym, ◌∙◌}
-use Rattle.std.proofs.lemmas.List.{length-map}
-use Rattle.pcef_world.specs.WorldSoundness.{seen}
-use Rattle.pcef_world.proofs.WorldSteps.{attached_number, sound_attached, sound_attached_not}
+use Rattle.pcef_world.proofs.WorldAnswers.{attach_answer}
 use Rattle.pcef_world.proofs.world.WorldState.attach.Goals as goal
 
-pub invariant_of-self-in_err-number : goal.invariant_of-self-in_err-number
-invariant_of-self-in_err-number c =
-    rw c.reserve.ensures.items
-    (sound_attached_not c.self.inside.session c.attach.new.self c.self.inside.workers.items c.in_err-number.field-0.0 c.self.invariant c.in_err-number.ensures.answer c.attach.ensures.setting)
+pub returns-clause-answer : goal.returns-clause-answer
+returns-clause-answer c = rw c.attach_told.ensures (attach_answer c.args.self.now.session.setting c.args.self.now c.come.new.self c.come.result c.come.ensures.answer c.come.ensures.workers).0
 
-pub invariant_of-self-2 : goal.invariant_of-self-2
-invariant_of-self-2 c =
-    rw (c.push_reserved.ensures.items, c.reserve.ensures.items)
-    (sound_attached c.self.inside.session c.attach.new.self c.self.inside.workers.items c.in_ok-number.number _ c.self.invariant c.in_ok-number.ensures.lane c.in-Ok-newest.ensures c.in_ok-number.ensures.answer
-    c.attach.ensures.setting refl c.in-Ok.ensures)
-
-pub returns-clause-number : goal.returns-clause-number
-returns-clause-number c =
-    rw (← c.self.view_is)
-    (attached_number c.self.inside.session c.attach.new.self c.self.inside.workers.items c.in_ok-number.number c.self.invariant c.in_ok-number.ensures.answer
-    ∙ sym (length-map c.self.inside.workers.items (option_map seen)))
-
-pub returns-in-Some-clause-answer : goal.returns-in-Some-clause-answer
-returns-in-Some-clause-answer c =
-    rw (← c.self.view_is) (attach_refused c.self.inside.session.journal c.in-Some.fault (sym c.in-Some.ensures))
+pub returns-clause-lacks : goal.returns-clause-lacks
+returns-clause-lacks c = rw c.attach_told.ensures (attach_answer c.args.self.now.session.setting c.args.self.now c.come.new.self c.come.result c.come.ensures.answer c.come.ensures.workers).1

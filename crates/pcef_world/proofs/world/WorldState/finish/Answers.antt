@@ -28,4 +28,11 @@ returns-in-Some-clause-answer c =
     let there : slice_get c.self.inside.workers.items c.from.result ≡ Some c.in-Some.place.now =
     slice_get_read c.self.inside.workers.items (length c.self.inside.workers.items) c.from.result c.in-Some.place.now refl c.in-Some.ensures.item.3.0 c.in-Some.ensures.value in
     rw (← c.self.view_is, ← c.from.ensures)
-    (finishes_answer c.self.inside.session c.finish_at.new.session c.self.inside.workers.items c.from.result c.in-Some.place.now c.finish_at.new.place c.finish_at.result c.self.invariant there c.finish_at.ensures.answer)
+    (finishes_answer c.self.inside.session c.finish_at.new.session c.self.inside.workers.items c.from.result c.in-Some.place.now c.finish_at.new.place c.finish_at.result c.self.invariant there c.finish_at.ensures.answer).0
+
+pub returns-in-Some-clause-lacks : goal.returns-in-Some-clause-lacks
+returns-in-Some-clause-lacks c =
+    let there : slice_get c.self.inside.workers.items c.from.result ≡ Some c.in-Some.place.now =
+    slice_get_read c.self.inside.workers.items (length c.self.inside.workers.items) c.from.result c.in-Some.place.now refl c.in-Some.ensures.item.3.0 c.in-Some.ensures.value in
+    rw (← c.self.view_is, ← c.from.ensures)
+    (finishes_answer c.self.inside.session c.finish_at.new.session c.self.inside.workers.items c.from.result c.in-Some.place.now c.finish_at.new.place c.finish_at.result c.self.invariant there c.finish_at.ensures.answer).1

@@ -1,7 +1,7 @@
 use Rattle.std.proofs.Common.{◌≡◌, Some, arith, length, refl}
 use Rattle.std.specs.Prelude.{slice_get}
 use Rattle.std.proofs.lemmas.Option.{slice_get_read}
-use Rattle.pcef_world.proofs.WorldAnswers.{hands_over_answer, hands_over_nowhere, past_from}
+use Rattle.pcef_world.proofs.WorldAnswers.{flushes_answer, flushes_nowhere, past_from}
 use Rattle.pcef_world.proofs.WorldSteps.{hands_if, sound_flushed}
 use Rattle.pcef_world.proofs.world.WorldState.flush.Goals as goal
 
@@ -21,11 +21,18 @@ invariant_of-self-in-Some c =
 pub returns-in-None-clause-answer : goal.returns-in-None-clause-answer
 returns-in-None-clause-answer c =
     rw (← c.self.view_is, ← c.from.ensures)
-    (hands_over_nowhere _ _ c.self.inside.workers.items c.from.result (omega (arith, past_from c.from.result _ c.in-None.ensures.variant.1, c.self.inside.workers.ok.0)))
+    (flushes_nowhere _ _ c.self.inside.workers.items c.from.result (omega (arith, past_from c.from.result _ c.in-None.ensures.variant.1, c.self.inside.workers.ok.0)))
 
 pub returns-in-Some-clause-answer : goal.returns-in-Some-clause-answer
 returns-in-Some-clause-answer c =
     let there : slice_get c.self.inside.workers.items c.from.result ≡ Some c.in-Some.place.now =
     slice_get_read c.self.inside.workers.items (length c.self.inside.workers.items) c.from.result c.in-Some.place.now refl c.in-Some.ensures.item.3.0 c.in-Some.ensures.value in
     rw (← c.self.view_is, ← c.from.ensures)
-    (hands_over_answer c.self.inside.session c.flush_at.new.session c.self.inside.workers.items c.from.result c.in-Some.place.now c.flush_at.new.place c.flush_at.result c.self.invariant there c.flush_at.ensures.answer)
+    (flushes_answer c.self.inside.session c.flush_at.new.session c.self.inside.workers.items c.from.result c.in-Some.place.now c.flush_at.new.place c.flush_at.result c.self.invariant there c.flush_at.ensures.answer).0
+
+pub returns-in-Some-clause-lacks : goal.returns-in-Some-clause-lacks
+returns-in-Some-clause-lacks c =
+    let there : slice_get c.self.inside.workers.items c.from.result ≡ Some c.in-Some.place.now =
+    slice_get_read c.self.inside.workers.items (length c.self.inside.workers.items) c.from.result c.in-Some.place.now refl c.in-Some.ensures.item.3.0 c.in-Some.ensures.value in
+    rw (← c.self.view_is, ← c.from.ensures)
+    (flushes_answer c.self.inside.session c.flush_at.new.session c.self.inside.workers.items c.from.result c.in-Some.place.now c.flush_at.new.place c.flush_at.result c.self.invariant there c.flush_at.ensures.answer).1

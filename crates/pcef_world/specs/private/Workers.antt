@@ -1,10 +1,4 @@
 -- Workers, and what always holds of them.
-use Rattle.std.specs.Result.{result_map_both}
-use Rattle.pcef_model.specs.Answers.{Finishes, Flushes, told_and_rows, told_of}
-use Rattle.pcef_model.specs.declared.answer.FlushRefusal.{FlushRefusal}
-use Rattle.pcef_model.specs.declared.answer.Verdicts.{Verdicts}
-use Rattle.pcef_model.specs.Reports.{after_leave}
-use Rattle.pcef_world.specs.declared.world.Abandoned.{Abandoned}
 use Rattle.std.specs.Prelude.{ℕ, ◌≡◌, ◌≤◌, ◌<◌, ◌+◌, List, [], ◌∷◌, ◌++◌, Option, Some, None, Result, Ok, Err, length, map, slice_get, true}
 use Rattle.std.specs.Arc.{arc_value}
 use Rattle.pcef_packet.specs.declared.header.Addr.{Addr}
@@ -20,8 +14,6 @@ use Rattle.pcef_session.specs.declared.batch.BatchFull.{BatchFull}
 use Rattle.pcef_session.specs.declared.batch.Item.{Item}
 use Rattle.pcef_model.specs.Refusals.{is_attached}
 use Rattle.pcef_world.specs.declared.worker.Worker.{Worker}
-use Rattle.pcef_world.specs.declared.world.StepRefusal.{StepRefusal}
-use Rattle.pcef_world.specs.declared.world.StepRefusal.TheVariants.{NoWorker, Refused}
 use Rattle.pcef_session.specs.Following.{HasItsSlots, row_of}
 use Rattle.pcef_model.specs.Lawful.{BatchFollows, newest_generation}
 use Rattle.pcef_session.specs.Shown.{Shows}
@@ -71,45 +63,7 @@ pub record Waits (p : Setting) (j : Journal) (number : ℕ) (w : Worker) : Type 
 abbrev pub AllWait : Setting → Journal → List (Option Worker) → Type 0
 AllWait p j workers = (number : ℕ) (w : Worker) → slice_get workers number ≡ Some (Some w) → Waits p j number w
 
--- ---- what is done at a place
--- a step's own answer as the world gives it
-abbrev pub wrapped : {A E : Type 0} → Result A E → Result A (StepRefusal E)
-wrapped (Ok a) = Ok a
-wrapped (Err e) = Err (Refused e)
-
-abbrev pub TakesAt : List Offer → Addr → Header → ℕ → Option Worker → Result ℕ (StepRefusal BatchFull) → Option Worker → Type 0
-TakesAt offers ue header handed_over None out new = (out ≡ Err NoWorker) × (new ≡ None)
-TakesAt offers ue header handed_over (Some w) out new =
-    (r : Result ℕ BatchFull) × (v : Worker) × TakesItem offers ue header handed_over w r v × (out ≡ wrapped r) × (new ≡ Some v)
-
--- a worker holds a table from now on, and its rows go on waiting
-abbrev pub HoldsAt : TableValue → Option Worker → Option ℕ → Option Worker → Type 0
-HoldsAt table None out new = (out ≡ None) × (new ≡ None)
-HoldsAt table (Some w) out new =
-    (v : Worker) × (held_by v ≡ table) × (v.number ≡ w.number) × (v.waiting ≡ w.waiting) × (out ≡ Some table.number) × (new ≡ Some v)
-
 -- its rows may come next
 pub record MayHandOver (p : Setting) (j : Journal) (w : Worker) : Type 0 where
   pub follow : BatchFollows p j w.number (map row_of w.waiting)
   pub slots : HasItsSlots p j w.waiting
-
-abbrev pub HandsOverAt : Setting → Journal → Option Worker → Result Verdicts (StepRefusal FlushRefusal) → Journal → Option Worker → Type 0
-HandsOverAt p j None out k new = (out ≡ Err NoWorker) × (k ≡ j) × (new ≡ None)
-HandsOverAt p j (Some w) out k new =
-    (r : Result Verdicts FlushRefusal) × Flushes p w.number (map row_of w.waiting) j (result_map_both told_of (λ e. e) r) k
-    × (out ≡ wrapped r) × (new ≡ Some (after_flushing r w))
-
-abbrev pub after_finishing : {A E : Type 0} → Result A E → Worker → Option Worker
-after_finishing (Ok a) w = None
-after_finishing (Err e) w = Some w
-
-abbrev pub FinishesPlace : Setting → Journal → Option Worker → Result (Verdicts × ℕ) (StepRefusal FlushRefusal) → Journal → Option Worker → Type 0
-FinishesPlace p j None out k new = (out ≡ Err NoWorker) × (k ≡ j) × (new ≡ None)
-FinishesPlace p j (Some w) out k new =
-    (r : Result (Verdicts × ℕ) FlushRefusal) × Finishes p w.number (map row_of w.waiting) j (result_map_both told_and_rows (λ e. e) r) k
-    × (out ≡ wrapped r) × (new ≡ after_finishing r w)
-
-abbrev pub AbandonsAt : Journal → Option Worker → Option Abandoned → Journal → Option Worker → Type 0
-AbandonsAt j None out k new = (out ≡ None) × (k ≡ j) × (new ≡ None)
-AbandonsAt j (Some w) out k new =
-    (out ≡ Some (record { waiting = length w.waiting; rows = lane_len j w.number })) × (k ≡ after_leave w.number j) × (new ≡ None)

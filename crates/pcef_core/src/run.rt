@@ -1,0 +1,36 @@
+//! What a list of steps makes of a session.
+
+ghost use Rattle.std.specs.Prelude.{◌≡◌, IfOk};
+ghost use Rattle.std.specs.Arc.{arc_value};
+ghost use Rattle.std.specs.Result.{result_err};
+ghost use Rattle.pcef_catalog.specs.Catalogs.{offers_of};
+ghost use Rattle.pcef_core.specs.Cores.{world_of};
+ghost use Rattle.pcef_model.specs.Answers.{Opens};
+ghost use Rattle.pcef_model.specs.Terms.{setting_of};
+ghost use Rattle.pcef_world.specs.Steps.{Played, at_start, standing_of};
+
+use crate::world::World;
+use pcef_catalog::Catalog;
+use pcef_model::{OpenFault, Profile, Step};
+use pcef_world::StepAnswer;
+use std::alloc::Global;
+use std::sync::Arc;
+
+/// Opens a session and makes steps, one after the other. Gives the world after them, and one answer for each. Takes memory
+/// for both. A fault is the first that keeps the session from being opened, or want of memory, on which the run is given
+/// up.
+pub fn run(
+    alloc: Global,
+    profile: Profile,
+    catalog: Arc<Catalog>,
+    steps: Vec<Step>,
+) -> Result<(World, Vec<StepAnswer>), OpenFault>
+    ensures fault { Opens (setting_of profile (offers_of (arc_value catalog))) (result_err result) }
+    ensures played { IfOk result (λ r. Played (setting_of profile (offers_of (arc_value catalog))) at_start steps.items r.1.items (standing_of (world_of r.0))) }
+{
+    let mut world = World::open(alloc, profile, catalog)?;
+    match world.play(alloc, steps) {
+        Ok(answers) => Ok((world, answers)),
+        Err(_) => Err(OpenFault::NoMemory),
+    }
+}

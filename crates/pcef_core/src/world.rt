@@ -1,0 +1,69 @@
+//! A session and its workers, with the catalog.
+
+ghost use Rattle.std.specs.Prelude.{◌≡◌, IfErr, IfOk};
+ghost use Rattle.std.specs.Arc.{arc_value};
+ghost use Rattle.std.specs.Result.{result_err};
+ghost use Rattle.pcef_catalog.specs.Catalogs.{offers_of};
+
+use pcef_catalog::{Catalog, Offers};
+use pcef_model::{OpenFault, Profile, Step};
+use pcef_session::{SessionState, open_fault};
+use pcef_world::{StepAnswer, WorldState};
+use std::alloc::{AllocError, Global};
+use std::sync::Arc;
+
+/// A session and its workers, and the catalog of the session's predefined rules.
+#[derive(Drop)]
+pub struct World {
+    catalog: Arc<Catalog>,
+    state: WorldState,
+    ghost offered: { state.session.setting.catalog ≡ offers_of (arc_value catalog) },
+}
+
+impl World {
+    ghost use Rattle.pcef_core.specs.Cores.{world_of};
+    ghost use Rattle.pcef_model.specs.Answers.{Opens};
+    ghost use Rattle.pcef_model.specs.Terms.{setting_of};
+    ghost use Rattle.pcef_world.specs.Steps.{Lacks, Played, Plays, at_start, standing_of};
+
+    /// A session with an empty journal and no workers, or the first fault in the order of [`OpenFault`]. Takes
+    /// memory for the rules and keys that may come.
+    pub fn open(alloc: Global, profile: Profile, catalog: Arc<Catalog>) -> Result<World, OpenFault>
+        ensures answer { Opens (setting_of profile (offers_of (arc_value catalog))) (result_err result) }
+        ensures setting { IfOk result (λ w. (world_of w).session.setting ≡ setting_of profile (offers_of (arc_value catalog))) }
+        ensures start { IfOk result (λ w. standing_of (world_of w) ≡ at_start) }
+    {
+        if let Some(fault) = open_fault(&profile) {
+            return Err(fault);
+        }
+        let Ok(listing) = catalog.listing().share() else {
+            return Err(OpenFault::NoMemory);
+        };
+        let state = WorldState::open(alloc, profile, listing)?;
+        Ok(World { catalog, state })
+    }
+
+    /// Makes one step, as [`WorldState::step`].
+    pub fn step(&mut self, step: Step) -> Result<StepAnswer, AllocError>
+        ensures answer { IfOk result (λ a. Plays (world_of self.old).session.setting (standing_of (world_of self.old)) step a (standing_of (world_of self.new))) }
+        ensures lacks { IfErr result (λ _. Lacks (world_of self.old).session.setting (standing_of (world_of self.old)) step (standing_of (world_of self.new))) }
+        ensures setting { (world_of self.new).session.setting ≡ (world_of self.old).session.setting }
+    {
+        self.state.step(&*self.catalog, step)
+    }
+
+    /// Makes steps one after the other, as [`WorldState::play`].
+    pub fn play(&mut self, alloc: Global, steps: Vec<Step>) -> Result<Vec<StepAnswer>, AllocError>
+        ensures answers { IfOk result (λ answers. Played (world_of self.old).session.setting (standing_of (world_of self.old)) steps.items answers.items (standing_of (world_of self.new))) }
+        ensures setting { (world_of self.new).session.setting ≡ (world_of self.old).session.setting }
+    {
+        self.state.play(alloc, &*self.catalog, steps)
+    }
+
+    /// The session, which agrees with its journal after every step.
+    pub fn session(&self) -> &SessionState
+        ensures { result.now ≡ (world_of self.now).session }
+    {
+        self.state.session()
+    }
+}

@@ -1,0 +1,14 @@
+use Rattle.std.proofs.Common.{◌∙◌, ap}
+use Rattle.pcef_model.specs.Journals.{gen}
+use Rattle.pcef_session.specs.SessionModel.{SessionModel}
+use Rattle.pcef_world.specs.Steps.{reply_of, step_outcome, standing_of}
+use Rattle.pcef_script.proofs.LineReads.{step_told}
+use Rattle.pcef_script.proofs.step.step.Goals as goal
+
+pub returns-clause-answer : goal.returns-clause-answer
+returns-clause-answer g c =
+    step_told c.step_answer.result c.step.new.world c.journal.result.now.entries c.generation.result (reply_of c.in_ok-answer.answer)
+    (step_outcome c.args.world.now.session.setting (standing_of c.args.world.now) c.args.step)
+    (c.journal.ensures.journal ∙ ap (λ (s : SessionModel). s.journal) c.session.ensures.session)
+    (c.generation.ensures ∙ ap (λ (s : SessionModel). gen s.journal) c.session.ensures.session)
+    c.in_ok-answer.ensures.answer.0 c.in_ok-answer.ensures.answer.1 c.step_answer.ensures

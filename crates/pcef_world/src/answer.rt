@@ -1,0 +1,83 @@
+//! What is answered to the steps of a session and its workers.
+
+ghost use Rattle.std.specs.Prelude.{◌≡◌, ◌≢◌, Err, IfErr, IfOk};
+ghost use Rattle.pcef_model.specs.declared.answer.Refusal.TheVariants.{NoMemory};
+ghost use Rattle.pcef_world.specs.declared.answer.StepAnswer.TheVariants as step;
+ghost use Rattle.pcef_world.specs.private.Places.{attach_told, finish_told, flush_told};
+
+use pcef_model::{Accepted, AttachFault, FlushRefusal, Refusal, Verdicts};
+use pcef_session::BatchFull;
+use std::alloc::AllocError;
+
+/// What is told of a worker that left without its waiting rows.
+#[derive(Clone, Copy, Debug, PartialEq, Eq)]
+pub struct Abandoned {
+    /// How many rows waited, 0 to 32, and get no verdict.
+    pub waiting: u8,
+    /// How many rows the worker's lane has.
+    pub rows: u64,
+}
+
+/// What is answered to a step. Want of memory is no answer: the step isn't made then.
+#[derive(Drop)]
+pub enum StepAnswer {
+    /// A command is accepted or refused.
+    Command(Result<Accepted, Refusal>),
+    /// A worker comes, with this number, or can't.
+    Attach(Result<u8, AttachFault>),
+    /// The generation that the worker holds now.
+    Refresh(u32),
+    /// How many rows of the worker wait now, 1 to 32, or that no more can.
+    Take(Result<u8, BatchFull>),
+    /// The verdicts on the rows that were handed over, or why they weren't.
+    Flush(Result<Verdicts, FlushRefusal>),
+    /// The verdicts on the last rows, and the length of the worker's lane, or why it stays.
+    Finish(Result<(Verdicts, u64), FlushRefusal>),
+    /// What is told of a worker that left without its waiting rows.
+    Abandon(Abandoned),
+    /// The worker isn't attached.
+    NoWorker,
+}
+
+/// What is told of a command: want of memory is no answer.
+pub(crate) fn command_told(answer: Result<Accepted, Refusal>) -> Result<StepAnswer, AllocError>
+    ensures told { IfOk result (λ a. (a ≡ step.Command answer) × (answer ≢ Err NoMemory)) }
+    ensures lack { IfErr result (λ _. answer ≡ Err NoMemory) }
+{
+    match answer {
+        Err(Refusal::NoMemory) => Err(AllocError),
+        answer => Ok(StepAnswer::Command(answer)),
+    }
+}
+
+/// What is told of a worker that comes: want of memory is no answer.
+pub(crate) fn attach_told(answer: Result<u8, AttachFault>) -> Result<StepAnswer, AllocError>
+    ensures { result ≡ attach_told answer }
+{
+    match answer {
+        Err(AttachFault::NoMemory) => Err(AllocError),
+        answer => Ok(StepAnswer::Attach(answer)),
+    }
+}
+
+/// What is told of a flush: want of memory is no answer.
+pub(crate) fn flush_told(answer: Result<Verdicts, FlushRefusal>) -> Result<StepAnswer, AllocError>
+    ensures { result ≡ flush_told answer }
+{
+    match answer {
+        Err(FlushRefusal::NoMemory) => Err(AllocError),
+        answer => Ok(StepAnswer::Flush(answer)),
+    }
+}
+
+/// What is told of a finish: want of memory is no answer.
+pub(crate) fn finish_told(
+    answer: Result<(Verdicts, u64), FlushRefusal>,
+) -> Result<StepAnswer, AllocError>
+    ensures { result ≡ finish_told answer }
+{
+    match answer {
+        Err(FlushRefusal::NoMemory) => Err(AllocError),
+        answer => Ok(StepAnswer::Finish(answer)),
+    }
+}

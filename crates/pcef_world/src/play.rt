@@ -1,0 +1,32 @@
+//! Steps, one after the other.
+
+ghost use Rattle.std.specs.Prelude.{◌≡◌, IfOk};
+ghost use Rattle.pcef_world.specs.Steps.{Played, standing_of};
+
+use crate::answer::StepAnswer;
+use crate::world::WorldState;
+use pcef_catalog::Offers;
+use pcef_model::Step;
+use std::alloc::{AllocError, Global};
+
+impl WorldState {
+    /// Makes steps one after the other, as [`WorldState::step`], and gives their answers in order. Takes memory for these
+    /// too. Want of memory ends it: the steps before are made, and their answers are lost.
+    pub fn play<C: Offers>(
+        &mut self,
+        alloc: Global,
+        catalog: &C,
+        steps: Vec<Step>,
+    ) -> Result<Vec<StepAnswer>, AllocError>
+        requires { C.offers catalog.now ≡ self.old.session.setting.catalog }
+        ensures answers { IfOk result (λ answers. Played self.old.session.setting (standing_of self.old) steps.items answers.items (standing_of self.new)) }
+        ensures setting { self.new.session.setting ≡ self.old.session.setting }
+    {
+        let mut answers = Vec::with_capacity(alloc, steps.len())?;
+        for step in steps {
+            let answer = self.step(catalog, step)?;
+            answers.push(answer)?;
+        }
+        Ok(answers)
+    }
+}
