@@ -4,5 +4,4 @@ pub mod Laws
 pub mod Preparing
 pub mod private
 pub mod SessionModel
-pub mod Sessions
 pub mod Shown

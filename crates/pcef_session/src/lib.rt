@@ -11,11 +11,9 @@ mod laws;
 mod planning;
 mod prepared;
 mod rows;
-mod session;
 mod state;
 
 pub use batch::{Batch, BatchFull, Item, MAX_WAITING};
 pub use laws::{rules_have_their_bearers, shown_tables_judge};
 pub use prepared::{Activation, Prepared, PreparedChange};
-pub use session::Session;
-pub use state::{MAX_RULES, SessionState};
+pub use state::{MAX_RULES, SessionState, open_fault};

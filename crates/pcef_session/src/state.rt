@@ -65,7 +65,7 @@ impl Model for SessionState {
 }
 
 /// Why a session of this profile can't be opened, want of memory aside.
-pub(crate) fn open_fault(profile: &Profile) -> Option<OpenFault>
+pub fn open_fault(profile: &Profile) -> Option<OpenFault>
     ensures { result ≡ first_of (open_faults (setting_of profile.now [])) }
 {
     match profile.qcis.kind_of(profile.default_qos.qci) {

@@ -2,10 +2,11 @@
 
 use super::PROFILE;
 use pcef_catalog::{Catalog, Offers};
+use pcef_core::Session;
 use pcef_model::{Command, FlushRefusal, Refusal};
 use pcef_profile::read_profile;
 use pcef_rule::{KeyName, RuleName};
-use pcef_session::{Batch, Session};
+use pcef_session::Batch;
 use std::sync::Arc;
 use std::test::Fail;
 

@@ -7,7 +7,7 @@ use Rattle.pcef_script.proofs.step.step.Goals as goal
 
 pub returns-clause-answer : goal.returns-clause-answer
 returns-clause-answer g c =
-    step_told c.step_answer.result c.step.new.world c.journal.result.now.entries c.generation.result (reply_of c.in_ok-answer.answer)
+    step_told c.step_answer.result c.step.new.self c.journal.result.now.entries c.generation.result (reply_of c.in_ok-answer.answer)
     (step_outcome c.args.world.now.session.setting (standing_of c.args.world.now) c.args.step)
     (c.journal.ensures.journal ∙ ap (λ (s : SessionModel). s.journal) c.session.ensures.session)
     (c.generation.ensures ∙ ap (λ (s : SessionModel). gen s.journal) c.session.ensures.session)

@@ -5,9 +5,6 @@ ghost use Rattle.std.specs.Arc.{arc_value};
 ghost use Rattle.std.specs.Result.{result_err, result_map_both};
 ghost use Rattle.pcef_catalog.specs.Catalogs.{offers_of};
 
-use crate::batch::Batch;
-use crate::prepared::Prepared;
-use crate::state::{SessionState, open_fault};
 use indexmap::IndexMap;
 use pcef_bearer::Bearers;
 use pcef_catalog::{Catalog, Offers};
@@ -17,6 +14,7 @@ use pcef_model::{
     Accepted, AttachFault, Command, FlushRefusal, OpenFault, Profile, Refusal, Verdicts,
 };
 use pcef_rule::RuleName;
+use pcef_session::{Batch, Prepared, SessionState, open_fault};
 use pcef_table::{Source, Table};
 use pcef_usage::Usage;
 use std::alloc::Global;
@@ -44,7 +42,7 @@ impl Session {
     ghost use Rattle.pcef_session.specs.Following.{HasItsSlots, row_of};
     ghost use Rattle.pcef_session.specs.Preparing.{IsPreparedFor, command_of};
     ghost use Rattle.pcef_session.specs.SessionModel.{HasAtLeast};
-    ghost use Rattle.pcef_session.specs.Sessions.{state_of};
+    ghost use Rattle.pcef_core.specs.Sessions.{state_of};
     ghost use Rattle.pcef_session.specs.Shown.{Shows};
     ghost use Rattle.pcef_session.specs.declared.prepared.Prepared.{Prepared};
 
