@@ -1,10 +1,10 @@
 //! The core without threads: a session, alone or with its workers, and the catalog of its predefined rules.
 #![tactic(auto)]
 
-mod run;
 mod session;
+mod steps;
 mod world;
 
-pub use run::run;
 pub use session::Session;
+pub use steps::run;
 pub use world::World;

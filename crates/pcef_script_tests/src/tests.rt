@@ -2,6 +2,7 @@
 
 mod answer;
 mod catalog_session;
+mod closures;
 mod corners;
 mod declared_profile;
 mod declared_script;

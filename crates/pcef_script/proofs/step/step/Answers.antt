@@ -9,6 +9,6 @@ pub returns-clause-answer : goal.returns-clause-answer
 returns-clause-answer g c =
     step_told c.step_answer.result c.step.new.self c.journal.result.now.entries c.generation.result (reply_of c.in_ok-answer.answer)
     (step_outcome c.args.world.now.session.setting (standing_of c.args.world.now) c.args.step)
-    (c.journal.ensures.journal ∙ ap (λ (s : SessionModel). s.journal) c.session.ensures.session)
-    (c.generation.ensures ∙ ap (λ (s : SessionModel). gen s.journal) c.session.ensures.session)
+    (c.journal.ensures.journal ∙ ap (λ (s : SessionModel). s.journal) c.session-session.ensures.session)
+    (c.generation.ensures ∙ ap (λ (s : SessionModel). gen s.journal) c.session-session.ensures.session)
     c.in_ok-answer.ensures.answer.0 c.in_ok-answer.ensures.answer.1 c.step_answer.ensures
