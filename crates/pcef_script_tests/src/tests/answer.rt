@@ -162,14 +162,8 @@ fn answers_to_the_other_steps(rt: HostRuntime) -> Result<(), AllocError> {
             StepAnswer::Attach(Err(AttachFault::NoPlace)),
             "{\"name\":\"NoPlace\",\"refused\":1}",
         ),
-        (
-            StepAnswer::Refresh(1),
-            "{\"generation\":1,\"ok\":true}",
-        ),
-        (
-            StepAnswer::Take(Ok(32)),
-            "{\"ok\":true,\"waiting\":32}",
-        ),
+        (StepAnswer::Refresh(1), "{\"generation\":1,\"ok\":true}"),
+        (StepAnswer::Take(Ok(32)), "{\"ok\":true,\"waiting\":32}"),
         (
             StepAnswer::Take(Err(BatchFull)),
             "{\"name\":\"BatchFull\",\"refused\":1}",

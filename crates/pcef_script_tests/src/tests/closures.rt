@@ -119,7 +119,15 @@ fn a_table_calls_the_closure(rt: HostRuntime) -> Result<(), Fail> {
     let verdict = session
         .table()
         .classify(&**session.catalog(), ue, &EXPEDITED);
-    assert!(rt; matches!(verdict, Verdict::Passed { bearer: BearerId(5), .. }));
+    assert!(rt;
+        matches!(
+            verdict,
+            Verdict::Passed {
+                bearer: BearerId(5),
+                ..
+            }
+        )
+    );
     assert_eq!(rt; calls.load(Ordering::SeqCst), 1);
     Ok(())
 }
