@@ -1,0 +1,11 @@
+pub mod Commanded
+pub mod Continued
+pub mod Counted
+pub mod FirstState
+pub mod Handing
+pub mod Judged
+pub mod Keeps
+pub mod Loops
+pub mod Publications
+pub mod Seats
+pub mod Totals

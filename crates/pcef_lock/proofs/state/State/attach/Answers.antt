@@ -1,0 +1,38 @@
+use Rattle.std.proofs.Common.{rules, ◌≡◌, ◌≤◌, ◌<◌, ◌+◌, ◌-◌, ◌∙◌, ap, arith, inl, length, sym}
+use Rattle.std.specs.Prelude.{slice_set}
+use Rattle.std.proofs.lemmas.List.{length_push}
+use Rattle.pcef_model.specs.Setting.{Setting}
+use Rattle.pcef_model.proofs.Onward.{attached_not}
+use Rattle.pcef_session.proofs.Leaving.{attach_refused}
+use Rattle.pcef_lock.proofs.Keeps.{sound_attached, sound_same}
+use Rattle.pcef_lock.proofs.Seats.{next_is_ready}
+use Rattle.pcef_lock.proofs.state.State.attach.Goals as goal
+
+pub returns-in-Some-clause-answer : goal.returns-in-Some-clause-answer
+returns-in-Some-clause-answer g c =
+    rw (← ap (λ v. v.session.journal) c.self.view_is) (inl (attach_refused c.self.inside.session.journal c.in-Some.fault (sym c.in-Some.ensures)))
+
+pub invariant_of-self-in-Err : goal.invariant_of-self-in-Err
+invariant_of-self-in-Err g c =
+    rw (c.make_ready.ensures.publisher, c.make_ready.ensures.many)
+    (sound_same g.N.Naming.setting g.N.Naming.first c.self.inside.session c.attach.new.self c.self.inside.publisher c.self.inside.books c.self.inside.places (length c.self.inside.subscribers.items)
+    c.attach.ensures.setting (attached_not c.self.inside.session.journal c.attach.new.self.journal c.in-Err.fault c.in-Err.ensures.answer) c.self.invariant)
+
+pub invariant_of-self-2 : goal.invariant_of-self-2
+invariant_of-self-2 g c =
+    let one : length c.next_subscriber.new.subscribers.items + 1 ≡ length c.self.inside.subscribers.items =
+    omega (arith, c.make_ready.ensures.many, ap length c.next_subscriber.ensures.items, length_push c.next_subscriber.new.subscribers.items c.next_subscriber.result) in
+    rw c.make_ready.ensures.publisher
+    (sound_attached g.N.Naming.setting g.N.Naming.first c.self.inside.session c.attach.new.self c.self.inside.publisher c.self.inside.books c.issue.new.self c.self.inside.places
+    (length c.self.inside.subscribers.items) (length c.next_subscriber.new.subscribers.items) c.in-Ok.worker c.in-Ok.ensures.answer c.attach.ensures.setting c.issue.ensures.books one c.self.invariant)
+
+pub returns-clause-seat : goal.returns-clause-seat
+returns-clause-seat g c =
+    let room : c.self.inside.books.issued ≤ c.self.inside.places = search rules in
+    let some : 0 < length c.self.inside.subscribers.items = omega (arith, room, c.self.invariant.free_are) in
+    let set : c.make_ready.new.subscribers.items ≡ slice_set c.self.inside.subscribers.items (length c.self.inside.subscribers.items - 1) c.self.inside.publisher = search rules in
+    rw (← ap (λ v. v.tables) c.self.view_is) (
+      c.issue.ensures.shares,
+      next_is_ready c.self.inside.subscribers.items c.make_ready.new.subscribers.items c.next_subscriber.new.subscribers.items c.self.inside.publisher c.next_subscriber.result some set c.next_subscriber.ensures.items,
+      c.ue_of.ensures ∙ ap (λ (x : Setting). x.ue) c.attach.ensures.setting ∙ ap (λ (x : Setting). x.ue) c.self.invariant.kept.setting_is,
+    )

@@ -1,0 +1,55 @@
+use Rattle.std.proofs.Common.{rules, ◌≡◌, ◌++◌, ap, length}
+use Rattle.std.specs.Option.{option_to_list}
+use Rattle.pcef_session.specs.Preparing.{table_made}
+use Rattle.pcef_publish.proofs.Runs.{prefix_self}
+use Rattle.pcef_lock.proofs.Commanded.{does_not, grown_by}
+use Rattle.pcef_lock.proofs.Keeps.{commands_fit, next_published, sound_same, sound_settled}
+use Rattle.pcef_lock.proofs.state.State.command.Goals as goal
+
+pub invariant_of-self : goal.invariant_of-self
+invariant_of-self g c =
+    sound_same g.N.Naming.setting g.N.Naming.first c.self.inside.session c.prepare.new.self c.self.inside.publisher c.self.inside.books c.self.inside.places (length c.self.inside.subscribers.items)
+    c.prepare.ensures.setting c.prepare.ensures.journal c.self.invariant
+
+pub returns-in-Err-clause-answer : goal.returns-in-Err-clause-answer
+returns-in-Err-clause-answer g c =
+    does_not g.N.Naming.setting c.self.inside.session c.prepare.new.self c.args.self.now.session.journal c.args.command c.in-Err.refusal c.self.invariant.kept.setting_is c.in-Err.ensures.refused c.prepare.ensures.journal
+    (ap (λ v. v.session.journal) c.self.view_is)
+
+pub invariant_of-self-then-is_err : goal.invariant_of-self-then-is_err
+invariant_of-self-then-is_err g c =
+    let same : c.publish.new.publisher ≡ c.self.inside.publisher = search rules in
+    rw same (sound_same g.N.Naming.setting g.N.Naming.first c.self.inside.session c.prepare.new.self c.self.inside.publisher c.self.inside.books c.self.inside.places (length c.self.inside.subscribers.items)
+    c.prepare.ensures.setting c.prepare.ensures.journal c.self.invariant)
+
+pub publish-requires : goal.publish-requires
+publish-requires g c =
+    let kept = sound_same g.N.Naming.setting g.N.Naming.first c.self.inside.session c.prepare.new.self c.self.inside.publisher c.self.inside.books c.self.inside.places (length c.self.inside.subscribers.items)
+    c.prepare.ensures.setting c.prepare.ensures.journal c.self.invariant in
+    next_published g.N.Naming.setting g.N.Naming.first c.prepare.new.self c.self.inside.publisher c.self.inside.books c.self.inside.places (length c.self.inside.subscribers.items) c.in-Ok.prepared kept c.in-Ok.ensures.ready
+
+pub count_command-requires : goal.count_command-requires
+count_command-requires g c =
+    let kept = sound_same g.N.Naming.setting g.N.Naming.first c.self.inside.session c.prepare.new.self c.self.inside.publisher c.self.inside.books c.self.inside.places (length c.self.inside.subscribers.items)
+    c.prepare.ensures.setting c.prepare.ensures.journal c.self.invariant in
+    commands_fit g.N.Naming.setting g.N.Naming.first c.prepare.new.self c.settle-accepted.new.self c.self.inside.publisher c.self.inside.books c.self.inside.places (length c.self.inside.subscribers.items)
+    c.in-Ok.prepared c.settle-accepted.result c.commands_of-after.result kept c.in-Ok.ensures.ready c.settle-accepted.ensures.answer c.commands_of-after.ensures.commands c.commands_of-after.type_inv
+
+pub invariant_of-self-2 : goal.invariant_of-self-2
+invariant_of-self-2 g c =
+    let grown : c.publish.new.publisher ≡ c.self.inside.publisher ++ option_to_list (table_made c.in-Ok.prepared) = search rules in
+    let kept = sound_same g.N.Naming.setting g.N.Naming.first c.self.inside.session c.prepare.new.self c.self.inside.publisher c.self.inside.books c.self.inside.places (length c.self.inside.subscribers.items)
+    c.prepare.ensures.setting c.prepare.ensures.journal c.self.invariant in
+    rw (grown, c.count_command.ensures.books)
+    (sound_settled g.N.Naming.setting g.N.Naming.first c.prepare.new.self c.settle-accepted.new.self c.self.inside.publisher c.self.inside.books c.self.inside.places (length c.self.inside.subscribers.items)
+    c.in-Ok.prepared c.settle-accepted.result c.commands_of-before.ensures.lawful c.in-Ok.ensures.ready c.settle-accepted.ensures.answer c.settle-accepted.ensures.setting kept)
+
+pub returns-then-is_err-clause-tables : goal.returns-then-is_err-clause-tables
+returns-then-is_err-clause-tables g c =
+    let same : c.publish.new.publisher ≡ c.self.inside.publisher = search rules in
+    rw (← ap (λ v. v.tables) c.self.view_is, same) (prefix_self c.self.inside.publisher)
+
+pub returns-clause-tables : goal.returns-clause-tables
+returns-clause-tables g c =
+    let grown : c.publish.new.publisher ≡ c.self.inside.publisher ++ option_to_list (table_made c.in-Ok.prepared) = search rules in
+    rw (← ap (λ v. v.tables) c.self.view_is) (grown_by c.self.inside.publisher c.publish.new.publisher (option_to_list (table_made c.in-Ok.prepared)) grown)

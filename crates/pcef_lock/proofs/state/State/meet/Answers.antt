@@ -1,0 +1,10 @@
+use Rattle.std.proofs.Common.{ap}
+use Rattle.pcef_publish.proofs.Runs.{prefix_self}
+use Rattle.pcef_lock.proofs.state.State.meet.Goals as goal
+
+pub returns-in_err-meet-clause-seen : goal.returns-in_err-meet-clause-seen
+returns-in_err-meet-clause-seen g c = rw (← ap (λ v. v.tables) c.self.view_is, c.in_err-meet.ensures.refused) c.compare.ensures.begins
+
+pub returns-clause-seen : goal.returns-clause-seen
+returns-clause-seen g c =
+    rw (← ap (λ v. v.tables) c.self.view_is, c.in_ok-meet.ensures.newest, c.compare.ensures.publisher) (prefix_self c.self.inside.publisher)

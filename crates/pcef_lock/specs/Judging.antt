@@ -1,0 +1,28 @@
+-- Rows that are judged by the tables that were seen.
+use Rattle.std.specs.Prelude.{ℕ, ◌≡◌, ◌+◌, List, All, length}
+use Rattle.pcef_packet.specs.declared.header.Header.{Header}
+use Rattle.pcef_packet.specs.declared.header.Addr.{Addr}
+use Rattle.pcef_catalog.specs.declared.listing.Offer.{Offer}
+use Rattle.pcef_table.specs.Tables.{TableValue}
+use Rattle.pcef_table.specs.Verdicts.{IsVerdict, slot_for}
+use Rattle.pcef_publish.specs.Lists.{IsSeen}
+use Rattle.pcef_model.specs.Setting.{Setting}
+use Rattle.pcef_session.specs.declared.batch.Item.{Item}
+
+-- an item as the table judges it that was seen of its generation: its verdict, and the slot that it counts for
+pub record IsJudged (offers : List Offer) (ue : Addr) (first : ℕ) (seen : List TableValue) (i : Item) : Type 0 where
+  pub table : TableValue
+  pub there : IsSeen first seen i.row.generation table
+  pub verdict_is : IsVerdict offers table.entries ue i.row.header i.row.verdict
+  pub slot_is : i.slot ≡ slot_for offers table.entries i.row.verdict
+
+abbrev pub AllJudged : Setting → ℕ → List TableValue → List Item → Type 0
+AllJudged p first seen items = All (IsJudged p.catalog p.ue first seen) items
+
+-- the row of a packet, judged by the last table that was seen
+pub record IsTaken (p : Setting) (first worker seq : ℕ) (seen : List TableValue) (header : Header) (i : Item) : Type 0 where
+  pub judged : IsJudged p.catalog p.ue first seen i
+  pub newest : i.row.generation + 1 ≡ first + length seen
+  pub header_is : i.row.header ≡ header
+  pub worker_is : i.row.worker ≡ worker
+  pub seq_is : i.row.seq ≡ seq

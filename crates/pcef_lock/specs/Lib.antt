@@ -1,0 +1,10 @@
+pub mod Answers
+pub mod Counting
+pub mod Judging
+pub mod Kept
+pub mod Lanes
+pub mod Locked
+pub mod Opening
+pub mod Published
+pub mod Seats
+pub mod private

@@ -1,0 +1,12 @@
+-- The tables that are published.
+use Rattle.std.specs.Prelude.{ℕ, ◌≡◌, ◌+◌, List, Some, length, slice_get}
+use Rattle.pcef_table.specs.Tables.{TableValue}
+use Rattle.pcef_model.specs.Setting.{Setting}
+use Rattle.pcef_model.specs.Entries.{Journal}
+use Rattle.pcef_model.specs.Journals.{gen}
+use Rattle.pcef_session.specs.Shown.{Shows}
+
+-- they show each generation from `first` to the newest, in order
+pub record ArePublished (p : Setting) (j : Journal) (first : ℕ) (tables : List TableValue) : Type 0 where
+  pub through : first + length tables ≡ gen j + 1
+  pub shown : (n : ℕ) (t : TableValue) → slice_get tables n ≡ Some t → Shows p j (first + n) t

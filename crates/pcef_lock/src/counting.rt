@@ -1,0 +1,72 @@
+//! Commands and rows in the books and in shares.
+
+ghost use Rattle.std.specs.Prelude.{◌≡◌, ◌+◌, ◌*◌, ◌<◌, ◌≤◌, ◌^◌, ℕ, All, false, length, slice_index};
+ghost use Rattle.pcef_session.specs.Following.{HasSmallRows};
+ghost use Rattle.pcef_share.specs.Amounts.{command_ledger, row_ledger};
+ghost use Rattle.pcef_lock.specs.Counting.{IsLow, one_more, with_item, with_items, with_slot};
+
+use pcef_rule::Slot;
+use pcef_session::Item;
+use pcef_share::{Books, Naming, Shares};
+
+/// Counts a command, unless it changed nothing.
+pub(crate) fn count_command<N: Naming>(
+    books: &mut Books<N>,
+    shares: &mut Shares<N>,
+    unchanged: bool,
+)
+    requires { unchanged ≡ false → slice_index books.old.totals command_ledger + 1 < 2 ^ 64 }
+    ensures books { books.new ≡ record books.old { totals = one_more unchanged books.old.totals } }
+    ensures shares { shares.new ≡ one_more unchanged shares.old }
+{
+    if unchanged {
+        return;
+    }
+    books.add_commands(shares, 1);
+}
+
+/// Adds octets to the book of a slot, if there is one.
+fn count_octets<N: Naming>(
+    books: &mut Books<N>,
+    shares: &mut Shares<N>,
+    slot: Option<Slot>,
+    octets: u64,
+)
+    requires low { IsLow slot }
+    requires fits { (n : ℕ) → n < 8 → slice_index books.old.totals n + octets < 2 ^ 64 }
+    ensures books { books.new ≡ record books.old { totals = with_slot books.old.totals slot octets } }
+    ensures shares { shares.new ≡ with_slot shares.old slot octets }
+{
+    match slot {
+        Some(slot) => books.add(shares, slot, octets),
+        None => {}
+    }
+}
+
+/// Counts a row.
+#[tactic(auto, using(crate::proofs::Counted::slot_keeps))]
+fn count_item<N: Naming>(books: &mut Books<N>, shares: &mut Shares<N>, item: &Item)
+    requires low { IsLow item.now.slot }
+    requires fits { (n : ℕ) → n < 8 → slice_index books.old.totals n + item.now.row.header.octets < 2 ^ 64 }
+    requires row { slice_index books.old.totals row_ledger + 1 < 2 ^ 64 }
+    ensures books { books.new ≡ record books.old { totals = with_item books.old.totals item.now } }
+    ensures shares { shares.new ≡ with_item shares.old item.now }
+{
+    count_octets(books, shares, item.slot, u64::from(item.row.header.octets));
+    books.add_row(shares);
+}
+
+/// Counts rows.
+pub(crate) fn count_items<N: Naming>(books: &mut Books<N>, shares: &mut Shares<N>, items: &[Item])
+    requires low { All (λ i. IsLow i.slot) items.now }
+    requires octets { HasSmallRows items.now }
+    requires ten { length books.old.totals ≡ 10 }
+    requires fits { (n : ℕ) → n < 8 → slice_index books.old.totals n + 4294967295 * length items.now < 2 ^ 64 }
+    requires rows { slice_index books.old.totals row_ledger + length items.now < 2 ^ 64 }
+    ensures books { books.new ≡ record books.old { totals = with_items books.old.totals items.now } }
+    ensures shares { shares.new ≡ with_items shares.old items.now }
+{
+    for item in items {
+        count_item(books, shares, item);
+    }
+}

@@ -1,0 +1,102 @@
+//! Sessions that come behind a lock.
+
+ghost use Rattle.std.specs.Prelude.{◌≡◌, ◌≤◌, ◌<◌, ◌⊎◌, ◌↔◌, [], ◌∷◌, All, IfErr, IfOk, length};
+ghost use Rattle.pcef_model.specs.Entries.{commands};
+ghost use Rattle.pcef_model.specs.Journals.{attach_count, gen};
+ghost use Rattle.pcef_session.specs.Shown.{Shows};
+ghost use Rattle.pcef_share.specs.Amounts.{command_ledger, plus, zeros};
+ghost use Rattle.pcef_share.specs.Names.{name_at};
+ghost use Rattle.pcef_table.specs.Tables.{IsTable};
+ghost use Rattle.pcef_lock.specs.Opening.{IsPlacesFault};
+ghost use Rattle.pcef_lock.specs.declared.opening.SharedFault.TheVariants.{Places};
+
+use crate::state::State;
+use pcef_lane::MAX_WORKERS;
+use pcef_publish::{Opened, PublishFault, Publisher, Subscriber, Writer};
+use pcef_session::SessionState;
+use pcef_share::{Blanks, Naming, Shares};
+use std::alloc::{AllocError, Global};
+use std::sync::{Arc, Wait};
+use thiserror::Error;
+
+/// Why a session didn't come behind a lock. The reasons are looked for in this order.
+#[derive(Clone, Copy, Debug, PartialEq, Eq, Error)]
+pub enum SharedFault {
+    /// There is to be no worker, or more than sixteen.
+    #[error("there are one to sixteen places for workers")]
+    Places,
+    /// The publication gave no reader.
+    #[error("the publication gave no reader")]
+    ReaderRefused,
+    /// There is no memory left.
+    #[error("there is no memory left")]
+    NoMemory,
+}
+
+/// A history that begins with the table of a session's newest generation. It takes its name where the session does.
+/// Fails where a further owner of the table is refused.
+pub fn opened(session: &SessionState) -> Result<Opened, AllocError>
+    ensures { IfOk result (λ o. Shows session.now.setting session.now.journal (gen session.now.journal) o.table) }
+{
+    Ok(Opened::new(Arc::try_clone(session.table())?))
+}
+
+/// Publishes the table of an opened history, with a subscriber for each place.
+fn published<N: Naming, R: Wait + Drop>(
+    rt: R,
+    alloc: Global,
+    opened: Opened,
+    places: u8,
+) -> Result<(Publisher<N, Writer<N, R>>, Vec<Subscriber<N>>), SharedFault>
+    requires places { (0 < places) × (places ≤ 16) }
+    requires book { (opened.book ≡ N.book) × (opened.root ≡ N.root) }
+    requires first { opened.table.number ≡ N.first }
+    requires table { IsTable N.setting.catalog opened.table.entries }
+    ensures list { IfOk result (λ r. r.0 ≡ opened.table ∷ []) }
+    ensures many { IfOk result (λ r. length r.1.items ≡ places) }
+    ensures fault { IfErr result (λ f. f ≡ Places → ⊥) }
+{
+    match Publisher::new(rt, alloc, opened, usize::from(places)) {
+        Ok(made) => Ok(made),
+        Err(PublishFault::ReaderRefused) => Err(SharedFault::ReaderRefused),
+        Err(PublishFault::NoMemory) => Err(SharedFault::NoMemory),
+    }
+}
+
+impl<N: Naming, R: Wait + Drop> State<N, Writer<N, R>> {
+    /// The value behind the lock of a session, with so many places for workers, and the shares of its desk, which hold
+    /// the session's commands so far. The condition of the caller: no worker ever came to the session, and the name is
+    /// that of the session, of the blanks and of a history that was opened with the session's newest table. The
+    /// session comes back with the first fault in the order of [`SharedFault`]; the opened history is then lost. Takes
+    /// memory. May wait for readers.
+    pub fn open(
+        rt: R,
+        alloc: Global,
+        session: SessionState,
+        opened: Opened,
+        blanks: Blanks,
+        places: u8,
+    ) -> Result<(State<N, Writer<N, R>>, Shares<N>), (SessionState, SharedFault)>
+        requires name { N.ledger ≡ name_at blanks }
+        requires setting { session.setting ≡ N.setting }
+        requires first { N.first ≡ gen session.journal }
+        requires fresh { attach_count session.journal ≡ 0 }
+        requires table { Shows session.setting session.journal (gen session.journal) opened.table }
+        requires book { (opened.book ≡ N.book) × (opened.root ≡ N.root) }
+        ensures session { IfOk result (λ r. r.0.session ≡ session) }
+        ensures tables { IfOk result (λ r. r.0.tables ≡ opened.table ∷ []) }
+        ensures places { IfOk result (λ r. (r.0.places ≡ places) × (r.0.books.issued ≡ 1)) }
+        ensures shares { IfOk result (λ r. r.1 ≡ plus zeros command_ledger (length (commands session.journal))) }
+        ensures fault { IsPlacesFault result ↔ ((places ≡ 0) ⊎ (16 < places)) }
+        ensures back { IfErr result (λ e. e.0 ≡ session) }
+    {
+        if places == 0 || usize::from(places) > MAX_WORKERS {
+            return Err((session, SharedFault::Places));
+        }
+        let (publisher, subscribers) = match published(rt, alloc, opened, places) {
+            Ok(made) => made,
+            Err(fault) => return Err((session, fault)),
+        };
+        Ok(State::new(alloc, session, publisher, subscribers, blanks, places))
+    }
+}

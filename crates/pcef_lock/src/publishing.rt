@@ -1,0 +1,52 @@
+//! The publisher of a session, and the subscribers that no worker has yet.
+
+ghost use Rattle.std.specs.Prelude.{◌≡◌, ◌<◌, ◌+◌, ◌-◌, ◌++◌, ◌∷◌, [], IfSome, OnErr, OnOk, length, slice_set};
+ghost use Rattle.std.specs.Option.{option_to_list};
+ghost use Rattle.pcef_session.specs.Preparing.{table_made};
+ghost use Rattle.pcef_table.specs.Tables.{IsTable};
+
+use pcef_publish::{Board, Publisher, Slot, Subscriber};
+use pcef_session::Prepared;
+use pcef_share::Naming;
+use std::alloc::AllocError;
+use std::sync::Arc;
+
+/// Publishes the table of a prepared command, if it makes one.
+pub(crate) fn publish<N: Naming, W: Board<Slot<N>> + Drop>(
+    publisher: &mut Publisher<N, W>,
+    prepared: &Prepared,
+) -> Result<(), AllocError>
+    requires { IfSome (table_made prepared.now) (λ t. (t.number ≡ N.first + length publisher.old) × IsTable N.setting.catalog t.entries) }
+    ensures published { OnOk result (publisher.new ≡ publisher.old ++ option_to_list (table_made prepared.now)) }
+    ensures refused { OnErr result (publisher.new ≡ publisher.old) }
+{
+    match prepared.table() {
+        Some(table) => publisher.publish(Arc::try_clone(table)?),
+        None => Ok(()),
+    }
+}
+
+/// The subscriber that comes next takes the newest table.
+pub(crate) fn make_ready<N: Naming, W: Board<Slot<N>> + Drop>(
+    subscribers: &mut Vec<Subscriber<N>>,
+    publisher: &mut Publisher<N, W>,
+) -> Result<(), AllocError>
+    requires { 0 < length subscribers.old.items }
+    ensures many { length subscribers.new.items ≡ length subscribers.old.items }
+    ensures ready { OnOk result (subscribers.new.items ≡ slice_set subscribers.old.items (length subscribers.old.items - 1) publisher.old) }
+    ensures publisher { publisher.new ≡ publisher.old }
+{
+    let last = subscribers.len() - 1;
+    subscribers[last].meet(publisher)
+}
+
+/// The subscriber that comes next.
+pub(crate) fn next_subscriber<N: Naming>(subscribers: &mut Vec<Subscriber<N>>) -> Subscriber<N>
+    requires { 0 < length subscribers.old.items }
+    ensures items { subscribers.old.items ≡ subscribers.new.items ++ result ∷ [] }
+{
+    match subscribers.pop() {
+        Some(subscriber) => subscriber,
+        None => unreachable!(),
+    }
+}

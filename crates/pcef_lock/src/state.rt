@@ -1,0 +1,203 @@
+//! The value behind the lock of a session.
+
+ghost use Rattle.std.specs.Prelude.{◌≡◌, ◌≤◌, ◌+◌, IfErr, IfOk, length};
+ghost use Rattle.std.specs.Result.{result_map_both};
+ghost use Rattle.pcef_model.specs.Answers.{Does};
+ghost use Rattle.pcef_model.specs.Entries.{commands};
+ghost use Rattle.pcef_model.specs.Journals.{attach_count, gen};
+ghost use Rattle.pcef_model.specs.Lawful.{Lawful};
+ghost use Rattle.pcef_share.specs.Amounts.{command_ledger, plus, zeros};
+ghost use Rattle.pcef_share.specs.Names.{name_at};
+ghost use Rattle.pcef_lock.specs.Answers.{Comes, with_share};
+ghost use Rattle.pcef_lock.specs.Counting.{with_command};
+ghost use Rattle.pcef_lock.specs.Kept.{Kept};
+ghost use Rattle.pcef_lock.specs.Published.{ArePublished};
+ghost use Rattle.pcef_lock.specs.Seats.{seat_number};
+ghost use mathlib.Core.List.{IsPrefix};
+
+use crate::counting::count_command;
+use crate::publishing::{make_ready, next_subscriber, publish};
+use crate::seat::Seat;
+use pcef_model::{Accepted, AttachFault, Command, Refusal};
+use pcef_packet::Addr;
+use pcef_publish::{Board, Publisher, Slot, Subscriber};
+use pcef_session::SessionState;
+use pcef_share::{Blanks, Books, Naming, Shares};
+use std::alloc::{AllocError, Global};
+use std::marker::Model;
+
+mod collecting;
+mod handing;
+
+/// A session with the publisher of its tables, the subscribers that no worker has yet, and its books. It is the value
+/// behind a session's lock: what always holds of it, every hold of the lock finds.
+#[derive(Drop)]
+pub struct State<N: Naming, W: Board<Slot<N>> + Drop> {
+    alloc: Global,
+    session: SessionState,
+    publisher: Publisher<N, W>,
+    subscribers: Vec<Subscriber<N>>,
+    books: Books<N>,
+    places: u8,
+}
+
+impl<N: Naming, W: Board<Slot<N>> + Drop> Model for State<N, W> {
+    ghost use Rattle.std.specs.Prelude.{length};
+    ghost use Rattle.pcef_lock.specs.Locked.{Locked};
+    ghost use Rattle.pcef_lock.specs.private.Soundness.{IsSound};
+
+    ghost Value = { Locked };
+
+    ghost view = { λ s. record { session = s.session; tables = s.publisher; books = s.books; places = s.places } };
+
+    ghost invariant = { λ s. IsSound N.setting N.first (record { session = s.session; tables = s.publisher; books = s.books; places = s.places }) (length s.subscribers.items) };
+}
+
+/// How many commands a session took, and that its journal is lawful.
+fn commands_of(session: &SessionState) -> u64
+    ensures commands { result ≡ length (commands session.now.journal) }
+    ensures lawful { Lawful session.now.setting session.now.journal }
+{
+    session.journal().commands_len()
+}
+
+/// How many rows the journal of a session takes.
+fn rows_of(session: &SessionState) -> u32
+    ensures rows { result ≡ session.now.setting.rows }
+    ensures most { session.now.setting.rows ≤ 4294967295 }
+{
+    session.profile().rows
+}
+
+/// The address of the user equipment of a session.
+fn ue_of(session: &SessionState) -> Addr
+    ensures { result ≡ session.now.setting.ue }
+{
+    session.profile().ue
+}
+
+impl<N: Naming, W: Board<Slot<N>> + Drop> State<N, W> {
+    /// The value behind the lock, of a session to which no worker ever came and whose tables are published, and the
+    /// shares of the desk, which hold the session's commands so far. A subscriber is there for each place.
+    pub(crate) fn new(
+        alloc: Global,
+        session: SessionState,
+        publisher: Publisher<N, W>,
+        subscribers: Vec<Subscriber<N>>,
+        blanks: Blanks,
+        places: u8,
+    ) -> (State<N, W>, Shares<N>)
+        requires name { N.ledger ≡ name_at blanks }
+        requires setting { session.setting ≡ N.setting }
+        requires fresh { attach_count session.journal ≡ 0 }
+        requires published { ArePublished N.setting session.journal N.first publisher }
+        requires places { places ≤ 16 }
+        requires subscribers { length subscribers.items ≡ places }
+        ensures session { result.0.session ≡ session }
+        ensures tables { result.0.tables ≡ publisher }
+        ensures places { result.0.places ≡ places }
+        ensures books { result.0.books ≡ record { totals = plus zeros command_ledger (length (commands session.journal)); issued = 1 } }
+        ensures shares { result.1 ≡ plus zeros command_ledger (length (commands session.journal)) }
+    {
+        let commands = commands_of(&session);
+        let _rows = rows_of(&session);
+        let mut books = Books::new(blanks);
+        let mut shares = books.issue();
+        books.add_commands(&mut shares, commands);
+        let state = State {
+            alloc,
+            session,
+            publisher,
+            subscribers,
+            books,
+            places,
+        };
+        (state, shares)
+    }
+
+    /// The session. Its published tables show its generations, and its books hold what its journal counts.
+    pub fn session(&self) -> &SessionState
+        ensures session { result.now ≡ self.now.session }
+        ensures kept { Kept N.setting N.first self.now }
+    {
+        &self.session
+    }
+
+    /// What was added to each book: octets of slots 0 to 7, rows, commands.
+    pub fn totals(&self) -> [u64; 10]
+        ensures { result ≡ self.now.books.totals }
+    {
+        self.books.totals()
+    }
+
+    /// Does a command, whose table, if it makes one, is published with it, and counts it into the shares of the one
+    /// who gives it, unless it changed nothing; or answers the first refusal in the order of [`Refusal`], which
+    /// changes nothing. Takes memory. May wait for readers of the publication.
+    pub fn command(&mut self, shares: &mut Shares<N>, command: Command) -> Result<Accepted, Refusal>
+        ensures answer { Does N.setting command self.old.session.journal result self.new.session.journal }
+        ensures tables { IsPrefix self.old.tables self.new.tables }
+        ensures books { self.new.books ≡ record self.old.books { totals = with_command result self.old.books.totals } }
+        ensures places { self.new.places ≡ self.old.places }
+        ensures shares { shares.new ≡ with_command result shares.old }
+    {
+        let prepared = match self.session.prepare(command) {
+            Ok(prepared) => prepared,
+            Err(refusal) => return Err(refusal),
+        };
+        let _before = commands_of(&self.session);
+        if publish(&mut self.publisher, &prepared).is_err() {
+            return Err(Refusal::NoMemory);
+        }
+        let accepted = self.session.settle(prepared);
+        let _after = commands_of(&self.session);
+        count_command(&mut self.books, shares, accepted.unchanged);
+        Ok(accepted)
+    }
+
+    /// Attaches a worker, which then holds the newest table; or answers the first fault in the order of
+    /// [`AttachFault`], which changes nothing. There is no place too where as many workers came as the lock was made
+    /// for. Takes memory.
+    pub fn attach(&mut self) -> Result<Seat<N>, AttachFault>
+        ensures answer { Comes self.old.books.issued self.old.places self.old.session.journal (result_map_both seat_number (λ e. e) result) self.new.session.journal }
+        ensures tables { self.new.tables ≡ self.old.tables }
+        ensures books { self.new.books ≡ with_share result self.old.books }
+        ensures places { self.new.places ≡ self.old.places }
+        ensures seat { IfOk result (λ s. (s.shares ≡ zeros) × (s.subscriber ≡ self.old.tables) × (s.ue ≡ N.setting.ue)) }
+    {
+        if self.books.issued() > self.places {
+            return Err(AttachFault::NoPlace);
+        }
+        if let Some(fault) = self.session.attach_fault() {
+            return Err(fault);
+        }
+        if make_ready(&mut self.subscribers, &mut self.publisher).is_err() {
+            return Err(AttachFault::NoMemory);
+        }
+        let _lawful = commands_of(&self.session);
+        let worker = match self.session.attach() {
+            Ok(worker) => worker,
+            Err(fault) => return Err(fault),
+        };
+        Ok(Seat {
+            worker,
+            shares: self.books.issue(),
+            subscriber: next_subscriber(&mut self.subscribers),
+            ue: ue_of(&self.session),
+        })
+    }
+
+    /// The worker of a seat takes the newest table, and its generation is answered. Where a further owner of the table
+    /// is refused, the table held stays.
+    pub fn meet(&mut self, seat: &mut Seat<N>) -> Result<u32, AllocError>
+        ensures same { self.new ≡ self.old }
+        ensures seen { IsPrefix seat.new.subscriber self.old.tables }
+        ensures grows { IsPrefix seat.old.subscriber seat.new.subscriber }
+        ensures newest { IfOk result (λ g. (seat.new.subscriber ≡ self.old.tables) × (g ≡ gen self.old.session.journal)) }
+        ensures refused { IfErr result (λ _. seat.new.subscriber ≡ seat.old.subscriber) }
+        ensures seat { (seat.new.worker ≡ seat.old.worker) × (seat.new.shares ≡ seat.old.shares) × (seat.new.ue ≡ seat.old.ue) }
+    {
+        seat.subscriber.compare(&mut self.publisher);
+        seat.subscriber.meet(&mut self.publisher)?;
+        Ok(self.session.generation())
+    }
+}

@@ -1,0 +1,31 @@
+//! Reports that are collected.
+
+ghost use Rattle.std.specs.Prelude.{◌≡◌, IfOk, drop, reverse};
+ghost use Rattle.pcef_model.specs.Entries.{reports};
+
+use super::State;
+use pcef_journal::Reports;
+use pcef_model::Report;
+use pcef_publish::{Board, Slot};
+use pcef_share::Naming;
+use std::alloc::{AllocError, Global};
+
+/// Copies of reports.
+fn copies(alloc: Global, reports: Reports<'_>) -> Result<Vec<Report>, AllocError>
+    ensures { IfOk result (λ v. v.items ≡ reports.entry) }
+{
+    let mut list = Vec::new(alloc);
+    for report in reports {
+        list.push(report.copy())?;
+    }
+    Ok(list)
+}
+
+impl<N: Naming, W: Board<Slot<N>> + Drop> State<N, W> {
+    /// The reports from a number on, in order. Takes memory for them.
+    pub fn collect(&self, from: u64) -> Result<Vec<Report>, AllocError>
+        ensures { IfOk result (λ v. v.items ≡ drop from (reverse (reports self.now.session.journal))) }
+    {
+        copies(self.alloc, self.session.journal().reports_from(from))
+    }
+}

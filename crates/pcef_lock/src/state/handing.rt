@@ -1,0 +1,107 @@
+//! Rows that workers hand over, and workers that leave.
+
+ghost use Rattle.std.specs.Prelude.{◌≡◌, ◌≤◌, length, map, true};
+ghost use Rattle.std.specs.Result.{result_map_both};
+ghost use Rattle.pcef_model.specs.Answers.{abandon_outcome, told_and_rows, told_of};
+ghost use Rattle.pcef_model.specs.Journals.{slots};
+ghost use Rattle.pcef_lock.specs.Answers.{HandsLast, HandsOver};
+ghost use Rattle.pcef_lock.specs.Counting.{with_taken};
+ghost use Rattle.pcef_lock.specs.Judging.{AllJudged};
+ghost use Rattle.pcef_lock.specs.Lanes.{continues_lane};
+ghost use mathlib.Core.List.{IsPrefix};
+
+use super::State;
+use crate::counting::count_items;
+use crate::lanes::{continues, end_of};
+use crate::seat::Seat;
+use pcef_model::{FlushRefusal, Verdicts};
+use pcef_publish::{Board, Slot};
+use pcef_session::{Batch, SessionState};
+use pcef_share::Naming;
+
+/// How many keys of a session have a slot.
+fn slot_count(session: &SessionState) -> usize
+    ensures number { result ≡ length (slots session.now.setting session.now.journal) }
+    ensures few { result ≤ 8 }
+{
+    session.usage().states().len()
+}
+
+impl<N: Naming, W: Board<Slot<N>> + Drop> State<N, W> {
+    /// Whether rows of a worker continue its lane.
+    fn continues_lane(&self, worker: u8, batch: &Batch) -> bool
+        ensures { result ≡ continues_lane self.now.session.journal worker batch.now }
+    {
+        let end = end_of(&self.session, worker);
+        continues(batch.items(), worker, end)
+    }
+
+    /// Takes over the waiting rows of a worker, all or none, each with the verdict and the slot that the table gives
+    /// which the seat's subscriber saw of the row's generation, and counts them into the seat's shares; or answers the
+    /// first refusal in the order of [`FlushRefusal`], which changes nothing. A batch that doesn't continue the lane of
+    /// the worker is refused as of one that isn't attached. Takes memory.
+    pub fn flush(&mut self, seat: &mut Seat<N>, batch: &Batch) -> Result<Verdicts, FlushRefusal>
+        requires { AllJudged N.setting N.first seat.old.subscriber batch.now }
+        ensures answer { HandsOver N.setting seat.old.worker batch.now self.old.session.journal (result_map_both told_of (λ e. e) result) self.new.session.journal }
+        ensures tables { self.new.tables ≡ self.old.tables }
+        ensures seen { IsPrefix seat.old.subscriber self.old.tables }
+        ensures books { self.new.books ≡ record self.old.books { totals = with_taken result self.old.books.totals batch.now } }
+        ensures places { self.new.places ≡ self.old.places }
+        ensures shares { seat.new.shares ≡ with_taken result seat.old.shares batch.now }
+        ensures seat { (seat.new.worker ≡ seat.old.worker) × (seat.new.subscriber ≡ seat.old.subscriber) × (seat.new.ue ≡ seat.old.ue) }
+    {
+        seat.subscriber.compare(&mut self.publisher);
+        if !self.continues_lane(seat.worker, batch) {
+            return Err(FlushRefusal::NotAttached);
+        }
+        let _slots = slot_count(&self.session);
+        let verdicts = match self.session.flush(seat.worker, batch) {
+            Ok(verdicts) => verdicts,
+            Err(refusal) => return Err(refusal),
+        };
+        count_items(&mut self.books, &mut seat.shares, batch.items());
+        Ok(verdicts)
+    }
+
+    /// Takes over the last rows of a worker, as [`State::flush`] does, and lets it leave. Gives the length of its lane
+    /// too. After a refusal, which changes nothing, the worker is there as before.
+    pub fn finish(
+        &mut self,
+        seat: &mut Seat<N>,
+        batch: &Batch,
+    ) -> Result<(Verdicts, u64), FlushRefusal>
+        requires { AllJudged N.setting N.first seat.old.subscriber batch.now }
+        ensures answer { HandsLast N.setting seat.old.worker batch.now self.old.session.journal (result_map_both told_and_rows (λ e. e) result) self.new.session.journal }
+        ensures tables { self.new.tables ≡ self.old.tables }
+        ensures seen { IsPrefix seat.old.subscriber self.old.tables }
+        ensures books { self.new.books ≡ record self.old.books { totals = with_taken result self.old.books.totals batch.now } }
+        ensures places { self.new.places ≡ self.old.places }
+        ensures shares { seat.new.shares ≡ with_taken result seat.old.shares batch.now }
+        ensures seat { (seat.new.worker ≡ seat.old.worker) × (seat.new.subscriber ≡ seat.old.subscriber) × (seat.new.ue ≡ seat.old.ue) }
+    {
+        seat.subscriber.compare(&mut self.publisher);
+        if !self.continues_lane(seat.worker, batch) {
+            return Err(FlushRefusal::NotAttached);
+        }
+        let _slots = slot_count(&self.session);
+        let last = match self.session.finish(seat.worker, batch) {
+            Ok(last) => last,
+            Err(refusal) => return Err(refusal),
+        };
+        count_items(&mut self.books, &mut seat.shares, batch.items());
+        Ok(last)
+    }
+
+    /// Lets the worker of a seat leave. Rows that wait with it never reach the journal. Where it isn't attached,
+    /// nothing changes. Takes no memory.
+    pub fn abandon(&mut self, seat: &Seat<N>)
+        ensures journal { self.new.session.journal ≡ (abandon_outcome self.old.session.journal seat.now.worker).1 }
+        ensures tables { self.new.tables ≡ self.old.tables }
+        ensures books { self.new.books ≡ self.old.books }
+        ensures places { self.new.places ≡ self.old.places }
+    {
+        if self.session.is_attached(seat.worker) {
+            self.session.detach(seat.worker);
+        }
+    }
+}
