@@ -1,5 +1,6 @@
 pub mod Answers
 pub mod Counting
+pub mod Desks
 pub mod Judging
 pub mod Kept
 pub mod Lanes

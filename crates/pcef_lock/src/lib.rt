@@ -2,14 +2,18 @@
 #![tactic(auto)]
 
 mod counting;
+mod desk;
 mod lanes;
 mod opening;
 mod publishing;
 mod seat;
+mod shared;
 mod state;
 #[cfg(test)]
 mod tests;
 
+pub use desk::{Desk, commands_so_far};
 pub use opening::{SharedFault, opened};
 pub use seat::Seat;
+pub use shared::Shared;
 pub use state::State;

@@ -193,6 +193,7 @@ impl<N: Naming, W: Board<Slot<N>> + Drop> State<N, W> {
         ensures seen { IsPrefix seat.new.subscriber self.old.tables }
         ensures grows { IsPrefix seat.old.subscriber seat.new.subscriber }
         ensures newest { IfOk result (λ g. (seat.new.subscriber ≡ self.old.tables) × (g ≡ gen self.old.session.journal)) }
+        ensures number { IfOk result (λ g. g + 1 ≡ N.first + length seat.new.subscriber) }
         ensures refused { IfErr result (λ _. seat.new.subscriber ≡ seat.old.subscriber) }
         ensures seat { (seat.new.worker ≡ seat.old.worker) × (seat.new.shares ≡ seat.old.shares) × (seat.new.ue ≡ seat.old.ue) }
     {

@@ -1,6 +1,6 @@
 //! Reports that are collected.
 
-ghost use Rattle.std.specs.Prelude.{◌≡◌, IfOk, drop, reverse};
+ghost use Rattle.std.specs.Prelude.{◌≡◌, ◌+◌, ◌<◌, ◌^◌, IfOk, drop, length, reverse};
 ghost use Rattle.pcef_model.specs.Entries.{reports};
 
 use super::State;
@@ -24,8 +24,10 @@ fn copies(alloc: Global, reports: Reports<'_>) -> Result<Vec<Report>, AllocError
 impl<N: Naming, W: Board<Slot<N>> + Drop> State<N, W> {
     /// The reports from a number on, in order. Takes memory for them.
     pub fn collect(&self, from: u64) -> Result<Vec<Report>, AllocError>
-        ensures { IfOk result (λ v. v.items ≡ drop from (reverse (reports self.now.session.journal))) }
+        ensures reports { IfOk result (λ v. v.items ≡ drop from (reverse (reports self.now.session.journal))) }
+        ensures fits { IfOk result (λ v. from + length v.items < 2 ^ 64) }
     {
+        let _many = self.session.journal().reports_len();
         copies(self.alloc, self.session.journal().reports_from(from))
     }
 }

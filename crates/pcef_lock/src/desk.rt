@@ -1,0 +1,114 @@
+//! Who gives commands to a session that threads share.
+
+ghost use Rattle.std.specs.Prelude.{◌≡◌, ◌+◌, IfOk, OnErr, length, reverse};
+ghost use Rattle.pcef_model.specs.Entries.{commands};
+ghost use Rattle.pcef_share.specs.Amounts.{command_ledger, plus, zeros};
+ghost use Rattle.pcef_lock.specs.Desks.{listed};
+
+use crate::shared::Shared;
+use pcef_catalog::Offers;
+use pcef_journal::Commands;
+use pcef_model::{Accepted, Command, Refusal, Report};
+use pcef_publish::{Board, Slot};
+use pcef_session::SessionState;
+use pcef_share::{Naming, Shares};
+use std::alloc::{AllocError, Global};
+use std::marker::Model;
+use std::sync::Wait;
+
+/// Gives the commands of a session and collects its reports. It keeps a list of the commands that were accepted and
+/// changed something, and as many are in its share of them.
+#[derive(Drop)]
+pub struct Desk<N: Naming> {
+    commands: Vec<Command>,
+    shares: Shares<N>,
+    collected: u64,
+}
+
+impl<N: Naming> Model for Desk<N> {
+    ghost use Rattle.std.specs.Prelude.{◌≡◌, length};
+    ghost use Rattle.pcef_share.specs.Amounts.{command_ledger, plus, zeros};
+    ghost use Rattle.pcef_lock.specs.Desks.{DeskModel};
+
+    ghost Value = { DeskModel };
+
+    ghost view = { λ d. record { commands = d.commands.items; collected = d.collected } };
+
+    ghost invariant = { λ d. d.shares ≡ plus zeros command_ledger (length d.commands.items) };
+}
+
+/// Copies of commands.
+fn copies(alloc: Global, commands: Commands<'_>) -> Result<Vec<Command>, AllocError>
+    ensures { IfOk result (λ v. v.items ≡ commands.entry) }
+{
+    let mut list = Vec::new(alloc);
+    for command in commands {
+        list.push(command.copy()?)?;
+    }
+    Ok(list)
+}
+
+/// The commands of a session so far, in order. Takes memory for them.
+pub fn commands_so_far(alloc: Global, session: &SessionState) -> Result<Vec<Command>, AllocError>
+    ensures { IfOk result (λ v. v.items ≡ reverse (commands session.now.journal)) }
+{
+    copies(alloc, session.journal().commands())
+}
+
+impl<N: Naming> Desk<N> {
+    /// A desk with these commands, which are as many as its shares hold, and no report collected.
+    pub fn new(commands: Vec<Command>, shares: Shares<N>) -> Desk<N>
+        requires { shares ≡ plus zeros command_ledger (length commands.items) }
+        ensures { result ≡ record { commands = commands.items; collected = 0 } }
+    {
+        Desk {
+            commands,
+            shares,
+            collected: 0,
+        }
+    }
+
+    /// Gives a command, as [`crate::State::command`] answers it. One that is accepted and changes something comes to
+    /// the desk's list and into its share. Takes memory, and may meet want of it before another refusal is seen.
+    pub fn command<C: Offers + Drop, W: Board<Slot<N>> + Drop, R: Wait>(
+        &mut self,
+        rt: &R,
+        shared: &Shared<C, N, W>,
+        command: Command,
+    ) -> Result<Accepted, Refusal>
+        ensures list { self.new.commands ≡ listed result command self.old.commands }
+        ensures collected { self.new.collected ≡ self.old.collected }
+    {
+        let Ok(copy) = command.copy() else {
+            return Err(Refusal::NoMemory);
+        };
+        if self.commands.reserve(1).is_err() {
+            return Err(Refusal::NoMemory);
+        }
+        match shared.command(rt, &mut self.shares, command) {
+            Err(refusal) => Err(refusal),
+            Ok(accepted) => {
+                if !accepted.unchanged {
+                    self.commands.push_reserved(copy);
+                }
+                Ok(accepted)
+            }
+        }
+    }
+
+    /// The reports since those that were collected before, in order, without a gap. Takes memory for them; where there
+    /// is none, they can be collected again.
+    pub fn collect<C: Offers + Drop, W: Board<Slot<N>> + Drop, R: Wait>(
+        &mut self,
+        rt: &R,
+        shared: &Shared<C, N, W>,
+    ) -> Result<Vec<Report>, AllocError>
+        ensures collected { IfOk result (λ v. self.new.collected ≡ self.old.collected + length v.items) }
+        ensures refused { OnErr result (self.new ≡ self.old) }
+        ensures commands { self.new.commands ≡ self.old.commands }
+    {
+        let reports = shared.collect(rt, self.collected)?;
+        self.collected += reports.len() as u64;
+        Ok(reports)
+    }
+}

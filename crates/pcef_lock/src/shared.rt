@@ -1,0 +1,128 @@
+//! The lock of a session.
+
+ghost use Rattle.std.specs.Prelude.{◌≡◌, ◌+◌, ◌<◌, ◌^◌, IfErr, IfOk, length};
+ghost use Rattle.std.specs.Arc.{arc_value};
+ghost use Rattle.pcef_share.specs.Amounts.{zeros};
+ghost use Rattle.pcef_lock.specs.Counting.{with_command, with_taken};
+ghost use Rattle.pcef_lock.specs.Judging.{AllJudged};
+ghost use mathlib.Core.List.{IsPrefix};
+
+use crate::seat::Seat;
+use crate::state::State;
+use pcef_catalog::Offers;
+use pcef_model::{Accepted, AttachFault, Command, FlushRefusal, Refusal, Report, Verdicts};
+use pcef_publish::{Board, Slot};
+use pcef_session::Batch;
+use pcef_share::{Naming, Shares};
+use std::alloc::AllocError;
+use std::marker::Model;
+use std::sync::{Arc, Mutex, Wait};
+
+/// A session that threads share: its catalog, and the lock of all else. Each call takes the lock once and makes one call
+/// of the [`State`] behind it, as which it answers. Contracts see what the catalog offers.
+#[derive(Drop)]
+pub struct Shared<C: Offers + Drop, N: Naming, W: Board<Slot<N>> + Drop> {
+    catalog: Arc<C>,
+    state: Mutex<State<N, W>>,
+}
+
+impl<C: Offers + Drop, N: Naming, W: Board<Slot<N>> + Drop> Model for Shared<C, N, W> {
+    ghost use Rattle.std.specs.Prelude.{◌≡◌, List};
+    ghost use Rattle.std.specs.Arc.{arc_value};
+    ghost use Rattle.pcef_catalog.specs.declared.listing.Offer.{Offer};
+
+    ghost Value = { List Offer };
+
+    ghost view = { λ s. C.offers (arc_value s.catalog) };
+
+    ghost invariant = { λ s. C.offers (arc_value s.catalog) ≡ N.setting.catalog };
+}
+
+impl<C: Offers + Drop, N: Naming, W: Board<Slot<N>> + Drop> Shared<C, N, W> {
+    /// Puts the value behind a lock. The catalog has to be that of the session.
+    pub fn new(catalog: Arc<C>, state: State<N, W>) -> Shared<C, N, W>
+        requires { C.offers (arc_value catalog) ≡ N.setting.catalog }
+        ensures { result ≡ N.setting.catalog }
+    {
+        Shared {
+            catalog,
+            state: Mutex::new(state),
+        }
+    }
+
+    /// The catalog, for one more owner, or want of memory.
+    pub fn catalog(&self) -> Result<Arc<C>, AllocError>
+        ensures { IfOk result (λ c. C.offers (arc_value c) ≡ N.setting.catalog) }
+    {
+        Arc::try_clone(&self.catalog)
+    }
+
+    /// As [`State::command`].
+    pub fn command<R: Wait>(
+        &self,
+        rt: &R,
+        shares: &mut Shares<N>,
+        command: Command,
+    ) -> Result<Accepted, Refusal>
+        ensures { shares.new ≡ with_command result shares.old }
+    {
+        self.state.lock(rt).command(shares, command)
+    }
+
+    /// As [`State::attach`].
+    pub fn attach<R: Wait>(&self, rt: &R) -> Result<Seat<N>, AttachFault>
+        ensures { IfOk result (λ s. (s.shares ≡ zeros) × (s.ue ≡ N.setting.ue)) }
+    {
+        self.state.lock(rt).attach()
+    }
+
+    /// As [`State::meet`].
+    pub fn meet<R: Wait>(&self, rt: &R, seat: &mut Seat<N>) -> Result<u32, AllocError>
+        ensures grows { IsPrefix seat.old.subscriber seat.new.subscriber }
+        ensures number { IfOk result (λ g. g + 1 ≡ N.first + length seat.new.subscriber) }
+        ensures refused { IfErr result (λ _. seat.new.subscriber ≡ seat.old.subscriber) }
+        ensures seat { (seat.new.worker ≡ seat.old.worker) × (seat.new.shares ≡ seat.old.shares) × (seat.new.ue ≡ seat.old.ue) }
+    {
+        self.state.lock(rt).meet(seat)
+    }
+
+    /// As [`State::flush`].
+    pub fn flush<R: Wait>(
+        &self,
+        rt: &R,
+        seat: &mut Seat<N>,
+        batch: &Batch,
+    ) -> Result<Verdicts, FlushRefusal>
+        requires { AllJudged N.setting N.first seat.old.subscriber batch.now }
+        ensures shares { seat.new.shares ≡ with_taken result seat.old.shares batch.now }
+        ensures seat { (seat.new.worker ≡ seat.old.worker) × (seat.new.subscriber ≡ seat.old.subscriber) × (seat.new.ue ≡ seat.old.ue) }
+    {
+        self.state.lock(rt).flush(seat, batch)
+    }
+
+    /// As [`State::finish`].
+    pub fn finish<R: Wait>(
+        &self,
+        rt: &R,
+        seat: &mut Seat<N>,
+        batch: &Batch,
+    ) -> Result<(Verdicts, u64), FlushRefusal>
+        requires { AllJudged N.setting N.first seat.old.subscriber batch.now }
+        ensures shares { seat.new.shares ≡ with_taken result seat.old.shares batch.now }
+        ensures seat { (seat.new.worker ≡ seat.old.worker) × (seat.new.subscriber ≡ seat.old.subscriber) × (seat.new.ue ≡ seat.old.ue) }
+    {
+        self.state.lock(rt).finish(seat, batch)
+    }
+
+    /// As [`State::abandon`].
+    pub fn abandon<R: Wait>(&self, rt: &R, seat: &Seat<N>) {
+        self.state.lock(rt).abandon(seat)
+    }
+
+    /// As [`State::collect`].
+    pub fn collect<R: Wait>(&self, rt: &R, from: u64) -> Result<Vec<Report>, AllocError>
+        ensures { IfOk result (λ v. from + length v.items < 2 ^ 64) }
+    {
+        self.state.lock(rt).collect(from)
+    }
+}
