@@ -6,6 +6,7 @@ pub mod Handing
 pub mod Judged
 pub mod Keeps
 pub mod Loops
+pub mod Numbers
 pub mod Publications
 pub mod Seats
 pub mod Totals

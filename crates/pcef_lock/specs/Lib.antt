@@ -7,5 +7,6 @@ pub mod Lanes
 pub mod Locked
 pub mod Opening
 pub mod Published
+pub mod Reports
 pub mod Seats
 pub mod private

@@ -4,6 +4,7 @@ ghost use Rattle.std.specs.Prelude.{◌≡◌, ◌+◌, IfOk, OnErr, length, rev
 ghost use Rattle.pcef_model.specs.Entries.{commands};
 ghost use Rattle.pcef_share.specs.Amounts.{command_ledger, plus, zeros};
 ghost use Rattle.pcef_lock.specs.Desks.{listed};
+ghost use Rattle.pcef_lock.specs.Reports.{AreNumbered};
 
 use crate::shared::Shared;
 use pcef_catalog::Offers;
@@ -68,6 +69,13 @@ impl<N: Naming> Desk<N> {
         }
     }
 
+    /// The commands that were accepted and changed something, in order.
+    pub fn commands(&self) -> &[Command]
+        ensures { result.now ≡ self.now.commands }
+    {
+        self.commands.as_slice()
+    }
+
     /// Gives a command, as [`crate::State::command`] answers it. One that is accepted and changes something comes to
     /// the desk's list and into its share. Takes memory, and may meet want of it before another refusal is seen.
     pub fn command<C: Offers + Drop, W: Board<Slot<N>> + Drop, R: Wait>(
@@ -103,6 +111,7 @@ impl<N: Naming> Desk<N> {
         rt: &R,
         shared: &Shared<C, N, W>,
     ) -> Result<Vec<Report>, AllocError>
+        ensures numbered { IfOk result (λ v. AreNumbered self.old.collected v.items) }
         ensures collected { IfOk result (λ v. self.new.collected ≡ self.old.collected + length v.items) }
         ensures refused { OnErr result (self.new ≡ self.old) }
         ensures commands { self.new.commands ≡ self.old.commands }

@@ -5,6 +5,7 @@ ghost use Rattle.std.specs.Arc.{arc_value};
 ghost use Rattle.pcef_share.specs.Amounts.{zeros};
 ghost use Rattle.pcef_lock.specs.Counting.{with_command, with_taken};
 ghost use Rattle.pcef_lock.specs.Judging.{AllJudged};
+ghost use Rattle.pcef_lock.specs.Reports.{AreNumbered};
 ghost use mathlib.Core.List.{IsPrefix};
 
 use crate::seat::Seat;
@@ -121,7 +122,8 @@ impl<C: Offers + Drop, N: Naming, W: Board<Slot<N>> + Drop> Shared<C, N, W> {
 
     /// As [`State::collect`].
     pub fn collect<R: Wait>(&self, rt: &R, from: u64) -> Result<Vec<Report>, AllocError>
-        ensures { IfOk result (λ v. from + length v.items < 2 ^ 64) }
+        ensures numbered { IfOk result (λ v. AreNumbered from v.items) }
+        ensures fits { IfOk result (λ v. from + length v.items < 2 ^ 64) }
     {
         self.state.lock(rt).collect(from)
     }

@@ -2,6 +2,7 @@
 
 ghost use Rattle.std.specs.Prelude.{◌≡◌, ◌+◌, ◌<◌, ◌^◌, IfOk, drop, length, reverse};
 ghost use Rattle.pcef_model.specs.Entries.{reports};
+ghost use Rattle.pcef_lock.specs.Reports.{AreNumbered};
 
 use super::State;
 use pcef_journal::Reports;
@@ -25,9 +26,11 @@ impl<N: Naming, W: Board<Slot<N>> + Drop> State<N, W> {
     /// The reports from a number on, in order. Takes memory for them.
     pub fn collect(&self, from: u64) -> Result<Vec<Report>, AllocError>
         ensures reports { IfOk result (λ v. v.items ≡ drop from (reverse (reports self.now.session.journal))) }
+        ensures numbered { IfOk result (λ v. AreNumbered from v.items) }
         ensures fits { IfOk result (λ v. from + length v.items < 2 ^ 64) }
     {
         let _many = self.session.journal().reports_len();
-        copies(self.alloc, self.session.journal().reports_from(from))
+        let collected = copies(self.alloc, self.session.journal().reports_from(from))?;
+        Ok(collected)
     }
 }

@@ -1,0 +1,10 @@
+use Rattle.std.proofs.Common.{rules, ◌≡◌, drop, reverse, subst, sym}
+use Rattle.pcef_model.specs.Entries.{reports}
+use Rattle.pcef_lock.specs.Reports.{AreNumbered}
+use Rattle.pcef_lock.proofs.Numbers.{reports_numbered}
+use Rattle.pcef_lock.proofs.state.State.collect.Goals as goal
+
+pub returns-clause-numbered : goal.returns-clause-numbered
+returns-clause-numbered g c =
+    let list : c.in_ok-collected.collected.items ≡ drop c.args.from (reverse (reports c.self.inside.session.journal)) = search rules in
+    subst (AreNumbered c.args.from) (sym list) (reports_numbered c.self.inside.session.setting c.self.inside.session.journal c.args.from c.journal.ensures.lawful)
