@@ -1,0 +1,18 @@
+use Rattle.std.proofs.Common.{◌≡◌, ◌<◌, List, [], ◌∷◌, length, Option, Some, None, ◌∙◌, sym, subst, append-nil}
+use Rattle.std.proofs.lemmas.List.{nil_from_length}
+use Rattle.std.proofs.lemmas.Bool.{eqb-true}
+use Rattle.pcef_capture_file.specs.Captured.{captured, Reads}
+use Rattle.pcef_capture_file.specs.Classic.{record_of}
+use Rattle.pcef_capture_file.proofs.Readings.{some_length}
+use Rattle.pcef_capture_file.proofs.classic.records.Goals as goal
+
+pub returns-in-Err : goal.returns-in-Err
+returns-in-Err c =
+    let some : 0 < length c.loop-rest.rest.now = some_length c.loop-rest.rest.now (sym c.is_empty.ensures ∙ c.loop-rest-test.true) in
+    let read = c.loop-rest.invariant [] (Some c.in-Err.fault) (some, c.in-Err.ensures.record) in
+    subst (λ packets. Reads (record_of c.args.header) c.args.octets.now packets (Some c.in-Err.fault)) (append-nil _) read
+
+pub returns : goal.returns
+returns c =
+    let none : c.loop-rest.rest.now ≡ [] = nil_from_length c.loop-rest.rest.now (eqb-true _ _ (sym c.is_empty.ensures ∙ c.loop-rest-test.false)) in
+    subst (λ packets. Reads (record_of c.args.header) c.args.octets.now packets None) (append-nil _) (c.loop-rest.invariant [] None none)

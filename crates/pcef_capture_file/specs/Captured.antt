@@ -1,0 +1,23 @@
+-- Packets, and what it means that they are those of a file.
+use Rattle.std.specs.Prelude.{◌≡◌, ◌<◌, ℕ, List, [], ◌∷◌, length, Option, Some, None, Result, Ok, Err}
+use Rattle.pcef_capture_file.specs.declared.endianness.Endianness.{Endianness}
+use Rattle.pcef_capture_file.specs.declared.fault.CaptureFault.{CaptureFault}
+use Rattle.pcef_capture_file.specs.declared.link.Link.{Link}
+use Rattle.pcef_capture_file.specs.declared.packet.Packet.{Packet}
+
+-- a packet without where it lies in memory
+pub record Captured : Type 0 where
+  pub link : Link
+  pub endianness : Endianness
+  pub original : ℕ
+  pub octets : List ℕ
+
+abbrev pub captured : Packet → Captured
+captured p = record { link = p.link; endianness = p.endianness; original = p.original; octets = p.octets.now }
+
+-- The octets are records with these packets, one after another: up to the end where there is no fault,
+-- else up to a record at fault.
+abbrev pub Reads : (List ℕ → Result (Captured × List ℕ) CaptureFault) → List ℕ → List Captured → Option CaptureFault → Type 0
+Reads record_of octets [] None = octets ≡ []
+Reads record_of octets [] (Some fault) = (0 < length octets) × (record_of octets ≡ Err fault)
+Reads record_of octets (packet ∷ packets) fault = (rest : List ℕ) × (record_of octets ≡ Ok (packet, rest)) × Reads record_of rest packets fault

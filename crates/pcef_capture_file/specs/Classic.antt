@@ -1,0 +1,52 @@
+-- The savefile format of libpcap (pcap-savefile(5); draft-ietf-opsawg-pcap, clauses 4 and 5).
+use Rattle.std.specs.Prelude.{ℕ, ◌+◌, ◌%◌, ◌^◌, ◌==◌, ◌&&◌, nat_lt, Bool, List, length, take, drop, Option, Some, None, Result, Ok, Err, if◌then◌else◌}
+use Rattle.pcef_reading.specs.Readings.{◌>>=◌, or_fault}
+use Rattle.pcef_capture_file.specs.Captured.{Captured}
+use Rattle.pcef_capture_file.specs.Links.{link_of}
+use Rattle.pcef_capture_file.specs.Numbers.{number}
+use Rattle.pcef_capture_file.specs.declared.classic.FileHeader.{FileHeader}
+use Rattle.pcef_capture_file.specs.declared.classic.TimeScale.{TimeScale}
+use Rattle.pcef_capture_file.specs.declared.classic.TimeScale.TheVariants.{Microseconds, Nanoseconds}
+use Rattle.pcef_capture_file.specs.declared.endianness.Endianness.{Endianness}
+use Rattle.pcef_capture_file.specs.declared.endianness.Endianness.TheVariants.{Big, Little}
+use Rattle.pcef_capture_file.specs.declared.fault.CaptureFault.{CaptureFault}
+use Rattle.pcef_capture_file.specs.declared.fault.CaptureFault.TheVariants as fault
+
+-- The first four octets are 0xA1B2C3D4 or 0xA1B23C4D, in the order of the file.
+unfoldable pub magic_of : List ℕ → Option (Endianness × TimeScale)
+magic_of octets =
+    if nat_lt (length octets) 4 then None
+    else if number Big octets 0 4 == 2712847316 then Some (Big, Microseconds)
+    else if number Big octets 0 4 == 2712812621 then Some (Big, Nanoseconds)
+    else if number Little octets 0 4 == 2712847316 then Some (Little, Microseconds)
+    else if number Little octets 0 4 == 2712812621 then Some (Little, Nanoseconds)
+    else None
+
+-- the version stands in octets 4 to 7, two numbers
+unfoldable pub has_version : Endianness → List ℕ → Bool
+has_version e octets = (number e octets 4 2 == 2) && (number e octets 6 2 == 4)
+
+-- the link type is the lower half of octets 20 to 23
+unfoldable pub link_number : Endianness → List ℕ → ℕ
+link_number e octets = number e octets 20 4 % 2 ^ 16
+
+unfoldable pub header_behind : Endianness → TimeScale → List ℕ → Result FileHeader CaptureFault
+header_behind e scale octets =
+    if nat_lt (length octets) 24 then Err fault.CutHeader
+    else if has_version e octets
+    then or_fault fault.LinkType (link_of (link_number e octets)) >>= (λ link. Ok (record { endianness = e; scale = scale; link = link }))
+    else Err fault.Version
+
+unfoldable pub file_header_of : List ℕ → Result FileHeader CaptureFault
+file_header_of octets = or_fault fault.NotACapture (magic_of octets) >>= (λ magic. header_behind magic.0 magic.1 octets)
+
+-- a record: 16 octets, of which octets 8 to 11 are the length of the packet behind them and octets 12 to
+-- 15 its length on the line
+unfoldable pub captured_len : FileHeader → List ℕ → ℕ
+captured_len header octets = number header.endianness octets 8 4
+
+unfoldable pub record_of : FileHeader → List ℕ → Result (Captured × List ℕ) CaptureFault
+record_of header octets =
+    if nat_lt (length octets) 16 then Err fault.CutRecord
+    else if nat_lt (length (drop 16 octets)) (captured_len header octets) then Err fault.CutPacket
+    else Ok (record { link = header.link; endianness = header.endianness; original = number header.endianness octets 12 4; octets = take (captured_len header octets) (drop 16 octets) }, drop (captured_len header octets) (drop 16 octets))

@@ -1,0 +1,26 @@
+-- What a frame is for the session of an address.
+use Rattle.std.specs.Prelude.{◌≡◌, ◌≢◌, ◌<◌, ◌≤◌, ◌⊎◌, ℕ, List, length, Some, None, Ok, Err}
+use Rattle.pcef_packet.specs.declared.header.Addr.{Addr}
+use Rattle.pcef_packet.specs.declared.header.PacketFault.{PacketFault}
+use Rattle.pcef_packet.specs.declared.header.PacketFault.TheVariants as fault
+use Rattle.pcef_capture_file.specs.Captured.{Captured}
+use Rattle.pcef_capture_file.specs.Directions.{direction_in}
+use Rattle.pcef_capture_file.specs.Frames.{ipv4_in}
+use Rattle.pcef_capture_file.specs.declared.content.Content.{Content}
+use Rattle.pcef_capture_file.specs.declared.content.Content.TheVariants.{Packet, Neither, Cut, NotIpv4}
+
+-- these octets stand in the frame where IPv4 is said to
+abbrev pub Holds : Captured → List ℕ → Type 0
+Holds p octets = ipv4_in p.link p.endianness p.octets ≡ Some octets
+
+-- fewer octets were recorded than there were on the line
+abbrev pub IsCut : Captured → Type 0
+IsCut p = length p.octets < p.original
+
+abbrev pub IsContent : Addr → Captured → Content → Type 0
+IsContent ue p (Packet dir octets) = Holds p octets.now × (direction_in ue octets.now ≡ Ok (Some dir))
+IsContent ue p Neither = (octets : List ℕ) × Holds p octets × (direction_in ue octets ≡ Ok None)
+IsContent ue p (Cut octets) =
+    IsCut p × Holds p octets.now × (f : PacketFault) × (direction_in ue octets.now ≡ Err f) × (f ≢ fault.Version)
+IsContent ue p NotIpv4 =
+    (octets : List ℕ) → Holds p octets → (f : PacketFault) × (direction_in ue octets ≡ Err f) × ((f ≡ fault.Version) ⊎ (p.original ≤ length p.octets))

@@ -1,0 +1,20 @@
+-- Which way a packet goes for a session.
+use Rattle.std.specs.Prelude.{ℕ, List, Option, Some, None, Result, Ok, if◌then◌else◌}
+use Rattle.pcef_reading.specs.Readings.{◌>>=◌}
+use Rattle.pcef_packet.specs.Addresses.{agrees_in}
+use Rattle.pcef_packet.specs.HeaderOf.{header_of}
+use Rattle.pcef_packet.specs.declared.header.Addr.{Addr}
+use Rattle.pcef_packet.specs.declared.header.Dir.{Dir}
+use Rattle.pcef_packet.specs.declared.header.Dir.TheVariants.{Up, Down}
+use Rattle.pcef_packet.specs.declared.header.Header.{Header}
+use Rattle.pcef_packet.specs.declared.header.PacketFault.{PacketFault}
+
+-- up from the address, down to it
+abbrev pub way_of : Addr → Header → Option Dir
+way_of ue header =
+    if agrees_in 32 ue header.src then Some Up
+    else if agrees_in 32 ue header.dst then Some Down
+    else None
+
+unfoldable pub direction_in : Addr → List ℕ → Result (Option Dir) PacketFault
+direction_in ue octets = header_of Up octets >>= (λ header. Ok (way_of ue header))

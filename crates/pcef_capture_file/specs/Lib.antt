@@ -1,0 +1,9 @@
+pub mod Captured
+pub mod Classic
+pub mod Contents
+pub mod Directions
+pub mod Faults
+pub mod Frames
+pub mod Links
+pub mod Numbers
+pub mod Padding

@@ -1,0 +1,196 @@
+//! Capture files in libpcap's savefile format.
+
+ghost use Rattle.std.specs.Prelude.{◌≡◌, ◌<◌, ◌≤◌, ◌⊎◌, IfErr, IfOk, IsOkAnd, MatchResult, Ok as DueOk, Err as DueErr, drop, length, map};
+ghost use Rattle.pcef_capture_file.specs.declared.fault.CaptureFault.TheVariants.{NoMemory};
+ghost use Rattle.pcef_capture_file.specs.Captured.{captured, Reads};
+ghost use Rattle.pcef_capture_file.specs.Classic.{file_header_of, header_behind, magic_of, record_of};
+
+use crate::endianness::Endianness;
+use crate::fault::CaptureFault;
+use crate::link::Link;
+use crate::packet::{Capture, Packet};
+use std::alloc::{AllocError, Global};
+
+/// The length of the header of a file, in octets.
+const FILE_HEADER_LEN: usize = 24;
+
+/// The length of the header of a record, in octets.
+const RECORD_HEADER_LEN: usize = 16;
+
+/// The first four octets of a file whose times are in microseconds.
+const MICROSECONDS: u32 = 0xa1b2_c3d4;
+
+/// The first four octets of a file whose times are in nanoseconds.
+const NANOSECONDS: u32 = 0xa1b2_3c4d;
+
+/// The unit of the fractions of seconds.
+#[derive(Clone, Copy, Debug, PartialEq, Eq)]
+pub enum TimeScale {
+    Microseconds,
+    Nanoseconds,
+}
+
+/// What the header of a file says of all its records.
+#[derive(Clone, Copy, Debug, PartialEq, Eq)]
+pub struct FileHeader {
+    /// The order of the numbers in the file.
+    pub endianness: Endianness,
+    /// The unit of the fractions of seconds.
+    pub scale: TimeScale,
+    /// What each frame begins with.
+    pub link: Link,
+}
+
+/// The order and the scale that the first four octets tell.
+#[tactic(auto, unfolding(crate::specs::Classic::magic_of))]
+fn magic(octets: &[u8]) -> Option<(Endianness, TimeScale)>
+    ensures { result ≡ magic_of octets.now }
+{
+    if octets.len() < 4 {
+        return None;
+    }
+    let big = Endianness::Big.number_in_4(octets, 0);
+    let little = Endianness::Little.number_in_4(octets, 0);
+    if big == MICROSECONDS {
+        Some((Endianness::Big, TimeScale::Microseconds))
+    } else if big == NANOSECONDS {
+        Some((Endianness::Big, TimeScale::Nanoseconds))
+    } else if little == MICROSECONDS {
+        Some((Endianness::Little, TimeScale::Microseconds))
+    } else if little == NANOSECONDS {
+        Some((Endianness::Little, TimeScale::Nanoseconds))
+    } else {
+        None
+    }
+}
+
+/// The header of a file whose first four octets are known.
+#[tactic(auto, unfolding(crate::specs::Classic::header_behind, crate::specs::Classic::has_version, crate::specs::Classic::link_number))]
+fn header_behind(
+    endianness: Endianness,
+    scale: TimeScale,
+    octets: &[u8],
+) -> Result<FileHeader, CaptureFault>
+    ensures header { result ≡ header_behind endianness scale octets.now }
+    ensures len { IfOk result (λ header. 24 ≤ length octets.now) }
+{
+    if octets.len() < FILE_HEADER_LEN {
+        return Err(CaptureFault::CutHeader);
+    }
+    let major = endianness.number_in_2(octets, 4);
+    let minor = endianness.number_in_2(octets, 6);
+    if major != 2 || minor != 4 {
+        return Err(CaptureFault::Version);
+    }
+    match Link::of_number(endianness.number_in_4(octets, 20) & 0xffff) {
+        Some(link) => Ok(FileHeader {
+            endianness,
+            scale,
+            link,
+        }),
+        None => Err(CaptureFault::LinkType),
+    }
+}
+
+/// The header at the front of a file, which takes 24 octets, or its first fault in the order of
+/// [`CaptureFault`]: `NotACapture`, `CutHeader`, `Version` (2.4 alone is read) or `LinkType`. Of the
+/// number of the link type the lower 16 bits count. Takes no memory.
+#[tactic(auto, unfolding(crate::specs::Classic::file_header_of))]
+pub fn read_file_header(octets: &[u8]) -> Result<FileHeader, CaptureFault>
+    ensures header { result ≡ file_header_of octets.now }
+    ensures len { IfOk result (λ header. 24 ≤ length octets.now) }
+{
+    match magic(octets) {
+        Some((endianness, scale)) => header_behind(endianness, scale, octets),
+        None => Err(CaptureFault::NotACapture),
+    }
+}
+
+/// The packet of the record at the front of the octets, and the octets behind the record; `CutRecord`
+/// where there are fewer than 16 octets, `CutPacket` where the packet goes on beyond them. Takes no
+/// memory.
+#[tactic(auto, unfolding(crate::specs::Classic::record_of, crate::specs::Classic::captured_len))]
+pub fn read_record<'a>(
+    header: FileHeader,
+    octets: &'a [u8],
+) -> Result<(Packet<'a>, &'a [u8]), CaptureFault>
+    ensures record { MatchResult result (λ found. record_of header octets.now ≡ DueOk (captured found.0, found.1.now)) (λ fault. record_of header octets.now ≡ DueErr fault) }
+    ensures shorter { IfOk result (λ found. length found.1.now < length octets.now) }
+{
+    if octets.len() < RECORD_HEADER_LEN {
+        return Err(CaptureFault::CutRecord);
+    }
+    let len = header.endianness.number_in_4(octets, 8) as usize;
+    let original = header.endianness.number_in_4(octets, 12);
+    let behind = &octets[RECORD_HEADER_LEN..];
+    if behind.len() < len {
+        return Err(CaptureFault::CutPacket);
+    }
+    let (octets, rest) = behind.split_at(len);
+    let packet = Packet {
+        link: header.link,
+        endianness: header.endianness,
+        original,
+        octets,
+    };
+    Ok((packet, rest))
+}
+
+/// The packets of all records.
+fn records<'a>(
+    alloc: Global,
+    header: FileHeader,
+    octets: &'a [u8],
+) -> Result<Capture<'a>, AllocError>
+    ensures { IfOk result (λ capture. Reads (record_of header) octets.now (map captured capture.packets.items) capture.fault) }
+{
+    let mut packets = Vec::new(alloc);
+    let mut rest = octets;
+    while !rest.is_empty() {
+        match read_record(header, rest) {
+            Ok((packet, others)) => {
+                packets.push(packet)?;
+                rest = others;
+            }
+            Err(fault) => {
+                return Ok(Capture {
+                    packets,
+                    fault: Some(fault),
+                });
+            }
+        }
+    }
+    Ok(Capture {
+        packets,
+        fault: None,
+    })
+}
+
+/// The packets of all records behind the header of a file.
+fn behind_header<'a>(
+    alloc: Global,
+    header: FileHeader,
+    octets: &'a [u8],
+) -> Result<Capture<'a>, CaptureFault>
+    requires { 24 ≤ length octets.now }
+    ensures packets { IfOk result (λ capture. Reads (record_of header) (drop 24 octets.now) (map captured capture.packets.items) capture.fault) }
+    ensures fault { IfErr result (λ fault. fault ≡ NoMemory) }
+{
+    match records(alloc, header, octets.split_at(FILE_HEADER_LEN).1) {
+        Ok(capture) => Ok(capture),
+        Err(_) => Err(CaptureFault::NoMemory),
+    }
+}
+
+/// The packets of a capture file: those of its records one after another, up to the end of the file or
+/// to the first record at fault, which is told beside them. The packets borrow the file's octets; the
+/// list of them takes memory. An `Err` is the fault of the file's header, or `NoMemory`.
+pub fn read_classic<'a>(alloc: Global, octets: &'a [u8]) -> Result<Capture<'a>, CaptureFault>
+    ensures packets { IfOk result (λ capture. IsOkAnd (file_header_of octets.now) (λ header. Reads (record_of header) (drop 24 octets.now) (map captured capture.packets.items) capture.fault)) }
+    ensures fault { IfErr result (λ fault. (fault ≡ NoMemory) ⊎ (file_header_of octets.now ≡ DueErr fault)) }
+{
+    match read_file_header(octets) {
+        Ok(header) => behind_header(alloc, header, octets),
+        Err(fault) => Err(fault),
+    }
+}

@@ -1,0 +1,45 @@
+//! What a frame is for a session.
+
+ghost use Rattle.std.specs.Prelude.{◌≡◌};
+ghost use Rattle.pcef_capture_file.specs.Captured.{captured};
+ghost use Rattle.pcef_capture_file.specs.Contents.{IsContent};
+
+use crate::direction::direction_of;
+use crate::frame::ipv4_of;
+use crate::packet::Packet;
+use pcef_packet::{Addr, Dir, PacketFault};
+
+/// What a frame is for the session of an address.
+#[derive(Clone, Copy, Debug, PartialEq, Eq)]
+pub enum Content<'a> {
+    /// It has a whole packet of version 4, which goes from the address (up) or to it (down).
+    Packet(Dir, &'a [u8]),
+    /// It has a whole packet of version 4, with the address on neither side.
+    Neither,
+    /// It was recorded in part, and so is the packet in it.
+    Cut(&'a [u8]),
+    /// It has no packet of version 4, or one whose header is wrong.
+    NotIpv4,
+}
+
+/// What a frame is for the session of an address. Takes no memory.
+pub fn content_of<'a>(ue: Addr, packet: &Packet<'a>) -> Content<'a>
+    ensures { IsContent ue (captured packet.now) result }
+{
+    let is_cut = packet.octets.len() < packet.original as usize;
+    let Some(octets) = ipv4_of(packet) else {
+        return Content::NotIpv4;
+    };
+    match direction_of(ue, octets) {
+        Ok(Some(dir)) => Content::Packet(dir, octets),
+        Ok(None) => Content::Neither,
+        Err(PacketFault::Version) => Content::NotIpv4,
+        Err(_) => {
+            if is_cut {
+                Content::Cut(octets)
+            } else {
+                Content::NotIpv4
+            }
+        }
+    }
+}

@@ -1,0 +1,27 @@
+//! Which way a packet of a session goes.
+
+ghost use Rattle.std.specs.Prelude.{◌≡◌};
+ghost use Rattle.pcef_capture_file.specs.Directions.{direction_in};
+
+use pcef_packet::{Addr, Dir, PacketFault, read_header};
+
+/// Which way a packet goes for the session of an address: up where the address is its source, else
+/// down where it is its destination, else none. An `Err` is the first fault of its header: the octets
+/// aren't a whole packet of version 4. Takes no memory.
+#[tactic(auto, unfolding(crate::specs::Directions::direction_in))]
+pub fn direction_of(ue: Addr, octets: &[u8]) -> Result<Option<Dir>, PacketFault>
+    ensures { result ≡ direction_in ue octets.now }
+{
+    match read_header(Dir::Up, octets) {
+        Ok(header) => {
+            if ue.agrees_in(32, header.src) {
+                Ok(Some(Dir::Up))
+            } else if ue.agrees_in(32, header.dst) {
+                Ok(Some(Dir::Down))
+            } else {
+                Ok(None)
+            }
+        }
+        Err(fault) => Err(fault),
+    }
+}

@@ -1,0 +1,111 @@
+//! The packet behind the header of a frame.
+
+ghost use Rattle.std.specs.Prelude.{◌≡◌, ◌+◌, ◌<◌, ◌≤◌, option_map};
+ghost use Rattle.pcef_capture_file.specs.Frames.{behind, behind_family, behind_type, ipv4_in, is_tag_at, is_type_at, past_tag};
+
+use crate::endianness::Endianness;
+use crate::link::Link;
+use crate::packet::Packet;
+
+/// The type of IPv4 in Ethernet and in the cooked headers.
+const IPV4_TYPE: u16 = 0x0800;
+
+/// The protocol family of IPv4 in the loopback headers.
+const IPV4_FAMILY: u32 = 2;
+
+/// Whether this number of two octets stands at a place.
+#[tactic(auto, unfolding(crate::specs::Frames::is_type_at))]
+fn is_type_at(octets: &[u8], place: usize, number: u16) -> bool
+    ensures { result ≡ is_type_at octets.now place number }
+{
+    match octets.len().checked_sub(place) {
+        Some(len) if 2 <= len => Endianness::Big.number_in_2(octets, place) == number,
+        _ => false,
+    }
+}
+
+/// Whether a VLAN tag begins at a place.
+#[tactic(auto, unfolding(crate::specs::Frames::is_tag_at))]
+fn is_tag_at(octets: &[u8], place: usize) -> bool
+    ensures { result ≡ is_tag_at octets.now place }
+{
+    is_type_at(octets, place, 0x8100)
+        || is_type_at(octets, place, 0x88a8)
+        || is_type_at(octets, place, 0x9100)
+}
+
+/// What stands from a place on.
+#[tactic(auto, unfolding(crate::specs::Frames::behind))]
+fn behind(octets: &[u8], place: usize) -> Option<&[u8]>
+    ensures { option_map (λ o. o.now) result ≡ behind octets.now place }
+{
+    if place <= octets.len() {
+        Some(&octets[place..])
+    } else {
+        None
+    }
+}
+
+/// The place behind a VLAN tag, if one begins at this one.
+#[tactic(auto, unfolding(crate::specs::Frames::past_tag))]
+fn past_tag(octets: &[u8], place: usize) -> usize
+    requires { place < 256 }
+    ensures tag { result ≡ past_tag octets.now place }
+    ensures near { result ≤ place + 4 }
+{
+    if is_tag_at(octets, place) {
+        place + 4
+    } else {
+        place
+    }
+}
+
+/// What stands behind a type, where it is IPv4's: at most two tags may stand before it.
+#[tactic(auto, unfolding(crate::specs::Frames::behind_type))]
+fn behind_type(octets: &[u8], place: usize) -> Option<&[u8]>
+    requires { place < 200 }
+    ensures { option_map (λ o. o.now) result ≡ behind_type octets.now place }
+{
+    let place = past_tag(octets, past_tag(octets, place));
+    if is_type_at(octets, place, IPV4_TYPE) {
+        behind(octets, place + 2)
+    } else {
+        None
+    }
+}
+
+/// What stands behind a protocol family, where it is IPv4's.
+#[tactic(auto, unfolding(crate::specs::Frames::behind_family))]
+fn behind_family(endianness: Endianness, octets: &[u8]) -> Option<&[u8]>
+    ensures { option_map (λ o. o.now) result ≡ behind_family endianness octets.now }
+{
+    if 4 <= octets.len() && endianness.number_in_4(octets, 0) == IPV4_FAMILY {
+        behind(octets, 4)
+    } else {
+        None
+    }
+}
+
+/// The octets of a frame behind its link header, where that header says that an IPv4 packet comes, or
+/// none. Raw frames have no header: all of them is given, whatever its version. Behind a packet padding
+/// may stand. Takes no memory.
+#[tactic(auto, unfolding(crate::specs::Frames::ipv4_in))]
+pub fn ipv4_of<'a>(packet: &Packet<'a>) -> Option<&'a [u8]>
+    ensures { option_map (λ o. o.now) result ≡ ipv4_in packet.now.link packet.now.endianness packet.now.octets.now }
+{
+    let octets = packet.octets;
+    match packet.link {
+        Link::Ethernet => behind_type(octets, 12),
+        Link::Raw => Some(octets),
+        Link::Null => behind_family(packet.endianness, octets),
+        Link::Loop => behind_family(Endianness::Big, octets),
+        Link::LinuxCooked => behind_type(octets, 14),
+        Link::LinuxCooked2 => {
+            if is_type_at(octets, 0, IPV4_TYPE) {
+                behind(octets, 20)
+            } else {
+                None
+            }
+        }
+    }
+}

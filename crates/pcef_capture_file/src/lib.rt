@@ -1,0 +1,25 @@
+//! Reads capture files: the packets that were recorded, and the IPv4 packets in them.
+#![tactic(auto)]
+
+mod classic;
+mod content;
+mod direction;
+mod endianness;
+mod fault;
+mod frame;
+mod link;
+mod packet;
+mod padding;
+
+pub use classic::{FileHeader, TimeScale, read_classic, read_file_header, read_record};
+pub use content::{Content, content_of};
+pub use direction::direction_of;
+pub use endianness::Endianness;
+pub use fault::CaptureFault;
+pub use frame::ipv4_of;
+pub use link::Link;
+pub use packet::{Capture, Packet};
+pub use padding::padded;
+
+#[cfg(test)]
+mod tests;

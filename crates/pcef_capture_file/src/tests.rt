@@ -1,0 +1,4 @@
+//! Files made by hand from the published formats.
+mod classic;
+mod frames;
+mod packets;
