@@ -4,6 +4,7 @@ pub mod Contents
 pub mod Directions
 pub mod Faults
 pub mod Frames
+pub mod Laws
 pub mod Links
 pub mod Numbers
 pub mod Padding

@@ -1,17 +1,24 @@
 //! Frames of every link, with and without IPv4 in them.
 use crate::{Endianness, Link, Packet, ipv4_of};
 
-fn inside(link: Link, endianness: Endianness, octets: &[u8]) -> Option<&[u8]> {
+/// How many octets stand behind the link header, and the first, where these are IPv4.
+fn inside(link: Link, endianness: Endianness, octets: &[u8]) -> Option<(usize, Option<u8>)> {
     let packet = Packet {
         link,
         endianness,
         original: 0,
         octets,
     };
-    ipv4_of(&packet)
+    match ipv4_of(&packet) {
+        Some(ipv4) => Some((ipv4.len(), ipv4.first().copied())),
+        None => None,
+    }
 }
 
 const IPV4: [u8; 2] = [0x45, 0x01];
+
+/// What is told of [`IPV4`].
+const TOLD: Option<(usize, Option<u8>)> = Some((2, Some(0x45)));
 
 #[test]
 fn ethernet_with_and_without_tags(rt: HostRuntime) {
@@ -31,22 +38,16 @@ fn ethernet_with_and_without_tags(rt: HostRuntime) {
     ];
     let other = [1, 2, 3, 4, 5, 6, 7, 8, 9, 10, 11, 12, 8, 6, 0x45, 1];
     let order = Endianness::Little;
-    assert_eq!(rt;
-        inside(Link::Ethernet, order, &plain),
-        Some(IPV4.as_slice())
-    );
-    assert_eq!(rt; inside(Link::Ethernet, order, &once), Some(IPV4.as_slice()));
-    assert_eq!(rt;
-        inside(Link::Ethernet, order, &twice),
-        Some(IPV4.as_slice())
-    );
-    assert_eq!(rt; inside(Link::Ethernet, order, &old), Some(IPV4.as_slice()));
+    assert_eq!(rt; inside(Link::Ethernet, order, &plain), TOLD);
+    assert_eq!(rt; inside(Link::Ethernet, order, &once), TOLD);
+    assert_eq!(rt; inside(Link::Ethernet, order, &twice), TOLD);
+    assert_eq!(rt; inside(Link::Ethernet, order, &old), TOLD);
     assert_eq!(rt; inside(Link::Ethernet, order, &thrice), None);
     assert_eq!(rt; inside(Link::Ethernet, order, &other), None);
     assert_eq!(rt; inside(Link::Ethernet, order, &plain[..13]), None);
     assert_eq!(rt;
         inside(Link::Ethernet, order, &plain[..14]),
-        Some([].as_slice())
+        Some((0, None))
     );
     assert_eq!(rt; inside(Link::Ethernet, order, &once[..17]), None);
 }
@@ -55,23 +56,11 @@ fn ethernet_with_and_without_tags(rt: HostRuntime) {
 fn raw_and_loopback(rt: HostRuntime) {
     let big = [0, 0, 0, 2, 0x45, 1];
     let little = [2, 0, 0, 0, 0x45, 1];
-    assert_eq!(rt;
-        inside(Link::Raw, Endianness::Big, &IPV4),
-        Some(IPV4.as_slice())
-    );
-    assert_eq!(rt;
-        inside(Link::Null, Endianness::Big, &big),
-        Some(IPV4.as_slice())
-    );
+    assert_eq!(rt; inside(Link::Raw, Endianness::Big, &IPV4), TOLD);
+    assert_eq!(rt; inside(Link::Null, Endianness::Big, &big), TOLD);
     assert_eq!(rt; inside(Link::Null, Endianness::Big, &little), None);
-    assert_eq!(rt;
-        inside(Link::Null, Endianness::Little, &little),
-        Some(IPV4.as_slice())
-    );
-    assert_eq!(rt;
-        inside(Link::Loop, Endianness::Little, &big),
-        Some(IPV4.as_slice())
-    );
+    assert_eq!(rt; inside(Link::Null, Endianness::Little, &little), TOLD);
+    assert_eq!(rt; inside(Link::Loop, Endianness::Little, &big), TOLD);
     assert_eq!(rt; inside(Link::Loop, Endianness::Little, &little), None);
     assert_eq!(rt; inside(Link::Null, Endianness::Big, &big[..3]), None);
 }
@@ -86,19 +75,10 @@ fn linux_cooked(rt: HostRuntime) {
         8, 0, 0, 0, 0, 0, 0, 3, 0, 1, 0, 6, 1, 2, 3, 4, 5, 6, 0, 0, 0x45, 1,
     ];
     let order = Endianness::Little;
-    assert_eq!(rt;
-        inside(Link::LinuxCooked, order, &first),
-        Some(IPV4.as_slice())
-    );
-    assert_eq!(rt;
-        inside(Link::LinuxCooked, order, &tagged),
-        Some(IPV4.as_slice())
-    );
+    assert_eq!(rt; inside(Link::LinuxCooked, order, &first), TOLD);
+    assert_eq!(rt; inside(Link::LinuxCooked, order, &tagged), TOLD);
     assert_eq!(rt; inside(Link::LinuxCooked, order, &second), None);
-    assert_eq!(rt;
-        inside(Link::LinuxCooked2, order, &second),
-        Some(IPV4.as_slice())
-    );
+    assert_eq!(rt; inside(Link::LinuxCooked2, order, &second), TOLD);
     assert_eq!(rt; inside(Link::LinuxCooked2, order, &second[..19]), None);
     assert_eq!(rt; inside(Link::LinuxCooked2, order, &first), None);
 }
