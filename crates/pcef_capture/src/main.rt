@@ -5,19 +5,21 @@
 //! standard error.
 #![tactic(auto)]
 
+mod counts;
 mod end;
 mod options;
 mod takes;
 mod turn;
 
 use clap::Error;
+use counts::Counts;
 use end::End;
 use options::{Options, asked, command};
 use pcef_capture_file::{CaptureFault, read_classic};
 use std::io::{self, BufWriter, ErrorKind, Write};
 use std::process::ExitCode;
 use std::{env, fs};
-use takes::{Counts, write_takes};
+use takes::write_takes;
 
 /// Where an error of the system ends the program.
 fn end_of(error: &io::Error, other: End) -> End {
@@ -113,8 +115,14 @@ fn main(rt: HostRuntime) -> ExitCode {
                 let end = run(&rt, &options);
                 ExitCode::from(status(&rt, &end))
             }
-            None => ExitCode::from(2),
+            None => {
+                let _ = eprintln!(rt; "usage: --ue wants an IPv4 address");
+                ExitCode::from(2)
+            }
         },
         Err(error) => ExitCode::from(told_by(&rt, &error)),
     }
 }
+
+#[cfg(test)]
+mod tests;

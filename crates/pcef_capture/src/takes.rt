@@ -1,33 +1,12 @@
 //! Lines for packets.
 
+use crate::counts::{Counts, Outcome};
 use crate::options::Options;
 use crate::turn::Turn;
 use pcef_capture_file::{Content, Packet, content_of, direction_of, padded};
 use pcef_packet::{Addr, Dir};
 use std::alloc::Global;
 use std::io::{self, Write};
-
-/// What was counted. Each packet that was read is one of the others.
-#[derive(Clone, Copy, Debug, Default, PartialEq, Eq)]
-pub struct Counts {
-    pub read: usize,
-    /// Packets with a line.
-    pub taken: usize,
-    /// Frames without a packet of version 4, or with one whose header is wrong.
-    pub not_ipv4: usize,
-    /// Packets that were recorded in part and left out.
-    pub cut: usize,
-    /// Packets with the address on neither side.
-    pub neither: usize,
-}
-
-/// Where the lines go.
-#[derive(Drop)]
-struct Lines<'w, W> {
-    writer: &'w mut W,
-    turn: Turn,
-    counts: Counts,
-}
 
 fn word(dir: Dir) -> &'static str {
     match dir {
@@ -43,62 +22,59 @@ fn write_flush<W: Write>(writer: &mut W, worker: u8) -> io::Result<()> {
 /// Writes the line of a packet, and that of a flush where 32 wait.
 fn write_take<W: Write>(
     alloc: Global,
-    lines: &mut Lines<'_, W>,
+    writer: &mut W,
+    turn: &mut Turn,
     dir: Dir,
     octets: &[u8],
-) -> io::Result<()> {
+) -> io::Result<Outcome> {
     let packet = hex::encode(alloc, octets)?;
     let dir = word(dir);
-    let worker = lines.turn.worker;
+    let worker = turn.worker;
     writeln!(
-        lines.writer,
+        writer,
         "{{\"do\":\"take\",\"worker\":{worker},\"dir\":\"{dir}\",\"packet\":\"{packet}\"}}"
     )?;
-    lines.counts.taken = lines.counts.taken.saturating_add(1);
-    match lines.turn.take() {
-        Some(full) => write_flush(lines.writer, full),
-        None => Ok(()),
+    if let Some(full) = turn.take() {
+        write_flush(writer, full)?;
     }
+    Ok(Outcome::Taken)
 }
 
-/// A packet that was recorded in part: its line with zeros for the rest.
+/// Writes the line of a packet that was recorded in part, with zeros for the rest.
 fn write_padded<W: Write>(
     alloc: Global,
-    lines: &mut Lines<'_, W>,
+    writer: &mut W,
+    turn: &mut Turn,
     ue: Addr,
     octets: &[u8],
-) -> io::Result<()> {
+) -> io::Result<Outcome> {
     let whole = padded(alloc, octets)?;
     match direction_of(ue, &whole) {
-        Ok(Some(dir)) => write_take(alloc, lines, dir, &whole),
-        Ok(None) => {
-            lines.counts.neither = lines.counts.neither.saturating_add(1);
-            Ok(())
-        }
-        Err(_) => {
-            lines.counts.cut = lines.counts.cut.saturating_add(1);
-            Ok(())
-        }
+        Ok(Some(dir)) => write_take(alloc, writer, turn, dir, &whole),
+        Ok(None) => Ok(Outcome::Neither),
+        Err(_) => Ok(Outcome::Cut),
     }
 }
 
 fn write_packet<W: Write>(
     alloc: Global,
-    lines: &mut Lines<'_, W>,
+    writer: &mut W,
+    turn: &mut Turn,
     options: &Options<'_>,
     packet: &Packet<'_>,
-) -> io::Result<()> {
-    lines.counts.read = lines.counts.read.saturating_add(1);
+) -> io::Result<Outcome> {
     match content_of(options.ue, packet) {
-        Content::Packet(dir, octets) => return write_take(alloc, lines, dir, octets),
-        Content::Cut(octets) if options.pads => return write_padded(
-            alloc, lines, options.ue, octets,
-        ),
-        Content::Cut(_) => lines.counts.cut = lines.counts.cut.saturating_add(1),
-        Content::Neither => lines.counts.neither = lines.counts.neither.saturating_add(1),
-        Content::NotIpv4 => lines.counts.not_ipv4 = lines.counts.not_ipv4.saturating_add(1),
+        Content::Packet(dir, octets) => write_take(alloc, writer, turn, dir, octets),
+        Content::Cut(octets) => {
+            if options.pads {
+                write_padded(alloc, writer, turn, options.ue, octets)
+            } else {
+                Ok(Outcome::Cut)
+            }
+        }
+        Content::Neither => Ok(Outcome::Neither),
+        Content::NotIpv4 => Ok(Outcome::NotIpv4),
     }
-    Ok(())
 }
 
 /// Writes a `take` line for each packet with the session's address on one side, workers in turn, a
@@ -109,16 +85,13 @@ pub fn write_takes<W: Write>(
     packets: &[Packet<'_>],
     writer: &mut W,
 ) -> io::Result<Counts> {
-    let mut lines = Lines {
-        writer,
-        turn: Turn::first(options.workers),
-        counts: Counts::default(),
-    };
+    let mut turn = Turn::first(options.workers);
+    let mut counts = Counts::default();
     for packet in packets {
-        write_packet(alloc, &mut lines, options, packet)?;
+        counts.count(write_packet(alloc, writer, &mut turn, options, packet)?);
     }
-    if lines.turn.waiting > 0 {
-        write_flush(lines.writer, lines.turn.worker)?;
+    if turn.waiting > 0 {
+        write_flush(writer, turn.worker)?;
     }
-    Ok(lines.counts)
+    Ok(counts)
 }
