@@ -3,7 +3,14 @@
 //! `pcef_publish_bench SUBSCRIBERS TABLES REFRESHES` publishes so many empty tables, one after the other,
 //! and after each lets each of so many subscribers refresh so many times. At the end the newest generation
 //! and the one that the last subscriber holds are written.
+//!
+//! `pcef_publish_bench SUBSCRIBERS TABLES REFRESHES times` tells on standard error, too, what a refresh that
+//! finds a newer table took, what one that finds none, and what the swap of an own `Arc` for the newest
+//! table, all of the same subscribers, tables and run, in turn: of all tables the least, the median and the
+//! ninetieth of a hundred, the time of a look at the clock left out.
 #![tactic(auto)]
+
+mod times;
 
 ghost use Rattle.std.specs.Prelude.{◌≡◌, ◌<◌, [], IfOk};
 ghost use Rattle.std.specs.Arc.{arc_value};
@@ -15,7 +22,9 @@ use std::alloc::{AllocError, Global};
 use std::marker::Brand;
 use std::process::ExitCode;
 use std::sync::{Arc, Wait};
+use std::time::Clock;
 use std::{env, io};
+use times::{Lap, Times, of_each};
 
 /// What is to be done.
 #[derive(Clone, Copy)]
@@ -23,22 +32,26 @@ struct Load {
     subscribers: u32,
     tables: u32,
     refreshes: u32,
+    is_timed: bool,
 }
 
-/// The numbers after the program's name, where three are there.
+/// What the words after the program's name ask for, where three numbers are there, and `times` or nothing.
 fn read_load(rt: &HostRuntime) -> io::Result<Option<Load>> {
     let mut numbers = Vec::new(rt.alloc());
+    let mut is_timed = false;
     for word in env::args(rt)?.skip(1) {
-        let Ok(number) = word.as_str().parse::<u32>() else {
-            return Ok(None);
-        };
-        numbers.push(number)?;
+        match word.as_str().parse::<u32>() {
+            Ok(number) => numbers.push(number)?,
+            Err(_) if word.as_str() == "times" => is_timed = true,
+            Err(_) => return Ok(None),
+        }
     }
     match numbers.as_slice() {
         [subscribers, tables, refreshes] => Ok(Some(Load {
             subscribers: *subscribers,
             tables: *tables,
             refreshes: *refreshes,
+            is_timed,
         })),
         _ => Ok(None),
     }
@@ -60,13 +73,58 @@ fn refresh_each<N: Naming>(subscribers: &mut [Subscriber<N>], times: u32) {
     }
 }
 
+/// Swaps each of these for another owner of the newest table.
+fn swap_each(held: &mut [Arc<Table>], newest: &Arc<Table>) -> Result<(), AllocError> {
+    for own in held {
+        *own = Arc::try_clone(newest)?;
+    }
+    Ok(())
+}
+
+/// So many owners of a table.
+fn owners(alloc: Global, table: &Arc<Table>, count: u32) -> Result<Vec<Arc<Table>>, AllocError> {
+    let mut owners = Vec::new(alloc);
+    for _ in 0..count {
+        owners.push(Arc::try_clone(table)?)?;
+    }
+    Ok(owners)
+}
+
+/// Refreshes all subscribers, and swaps as many owners, each after a look at the clock.
+fn time_each<N: Naming, C: Clock>(
+    clock: &C,
+    subscribers: &mut [Subscriber<N>],
+    held: &mut [Arc<Table>],
+    newest: &Arc<Table>,
+    times: &mut Times,
+) -> io::Result<()> {
+    let mut lap = Lap::begin(clock)?;
+    refresh_each(subscribers, 1);
+    times.newer.push(lap.end(clock)?)?;
+    refresh_each(subscribers, 1);
+    times.same.push(lap.end(clock)?)?;
+    swap_each(held, newest)?;
+    times.own.push(lap.end(clock)?)?;
+    times.clock.push(lap.end(clock)?)?;
+    Ok(())
+}
+
+/// What was reached in the end, and what it took.
+#[derive(Drop)]
+struct Reached {
+    newest: u32,
+    held: u32,
+    times: Times,
+}
+
 /// The newest generation, and the one that the last subscriber holds.
-fn measured<N: Naming, R: Wait + Drop>(
+fn measured<N: Naming, R: Wait + Drop, C: Clock>(
     rt: R,
+    clock: &C,
     alloc: Global,
     opened: Opened,
     load: Load,
-) -> Option<(u32, u32)>
+) -> Option<Reached>
     requires book { (opened.book ≡ N.book) × (opened.root ≡ N.root) }
     requires first { opened.table.number ≡ N.first }
     requires entries { opened.table.entries ≡ [] }
@@ -74,14 +132,32 @@ fn measured<N: Naming, R: Wait + Drop>(
 {
     let begun = Publisher::<N, _>::new(rt, alloc, opened, load.subscribers as usize).ok();
     let (mut publisher, mut subscribers) = begun?;
+    let mut held = owners(alloc, subscribers.last()?.current().1, load.subscribers).ok()?;
+    let mut times = Times::new(alloc);
     for _ in 0..load.tables {
         let generation = publisher.generation().checked_add(1)?;
         let table = empty_table(alloc, generation).ok()?;
+        let newest = Arc::try_clone(&table).ok()?;
         publisher.publish(table).ok()?;
+        if load.is_timed {
+            time_each(clock, &mut subscribers, &mut held, &newest, &mut times).ok()?;
+        }
         refresh_each(&mut subscribers, load.refreshes);
     }
-    let newest = publisher.generation();
-    Some((newest, subscribers.last()?.current().0))
+    times.sort().ok()?;
+    Some(Reached {
+        newest: publisher.generation(),
+        held: subscribers.last()?.current().0,
+        times,
+    })
+}
+
+/// Tells what one refresh or swap of a kind took, in hundredths of a nanosecond.
+fn tell(rt: &HostRuntime, name: &str, load: Load, rounds: &[u32], clock: &[u32]) {
+    let least = of_each(rounds, clock, 0, load.subscribers);
+    let median = of_each(rounds, clock, 50, load.subscribers);
+    let late = of_each(rounds, clock, 90, load.subscribers);
+    let _ = eprintln!(rt; "{name}: least {least}, median {median}, ninetieth {late} (1/100 ns)");
 }
 
 fn main(rt: HostRuntime) -> ExitCode {
@@ -98,10 +174,16 @@ fn main(rt: HostRuntime) -> ExitCode {
         return ExitCode::from(4);
     };
     let opened = Opened::new(first);
-    let Some((newest, held)) = measured::<Brand, _>(&rt, rt.alloc(), opened, load) else {
+    let Some(reached) = measured::<Brand, _, _>(&rt, &rt, rt.alloc(), opened, load) else {
         return ExitCode::from(4);
     };
-    match println!(rt; "newest {newest} held {held}") {
+    if load.is_timed {
+        let times = &reached.times;
+        tell(&rt, "newer", load, &times.newer, &times.clock);
+        tell(&rt, "same", load, &times.same, &times.clock);
+        tell(&rt, "own Arc", load, &times.own, &times.clock);
+    }
+    match println!(rt; "newest {} held {}", reached.newest, reached.held) {
         Ok(()) => ExitCode::from(0),
         Err(_) => ExitCode::from(4),
     }
