@@ -57,6 +57,6 @@ pub step_told : (r : Result (String Global) AllocError) (w : World) (j : Journal
 step_told r w j generation reply due journal_is generation_is replied stands told =
     IfOk-weaker r _ _ (λ text is. (
       is ∙ ap (λ l. step_text l generation reply) journal_is ∙ ap (λ n. step_text w.session.journal n reply) generation_is
-      ∙ ap (step_text w.session.journal (gen w.session.journal)) replied ∙ ap (λ (s : Standing). step_text s.journal (gen s.journal) due.0) stands,
+          ∙ ap (step_text w.session.journal (gen w.session.journal)) replied ∙ ap (λ (s : Standing). step_text s.journal (gen s.journal) due.0) stands,
       stands,
     )) told
