@@ -7,15 +7,15 @@ ghost use Rattle.pcef_share.specs.Names.{name_at};
 use super::*;
 use pcef_catalog::Listing;
 use pcef_filter::read_filter;
-use pcef_model::{Command, Profile};
+use pcef_model::{Body, Command, Profile};
 use pcef_packet::{Addr, Dir, Header, Ports};
-use pcef_publish::Opened;
+use pcef_publish::{Board, Opened, Slot};
 use pcef_rule::{Arp, Gate, KeyName, Properties, Qci, QciTable, Qos, Rule, RuleName, Sums};
 use pcef_session::{Batch, SessionState};
 use pcef_share::{Blanks, Naming};
 use std::alloc::Global;
 use std::marker::Brand;
-use std::sync::Wait;
+use std::sync::{Arc, Wait};
 use std::test::*;
 
 fn qos() -> Result<Qos, Fail> {
@@ -25,7 +25,7 @@ fn qos() -> Result<Qos, Fail> {
     })
 }
 
-// A session of 10.0.0.2 that takes 100 rows and 10 commands, and offers no rules.
+// A session of 10.0.0.2 that takes 1000 rows and 10 commands, and offers no rules.
 fn session(alloc: Global) -> Result<SessionState, Fail>
     ensures { IfOk result (λ s. s.journal ≡ []) }
 {
@@ -34,7 +34,7 @@ fn session(alloc: Global) -> Result<SessionState, Fail>
         default_qos: qos()?,
         capacity: Sums { up: 0, down: 0 },
         qcis: QciTable::new(&[])?,
-        rows: 100,
+        rows: 1000,
         commands: 10,
     };
     let listing = Listing::new(alloc, Vec::new(alloc))?;
@@ -125,4 +125,130 @@ fn judged_and_flushed<N: Naming, R: Wait + Drop>(
     second.push(late.judge(&listing, 0, &packet(54, 40)));
     state.finish(&mut late, &second)?;
     Ok((before, state.totals()))
+}
+
+#[test]
+fn two_workers_hand_over_and_the_desk_is_told(rt: HostRuntime) -> Result<(), Fail> {
+    let session = session(rt.alloc())?;
+    let opened = opened(&session)?;
+    let told = told_to_the_desk::<Brand, _>(&rt, rt.alloc(), session, opened, Blanks::new())?;
+    assert_eq!(rt; told, [200, 100, 65_600, 0, 3]);
+    Ok(())
+}
+
+// How many rows of 28 octets one worker hands over and how many of 600 the other, what a report that is then asked for
+// says of their key, how many reports come after it, and how many commands the desk has.
+fn told_to_the_desk<N: Naming, R: Wait + Drop>(
+    rt: &R,
+    alloc: Global,
+    session: SessionState,
+    opened: Opened,
+    blanks: Blanks,
+) -> Result<[u64; 5], Fail>
+    requires name { N.ledger ≡ name_at blanks }
+    requires setting { session.setting ≡ N.setting }
+    requires fresh { session.journal ≡ [] }
+    requires first { N.first ≡ gen session.journal }
+    requires table { Shows session.setting session.journal (gen session.journal) opened.table }
+    requires book { (opened.book ≡ N.book) × (opened.root ≡ N.root) }
+{
+    let catalog = Arc::new(alloc, session.listing().share()?)?;
+    let commands = commands_so_far(alloc, &session)?;
+    let Ok((state, shares)) = State::<N, _>::open(rt, alloc, session, opened, blanks, 2) else {
+        return Err("the session didn't come behind a lock")?;
+    };
+    let mut desk = Desk::new(commands, shares);
+    let shared = Shared::new(catalog, state);
+    give_commands(rt, alloc, &shared, &mut desk)?;
+    let (one, two) = handed_over_by_two(rt, alloc, &shared)?;
+    let (octets, later) = reported(rt, &shared, &mut desk)?;
+    Ok([one, two, octets, later, desk.commands().len() as u64])
+}
+
+// The desk installs the rule and monitors its key.
+fn give_commands<N: Naming, W: Board<Slot<N>> + Drop, R: Wait>(
+    rt: &R,
+    alloc: Global,
+    shared: &Shared<Listing, N, W>,
+    desk: &mut Desk<N>,
+) -> Result<(), Fail> {
+    desk.command(rt, shared, Command::Install(web(alloc)?))?;
+    let monitor = Command::Monitor {
+        key: KeyName::new("vid")?,
+        grant: 1000,
+    };
+    desk.command(rt, shared, monitor)?;
+    Ok(())
+}
+
+// Two workers come, and hand rows over.
+fn handed_over_by_two<N: Naming, W: Board<Slot<N>> + Drop, R: Wait>(
+    rt: &R,
+    alloc: Global,
+    shared: &Shared<Listing, N, W>,
+) -> Result<(u64, u64), Fail> {
+    let one = shared.attach(rt)?;
+    let two = shared.attach(rt)?;
+    let small = handed_over(rt, alloc, shared, one, &packet(53, 28), 200);
+    let large = handed_over(rt, alloc, shared, two, &packet(53, 600), 100);
+    Ok((small, large))
+}
+
+// The octets of the report that the desk asks for, and how many reports come after it.
+fn reported<N: Naming, W: Board<Slot<N>> + Drop, R: Wait>(
+    rt: &R,
+    shared: &Shared<Listing, N, W>,
+    desk: &mut Desk<N>,
+) -> Result<(u64, u64), Fail> {
+    desk.command(rt, shared, Command::ReportNow(KeyName::new("vid")?))?;
+    let reports = desk.collect(rt, shared)?;
+    let [report] = reports.as_slice() else {
+        return Err("there is one report")?;
+    };
+    let Body::Usage { octets, .. } = &report.body else {
+        return Err("the report is of usage")?;
+    };
+    let later = desk.collect(rt, shared)?;
+    Ok((*octets, later.len() as u64))
+}
+
+// Hands rows over one by one, each in one hold of the lock, and gives how many were taken over.
+fn handed_over<N: Naming, W: Board<Slot<N>> + Drop, R: Wait>(
+    rt: &R,
+    alloc: Global,
+    shared: &Shared<Listing, N, W>,
+    mut seat: Seat<N>,
+    header: &Header,
+    times: u64,
+) -> u64
+    requires { seat.ue ≡ N.setting.ue }
+{
+    let mut taken = 0;
+    for seq in 0..times {
+        if is_handed_over(rt, alloc, shared, &mut seat, header, seq) {
+            taken += 1;
+        }
+    }
+    taken
+}
+
+fn is_handed_over<N: Naming, W: Board<Slot<N>> + Drop, R: Wait>(
+    rt: &R,
+    alloc: Global,
+    shared: &Shared<Listing, N, W>,
+    seat: &mut Seat<N>,
+    header: &Header,
+    seq: u64,
+) -> bool
+    requires { seat.old.ue ≡ N.setting.ue }
+    ensures { seat.new.ue ≡ seat.old.ue }
+{
+    let Ok(catalog) = shared.catalog() else {
+        return false;
+    };
+    let Ok(mut batch) = Batch::new(alloc) else {
+        return false;
+    };
+    batch.push(seat.judge(&*catalog, seq, header));
+    shared.flush(rt, seat, &batch).is_ok()
 }
