@@ -13,7 +13,7 @@ use Rattle.pcef_model.specs.declared.answer.AttachFault.{AttachFault}
 use Rattle.pcef_model.specs.declared.answer.FlushRefusal.{FlushRefusal}
 use Rattle.pcef_model.specs.declared.answer.Judged.{Judged}
 use Rattle.pcef_model.specs.declared.answer.Refusal.{Refusal}
-use Rattle.pcef_model.specs.Answers.{Told}
+use Rattle.pcef_model.specs.Outcomes.{FlushAnswer}
 use Rattle.pcef_session.specs.declared.batch.BatchFull.{BatchFull}
 use Rattle.pcef_world.specs.declared.answer.Abandoned.{Abandoned}
 use Rattle.pcef_world.specs.Steps.{Reply, abandon_reply, attach_reply, command_reply, finish_reply, flush_reply, no_worker, refresh_reply, take_reply}
@@ -97,25 +97,25 @@ judged_data judged = verdict_data judged.generation judged.verdict
 abbrev pub verdicts_data : List Judged → Data
 verdicts_data rows = array (items_of (map judged_data rows))
 
-abbrev pub flushed_data : Journal → Told → Data
+abbrev pub flushed_data : Journal → FlushAnswer → Data
 flushed_data journal told =
     object (member (codes "ok") (boolean true)
     (member (codes "reports") (reports_data (reports_told journal told.first_report told.past_last_report))
     (member (codes "verdicts") (verdicts_data told.rows) no_members)))
 
-unfoldable pub flushed_text : Journal → Result Told FlushRefusal → List ℕ
+unfoldable pub flushed_text : Journal → Result FlushAnswer FlushRefusal → List ℕ
 flushed_text journal (Ok told) = compact_text (flushed_data journal told)
 flushed_text journal (Err refusal) = flush_refusal_text refusal
 
 -- ---- workers that leave
-abbrev pub finished_data : Journal → Told → ℕ → Data
+abbrev pub finished_data : Journal → FlushAnswer → ℕ → Data
 finished_data journal told rows =
     object (member (codes "ok") (boolean true)
     (member (codes "reports") (reports_data (reports_told journal told.first_report told.past_last_report))
     (member (codes "rows") (count rows)
     (member (codes "verdicts") (verdicts_data told.rows) no_members))))
 
-unfoldable pub finished_text : Journal → Result (Told × ℕ) FlushRefusal → List ℕ
+unfoldable pub finished_text : Journal → Result (FlushAnswer × ℕ) FlushRefusal → List ℕ
 finished_text journal (Ok finished) = compact_text (finished_data journal finished.0 finished.1)
 finished_text journal (Err refusal) = flush_refusal_text refusal
 

@@ -4,7 +4,7 @@ ghost use Rattle.std.specs.Prelude.{◌≡◌, IfOk, string_bytes};
 ghost use Rattle.std.specs.Result.{result_map_both};
 ghost use Rattle.serde_json.specs.View.{view};
 ghost use Rattle.serde_json.specs.Written.{compact_text};
-ghost use Rattle.pcef_model.specs.Answers.{told_and_rows, told_of};
+ghost use Rattle.pcef_model.specs.Outcomes.{finish_answer_of, flush_answer_of};
 ghost use Rattle.pcef_world.specs.Steps.{reply_of};
 ghost use Rattle.pcef_answer.specs.StepAnswers.{abandoned_data, accepted_data, command_text, attached_data, attached_text, taken_text, refreshed_data, finished_text, flushed_text, step_text};
 
@@ -129,7 +129,7 @@ fn flushed_answer(
     journal: &Journal,
     answer: &Result<Verdicts, FlushRefusal>,
 ) -> Result<String, AllocError>
-    ensures { IfOk result (λ text. string_bytes text ≡ flushed_text journal.now.entries (result_map_both told_of (λ e. e) answer.now)) }
+    ensures { IfOk result (λ text. string_bytes text ≡ flushed_text journal.now.entries (result_map_both flush_answer_of (λ e. e) answer.now)) }
 {
     match answer {
         Err(refusal) => flush_refusal_answer(alloc, *refusal),
@@ -143,7 +143,7 @@ fn finished_answer(
     journal: &Journal,
     answer: &Result<(Verdicts, u64), FlushRefusal>,
 ) -> Result<String, AllocError>
-    ensures { IfOk result (λ text. string_bytes text ≡ finished_text journal.now.entries (result_map_both told_and_rows (λ e. e) answer.now)) }
+    ensures { IfOk result (λ text. string_bytes text ≡ finished_text journal.now.entries (result_map_both finish_answer_of (λ e. e) answer.now)) }
 {
     match answer {
         Err(refusal) => flush_refusal_answer(alloc, *refusal),

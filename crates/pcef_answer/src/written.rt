@@ -7,7 +7,7 @@ ghost use Rattle.json.specs.Print.{escape, escape_byte, quoted};
 ghost use Rattle.serde_json.specs.Written.{comma_if, compact_text};
 ghost use Rattle.pcef_answer.specs.ReportAnswers.{reports_data, reports_told};
 ghost use Rattle.pcef_rule.specs.Name.{IsVisible};
-ghost use Rattle.pcef_model.specs.Answers.{told_of};
+ghost use Rattle.pcef_model.specs.Outcomes.{flush_answer_of};
 ghost use Rattle.pcef_model.specs.declared.verdict.Verdict.TheVariants.{Gated, Passed};
 ghost use Rattle.pcef_answer.specs.StepAnswers.{finished_data, flushed_data, judged_data, taken_data, verdict_data, verdicts_data};
 
@@ -34,7 +34,7 @@ pub(crate) fn flushed(
     journal: &Journal,
     verdicts: &Verdicts,
 ) -> Result<String, AllocError>
-    ensures { IfOk result (λ text. string_bytes text ≡ compact_text (flushed_data journal.now.entries (told_of verdicts.now))) }
+    ensures { IfOk result (λ text. string_bytes text ≡ compact_text (flushed_data journal.now.entries (flush_answer_of verdicts.now))) }
 {
     let room = verdicts.rows.len().saturating_mul(96).saturating_add(64);
     let mut text = String::with_capacity(alloc, room)?;
@@ -59,7 +59,7 @@ pub(crate) fn finished(
     verdicts: &Verdicts,
     rows: u64,
 ) -> Result<String, AllocError>
-    ensures { IfOk result (λ text. string_bytes text ≡ compact_text (finished_data journal.now.entries (told_of verdicts.now) rows)) }
+    ensures { IfOk result (λ text. string_bytes text ≡ compact_text (finished_data journal.now.entries (flush_answer_of verdicts.now) rows)) }
 {
     let room = verdicts.rows.len().saturating_mul(96).saturating_add(96);
     let mut text = String::with_capacity(alloc, room)?;

@@ -15,7 +15,7 @@ use Rattle.pcef_model.specs.ActiveRules.{Active, is_named, put, without}
 use Rattle.pcef_model.specs.Generations.{Generation, free_id, has_bearer, id_after, kept, next, rules_after, stays}
 use Rattle.pcef_model.proofs.Sameness.{same_qos_is, same_qos_self}
 use Rattle.pcef_bearer.specs.declared.bearers.Bound.{Bound}
-use Rattle.pcef_bearer.specs.Bindings.{IsBinding, bound_at, id_beside, id_or_new, with_rules, finds_no_bearer as bound_finds_none, has_bearer as bound_has, is_named as bound_named, least_free as bound_free, put as bound_put, refusals as bound_refusals, total_down as bound_down, total_up as bound_up, without as bound_without}
+use Rattle.pcef_bearer.specs.Bindings.{IsBinding, bound_at, id_excluding, id_or_new, with_rules, finds_no_bearer as bound_finds_none, has_bearer as bound_has, is_named as bound_named, least_free as bound_free, put as bound_put, refusals as bound_refusals, total_down as bound_down, total_up as bound_up, without as bound_without}
 use Rattle.pcef_model.specs.Bearers.{other_ids, sum_up, sum_down, default_id, least_free as free}
 use Rattle.pcef_model.specs.Refusals.{bindings, finds_no_bearer, first_of, total_down, total_up}
 use Rattle.pcef_bearer.specs.Standing.{binding_of, bound_of}
@@ -137,10 +137,10 @@ finds_bound p g rule others among =
     both a a2 b b2 first second = rw (first, second) refl
 
 -- the refusals beside rules that were active
-refusals_beside : (p : Setting) (g : Generation) (rule : Properties) (others : List Active) →
+refusals_excluding : (p : Setting) (g : Generation) (rule : Properties) (others : List Active) →
     ((r : Active) → Contains others r → Contains g.rules r) →
     first_of (bound_refusals (binding_of p g) (bound_of g others) rule.qos rule.rates) ≡ first_of (bindings p g rule others)
-refusals_beside p g rule others among =
+refusals_excluding p g rule others among =
     rw (finds_bound p g rule others among, total_up_bound g others, total_down_bound g others) refl
 
 -- a rule is refused by what is bound as it is by the rules
@@ -149,7 +149,7 @@ pub refusals_bound : (p : Setting) (g : Generation) (rule : Properties) →
     ≡ first_of (bindings p g rule (without rule.name g.rules))
 refusals_bound p g rule =
     ap (λ (others : List Bound). first_of (bound_refusals (binding_of p g) others rule.qos rule.rates)) (without_bound rule.name g g.rules)
-    ∙ refusals_beside p g rule (without rule.name g.rules)
+    ∙ refusals_excluding p g rule (without rule.name g.rules)
     (λ r there. (filter_from (λ (s : Active). not (is_named rule.name s)) g.rules r there).0)
 
 -- ---- the ids after a command
@@ -238,11 +238,11 @@ module _ (p : Setting) (g : Generation) (bound : IsBound p g) (new : Active) (id
   gets_other isnt None there found = gets_new isnt there found
 
   -- the id that a binding gives is the one of the next generation
-  pub given_id : id_beside p.default_qos (bound_of g g.rules) (bound_without new.properties.name (bound_of g g.rules)) new.properties.qos ≡ Some id →
+  pub given_id : id_excluding p.default_qos (bound_of g g.rules) (bound_without new.properties.name (bound_of g g.rules)) new.properties.qos ≡ Some id →
       id_after p g (put new g.rules) new.properties.qos ≡ id
   given_id found =
-      let beside : id_beside p.default_qos (bound_of g g.rules) (bound_of g (without new.properties.name g.rules)) new.properties.qos ≡ Some id =
-      subst (λ (others : List Bound). id_beside p.default_qos (bound_of g g.rules) others new.properties.qos ≡ Some id)
+      let beside : id_excluding p.default_qos (bound_of g g.rules) (bound_of g (without new.properties.name g.rules)) new.properties.qos ≡ Some id =
+      subst (λ (others : List Bound). id_excluding p.default_qos (bound_of g g.rules) others new.properties.qos ≡ Some id)
       (without_bound new.properties.name g g.rules) found in
       elim (cases_Bool (same_qos new.properties.qos p.default_qos)) [
         | inl is ↦
@@ -256,7 +256,7 @@ module _ (p : Setting) (g : Generation) (bound : IsBound p g) (new : Active) (id
 -- ---- what is bound after a command
 -- a rule that is put
 pub put_bound : (p : Setting) (g after : Generation) (new : Active) (id : ℕ) → IsBound p g →
-    id_beside p.default_qos (bound_of g g.rules) (bound_without new.properties.name (bound_of g g.rules)) new.properties.qos ≡ Some id →
+    id_excluding p.default_qos (bound_of g g.rules) (bound_without new.properties.name (bound_of g g.rules)) new.properties.qos ≡ Some id →
     after.rules ≡ put new g.rules → ((q : Qos) → after.id_of q ≡ id_after p g (put new g.rules) q) →
     (bound_of after after.rules ≡ bound_put (bound_at new.properties.name new.properties.qos new.properties.rates id) (bound_of g g.rules))
     × (after.id_of new.properties.qos ≡ id)
@@ -293,7 +293,7 @@ same_bound p g after bound are keep =
 -- ---- the binding of the next generation
 -- a rule becomes active
 pub next_put : (p : Setting) (g : Generation) (c : Command) (r : Active) (id : ℕ) → MakesActive p c r → IsBound p g →
-    id_beside (binding_of p g).default_qos (binding_of p g).bound (bound_without r.properties.name (binding_of p g).bound) r.properties.qos ≡ Some id →
+    id_excluding (binding_of p g).default_qos (binding_of p g).bound (bound_without r.properties.name (binding_of p g).bound) r.properties.qos ≡ Some id →
     binding_of p (next p g c) ≡ with_rules (binding_of p g) (bound_put (bound_at r.properties.name r.properties.qos r.properties.rates id) (binding_of p g).bound)
 next_put p g c r id makes bound found =
     ap (with_rules (binding_of p g))
@@ -301,7 +301,7 @@ next_put p g c r id makes bound found =
 
 -- the id that it gets
 pub next_id : (p : Setting) (g : Generation) (c : Command) (r : Active) (id : ℕ) → MakesActive p c r → IsBound p g →
-    id_beside (binding_of p g).default_qos (binding_of p g).bound (bound_without r.properties.name (binding_of p g).bound) r.properties.qos ≡ Some id →
+    id_excluding (binding_of p g).default_qos (binding_of p g).bound (bound_without r.properties.name (binding_of p g).bound) r.properties.qos ≡ Some id →
     (next p g c).id_of r.properties.qos ≡ id
 next_id p g c r id makes bound found =
     (put_bound p g (next p g c) r id bound found (makes.rules_are g) (λ q. ap (λ (rules : List Active). id_after p g rules q) (makes.rules_are g))).1

@@ -12,7 +12,7 @@ use Rattle.pcef_model.specs.Setting.{same_qos}
 use Rattle.pcef_lists.proofs.Tests.{contrary}
 use Rattle.pcef_model.proofs.Sameness.{same_qos_is, same_qos_of, same_qos_self, same_qos_sym}
 use Rattle.pcef_bearer.specs.declared.bearers.Bound.{Bound}
-use Rattle.pcef_bearer.specs.Bindings.{Agree, HasItsId, finds_no_bearer, has_bearer, id_beside, id_or_new, is_named, least_free, without}
+use Rattle.pcef_bearer.specs.Bindings.{Agree, HasItsId, finds_no_bearer, has_bearer, id_excluding, id_or_new, is_named, least_free, without}
 use Rattle.pcef_model.specs.Bearers.{default_id, other_ids}
 use Rattle.pcef_model.proofs.Names.{any_at}
 use Rattle.pcef_lists.proofs.Found.{found_is, found_passes}
@@ -132,7 +132,7 @@ module _ (default : Qos) (name : List ℕ) (bound : List Bound) (q : Qos) (id : 
       subst (λ (n : ℕ). IsIdOf default (without name bound) q n) same (by_old isnt c there)
   by_other isnt None there found = by_new isnt there found
 
-  pub given_id : id_beside default bound (without name bound) q ≡ Some id → IsIdOf default (without name bound) q id
+  pub given_id : id_excluding default bound (without name bound) q ≡ Some id → IsIdOf default (without name bound) q id
   given_id found =
       elim (cases_Bool (same_qos q default)) [
         | inl is ↦ by_default is (rw is at found)
@@ -141,7 +141,7 @@ module _ (default : Qos) (name : List ℕ) (bound : List Bound) (q : Qos) (id : 
 
 -- a pair that finds a bearer gets an id
 pub gets_id : (default : Qos) (name : List ℕ) (bound : List Bound) (q : Qos) → finds_no_bearer default (without name bound) q ≡ false →
-    id_beside default bound (without name bound) q ≡ None → ⊥
+    id_excluding default bound (without name bound) q ≡ None → ⊥
 gets_id default name bound q accepted none =
     elim (cases_Bool (same_qos q default)) [
       | inl is ↦

@@ -1,6 +1,6 @@
 pub mod BoundBearers
 pub mod GivenIds
-pub mod Kept
+pub mod BindingKept
 pub mod Names
 pub mod Places
 pub mod Sums

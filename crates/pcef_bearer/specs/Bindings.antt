@@ -51,8 +51,8 @@ id_or_new None others = least_free others
 
 -- the id of a pair's bearer, or of the one that is established for it: the old bearer where the pair had
 -- one before, else the least id that is free beside the rules that stay
-abbrev pub id_beside : Qos → List Bound → List Bound → Qos → Option ℕ
-id_beside default before others q =
+abbrev pub id_excluding : Qos → List Bound → List Bound → Qos → Option ℕ
+id_excluding default before others q =
     if same_qos q default then Some default_id
     else id_or_new (find (λ b. same_qos q b.qos) before) others
 
@@ -119,7 +119,7 @@ IsAccepted v name q rates = first_of (refusals v (without name v.bound) q rates)
 
 -- this is the id that a rule of this name gets by this pair
 abbrev pub GetsId : Binding → List ℕ → Qos → ℕ → Type 0
-GetsId v name q id = id_beside v.default_qos v.bound (without name v.bound) q ≡ Some id
+GetsId v name q id = id_excluding v.default_qos v.bound (without name v.bound) q ≡ Some id
 
 -- why a binding was refused, where it was
 abbrev pub refusal_in : Result BearerId Refusal → Option Refusal

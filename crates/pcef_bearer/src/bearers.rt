@@ -5,14 +5,14 @@ ghost use Rattle.std.specs.List.{list_any};
 ghost use Rattle.pcef_rule.specs.declared.qci.Kind.TheVariants as kind;
 ghost use Rattle.pcef_rule.specs.QciKinds.{kind_of};
 ghost use Rattle.pcef_model.specs.declared.answer.OpenFault.TheVariants as fault;
-ghost use Rattle.pcef_bearer.specs.Bindings.{bearer_of, bound_at, bound_with, guaranteed, id_beside, is_named, number_of, put, refusal_in, refusals, released, rules_on, with_rules, without, GetsId, HasRoom, IsAccepted, IsBinding};
+ghost use Rattle.pcef_bearer.specs.Bindings.{bearer_of, bound_at, bound_with, guaranteed, id_excluding, is_named, number_of, put, refusal_in, refusals, released, rules_on, with_rules, without, GetsId, HasRoom, IsAccepted, IsBinding};
 ghost use Rattle.pcef_model.specs.Commands.{takes_away};
 ghost use Rattle.pcef_model.specs.Refusals.{first_of};
 ghost use Rattle.pcef_model.specs.Bearers.{is_gbr, is_non_gbr};
 
-use crate::ids::{count_on, finds_no_bearer, id_beside, is_present};
+use crate::ids::{count_on, finds_no_bearer, id_excluding, is_present};
 use crate::lookup::{drop_named, drop_taken, has_name, named, put};
-use crate::rates::{is_over, sums_beside, sums_of, sums_on};
+use crate::rates::{is_over, sums_excluding, sums_of, sums_on};
 use crate::vacant::{BoundRules, Vacant};
 use arrayvec::ArrayVec;
 use pcef_model::{Command, OpenFault, Refusal};
@@ -138,18 +138,18 @@ impl Bearers {
     pub fn refusal(&self, name: &RuleName, qos: Qos, rates: Option<Rates>) -> Option<Refusal>
         ensures { result ≡ first_of (refusals self.now (without name.now self.now.bound) qos rates) }
     {
-        self.refusal_beside(name, &qos, rates)
+        self.refusal_excluding(name, &qos, rates)
     }
 
     /// The bearer that a rule of this name gets by this pair: the one of the pair, or else the least id
     /// that no other rule is on.
     pub fn bearer_for(&self, name: &RuleName, qos: Qos) -> Option<BearerId>
-        ensures { number_of result ≡ id_beside self.now.default_qos self.now.bound (without name.now self.now.bound) qos }
+        ensures { number_of result ≡ id_excluding self.now.default_qos self.now.bound (without name.now self.now.bound) qos }
     {
-        self.bearer_beside(name, &qos)
+        self.bearer_excluding(name, &qos)
     }
 
-    fn refusal_beside(&self, name: &RuleName, qos: &Qos, rates: Option<Rates>) -> Option<Refusal>
+    fn refusal_excluding(&self, name: &RuleName, qos: &Qos, rates: Option<Rates>) -> Option<Refusal>
         ensures { result ≡ first_of (refusals self.now (without name.now self.now.bound) qos.now rates) }
     {
         let kind = self.qcis.kind_of(qos.qci);
@@ -165,7 +165,7 @@ impl Bearers {
         if finds_no_bearer(&self.default_qos, name, &self.bound, qos) {
             return Some(Refusal::TooManyBearers);
         }
-        let others = sums_beside(name, &self.bound);
+        let others = sums_excluding(name, &self.bound);
         let more = sums_of(rates);
         if is_over(self.capacity.up, others.up, more.up) {
             return Some(Refusal::OverCapacityUp);
@@ -176,23 +176,23 @@ impl Bearers {
         None
     }
 
-    fn bearer_beside(&self, name: &RuleName, qos: &Qos) -> Option<BearerId>
-        ensures { number_of result ≡ id_beside self.now.default_qos self.now.bound (without name.now self.now.bound) qos.now }
+    fn bearer_excluding(&self, name: &RuleName, qos: &Qos) -> Option<BearerId>
+        ensures { number_of result ≡ id_excluding self.now.default_qos self.now.bound (without name.now self.now.bound) qos.now }
     {
-        id_beside(&self.default_qos, name, &self.bound, qos)
+        id_excluding(&self.default_qos, name, &self.bound, qos)
     }
 
     fn set(&mut self, name: RuleName, qos: &Qos, rates: Option<Rates>) -> Result<BearerId, Refusal>
         requires { HasRoom name 64 self.old.bound }
         ensures refused { refusal_in result ≡ first_of (refusals self.old (without name self.old.bound) qos.now rates) }
         ensures unchanged { OnErr result (self.new ≡ self.old) }
-        ensures bearer { IfOk result (λ id. id_beside self.old.default_qos self.old.bound (without name self.old.bound) qos.now ≡ Some id.0) }
+        ensures bearer { IfOk result (λ id. id_excluding self.old.default_qos self.old.bound (without name self.old.bound) qos.now ≡ Some id.0) }
         ensures bound { IfOk result (λ id. self.new ≡ with_rules self.old (put (bound_at name qos.now rates id.0) self.old.bound)) }
     {
-        if let Some(refusal) = self.refusal_beside(&name, qos, rates) {
+        if let Some(refusal) = self.refusal_excluding(&name, qos, rates) {
             return Err(refusal);
         }
-        let Some(bearer) = self.bearer_beside(&name, qos) else {
+        let Some(bearer) = self.bearer_excluding(&name, qos) else {
             unreachable!()
         };
         self.bind_to(name, *qos, rates, bearer);
@@ -211,7 +211,7 @@ impl Bearers {
         requires room { length self.old.bound < 64 }
         ensures refused { refusal_in result ≡ first_of (refusals self.old (without name self.old.bound) qos rates) }
         ensures unchanged { OnErr result (self.new ≡ self.old) }
-        ensures bearer { IfOk result (λ id. id_beside self.old.default_qos self.old.bound (without name self.old.bound) qos ≡ Some id.0) }
+        ensures bearer { IfOk result (λ id. id_excluding self.old.default_qos self.old.bound (without name self.old.bound) qos ≡ Some id.0) }
         ensures bound { IfOk result (λ id. self.new ≡ with_rules self.old (put (bound_at name qos rates id.0) self.old.bound)) }
         ensures last { IfOk result (λ id. self.new.bound ≡ self.old.bound ++ bound_at name qos rates id.0 ∷ []) }
     {
@@ -230,7 +230,7 @@ impl Bearers {
         requires { list_any (is_named name) self.old.bound ≡ true }
         ensures refused { refusal_in result ≡ first_of (refusals self.old (without name self.old.bound) qos rates) }
         ensures unchanged { OnErr result (self.new ≡ self.old) }
-        ensures bearer { IfOk result (λ id. id_beside self.old.default_qos self.old.bound (without name self.old.bound) qos ≡ Some id.0) }
+        ensures bearer { IfOk result (λ id. id_excluding self.old.default_qos self.old.bound (without name self.old.bound) qos ≡ Some id.0) }
         ensures bound { IfOk result (λ id. self.new ≡ with_rules self.old (put (bound_at name qos rates id.0) self.old.bound)) }
     {
         self.set(name, &qos, rates)

@@ -2,17 +2,17 @@
 
 ghost use Rattle.std.specs.Prelude.{◌≡◌, ◌==◌, ◌≤◌, find, length, not};
 ghost use Rattle.std.specs.List.{list_any};
-ghost use Rattle.pcef_bearer.specs.Bindings.{finds_no_bearer, id_beside, is_present, least_free, number_of, rules_on, without};
+ghost use Rattle.pcef_bearer.specs.Bindings.{finds_no_bearer, id_excluding, is_present, least_free, number_of, rules_on, without};
 
 use crate::bearers::Bound;
-use crate::lookup::{has_pair_beside, is_named, of_pair, same_qos};
+use crate::lookup::{has_pair_excluding, is_named, of_pair, same_qos};
 use pcef_rule::{BearerId, Qos, RuleName};
 
 /// The id of the default bearer.
 pub const DEFAULT_BEARER: BearerId = BearerId(5);
 
 /// Whether a rule other than the one of this name is on the bearer of this id.
-fn is_used_beside(name: &RuleName, bound: &[Bound], id: u8) -> bool
+fn is_used_excluding(name: &RuleName, bound: &[Bound], id: u8) -> bool
     ensures { result ≡ list_any (λ b. id == b.bearer.0) (without name.now bound.now) }
 {
     for b in bound {
@@ -28,7 +28,7 @@ fn first_free(ids: &[u8], name: &RuleName, bound: &[Bound]) -> Option<BearerId>
     ensures { number_of result ≡ find (λ id. not (list_any (λ b. id == b.bearer.0) (without name.now bound.now))) ids.now }
 {
     for id in ids {
-        if !is_used_beside(name, bound, *id) {
+        if !is_used_excluding(name, bound, *id) {
             return Some(BearerId(*id));
         }
     }
@@ -43,13 +43,13 @@ pub(crate) fn least_free(name: &RuleName, bound: &[Bound]) -> Option<BearerId>
 }
 
 /// The id that a binding of this name to this pair gives.
-pub(crate) fn id_beside(
+pub(crate) fn id_excluding(
     default: &Qos,
     name: &RuleName,
     bound: &[Bound],
     qos: &Qos,
 ) -> Option<BearerId>
-    ensures { number_of result ≡ id_beside default.now bound.now (without name.now bound.now) qos.now }
+    ensures { number_of result ≡ id_excluding default.now bound.now (without name.now bound.now) qos.now }
 {
     if same_qos(qos, default) {
         return Some(DEFAULT_BEARER);
@@ -64,7 +64,7 @@ pub(crate) fn id_beside(
 pub(crate) fn finds_no_bearer(default: &Qos, name: &RuleName, bound: &[Bound], qos: &Qos) -> bool
     ensures { result ≡ finds_no_bearer default.now (without name.now bound.now) qos.now }
 {
-    if same_qos(qos, default) || has_pair_beside(name, bound, qos) {
+    if same_qos(qos, default) || has_pair_excluding(name, bound, qos) {
         return false;
     }
     match least_free(name, bound) {

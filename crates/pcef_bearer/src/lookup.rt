@@ -74,7 +74,7 @@ pub(crate) fn of_pair<'a>(bound: &'a [Bound], qos: &Qos) -> Option<&'a Bound>
 }
 
 /// Whether a rule other than the one of this name has this pair.
-pub(crate) fn has_pair_beside(name: &RuleName, bound: &[Bound], qos: &Qos) -> bool
+pub(crate) fn has_pair_excluding(name: &RuleName, bound: &[Bound], qos: &Qos) -> bool
     ensures { result ≡ list_any (λ b. same_qos qos.now b.qos) (without name.now bound.now) }
 {
     for b in bound {

@@ -35,7 +35,7 @@ fn sums_if(counts: bool, bound: &Bound) -> Sums
 }
 
 /// The sums over the rules other than the one of this name.
-pub(crate) fn sums_beside(name: &RuleName, bound: &[Bound]) -> Sums
+pub(crate) fn sums_excluding(name: &RuleName, bound: &[Bound]) -> Sums
     requires up { total_up bound.now < 2 ^ 64 }
     requires down { total_down bound.now < 2 ^ 64 }
     ensures up { result.up ≡ total_up (without name.now bound.now) }

@@ -16,7 +16,7 @@ use pcef_rule::RuleName;
 use std::alloc::{AllocError, Global};
 use thiserror::Error;
 
-/// What needs the closures of a catalog takes one through this trait.
+/// What lists predefined rules. It says nothing of packets: [`Detects`] does.
 pub trait Offers {
     /// The predefined rules, in order.
     ghost offers: { Self → List Offer };
@@ -24,11 +24,14 @@ pub trait Offers {
     /// The rules, without their closures.
     fn listing(&self) -> &Listing
         ensures { result.now ≡ offers self.now };
+}
 
+/// What judges packets by predefined rules takes a catalog through this trait: the rules' closures answer.
+pub trait Detects: Offers {
     /// Whether the closure of the rule at this place of the listing answers yes to a header. Places count
     /// from 0; where no rule stands at one, the answer is no.
     fn detects(&self, index: u8, header: &Header) -> bool
-        ensures { result ≡ detected (offers self.now) index header.now };
+        ensures { result ≡ detected (Self.offers self.now) index header.now };
 }
 
 /// Why rules make no catalog. Of several faults the first in this order is answered.
@@ -91,7 +94,9 @@ impl Offers for Catalog {
     fn listing(&self) -> &Listing {
         &self.listing
     }
+}
 
+impl Detects for Catalog {
     fn detects(&self, index: u8, header: &Header) -> bool {
         detects_at(&self.rules, index, header)
     }

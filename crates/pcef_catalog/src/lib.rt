@@ -7,7 +7,7 @@ mod places;
 mod predefined;
 mod shape;
 
-pub use catalog::{Catalog, CatalogFault, Offers};
+pub use catalog::{Catalog, CatalogFault, Detects, Offers};
 pub use listing::{Listing, MAX_OFFERS, Offer};
 pub use predefined::{Detect, Predefined};
 pub use shape::{Alternative, Shape, Test};

@@ -6,7 +6,6 @@ ghost use Rattle.pcef_catalog.specs.Offers.{is_offer_of, most_offers};
 
 use crate::catalog::Offers;
 use crate::shape::Shape;
-use pcef_packet::Header;
 use pcef_rule::{Properties, RuleName};
 use std::alloc::{AllocError, Global};
 use std::marker::Model;
@@ -102,18 +101,11 @@ fn place_of(offers: &[Offer], name: &RuleName) -> Option<usize>
     None
 }
 
-/// A listing stands for a catalog whose rules answer by their shapes.
+/// A listing lists what its catalog offers. It holds no closure, so it judges no packet.
 impl Offers for Listing {
     ghost offers = { λ offers. offers };
 
     fn listing(&self) -> &Listing {
         self
-    }
-
-    fn detects(&self, index: u8, header: &Header) -> bool {
-        match self.offers().get(usize::from(index)) {
-            Some(offer) => offer.shape.holds(header),
-            None => false,
-        }
     }
 }

@@ -178,7 +178,7 @@ fn the_closure_is_called(rt: HostRuntime) -> Result<(), Fail> {
 }
 
 #[test]
-fn a_listing_answers_by_the_shape(rt: HostRuntime) -> Result<(), Fail> {
+fn a_listing_has_the_shape_and_no_closure(rt: HostRuntime) -> Result<(), Fail> {
     let detect: Detect = Box::new(
         rt.alloc(),
         |h: &Header| -> bool
@@ -198,10 +198,14 @@ fn a_listing_answers_by_the_shape(rt: HostRuntime) -> Result<(), Fail> {
         dscp: 0,
         ..DNS_ANSWER
     };
-    for (header, wanted) in [(&DNS_ANSWER, true), (&plain, false)] {
-        assert_eq!(rt; listing.detects(0, header), wanted);
-        assert_eq!(rt; listing.listing().share()?.detects(0, header), wanted);
-        assert!(rt; !listing.detects(1, header));
+    assert!(rt; rule.detects(&DNS_ANSWER));
+    assert!(rt; !rule.detects(&plain));
+    let shared = listing.share()?;
+    for offers in [listing.offers(), shared.listing().offers()] {
+        assert_eq!(rt; offers.len(), 1);
+        assert_eq!(rt; offers[0].properties.name.as_str(), "voice");
+        assert!(rt; offers[0].shape.holds(&DNS_ANSWER));
+        assert!(rt; !offers[0].shape.holds(&plain));
     }
     Ok(())
 }

@@ -31,7 +31,7 @@ pub struct Session {
 impl Session {
     ghost use Rattle.pcef_bearer.specs.Standing.{binding_of};
     ghost use Rattle.pcef_lane.specs.Lanes.{lane_end};
-    ghost use Rattle.pcef_model.specs.Answers.{Attaches, Does, Finishes, Flushes, Gives, IsRefused, Opens, abandon_outcome, command_outcome, told_and_rows, told_of};
+    ghost use Rattle.pcef_model.specs.Outcomes.{AttachStep, CommandStep, FinishStep, FlushStep, Gives, IsRefused, Opens, abandon_outcome, command_outcome, finish_answer_of, flush_answer_of};
     ghost use Rattle.pcef_model.specs.Entries.{lane};
     ghost use Rattle.pcef_model.specs.Journals.{attach_count, gen, now};
     ghost use Rattle.pcef_model.specs.Lawful.{BatchFollows, Lawful};
@@ -90,7 +90,7 @@ impl Session {
 
     /// As [`SessionState::command`].
     pub fn command(&mut self, command: Command) -> Result<Accepted, Refusal>
-        ensures answer { Does (state_of self.old).setting command (state_of self.old).journal result (state_of self.new).journal }
+        ensures answer { CommandStep (state_of self.old).setting command (state_of self.old).journal result (state_of self.new).journal }
         ensures setting { (state_of self.new).setting ≡ (state_of self.old).setting }
     {
         self.state.command(command)
@@ -98,7 +98,7 @@ impl Session {
 
     /// As [`SessionState::attach`].
     pub fn attach(&mut self) -> Result<u8, AttachFault>
-        ensures answer { Attaches (state_of self.old).journal result (state_of self.new).journal }
+        ensures answer { AttachStep (state_of self.old).journal result (state_of self.new).journal }
         ensures lane { IfOk result (λ worker. lane (state_of self.old).journal worker ≡ []) }
         ensures setting { (state_of self.new).setting ≡ (state_of self.old).setting }
     {
@@ -109,7 +109,7 @@ impl Session {
     pub fn flush(&mut self, worker: u8, batch: &Batch) -> Result<Verdicts, FlushRefusal>
         requires follow { BatchFollows (state_of self.old).setting (state_of self.old).journal worker (map row_of batch.now) }
         requires slots { HasItsSlots (state_of self.old).setting (state_of self.old).journal batch.now }
-        ensures answer { Flushes (state_of self.old).setting worker (map row_of batch.now) (state_of self.old).journal (result_map_both told_of (λ e. e) result) (state_of self.new).journal }
+        ensures answer { FlushStep (state_of self.old).setting worker (map row_of batch.now) (state_of self.old).journal (result_map_both flush_answer_of (λ e. e) result) (state_of self.new).journal }
         ensures setting { (state_of self.new).setting ≡ (state_of self.old).setting }
     {
         self.state.flush(worker, batch)
@@ -135,7 +135,7 @@ impl Session {
     pub fn finish(&mut self, worker: u8, batch: &Batch) -> Result<(Verdicts, u64), FlushRefusal>
         requires follow { BatchFollows (state_of self.old).setting (state_of self.old).journal worker (map row_of batch.now) }
         requires slots { HasItsSlots (state_of self.old).setting (state_of self.old).journal batch.now }
-        ensures answer { Finishes (state_of self.old).setting worker (map row_of batch.now) (state_of self.old).journal (result_map_both told_and_rows (λ e. e) result) (state_of self.new).journal }
+        ensures answer { FinishStep (state_of self.old).setting worker (map row_of batch.now) (state_of self.old).journal (result_map_both finish_answer_of (λ e. e) result) (state_of self.new).journal }
         ensures setting { (state_of self.new).setting ≡ (state_of self.old).setting }
     {
         self.state.finish(worker, batch)

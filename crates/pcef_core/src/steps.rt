@@ -5,7 +5,7 @@ ghost use Rattle.std.specs.Arc.{arc_value};
 ghost use Rattle.std.specs.Result.{result_err};
 ghost use Rattle.pcef_catalog.specs.Catalogs.{offers_of};
 ghost use Rattle.pcef_core.specs.Cores.{world_of};
-ghost use Rattle.pcef_model.specs.Answers.{Opens};
+ghost use Rattle.pcef_model.specs.Outcomes.{Opens};
 ghost use Rattle.pcef_model.specs.Terms.{setting_of};
 ghost use Rattle.pcef_world.specs.Steps.{Played, at_start, standing_of};
 

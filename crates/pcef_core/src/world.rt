@@ -22,7 +22,7 @@ pub struct World {
 
 impl World {
     ghost use Rattle.pcef_core.specs.Cores.{world_of};
-    ghost use Rattle.pcef_model.specs.Answers.{Opens};
+    ghost use Rattle.pcef_model.specs.Outcomes.{Opens};
     ghost use Rattle.pcef_model.specs.Terms.{setting_of};
     ghost use Rattle.pcef_world.specs.Steps.{Lacks, Played, Plays, at_start, standing_of};
 

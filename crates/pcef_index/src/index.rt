@@ -11,7 +11,7 @@ use crate::candidates::is_candidate;
 use crate::lines::{Line, lines_of};
 use crate::sieve::{first_place, words_of};
 use arrayvec::ArrayVec;
-use pcef_catalog::Offers;
+use pcef_catalog::{Detects, Offers};
 use pcef_model::Verdict;
 use pcef_packet::{Addr, Header};
 use pcef_table::{Entry, Source, Table, gate_verdict, is_own};
@@ -87,7 +87,7 @@ impl Index {
     }
 
     /// The first entry of the table that fits.
-    fn first_fitting<'a, C: Offers>(
+    fn first_fitting<'a, C: Detects>(
         &self,
         table: &'a Table,
         catalog: &C,
@@ -107,7 +107,7 @@ impl Index {
 
     /// What the generation decides of a packet, for a session with this address (TS 23.203,
     /// clause 6.2.2). The table has the rules that the index was built of. Takes no memory.
-    pub fn classify<C: Offers>(
+    pub fn classify<C: Detects>(
         &self,
         table: &Table,
         catalog: &C,

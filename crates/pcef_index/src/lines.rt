@@ -3,7 +3,7 @@
 ghost use Rattle.std.specs.Prelude.{◌≡◌, ◌<◌, ◌≤◌, ◌++◌, length, IfOk, OnOk};
 ghost use Rattle.pcef_index.specs.private.Lines.{filter_lines, line_fits, lines_from, source_lines};
 
-use pcef_catalog::Offers;
+use pcef_catalog::Detects;
 use pcef_filter::Filter;
 use pcef_packet::{Addr, Header};
 use pcef_table::Source;
@@ -29,7 +29,7 @@ pub(crate) struct Line {
 
 impl Line {
     /// Whether the part fits a packet.
-    pub(crate) fn fits<C: Offers>(&self, catalog: &C, ue: Addr, header: &Header) -> bool
+    pub(crate) fn fits<C: Detects>(&self, catalog: &C, ue: Addr, header: &Header) -> bool
         ensures { result ≡ line_fits (C.offers catalog.now) ue header.now self.now }
     {
         match &self.part {

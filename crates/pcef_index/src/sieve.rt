@@ -10,7 +10,7 @@ ghost use Rattle.pcef_index.specs.private.Marks.{AreSieved, Has, IsFirstIn, IsSi
 use crate::header_cells::header_cells;
 use crate::lines::Line;
 use crate::marking::{Spot, mark_line};
-use pcef_catalog::Offers;
+use pcef_catalog::Detects;
 use pcef_packet::{Addr, Header};
 use std::alloc::{AllocError, Global};
 
@@ -56,7 +56,7 @@ fn word_of(words: &[u64], at: usize, cells: &[u16; 10]) -> u64
 }
 
 /// The place of the rule of the first line that fits, of 64 of which a word tells which may fit.
-fn first_in<C: Offers>(
+fn first_in<C: Detects>(
     lines: &[Line],
     from: usize,
     word: u64,
@@ -82,7 +82,7 @@ fn first_in<C: Offers>(
 }
 
 /// The place of the rule of the first line that fits.
-pub(crate) fn first_place<C: Offers>(
+pub(crate) fn first_place<C: Detects>(
     lines: &[Line],
     words: &[u64],
     catalog: &C,

@@ -9,7 +9,7 @@ ghost use Rattle.pcef_table.specs.Tables.{IsTable};
 
 use super::*;
 use arrayvec::ArrayVec;
-use pcef_catalog::{Alternative, Catalog, Detect, Offers, Predefined, Shape, Test};
+use pcef_catalog::{Alternative, Catalog, Detect, Detects, Offers, Predefined, Shape, Test};
 use pcef_filter::{Direction, Endpoint, Filter, Flow, Net, Place, PortRange, read_filter};
 use pcef_model::Verdict;
 use pcef_packet::{Addr, Dir, Header, Ports};
@@ -121,7 +121,7 @@ fn empty_table<C: Offers>(alloc: Global, _catalog: &C) -> Result<Table, Fail>
 }
 
 /// The rule that a packet passes by, after an index was built of the table.
-fn judged<C: Offers>(
+fn judged<C: Detects>(
     rt: &impl Abort,
     alloc: Global,
     catalog: &C,

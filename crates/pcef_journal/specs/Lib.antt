@@ -1,3 +1,3 @@
-pub mod Kept
+pub mod JournalView
 pub mod KeptJournal
 pub mod Walks

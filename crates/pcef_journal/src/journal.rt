@@ -22,8 +22,8 @@ impl Model for Journal {
 
     ghost Value = { KeptJournal };
 
-    ghost use Rattle.pcef_journal.specs.Kept.{kept_of};
-    ghost use Rattle.pcef_journal.specs.Kept.{CountsAgree};
+    ghost use Rattle.pcef_journal.specs.JournalView.{kept_of};
+    ghost use Rattle.pcef_journal.specs.JournalView.{CountsAgree};
 
     ghost view = { kept_of };
 

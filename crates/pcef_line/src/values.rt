@@ -3,7 +3,7 @@
 ghost use Rattle.std.specs.Prelude.{◌≡◌, ◌≤◌, IfOk};
 ghost use Rattle.serde_json.specs.View.{view, items_view};
 ghost use Rattle.pcef_line.specs.declared.fault.LineFault.TheVariants.{BadName};
-ghost use Rattle.pcef_reading.specs.Readings.{passing};
+ghost use Rattle.pcef_decoding.specs.Readings.{passing};
 ghost use Rattle.pcef_line.specs.LineValues.{Gives, member_at, object_at, list_at, text_at, number_at, flag_at, is_name, name_at, dir_at, octets_at, packet_at};
 
 use crate::fault::LineFault;

@@ -7,7 +7,7 @@ use Rattle.pcef_model.specs.declared.row.Row.{Row}
 use Rattle.pcef_model.specs.Setting.{Setting}
 use Rattle.pcef_model.specs.Generations.{made_by, oldest}
 use Rattle.pcef_model.specs.Entries.{Journal, lane}
-use Rattle.pcef_model.specs.Journals.{judged, lane_len, tables}
+use Rattle.pcef_model.specs.Journals.{verdict_at, lane_len, tables}
 use Rattle.pcef_session.specs.declared.batch.Item.{Item}
 use Rattle.pcef_model.specs.Lawful.{BatchFollows, RowsFollow, newest_generation}
 use Rattle.pcef_session.specs.Following.{row_of}
@@ -50,7 +50,7 @@ follow_all p j k worker (i ∷ items) same all is =
         in_lane = here.in_lane ∙ ap (λ w. length (lane k w)) (sym here.own);
         not_older = rw here.own here.not_older;
         known = omega (arith, right.known, ap length same);
-        verdict = right.verdict ∙ ap (λ cs. judged p (made_by p (oldest i.row.generation cs)) i.row.header) (sym same);
+        verdict = right.verdict ∙ ap (λ cs. verdict_at p (made_by p (oldest i.row.generation cs)) i.row.header) (sym same);
       },
       follow_all p j (entry.Row r ∷ k) worker items same (All-tail (IsRight p j) i items all) rest,
     )

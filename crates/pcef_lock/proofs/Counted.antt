@@ -20,9 +20,9 @@ use Rattle.pcef_session.specs.declared.batch.Item.{Item}
 use Rattle.pcef_model.specs.Slots.{CountsFor, IsWithin, is_at, place_of}
 use Rattle.pcef_session.specs.Following.{HasItsSlots, HasSmallRows, row_of}
 use Rattle.pcef_model.specs.Lawful.{Lawful}
-use Rattle.pcef_session.proofs.Commanding.{commands_after, commands_told}
+use Rattle.pcef_session.proofs.CommandAgrees.{commands_after, commands_told}
 use Rattle.pcef_model.proofs.Exactness.{lawful_exact}
-use Rattle.pcef_model.proofs.Onward.{rows_after_command, rows_after_flush, tables_after_flush}
+use Rattle.pcef_model.proofs.JournalExtends.{rows_after_command, rows_after_flush, tables_after_flush}
 use Rattle.pcef_model.proofs.SlotPlaces.{Grows}
 use Rattle.pcef_share.specs.Amounts.{plus}
 use Rattle.pcef_lock.specs.Counting.{AreCounted, IsLow, slot_total, with_item, with_items, with_slot}
@@ -55,9 +55,9 @@ total_grown p j k n grows same =
     fresh past (Some key) is = same key ∙ stranger_counted p j key (past_among (slots p j) (slots p k) n key grows (distinct_slots p (tables k)) past is)
 
 -- ---- events that count nothing
-pub counted_onward : (p : Setting) (j k : Journal) (t : List ℕ) → Grows (slots p j) (slots p k) → ((key : List ℕ) → counted p k key ≡ counted p j key) → rows k ≡ rows j →
+pub counted_later : (p : Setting) (j k : Journal) (t : List ℕ) → Grows (slots p j) (slots p k) → ((key : List ℕ) → counted p k key ≡ counted p j key) → rows k ≡ rows j →
     length (commands k) ≡ length (commands j) → AreCounted p j t → AreCounted p k t
-counted_onward p j k t grows same rows_are commands_are is = record {
+counted_later p j k t grows same rows_are commands_are is = record {
   ten = is.ten;
   slots_are = λ n low. is.slots_are n low ∙ sym (total_grown p j k n grows same);
   rows_are = is.rows_are ∙ sym (ap length rows_are);
@@ -67,7 +67,7 @@ counted_onward p j k t grows same rows_are commands_are is = record {
 
 pub counted_kept : (p : Setting) (j k : Journal) (t : List ℕ) → tables k ≡ tables j → rows k ≡ rows j → commands k ≡ commands j → AreCounted p j t → AreCounted p k t
 counted_kept p j k t tables_are rows_are commands_are is =
-    counted_onward p j k t ([], ap (slots_of p) tables_are ∙ sym (append_nil (slots p j))) (λ key. counted_same p j k key tables_are rows_are) rows_are (ap length commands_are) is
+    counted_later p j k t ([], ap (slots_of p) tables_are ∙ sym (append_nil (slots p j))) (λ key. counted_same p j k key tables_are rows_are) rows_are (ap length commands_are) is
   where
     append_nil : (xs : List (List ℕ)) → xs ++ [] ≡ xs
     append_nil [] = refl

@@ -15,7 +15,7 @@ use Rattle.pcef_model.specs.Reports.{after_flush, after_leave, with_rows}
 use Rattle.pcef_model.specs.Setting.{Setting}
 use Rattle.pcef_model.specs.Slots.{CountsFor, IsWithin}
 use Rattle.pcef_model.proofs.Lanes.{lane_few}
-use Rattle.pcef_model.proofs.Onward.{attach_count_after_flush, flushed_fits, rows_after_flush, tables_after_flush}
+use Rattle.pcef_model.proofs.JournalExtends.{attach_count_after_flush, flushed_fits, rows_after_flush, tables_after_flush}
 use Rattle.pcef_session.specs.declared.batch.Item.{Item}
 use Rattle.pcef_session.specs.Following.{HasItsSlots, HasSmallRows, row_of}
 use Rattle.pcef_session.specs.SessionModel.{SessionModel}

@@ -18,7 +18,7 @@ use Rattle.pcef_publish.proofs.Runs.{prefix_get}
 use Rattle.pcef_model.specs.Setting.{Setting}
 use Rattle.pcef_model.specs.Generations.{oldest}
 use Rattle.pcef_model.specs.Entries.{Journal}
-use Rattle.pcef_model.specs.Journals.{at, gen, judged, slots, tables}
+use Rattle.pcef_model.specs.Journals.{at, gen, verdict_at, slots, tables}
 use Rattle.pcef_session.specs.declared.batch.Item.{Item}
 use Rattle.pcef_model.specs.Slots.{CountsFor, IsWithin, has_this_slot, slot_of}
 use Rattle.pcef_session.specs.Following.{HasItsSlots}
@@ -73,7 +73,7 @@ slot_known p j g t (Passed rule bearer) shows = from (find (λ e. is_named p.cat
 -- ---- where the published tables are those of their generations
 pub record IsRight (p : Setting) (j : Journal) (i : Item) : Type 0 where
   pub known : i.row.generation ≤ gen j
-  pub verdict : i.row.verdict ≡ judged p (at p j i.row.generation) i.row.header
+  pub verdict : i.row.verdict ≡ verdict_at p (at p j i.row.generation) i.row.header
   pub within : IsWithin (slots p j) i.slot
   pub counts_for : CountsFor p j i.row i.slot
 
@@ -85,7 +85,7 @@ right_one p j first ts i published made =
     let same : first + (g - first) ≡ g = omega (arith, made.there.0) in
     let shows : Shows p j g t = subst (λ n. Shows p j n t) same (published.shown (g - first) t made.there.1) in
     let once = made_once p (oldest g (tables j)) in
-    let verdict : i.row.verdict ≡ judged p (at p j g) i.row.header = shown_judges p j g t i.row.header i.row.verdict shows once made.verdict_is in
+    let verdict : i.row.verdict ≡ verdict_at p (at p j g) i.row.header = shown_judges p j g t i.row.header i.row.verdict shows once made.verdict_is in
     record {
       known = omega (arith, inside, published.through, made.there.0);
       verdict = verdict;

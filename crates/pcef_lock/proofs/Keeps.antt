@@ -8,20 +8,20 @@ use Rattle.pcef_model.specs.declared.answer.Accepted.{Accepted}
 use Rattle.pcef_model.specs.declared.answer.Refusal.{Refusal}
 use Rattle.pcef_model.specs.declared.command.Command.{Command}
 use Rattle.pcef_model.specs.declared.command.Command.TheVariants.{Activate}
-use Rattle.pcef_model.specs.Answers.{Attaches, Gives, accepted, changes, command_outcome}
+use Rattle.pcef_model.specs.Outcomes.{AttachStep, Gives, accepted, changes, command_outcome}
 use Rattle.pcef_model.specs.Entries.{Journal, commands, rows}
 use Rattle.pcef_model.specs.Journals.{attach_count}
 use Rattle.pcef_model.specs.Lawful.{Lawful}
 use Rattle.pcef_model.specs.Refusals.{first_of, is_active, refusals}
 use Rattle.pcef_model.specs.Reports.{after_attach, after_command}
 use Rattle.pcef_model.specs.Setting.{Setting}
-use Rattle.pcef_model.proofs.Onward.{attach_count_after_command, attached_once, onward_command, rows_after_command}
+use Rattle.pcef_model.proofs.JournalExtends.{attach_count_after_command, attached_once, extends_by_command, rows_after_command}
 use Rattle.pcef_session.specs.declared.prepared.Prepared.{Prepared}
 use Rattle.pcef_session.specs.declared.prepared.Prepared.TheVariants.{Changing, Unchanged}
 use Rattle.pcef_session.specs.declared.prepared.PreparedChange.{PreparedChange}
 use Rattle.pcef_session.specs.Preparing.{IsPreparedFor, IsReady, command_of, table_made}
 use Rattle.pcef_session.specs.SessionModel.{SessionModel}
-use Rattle.pcef_session.proofs.Commanding.{commands_after}
+use Rattle.pcef_session.proofs.CommandAgrees.{commands_after}
 use Rattle.pcef_share.specs.Amounts.{Account, command_ledger, plus}
 use Rattle.pcef_lock.specs.Counting.{AreCounted, one_more}
 use Rattle.pcef_lock.specs.Locked.{Locked}
@@ -86,7 +86,7 @@ sound_changed first s t ts b places free d lawful ready journal setting is =
     let c : Account = record b { totals = plus b.totals command_ledger 1 } in
     sound_after p first s t ts (ts ++ option_to_list made) b c places free free setting
     (subst (λ x. ArePublished p x first (ts ++ option_to_list made)) (sym journal) (published_command p j d.command first ts made ready.table is.kept.published))
-    (subst (λ x. AreCounted p x c.totals) (sym journal) (counted_command p j d.command b.totals lawful (onward_command p j d.command).grows is.kept.counted))
+    (subst (λ x. AreCounted p x c.totals) (sym journal) (counted_command p j d.command b.totals lawful (extends_by_command p j d.command).grows is.kept.counted))
     (is.issued_is ∙ ap (λ n. n + 1) (sym (attach_count_after_command p j d.command)) ∙ ap (λ x. attach_count x + 1) (sym journal))
     is.free_are (subst (λ x. length (rows x) ≤ p.rows) (sym journal) (subst (λ rs. length rs ≤ p.rows) (sym (rows_after_command p j d.command)) is.few_rows)) is
 
@@ -123,7 +123,7 @@ commands_fit p first s t ts b places free (Unchanged name) a n is idle gives n_i
     absurd cc
 
 -- ---- a worker comes
-pub sound_attached : (p : Setting) (first : ℕ) (s t : SessionModel) (ts : List TableValue) (b c : Account) (places free left number : ℕ) → Attaches s.journal (Ok number) t.journal → t.setting ≡ s.setting →
+pub sound_attached : (p : Setting) (first : ℕ) (s t : SessionModel) (ts : List TableValue) (b c : Account) (places free left number : ℕ) → AttachStep s.journal (Ok number) t.journal → t.setting ≡ s.setting →
     c ≡ record b { issued = b.issued + 1 } → left + 1 ≡ free → IsSound p first (locked s ts b places) free → IsSound p first (locked t ts c places) left
 unfolding attach_count
 sound_attached p first s t ts b c places free left number attaches setting books one is =

@@ -6,7 +6,7 @@ use Rattle.pcef_model.specs.declared.report.Report.{Report}
 use Rattle.pcef_model.specs.declared.row.Row.{Row}
 use Rattle.pcef_model.specs.Entries.{Journal, reports}
 use Rattle.pcef_model.specs.Lawful.{Lawful, at_first, by_attach, by_command, by_flush, by_leave}
-use Rattle.pcef_model.specs.declared.telling.Telling.{Telling}
+use Rattle.pcef_model.specs.declared.pending_report.PendingReport.{PendingReport}
 use Rattle.pcef_model.specs.Reports.{after_command, after_flush, plan, tell, thresholds, with_rows}
 use Rattle.pcef_model.specs.Setting.{Setting}
 use Rattle.pcef_lock.specs.Reports.{AreNumbered}
@@ -16,7 +16,7 @@ unfoldable Counted : List Report → Type 0
 Counted [] = Unit {0}
 Counted (r ∷ rs) = (r.number ≡ length rs) × Counted rs
 
-counted_told : (p : Setting) (ts : List Telling) (j : Journal) → Counted (reports j) → Counted (reports (tell p ts j))
+counted_told : (p : Setting) (ts : List PendingReport) (j : Journal) → Counted (reports j) → Counted (reports (tell p ts j))
 unfolding tell Counted
 counted_told p [] j is = is
 counted_told p (t ∷ ts) j is = counted_told p ts _ (refl, is)

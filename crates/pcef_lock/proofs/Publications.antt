@@ -13,7 +13,7 @@ use Rattle.pcef_model.specs.Journals.{gen, tables}
 use Rattle.pcef_model.specs.Reports.{after_command}
 use Rattle.pcef_model.proofs.AfterEvents.{gen_after, tables_after}
 use Rattle.pcef_model.proofs.Growth.{tables_of_other}
-use Rattle.pcef_model.proofs.Onward.{Onward, onward_command}
+use Rattle.pcef_model.proofs.JournalExtends.{JournalExtends, extends_by_command}
 use Rattle.pcef_session.specs.Preparing.{IsTableAfter}
 use Rattle.pcef_session.specs.Shown.{Shows}
 use Rattle.pcef_session.proofs.ShownLater.{shows_later, shows_same}
@@ -28,15 +28,15 @@ published_same p j k first ts same is = record {
 }
 
 -- the table of the next generation is published
-published_next : (p : Setting) (j k : Journal) (first : ℕ) (ts : List TableValue) (new : TableValue) → Onward p j k → gen k ≡ gen j + 1 → Shows p k (gen k) new → ArePublished p j first ts →
+published_next : (p : Setting) (j k : Journal) (first : ℕ) (ts : List TableValue) (new : TableValue) → JournalExtends p j k → gen k ≡ gen j + 1 → Shows p k (gen k) new → ArePublished p j first ts →
     ArePublished p k first (ts ++ new ∷ [])
-published_next p j k first ts new onward more shows is = record {
+published_next p j k first ts new extends more shows is = record {
   through = omega (arith, is.through, more, length_push ts new);
   shown = λ n t at.
       elim (cases_lt n (length ts)) [
         | inl inside ↦
             let old : Shows p j (first + n) t = is.shown n t (sym (get_left ts (new ∷ []) n inside) ∙ at) in
-            shows_later p j k (first + n) t (onward.at_is (first + n) (omega (arith, is.through, inside))) onward.grows old
+            shows_later p j k (first + n) t (extends.at_is (first + n) (omega (arith, is.through, inside))) extends.grows old
         | inr past ↦
             let within : n < length (ts ++ new ∷ []) = get_within (ts ++ new ∷ []) n t at in
             let last : length ts ≡ n = omega (arith, within, past, length_push ts new) in
@@ -60,7 +60,7 @@ published_command p j c first ts None is published =
     let none : is_table c ≡ false = sym is.makes in
     rw (append-nil ts) (published_same p j (after_command p j c) first ts (tables_after p j c ∙ tables_of_other j c none) published)
 published_command p j c first ts (Some new) is published =
-    published_next p j (after_command p j c) first ts new (onward_command p j c) (gen_more p j c true (sym is.makes)) is.shows published
+    published_next p j (after_command p j c) first ts new (extends_by_command p j c) (gen_more p j c true (sym is.makes)) is.shows published
 
 -- it is the next one
 pub next_table : (p : Setting) (j : Journal) (c : Command) (first : ℕ) (ts : List TableValue) (made : Option TableValue) → IsTableAfter p (after_command p j c) c made → ArePublished p j first ts →

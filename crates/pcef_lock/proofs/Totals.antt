@@ -7,7 +7,7 @@ use Rattle.std.proofs.lemmas.Bool.Decides.{eqb_tells}
 use Rattle.pcef_model.specs.Setting.{same_name}
 use Rattle.pcef_model.specs.Commands.{is_among}
 use Rattle.pcef_model.proofs.Sameness.{same_name_is, same_name_self}
-use Rattle.pcef_usage.specs.Tellings.{Distinct}
+use Rattle.pcef_usage.specs.PendingReports.{Distinct}
 use Rattle.pcef_model.specs.Slots.{place_of}
 use Rattle.pcef_model.proofs.SlotPlaces.{Grows, place_grown}
 use Rattle.pcef_model.proofs.SlotsLater.{place_within}

@@ -1,4 +1,4 @@
-pub mod Answers
+pub mod Outcomes
 pub mod Counting
 pub mod Desks
 pub mod Judging

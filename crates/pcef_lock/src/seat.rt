@@ -3,7 +3,7 @@
 ghost use Rattle.std.specs.Prelude.{◌≡◌};
 ghost use Rattle.pcef_lock.specs.Judging.{IsTaken};
 
-use pcef_catalog::Offers;
+use pcef_catalog::Detects;
 use pcef_model::Row;
 use pcef_packet::{Addr, Header};
 use pcef_publish::Subscriber;
@@ -26,7 +26,7 @@ pub struct Seat<N: Naming> {
 impl<N: Naming> Seat<N> {
     /// Judges a packet by the table that is held: its row, with this number in the lane. The catalog and the address
     /// are those of the session. Takes no lock, no memory, and doesn't wait.
-    pub fn judge<C: Offers>(&self, catalog: &C, seq: u64, header: &Header) -> Item
+    pub fn judge<C: Detects>(&self, catalog: &C, seq: u64, header: &Header) -> Item
         requires offers { C.offers catalog.now ≡ N.setting.catalog }
         requires ue { self.now.ue ≡ N.setting.ue }
         ensures { IsTaken N.setting N.first self.now.worker seq self.now.subscriber header.now result }

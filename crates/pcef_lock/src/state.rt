@@ -2,13 +2,13 @@
 
 ghost use Rattle.std.specs.Prelude.{◌≡◌, ◌≤◌, ◌+◌, IfErr, IfOk, length};
 ghost use Rattle.std.specs.Result.{result_map_both};
-ghost use Rattle.pcef_model.specs.Answers.{Does};
+ghost use Rattle.pcef_model.specs.Outcomes.{CommandStep};
 ghost use Rattle.pcef_model.specs.Entries.{commands};
 ghost use Rattle.pcef_model.specs.Journals.{attach_count, gen};
 ghost use Rattle.pcef_model.specs.Lawful.{Lawful};
 ghost use Rattle.pcef_share.specs.Amounts.{command_ledger, plus, zeros};
 ghost use Rattle.pcef_share.specs.Names.{name_at};
-ghost use Rattle.pcef_lock.specs.Answers.{Comes, with_share};
+ghost use Rattle.pcef_lock.specs.Outcomes.{SeatStep, with_share};
 ghost use Rattle.pcef_lock.specs.Counting.{with_command};
 ghost use Rattle.pcef_lock.specs.Kept.{Kept};
 ghost use Rattle.pcef_lock.specs.Published.{ArePublished};
@@ -134,7 +134,7 @@ impl<N: Naming, W: Board<Slot<N>> + Drop> State<N, W> {
     /// who gives it, unless it changed nothing; or answers the first refusal in the order of [`Refusal`], which
     /// changes nothing. Takes memory. May wait for readers of the publication.
     pub fn command(&mut self, shares: &mut Shares<N>, command: Command) -> Result<Accepted, Refusal>
-        ensures answer { Does N.setting command self.old.session.journal result self.new.session.journal }
+        ensures answer { CommandStep N.setting command self.old.session.journal result self.new.session.journal }
         ensures tables { IsPrefix self.old.tables self.new.tables }
         ensures books { self.new.books ≡ record self.old.books { totals = with_command result self.old.books.totals } }
         ensures places { self.new.places ≡ self.old.places }
@@ -158,7 +158,7 @@ impl<N: Naming, W: Board<Slot<N>> + Drop> State<N, W> {
     /// [`AttachFault`], which changes nothing. There is no place too where as many workers came as the lock was made
     /// for. Takes memory.
     pub fn attach(&mut self) -> Result<Seat<N>, AttachFault>
-        ensures answer { Comes self.old.books.issued self.old.places self.old.session.journal (result_map_both seat_number (λ e. e) result) self.new.session.journal }
+        ensures answer { SeatStep self.old.books.issued self.old.places self.old.session.journal (result_map_both seat_number (λ e. e) result) self.new.session.journal }
         ensures tables { self.new.tables ≡ self.old.tables }
         ensures books { self.new.books ≡ with_share result self.old.books }
         ensures places { self.new.places ≡ self.old.places }

@@ -11,7 +11,7 @@ use Rattle.pcef_model.specs.ActiveRules.{Active, is_named, put, without, dynamic
 use Rattle.pcef_model.specs.Entries.{Journal}
 use Rattle.pcef_model.specs.Commands.{is_among, activated}
 use Rattle.pcef_model.specs.Journals.{now, slots}
-use Rattle.pcef_model.specs.Answers.{changes}
+use Rattle.pcef_model.specs.Outcomes.{changes}
 use Rattle.pcef_model.specs.declared.answer.Refusal.{Refusal}
 use Rattle.pcef_model.specs.declared.answer.Refusal.TheVariants as refusal
 use Rattle.pcef_model.specs.Refusals.{Conditions, becoming_active, becoming_active_if, bindings, common_refusals, finds_no_slot, first_of, is_active, refusals}

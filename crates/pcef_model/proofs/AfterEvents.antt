@@ -5,17 +5,17 @@ use Rattle.std.proofs.lemmas.Bool.{cases_Bool}
 use Rattle.pcef_model.specs.declared.command.Command.{Command}
 use Rattle.pcef_model.specs.declared.entry.Entry.TheVariants as entry
 use Rattle.pcef_model.specs.declared.row.Row.{Row}
-use Rattle.pcef_model.specs.declared.telling.Telling.{Telling}
+use Rattle.pcef_model.specs.declared.pending_report.PendingReport.{PendingReport}
 use Rattle.pcef_model.specs.Setting.{Setting}
 use Rattle.pcef_model.specs.Generations.{made_by, slots_of}
 use Rattle.pcef_model.specs.Entries.{Journal}
 use Rattle.pcef_model.specs.Journals.{gen, now, report_count, slots, subscribed, tables}
 use Rattle.pcef_model.specs.Commands.{is_table}
-use Rattle.pcef_model.specs.Reports.{after_command, body_of, plan, settled, tell, thresholds, with_rows}
+use Rattle.pcef_model.specs.Reports.{after_command, body_of, plan, with_thresholds, tell, thresholds, with_rows}
 use Rattle.pcef_model.proofs.Reports.{tell_subscribed, tell_tables}
 
 -- ---- generations
-pub tables_settled : (p : Setting) (j : Journal) → tables (settled p j) ≡ tables j
+pub tables_settled : (p : Setting) (j : Journal) → tables (with_thresholds p j) ≡ tables j
 tables_settled p j = tell_tables p (thresholds p j) j
 
 pub tables_after : (p : Setting) (j : Journal) (c : Command) → tables (after_command p j c) ≡ tables (entry.Command c ∷ j)
@@ -42,7 +42,7 @@ tables_after_rows [] j = refl
 tables_after_rows (r ∷ rs) j = tables_after_rows rs (entry.Row r ∷ j)
 
 -- ---- reports
-pub report_count_tell : (p : Setting) (ts : List Telling) (j : Journal) → report_count (tell p ts j) ≡ length ts + report_count j
+pub report_count_tell : (p : Setting) (ts : List PendingReport) (j : Journal) → report_count (tell p ts j) ≡ length ts + report_count j
 unfolding tell
 report_count_tell p [] j = omega arith
 report_count_tell p (t ∷ ts) j =
@@ -60,5 +60,5 @@ unfolding with_rows
 report_count_after_rows [] j = refl
 report_count_after_rows (r ∷ rs) j = report_count_after_rows rs (entry.Row r ∷ j)
 
-pub subscribed_settled : (p : Setting) (j : Journal) → subscribed (settled p j) ≡ subscribed j
+pub subscribed_settled : (p : Setting) (j : Journal) → subscribed (with_thresholds p j) ≡ subscribed j
 subscribed_settled p j = tell_subscribed p (thresholds p j) j

@@ -10,7 +10,7 @@ use Rattle.pcef_rule.specs.declared.rule.Properties.{Properties}
 use Rattle.pcef_model.specs.declared.command.Command.{Command}
 use Rattle.pcef_model.specs.declared.entry.Entry.TheVariants as entry
 use Rattle.pcef_model.specs.declared.row.Row.{Row}
-use Rattle.pcef_model.specs.declared.telling.Telling.{Telling}
+use Rattle.pcef_model.specs.declared.pending_report.PendingReport.{PendingReport}
 use Rattle.pcef_model.specs.Bearers.{default_id, least_free, other_ids}
 use Rattle.pcef_lists.proofs.Found.{found_is, found_passes}
 use Rattle.pcef_model.specs.Setting.{Setting, same_qos}
@@ -25,7 +25,7 @@ use Rattle.pcef_model.specs.Reports.{after_command, after_flush, tell, threshold
 use Rattle.pcef_model.proofs.Growth.{now_after_table, tables_of_other}
 use Rattle.pcef_lists.proofs.Tests.{contrary}
 use Rattle.pcef_model.proofs.Sameness.{same_qos_is, same_qos_self}
-use Rattle.pcef_model.specs.Answers.{changes}
+use Rattle.pcef_model.specs.Outcomes.{changes}
 use Rattle.pcef_model.specs.Lawful.{Lawful, at_first, by_attach, by_command, by_flush, by_leave}
 use Rattle.pcef_model.specs.Refusals.{Conditions, finds_no_bearer, first_of, refusals, bindings}
 use Rattle.pcef_model.proofs.BoundRules.{NamesOnce}
@@ -323,7 +323,7 @@ bound_after_command p j c bound accepted change =
     ]
 
 -- reports and rows leave the generation
-bound_after_tell : (p : Setting) (ts : List Telling) (j : Journal) → IsBound p (now p j) → IsBound p (now p (tell p ts j))
+bound_after_tell : (p : Setting) (ts : List PendingReport) (j : Journal) → IsBound p (now p j) → IsBound p (now p (tell p ts j))
 bound_after_tell p ts j bound = subst (λ cs. IsBound p (made_by p cs)) (sym (tell_tables p ts j)) bound
 
 bound_after_rows : (p : Setting) (rs : List Row) (j : Journal) → IsBound p (now p j) → IsBound p (now p (with_rows rs j))

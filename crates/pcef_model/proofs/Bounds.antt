@@ -9,14 +9,14 @@ use Rattle.pcef_model.specs.declared.command.Command.{Command}
 use Rattle.pcef_model.specs.declared.command.Command.TheVariants.{Install, Activate, Remove, Monitor, Stop, ReportNow, Triggers, Notice, LoseBearer, Close, Terminate}
 use Rattle.pcef_model.specs.declared.report.Cause.{Cause}
 use Rattle.pcef_model.specs.declared.report.Cause.TheVariants.{RulesGone, Terminated, Threshold}
-use Rattle.pcef_model.specs.declared.telling.Telling.TheVariants.{Inactive, Usage}
+use Rattle.pcef_model.specs.declared.pending_report.PendingReport.TheVariants.{Inactive, Usage}
 use Rattle.pcef_model.specs.Setting.{Setting}
 use Rattle.pcef_model.specs.ActiveRules.{has_key}
 use Rattle.pcef_model.specs.Generations.{Generation, rules_after}
 use Rattle.pcef_model.specs.Commands.{is_among, switched}
 use Rattle.pcef_model.specs.Entries.{Journal}
 use Rattle.pcef_model.specs.Journals.{now, slots, subscribed, unreported}
-use Rattle.pcef_model.specs.Reports.{asked, ended, in_order, inactive, insert_name, is_reached, is_subscribed, noticed, plan, thresholds}
+use Rattle.pcef_model.specs.Reports.{requested, ended, in_order, inactive, insert_name, is_reached, is_subscribed, noticed, plan, thresholds}
 use Rattle.pcef_lists.proofs.Keeping.{filter_length}
 
 -- ---- rules that become inactive
@@ -70,7 +70,7 @@ few_ended p j (LoseBearer id) = few_within RulesGone (loses_rules p j (LoseBeare
 few_ended p j Close = few_within RulesGone (loses_rules p j Close) (slots p j)
 
 -- ---- all
-few_else : (j : Journal) (c : Command) → length (asked c) + length (noticed j c) ≤ 1
+few_else : (j : Journal) (c : Command) → length (requested c) + length (noticed j c) ≤ 1
 few_else j (Notice kind value) = elim (cases_Bool (is_subscribed (subscribed j) kind)) [ inl is ↦ rw is (omega arith) | inr isnt ↦ rw isnt (omega arith) ]
 few_else j (Install rule) = omega arith
 few_else j (Activate name) = omega arith
@@ -86,9 +86,9 @@ few_else j Terminate = omega arith
 -- a command tells at most one report for each rule and each key, and one more
 pub few_planned : (p : Setting) (j : Journal) (c : Command) → length (plan p j c) ≤ length (now p j).rules + length (slots p j) + 1
 few_planned p j c =
-    let first = length-append (inactive (now p j) c) (ended p j c ++ (asked c ++ noticed j c)) in
-    let second = length-append (ended p j c) (asked c ++ noticed j c) in
-    let third = length-append (asked c) (noticed j c) in
+    let first = length-append (inactive (now p j) c) (ended p j c ++ (requested c ++ noticed j c)) in
+    let second = length-append (ended p j c) (requested c ++ noticed j c) in
+    let third = length-append (requested c) (noticed j c) in
     omega (arith, first, second, third, few_inactive (now p j) c, few_ended p j c, few_else j c)
 
 -- and at most one threshold for each key

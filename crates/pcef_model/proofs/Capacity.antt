@@ -17,7 +17,7 @@ use Rattle.pcef_model.proofs.Sameness.{same_name_is}
 use Rattle.pcef_model.proofs.AfterEvents.{now_after}
 use Rattle.pcef_model.specs.declared.answer.Refusal.{Refusal}
 use Rattle.pcef_model.specs.declared.answer.Refusal.TheVariants as refusal
-use Rattle.pcef_model.specs.Answers.{changes}
+use Rattle.pcef_model.specs.Outcomes.{changes}
 use Rattle.pcef_model.specs.Lawful.{Lawful, at_first, by_attach, by_command, by_flush, by_leave}
 use Rattle.pcef_model.specs.Refusals.{Conditions, bindings, finds_no_bearer, first_of, refusals, total_down, total_up}
 use Rattle.pcef_model.specs.Bearers.{is_gbr, is_non_gbr, rate_down, rate_up, sum_up, sum_down}
@@ -26,7 +26,7 @@ use Rattle.pcef_model.proofs.BoundRules.{NamesOnce}
 use Rattle.pcef_model.proofs.Names.{Once, without_none}
 use Rattle.pcef_model.proofs.Decisive.{made_once}
 use Rattle.pcef_model.proofs.RulesAfter.{rule_change, rules_left, rules_put}
-use Rattle.pcef_model.proofs.Onward.{tables_after_flush}
+use Rattle.pcef_model.proofs.JournalExtends.{tables_after_flush}
 
 -- ---- sums
 -- fewer rules have no higher sum

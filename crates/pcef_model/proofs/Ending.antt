@@ -10,8 +10,8 @@ use Rattle.pcef_model.specs.declared.entry.Entry.TheVariants as entry
 use Rattle.pcef_model.specs.declared.report.Cause.TheVariants.{Terminated}
 use Rattle.pcef_model.specs.declared.answer.AttachFault.TheVariants as attach
 use Rattle.pcef_model.specs.declared.answer.Refusal.TheVariants as refusal
-use Rattle.pcef_model.specs.declared.telling.Telling.{Telling}
-use Rattle.pcef_model.specs.declared.telling.Telling.TheVariants.{Access, Inactive, Usage}
+use Rattle.pcef_model.specs.declared.pending_report.PendingReport.{PendingReport}
+use Rattle.pcef_model.specs.declared.pending_report.PendingReport.TheVariants.{Access, Inactive, Usage}
 use Rattle.pcef_model.specs.Setting.{Setting, same_name}
 use Rattle.pcef_model.specs.Commands.{is_among}
 use Rattle.pcef_model.specs.Entries.{Journal}
@@ -23,31 +23,31 @@ use Rattle.pcef_model.specs.Reports.{after_command, body_of, ended, plan, tell, 
 use Rattle.pcef_model.proofs.Acceptance.{condition_none}
 use Rattle.pcef_model.proofs.Exactness.{lawful_exact}
 use Rattle.pcef_model.proofs.Growth.{counted_after_command}
-use Rattle.pcef_model.proofs.Onward.{attached_after_command}
+use Rattle.pcef_model.proofs.JournalExtends.{attached_after_command}
 use Rattle.pcef_model.proofs.Reports.{reported_after_command}
 use Rattle.pcef_model.proofs.Sameness.{same_name_is}
 
 -- ---- telling
 -- the journal with one report
-abbrev with_report : Setting → Telling → Journal → Journal
+abbrev with_report : Setting → PendingReport → Journal → Journal
 with_report p t j = entry.Report (record { number = report_count j; body = body_of p j t }) ∷ j
 
 -- a key of which nothing is unreported stays so
-one_zero : (p : Setting) (t : Telling) (j : Journal) (key : List ℕ) → unreported p j key ≡ 0 → unreported p (with_report p t j) key ≡ 0
+one_zero : (p : Setting) (t : PendingReport) (j : Journal) (key : List ℕ) → unreported p j key ≡ 0 → unreported p (with_report p t j) key ≡ 0
 unfolding reported
 one_zero p t j key none = omega (arith, none)
 
-tell_zero : (p : Setting) (ts : List Telling) (j : Journal) (key : List ℕ) → unreported p j key ≡ 0 → unreported p (tell p ts j) key ≡ 0
+tell_zero : (p : Setting) (ts : List PendingReport) (j : Journal) (key : List ℕ) → unreported p j key ≡ 0 → unreported p (tell p ts j) key ≡ 0
 unfolding tell
 tell_zero p [] j key none = none
 tell_zero p (t ∷ ts) j key none = tell_zero p ts (with_report p t j) key (one_zero p t j key none)
 
 -- a key that is told has nothing unreported then
-abbrev tells : List ℕ → Telling → Bool
+abbrev tells : List ℕ → PendingReport → Bool
 tells key (Usage other cause) = same_name key other
 tells key _ = false
 
-one_clears : (p : Setting) (t : Telling) (j : Journal) (key : List ℕ) → tells key t ≡ true → unreported p (with_report p t j) key ≡ 0
+one_clears : (p : Setting) (t : PendingReport) (j : Journal) (key : List ℕ) → tells key t ≡ true → unreported p (with_report p t j) key ≡ 0
 unfolding reported
 one_clears p (Inactive rule) j key is = absurd cc
 one_clears p (Access kind value) j key is = absurd cc
@@ -56,7 +56,7 @@ one_clears p (Usage other cause) j key is =
     let told : octets_told key (body_of p j (Usage other cause)) ≡ unreported p j key = rw is (ap (unreported p j) (sym same)) in
     omega (arith, told)
 
-tell_clears : (p : Setting) (ts : List Telling) (j : Journal) (key : List ℕ) → list_any (tells key) ts ≡ true → unreported p (tell p ts j) key ≡ 0
+tell_clears : (p : Setting) (ts : List PendingReport) (j : Journal) (key : List ℕ) → list_any (tells key) ts ≡ true → unreported p (tell p ts j) key ≡ 0
 unfolding tell
 tell_clears p [] j key is = absurd cc
 tell_clears p (t ∷ ts) j key is =
@@ -110,7 +110,7 @@ nothing_unreported p j lawful key there =
         from false false at is = omega (arith, ltb-false 0 (unreported p j key) at)
 
 -- ---- nothing follows
-ended_told : (p : Setting) (ts : List Telling) (j : Journal) → was_terminated (tell p ts j) ≡ was_terminated j
+ended_told : (p : Setting) (ts : List PendingReport) (j : Journal) → was_terminated (tell p ts j) ≡ was_terminated j
 unfolding tell
 ended_told p [] j = refl
 ended_told p (t ∷ ts) j = ended_told p ts (with_report p t j)

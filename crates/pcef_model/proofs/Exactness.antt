@@ -3,7 +3,7 @@ use Rattle.std.proofs.Common.{◌≡◌, ◌≤◌, ℕ, List, [], ◌∷◌, ar
 use Rattle.pcef_model.specs.declared.command.Command.{Command}
 use Rattle.pcef_model.specs.declared.entry.Entry.TheVariants as entry
 use Rattle.pcef_model.specs.declared.row.Row.{Row}
-use Rattle.pcef_model.specs.declared.telling.Telling.{Telling}
+use Rattle.pcef_model.specs.declared.pending_report.PendingReport.{PendingReport}
 use Rattle.pcef_model.specs.Setting.{Setting}
 use Rattle.pcef_model.specs.Entries.{Journal, rows}
 use Rattle.pcef_model.specs.Journals.{counted, gen, reported}
@@ -27,7 +27,7 @@ exact_after_command p j c is = record {
       omega (arith, is.exact key);
 }
 
-exact_after_tell : (p : Setting) (ts : List Telling) (j : Journal) → IsExact p j → IsExact p (tell p ts j)
+exact_after_tell : (p : Setting) (ts : List PendingReport) (j : Journal) → IsExact p j → IsExact p (tell p ts j)
 exact_after_tell p ts j is = record {
   known = rw (tell_tables p ts j, tell_rows p ts j) is.known;
   exact = λ key. tell_exact p ts j key (is.exact key);

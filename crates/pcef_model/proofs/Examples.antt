@@ -14,7 +14,7 @@ use Rattle.pcef_model.specs.declared.report.InactiveCause.TheVariants.{BearerLos
 use Rattle.pcef_model.specs.declared.report.Report.{Report}
 use Rattle.pcef_model.specs.declared.trigger.AccessKind.TheVariants.{RatChange}
 use Rattle.pcef_model.specs.Entries.{Journal}
-use Rattle.pcef_model.specs.Journals.{at, attach_count, attached, counted, counts_in, gen, grant, judged, no_triggers, now, slots, unreported}
+use Rattle.pcef_model.specs.Journals.{at, attach_count, attached, counted, counts_in, gen, grant, verdict_at, no_triggers, now, slots, unreported}
 use Rattle.pcef_model.proofs.ExampleSession.{Event, accept, flush, history, on_default, packet_of, qos_of, row_of, rule_of, session_on, told, vid, web, worked_out}
 
 abbrev web_rule : Event
@@ -45,7 +45,7 @@ generations_of_the_short_journal = refl
 
 -- the first generation has no rule, the others have `web`
 verdicts_of_the_short_journal :
-    map (λ g. judged (session_on 9) (at (session_on 9) short_journal g) (packet_of 28)) (0 ∷ 1 ∷ 2 ∷ []) ≡ Unmatched ∷ on_default ∷ on_default ∷ []
+    map (λ g. verdict_at (session_on 9) (at (session_on 9) short_journal g) (packet_of 28)) (0 ∷ 1 ∷ 2 ∷ []) ≡ Unmatched ∷ on_default ∷ on_default ∷ []
 unfolding worked_out
 verdicts_of_the_short_journal = refl
 
@@ -79,12 +79,12 @@ unfolding worked_out
 another_row_counts = refl
 
 -- a gate that is open uplink alone
-a_closed_gate : judged (session_on 9) (now (session_on 9) (history (session_on 9) (accept (Install (rule_of 9 EnabledUplink web 17 vid)) ∷ []))) (packet_of 28) ≡ Gated web
+a_closed_gate : verdict_at (session_on 9) (now (session_on 9) (history (session_on 9) (accept (Install (rule_of 9 EnabledUplink web 17 vid)) ∷ []))) (packet_of 28) ≡ Gated web
 unfolding worked_out
 a_closed_gate = refl
 
 -- a packet that the user equipment would send from another address
-a_stray_packet : judged (session_on 9) (now (session_on 9) short_journal) (record (packet_of 28) { dir = Up }) ≡ Stray
+a_stray_packet : verdict_at (session_on 9) (now (session_on 9) short_journal) (record (packet_of 28) { dir = Up }) ≡ Stray
 unfolding worked_out
 a_stray_packet = refl
 
@@ -94,7 +94,7 @@ abbrev lost : Journal
 lost = history (session_on 8) (web_rule ∷ accept (LoseBearer (record { 0 = 6 })) ∷ [])
 
 a_rule_on_a_bearer_of_its_own :
-    map (λ g. judged (session_on 8) (at (session_on 8) lost g) (packet_of 28)) (0 ∷ 1 ∷ 2 ∷ []) ≡ Unmatched ∷ Passed web (record { 0 = 6 }) ∷ Unmatched ∷ []
+    map (λ g. verdict_at (session_on 8) (at (session_on 8) lost g) (packet_of 28)) (0 ∷ 1 ∷ 2 ∷ []) ≡ Unmatched ∷ Passed web (record { 0 = 6 }) ∷ Unmatched ∷ []
 unfolding worked_out
 a_rule_on_a_bearer_of_its_own = refl
 

@@ -6,23 +6,23 @@ use Rattle.pcef_model.specs.declared.entry.Entry.TheVariants as entry
 use Rattle.pcef_model.specs.declared.row.Row.{Row}
 use Rattle.pcef_model.specs.Setting.{Setting}
 use Rattle.pcef_model.specs.Entries.{Journal, lane, rows}
-use Rattle.pcef_model.specs.Journals.{judged}
+use Rattle.pcef_model.specs.Journals.{verdict_at}
 use Rattle.pcef_model.specs.Laws.{HasItsVerdict, IsNumberedLane}
 use Rattle.pcef_model.specs.Lawful.{Lawful, RowsFollow, at_first, by_attach, by_command, by_flush, by_leave, newest_generation}
 use Rattle.pcef_model.specs.Reports.{after_command, after_flush, with_rows}
 use Rattle.pcef_model.proofs.AfterEvents.{tables_after_rows}
-use Rattle.pcef_model.proofs.Onward.{Onward, flushed_fits, onward_command, onward_same, rows_after_command, rows_after_flush, tables_after_flush}
+use Rattle.pcef_model.proofs.JournalExtends.{JournalExtends, flushed_fits, extends_by_command, extends_same, rows_after_command, rows_after_flush, tables_after_flush}
 
 -- ---- verdicts
 -- a row keeps the verdict of its own generation as the journal grows
-verdicts_later : (p : Setting) (j k : Journal) (rs : List Row) → Onward p j k → AllByRecursion (HasItsVerdict p j) rs → AllByRecursion (HasItsVerdict p k) rs
-verdicts_later p j k [] onward have = tt
-verdicts_later p j k (r ∷ rs) onward have = (
+verdicts_later : (p : Setting) (j k : Journal) (rs : List Row) → JournalExtends p j k → AllByRecursion (HasItsVerdict p j) rs → AllByRecursion (HasItsVerdict p k) rs
+verdicts_later p j k [] extends have = tt
+verdicts_later p j k (r ∷ rs) extends have = (
   record {
-    known = omega (arith, have.0.known, onward.gen_more);
-    verdict_is = have.0.verdict_is ∙ ap (λ g. judged p g r.header) (sym (onward.at_is r.generation have.0.known));
+    known = omega (arith, have.0.known, extends.gen_more);
+    verdict_is = have.0.verdict_is ∙ ap (λ g. verdict_at p g r.header) (sym (extends.at_is r.generation have.0.known));
   },
-  verdicts_later p j k rs onward have.1,
+  verdicts_later p j k rs extends have.1,
 )
 
 -- and rows that follow have theirs
@@ -33,19 +33,19 @@ verdicts_with p [] j follow have = have
 verdicts_with p (r ∷ rs) j follow have =
     let k : Journal = entry.Row r ∷ j in
     verdicts_with p rs k follow.1
-    (record { known = follow.0.known; verdict_is = follow.0.verdict }, verdicts_later p j k (rows j) (onward_same p j k refl) have)
+    (record { known = follow.0.known; verdict_is = follow.0.verdict }, verdicts_later p j k (rows j) (extends_same p j k refl) have)
 
 pub rows_have_verdicts : (p : Setting) (j : Journal) → Lawful p j → AllByRecursion (HasItsVerdict p j) (rows j)
 rows_have_verdicts p _ at_first = tt
 rows_have_verdicts p _ (by_command j c l accepted changes) =
     subst (AllByRecursion (HasItsVerdict p (after_command p j c))) (sym (rows_after_command p j c))
-    (verdicts_later p j (after_command p j c) (rows j) (onward_command p j c) (rows_have_verdicts p j l))
-rows_have_verdicts p _ (by_attach j l accepted) = verdicts_later p j _ (rows j) (onward_same p j _ refl) (rows_have_verdicts p j l)
-rows_have_verdicts p _ (by_leave j worker l there) = verdicts_later p j _ (rows j) (onward_same p j _ refl) (rows_have_verdicts p j l)
+    (verdicts_later p j (after_command p j c) (rows j) (extends_by_command p j c) (rows_have_verdicts p j l))
+rows_have_verdicts p _ (by_attach j l accepted) = verdicts_later p j _ (rows j) (extends_same p j _ refl) (rows_have_verdicts p j l)
+rows_have_verdicts p _ (by_leave j worker l there) = verdicts_later p j _ (rows j) (extends_same p j _ refl) (rows_have_verdicts p j l)
 rows_have_verdicts p _ (by_flush j worker rs l accepted follows) =
     let same = tables_after_flush p j rs ∙ sym (tables_after_rows rs j) in
     subst (AllByRecursion (HasItsVerdict p (after_flush p j rs))) (sym (rows_after_flush p j rs))
-    (verdicts_later p (with_rows rs j) (after_flush p j rs) (rows (with_rows rs j)) (onward_same p (with_rows rs j) (after_flush p j rs) same)
+    (verdicts_later p (with_rows rs j) (after_flush p j rs) (rows (with_rows rs j)) (extends_same p (with_rows rs j) (after_flush p j rs) same)
     (verdicts_with p rs j follows.follow (rows_have_verdicts p j l)))
 
 -- ---- lanes

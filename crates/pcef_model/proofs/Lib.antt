@@ -15,7 +15,7 @@ pub mod LawfulRows
 pub mod Members
 pub mod Names
 pub mod NewLanes
-pub mod Onward
+pub mod JournalExtends
 pub mod Reports
 pub mod RowsLater
 pub mod RulesAfter

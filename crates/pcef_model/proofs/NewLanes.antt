@@ -10,7 +10,7 @@ use Rattle.pcef_model.specs.Entries.{Journal, lane, rows}
 use Rattle.pcef_model.specs.Journals.{attach_count, attached}
 use Rattle.pcef_model.specs.Reports.{with_rows}
 use Rattle.pcef_model.specs.Lawful.{Lawful, at_first, by_attach, by_command, by_flush, by_leave}
-use Rattle.pcef_model.proofs.Onward.{attach_count_after_command, attach_count_after_flush, attached_after_command, attached_after_flush, flushed_fits, rows_after_command, rows_after_flush}
+use Rattle.pcef_model.proofs.JournalExtends.{attach_count_after_command, attach_count_after_flush, attached_after_command, attached_after_flush, flushed_fits, rows_after_command, rows_after_flush}
 
 -- those who are attached, and those whose rows came, have numbers that were given
 pub record IsNumbered (j : Journal) : Type 0 where

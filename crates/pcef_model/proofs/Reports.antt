@@ -4,8 +4,8 @@ use Rattle.std.proofs.lemmas.Bool.{cases_Bool}
 use Rattle.pcef_model.specs.declared.command.Command.{Command}
 use Rattle.pcef_model.specs.declared.entry.Entry.TheVariants as entry
 use Rattle.pcef_model.specs.declared.row.Row.{Row}
-use Rattle.pcef_model.specs.declared.telling.Telling.{Telling}
-use Rattle.pcef_model.specs.declared.telling.Telling.TheVariants.{Inactive, Usage, Access}
+use Rattle.pcef_model.specs.declared.pending_report.PendingReport.{PendingReport}
+use Rattle.pcef_model.specs.declared.pending_report.PendingReport.TheVariants.{Inactive, Usage, Access}
 use Rattle.pcef_model.specs.Setting.{Setting, same_name}
 use Rattle.pcef_model.specs.Generations.{made_by, oldest, slots_of}
 use Rattle.pcef_model.specs.Entries.{Journal, rows}
@@ -14,28 +14,28 @@ use Rattle.pcef_model.specs.Reports.{body_of, tell}
 use Rattle.pcef_model.proofs.Sameness.{same_name_is}
 
 -- ---- reports change neither generations nor rows nor what is subscribed
-pub tell_tables : (p : Setting) (ts : List Telling) (j : Journal) → tables (tell p ts j) ≡ tables j
+pub tell_tables : (p : Setting) (ts : List PendingReport) (j : Journal) → tables (tell p ts j) ≡ tables j
 unfolding tell
 tell_tables p [] j = refl
 tell_tables p (t ∷ ts) j = tell_tables p ts (entry.Report (record { number = report_count j; body = body_of p j t }) ∷ j)
 
-pub tell_rows : (p : Setting) (ts : List Telling) (j : Journal) → rows (tell p ts j) ≡ rows j
+pub tell_rows : (p : Setting) (ts : List PendingReport) (j : Journal) → rows (tell p ts j) ≡ rows j
 unfolding tell
 tell_rows p [] j = refl
 tell_rows p (t ∷ ts) j = tell_rows p ts (entry.Report (record { number = report_count j; body = body_of p j t }) ∷ j)
 
-pub tell_subscribed : (p : Setting) (ts : List Telling) (j : Journal) → subscribed (tell p ts j) ≡ subscribed j
+pub tell_subscribed : (p : Setting) (ts : List PendingReport) (j : Journal) → subscribed (tell p ts j) ≡ subscribed j
 unfolding tell subscribed
 tell_subscribed p [] j = refl
 tell_subscribed p (t ∷ ts) j = tell_subscribed p ts (entry.Report (record { number = report_count j; body = body_of p j t }) ∷ j)
 
-pub tell_now : (p : Setting) (ts : List Telling) (j : Journal) → now p (tell p ts j) ≡ now p j
+pub tell_now : (p : Setting) (ts : List PendingReport) (j : Journal) → now p (tell p ts j) ≡ now p j
 tell_now p ts j = ap (made_by p) (tell_tables p ts j)
 
-pub tell_slots : (p : Setting) (ts : List Telling) (j : Journal) → slots p (tell p ts j) ≡ slots p j
+pub tell_slots : (p : Setting) (ts : List PendingReport) (j : Journal) → slots p (tell p ts j) ≡ slots p j
 tell_slots p ts j = ap (slots_of p) (tell_tables p ts j)
 
-pub tell_counted : (p : Setting) (ts : List Telling) (j : Journal) (key : List ℕ) → counted p (tell p ts j) key ≡ counted p j key
+pub tell_counted : (p : Setting) (ts : List PendingReport) (j : Journal) (key : List ℕ) → counted p (tell p ts j) key ≡ counted p j key
 tell_counted p ts j key =
     ap (λ (cs : List Command). octets_of (λ r. counts_in p (made_by p (oldest r.generation cs)) key r.header) (rows (tell p ts j))) (tell_tables p ts j) ∙
     ap (octets_of (counts p j key)) (tell_rows p ts j)
@@ -58,7 +58,7 @@ unfolding subscribed
 subscribed_after_row j r = refl
 
 -- ---- no more is reported than was counted
-one_exact : (p : Setting) (t : Telling) (j : Journal) (key : List ℕ) → reported j key ≤ counted p j key →
+one_exact : (p : Setting) (t : PendingReport) (j : Journal) (key : List ℕ) → reported j key ≤ counted p j key →
     octets_told key (body_of p j t) + reported j key ≤ counted p j key
 one_exact p (Inactive rule) j key exact = omega arith
 one_exact p (Access kind value) j key exact = omega arith
@@ -73,7 +73,7 @@ one_exact p (Usage other cause) j key exact =
       | inr differs ↦ rw differs (omega arith)
     ]
 
-pub tell_exact : (p : Setting) (ts : List Telling) (j : Journal) (key : List ℕ) → reported j key ≤ counted p j key →
+pub tell_exact : (p : Setting) (ts : List PendingReport) (j : Journal) (key : List ℕ) → reported j key ≤ counted p j key →
     reported (tell p ts j) key ≤ counted p (tell p ts j) key
 unfolding tell reported
 tell_exact p [] j key exact = exact

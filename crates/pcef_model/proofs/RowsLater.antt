@@ -8,7 +8,7 @@ use Rattle.pcef_model.specs.declared.row.Row.{Row}
 use Rattle.pcef_model.specs.Setting.{Setting}
 use Rattle.pcef_model.specs.Entries.{Journal, lane}
 use Rattle.pcef_model.specs.Generations.{made_by, oldest}
-use Rattle.pcef_model.specs.Journals.{at, gen, judged, tables}
+use Rattle.pcef_model.specs.Journals.{at, gen, verdict_at, tables}
 use Rattle.pcef_model.specs.Commands.{is_table}
 use Rattle.pcef_model.specs.Reports.{with_rows}
 use Rattle.pcef_model.proofs.Growth.{at_after_command, gen_after_table, tables_of_other}
@@ -55,7 +55,7 @@ row_later p j k r later follows = record {
   in_lane = follows.in_lane ∙ sym (ap length later.lane_is);
   not_older = rw later.lane_is follows.not_older;
   known = omega (arith, follows.known, later.gen_more);
-  verdict = follows.verdict ∙ sym (ap (λ g. judged p g r.header) (later.at_is r.generation follows.known));
+  verdict = follows.verdict ∙ sym (ap (λ g. verdict_at p g r.header) (later.at_is r.generation follows.known));
 }
 
 rows_later : (p : Setting) (worker : ℕ) (j k : Journal) (rs : List Row) → Later p worker j k → All (λ r. r.worker ≡ worker) rs → RowsFollow p j rs → RowsFollow p k rs

@@ -101,8 +101,8 @@ verdict_of g (gated r) = Gated r.properties.name
 verdict_of g (passed r) = Passed r.properties.name (record { 0 = g.id_of r.properties.qos })
 
 -- the verdict on a packet in a generation
-abbrev pub judged : Setting → Generation → Header → Verdict
-judged p g header = verdict_of g (decision p g header)
+abbrev pub verdict_at : Setting → Generation → Header → Verdict
+verdict_at p g header = verdict_of g (decision p g header)
 
 -- ---- counting (TS 29.212, clauses 4.5.16 and 4.5.17)
 abbrev pub passed_for : List ℕ → Decision → Bool

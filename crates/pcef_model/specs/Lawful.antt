@@ -7,9 +7,9 @@ use Rattle.pcef_model.specs.declared.entry.Entry.TheVariants as entry
 use Rattle.pcef_model.specs.declared.row.Row.{Row}
 use Rattle.pcef_model.specs.Setting.{Setting}
 use Rattle.pcef_model.specs.Entries.{Journal, lane}
-use Rattle.pcef_model.specs.Journals.{at, gen, judged}
+use Rattle.pcef_model.specs.Journals.{at, gen, verdict_at}
 use Rattle.pcef_model.specs.Reports.{after_attach, after_command, after_flush, after_leave}
-use Rattle.pcef_model.specs.Answers.{changes}
+use Rattle.pcef_model.specs.Outcomes.{changes}
 use Rattle.pcef_model.specs.Refusals.{attach_faults, first_of, flush_refusals, is_attached, refusals}
 
 -- the generation of a lane's newest row
@@ -23,7 +23,7 @@ pub record RowFollows (p : Setting) (j : Journal) (r : Row) : Type 0 where
   pub in_lane : r.seq ≡ length (lane j r.worker)
   pub not_older : newest_generation (lane j r.worker) ≤ r.generation
   pub known : r.generation ≤ gen j
-  pub verdict : r.verdict ≡ judged p (at p j r.generation) r.header
+  pub verdict : r.verdict ≡ verdict_at p (at p j r.generation) r.header
 
 -- rows that may come one after the other
 unfoldable pub RowsFollow : Setting → Journal → List Row → Type 0

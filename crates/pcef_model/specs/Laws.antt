@@ -2,7 +2,7 @@
 use Rattle.std.specs.Prelude.{[], length}
 use Rattle.std.specs.List.{AllByRecursion}
 use Rattle.pcef_model.specs.Entries.{lane, rows}
-use Rattle.pcef_model.specs.Journals.{judged}
+use Rattle.pcef_model.specs.Journals.{verdict_at}
 use Rattle.pcef_model.specs.Lawful.{newest_generation}
 use Rattle.std.specs.Prelude.{◌≢◌, None, Some}
 use Rattle.pcef_model.specs.declared.answer.FlushRefusal.TheVariants as flush
@@ -105,7 +105,7 @@ NothingFollowsTheEnd = (p : Setting) (j : Journal) → first_of (refusals p j Te
 -- each row has the verdict of its own generation, which was made before it came
 pub record HasItsVerdict (p : Setting) (j : Journal) (r : Row) : Type 0 where
   pub known : r.generation ≤ gen j
-  pub verdict_is : r.verdict ≡ judged p (at p j r.generation) r.header
+  pub verdict_is : r.verdict ≡ verdict_at p (at p j r.generation) r.header
 
 abbrev pub RowsHaveTheirVerdicts : Type 0
 RowsHaveTheirVerdicts = (p : Setting) (j : Journal) → Lawful p j → AllByRecursion (HasItsVerdict p j) (rows j)

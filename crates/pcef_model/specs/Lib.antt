@@ -1,5 +1,5 @@
 pub mod ActiveRules
-pub mod Answers
+pub mod Outcomes
 pub mod Bearers
 pub mod Changes
 pub mod Commands

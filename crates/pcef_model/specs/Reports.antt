@@ -11,8 +11,8 @@ use Rattle.pcef_model.specs.declared.report.Body.TheVariants as body
 use Rattle.pcef_model.specs.declared.report.Cause.TheVariants.{Threshold, Requested, Disabled, RulesGone, Terminated}
 use Rattle.pcef_model.specs.declared.report.InactiveCause.TheVariants.{BearerLost}
 use Rattle.pcef_model.specs.declared.row.Row.{Row}
-use Rattle.pcef_model.specs.declared.telling.Telling.{Telling}
-use Rattle.pcef_model.specs.declared.telling.Telling.TheVariants.{Inactive, Usage, Access}
+use Rattle.pcef_model.specs.declared.pending_report.PendingReport.{PendingReport}
+use Rattle.pcef_model.specs.declared.pending_report.PendingReport.TheVariants.{Inactive, Usage, Access}
 use Rattle.pcef_model.specs.declared.trigger.AccessKind.{AccessKind}
 use Rattle.pcef_model.specs.declared.trigger.AccessKind.TheVariants.{RatChange, PlmnChange, UserLocationChange, UeTimeZoneChange}
 use Rattle.pcef_model.specs.declared.trigger.TriggerSet.{TriggerSet}
@@ -25,13 +25,13 @@ use Rattle.pcef_model.specs.Journals.{attach_count, grant, now, report_count, sl
 
 -- ---- telling
 -- a usage report tells all that is unreported just before it, zero included
-abbrev pub body_of : Setting → Journal → Telling → Body
+abbrev pub body_of : Setting → Journal → PendingReport → Body
 body_of p j (Inactive rule) = body.Inactive rule BearerLost
 body_of p j (Usage key cause) = body.Usage key (unreported p j key) cause
 body_of p j (Access kind value) = body.Access kind value
 
 -- the journal with these reports at its end, numbered on
-unfoldable pub tell : Setting → List Telling → Journal → Journal
+unfoldable pub tell : Setting → List PendingReport → Journal → Journal
 tell p [] j = j
 tell p (t ∷ ts) j = tell p ts (entry.Report (record { number = report_count j; body = body_of p j t }) ∷ j)
 
@@ -46,14 +46,14 @@ in_order [] = []
 in_order (n ∷ ns) = insert_name n (in_order ns)
 
 -- the rules that go with a lost bearer (TS 29.212, clause 5.3.18, Charging-Rule-Report), by the bytes of their names
-abbrev pub inactive : Generation → Command → List Telling
+abbrev pub inactive : Generation → Command → List PendingReport
 inactive g (LoseBearer id) =
     map Inactive (in_order (map (λ r. r.properties.name) (filter (λ r. g.id_of r.properties.qos == id.0) g.rules)))
 inactive g _ = []
 
 -- the keys that are on, had a rule and lose their last one, in slot order; or, at Terminate, all keys
 -- that are on or have unreported octets (TS 29.212, clauses 4.5.16 and 4.5.17)
-abbrev pub ended : Setting → Journal → Command → List Telling
+abbrev pub ended : Setting → Journal → Command → List PendingReport
 ended p j Terminate = map (λ k. Usage k Terminated) (filter (λ k. is_among k (now p j).on || nat_lt 0 (unreported p j k)) (slots p j))
 ended p j c =
     map (λ k. Usage k RulesGone)
@@ -61,10 +61,10 @@ ended p j c =
     (slots p j))
 
 -- what a command asks for
-abbrev pub asked : Command → List Telling
-asked (Stop key) = Usage key Disabled ∷ []
-asked (ReportNow key) = Usage key Requested ∷ []
-asked _ = []
+abbrev pub requested : Command → List PendingReport
+requested (Stop key) = Usage key Disabled ∷ []
+requested (ReportNow key) = Usage key Requested ∷ []
+requested _ = []
 
 abbrev pub is_subscribed : TriggerSet → AccessKind → Bool
 is_subscribed set RatChange = set.rat_change
@@ -73,16 +73,16 @@ is_subscribed set UserLocationChange = set.user_location_change
 is_subscribed set UeTimeZoneChange = set.ue_time_zone_change
 
 -- a notice of a subscribed event
-abbrev pub noticed_by : TriggerSet → Command → List Telling
+abbrev pub noticed_by : TriggerSet → Command → List PendingReport
 noticed_by set (Notice kind value) = if is_subscribed set kind then Access kind value ∷ [] else []
 noticed_by set _ = []
 
-abbrev pub noticed : Journal → Command → List Telling
+abbrev pub noticed : Journal → Command → List PendingReport
 noticed j c = noticed_by (subscribed j) c
 
 -- all that a command reports by itself, in its order
-abbrev pub plan : Setting → Journal → Command → List Telling
-plan p j c = inactive (now p j) c ++ (ended p j c ++ (asked c ++ noticed j c))
+abbrev pub plan : Setting → Journal → Command → List PendingReport
+plan p j c = inactive (now p j) c ++ (ended p j c ++ (requested c ++ noticed j c))
 
 -- ---- thresholds
 abbrev pub is_reached_by : Option ℕ → ℕ → Bool
@@ -94,17 +94,17 @@ abbrev pub is_reached : Setting → Journal → List ℕ → Bool
 is_reached p j key = is_among key (now p j).on && is_reached_by (grant j key) (unreported p j key)
 
 -- at the end of an event, while usage reports are subscribed, the grants that are reached, in slot order
-unfoldable pub thresholds : Setting → Journal → List Telling
+unfoldable pub thresholds : Setting → Journal → List PendingReport
 thresholds p j =
     if (subscribed j).usage_report then map (λ k. Usage k Threshold) (filter (is_reached p j) (slots p j)) else []
 
-abbrev pub settled : Setting → Journal → Journal
-settled p j = tell p (thresholds p j) j
+abbrev pub with_thresholds : Setting → Journal → Journal
+with_thresholds p j = tell p (thresholds p j) j
 
 -- ---- the journal after an event
 -- an accepted command: its entry, its own reports, and the thresholds
 unfoldable pub after_command : Setting → Journal → Command → Journal
-after_command p j c = settled p (tell p (plan p j c) (entry.Command c ∷ j))
+after_command p j c = with_thresholds p (tell p (plan p j c) (entry.Command c ∷ j))
 
 unfoldable pub with_rows : List Row → Journal → Journal
 with_rows [] j = j
@@ -113,7 +113,7 @@ with_rows (r ∷ rs) j = with_rows rs (entry.Row r ∷ j)
 -- an accepted flush: its rows, the oldest first, and the thresholds; a flush of no rows changes nothing
 abbrev pub after_flush : Setting → Journal → List Row → Journal
 after_flush p j [] = j
-after_flush p j (r ∷ rs) = settled p (with_rows (r ∷ rs) j)
+after_flush p j (r ∷ rs) = with_thresholds p (with_rows (r ∷ rs) j)
 
 -- a worker comes
 abbrev pub after_attach : Journal → Journal

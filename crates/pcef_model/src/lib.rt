@@ -10,7 +10,7 @@ mod profile;
 mod report;
 mod row;
 mod step;
-mod telling;
+mod pending_report;
 mod trigger;
 mod verdict;
 
@@ -25,6 +25,6 @@ pub use profile::{MAX_CAPACITY, MAX_COMMANDS, Profile};
 pub use report::{Body, Cause, InactiveCause, Report};
 pub use row::Row;
 pub use step::Step;
-pub use telling::Telling;
+pub use pending_report::PendingReport;
 pub use trigger::{AccessKind, NoticeValue, OfNotice, TriggerSet};
 pub use verdict::Verdict;

@@ -14,7 +14,7 @@ ghost use Rattle.pcef_script.specs.Scripts.{Opened};
 
 use crate::fault::ScriptFault;
 use crate::running::{Running, end_line, take_block};
-use pcef_catalog::{Catalog, Offers};
+use pcef_catalog::{Catalog, Detects};
 use pcef_model::{OpenFault, Profile};
 use pcef_world::WorldState;
 use std::alloc::Global;
@@ -49,7 +49,7 @@ fn read_some<R: Read>(reader: &mut R, block: &mut [u8], most: usize) -> io::Resu
     reader.read(&mut block[..room])
 }
 
-fn run<C: Offers, R: Read, W: Write>(
+fn run<C: Detects, R: Read, W: Write>(
     alloc: Global,
     catalog: &C,
     world: WorldState,

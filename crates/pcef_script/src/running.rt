@@ -13,7 +13,7 @@ use crate::fault::ScriptFault;
 use crate::input::Pending;
 use crate::step::{Answer, answer_line, answer_too_long};
 use crate::writing::put_all;
-use pcef_catalog::Offers;
+use pcef_catalog::Detects;
 use pcef_world::WorldState;
 use std::alloc::{AllocError, Global};
 use std::io::Write;
@@ -37,7 +37,7 @@ fn write_answer<W: Write>(writer: &mut W, answer: &Answer) -> Result<(), ScriptF
     put_all(writer, b"\n")
 }
 
-fn answer_of<C: Offers>(
+fn answer_of<C: Detects>(
     alloc: Global,
     catalog: &C,
     world: &mut WorldState,
@@ -68,7 +68,7 @@ fn tell<W: Write>(writer: &mut W, answer: &Answer, faults: u64) -> Result<u64, S
 }
 
 /// Answers a line that has ended, and gives how many lines are at fault then.
-pub(crate) fn end_line<C: Offers, W: Write>(
+pub(crate) fn end_line<C: Detects, W: Write>(
     alloc: Global,
     catalog: &C,
     world: &mut WorldState,
@@ -91,7 +91,7 @@ pub(crate) fn end_line<C: Offers, W: Write>(
 }
 
 /// Takes one byte of the script: a line feed ends the line.
-fn take_byte<C: Offers, W: Write>(
+fn take_byte<C: Detects, W: Write>(
     alloc: Global,
     catalog: &C,
     script: &mut Running,
@@ -120,7 +120,7 @@ fn take_byte<C: Offers, W: Write>(
 
 /// Takes the bytes up to the next line feed at once, then the next byte, if there is one, and gives how many
 /// these are.
-fn take_some<C: Offers, W: Write>(
+fn take_some<C: Detects, W: Write>(
     alloc: Global,
     catalog: &C,
     script: &mut Running,
@@ -143,7 +143,7 @@ fn take_some<C: Offers, W: Write>(
 }
 
 /// Takes bytes of the script.
-pub(crate) fn take_block<C: Offers, W: Write>(
+pub(crate) fn take_block<C: Detects, W: Write>(
     alloc: Global,
     catalog: &C,
     script: &mut Running,

@@ -9,7 +9,7 @@ ghost use Rattle.pcef_line.specs.declared.fault.LineFault.TheVariants.{LineTooLo
 ghost use Rattle.pcef_line.specs.declared.line.Line.TheVariants.{Show};
 
 use pcef_answer::{fault_text, show_answer, step_answer};
-use pcef_catalog::Offers;
+use pcef_catalog::Detects;
 use pcef_line::{Line, LineFault, read_line};
 use pcef_model::Step;
 use pcef_world::WorldState;
@@ -40,7 +40,7 @@ fn show(alloc: Global, world: &WorldState) -> Result<String, AllocError>
     show_answer(alloc, world.session())
 }
 
-fn step<C: Offers>(
+fn step<C: Detects>(
     alloc: Global,
     catalog: &C,
     world: &mut WorldState,
@@ -55,7 +55,7 @@ fn step<C: Offers>(
     step_answer(alloc, session.journal(), session.generation(), &answer)
 }
 
-fn line_text<C: Offers>(
+fn line_text<C: Detects>(
     alloc: Global,
     catalog: &C,
     world: &mut WorldState,
@@ -71,7 +71,7 @@ fn line_text<C: Offers>(
     }
 }
 
-fn done<C: Offers>(
+fn done<C: Detects>(
     alloc: Global,
     catalog: &C,
     world: &mut WorldState,
@@ -98,7 +98,7 @@ fn read_fault(alloc: Global, at_fault: LineFault) -> Result<Answer, AllocError>
     }
 }
 
-fn answer_text<C: Offers>(
+fn answer_text<C: Detects>(
     alloc: Global,
     catalog: &C,
     world: &mut WorldState,
@@ -115,7 +115,7 @@ fn answer_text<C: Offers>(
 }
 
 /// Does what a line within the limit asks for, and answers. A line at fault changes nothing.
-pub(crate) fn answer_line<C: Offers>(
+pub(crate) fn answer_line<C: Detects>(
     alloc: Global,
     catalog: &C,
     world: &mut WorldState,

@@ -18,7 +18,7 @@ use Rattle.pcef_usage.specs.Commands.{Asks}
 use Rattle.pcef_usage.specs.Keys.{finds_no_slot as slotless, keys_of}
 use Rattle.pcef_bearer.specs.Standing.{binding_of}
 use Rattle.pcef_session.specs.declared.prepared.Activation.{Activation}
-use Rattle.pcef_model.specs.Answers.{changes, bearer_named}
+use Rattle.pcef_model.specs.Outcomes.{changes, bearer_named}
 use Rattle.pcef_session.specs.private.Changes.{Binds, CanBind}
 use Rattle.pcef_session.specs.Preparing.{Activates}
 use Rattle.pcef_session.proofs.Activations.{brought}

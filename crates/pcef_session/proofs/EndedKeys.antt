@@ -1,6 +1,6 @@
 -- What a command reports by itself: rules that go with their bearer, and keys that it ends.
 use Rattle.std.proofs.Common.{◌==◌, map}
-use Rattle.pcef_model.specs.declared.telling.Telling.TheVariants.{Inactive}
+use Rattle.pcef_model.specs.declared.pending_report.PendingReport.TheVariants.{Inactive}
 use Rattle.pcef_model.specs.Reports.{in_order}
 use Rattle.pcef_bearer.specs.Bindings.{Binding, rules_on}
 use Rattle.pcef_bearer.specs.Standing.{binding_of, bound_of}
@@ -20,13 +20,13 @@ use Rattle.pcef_model.specs.declared.command.Command.{Command}
 use Rattle.pcef_model.specs.declared.command.Command.TheVariants.{Install, Activate, Remove, Monitor, Stop, ReportNow, Triggers, Notice, LoseBearer, Close, Terminate}
 use Rattle.pcef_model.specs.declared.report.Cause.{Cause}
 use Rattle.pcef_model.specs.declared.report.Cause.TheVariants.{RulesGone}
-use Rattle.pcef_model.specs.declared.telling.Telling.TheVariants.{Usage}
+use Rattle.pcef_model.specs.declared.pending_report.PendingReport.TheVariants.{Usage}
 use Rattle.pcef_model.specs.Setting.{Setting, same_name}
 use Rattle.pcef_model.specs.ActiveRules.{Active, has_key, is_key, is_named, put, without}
 use Rattle.pcef_model.specs.Generations.{Generation, rules_after}
 use Rattle.pcef_model.specs.Entries.{Journal}
 use Rattle.pcef_model.specs.Journals.{at, gen, now, tables}
-use Rattle.pcef_model.specs.Reports.{asked, ended, inactive, noticed, plan}
+use Rattle.pcef_model.specs.Reports.{requested, ended, inactive, noticed, plan}
 use Rattle.pcef_model.proofs.Growth.{at_newest}
 use Rattle.pcef_model.proofs.Sameness.{same_name_is}
 use Rattle.pcef_usage.specs.declared.usage.KeyState.{KeyState}
@@ -234,7 +234,7 @@ inactive_is p g Close b is = refl
 inactive_is p g Terminate b is = refl
 
 -- what is planned part by part
-pub plan_is : (p : Setting) (j : Journal) (c : Command) → ((inactive (now p j) c ++ ended p j c) ++ asked c) ++ noticed j c ≡ plan p j c
+pub plan_is : (p : Setting) (j : Journal) (c : Command) → ((inactive (now p j) c ++ ended p j c) ++ requested c) ++ noticed j c ≡ plan p j c
 plan_is p j c =
-    append_assoc (inactive (now p j) c ++ ended p j c) (asked c) (noticed j c)
-    ∙ append_assoc (inactive (now p j) c) (ended p j c) (asked c ++ noticed j c)
+    append_assoc (inactive (now p j) c ++ ended p j c) (requested c) (noticed j c)
+    ∙ append_assoc (inactive (now p j) c) (ended p j c) (requested c ++ noticed j c)

@@ -10,7 +10,7 @@ use Rattle.pcef_model.specs.declared.entry.Entry.{Entry}
 use Rattle.pcef_model.specs.declared.entry.Entry.TheVariants as entry
 use Rattle.pcef_model.specs.declared.report.Report.{Report}
 use Rattle.pcef_model.specs.declared.row.Row.{Row}
-use Rattle.pcef_model.specs.declared.telling.Telling.{Telling}
+use Rattle.pcef_model.specs.declared.pending_report.PendingReport.{PendingReport}
 use Rattle.pcef_model.specs.Setting.{Setting}
 use Rattle.pcef_model.specs.Entries.{Journal, commands}
 use Rattle.pcef_model.specs.Journals.{report_count}
@@ -21,7 +21,7 @@ use Rattle.pcef_session.specs.private.Soundness.{EndsAgree, ends_met}
 use Rattle.pcef_session.proofs.Refused.{limited_plain}
 
 -- ---- entries of a kind, as reports and rows come
-any_told : (test : Entry → Bool) (p : Setting) (ts : List Telling) (j : Journal) → ((r : Report) → test (entry.Report r) ≡ false) → list_any test (tell p ts j) ≡ list_any test j
+any_told : (test : Entry → Bool) (p : Setting) (ts : List PendingReport) (j : Journal) → ((r : Report) → test (entry.Report r) ≡ false) → list_any test (tell p ts j) ≡ list_any test j
 unfolding tell
 any_told test p [] j other = refl
 any_told test p (t ∷ ts) j other =

@@ -8,7 +8,7 @@ use Rattle.pcef_rule.specs.declared.qci.Kind.TheVariants as kind
 use Rattle.pcef_rule.specs.QciKinds.{kind_of}
 use Rattle.pcef_model.specs.declared.answer.OpenFault.{OpenFault}
 use Rattle.pcef_model.specs.declared.answer.OpenFault.TheVariants as fault
-use Rattle.pcef_model.specs.Answers.{Opens}
+use Rattle.pcef_model.specs.Outcomes.{Opens}
 use Rattle.pcef_table.specs.declared.entry.Entry.{Entry}
 use Rattle.pcef_table.specs.declared.entry.Source.{Source}
 use Rattle.pcef_table.specs.Tables.{TableValue}

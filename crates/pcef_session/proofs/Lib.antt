@@ -1,7 +1,7 @@
 pub mod Acceptance
 pub mod Activations
 pub mod BearerLaws
-pub mod Commanding
+pub mod CommandAgrees
 pub mod EndedKeys
 pub mod EndsMet
 pub mod FirstSession
@@ -16,7 +16,7 @@ pub mod ShownChanges
 pub mod ShownLater
 pub mod ShownSlots
 pub mod ShownVerdicts
-pub mod SoundLater
+pub mod InvariantKept
 pub mod TakenAway
-pub mod Taking
+pub mod FlushAgrees
 pub mod Tests

@@ -37,12 +37,12 @@ use Rattle.pcef_model.specs.declared.entry.Entry.TheVariants as entry
 use Rattle.pcef_model.specs.ActiveRules as rules
 use Rattle.pcef_usage.specs.declared.usage.KeyState.{KeyState}
 use Rattle.pcef_usage.specs.Keys.{has_slot, keys_of, place_of as place_in}
-use Rattle.pcef_usage.specs.Tellings.{AllCount, AllOn, Counts, OnIs}
+use Rattle.pcef_usage.specs.PendingReports.{AllCount, AllOn, Counts, OnIs}
 use Rattle.pcef_usage.proofs.Slots.{slot_of_on}
 use Rattle.pcef_usage.proofs.Tells.{all_same}
 use Rattle.pcef_session.specs.private.Parts.{Held}
 use Rattle.pcef_session.specs.Agreement.{KeyAgrees}
-use Rattle.pcef_bearer.specs.Bindings.{Binding, id_beside, without as bound_without}
+use Rattle.pcef_bearer.specs.Bindings.{Binding, id_excluding, without as bound_without}
 use Rattle.pcef_session.specs.declared.prepared.Activation.{Activation}
 use Rattle.pcef_bearer.specs.Standing.{binding_of}
 use Rattle.pcef_rule.specs.declared.quantity.BearerId.{BearerId}
@@ -288,9 +288,9 @@ entry_stands v c r x e sound makes is_of is =
     let p : Setting = v.setting in
     let g : Generation = now p v.journal in
     let same : x.properties ≡ r.properties = is_of.properties_are in
-    let bound : id_beside (binding_of p g).default_qos (binding_of p g).bound (bound_without r.properties.name (binding_of p g).bound) r.properties.qos ≡ Some e.bearer.0 =
-    subst (λ (q : Properties). id_beside (binding_of p g).default_qos (binding_of p g).bound (bound_without q.name (binding_of p g).bound) q.qos ≡ Some e.bearer.0) same
-    (subst (λ (b : Binding). id_beside b.default_qos b.bound (bound_without x.properties.name b.bound) x.properties.qos ≡ Some e.bearer.0) sound.agrees.binding_is is.bearer_is) in
+    let bound : id_excluding (binding_of p g).default_qos (binding_of p g).bound (bound_without r.properties.name (binding_of p g).bound) r.properties.qos ≡ Some e.bearer.0 =
+    subst (λ (q : Properties). id_excluding (binding_of p g).default_qos (binding_of p g).bound (bound_without q.name (binding_of p g).bound) q.qos ≡ Some e.bearer.0) same
+    (subst (λ (b : Binding). id_excluding b.default_qos b.bound (bound_without x.properties.name b.bound) x.properties.qos ≡ Some e.bearer.0) sound.agrees.binding_is is.bearer_is) in
     stands_new p v.journal c r e v.parts.keys makes sound.agrees.keys_are (ap (rule_of p.catalog) is.source_is ∙ is_of.rule_is)
     (sym (next_id p g c r e.bearer.0 makes (lawful_bound p v.journal sound.agrees.lawful) bound))
     (is.slot_is ∙ ap (λ (q : Properties). option_map (λ k. place_in k v.parts.keys) q.key) same)

@@ -4,7 +4,7 @@ use Rattle.std.specs.Prelude.{slice_get}
 use Rattle.std.proofs.lemmas.List.{length-map}
 use Rattle.pcef_lane.specs.declared.lanes.LaneEnd.{LaneEnd}
 use Rattle.pcef_lane.specs.Lanes.{at_start, last_generation, lengthened}
-use Rattle.pcef_session.specs.private.Taking.{with_lane}
+use Rattle.pcef_session.specs.private.TakenRows.{with_lane}
 use Rattle.std.proofs.Common.{◌≡◌, ◌∙◌, ◌≤◌, ◌<◌, ◌+◌, ℕ, List, ◌∷◌, length, sym, ap, subst, drop, get_or}
 use Rattle.std.proofs.lemmas.List.{drop_all, drop_more}
 use Rattle.std.proofs.Common.{map}
@@ -16,7 +16,7 @@ use Rattle.pcef_usage.specs.declared.usage.KeyState.{KeyState}
 use Rattle.pcef_usage.specs.Flushes.{rows_counted}
 use Rattle.pcef_usage.specs.Keys.{CanCount, with_octets}
 use Rattle.pcef_session.specs.declared.batch.Item.{Item}
-use Rattle.pcef_session.specs.private.Taking.{CanCountAll}
+use Rattle.pcef_session.specs.private.TakenRows.{CanCountAll}
 use Rattle.pcef_session.specs.Following.{row_of, slot_of}
 
 -- what is left begins with the item at hand

@@ -18,7 +18,7 @@ use Rattle.pcef_model.specs.ActiveRules.{Active, decisive, is_decisive, is_key}
 use Rattle.pcef_model.specs.Generations.{Generation}
 use Rattle.pcef_model.specs.Commands.{is_among}
 use Rattle.pcef_model.specs.Entries.{Journal}
-use Rattle.pcef_model.specs.Journals.{Decision, at, counts_in, decided_by, decision, gated, judged, passed, slots, stray, unmatched, verdict_of, passed_for}
+use Rattle.pcef_model.specs.Journals.{Decision, at, counts_in, decided_by, decision, gated, verdict_at, passed, slots, stray, unmatched, verdict_of, passed_for}
 use Rattle.pcef_lists.proofs.Tests.{contrary}
 use Rattle.pcef_model.proofs.Sameness.{same_name_is, same_name_of}
 use Rattle.pcef_model.specs.Slots.{has_this_slot, is_at, counts_now, place_of, slot_of}
@@ -107,7 +107,7 @@ entry_named p j g t r shows once there =
 -- ---- counting
 -- the slot that a table gives to a verdict is that of the key that the packet counts for
 pub shown_counts : (p : Setting) (j : Journal) (g : ℕ) (t : TableValue) (header : Header) (v : Verdict) (key : List ℕ) → Shows p j g t → NamesOnce (at p j g).rules →
-    v ≡ judged p (at p j g) header → counts_in p (at p j g) key header ≡ has_this_slot (slots p j) (slot_for p.catalog t.entries v) key
+    v ≡ verdict_at p (at p j g) header → counts_in p (at p j g) key header ≡ has_this_slot (slots p j) (slot_for p.catalog t.entries v) key
 shown_counts p j g t header v key shows once is = rw is (from (decision p (at p j g) header) refl)
   where
     from : (d : Decision) → decision p (at p j g) header ≡ d →

@@ -23,7 +23,7 @@ use Rattle.pcef_table.specs.Verdicts.{IsVerdict}
 use Rattle.pcef_model.specs.Setting.{Setting}
 use Rattle.pcef_model.specs.ActiveRules.{Active, decisive, dynamic, fits, goes_ahead_of, is_before, is_decisive, is_named, predefined, rank_of}
 use Rattle.pcef_model.specs.Entries.{Journal}
-use Rattle.pcef_model.specs.Journals.{at, judged}
+use Rattle.pcef_model.specs.Journals.{at, verdict_at}
 use Rattle.pcef_model.proofs.Sameness.{same_name_of}
 use Rattle.pcef_session.specs.Shown.{Shows, StandsFor, rule_of}
 use Rattle.pcef_model.proofs.BoundRules.{NamesOnce}
@@ -97,7 +97,7 @@ bearer_same : (b : BearerId) (n : ℕ) → b.0 ≡ n → b ≡ record { 0 = n }
 bearer_same b n is = ap (λ (m : ℕ). record { 0 = m }) is
 
 pub shown_judges : (p : Setting) (j : Journal) (g : ℕ) (t : TableValue) (header : Header) (v : Verdict) → Shows p j g t → NamesOnce (at p j g).rules →
-    IsVerdict p.catalog t.entries p.ue header v → v ≡ judged p (at p j g) header
+    IsVerdict p.catalog t.entries p.ue header v → v ≡ verdict_at p (at p j g) header
 shown_judges p j g t header Stray shows once is = rw is refl
 shown_judges p j g t header Unmatched shows once (own, none) = rw (own, none_decides p j g t header shows none) refl
 shown_judges p j g t header (Gated rule) shows once (own, e, properties, decides, closed, name_is) =

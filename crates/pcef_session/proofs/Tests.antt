@@ -6,9 +6,9 @@ use Rattle.pcef_model.proofs.Members.{first_there, later_there}
 
 -- two tests that imply each other are one
 pub same_test : (a b : Bool) → (a ≡ true → b ≡ true) → (b ≡ true → a ≡ true) → a ≡ b
-same_test true b onward back = sym (onward refl)
-same_test false true onward back = back refl
-same_test false false onward back = refl
+same_test true b extends back = sym (extends refl)
+same_test false true extends back = back refl
+same_test false false extends back = refl
 
 -- the first two of three trade places
 pub or_swap : (a b c : Bool) → (a || (b || c)) ≡ (b || (a || c))

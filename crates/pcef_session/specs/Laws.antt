@@ -10,7 +10,7 @@ use Rattle.pcef_model.specs.declared.entry.Entry.TheVariants as entry
 use Rattle.pcef_model.specs.ActiveRules.{Active}
 use Rattle.pcef_model.specs.Setting.{Setting}
 use Rattle.pcef_model.specs.Entries.{Journal}
-use Rattle.pcef_model.specs.Journals.{at, counts_in, gen, judged, now, slots}
+use Rattle.pcef_model.specs.Journals.{at, counts_in, gen, verdict_at, now, slots}
 use Rattle.pcef_model.specs.Refusals.{rate_of}
 use Rattle.pcef_model.specs.Slots.{has_this_slot}
 use Rattle.pcef_model.specs.Lawful.{Lawful}
@@ -22,7 +22,7 @@ use Rattle.pcef_model.specs.Generations.{has_bearer}
 -- a table that shows a generation gives its verdict on each packet
 abbrev pub ShownTablesJudge : Type 0
 ShownTablesJudge = (p : Setting) (j : Journal) (g : ℕ) (t : TableValue) (header : Header) (v : Verdict) → Shows p j g t →
-    IsVerdict p.catalog t.entries p.ue header v → v ≡ judged p (at p j g) header
+    IsVerdict p.catalog t.entries p.ue header v → v ≡ verdict_at p (at p j g) header
 
 -- a table goes on showing its generation as commands come
 abbrev pub ShownTablesStay : Type 0

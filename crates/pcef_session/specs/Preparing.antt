@@ -7,7 +7,7 @@ use Rattle.pcef_bearer.specs.Standing.{binding_of}
 use Rattle.pcef_rule.specs.declared.quantity.BearerId.{BearerId}
 use Rattle.pcef_model.specs.declared.command.Command.{Command}
 use Rattle.pcef_model.specs.declared.command.Command.TheVariants.{Activate}
-use Rattle.pcef_model.specs.Answers.{changes}
+use Rattle.pcef_model.specs.Outcomes.{changes}
 use Rattle.pcef_model.specs.ActiveRules.{Active}
 use Rattle.pcef_model.specs.Commands.{activated, is_table}
 use Rattle.pcef_model.specs.Entries.{Journal}

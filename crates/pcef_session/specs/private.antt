@@ -4,4 +4,4 @@ pub mod Entries
 pub mod Keys
 pub mod Parts
 pub mod Soundness
-pub mod Taking
+pub mod TakenRows

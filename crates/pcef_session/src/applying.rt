@@ -12,13 +12,13 @@ ghost use Rattle.pcef_session.specs.Preparing.{IsBearerFor, IsBearerOf};
 ghost use Rattle.pcef_bearer.specs.Bindings as binding;
 ghost use Rattle.pcef_usage.specs.Commands.{subscribed_by};
 ghost use Rattle.pcef_usage.specs.Keys.{finds_no_slot, keys_of};
-ghost use Rattle.pcef_usage.specs.Tellings.{KnowsAll, settled_states, settled_tellings, states_stopped, states_told, told};
+ghost use Rattle.pcef_usage.specs.PendingReports.{KnowsAll, settled_states, threshold_reports, states_stopped, states_told, appended};
 ghost use Rattle.pcef_session.specs.private.Changes.{Binds, CanBind, IsBoundTo, IsRebound, active_after, entered_by, is_still_bound, key_of, rule_key};
 
 use crate::prepared::Activation;
 use indexmap::IndexMap;
 use pcef_bearer::Bearers;
-use pcef_model::{Command, Entry, Telling, TriggerSet};
+use pcef_model::{Command, Entry, PendingReport, TriggerSet};
 use pcef_rule::{BearerId, KeyName, RuleName};
 use pcef_table::{Source, Table};
 use pcef_usage::CountedJournal;
@@ -63,16 +63,16 @@ pub(crate) fn enter(counted: &mut CountedJournal, command: Command, of_rule: Opt
 }
 
 /// Tells what a command reports by itself, and then the thresholds.
-pub(crate) fn tell(counted: &mut CountedJournal, tellings: &[Telling], subscribed: bool)
-    requires known { KnowsAll (keys_of counted.old.states) tellings.now }
-    requires room { length tellings.now + length counted.old.states ≤ counted.old.room }
-    ensures journal { counted.new.journal ≡ told (settled_tellings subscribed (states_told tellings.now (states_stopped tellings.now counted.old.states))) (settled_states subscribed (states_told tellings.now (states_stopped tellings.now counted.old.states))) (told tellings.now (states_stopped tellings.now counted.old.states) counted.old.journal) }
-    ensures states { counted.new.states ≡ states_told (settled_tellings subscribed (states_told tellings.now (states_stopped tellings.now counted.old.states))) (settled_states subscribed (states_told tellings.now (states_stopped tellings.now counted.old.states))) }
-    ensures room { counted.old.room ≤ counted.new.room + length tellings.now + length counted.old.states }
+pub(crate) fn tell(counted: &mut CountedJournal, all_pending: &[PendingReport], subscribed: bool)
+    requires known { KnowsAll (keys_of counted.old.states) all_pending.now }
+    requires room { length all_pending.now + length counted.old.states ≤ counted.old.room }
+    ensures journal { counted.new.journal ≡ appended (threshold_reports subscribed (states_told all_pending.now (states_stopped all_pending.now counted.old.states))) (settled_states subscribed (states_told all_pending.now (states_stopped all_pending.now counted.old.states))) (appended all_pending.now (states_stopped all_pending.now counted.old.states) counted.old.journal) }
+    ensures states { counted.new.states ≡ states_told (threshold_reports subscribed (states_told all_pending.now (states_stopped all_pending.now counted.old.states))) (settled_states subscribed (states_told all_pending.now (states_stopped all_pending.now counted.old.states))) }
+    ensures room { counted.old.room ≤ counted.new.room + length all_pending.now + length counted.old.states }
 {
-    counted.stop_all(tellings);
-    counted.tell_all(tellings);
-    counted.finish(subscribed);
+    counted.switch_off_reported(all_pending);
+    counted.append_reports(all_pending);
+    counted.report_thresholds(subscribed);
 }
 
 /// What is subscribed after a command.

@@ -10,7 +10,7 @@ ghost use Rattle.pcef_session.specs.private.Keys.{comes_named, comes_with, end_c
 
 use crate::prepared::Activation;
 use pcef_catalog::Listing;
-use pcef_model::{Cause, Command, Telling};
+use pcef_model::{Cause, Command, PendingReport};
 use pcef_rule::{KeyName, RuleName};
 use pcef_table::Entry;
 use pcef_usage::KeyState;
@@ -148,22 +148,22 @@ fn end_cause(command: &Command) -> Cause
 
 /// Adds the report of a key that is ended.
 fn note(
-    reports: &mut Vec<Telling>,
+    reports: &mut Vec<PendingReport>,
     state: &KeyState,
     cause: Cause,
     is_ended: bool,
 ) -> Result<(), AllocError>
-    ensures { OnOk result (reports.new.items ≡ reports.old.items ++ (if is_ended then Telling.Usage state.now.key cause ∷ [] else [])) }
+    ensures { OnOk result (reports.new.items ≡ reports.old.items ++ (if is_ended then PendingReport.Usage state.now.key cause ∷ [] else [])) }
 {
     if is_ended {
-        reports.push(Telling::Usage(state.key.copy(), cause))?;
+        reports.push(PendingReport::Usage(state.key.copy(), cause))?;
     }
     Ok(())
 }
 
 /// Adds the reports of the keys that a command ends, in slot order.
 pub(crate) fn add_ended_keys(
-    reports: &mut Vec<Telling>,
+    reports: &mut Vec<PendingReport>,
     states: &[KeyState],
     entries: &[Entry],
     listing: &Listing,

@@ -16,7 +16,7 @@ use std::alloc::AllocError;
 /// The bearer of a rule that can be bound.
 pub(crate) fn bearer_for(bearers: &Bearers, rule: &Properties) -> BearerId
     requires { first_of (binding.refusals bearers.now (binding.without rule.now.name bearers.now.bound) rule.now.qos rule.now.rates) ≡ None }
-    ensures { binding.id_beside bearers.now.default_qos bearers.now.bound (binding.without rule.now.name bearers.now.bound) rule.now.qos ≡ Some result.0 }
+    ensures { binding.id_excluding bearers.now.default_qos bearers.now.bound (binding.without rule.now.name bearers.now.bound) rule.now.qos ≡ Some result.0 }
 {
     match bearers.bearer_for(&rule.name, rule.qos) {
         Some(bearer) => bearer,

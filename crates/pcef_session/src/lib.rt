@@ -8,7 +8,7 @@ mod entries;
 mod inactive;
 mod keys;
 mod laws;
-mod planning;
+mod pending_reports;
 mod prepared;
 mod rows;
 mod state;

@@ -5,7 +5,7 @@ ghost use Rattle.std.specs.Arc.{arc_value};
 ghost use Rattle.std.specs.Option.{option_copied, option_map};
 ghost use Rattle.pcef_session.specs.Preparing.{table_made};
 
-use pcef_model::{Command, Telling};
+use pcef_model::{Command, PendingReport};
 use pcef_rule::{BearerId, Properties, RuleName};
 use pcef_table::{Source, Table};
 use std::sync::Arc;
@@ -31,7 +31,7 @@ pub struct PreparedChange {
     /// The bearer that this rule gets.
     pub bearer: Option<BearerId>,
     /// What the command reports by itself, in order.
-    pub reports: Vec<Telling>,
+    pub reports: Vec<PendingReport>,
 }
 
 /// A command that a session accepts next.

@@ -3,8 +3,8 @@
 ghost use Rattle.std.specs.Prelude.{◌≡◌, ◌≤◌, ◌<◌, ◌+◌, ◌^◌, ◌∷◌, get_or, length, map, IfOk};
 ghost use Rattle.pcef_lane.specs.Lanes.{at_start};
 ghost use Rattle.pcef_model.specs.Reports.{with_rows};
-ghost use Rattle.pcef_model.specs.Answers.{judged_of};
-ghost use Rattle.pcef_session.specs.private.Taking.{CanCountAll, IsTaken, with_lane};
+ghost use Rattle.pcef_model.specs.Outcomes.{judged_of};
+ghost use Rattle.pcef_session.specs.private.TakenRows.{CanCountAll, IsTaken, with_lane};
 ghost use Rattle.pcef_session.specs.Following.{row_of, slot_of};
 ghost use Rattle.pcef_usage.specs.Flushes.{rows_counted};
 
@@ -65,5 +65,5 @@ pub(crate) fn take_all(counted: &mut CountedJournal, items: &[Item], subscribed:
         return;
     }
     take_rows(counted, items);
-    counted.finish(subscribed);
+    counted.report_thresholds(subscribed);
 }

@@ -4,7 +4,7 @@ ghost use Rattle.std.specs.Prelude.{◌≡◌, ◌||◌, [], IfOk};
 ghost use Rattle.std.specs.Arc.{arc_value};
 ghost use Rattle.std.specs.Result.{result_err};
 ghost use Rattle.pcef_bearer.specs.Standing.{binding_of};
-ghost use Rattle.pcef_model.specs.Answers.{Attaches, Opens};
+ghost use Rattle.pcef_model.specs.Outcomes.{AttachStep, Opens};
 ghost use Rattle.pcef_model.specs.Entries.{lane};
 ghost use Rattle.pcef_model.specs.Generations.{at_first};
 ghost use Rattle.pcef_model.specs.Journals.{gen, now};
@@ -93,6 +93,7 @@ impl SessionState {
     ) -> Result<SessionState, OpenFault>
         ensures answer { Opens (setting_of profile listing) (result_err result) }
         ensures made { IfOk result (λ s. (s.setting ≡ setting_of profile listing) × (s.journal ≡ [])) }
+        ensures few_rows { IfOk result (λ s. s.setting.rows ≤ 4294967295) }
     {
         let bearers = match open_bearers(&profile) {
             Ok(bearers) => bearers,
@@ -148,7 +149,7 @@ impl SessionState {
     /// memory for what the journal says of the worker, its leaving included. Refused, in this order, where sixteen
     /// workers came, where the session was closed or terminated, and for want of memory.
     pub fn attach(&mut self) -> Result<u8, AttachFault>
-        ensures answer { Attaches self.old.journal result self.new.journal }
+        ensures answer { AttachStep self.old.journal result self.new.journal }
         ensures lane { IfOk result (λ worker. lane self.old.journal worker ≡ []) }
         ensures setting { self.new.setting ≡ self.old.setting }
     {

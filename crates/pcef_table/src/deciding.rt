@@ -7,7 +7,7 @@ ghost use Rattle.pcef_table.specs.Sources.{IsKnown, fits, is_named};
 ghost use Rattle.pcef_table.specs.Verdicts.{counted_slot, gate_verdict};
 
 use crate::entry::Entry;
-use pcef_catalog::Offers;
+use pcef_catalog::{Detects, Offers};
 use pcef_model::Verdict;
 use pcef_packet::{Addr, Dir, Header};
 use pcef_rule::{BearerId, Properties, RuleName, Slot};
@@ -20,7 +20,7 @@ pub fn is_own(header: &Header, ue: Addr) -> bool
 }
 
 /// The first entry that fits.
-pub(crate) fn first_fitting<'a, C: Offers>(
+pub(crate) fn first_fitting<'a, C: Detects>(
     catalog: &C,
     entries: &'a [Entry],
     ue: Addr,

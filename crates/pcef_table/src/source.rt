@@ -5,7 +5,7 @@ ghost use Rattle.pcef_rule.specs.Precedence.{rank_cmp};
 ghost use Rattle.pcef_table.specs.Sources.{IsKnown, fits, is_named, origin_of, properties_of, rank_of};
 
 use crate::entry::Source;
-use pcef_catalog::Offers;
+use pcef_catalog::{Detects, Offers};
 use pcef_filter::any_matches;
 use pcef_packet::{Addr, Header};
 use pcef_rule::{Origin, Properties, RuleName, compare_rules};
@@ -44,7 +44,7 @@ impl Source {
     }
 
     /// Whether the rule fits a packet.
-    pub(crate) fn fits<C: Offers>(&self, catalog: &C, ue: Addr, header: &Header) -> bool
+    pub(crate) fn fits<C: Detects>(&self, catalog: &C, ue: Addr, header: &Header) -> bool
         ensures { result ≡ fits (C.offers catalog.now) ue header.now self.now }
     {
         match self {

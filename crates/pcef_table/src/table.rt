@@ -9,7 +9,7 @@ ghost use Rattle.pcef_table.specs.Verdicts.{IsVerdict, slot_for};
 use crate::change::{copy_counting, copy_with, copy_without_taken};
 use crate::deciding::{first_fitting, gate_verdict, is_own, slot_of};
 use crate::entry::Entry;
-use pcef_catalog::Offers;
+use pcef_catalog::{Detects, Offers};
 use pcef_model::{Command, Verdict};
 use pcef_packet::{Addr, Header};
 use pcef_rule::{BearerId, RuleName, Slot};
@@ -170,7 +170,7 @@ impl Table {
 
     /// What the generation decides of a packet, for a session with this address
     /// (TS 23.203, clause 6.2.2). Takes no memory.
-    pub fn classify<C: Offers>(&self, catalog: &C, ue: Addr, header: &Header) -> Verdict
+    pub fn classify<C: Detects>(&self, catalog: &C, ue: Addr, header: &Header) -> Verdict
         requires { IsTable (C.offers catalog.now) self.now.entries }
         ensures { IsVerdict (C.offers catalog.now) self.now.entries ue header.now result }
     {

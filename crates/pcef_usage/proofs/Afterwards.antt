@@ -4,7 +4,7 @@ use Rattle.std.specs.Prelude.{false}
 use Rattle.pcef_model.specs.declared.command.Command.{Command}
 use Rattle.pcef_model.specs.declared.command.Command.TheVariants.{Install, Activate, Remove, Monitor, Stop, ReportNow, Triggers, Notice, LoseBearer, Close, Terminate}
 use Rattle.pcef_model.specs.declared.entry.Entry.TheVariants as entry
-use Rattle.pcef_model.specs.declared.telling.Telling.{Telling}
+use Rattle.pcef_model.specs.declared.pending_report.PendingReport.{PendingReport}
 use Rattle.pcef_model.specs.Setting.{Setting, most_keys}
 use Rattle.pcef_model.specs.Commands.{key_named}
 use Rattle.pcef_model.specs.Entries.{Journal}
@@ -13,17 +13,17 @@ use Rattle.pcef_model.specs.Reports.{after_command, plan, tell}
 use Rattle.pcef_usage.specs.declared.usage.KeyState.{KeyState}
 use Rattle.pcef_usage.specs.Commands.{entered, subscribed_by}
 use Rattle.pcef_usage.specs.Keys.{finds_no_slot, place_of, started, with_slot}
-use Rattle.pcef_usage.specs.Tellings.{after_telling, body_by, told}
+use Rattle.pcef_usage.specs.PendingReports.{after_report, body_by, appended}
 use Rattle.pcef_usage.proofs.Monitors.{few_with_slot}
 use Rattle.pcef_usage.proofs.Places.{length-at_place}
 use Rattle.pcef_model.proofs.Reports.{tell_subscribed}
 use Rattle.pcef_model.proofs.AfterEvents.{subscribed_settled}
 
-pub report_count_told : (ts : List Telling) (states : List KeyState) (j : Journal) → report_count (told ts states j) ≡ length ts + report_count j
-unfolding told
+pub report_count_told : (ts : List PendingReport) (states : List KeyState) (j : Journal) → report_count (appended ts states j) ≡ length ts + report_count j
+unfolding appended
 report_count_told [] states j = omega arith
 report_count_told (t ∷ ts) states j =
-    let rest = report_count_told ts (after_telling t states) (entry.Report (record { number = report_count j; body = body_by states t }) ∷ j) in omega (arith, rest)
+    let rest = report_count_told ts (after_report t states) (entry.Report (record { number = report_count j; body = body_by states t }) ∷ j) in omega (arith, rest)
 
 -- ---- what is subscribed
 pub subscribed_after : (j : Journal) (c : Command) → subscribed (entry.Command c ∷ j) ≡ subscribed_by c (subscribed j)

@@ -3,18 +3,18 @@ use Rattle.std.proofs.Common.{◌≡◌, ℕ, Bool, true, false, List, [], ◌�
 use Rattle.std.specs.List.{AllByRecursion}
 use Rattle.std.proofs.lemmas.Bool.{cases_Bool}
 use Rattle.std.proofs.lemmas.List.{length-map}
-use Rattle.pcef_model.specs.declared.telling.Telling.{Telling}
-use Rattle.pcef_model.specs.declared.telling.Telling.TheVariants.{Inactive, Usage, Access}
+use Rattle.pcef_model.specs.declared.pending_report.PendingReport.{PendingReport}
+use Rattle.pcef_model.specs.declared.pending_report.PendingReport.TheVariants.{Inactive, Usage, Access}
 use Rattle.pcef_model.specs.declared.trigger.TriggerSet.{TriggerSet}
 use Rattle.pcef_model.specs.Setting.{Setting}
 use Rattle.pcef_model.specs.Generations.{Generation}
 use Rattle.pcef_model.specs.Commands.{is_among}
 use Rattle.pcef_model.specs.Entries.{Journal}
 use Rattle.pcef_model.specs.Journals.{now, slots, subscribed}
-use Rattle.pcef_model.specs.Reports.{settled, tell, thresholds}
+use Rattle.pcef_model.specs.Reports.{with_thresholds, tell, thresholds}
 use Rattle.pcef_usage.specs.declared.usage.KeyState.{KeyState}
 use Rattle.pcef_usage.specs.Keys.{at_place, is_reached, keys_of, place_of, reported_on, ungranted_if_reached}
-use Rattle.pcef_usage.specs.Tellings.{AllCount, AllOn, Distinct, KnowsAll, after_stop, after_telling, settled_states, settled_tellings, states_stopped, states_told, told}
+use Rattle.pcef_usage.specs.PendingReports.{AllCount, AllOn, Distinct, KnowsAll, after_stop, after_report, settled_states, threshold_reports, states_stopped, states_told, appended}
 use Rattle.pcef_usage.proofs.Loops.{keys_stopped, many}
 use Rattle.pcef_model.proofs.Reports.{tell_now, tell_slots, tell_subscribed}
 use Rattle.pcef_usage.proofs.Tells.{keys_after, told_well}
@@ -28,15 +28,15 @@ on_at g f n [] h a = tt
 on_at g f zero (s ∷ states) h a = ((h s).0 ∙ a.0 ∙ sym (ap (λ k. is_among k g) (h s).1), a.1)
 on_at g f (suc n) (s ∷ states) h a = (a.0, on_at g f n states h a.1)
 
-on_telling : (g : List (List ℕ)) (t : Telling) (states : List KeyState) → AllByRecursion (λ s. s.on ≡ is_among s.key g) states → AllByRecursion (λ s. s.on ≡ is_among s.key g) (after_telling t states)
-on_telling g (Inactive n) states a = a
-on_telling g (Usage k cause) states a = on_at g reported_on (place_of k states) states (λ s. (refl, refl)) a
-on_telling g (Access t v) states a = a
+on_report : (g : List (List ℕ)) (t : PendingReport) (states : List KeyState) → AllByRecursion (λ s. s.on ≡ is_among s.key g) states → AllByRecursion (λ s. s.on ≡ is_among s.key g) (after_report t states)
+on_report g (Inactive n) states a = a
+on_report g (Usage k cause) states a = on_at g reported_on (place_of k states) states (λ s. (refl, refl)) a
+on_report g (Access t v) states a = a
 
-on_told : (g : List (List ℕ)) (ts : List Telling) (states : List KeyState) → AllByRecursion (λ s. s.on ≡ is_among s.key g) states → AllByRecursion (λ s. s.on ≡ is_among s.key g) (states_told ts states)
+on_told : (g : List (List ℕ)) (ts : List PendingReport) (states : List KeyState) → AllByRecursion (λ s. s.on ≡ is_among s.key g) states → AllByRecursion (λ s. s.on ≡ is_among s.key g) (states_told ts states)
 unfolding states_told
 on_told g [] states a = a
-on_told g (t ∷ ts) states a = on_told g ts (after_telling t states) (on_telling g t states a)
+on_told g (t ∷ ts) states a = on_told g ts (after_report t states) (on_report g t states a)
 
 pub from_on : (p : Setting) (j : Journal) (states : List KeyState) → AllOn p j states → AllByRecursion (λ s. s.on ≡ is_among s.key (now p j).on) states
 unfolding AllOn
@@ -48,7 +48,7 @@ unfolding AllOn
 to_on p j [] a = tt
 to_on p j (s ∷ states) a = (record { on_is = a.0 }, to_on p j states a.1)
 
-pub all_on_told : (p : Setting) (ts us : List Telling) (j : Journal) (states : List KeyState) → AllOn p j states → AllOn p (tell p us j) (states_told ts states)
+pub all_on_told : (p : Setting) (ts us : List PendingReport) (j : Journal) (states : List KeyState) → AllOn p j states → AllOn p (tell p us j) (states_told ts states)
 all_on_told p ts us j states a =
     to_on p (tell p us j) (states_told ts states)
     (subst (λ (g : Generation). AllByRecursion (λ s. s.on ≡ is_among s.key g.on) (states_told ts states)) (sym (tell_now p us j)) (on_told (now p j).on ts states (from_on p j states a)))
@@ -63,16 +63,16 @@ all_on_settled p j false states a = a
 
 -- the tail of an event: the command's own tellings, and then the thresholds
 
-pub record Ended (p : Setting) (j : Journal) (ts : List Telling) (states : List KeyState) (new : Journal) (left : List KeyState) : Type 0 where
-  pub journal_is : new ≡ settled p (tell p ts j)
+pub record Ended (p : Setting) (j : Journal) (ts : List PendingReport) (states : List KeyState) (new : Journal) (left : List KeyState) : Type 0 where
+  pub journal_is : new ≡ with_thresholds p (tell p ts j)
   pub keys_are : keys_of left ≡ slots p new
   pub counts : AllCount p new [] left
   pub on : AllOn p new left
 
-pub ending : (p : Setting) (j : Journal) (ts : List Telling) (states : List KeyState) (b : Bool) → Distinct (slots p j) → keys_of states ≡ slots p j → KnowsAll (slots p j) ts →
+pub ending : (p : Setting) (j : Journal) (ts : List PendingReport) (states : List KeyState) (b : Bool) → Distinct (slots p j) → keys_of states ≡ slots p j → KnowsAll (slots p j) ts →
     AllCount p j ts states → AllOn p j states → b ≡ (subscribed j).usage_report →
-    Ended p j ts states (told (settled_tellings b (states_told ts states)) (settled_states b (states_told ts states)) (told ts states j))
-    (states_told (settled_tellings b (states_told ts states)) (settled_states b (states_told ts states)))
+    Ended p j ts states (appended (threshold_reports b (states_told ts states)) (settled_states b (states_told ts states)) (appended ts states j))
+    (states_told (threshold_reports b (states_told ts states)) (settled_states b (states_told ts states)))
 ending p j ts states b d e k a o s =
     let r = told_well p ts j states (subst Distinct (sym e) d) (subst (λ (ks : List (List ℕ)). KnowsAll ks ts) (sym e) k) a in
     let mid : Journal = tell p ts j in
@@ -81,38 +81,38 @@ ending p j ts states b d e k a o s =
     let e2 : keys_of left ≡ slots p mid = r.keys_are ∙ e ∙ sym (tell_slots p ts j) in
     let s2 : b ≡ (subscribed mid).usage_report = s ∙ ap (λ (t : TriggerSet). t.usage_report) (sym (tell_subscribed p ts j)) in
     let d2 : Distinct (keys_of (settled_states b left)) = subst Distinct (sym (keys_settled b left ∙ r.keys_are ∙ e)) d in
-    let a2 : AllCount p mid (settled_tellings b left) (settled_states b left) =
-    subst (λ (c : Bool). AllCount p mid (settled_tellings c left) (settled_states c left)) (sym s2) (all_settled p mid left e2 o2 r.counts) in
-    let w = told_well p (settled_tellings b left) mid (settled_states b left) d2 (knows_settled b left) a2 in
-    let t : settled_tellings b left ≡ thresholds p mid = ap (λ (c : Bool). settled_tellings c left) s2 ∙ thresholds_are p mid left e2 o2 r.counts in
-    let n : told (settled_tellings b left) (settled_states b left) (told ts states j) ≡ tell p (settled_tellings b left) mid =
-    ap (told (settled_tellings b left) (settled_states b left)) r.journal_is ∙ w.journal_is in record {
+    let a2 : AllCount p mid (threshold_reports b left) (settled_states b left) =
+    subst (λ (c : Bool). AllCount p mid (threshold_reports c left) (settled_states c left)) (sym s2) (all_settled p mid left e2 o2 r.counts) in
+    let w = told_well p (threshold_reports b left) mid (settled_states b left) d2 (knows_settled b left) a2 in
+    let t : threshold_reports b left ≡ thresholds p mid = ap (λ (c : Bool). threshold_reports c left) s2 ∙ thresholds_are p mid left e2 o2 r.counts in
+    let n : appended (threshold_reports b left) (settled_states b left) (appended ts states j) ≡ tell p (threshold_reports b left) mid =
+    ap (appended (threshold_reports b left) (settled_states b left)) r.journal_is ∙ w.journal_is in record {
       journal_is = n ∙ ap (λ us. tell p us mid) t;
-      keys_are = w.keys_are ∙ keys_settled b left ∙ e2 ∙ sym (ap (slots p) n ∙ tell_slots p (settled_tellings b left) mid);
-      counts = subst (λ (i : Journal). AllCount p i [] (states_told (settled_tellings b left) (settled_states b left))) (sym n) w.counts;
-      on = subst (λ (i : Journal). AllOn p i (states_told (settled_tellings b left) (settled_states b left))) (sym n)
-          (all_on_told p (settled_tellings b left) (settled_tellings b left) mid (settled_states b left) (all_on_settled p mid b left o2));
+      keys_are = w.keys_are ∙ keys_settled b left ∙ e2 ∙ sym (ap (slots p) n ∙ tell_slots p (threshold_reports b left) mid);
+      counts = subst (λ (i : Journal). AllCount p i [] (states_told (threshold_reports b left) (settled_states b left))) (sym n) w.counts;
+      on = subst (λ (i : Journal). AllOn p i (states_told (threshold_reports b left) (settled_states b left))) (sym n)
+          (all_on_told p (threshold_reports b left) (threshold_reports b left) mid (settled_states b left) (all_on_settled p mid b left o2));
     }
 
 -- ---- the keys and their number stay
-pub keys_all_stopped : (ts : List Telling) (states : List KeyState) → keys_of (states_stopped ts states) ≡ keys_of states
+pub keys_all_stopped : (ts : List PendingReport) (states : List KeyState) → keys_of (states_stopped ts states) ≡ keys_of states
 unfolding states_stopped
 keys_all_stopped [] states = refl
 keys_all_stopped (t ∷ ts) states = keys_all_stopped ts (after_stop t states) ∙ keys_stopped t states
 
-pub keys_all_told : (ts : List Telling) (states : List KeyState) → keys_of (states_told ts states) ≡ keys_of states
+pub keys_all_told : (ts : List PendingReport) (states : List KeyState) → keys_of (states_told ts states) ≡ keys_of states
 unfolding states_told
 keys_all_told [] states = refl
-keys_all_told (t ∷ ts) states = keys_all_told ts (after_telling t states) ∙ keys_after t states
+keys_all_told (t ∷ ts) states = keys_all_told ts (after_report t states) ∙ keys_after t states
 
 pub many_settled : (b : Bool) (ss : List KeyState) → length (settled_states b ss) ≡ length ss
 many_settled true ss = length-map ss ungranted_if_reached
 many_settled false ss = refl
 
-pub length_left : (ss s1 s2 s3 : List KeyState) (ts us : List Telling) → s1 ≡ ss → s2 ≡ states_stopped ts s1 → s3 ≡ states_told us s2 → length s3 ≡ length ss
+pub length_left : (ss s1 s2 s3 : List KeyState) (ts us : List PendingReport) → s1 ≡ ss → s2 ≡ states_stopped ts s1 → s3 ≡ states_told us s2 → length s3 ≡ length ss
 length_left ss s1 s2 s3 ts us e f g =
     many s3 ss (ap keys_of g ∙ keys_all_told us s2 ∙ ap keys_of f ∙ keys_all_stopped ts s1 ∙ ap keys_of e)
 
-pub length_end : (b : Bool) (s3 s4 : List KeyState) → s4 ≡ states_told (settled_tellings b s3) (settled_states b s3) → length s4 ≡ length s3
+pub length_end : (b : Bool) (s3 s4 : List KeyState) → s4 ≡ states_told (threshold_reports b s3) (settled_states b s3) → length s4 ≡ length s3
 length_end b s3 s4 e =
-    many s4 (settled_states b s3) (ap keys_of e ∙ keys_all_told (settled_tellings b s3) (settled_states b s3)) ∙ many_settled b s3
+    many s4 (settled_states b s3) (ap keys_of e ∙ keys_all_told (threshold_reports b s3) (settled_states b s3)) ∙ many_settled b s3

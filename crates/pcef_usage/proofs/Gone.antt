@@ -7,18 +7,18 @@ use Rattle.pcef_model.specs.declared.command.Command.TheVariants.{Install, Activ
 use Rattle.pcef_model.specs.declared.entry.Entry.TheVariants as entry
 use Rattle.pcef_model.specs.declared.report.Cause.{Cause}
 use Rattle.pcef_model.specs.declared.report.Cause.TheVariants.{RulesGone, Terminated}
-use Rattle.pcef_model.specs.declared.telling.Telling.{Telling}
-use Rattle.pcef_model.specs.declared.telling.Telling.TheVariants.{Inactive, Usage}
+use Rattle.pcef_model.specs.declared.pending_report.PendingReport.{PendingReport}
+use Rattle.pcef_model.specs.declared.pending_report.PendingReport.TheVariants.{Inactive, Usage}
 use Rattle.pcef_model.specs.Setting.{Setting, same_name}
 use Rattle.pcef_model.specs.ActiveRules.{has_key}
 use Rattle.pcef_model.specs.Generations.{Generation, made_by, rules_after, slots_of}
 use Rattle.pcef_model.specs.Commands.{add_key, is_among, switched, is_table}
 use Rattle.pcef_model.specs.Entries.{Journal}
 use Rattle.pcef_model.specs.Journals.{ends_grant, now, slots, subscribed, tables, unreported}
-use Rattle.pcef_model.specs.Reports.{asked, ended as keys_ended, in_order, inactive, is_subscribed, noticed, plan}
+use Rattle.pcef_model.specs.Reports.{requested, ended as keys_ended, in_order, inactive, is_subscribed, noticed, plan}
 use Rattle.pcef_model.proofs.Sameness.{same_name_is, same_name_not, same_name_turned}
 use Rattle.pcef_usage.specs.Commands.{OnAfter, switched_on}
-use Rattle.pcef_usage.specs.Tellings.{ended, ends}
+use Rattle.pcef_usage.specs.PendingReports.{ended, ends}
 use Rattle.pcef_usage.proofs.Slots.{and_no, or_assoc, or_false, stranger_off}
 use Rattle.pcef_model.proofs.RulesAfter.{filter_all}
 
@@ -45,7 +45,7 @@ among_filter test k (l ∷ keys) =
     ]
 
 -- ---- what a plan ends
-pub ended_append : (ts us : List Telling) (k : List ℕ) → ended (ts ++ us) k ≡ (ended ts k || ended us k)
+pub ended_append : (ts us : List PendingReport) (k : List ℕ) → ended (ts ++ us) k ≡ (ended ts k || ended us k)
 ended_append [] us k = refl
 ended_append (t ∷ ts) us k = ap (λ b. ends k t || b) (ended_append ts us k) ∙ or_assoc (ends k t) (ended ts k) (ended us k)
 
@@ -84,13 +84,13 @@ noticed_none j Close k = refl
 noticed_none j Terminate k = refl
 
 -- a plan ends the keys that lose their rules, and the one that is stopped
-pub plan_ends : (p : Setting) (j : Journal) (c : Command) (k : List ℕ) → ended (plan p j c) k ≡ (ended (keys_ended p j c) k || ended (asked c) k)
+pub plan_ends : (p : Setting) (j : Journal) (c : Command) (k : List ℕ) → ended (plan p j c) k ≡ (ended (keys_ended p j c) k || ended (requested c) k)
 plan_ends p j c k =
-    ended_append (inactive (now p j) c) (keys_ended p j c ++ (asked c ++ noticed j c)) k
-    ∙ ap (λ b. b || ended (keys_ended p j c ++ (asked c ++ noticed j c)) k) (inactive_none (now p j) c k)
-    ∙ ended_append (keys_ended p j c) (asked c ++ noticed j c) k
+    ended_append (inactive (now p j) c) (keys_ended p j c ++ (requested c ++ noticed j c)) k
+    ∙ ap (λ b. b || ended (keys_ended p j c ++ (requested c ++ noticed j c)) k) (inactive_none (now p j) c k)
+    ∙ ended_append (keys_ended p j c) (requested c ++ noticed j c) k
     ∙ ap (λ b. ended (keys_ended p j c) k || b)
-    (ended_append (asked c) (noticed j c) k ∙ ap (λ b. ended (asked c) k || b) (noticed_none j c k) ∙ or_false (ended (asked c) k))
+    (ended_append (requested c) (noticed j c) k ∙ ap (λ b. ended (requested c) k || b) (noticed_none j c k) ∙ or_false (ended (requested c) k))
 
 -- ---- keys that lose their last rule
 abbrev pub is_gone : Setting → Journal → Command → List ℕ → Bool
@@ -147,7 +147,7 @@ gone_has_slot p j c k same =
 
 -- ---- commands that make a new generation
 -- one that switches no key by itself
-plain_after : (p : Setting) (j : Journal) (c : Command) → is_table c ≡ true → c ≢ Terminate → ((k : List ℕ) → ended (asked c) k ≡ false) →
+plain_after : (p : Setting) (j : Journal) (c : Command) → is_table c ≡ true → c ≢ Terminate → ((k : List ℕ) → ended (requested c) k ≡ false) →
     switched c (now p j).on ≡ (now p j).on → switched_on c (now p j).on ≡ (now p j).on → OnAfter p j c
 plain_after p j c is differs unasked same same_on k has =
     let ended_is : ended (plan p j c) k ≡ is_gone p j c k =
@@ -181,10 +181,10 @@ none_gone p j c k same =
     ∙ never_gone (is_among k (switched c (now p j).on)) (has_key k (now p j).rules)
 
 -- such a plan ends what is asked
-quiet_ends : (p : Setting) (j : Journal) (c : Command) (k : List ℕ) → c ≢ Terminate → rules_after p (now p j) c ≡ (now p j).rules → ended (plan p j c) k ≡ ended (asked c) k
+quiet_ends : (p : Setting) (j : Journal) (c : Command) (k : List ℕ) → c ≢ Terminate → rules_after p (now p j) c ≡ (now p j).rules → ended (plan p j c) k ≡ ended (requested c) k
 quiet_ends p j c k differs same =
     plan_ends p j c k
-    ∙ ap (λ b. b || ended (asked c) k) (gone_ends p j c k differs ∙ ap (λ b. is_among k (slots p j) && b) (none_gone p j c k same) ∙ and_false (is_among k (slots p j)))
+    ∙ ap (λ b. b || ended (requested c) k) (gone_ends p j c k differs ∙ ap (λ b. is_among k (slots p j) && b) (none_gone p j c k same) ∙ and_false (is_among k (slots p j)))
 
 after_monitor : (p : Setting) (j : Journal) (l : List ℕ) (amount : ℕ) → OnAfter p j (Monitor l amount)
 after_monitor p j l amount k has =
@@ -207,7 +207,7 @@ after_stop p j l k has =
 
 -- ---- commands that make no generation
 other_after : (p : Setting) (j : Journal) (c : Command) → is_table c ≡ false → c ≢ Terminate → rules_after p (now p j) c ≡ (now p j).rules →
-    ((k : List ℕ) → ended (asked c) k ≡ false) → switched_on c (now p j).on ≡ (now p j).on → OnAfter p j c
+    ((k : List ℕ) → ended (requested c) k ≡ false) → switched_on c (now p j).on ≡ (now p j).on → OnAfter p j c
 other_after p j c isnt differs same unasked same_on k has =
     let stays : (now p (entry.Command c ∷ j)).on ≡ (now p j).on = rw isnt refl in
     ap (is_among k) stays
@@ -215,7 +215,7 @@ other_after p j c isnt differs same unasked same_on k has =
     (ap (λ b. is_among k (switched_on c (now p j).on) && not b) (quiet_ends p j c k differs same ∙ unasked k)
     ∙ and_true (is_among k (switched_on c (now p j).on)) ∙ ap (is_among k) same_on)
 
-requested_ends : (l k : List ℕ) → ended (asked (ReportNow l)) k ≡ false
+requested_ends : (l k : List ℕ) → ended (requested (ReportNow l)) k ≡ false
 requested_ends l k = or_false (same_name k l && false) ∙ and_false (same_name k l)
 
 -- ---- every command

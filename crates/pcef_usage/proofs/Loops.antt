@@ -5,8 +5,8 @@ use Rattle.pcef_rule.specs.declared.quantity.Slot.{Slot}
 use Rattle.std.proofs.lemmas.List.{drop_more, drop_all, get_or-map, length-map}
 use Rattle.std.proofs.lemmas.Bool.{cases_Bool}
 use Rattle.pcef_model.specs.declared.entry.Entry.TheVariants as entry
-use Rattle.pcef_model.specs.declared.telling.Telling.{Telling}
-use Rattle.pcef_model.specs.declared.telling.Telling.TheVariants.{Inactive, Usage, Access}
+use Rattle.pcef_model.specs.declared.pending_report.PendingReport.{PendingReport}
+use Rattle.pcef_model.specs.declared.pending_report.PendingReport.TheVariants.{Inactive, Usage, Access}
 use Rattle.pcef_model.specs.Setting.{same_name}
 use Rattle.pcef_model.specs.Commands.{is_among}
 use Rattle.pcef_model.specs.Entries.{Journal}
@@ -14,7 +14,7 @@ use Rattle.pcef_model.specs.Journals.{report_count, ends_grant}
 use Rattle.pcef_model.proofs.Sameness.{same_name_self}
 use Rattle.pcef_usage.specs.declared.usage.KeyState.{KeyState}
 use Rattle.pcef_usage.specs.Keys.{keys_of, has_slot, place_of, state_at, stopped}
-use Rattle.pcef_usage.specs.Tellings.{body_by, after_telling, told, states_told, Knows, KnowsAll, after_stop, states_stopped, threshold}
+use Rattle.pcef_usage.specs.PendingReports.{body_by, after_report, appended, states_told, Knows, KnowsAll, after_stop, states_stopped, threshold}
 use Rattle.pcef_usage.proofs.Places.{or_more, place_below}
 use Rattle.pcef_usage.proofs.Tells.{has_slot_is, keys_after, keys_at_place}
 
@@ -25,47 +25,47 @@ pub unknown_not : (k : List ℕ) (states : List KeyState) → is_among k (keys_o
 unknown_not k states h e = let f : has_slot k states ≡ true = has_slot_is k states ∙ h in cc
 
 -- ---- the telling at a place
-knows_at : (keys : List (List ℕ)) (ts : List Telling) (i : ℕ) (d : Telling) → KnowsAll keys ts → i < length ts → Knows keys (get_or ts i d)
+knows_at : (keys : List (List ℕ)) (ts : List PendingReport) (i : ℕ) (d : PendingReport) → KnowsAll keys ts → i < length ts → Knows keys (get_or ts i d)
 unfolding KnowsAll
 knows_at keys [] i d k h = absurd (omega arith)
 knows_at keys (t ∷ ts) zero d k h = k.0
 knows_at keys (t ∷ ts) (suc i) d k h = knows_at keys ts i d k.1 (omega arith)
 
-pub knows_here : (keys now : List (List ℕ)) (ts : List Telling) (i : ℕ) (t : Telling) → i < length ts → t ≡ get_or ts i t → now ≡ keys → KnowsAll keys ts → Knows now t
+pub knows_here : (keys now : List (List ℕ)) (ts : List PendingReport) (i : ℕ) (t : PendingReport) → i < length ts → t ≡ get_or ts i t → now ≡ keys → KnowsAll keys ts → Knows now t
 knows_here keys now ts i t within is same known =
     subst (Knows now) (sym is) (knows_at now ts i t (subst (λ (ks : List (List ℕ)). KnowsAll ks ts) (sym same) known) within)
 
-split_here : (ts : List Telling) (i : ℕ) (t : Telling) → i < length ts → t ≡ get_or ts i t → drop i ts ≡ t ∷ drop (i + 1) ts
+split_here : (ts : List PendingReport) (i : ℕ) (t : PendingReport) → i < length ts → t ≡ get_or ts i t → drop i ts ≡ t ∷ drop (i + 1) ts
 split_here ts i t within is = drop_more ts i t within ∙ ap (λ u. u ∷ drop (i + 1) ts) (sym is)
 
 -- ---- telling
-pub told_step : (ts : List Telling) (i : ℕ) (t : Telling) (ss uu : List KeyState) (j k end : Journal) → i < length ts → t ≡ get_or ts i t → told (drop i ts) ss j ≡ end →
-    k ≡ entry.Report (record { number = report_count j; body = body_by ss t }) ∷ j → uu ≡ after_telling t ss → told (drop (i + 1) ts) uu k ≡ end
-unfolding told
+pub told_step : (ts : List PendingReport) (i : ℕ) (t : PendingReport) (ss uu : List KeyState) (j k end : Journal) → i < length ts → t ≡ get_or ts i t → appended (drop i ts) ss j ≡ end →
+    k ≡ entry.Report (record { number = report_count j; body = body_by ss t }) ∷ j → uu ≡ after_report t ss → appended (drop (i + 1) ts) uu k ≡ end
+unfolding appended
 told_step ts i t ss uu j k end within is e f g =
-    ap (told (drop (i + 1) ts) uu) f ∙
-    ap (λ us. told (drop (i + 1) ts) us (entry.Report (record { number = report_count j; body = body_by ss t }) ∷ j)) g ∙
-    sym (ap (λ us. told us ss j) (split_here ts i t within is)) ∙ e
+    ap (appended (drop (i + 1) ts) uu) f ∙
+    ap (λ us. appended (drop (i + 1) ts) us (entry.Report (record { number = report_count j; body = body_by ss t }) ∷ j)) g ∙
+    sym (ap (λ us. appended us ss j) (split_here ts i t within is)) ∙ e
 
-pub states_step : (ts : List Telling) (i : ℕ) (t : Telling) (ss uu end : List KeyState) → i < length ts → t ≡ get_or ts i t → states_told (drop i ts) ss ≡ end →
-    uu ≡ after_telling t ss → states_told (drop (i + 1) ts) uu ≡ end
+pub states_step : (ts : List PendingReport) (i : ℕ) (t : PendingReport) (ss uu end : List KeyState) → i < length ts → t ≡ get_or ts i t → states_told (drop i ts) ss ≡ end →
+    uu ≡ after_report t ss → states_told (drop (i + 1) ts) uu ≡ end
 unfolding states_told
 states_step ts i t ss uu end within is e g =
     ap (states_told (drop (i + 1) ts)) g ∙ sym (ap (λ us. states_told us ss) (split_here ts i t within is)) ∙ e
 
-pub keys_step : (t : Telling) (ss uu : List KeyState) (keys : List (List ℕ)) → keys_of ss ≡ keys → uu ≡ after_telling t ss → keys_of uu ≡ keys
+pub keys_step : (t : PendingReport) (ss uu : List KeyState) (keys : List (List ℕ)) → keys_of ss ≡ keys → uu ≡ after_report t ss → keys_of uu ≡ keys
 keys_step t ss uu keys e g = ap keys_of g ∙ keys_after t ss ∙ e
 
-pub told_end : (ts : List Telling) (i : ℕ) (ss : List KeyState) (j end : Journal) → length ts ≤ i → told (drop i ts) ss j ≡ end → j ≡ end
-unfolding told
-told_end ts i ss j end past e = sym (ap (λ us. told us ss j) (drop_all i ts past)) ∙ e
+pub told_end : (ts : List PendingReport) (i : ℕ) (ss : List KeyState) (j end : Journal) → length ts ≤ i → appended (drop i ts) ss j ≡ end → j ≡ end
+unfolding appended
+told_end ts i ss j end past e = sym (ap (λ us. appended us ss j) (drop_all i ts past)) ∙ e
 
-pub states_end : (ts : List Telling) (i : ℕ) (ss end : List KeyState) → length ts ≤ i → states_told (drop i ts) ss ≡ end → ss ≡ end
+pub states_end : (ts : List PendingReport) (i : ℕ) (ss end : List KeyState) → length ts ≤ i → states_told (drop i ts) ss ≡ end → ss ≡ end
 unfolding states_told
 states_end ts i ss end past e = sym (ap (λ us. states_told us ss) (drop_all i ts past)) ∙ e
 
 -- ---- switching off
-pub keys_stopped : (t : Telling) (ss : List KeyState) → keys_of (after_stop t ss) ≡ keys_of ss
+pub keys_stopped : (t : PendingReport) (ss : List KeyState) → keys_of (after_stop t ss) ≡ keys_of ss
 keys_stopped (Inactive n) ss = refl
 keys_stopped (Usage k cause) ss =
     elim (cases_Bool (ends_grant cause)) [
@@ -74,16 +74,16 @@ keys_stopped (Usage k cause) ss =
     ]
 keys_stopped (Access t v) ss = refl
 
-pub stop_step : (ts : List Telling) (i : ℕ) (t : Telling) (ss uu end : List KeyState) → i < length ts → t ≡ get_or ts i t → states_stopped (drop i ts) ss ≡ end →
+pub stop_step : (ts : List PendingReport) (i : ℕ) (t : PendingReport) (ss uu end : List KeyState) → i < length ts → t ≡ get_or ts i t → states_stopped (drop i ts) ss ≡ end →
     uu ≡ after_stop t ss → states_stopped (drop (i + 1) ts) uu ≡ end
 unfolding states_stopped
 stop_step ts i t ss uu end within is e g =
     ap (states_stopped (drop (i + 1) ts)) g ∙ sym (ap (λ us. states_stopped us ss) (split_here ts i t within is)) ∙ e
 
-pub stop_keys : (t : Telling) (ss uu : List KeyState) (keys : List (List ℕ)) → keys_of ss ≡ keys → uu ≡ after_stop t ss → keys_of uu ≡ keys
+pub stop_keys : (t : PendingReport) (ss uu : List KeyState) (keys : List (List ℕ)) → keys_of ss ≡ keys → uu ≡ after_stop t ss → keys_of uu ≡ keys
 stop_keys t ss uu keys e g = ap keys_of g ∙ keys_stopped t ss ∙ e
 
-pub stop_end : (ts : List Telling) (i : ℕ) (ss end : List KeyState) → length ts ≤ i → states_stopped (drop i ts) ss ≡ end → ss ≡ end
+pub stop_end : (ts : List PendingReport) (i : ℕ) (ss end : List KeyState) → length ts ≤ i → states_stopped (drop i ts) ss ≡ end → ss ≡ end
 unfolding states_stopped
 stop_end ts i ss end past e = sym (ap (λ us. states_stopped us ss) (drop_all i ts past)) ∙ e
 
@@ -108,7 +108,7 @@ pub knows_slot : (n : ℕ) (ss : List KeyState) (key : List ℕ) → n < length 
 knows_slot n ss key h e = subst (λ k. is_among k (keys_of ss) ≡ true) (sym e) (key_among n ss h)
 
 -- what is told of a slot
-abbrev pub threshold_at : List KeyState → Slot → Telling
+abbrev pub threshold_at : List KeyState → Slot → PendingReport
 threshold_at ss slot = threshold (state_at slot.0 ss).key
 
 pub slot_within : (ss start : List KeyState) (slots : List Slot) (i : ℕ) (d : Slot) → All (λ s. s.0 < length start) slots → i < length slots → keys_of ss ≡ keys_of start →

@@ -16,7 +16,7 @@ use Rattle.pcef_model.proofs.Growth.{Known, counted_after_command}
 use Rattle.pcef_model.proofs.Sameness.{same_name_not, same_name_turned}
 use Rattle.pcef_usage.specs.declared.usage.KeyState.{KeyState}
 use Rattle.pcef_usage.specs.Keys.{at_place, finds_no_slot, fresh, has_slot, keys_of, place_of, started, with_slot}
-use Rattle.pcef_usage.specs.Tellings.{AllCount, AllOn, Counts, Distinct, OnIs}
+use Rattle.pcef_usage.specs.PendingReports.{AllCount, AllOn, Counts, Distinct, OnIs}
 use Rattle.pcef_usage.proofs.Places.{or_no}
 use Rattle.pcef_model.proofs.Reports.{reported_after_command}
 use Rattle.pcef_usage.proofs.Slots.{is_among_add, off_before_add, or_false, stranger_counted, stranger_off}

@@ -7,17 +7,17 @@ use Rattle.pcef_model.specs.declared.command.Command.TheVariants.{Install, Activ
 use Rattle.pcef_model.specs.declared.entry.Entry.TheVariants as entry
 use Rattle.pcef_model.specs.declared.report.Cause.{Cause}
 use Rattle.pcef_model.specs.declared.report.Cause.TheVariants.{RulesGone, Terminated}
-use Rattle.pcef_model.specs.declared.telling.Telling.{Telling}
-use Rattle.pcef_model.specs.declared.telling.Telling.TheVariants.{Inactive, Usage}
+use Rattle.pcef_model.specs.declared.pending_report.PendingReport.{PendingReport}
+use Rattle.pcef_model.specs.declared.pending_report.PendingReport.TheVariants.{Inactive, Usage}
 use Rattle.pcef_model.specs.Setting.{Setting, same_name}
 use Rattle.pcef_model.specs.Generations.{Generation}
 use Rattle.pcef_model.specs.Commands.{is_among}
 use Rattle.pcef_model.specs.Entries.{Journal}
 use Rattle.pcef_model.specs.Journals.{now, slots, subscribed, unreported}
-use Rattle.pcef_model.specs.Reports.{asked, ended as keys_ended, in_order, inactive, is_subscribed, noticed, plan}
+use Rattle.pcef_model.specs.Reports.{requested, ended as keys_ended, in_order, inactive, is_subscribed, noticed, plan}
 use Rattle.pcef_model.proofs.Sameness.{same_name_self}
 use Rattle.pcef_usage.specs.Commands.{Asks}
-use Rattle.pcef_usage.specs.Tellings.{KnowsAll}
+use Rattle.pcef_usage.specs.PendingReports.{KnowsAll}
 use Rattle.pcef_usage.proofs.Gone.{is_gone}
 use Rattle.pcef_usage.proofs.Monitors.{slots_before}
 use Rattle.pcef_usage.proofs.Places.{or_more}
@@ -31,7 +31,7 @@ slots_stay p j c k has =
       | inr isnt ↦ let absent : is_among k (slots p j) ≡ false = slots_before p j c k isnt in cc
     ]
 
-knows_append : (keys : List (List ℕ)) (ts us : List Telling) → KnowsAll keys ts → KnowsAll keys us → KnowsAll keys (ts ++ us)
+knows_append : (keys : List (List ℕ)) (ts us : List PendingReport) → KnowsAll keys ts → KnowsAll keys us → KnowsAll keys (ts ++ us)
 unfolding KnowsAll
 knows_append keys [] us first second = second
 knows_append keys (t ∷ ts) us first second = (first.0, knows_append keys ts us first.1 second)
@@ -65,7 +65,7 @@ knows_ended p j (LoseBearer id) = knows_within RulesGone (is_gone p j (LoseBeare
 knows_ended p j Close = knows_within RulesGone (is_gone p j Close) (slots p (entry.Command Close ∷ j)) (slots p j) (slots_stay p j Close)
 
 -- ---- what is asked for, and what names no key
-knows_asked : (p : Setting) (j : Journal) (c : Command) → Asks p j c → KnowsAll (slots p (entry.Command c ∷ j)) (asked c)
+knows_asked : (p : Setting) (j : Journal) (c : Command) → Asks p j c → KnowsAll (slots p (entry.Command c ∷ j)) (requested c)
 unfolding KnowsAll
 knows_asked p j (Stop l) asks = (slots_stay p j (Stop l) l (slot_of_on p j l asks), tt)
 knows_asked p j (ReportNow l) asks = (slots_stay p j (ReportNow l) l asks, tt)
@@ -116,6 +116,6 @@ knows_noticed keys j Terminate = tt
 pub knows_plan : (p : Setting) (j : Journal) (c : Command) → Asks p j c → KnowsAll (slots p (entry.Command c ∷ j)) (plan p j c)
 knows_plan p j c asks =
     let keys : List (List ℕ) = slots p (entry.Command c ∷ j) in
-    knows_append keys (inactive (now p j) c) (keys_ended p j c ++ (asked c ++ noticed j c)) (knows_inactive keys (now p j) c)
-    (knows_append keys (keys_ended p j c) (asked c ++ noticed j c) (knows_ended p j c)
-    (knows_append keys (asked c) (noticed j c) (knows_asked p j c asks) (knows_noticed keys j c)))
+    knows_append keys (inactive (now p j) c) (keys_ended p j c ++ (requested c ++ noticed j c)) (knows_inactive keys (now p j) c)
+    (knows_append keys (keys_ended p j c) (requested c ++ noticed j c) (knows_ended p j c)
+    (knows_append keys (requested c) (noticed j c) (knows_asked p j c asks) (knows_noticed keys j c)))

@@ -9,8 +9,8 @@ use Rattle.pcef_model.specs.declared.command.Command.{Command}
 use Rattle.pcef_model.specs.declared.command.Command.TheVariants.{Install, Activate, Remove, Monitor, Stop, ReportNow, Triggers, Notice, LoseBearer, Close, Terminate}
 use Rattle.pcef_model.specs.declared.report.Cause.{Cause}
 use Rattle.pcef_model.specs.declared.report.Cause.TheVariants.{Disabled, Requested, RulesGone, Terminated}
-use Rattle.pcef_model.specs.declared.telling.Telling.{Telling}
-use Rattle.pcef_model.specs.declared.telling.Telling.TheVariants.{Usage}
+use Rattle.pcef_model.specs.declared.pending_report.PendingReport.{PendingReport}
+use Rattle.pcef_model.specs.declared.pending_report.PendingReport.TheVariants.{Usage}
 use Rattle.pcef_model.specs.declared.trigger.AccessKind.{AccessKind}
 use Rattle.pcef_model.specs.declared.trigger.TriggerSet.{TriggerSet}
 use Rattle.pcef_model.specs.Setting.{Setting}
@@ -23,7 +23,7 @@ use Rattle.pcef_model.specs.Reports.{ended as keys_ended, inactive, noticed, pla
 use Rattle.pcef_usage.specs.declared.usage.KeyState.{KeyState}
 use Rattle.pcef_usage.specs.Commands.{loses_rules, usage_of}
 use Rattle.pcef_usage.specs.Keys.{keys_of}
-use Rattle.pcef_usage.specs.Tellings.{AllCount, AllOn, Counts, OnIs}
+use Rattle.pcef_usage.specs.PendingReports.{AllCount, AllOn, Counts, OnIs}
 use Rattle.pcef_usage.proofs.Gone.{gone_are, is_gone, none_gone}
 use Rattle.pcef_model.proofs.RulesAfter.{filter_all}
 
@@ -69,7 +69,7 @@ ending_alike p j (s ∷ states) on counts =
     (rw (on.0.on_is, octets) refl, ending_alike p j states on.1 counts.1)
 
 -- ---- commands that change the rules
-abbrev pub rules_gone : Setting → Journal → Command → List KeyState → List Telling
+abbrev pub rules_gone : Setting → Journal → Command → List KeyState → List PendingReport
 rules_gone p j c states = usage_of RulesGone (loses_rules (now p j).rules (rules_after p (now p j) c)) states
 
 -- where the rules stay, no key loses its last one

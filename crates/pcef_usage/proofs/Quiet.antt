@@ -8,9 +8,9 @@ use Rattle.pcef_model.specs.Setting.{Setting, same_name}
 use Rattle.pcef_model.specs.Commands.{is_among}
 use Rattle.pcef_model.specs.Entries.{Journal}
 use Rattle.pcef_model.specs.Journals.{grant, now, report_count, reported, slots, subscribed, unreported}
-use Rattle.pcef_model.specs.Reports.{after_command, body_of, is_reached, is_reached_by, plan, settled, tell, thresholds}
+use Rattle.pcef_model.specs.Reports.{after_command, body_of, is_reached, is_reached_by, plan, with_thresholds, tell, thresholds}
 use Rattle.pcef_model.proofs.Sameness.{same_name_self}
-use Rattle.pcef_usage.specs.Tellings.{threshold}
+use Rattle.pcef_usage.specs.PendingReports.{threshold}
 use Rattle.pcef_usage.proofs.Gone.{among_filter}
 use Rattle.pcef_usage.proofs.Places.{or_more, or_no, or_rest}
 use Rattle.pcef_model.proofs.Reports.{tell_now, tell_slots, tell_subscribed}
@@ -81,7 +81,7 @@ filter_no test (k ∷ keys) all none within =
     let isnt : test k ≡ false = none k (within k (rw (same_name_self k) refl)) in
     rw isnt (filter_no test keys all none (λ l has. within l (or_more (same_name l k) (is_among l keys) has)))
 
-pub nothing_reached : (p : Setting) (j : Journal) → thresholds p (settled p j) ≡ []
+pub nothing_reached : (p : Setting) (j : Journal) → thresholds p (with_thresholds p j) ≡ []
 unfolding thresholds tell
 nothing_reached p j =
     elim (cases_Bool (subscribed j).usage_report) [

@@ -14,7 +14,7 @@ use Rattle.pcef_model.proofs.Growth.{counted_after_row}
 use Rattle.pcef_model.proofs.Sameness.{same_name_is, same_name_not, same_name_self, same_name_turned}
 use Rattle.pcef_usage.specs.declared.usage.KeyState.{KeyState}
 use Rattle.pcef_usage.specs.Keys.{added, at_place, keys_of, place_of, state_at, with_octets}
-use Rattle.pcef_usage.specs.Tellings.{AllCount, AllOn, Counts, Distinct}
+use Rattle.pcef_usage.specs.PendingReports.{AllCount, AllOn, Counts, Distinct}
 use Rattle.pcef_usage.proofs.Endings.{from_on, on_at, to_on}
 use Rattle.pcef_usage.proofs.Loops.{key_among}
 use Rattle.pcef_usage.proofs.Tells.{all_mapped, all_same, at_place_maps, keys_at_place}

@@ -4,8 +4,8 @@ use Rattle.std.specs.Prelude.{◌&&◌, filter, All}
 use Rattle.std.specs.List.{AllByRecursion}
 use Rattle.std.proofs.lemmas.Bool.{cases_Bool}
 use Rattle.pcef_model.specs.declared.report.Cause.{Cause}
-use Rattle.pcef_model.specs.declared.telling.Telling.{Telling}
-use Rattle.pcef_model.specs.declared.telling.Telling.TheVariants.{Inactive, Usage, Access}
+use Rattle.pcef_model.specs.declared.pending_report.PendingReport.{PendingReport}
+use Rattle.pcef_model.specs.declared.pending_report.PendingReport.TheVariants.{Inactive, Usage, Access}
 use Rattle.pcef_model.specs.Setting.{Setting, same_name}
 use Rattle.pcef_model.specs.Commands.{is_among}
 use Rattle.pcef_model.specs.Entries.{Journal}
@@ -15,7 +15,7 @@ use Rattle.pcef_model.proofs.Sameness.{same_name_is, same_name_not, same_name_se
 use Rattle.pcef_usage.specs.declared.usage.KeyState.{KeyState}
 use Rattle.pcef_rule.specs.declared.quantity.Slot.{Slot}
 use Rattle.pcef_usage.specs.Keys.{keys_of, place_of, at_place, state_at, stopped, is_reached, reached_places, ungranted_if_reached}
-use Rattle.pcef_usage.specs.Tellings.{ends, ended, KnowsAll, Distinct, Counts, AllCount, after_stop, states_stopped, OnIs, AllOn, reached_tellings, threshold, settled_tellings, settled_states}
+use Rattle.pcef_usage.specs.PendingReports.{ends, ended, KnowsAll, Distinct, Counts, AllCount, after_stop, states_stopped, OnIs, AllOn, reached_reports, threshold, threshold_reports, settled_states}
 use Rattle.pcef_usage.proofs.Places.{or_more, or_rest}
 use Rattle.pcef_usage.proofs.Tells.{at_place_maps, all_mapped}
 use Rattle.pcef_usage.proofs.Loops.{keys_stopped, threshold_at}
@@ -48,7 +48,7 @@ stop_one k cause s h =
       | inr e ↦ rw (e, same_name_not k s.key e) refl
     ]
 
-stop_is : (t : Telling) (states : List KeyState) → Distinct (keys_of states) → after_stop t states ≡ map (stopped_if (λ l. ends l t)) states
+stop_is : (t : PendingReport) (states : List KeyState) → Distinct (keys_of states) → after_stop t states ≡ map (stopped_if (λ l. ends l t)) states
 stop_is (Inactive n) states d = sym (map_same states (stopped_if (λ l. ends l (Inactive n))) (λ x. refl))
 stop_is (Access a v) states d = sym (map_same states (stopped_if (λ l. ends l (Access a v))) (λ x. refl))
 stop_is (Usage k cause) states d =
@@ -59,28 +59,28 @@ stop_is (Usage k cause) states d =
           sym (map_same states (stopped_if (λ l. ends l (Usage k cause))) (never k cause e))
     ]
 
-both : (t : Telling) (ts : List Telling) (s : KeyState) → stopped_if (ended ts) (stopped_if (λ l. ends l t) s) ≡ stopped_if (ended (t ∷ ts)) s
+both : (t : PendingReport) (ts : List PendingReport) (s : KeyState) → stopped_if (ended ts) (stopped_if (λ l. ends l t) s) ≡ stopped_if (ended (t ∷ ts)) s
 both t ts s =
     elim (cases_Bool (ends s.key t)) [
       | inl e ↦ rw e (elim (cases_Bool (ended ts s.key)) [ inl f ↦ rw f refl | inr f ↦ rw f refl ])
       | inr e ↦ rw e refl
     ]
 
-pub stopped_is : (ts : List Telling) (states : List KeyState) → Distinct (keys_of states) → states_stopped ts states ≡ map (stopped_if (ended ts)) states
+pub stopped_is : (ts : List PendingReport) (states : List KeyState) → Distinct (keys_of states) → states_stopped ts states ≡ map (stopped_if (ended ts)) states
 unfolding states_stopped
 stopped_is [] states d = sym (map_same states (stopped_if (ended [])) (λ s. refl))
 stopped_is (t ∷ ts) states d =
     stopped_is ts (after_stop t states) (subst Distinct (sym (keys_stopped t states)) d) ∙ ap (map (stopped_if (ended ts))) (stop_is t states d) ∙
     map_twice (stopped_if (ended ts)) (stopped_if (λ l. ends l t)) (stopped_if (ended (t ∷ ts))) states (both t ts)
 
-stop_counts : (p : Setting) (j : Journal) (ts : List Telling) (s : KeyState) → Counts p j [] s → Counts p j ts (stopped_if (ended ts) s)
+stop_counts : (p : Setting) (j : Journal) (ts : List PendingReport) (s : KeyState) → Counts p j [] s → Counts p j ts (stopped_if (ended ts) s)
 stop_counts p j ts s h =
     elim (cases_Bool (ended ts s.key)) [
       | inl e ↦ rw e (record { grant_is = rw e refl; reported_is = h.reported_is; counted_is = h.counted_is })
       | inr e ↦ rw e (record { grant_is = rw e h.grant_is; reported_is = h.reported_is; counted_is = h.counted_is })
     ]
 
-pub all_stopped : (p : Setting) (j : Journal) (ts : List Telling) (states : List KeyState) → Distinct (keys_of states) → AllCount p j [] states → AllCount p j ts (states_stopped ts states)
+pub all_stopped : (p : Setting) (j : Journal) (ts : List PendingReport) (states : List KeyState) → Distinct (keys_of states) → AllCount p j [] states → AllCount p j ts (states_stopped ts states)
 unfolding AllCount
 all_stopped p j ts states d a =
     subst (AllByRecursion (Counts p j ts)) (sym (stopped_is ts states d)) (all_mapped (Counts p j []) (Counts p j ts) (stopped_if (ended ts)) states (stop_counts p j ts) a)
@@ -92,7 +92,7 @@ reached_is p j s o h =
     let u : s.unreported ≡ unreported p j s.key = omega (arith, h.reported_is, h.counted_is) in rw (o.on_is, h.grant_is, u) refl
 
 reached_keys : (p : Setting) (j : Journal) (states : List KeyState) → AllByRecursion (OnIs p j) states → AllByRecursion (Counts p j []) states →
-    reached_tellings states ≡ map threshold (filter (is_key_reached p j) (keys_of states))
+    reached_reports states ≡ map threshold (filter (is_key_reached p j) (keys_of states))
 reached_keys p j [] o a = refl
 reached_keys p j (s ∷ states) o a =
     let e = reached_is p j s o.0 a.0 in
@@ -102,7 +102,7 @@ reached_keys p j (s ∷ states) o a =
     ]
 
 pub thresholds_are : (p : Setting) (j : Journal) (states : List KeyState) → keys_of states ≡ slots p j → AllOn p j states → AllCount p j [] states →
-    settled_tellings (subscribed j).usage_report states ≡ thresholds p j
+    threshold_reports (subscribed j).usage_report states ≡ thresholds p j
 unfolding thresholds AllOn AllCount
 thresholds_are p j states e o a = ap (λ ts. if (subscribed j).usage_report then ts else []) (reached_keys p j states o a ∙ ap (λ ks. map threshold (filter (is_key_reached p j) ks)) e)
 
@@ -118,7 +118,7 @@ ended_by test (l ∷ keys) k h =
       | inr e ↦ ended_by test keys k (rw e at h)
     ]
 
-settle_counts : (p : Setting) (j : Journal) (ts : List Telling) (s : KeyState) → (ended ts s.key ≡ true → is_key_reached p j s.key ≡ true) → (is_key_reached p j s.key ≡ true → ended ts s.key ≡ true) →
+settle_counts : (p : Setting) (j : Journal) (ts : List PendingReport) (s : KeyState) → (ended ts s.key ≡ true → is_key_reached p j s.key ≡ true) → (is_key_reached p j s.key ≡ true → ended ts s.key ≡ true) →
     OnIs p j s → Counts p j [] s → Counts p j ts (ungranted_if_reached s)
 settle_counts p j ts s there back o h =
     elim (cases_Bool (is_key_reached p j s.key)) [
@@ -140,7 +140,7 @@ by_ended test (l ∷ keys) k h t =
           elim (cases_Bool (test l)) [ inl e ↦ rw (e, f) r | inr e ↦ rw e r ]
     ]
 
-counts_from : (p : Setting) (j : Journal) (ts : List Telling) (keys : List (List ℕ)) (states : List KeyState) →
+counts_from : (p : Setting) (j : Journal) (ts : List PendingReport) (keys : List (List ℕ)) (states : List KeyState) →
     ((k : List ℕ) → ended ts k ≡ true → is_key_reached p j k ≡ true) → ((k : List ℕ) → is_among k keys ≡ true → is_key_reached p j k ≡ true → ended ts k ≡ true) →
     ((k : List ℕ) → is_among k (keys_of states) ≡ true → is_among k keys ≡ true) →
     AllByRecursion (OnIs p j) states → AllByRecursion (Counts p j []) states → AllByRecursion (Counts p j ts) (map ungranted_if_reached states)
@@ -151,7 +151,7 @@ counts_from p j ts keys (s ∷ states) there back within o a = (
 )
 
 pub all_settled : (p : Setting) (j : Journal) (states : List KeyState) → keys_of states ≡ slots p j → AllOn p j states → AllCount p j [] states →
-    AllCount p j (settled_tellings (subscribed j).usage_report states) (settled_states (subscribed j).usage_report states)
+    AllCount p j (threshold_reports (subscribed j).usage_report states) (settled_states (subscribed j).usage_report states)
 unfolding AllOn AllCount
 all_settled p j states e o a =
     elim (cases_Bool (subscribed j).usage_report) [
@@ -170,33 +170,33 @@ pub keys_settled : (b : Bool) (states : List KeyState) → keys_of (settled_stat
 keys_settled true states = keys_ungranted states
 keys_settled false states = refl
 
-knows_more : (k : List ℕ) (keys : List (List ℕ)) (ts : List Telling) → KnowsAll keys ts → KnowsAll (k ∷ keys) ts
+knows_more : (k : List ℕ) (keys : List (List ℕ)) (ts : List PendingReport) → KnowsAll keys ts → KnowsAll (k ∷ keys) ts
 unfolding KnowsAll
 knows_more k keys [] h = tt
 knows_more k keys (Inactive n ∷ ts) h = (tt, knows_more k keys ts h.1)
 knows_more k keys (Access a v ∷ ts) h = (tt, knows_more k keys ts h.1)
 knows_more k keys (Usage l cause ∷ ts) h = (or_more (same_name l k) (is_among l keys) h.0, knows_more k keys ts h.1)
 
-knows_reached : (states : List KeyState) → KnowsAll (keys_of states) (reached_tellings states)
+knows_reached : (states : List KeyState) → KnowsAll (keys_of states) (reached_reports states)
 unfolding KnowsAll
 knows_reached [] = tt
 knows_reached (s ∷ states) =
-    let r = knows_more s.key (keys_of states) (reached_tellings states) (knows_reached states) in
+    let r = knows_more s.key (keys_of states) (reached_reports states) (knows_reached states) in
     elim (cases_Bool (is_reached s)) [
       | inl e ↦ rw e (rw (same_name_self s.key) refl, r)
       | inr e ↦ rw e r
     ]
 
-pub knows_settled : (b : Bool) (states : List KeyState) → KnowsAll (keys_of (settled_states b states)) (settled_tellings b states)
+pub knows_settled : (b : Bool) (states : List KeyState) → KnowsAll (keys_of (settled_states b states)) (threshold_reports b states)
 unfolding KnowsAll
-knows_settled true states = subst (λ (ks : List (List ℕ)). KnowsAll ks (reached_tellings states)) (sym (keys_ungranted states)) (knows_reached states)
+knows_settled true states = subst (λ (ks : List (List ℕ)). KnowsAll ks (reached_reports states)) (sym (keys_ungranted states)) (knows_reached states)
 knows_settled false states = tt
 
-few_reached : (states : List KeyState) → length (reached_tellings states) ≤ length states
+few_reached : (states : List KeyState) → length (reached_reports states) ≤ length states
 few_reached [] = omega arith
 few_reached (s ∷ states) = let r = few_reached states in elim (cases_Bool (is_reached s)) [ inl e ↦ rw e (omega arith) | inr e ↦ rw e (omega arith) ]
 
-pub few_settled : (b : Bool) (states : List KeyState) → length (settled_tellings b states) ≤ length states
+pub few_settled : (b : Bool) (states : List KeyState) → length (threshold_reports b states) ≤ length states
 few_settled true states = few_reached states
 few_settled false states = omega arith
 
@@ -217,10 +217,10 @@ map_map f g (x ∷ xs) = ap (λ ys. f (g x) ∷ ys) (map_map f g xs)
 key_ungranted : (s : KeyState) → (ungranted_if_reached s).key ≡ s.key
 key_ungranted s = elim (cases_Bool (is_reached s)) [ inl e ↦ rw e refl | inr e ↦ rw e refl ]
 
-at_places : (states : List KeyState) → map (λ n. threshold (state_at n (map ungranted_if_reached states)).key) (reached_places 0 states) ≡ reached_tellings states
+at_places : (states : List KeyState) → map (λ n. threshold (state_at n (map ungranted_if_reached states)).key) (reached_places 0 states) ≡ reached_reports states
 at_places [] = refl
 at_places (s ∷ states) =
-    let r : map (λ n. threshold (state_at n (map ungranted_if_reached (s ∷ states))).key) (reached_places 1 states) ≡ reached_tellings states =
+    let r : map (λ n. threshold (state_at n (map ungranted_if_reached (s ∷ states))).key) (reached_places 1 states) ≡ reached_reports states =
     ap (map (λ n. threshold (state_at n (map ungranted_if_reached (s ∷ states))).key)) (shifted 0 states) ∙
     map_map (λ n. threshold (state_at n (map ungranted_if_reached (s ∷ states))).key) suc (reached_places 0 states) ∙ at_places states in
     elim (cases_Bool (is_reached s)) [
@@ -228,13 +228,13 @@ at_places (s ∷ states) =
       | inr e ↦ rw e r
     ]
 
-pub tellings_are : (b : Bool) (states kept : List KeyState) (items : List Slot) → map (λ s. s.0) items ≡ (if b then reached_places 0 states else []) →
-    kept ≡ settled_states b states → map (λ s. threshold (state_at s.0 kept).key) items ≡ settled_tellings b states
-tellings_are true states kept items h e =
+pub reports_are_due : (b : Bool) (states kept : List KeyState) (items : List Slot) → map (λ s. s.0) items ≡ (if b then reached_places 0 states else []) →
+    kept ≡ settled_states b states → map (λ s. threshold (state_at s.0 kept).key) items ≡ threshold_reports b states
+reports_are_due true states kept items h e =
     sym (map_map (λ n. threshold (state_at n kept).key) (λ s. s.0) items) ∙ ap (map (λ n. threshold (state_at n kept).key)) h ∙
     ap (λ v. map (λ n. threshold (state_at n v).key) (reached_places 0 states)) e ∙ at_places states
-tellings_are false states kept [] h e = refl
-tellings_are false states kept (i ∷ items) h e = cc
+reports_are_due false states kept [] h e = refl
+reports_are_due false states kept (i ∷ items) h e = cc
 
 places_below : (n : ℕ) (states : List KeyState) → AllByRecursion (λ m. m < n + length states) (reached_places n states)
 places_below n [] = tt
@@ -264,8 +264,8 @@ settled_length false states kept e = ap length e
 
 -- what a settling gives, slot by slot
 pub matched : (b : Bool) (states kept : List KeyState) (items slots : List Slot) → map (λ s. s.0) items ≡ (if b then reached_places 0 states else []) →
-    kept ≡ settled_states b states → slots ≡ items → map (threshold_at kept) slots ≡ settled_tellings b states
-matched b states kept items slots h e r = ap (map (threshold_at kept)) r ∙ tellings_are b states kept items h e
+    kept ≡ settled_states b states → slots ≡ items → map (threshold_at kept) slots ≡ threshold_reports b states
+matched b states kept items slots h e r = ap (map (threshold_at kept)) r ∙ reports_are_due b states kept items h e
 
-pub few_matched : (b : Bool) (states kept : List KeyState) (slots : List Slot) → map (threshold_at kept) slots ≡ settled_tellings b states → length slots ≤ length states
+pub few_matched : (b : Bool) (states kept : List KeyState) (slots : List Slot) → map (threshold_at kept) slots ≡ threshold_reports b states → length slots ≤ length states
 few_matched b states kept slots e = omega (arith, few_settled b states, ap length e, length-map slots (threshold_at kept))

@@ -17,7 +17,7 @@ use Rattle.pcef_model.specs.Journals.{at, counted, counts, decision, now, octets
 use Rattle.pcef_model.proofs.Sameness.{same_name_is, same_name_not, same_name_of}
 use Rattle.pcef_usage.specs.declared.usage.KeyState.{KeyState}
 use Rattle.pcef_usage.specs.Keys.{fresh, has_slot, keys_of, place_of, with_slot}
-use Rattle.pcef_usage.specs.Tellings.{Distinct}
+use Rattle.pcef_usage.specs.PendingReports.{Distinct}
 use Rattle.pcef_usage.proofs.Places.{or_no}
 use Rattle.pcef_usage.proofs.Tells.{has_slot_is}
 

@@ -1,12 +1,12 @@
--- Telling keeps the counters in agreement with the journal.
+-- PendingReport keeps the counters in agreement with the journal.
 use Rattle.std.proofs.Common.{◌≡◌, ℕ, Bool, true, false, List, [], ◌∷◌, refl, sym, ap, ◌∙◌, arith, if◌then◌else◌, inl, inr, zero, suc, subst, map}
 use Rattle.std.specs.Prelude.{Option, None, ◌||◌, ◌&&◌}
 use Rattle.std.specs.List.{AllByRecursion}
 use Rattle.std.proofs.lemmas.Bool.{cases_Bool}
 use Rattle.pcef_model.specs.declared.report.Cause.{Cause}
 use Rattle.pcef_model.specs.declared.report.Body.TheVariants as body
-use Rattle.pcef_model.specs.declared.telling.Telling.{Telling}
-use Rattle.pcef_model.specs.declared.telling.Telling.TheVariants.{Inactive, Usage, Access}
+use Rattle.pcef_model.specs.declared.pending_report.PendingReport.{PendingReport}
+use Rattle.pcef_model.specs.declared.pending_report.PendingReport.TheVariants.{Inactive, Usage, Access}
 use Rattle.pcef_model.specs.declared.entry.Entry.TheVariants as entry
 use Rattle.pcef_model.specs.declared.report.InactiveCause.TheVariants.{BearerLost}
 use Rattle.pcef_model.specs.Setting.{Setting, same_name}
@@ -17,7 +17,7 @@ use Rattle.pcef_model.specs.Reports.{tell, body_of}
 use Rattle.pcef_model.proofs.Sameness.{same_name_is, same_name_not, same_name_turned}
 use Rattle.pcef_usage.specs.declared.usage.KeyState.{KeyState}
 use Rattle.pcef_usage.specs.Keys.{keys_of, has_slot, place_of, at_place, state_at, reported_on}
-use Rattle.pcef_usage.specs.Tellings.{body_by, after_telling, told, states_told, ended, Knows, KnowsAll, Distinct, Counts, AllCount}
+use Rattle.pcef_usage.specs.PendingReports.{body_by, after_report, appended, states_told, ended, Knows, KnowsAll, Distinct, Counts, AllCount}
 use Rattle.pcef_usage.proofs.Places.{or_no, or_rest}
 
 -- keys
@@ -31,7 +31,7 @@ keys_at_place f n [] h = refl
 keys_at_place f zero (s ∷ states) h = ap (λ k. k ∷ keys_of states) (h s)
 keys_at_place f (suc n) (s ∷ states) h = ap (λ ks. s.key ∷ ks) (keys_at_place f n states h)
 
-pub keys_after : (t : Telling) (states : List KeyState) → keys_of (after_telling t states) ≡ keys_of states
+pub keys_after : (t : PendingReport) (states : List KeyState) → keys_of (after_report t states) ≡ keys_of states
 keys_after (Inactive n) states = refl
 keys_after (Usage k cause) states = keys_at_place reported_on (place_of k states) states (λ s. refl)
 keys_after (Access t v) states = refl
@@ -70,13 +70,13 @@ either true false g o h = h
 either false true g o h = h
 either false false g o h = h
 
-grant_told : (j : Journal) (n u : ℕ) (k : List ℕ) (cause : Cause) (ts : List Telling) (s : KeyState) →
+grant_told : (j : Journal) (n u : ℕ) (k : List ℕ) (cause : Cause) (ts : List PendingReport) (s : KeyState) →
     s.grant ≡ (if ended (Usage k cause ∷ ts) s.key then None else grant j s.key) →
     s.grant ≡ (if ended ts s.key then None else grant (entry.Report (record { number = n; body = body.Usage k u cause }) ∷ j) s.key)
 unfolding grant
 grant_told j n u k cause ts s h = either (same_name s.key k && ends_grant cause) (ended ts s.key) s.grant (grant j s.key) h
 
-hit : (p : Setting) (j : Journal) (n u : ℕ) (k : List ℕ) (cause : Cause) (ts : List Telling) (s : KeyState) → same_name k s.key ≡ true → u ≡ unreported p j k →
+hit : (p : Setting) (j : Journal) (n u : ℕ) (k : List ℕ) (cause : Cause) (ts : List PendingReport) (s : KeyState) → same_name k s.key ≡ true → u ≡ unreported p j k →
     Counts p j (Usage k cause ∷ ts) s → Counts p (entry.Report (record { number = n; body = body.Usage k u cause }) ∷ j) ts (reported_on s)
 unfolding reported
 hit p j n u k cause ts s e f h =
@@ -86,7 +86,7 @@ hit p j n u k cause ts s e f h =
       counted_is = omega (arith, h.counted_is);
     }
 
-miss : (p : Setting) (j : Journal) (n u : ℕ) (k : List ℕ) (cause : Cause) (ts : List Telling) (s : KeyState) → same_name k s.key ≡ false →
+miss : (p : Setting) (j : Journal) (n u : ℕ) (k : List ℕ) (cause : Cause) (ts : List PendingReport) (s : KeyState) → same_name k s.key ≡ false →
     Counts p j (Usage k cause ∷ ts) s → Counts p (entry.Report (record { number = n; body = body.Usage k u cause }) ∷ j) ts s
 unfolding reported
 miss p j n u k cause ts s e h = record {
@@ -95,7 +95,7 @@ miss p j n u k cause ts s e h = record {
   counted_is = h.counted_is;
 }
 
-one_usage : (p : Setting) (j : Journal) (n u : ℕ) (k : List ℕ) (cause : Cause) (ts : List Telling) (s : KeyState) → u ≡ unreported p j k →
+one_usage : (p : Setting) (j : Journal) (n u : ℕ) (k : List ℕ) (cause : Cause) (ts : List PendingReport) (s : KeyState) → u ≡ unreported p j k →
     Counts p j (Usage k cause ∷ ts) s → Counts p (entry.Report (record { number = n; body = body.Usage k u cause }) ∷ j) ts (if same_name k s.key then reported_on s else s)
 one_usage p j n u k cause ts s f h =
     elim (cases_Bool (same_name k s.key)) [
@@ -103,7 +103,7 @@ one_usage p j n u k cause ts s f h =
       | inr e ↦ rw e (miss p j n u k cause ts s e h)
     ]
 
-pub unreported_is : (p : Setting) (j : Journal) (ts : List Telling) (k : List ℕ) (states : List KeyState) → is_among k (keys_of states) ≡ true → AllByRecursion (Counts p j ts) states →
+pub unreported_is : (p : Setting) (j : Journal) (ts : List PendingReport) (k : List ℕ) (states : List KeyState) → is_among k (keys_of states) ≡ true → AllByRecursion (Counts p j ts) states →
     (state_at (place_of k states) states).unreported ≡ unreported p j k
 unreported_is p j ts k [] h a = cc
 unreported_is p j ts k (s ∷ states) h a =
@@ -113,8 +113,8 @@ unreported_is p j ts k (s ∷ states) h a =
       | inr e ↦ rw e (unreported_is p j ts k states (or_rest (same_name k s.key) (is_among k (keys_of states)) e h) a.1)
     ]
 
-one_told : (p : Setting) (t : Telling) (ts : List Telling) (j : Journal) (n : ℕ) (states : List KeyState) → Distinct (keys_of states) → Knows (keys_of states) t →
-    AllByRecursion (Counts p j (t ∷ ts)) states → AllByRecursion (Counts p (entry.Report (record { number = n; body = body_of p j t }) ∷ j) ts) (after_telling t states)
+one_told : (p : Setting) (t : PendingReport) (ts : List PendingReport) (j : Journal) (n : ℕ) (states : List KeyState) → Distinct (keys_of states) → Knows (keys_of states) t →
+    AllByRecursion (Counts p j (t ∷ ts)) states → AllByRecursion (Counts p (entry.Report (record { number = n; body = body_of p j t }) ∷ j) ts) (after_report t states)
 unfolding grant reported
 one_told p (Inactive m) ts j n states d k a =
     all_same (Counts p j (Inactive m ∷ ts)) (Counts p (entry.Report (record { number = n; body = body.Inactive m BearerLost }) ∷ j) ts) states
@@ -127,7 +127,7 @@ one_told p (Usage k cause) ts j n states d i a =
     (all_mapped (Counts p j (Usage k cause ∷ ts)) (Counts p (entry.Report (record { number = n; body = body.Usage k (unreported p j k) cause }) ∷ j) ts)
     (λ s. if same_name k s.key then reported_on s else s) states (λ s h. one_usage p j n (unreported p j k) k cause ts s refl h) a)
 
-body_is : (p : Setting) (t : Telling) (ts : List Telling) (j : Journal) (states : List KeyState) → Knows (keys_of states) t → AllByRecursion (Counts p j (t ∷ ts)) states →
+body_is : (p : Setting) (t : PendingReport) (ts : List PendingReport) (j : Journal) (states : List KeyState) → Knows (keys_of states) t → AllByRecursion (Counts p j (t ∷ ts)) states →
     body_by states t ≡ body_of p j t
 body_is p (Inactive n) ts j states k a = refl
 body_is p (Usage k cause) ts j states h a = ap (λ u. body.Usage k u cause) (unreported_is p j (Usage k cause ∷ ts) k states h a)
@@ -135,20 +135,20 @@ body_is p (Access t v) ts j states k a = refl
 
 -- all tellings
 
-pub record ToldWell (p : Setting) (ts : List Telling) (states : List KeyState) (j : Journal) : Type 0 where
-  pub journal_is : told ts states j ≡ tell p ts j
+pub record ToldWell (p : Setting) (ts : List PendingReport) (states : List KeyState) (j : Journal) : Type 0 where
+  pub journal_is : appended ts states j ≡ tell p ts j
   pub counts : AllCount p (tell p ts j) [] (states_told ts states)
   pub keys_are : keys_of (states_told ts states) ≡ keys_of states
 
-pub told_well : (p : Setting) (ts : List Telling) (j : Journal) (states : List KeyState) → Distinct (keys_of states) → KnowsAll (keys_of states) ts → AllCount p j ts states →
+pub told_well : (p : Setting) (ts : List PendingReport) (j : Journal) (states : List KeyState) → Distinct (keys_of states) → KnowsAll (keys_of states) ts → AllCount p j ts states →
     ToldWell p ts states j
-unfolding told states_told tell KnowsAll AllCount
+unfolding appended states_told tell KnowsAll AllCount
 told_well p [] j states d k a = record { journal_is = refl; counts = a; keys_are = refl }
 told_well p (t ∷ ts) j states d k a =
     let e = keys_after t states in
-    let r = told_well p ts (entry.Report (record { number = report_count j; body = body_of p j t }) ∷ j) (after_telling t states) (subst Distinct (sym e) d)
+    let r = told_well p ts (entry.Report (record { number = report_count j; body = body_of p j t }) ∷ j) (after_report t states) (subst Distinct (sym e) d)
     (subst (λ keys. KnowsAll keys ts) (sym e) k.1) (one_told p t ts j (report_count j) states d k.0 a) in record {
-      journal_is = ap (λ b. told ts (after_telling t states) (entry.Report (record { number = report_count j; body = b }) ∷ j)) (body_is p t ts j states k.0 a) ∙ r.journal_is;
+      journal_is = ap (λ b. appended ts (after_report t states) (entry.Report (record { number = report_count j; body = b }) ∷ j)) (body_is p t ts j states k.0 a) ∙ r.journal_is;
       counts = r.counts;
       keys_are = r.keys_are ∙ e;
     }

@@ -4,8 +4,8 @@ use Rattle.pcef_model.specs.declared.command.Command.{Command}
 use Rattle.pcef_model.specs.declared.command.Command.TheVariants.{Monitor, Stop, ReportNow, Triggers}
 use Rattle.pcef_model.specs.declared.entry.Entry.TheVariants as entry
 use Rattle.pcef_model.specs.declared.report.Cause.{Cause}
-use Rattle.pcef_model.specs.declared.telling.Telling.{Telling}
-use Rattle.pcef_model.specs.declared.telling.Telling.TheVariants.{Usage}
+use Rattle.pcef_model.specs.declared.pending_report.PendingReport.{PendingReport}
+use Rattle.pcef_model.specs.declared.pending_report.PendingReport.TheVariants.{Usage}
 use Rattle.pcef_model.specs.declared.trigger.TriggerSet.{TriggerSet}
 use Rattle.pcef_model.specs.Setting.{Setting}
 use Rattle.pcef_model.specs.ActiveRules.{Active, has_key}
@@ -15,7 +15,7 @@ use Rattle.pcef_model.specs.Journals.{now, slots}
 use Rattle.pcef_model.specs.Reports.{plan}
 use Rattle.pcef_usage.specs.declared.usage.KeyState.{KeyState}
 use Rattle.pcef_usage.specs.Keys.{at_place, place_of, started, with_slot}
-use Rattle.pcef_usage.specs.Tellings.{ended}
+use Rattle.pcef_usage.specs.PendingReports.{ended}
 
 -- the key of a Monitor is started
 abbrev pub started_by : Command → List KeyState → List KeyState
@@ -49,7 +49,7 @@ subscribed_by (Triggers set) old = set
 subscribed_by _ old = old
 
 -- ---- what commands report by themselves, slot by slot
-abbrev pub usage_of : Cause → (KeyState → Bool) → List KeyState → List Telling
+abbrev pub usage_of : Cause → (KeyState → Bool) → List KeyState → List PendingReport
 usage_of cause test states = map (λ s. Usage s.key cause) (filter test states)
 
 -- a key that is on, and of whose rules there were some and are none

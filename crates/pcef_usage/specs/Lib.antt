@@ -1,6 +1,6 @@
 pub mod Commands
 pub mod Counted
 pub mod Flushes
-pub mod Kept
+pub mod CountedView
 pub mod Keys
-pub mod Tellings
+pub mod PendingReports

@@ -6,11 +6,11 @@ ghost use Rattle.pcef_model.specs.Commands.{is_among};
 ghost use Rattle.pcef_model.specs.Journals.{ends_grant, report_count};
 ghost use Rattle.pcef_usage.specs.Counted.{IsEvent};
 ghost use Rattle.pcef_usage.specs.Keys.{CanCount, at_place, finds_no_slot, keys_of, place_of, reported_on, started, state_at, stopped, with_octets, with_slot};
-ghost use Rattle.pcef_usage.specs.Tellings.{Knows, KnowsAll, after_stop, after_telling, body_by, settled_states, settled_tellings, states_stopped, states_told, threshold, told};
+ghost use Rattle.pcef_usage.specs.PendingReports.{Knows, KnowsAll, after_stop, after_report, body_by, settled_states, threshold_reports, states_stopped, states_told, threshold, appended};
 
 use crate::usage::{KeyState, Usage};
 use pcef_journal::Journal;
-use pcef_model::{Body, Cause, Entry, InactiveCause, Report, Row, Telling};
+use pcef_model::{Body, Cause, Entry, InactiveCause, Report, Row, PendingReport};
 use pcef_rule::{KeyName, Slot};
 use std::alloc::{AllocError, Global};
 use std::marker::Model;
@@ -27,7 +27,7 @@ impl Model for CountedJournal {
 
     ghost Value = { Counted };
 
-    ghost use Rattle.pcef_usage.specs.Kept.{counted_of};
+    ghost use Rattle.pcef_usage.specs.CountedView.{counted_of};
 
     ghost view = { counted_of };
 }
@@ -100,36 +100,36 @@ impl CountedJournal {
     }
 
     /// Switches the keys off whose grants these reports will end.
-    pub fn stop_all(&mut self, tellings: &[Telling])
-        requires known { KnowsAll (keys_of self.old.states) tellings.now }
+    pub fn switch_off_reported(&mut self, all_pending: &[PendingReport])
+        requires known { KnowsAll (keys_of self.old.states) all_pending.now }
         ensures journal { self.new.journal ≡ self.old.journal }
-        ensures states { self.new.states ≡ states_stopped tellings.now self.old.states }
+        ensures states { self.new.states ≡ states_stopped all_pending.now self.old.states }
         ensures room { self.new.room ≡ self.old.room }
     {
-        for telling in tellings {
-            self.stop_if(telling);
+        for pending in all_pending {
+            self.stop_if(pending);
         }
     }
 
     /// Appends these reports in order, with their numbers and octets. Takes no memory.
-    pub fn tell_all(&mut self, tellings: &[Telling])
-        requires known { KnowsAll (keys_of self.old.states) tellings.now }
-        requires room { length tellings.now ≤ self.old.room }
-        ensures journal { self.new.journal ≡ told tellings.now self.old.states self.old.journal }
-        ensures states { self.new.states ≡ states_told tellings.now self.old.states }
-        ensures room { self.old.room ≤ self.new.room + length tellings.now }
+    pub fn append_reports(&mut self, all_pending: &[PendingReport])
+        requires known { KnowsAll (keys_of self.old.states) all_pending.now }
+        requires room { length all_pending.now ≤ self.old.room }
+        ensures journal { self.new.journal ≡ appended all_pending.now self.old.states self.old.journal }
+        ensures states { self.new.states ≡ states_told all_pending.now self.old.states }
+        ensures room { self.old.room ≤ self.new.room + length all_pending.now }
     {
-        for telling in tellings {
-            self.tell(telling);
+        for pending in all_pending {
+            self.tell(pending);
         }
     }
 
     /// At the end of an event, while usage reports are subscribed, appends the reports of the grants that
     /// are reached, and takes those grants. Takes no memory.
-    pub fn finish(&mut self, subscribed: bool)
+    pub fn report_thresholds(&mut self, subscribed: bool)
         requires { length self.old.states ≤ self.old.room }
-        ensures journal { self.new.journal ≡ told (settled_tellings subscribed self.old.states) (settled_states subscribed self.old.states) self.old.journal }
-        ensures states { self.new.states ≡ states_told (settled_tellings subscribed self.old.states) (settled_states subscribed self.old.states) }
+        ensures journal { self.new.journal ≡ appended (threshold_reports subscribed self.old.states) (settled_states subscribed self.old.states) self.old.journal }
+        ensures states { self.new.states ≡ states_told (threshold_reports subscribed self.old.states) (settled_states subscribed self.old.states) }
         ensures room { self.old.room ≤ self.new.room + length self.old.states }
     {
         let reached = self.usage.settle(subscribed);
@@ -150,38 +150,38 @@ impl CountedJournal {
         &self.usage
     }
 
-    fn tell(&mut self, telling: &Telling)
-        requires known { Knows (keys_of self.old.states) telling.now }
+    fn tell(&mut self, pending: &PendingReport)
+        requires known { Knows (keys_of self.old.states) pending.now }
         requires room { 0 < self.old.room }
-        ensures journal { self.new.journal ≡ Entry.Report (record { number = report_count self.old.journal; body = body_by self.old.states telling.now }) ∷ self.old.journal }
-        ensures states { self.new.states ≡ after_telling telling.now self.old.states }
+        ensures journal { self.new.journal ≡ Entry.Report (record { number = report_count self.old.journal; body = body_by self.old.states pending.now }) ∷ self.old.journal }
+        ensures states { self.new.states ≡ after_report pending.now self.old.states }
         ensures room { self.old.room ≤ self.new.room + 1 }
     {
         let number = self.journal.reports_len();
-        let body = fill_in(&mut self.usage, telling);
+        let body = fill_in(&mut self.usage, pending);
         self.journal.append(Entry::Report(Report { number, body }));
     }
 
     fn tell_reached(&mut self, reached: &[Slot])
         requires known { All (λ s. s.0 < length self.old.states) reached.now }
         requires room { length reached.now ≤ self.old.room }
-        ensures journal { self.new.journal ≡ told (map (λ s. threshold (state_at s.0 self.old.states).key) reached.now) self.old.states self.old.journal }
+        ensures journal { self.new.journal ≡ appended (map (λ s. threshold (state_at s.0 self.old.states).key) reached.now) self.old.states self.old.journal }
         ensures states { self.new.states ≡ states_told (map (λ s. threshold (state_at s.0 self.old.states).key) reached.now) self.old.states }
         ensures room { self.old.room ≤ self.new.room + length reached.now }
     {
         for slot in reached {
             let key = self.usage.key(*slot).copy();
-            self.tell(&Telling::Usage(key, Cause::Threshold));
+            self.tell(&PendingReport::Usage(key, Cause::Threshold));
         }
     }
 
-    fn stop_if(&mut self, telling: &Telling)
-        requires known { Knows (keys_of self.old.states) telling.now }
+    fn stop_if(&mut self, pending: &PendingReport)
+        requires known { Knows (keys_of self.old.states) pending.now }
         ensures journal { self.new.journal ≡ self.old.journal }
-        ensures states { self.new.states ≡ after_stop telling.now self.old.states }
+        ensures states { self.new.states ≡ after_stop pending.now self.old.states }
         ensures room { self.new.room ≡ self.old.room }
     {
-        if let Telling::Usage(key, cause) = telling {
+        if let PendingReport::Usage(key, cause) = pending {
             if ends_grant(*cause) {
                 stop_key(&mut self.usage, key);
             }
@@ -214,22 +214,22 @@ fn ends_grant(cause: Cause) -> bool
     cause != Cause::Requested
 }
 
-fn fill_in(usage: &mut Usage, telling: &Telling) -> Body
-    requires { Knows (keys_of usage.old) telling.now }
-    ensures body { result ≡ body_by usage.old telling.now }
-    ensures states { usage.new ≡ after_telling telling.now usage.old }
+fn fill_in(usage: &mut Usage, pending: &PendingReport) -> Body
+    requires { Knows (keys_of usage.old) pending.now }
+    ensures body { result ≡ body_by usage.old pending.now }
+    ensures states { usage.new ≡ after_report pending.now usage.old }
 {
-    match telling {
-        Telling::Inactive(rule) => Body::Inactive {
+    match pending {
+        PendingReport::Inactive(rule) => Body::Inactive {
             rule: rule.copy(),
             cause: InactiveCause::BearerLost,
         },
-        Telling::Usage(key, cause) => Body::Usage {
+        PendingReport::Usage(key, cause) => Body::Usage {
             key: key.copy(),
             octets: take_octets(usage, key),
             cause: *cause,
         },
-        Telling::Access(kind, value) => Body::Access {
+        PendingReport::Access(kind, value) => Body::Access {
             kind: *kind,
             value: value.copy(),
         },

@@ -3,7 +3,7 @@
 ghost use Rattle.std.specs.Prelude.{◌≡◌, ◌<◌, ◌≤◌, ◌+◌, length};
 
 use super::*;
-use pcef_model::{Body, Cause, Command, Entry, Report, Row, Telling, Verdict};
+use pcef_model::{Body, Cause, Command, Entry, Report, Row, PendingReport, Verdict};
 use pcef_packet::{Addr, Dir, Header};
 use pcef_rule::{KeyName, Slot};
 use std::process::Abort;
@@ -62,29 +62,29 @@ fn take(rt: &impl Abort, counted: &mut CountedJournal, slot: Slot, octets: u32)
 }
 
 /// The report of a key that lost its last rule.
-#[tactic(auto, using(crate::proofs::Tells::has_slot_is), unfolding(crate::specs::Tellings::KnowsAll))]
+#[tactic(auto, using(crate::proofs::Tells::has_slot_is), unfolding(crate::specs::PendingReports::KnowsAll))]
 fn lose_rules(rt: &impl Abort, counted: &mut CountedJournal, key: &KeyName)
     requires { 1 ≤ counted.old.room }
     ensures { counted.old.room ≤ counted.new.room + 1 }
 {
-    let tellings = [Telling::Usage(key.copy(), Cause::RulesGone)];
+    let all_pending = [PendingReport::Usage(key.copy(), Cause::RulesGone)];
     let Some(_slot) = counted.usage().find(key) else {
         panic!(rt; "the key has no slot");
     };
-    counted.stop_all(&tellings);
+    counted.switch_off_reported(&all_pending);
     let Some(_slot) = counted.usage().find(key) else {
         panic!(rt; "the key has no slot");
     };
-    counted.tell_all(&tellings);
+    counted.append_reports(&all_pending);
 }
 
 /// The end of an event.
-fn finish(counted: &mut CountedJournal, subscribed: bool)
+fn report_thresholds(counted: &mut CountedJournal, subscribed: bool)
     requires { 8 ≤ counted.old.room }
     ensures { counted.old.room ≤ counted.new.room + 8 }
 {
     let _states = counted.usage().states();
-    counted.finish(subscribed);
+    counted.report_thresholds(subscribed);
 }
 
 /// The state of a slot in the order of its fields.
@@ -128,11 +128,11 @@ fn a_grant_is_reached(rt: HostRuntime) -> Result<(), Fail> {
     assert_eq!(rt; counted.usage().find(&audio), Some(Slot(1)));
     take(&rt, &mut counted, Slot(0), 60);
     take(&rt, &mut counted, Slot(1), 28);
-    finish(&mut counted, true);
+    report_thresholds(&mut counted, true);
     assert_eq!(rt; counted.journal().reports_len(), 0);
     assert_eq!(rt; state(&counted, 0), Some((true, Some(100), 0, 60)));
     take(&rt, &mut counted, Slot(0), 40);
-    finish(&mut counted, true);
+    report_thresholds(&mut counted, true);
     let reached = usage_report(0, &video, 100, Cause::Threshold);
     assert_eq!(rt; counted.journal().reports_from(0).next(), Some(&reached));
     assert_eq!(rt; counted.journal().reports_len(), 1);
@@ -150,14 +150,14 @@ fn a_key_loses_its_rules(rt: HostRuntime) -> Result<(), Fail> {
     monitor(&rt, &mut counted, &video, 100);
     monitor(&rt, &mut counted, &audio, 28);
     take(&rt, &mut counted, Slot(1), 28);
-    finish(&mut counted, false);
+    report_thresholds(&mut counted, false);
     assert_eq!(rt; counted.journal().reports_len(), 0);
     lose_rules(&rt, &mut counted, &audio);
     let gone = usage_report(0, &audio, 28, Cause::RulesGone);
     assert_eq!(rt; counted.journal().reports_from(0).next(), Some(&gone));
     assert_eq!(rt; state(&counted, 0), Some((true, Some(100), 0, 0)));
     assert_eq!(rt; state(&counted, 1), Some((false, None, 28, 0)));
-    finish(&mut counted, true);
+    report_thresholds(&mut counted, true);
     assert_eq!(rt; counted.journal().reports_len(), 1);
     Ok(())
 }

@@ -15,7 +15,7 @@ use Rattle.pcef_model.specs.declared.command.Command.TheVariants as command
 use Rattle.pcef_model.specs.declared.row.Row.{Row}
 use Rattle.pcef_model.specs.Setting.{Setting, offer_named}
 use Rattle.pcef_model.specs.Entries.{Journal}
-use Rattle.pcef_model.specs.Answers.{Attaches, Does, Finishes, Flushes, Gives, GivesOrLacks, Outcome, Told, attach_outcome, attach_outcome_by, changes, command_outcome, command_outcome_by, finish_outcome, finish_outcome_by, flush_outcome, flush_outcome_by}
+use Rattle.pcef_model.specs.Outcomes.{AttachStep, CommandStep, FinishStep, FlushStep, Gives, GivesOrLacks, Outcome, FlushAnswer, attach_outcome, attach_outcome_by, changes, command_outcome, command_outcome_by, finish_outcome, finish_outcome_by, flush_outcome, flush_outcome_by}
 use Rattle.pcef_model.specs.Refusals.{Conditions, attach_faults, becoming_active_if, first_of, flush_refusals, is_active, refusals}
 use Rattle.pcef_world.specs.Steps.{is_error}
 
@@ -78,10 +78,10 @@ none_refuses p j (command.LoseBearer id) = refl
 none_refuses p j command.Close = refl
 none_refuses p j command.Terminate = refl
 
-pub command_given : (p : Setting) (c : Command) (j k : Journal) (r : Result Accepted Refusal) → Does p c j r k → (r ≡ Err refusal.NoMemory → ⊥) → command_outcome p j c ≡ (r, k)
+pub command_given : (p : Setting) (c : Command) (j k : Journal) (r : Result Accepted Refusal) → CommandStep p c j r k → (r ≡ Err refusal.NoMemory → ⊥) → command_outcome p j c ≡ (r, k)
 command_given p c j k r does other = given (first_of (refusals p j c)) refusal.NoMemory (command_outcome p j c) j k r does other
 
-pub command_lacking : (p : Setting) (c : Command) (j k : Journal) → Does p c j (Err refusal.NoMemory) k → (is_error (command_outcome p j c).0 ≡ false) × (k ≡ j)
+pub command_lacking : (p : Setting) (c : Command) (j k : Journal) → CommandStep p c j (Err refusal.NoMemory) k → (is_error (command_outcome p j c).0 ≡ false) × (k ≡ j)
 unfolding command_outcome
 command_lacking p c j k does =
     lacking (first_of (refusals p j c)) refusal.NoMemory (command_outcome_by p j c) j k (λ r. refl) (accepted p j c (changes p j c) refl) (never (refusals p j c) (none_refuses p j c)) does
@@ -91,7 +91,7 @@ command_lacking p c j k does =
     accepted p j c false is = rw is refl
 
 -- ---- workers
-pub attach_given : (j k : Journal) (r : Result ℕ AttachFault) → Attaches j r k → (r ≡ Err attach.NoMemory → ⊥) → attach_outcome j ≡ (r, k)
+pub attach_given : (j k : Journal) (r : Result ℕ AttachFault) → AttachStep j r k → (r ≡ Err attach.NoMemory → ⊥) → attach_outcome j ≡ (r, k)
 attach_given j k r attaches other = given (first_of (attach_faults j)) attach.NoMemory (attach_outcome j) j k r attaches other
 
 never_attach : (a b : Bool) → first_of ((a, attach.NoPlace) ∷ (b, attach.Closed) ∷ []) ≡ Some attach.NoMemory → ⊥
@@ -99,7 +99,7 @@ never_attach true b is = cc
 never_attach false true is = cc
 never_attach false false is = cc
 
-pub attach_lacking : (j k : Journal) → Attaches j (Err attach.NoMemory) k → (is_error (attach_outcome j).0 ≡ false) × (k ≡ j)
+pub attach_lacking : (j k : Journal) → AttachStep j (Err attach.NoMemory) k → (is_error (attach_outcome j).0 ≡ false) × (k ≡ j)
 unfolding attach_outcome
 attach_lacking j k attaches =
     lacking (first_of (attach_faults j)) attach.NoMemory (attach_outcome_by j) j k (λ r. refl) refl (never_attach _ _) attaches
@@ -109,18 +109,18 @@ never_flush true b is = cc
 never_flush false true is = cc
 never_flush false false is = cc
 
-pub flush_given : (p : Setting) (j k : Journal) (worker : ℕ) (rs : List Row) (r : Result Told FlushRefusal) → Flushes p worker rs j r k → (r ≡ Err flush.NoMemory → ⊥) → flush_outcome p j worker rs ≡ (r, k)
+pub flush_given : (p : Setting) (j k : Journal) (worker : ℕ) (rs : List Row) (r : Result FlushAnswer FlushRefusal) → FlushStep p worker rs j r k → (r ≡ Err flush.NoMemory → ⊥) → flush_outcome p j worker rs ≡ (r, k)
 flush_given p j k worker rs r flushes other = given (first_of (flush_refusals p j worker (length rs))) flush.NoMemory (flush_outcome p j worker rs) j k r flushes other
 
-pub flush_lacking : (p : Setting) (j k : Journal) (worker : ℕ) (rs : List Row) → Flushes p worker rs j (Err flush.NoMemory) k → (is_error (flush_outcome p j worker rs).0 ≡ false) × (k ≡ j)
+pub flush_lacking : (p : Setting) (j k : Journal) (worker : ℕ) (rs : List Row) → FlushStep p worker rs j (Err flush.NoMemory) k → (is_error (flush_outcome p j worker rs).0 ≡ false) × (k ≡ j)
 unfolding flush_outcome
 flush_lacking p j k worker rs flushes =
     lacking (first_of (flush_refusals p j worker (length rs))) flush.NoMemory (flush_outcome_by p j rs) j k (λ r. refl) refl (never_flush _ _) flushes
 
-pub finish_given : (p : Setting) (j k : Journal) (worker : ℕ) (rs : List Row) (r : Result (Told × ℕ) FlushRefusal) → Finishes p worker rs j r k → (r ≡ Err flush.NoMemory → ⊥) → finish_outcome p j worker rs ≡ (r, k)
+pub finish_given : (p : Setting) (j k : Journal) (worker : ℕ) (rs : List Row) (r : Result (FlushAnswer × ℕ) FlushRefusal) → FinishStep p worker rs j r k → (r ≡ Err flush.NoMemory → ⊥) → finish_outcome p j worker rs ≡ (r, k)
 finish_given p j k worker rs r finishes other = given (first_of (flush_refusals p j worker (length rs))) flush.NoMemory (finish_outcome p j worker rs) j k r finishes other
 
-pub finish_lacking : (p : Setting) (j k : Journal) (worker : ℕ) (rs : List Row) → Finishes p worker rs j (Err flush.NoMemory) k → (is_error (finish_outcome p j worker rs).0 ≡ false) × (k ≡ j)
+pub finish_lacking : (p : Setting) (j k : Journal) (worker : ℕ) (rs : List Row) → FinishStep p worker rs j (Err flush.NoMemory) k → (is_error (finish_outcome p j worker rs).0 ≡ false) × (k ≡ j)
 unfolding finish_outcome
 finish_lacking p j k worker rs finishes =
     lacking (first_of (flush_refusals p j worker (length rs))) flush.NoMemory (finish_outcome_by p j worker rs) j k (λ r. refl) refl (never_flush _ _) finishes

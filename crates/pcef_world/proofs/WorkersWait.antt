@@ -21,7 +21,7 @@ use Rattle.pcef_model.specs.declared.row.Row.{Row}
 use Rattle.pcef_model.specs.Setting.{Setting}
 use Rattle.pcef_model.specs.Generations.{made_by, oldest}
 use Rattle.pcef_model.specs.Entries.{Journal, lane, rows}
-use Rattle.pcef_model.specs.Journals.{at, attach_count, attached, gen, judged, lane_len, slots, tables}
+use Rattle.pcef_model.specs.Journals.{at, attach_count, attached, gen, verdict_at, lane_len, slots, tables}
 use Rattle.pcef_model.specs.Reports.{after_attach, after_flush, after_leave, with_rows}
 use Rattle.pcef_model.proofs.AfterEvents.{tables_after_rows}
 use Rattle.pcef_session.specs.declared.batch.Item.{Item}
@@ -33,7 +33,7 @@ use Rattle.pcef_model.specs.Refusals.{first_of, flush_refusals, is_attached}
 use Rattle.pcef_session.specs.Shown.{Shows}
 use Rattle.pcef_world.specs.private.Workers.{IsJudged, Waits, held_by, with_item}
 use Rattle.pcef_model.proofs.Lanes.{lane_few, lane_len_with, lane_other, lane_with, with_rows_push}
-use Rattle.pcef_model.proofs.Onward.{Onward, attached_after_flush, flushed_fits, onward_same, rows_after_flush, tables_after_flush}
+use Rattle.pcef_model.proofs.JournalExtends.{JournalExtends, attached_after_flush, flushed_fits, extends_same, rows_after_flush, tables_after_flush}
 use Rattle.pcef_model.proofs.RowsLater.{batch_empty, batch_later, batch_push}
 use Rattle.pcef_session.proofs.ShownLater.{shows_later, shows_same}
 use Rattle.pcef_session.proofs.ShownSlots.{shown_counts}
@@ -56,21 +56,21 @@ within_later keys all None grows within = tt
 within_later keys all (Some slot) grows within = omega (arith, within, ap length grows.1, length-append keys grows.0)
 
 -- items keep their slots
-slots_later : (p : Setting) (j k : Journal) (items : List Item) → Onward p j k → All (λ i. i.row.generation ≤ gen j) items → HasItsSlots p j items → HasItsSlots p k items
-slots_later p j k items onward known has = λ m d inside.
+slots_later : (p : Setting) (j k : Journal) (items : List Item) → JournalExtends p j k → All (λ i. i.row.generation ≤ gen j) items → HasItsSlots p j items → HasItsSlots p k items
+slots_later p j k items extends known has = λ m d inside.
     let i : Item = slice_index_or items m d in
     let own : IsWithin (slots p j) i.slot × CountsFor p j i.row i.slot = has m d inside in
-    (within_later (slots p j) (slots p k) i.slot onward.grows own.0, counts_later p j k i.row i.slot (onward.at_is i.row.generation (known m d inside)) onward.grows own.0 own.1)
+    (within_later (slots p j) (slots p k) i.slot extends.grows own.0, counts_later p j k i.row i.slot (extends.at_is i.row.generation (known m d inside)) extends.grows own.0 own.1)
 
 -- ---- as the journal grows
 -- a worker whose lane is as it was
-pub waits_later : (p : Setting) (j k : Journal) (n : ℕ) (w : Worker) → Onward p j k → lane k n ≡ lane j n → is_attached k n ≡ is_attached j n → Waits p j n w → Waits p k n w
-waits_later p j k n w onward lane_is attached_is waits = record {
+pub waits_later : (p : Setting) (j k : Journal) (n : ℕ) (w : Worker) → JournalExtends p j k → lane k n ≡ lane j n → is_attached k n ≡ is_attached j n → Waits p j n w → Waits p k n w
+waits_later p j k n w extends lane_is attached_is waits = record {
   number_is = waits.number_is;
-  known = omega (arith, waits.known, onward.gen_more);
-  shows = shows_later p j k (held_by w).number (held_by w) (onward.at_is (held_by w).number waits.known) onward.grows waits.shows;
-  follow = batch_later p n j k (map row_of w.waiting) (record { lane_is = lane_is; gen_more = onward.gen_more; at_is = onward.at_is }) waits.follow;
-  slots = slots_later p j k w.waiting onward (rows_known p j w.waiting waits.follow.follow) waits.slots;
+  known = omega (arith, waits.known, extends.gen_more);
+  shows = shows_later p j k (held_by w).number (held_by w) (extends.at_is (held_by w).number waits.known) extends.grows waits.shows;
+  follow = batch_later p n j k (map row_of w.waiting) (record { lane_is = lane_is; gen_more = extends.gen_more; at_is = extends.at_is }) waits.follow;
+  slots = slots_later p j k w.waiting extends (rows_known p j w.waiting waits.follow.follow) waits.slots;
   attached = attached_is ∙ waits.attached;
   few = omega (arith, waits.few, ap length lane_is);
   not_older = subst (λ rs. newest_generation rs ≤ (held_by w).number) (sym (lane_with n (map row_of w.waiting) j k lane_is)) waits.not_older;
@@ -127,20 +127,20 @@ row_of_fields r worker seq generation header verdict a b c d e = rw (← a, ← 
 
 -- the verdict is that of the generation that the worker holds
 pub verdict_taken : (p : Setting) (j : Journal) (n : ℕ) (w : Worker) (header : Header) (i : Item) → Waits p j n w → IsJudged p.catalog p.ue header (lane_len j n) w i →
-    i.row.verdict ≡ judged p (at p j (held_by w).number) header
+    i.row.verdict ≡ verdict_at p (at p j (held_by w).number) header
 verdict_taken p j n w header i waits made =
     shown_judges p j (held_by w).number (held_by w) header i.row.verdict waits.shows (made_once p (oldest (held_by w).number (tables j))) made.verdict_is
 
 -- the row that waits then
 pub row_made : (p : Setting) (j : Journal) (n : ℕ) (w : Worker) (header : Header) (i : Item) → Waits p j n w → IsJudged p.catalog p.ue header (lane_len j n) w i →
-    i.row ≡ record { worker = n; seq = lane_len j n + length (map row_of w.waiting); generation = (held_by w).number; header = header; verdict = judged p (at p j (held_by w).number) header }
+    i.row ≡ record { worker = n; seq = lane_len j n + length (map row_of w.waiting); generation = (held_by w).number; header = header; verdict = verdict_at p (at p j (held_by w).number) header }
 row_made p j n w header i waits made =
-    row_of_fields i.row n (lane_len j n + length (map row_of w.waiting)) (held_by w).number header (judged p (at p j (held_by w).number) header)
+    row_of_fields i.row n (lane_len j n + length (map row_of w.waiting)) (held_by w).number header (verdict_at p (at p j (held_by w).number) header)
     (made.worker_is ∙ waits.number_is) (omega (arith, made.seq_is, length-map w.waiting row_of)) made.generation_is made.header_is (verdict_taken p j n w header i waits made)
 
 -- it may come after those that wait
 taken_follows : (p : Setting) (j : Journal) (n : ℕ) (w : Worker) (header : Header) (r : Row) → Waits p j n w →
-    r ≡ record { worker = n; seq = lane_len j n + length (map row_of w.waiting); generation = (held_by w).number; header = header; verdict = judged p (at p j (held_by w).number) header } →
+    r ≡ record { worker = n; seq = lane_len j n + length (map row_of w.waiting); generation = (held_by w).number; header = header; verdict = verdict_at p (at p j (held_by w).number) header } →
     RowFollows p (with_rows (map row_of w.waiting) j) r
 taken_follows p j n w header r waits is =
     let rs : List Row = map row_of w.waiting in
@@ -149,7 +149,7 @@ taken_follows p j n w header r waits is =
       in_lane = omega (arith, lane_len_with n rs j waits.follow.own);
       not_older = waits.not_older;
       known = omega (arith, waits.known, ap length same);
-      verdict = ap (λ cs. judged p (made_by p (oldest (held_by w).number cs)) header) (sym same);
+      verdict = ap (λ cs. verdict_at p (made_by p (oldest (held_by w).number cs)) header) (sym same);
     })
 
 -- one more item waits
@@ -218,10 +218,10 @@ pub waits_beside : (p : Setting) (j k : Journal) (n m : ℕ) (rs : List Row) (w 
 waits_beside p j k n m rs w waits differ own is =
     let lane_is : lane k n ≡ lane j n = ap (filter (λ (r : Row). r.worker == n)) (ap rows is ∙ rows_after_flush p j rs) ∙ lane_other n m rs j differ own in
     let same : tables k ≡ tables j = ap tables is ∙ tables_after_flush p j rs in
-    waits_later p j k n w (onward_same p j k same) lane_is (ap (λ ns. list_any (λ v. v == n) ns) (ap attached is ∙ attached_after_flush p j rs)) waits
+    waits_later p j k n w (extends_same p j k same) lane_is (ap (λ ns. list_any (λ v. v == n) ns) (ap attached is ∙ attached_after_flush p j rs)) waits
 
 -- ---- another worker leaves
 pub waits_left : (p : Setting) (j : Journal) (n m : ℕ) (w : Worker) → (n ≡ m → ⊥) → Waits p j n w → Waits p (after_leave m j) n w
 unfolding attached
 waits_left p j n m w differ waits =
-    waits_later p j (after_leave m j) n w (onward_same p j (after_leave m j) refl) refl (leave_other j m n (attached j) differ) waits
+    waits_later p j (after_leave m j) n w (extends_same p j (after_leave m j) refl) refl (leave_other j m n (attached j) differ) waits

@@ -15,7 +15,7 @@ use Rattle.pcef_model.specs.Setting.{Setting}
 use Rattle.pcef_model.specs.Entries.{Journal}
 use Rattle.pcef_model.specs.Journals.{gen, lane_len}
 use Rattle.pcef_model.specs.Reports.{after_leave}
-use Rattle.pcef_model.specs.Answers.{Attaches, Does, Finishes, Flushes, Outcome, Told, attach_outcome, command_outcome, finish_outcome, flush_outcome, told_and_rows, told_of}
+use Rattle.pcef_model.specs.Outcomes.{AttachStep, CommandStep, FinishStep, FlushStep, Outcome, FlushAnswer, attach_outcome, command_outcome, finish_outcome, flush_outcome, finish_answer_of, flush_answer_of}
 use Rattle.pcef_model.specs.declared.answer.Accepted.{Accepted}
 use Rattle.pcef_model.specs.declared.answer.AttachFault.{AttachFault}
 use Rattle.pcef_model.specs.declared.answer.AttachFault.TheVariants as attach
@@ -38,7 +38,7 @@ use Rattle.pcef_world.specs.private.Places.{AbandonsAt, FinishesAt, FlushesAt, R
 use Rattle.pcef_world.specs.private.Soundness.{IsSoundWith, seen}
 use Rattle.pcef_world.specs.private.Workers.{IsJudged, Waits, after_flushing, held_by, with_item}
 use Rattle.pcef_world.specs.Steps.{Lacks, Plays, Reply, Standing, abandon_reply, attach_step, finished, handed_over, is_error, is_refusal, new_worker, reply_of, row_taken, standing_of, step_outcome, take_reply, take_step, with_generation, with_none, with_place, with_row}
-use Rattle.pcef_model.proofs.Onward.{attached_not, flushed_not}
+use Rattle.pcef_model.proofs.JournalExtends.{attached_not, flushed_not}
 use Rattle.pcef_session.proofs.Leaving.{finished_not}
 use Rattle.pcef_world.specs.Worlds.{Waiting, World, if_there, worker_at}
 use Rattle.pcef_world.proofs.WantOfMemory.{attach_given, attach_lacking, command_given, command_lacking, finish_given, finish_lacking, flush_given, flush_lacking}
@@ -77,11 +77,11 @@ Steps p before step out after =
     IfOk out (λ a. Plays p before step a after) × IfErr out (λ _. Lacks p before step after)
 
 -- ---- what is accepted
-flush_accepted : (due : Outcome Told FlushRefusal) (s : Standing) (i : ℕ) (w : Waiting) → is_error due.0 ≡ false → is_refusal (handed_over s i w due).0 ≡ false
+flush_accepted : (due : Outcome FlushAnswer FlushRefusal) (s : Standing) (i : ℕ) (w : Waiting) → is_error due.0 ≡ false → is_refusal (handed_over s i w due).0 ≡ false
 flush_accepted (Ok told, after) s i w accepted = refl
 flush_accepted (Err r, after) s i w accepted = accepted
 
-finish_accepted : (due : Outcome (Told × ℕ) FlushRefusal) (s : Standing) (i : ℕ) → is_error due.0 ≡ false → is_refusal (finished s i due).0 ≡ false
+finish_accepted : (due : Outcome (FlushAnswer × ℕ) FlushRefusal) (s : Standing) (i : ℕ) → is_error due.0 ≡ false → is_refusal (finished s i due).0 ≡ false
 finish_accepted (Ok told, after) s i accepted = refl
 finish_accepted (Err r, after) s i accepted = accepted
 
@@ -90,43 +90,43 @@ attach_accepted (Ok number, after) s accepted = refl
 attach_accepted (Err fault, after) s accepted = accepted
 
 -- ---- commands
-command_plays : (p : Setting) (c : Command) (j k : Journal) (workers : List (Option Waiting)) (r : Result Accepted Refusal) → Does p c j r k → (r ≡ Err refusal.NoMemory → ⊥) →
+command_plays : (p : Setting) (c : Command) (j k : Journal) (workers : List (Option Waiting)) (r : Result Accepted Refusal) → CommandStep p c j r k → (r ≡ Err refusal.NoMemory → ⊥) →
     Plays p (record { journal = j; workers = workers }) (of.Command c) (answer.Command r) (record { journal = k; workers = workers })
 unfolding step_outcome
 command_plays p c j k workers r does other = rw (command_given p c j k r does other) (refl, refl)
 
-command_lacks : (p : Setting) (c : Command) (j k : Journal) (workers : List (Option Waiting)) → Does p c j (Err refusal.NoMemory) k →
+command_lacks : (p : Setting) (c : Command) (j k : Journal) (workers : List (Option Waiting)) → CommandStep p c j (Err refusal.NoMemory) k →
     Lacks p (record { journal = j; workers = workers }) (of.Command c) (record { journal = k; workers = workers })
 unfolding step_outcome
 command_lacks p c j k workers does =
     let lacks = command_lacking p c j k does in (lacks.0, ap (λ l. record { journal = l; workers = workers }) lacks.1)
 
-pub command_answer : (p : Setting) (c : Command) (j k : Journal) (workers : List (Option Waiting)) (r : Result Accepted Refusal) (out : Result StepAnswer AllocError) → Does p c j r k →
+pub command_answer : (p : Setting) (c : Command) (j k : Journal) (workers : List (Option Waiting)) (r : Result Accepted Refusal) (out : Result StepAnswer AllocError) → CommandStep p c j r k →
     IfOk out (λ a. (a ≡ answer.Command r) × (r ≢ Err refusal.NoMemory)) → IfErr out (λ _. r ≡ Err refusal.NoMemory) →
     Steps p (record { journal = j; workers = workers }) (of.Command c) out (record { journal = k; workers = workers })
 command_answer p c j k workers r (Ok a) does told lack = rw told.0 (command_plays p c j k workers r does told.1, tt)
-command_answer p c j k workers r (Err e) does told lack = (tt, command_lacks p c j k workers (subst (λ x. Does p c j x k) lack does))
+command_answer p c j k workers r (Err e) does told lack = (tt, command_lacks p c j k workers (subst (λ x. CommandStep p c j x k) lack does))
 
 -- ---- a worker comes
-come_plays : (p : Setting) (j k : Journal) (workers : List (Option Waiting)) (r : Result ℕ AttachFault) → Attaches j r k → (r ≡ Err attach.NoMemory → ⊥) →
+come_plays : (p : Setting) (j k : Journal) (workers : List (Option Waiting)) (r : Result ℕ AttachFault) → AttachStep j r k → (r ≡ Err attach.NoMemory → ⊥) →
     Plays p (record { journal = j; workers = workers }) of.Attach (answer.Attach r) (record { journal = k; workers = after_coming j r workers })
 unfolding step_outcome
 come_plays p j k workers (Ok number) attaches other = rw (attach_given j k (Ok number) attaches other) (refl, refl)
 come_plays p j k workers (Err f) attaches other =
     rw (attach_given j k (Err f) attaches other) (refl, ap (λ l. record { journal = l; workers = workers }) (attached_not j k f attaches))
 
-come_lacks : (p : Setting) (j k : Journal) (workers : List (Option Waiting)) → Attaches j (Err attach.NoMemory) k →
+come_lacks : (p : Setting) (j k : Journal) (workers : List (Option Waiting)) → AttachStep j (Err attach.NoMemory) k →
     Lacks p (record { journal = j; workers = workers }) of.Attach (record { journal = k; workers = workers })
 unfolding step_outcome
 come_lacks p j k workers attaches =
     let lacks = attach_lacking j k attaches in
     (attach_accepted (attach_outcome j) (record { journal = j; workers = workers }) lacks.0, ap (λ l. record { journal = l; workers = workers }) lacks.1)
 
-pub attach_answer : (p : Setting) (v w : World) (r : Result ℕ AttachFault) → Attaches v.session.journal r w.session.journal → w.workers ≡ after_coming v.session.journal r v.workers →
+pub attach_answer : (p : Setting) (v w : World) (r : Result ℕ AttachFault) → AttachStep v.session.journal r w.session.journal → w.workers ≡ after_coming v.session.journal r v.workers →
     Steps p (standing_of v) of.Attach (attach_told r) (standing_of w)
 attach_answer p v w r attaches workers_are = rw workers_are (from r attaches)
   where
-    from : (r : Result ℕ AttachFault) → Attaches v.session.journal r w.session.journal →
+    from : (r : Result ℕ AttachFault) → AttachStep v.session.journal r w.session.journal →
         Steps p (standing_of v) of.Attach (attach_told r) (record { journal = w.session.journal; workers = after_coming v.session.journal r v.workers })
     from (Ok number) attaches = (come_plays p v.session.journal w.session.journal v.workers (Ok number) attaches (λ e. cc), tt)
     from (Err attach.NoMemory) attaches = (tt, come_lacks p v.session.journal w.session.journal v.workers attaches)
@@ -231,11 +231,11 @@ flush_nobody p j workers i new there kept = rw (seen_at workers i None there) (r
 
 -- by a worker, which keeps them where they are refused
 flush_plays : (p : Setting) (j k : Journal) (workers : List (Option Worker)) (i : ℕ) (w : Worker) (new : Option Worker) (r : Result Verdicts FlushRefusal) → slice_get workers i ≡ Some (Some w) →
-    Flushes p i (map row_of w.waiting) j (result_map_both told_of (λ e. e) r) k → (r ≡ Err flush.NoMemory → ⊥) → new ≡ Some (after_flushing r w) →
+    FlushStep p i (map row_of w.waiting) j (result_map_both flush_answer_of (λ e. e) r) k → (r ≡ Err flush.NoMemory → ⊥) → new ≡ Some (after_flushing r w) →
     Plays p (stand j workers) (of.Flush i) (answer.Flush r) (stand k (slice_set workers i new))
 unfolding step_outcome
 flush_plays p j k workers i w new (Ok v) there flushes other put =
-    rw (seen_at workers i (Some w) there, flush_given p j k i (map row_of w.waiting) (Ok (told_of v)) flushes (λ e. cc))
+    rw (seen_at workers i (Some w) there, flush_given p j k i (map row_of w.waiting) (Ok (flush_answer_of v)) flushes (λ e. cc))
     (refl, place_set k workers i new (Some (with_none (seen w))) (ap (option_map seen) put))
 flush_plays p j k workers i w new (Err r) there flushes other put =
     let same : k ≡ j = flushed_not p i (map row_of w.waiting) j k r flushes in
@@ -243,7 +243,7 @@ flush_plays p j k workers i w new (Err r) there flushes other put =
     (refl, ap (λ l. stand l (slice_set workers i new)) same ∙ place_same j workers i (Some w) new there put)
 
 flush_lacks : (p : Setting) (j k : Journal) (workers : List (Option Worker)) (i : ℕ) (w : Worker) (new : Option Worker) → slice_get workers i ≡ Some (Some w) →
-    Flushes p i (map row_of w.waiting) j (Err flush.NoMemory) k → new ≡ Some w →
+    FlushStep p i (map row_of w.waiting) j (Err flush.NoMemory) k → new ≡ Some w →
     Lacks p (stand j workers) (of.Flush i) (stand k (slice_set workers i new))
 unfolding step_outcome
 flush_lacks p j k workers i w new there flushes put =
@@ -259,9 +259,9 @@ pub flushes_answer : (s t : SessionModel) (workers : List (Option Worker)) (i : 
     Steps s.setting (stand s.journal workers) (of.Flush i) out (stand t.journal (slice_set workers i new))
 flushes_answer s t workers i None new out sound there (out_is, same, kept) = rw (out_is, same) (flush_nobody s.setting s.journal workers i new there kept, tt)
 flushes_answer s t workers i (Some w) new out sound there (r, flushes, out_is, put) =
-    rw out_is (from r (subst (λ n. Flushes s.setting n (map row_of w.waiting) s.journal (result_map_both told_of (λ e. e) r) t.journal) (sound.wait i w there).number_is flushes) put)
+    rw out_is (from r (subst (λ n. FlushStep s.setting n (map row_of w.waiting) s.journal (result_map_both flush_answer_of (λ e. e) r) t.journal) (sound.wait i w there).number_is flushes) put)
   where
-    from : (r : Result Verdicts FlushRefusal) → Flushes s.setting i (map row_of w.waiting) s.journal (result_map_both told_of (λ e. e) r) t.journal → new ≡ Some (after_flushing r w) →
+    from : (r : Result Verdicts FlushRefusal) → FlushStep s.setting i (map row_of w.waiting) s.journal (result_map_both flush_answer_of (λ e. e) r) t.journal → new ≡ Some (after_flushing r w) →
         Steps s.setting (stand s.journal workers) (of.Flush i) (flush_told r) (stand t.journal (slice_set workers i new))
     from (Ok v) flushes put = (flush_plays s.setting s.journal t.journal workers i w new (Ok v) there flushes (λ e. cc) put, tt)
     from (Err flush.NoMemory) flushes put = (tt, flush_lacks s.setting s.journal t.journal workers i w new there flushes put)
@@ -281,11 +281,11 @@ finish_nobody p j workers i new there kept = rw (seen_at workers i None there) (
 
 -- it stays where its rows are refused
 finish_plays : (p : Setting) (j k : Journal) (workers : List (Option Worker)) (i : ℕ) (w : Worker) (new : Option Worker) (r : Result (Verdicts × ℕ) FlushRefusal) → slice_get workers i ≡ Some (Some w) →
-    Finishes p i (map row_of w.waiting) j (result_map_both told_and_rows (λ e. e) r) k → (r ≡ Err flush.NoMemory → ⊥) → new ≡ after_finishing r w →
+    FinishStep p i (map row_of w.waiting) j (result_map_both finish_answer_of (λ e. e) r) k → (r ≡ Err flush.NoMemory → ⊥) → new ≡ after_finishing r w →
     Plays p (stand j workers) (of.Finish i) (answer.Finish r) (stand k (slice_set workers i new))
 unfolding step_outcome
 finish_plays p j k workers i w new (Ok v) there finishes other put =
-    rw (seen_at workers i (Some w) there, finish_given p j k i (map row_of w.waiting) (Ok (told_and_rows v)) finishes (λ e. cc))
+    rw (seen_at workers i (Some w) there, finish_given p j k i (map row_of w.waiting) (Ok (finish_answer_of v)) finishes (λ e. cc))
     (refl, place_set k workers i new None (ap (option_map seen) put))
 finish_plays p j k workers i w new (Err r) there finishes other put =
     let same : k ≡ j = finished_not p j k i (map row_of w.waiting) r finishes in
@@ -293,7 +293,7 @@ finish_plays p j k workers i w new (Err r) there finishes other put =
     (refl, ap (λ l. stand l (slice_set workers i new)) same ∙ place_same j workers i (Some w) new there put)
 
 finish_lacks : (p : Setting) (j k : Journal) (workers : List (Option Worker)) (i : ℕ) (w : Worker) (new : Option Worker) → slice_get workers i ≡ Some (Some w) →
-    Finishes p i (map row_of w.waiting) j (Err flush.NoMemory) k → new ≡ Some w →
+    FinishStep p i (map row_of w.waiting) j (Err flush.NoMemory) k → new ≡ Some w →
     Lacks p (stand j workers) (of.Finish i) (stand k (slice_set workers i new))
 unfolding step_outcome
 finish_lacks p j k workers i w new there finishes put =
@@ -308,9 +308,9 @@ pub finishes_answer : (s t : SessionModel) (workers : List (Option Worker)) (i :
     Steps s.setting (stand s.journal workers) (of.Finish i) out (stand t.journal (slice_set workers i new))
 finishes_answer s t workers i None new out sound there (out_is, same, kept) = rw (out_is, same) (finish_nobody s.setting s.journal workers i new there kept, tt)
 finishes_answer s t workers i (Some w) new out sound there (r, finishes, out_is, put) =
-    rw out_is (from r (subst (λ n. Finishes s.setting n (map row_of w.waiting) s.journal (result_map_both told_and_rows (λ e. e) r) t.journal) (sound.wait i w there).number_is finishes) put)
+    rw out_is (from r (subst (λ n. FinishStep s.setting n (map row_of w.waiting) s.journal (result_map_both finish_answer_of (λ e. e) r) t.journal) (sound.wait i w there).number_is finishes) put)
   where
-    from : (r : Result (Verdicts × ℕ) FlushRefusal) → Finishes s.setting i (map row_of w.waiting) s.journal (result_map_both told_and_rows (λ e. e) r) t.journal → new ≡ after_finishing r w →
+    from : (r : Result (Verdicts × ℕ) FlushRefusal) → FinishStep s.setting i (map row_of w.waiting) s.journal (result_map_both finish_answer_of (λ e. e) r) t.journal → new ≡ after_finishing r w →
         Steps s.setting (stand s.journal workers) (of.Finish i) (finish_told r) (stand t.journal (slice_set workers i new))
     from (Ok v) finishes put = (finish_plays s.setting s.journal t.journal workers i w new (Ok v) there finishes (λ e. cc) put, tt)
     from (Err flush.NoMemory) finishes put = (tt, finish_lacks s.setting s.journal t.journal workers i w new there finishes put)

@@ -23,7 +23,7 @@ use Rattle.pcef_model.specs.declared.answer.Refusal.{Refusal}
 use Rattle.pcef_model.specs.declared.answer.Verdicts.{Verdicts}
 use Rattle.pcef_session.specs.declared.batch.BatchFull.{BatchFull}
 use Rattle.pcef_world.specs.declared.worker.Worker.{Worker}
-use Rattle.pcef_model.specs.Answers.{Attaches, Does, Finishes, Flushes, told_and_rows, told_of}
+use Rattle.pcef_model.specs.Outcomes.{AttachStep, CommandStep, FinishStep, FlushStep, finish_answer_of, flush_answer_of}
 use Rattle.pcef_session.specs.SessionModel.{SessionModel}
 use Rattle.pcef_session.specs.Following.{row_of}
 use Rattle.pcef_model.specs.Refusals.{first_of, flush_refusals, is_attached}
@@ -40,7 +40,7 @@ use Rattle.pcef_model.specs.Lawful.{BatchFollows}
 use Rattle.pcef_session.proofs.Leaving.{finished_not, finished_once}
 use Rattle.pcef_world.specs.Worlds.{Waiting}
 use Rattle.std.specs.Prelude.{◌||◌}
-use Rattle.pcef_model.proofs.Onward.{Commanded, attach_count_after_flush, attached_not, attached_once, commanded, flushed_not, flushed_once, onward_same}
+use Rattle.pcef_model.proofs.JournalExtends.{Commanded, attach_count_after_flush, attached_not, attached_once, commanded, flushed_not, flushed_once, extends_same}
 use Rattle.pcef_world.proofs.WorkersWait.{waits_beside, waits_flushed, waits_later, waits_left, waits_new, waits_refresh, waits_take}
 use Rattle.pcef_session.specs.Shown.{Shows}
 
@@ -81,7 +81,7 @@ all_in_turn p j workers all = λ i x there. from i (slice_get workers i) refl x 
 
 -- ---- commands
 -- the lanes and the workers stay
-pub sound_command : (s t : SessionModel) (workers : List (Option Worker)) (c : Command) (result : Result Accepted Refusal) → IsSoundWith s workers → Does s.setting c s.journal result t.journal →
+pub sound_command : (s t : SessionModel) (workers : List (Option Worker)) (c : Command) (result : Result Accepted Refusal) → IsSoundWith s workers → CommandStep s.setting c s.journal result t.journal →
     t.setting ≡ s.setting → IsSoundWith t workers
 sound_command s t workers c result sound does setting =
     let p : Setting = s.setting in
@@ -90,12 +90,12 @@ sound_command s t workers c result sound does setting =
       counted = done.count_is ∙ sound.counted;
       few_rows = omega (arith, sound.few_rows, ap (λ (x : Setting). x.rows) setting);
       wait = subst (λ q. AllWait q t.journal workers) (sym setting)
-          (λ i w there. waits_later p s.journal t.journal i w done.onward (ap (filter (λ (r : Row). r.worker == i)) done.rows_are) (ap (list_any (λ v. v == i)) done.attached_are) (sound.wait i w there));
+          (λ i w there. waits_later p s.journal t.journal i w done.extends (ap (filter (λ (r : Row). r.worker == i)) done.rows_are) (ap (list_any (λ v. v == i)) done.attached_are) (sound.wait i w there));
     }
 
 -- ---- a worker comes
 -- it doesn't
-pub sound_attached_not : (s t : SessionModel) (workers : List (Option Worker)) (fault : AttachFault) → IsSoundWith s workers → Attaches s.journal (Err fault) t.journal →
+pub sound_attached_not : (s t : SessionModel) (workers : List (Option Worker)) (fault : AttachFault) → IsSoundWith s workers → AttachStep s.journal (Err fault) t.journal →
     t.setting ≡ s.setting → IsSoundWith t workers
 sound_attached_not s t workers fault sound attaches setting =
     let same : t.journal ≡ s.journal = attached_not s.journal t.journal fault attaches in
@@ -106,7 +106,7 @@ sound_attached_not s t workers fault sound attaches setting =
     }
 
 -- its number is its place
-pub attached_number : (s t : SessionModel) (workers : List (Option Worker)) (number : ℕ) → IsSoundWith s workers → Attaches s.journal (Ok number) t.journal → number ≡ length workers
+pub attached_number : (s t : SessionModel) (workers : List (Option Worker)) (number : ℕ) → IsSoundWith s workers → AttachStep s.journal (Ok number) t.journal → number ≡ length workers
 attached_number s t workers number sound attaches = (attached_once s.journal t.journal number attaches).0 ∙ sound.counted
 
 -- a worker that is there has a number that was given before
@@ -115,7 +115,7 @@ below_count workers i n w there is same = let within = slice_get_within workers 
 
 -- it waits with no rows
 pub sound_attached : (s t : SessionModel) (workers : List (Option Worker)) (number : ℕ) (w : Worker) → IsSoundWith s workers → lane s.journal number ≡ [] → Shows s.setting s.journal (gen s.journal) (held_by w) →
-    Attaches s.journal (Ok number) t.journal → t.setting ≡ s.setting → w.number ≡ number → w.waiting ≡ [] → IsSoundWith t (workers ++ Some w ∷ [])
+    AttachStep s.journal (Ok number) t.journal → t.setting ≡ s.setting → w.number ≡ number → w.waiting ≡ [] → IsSoundWith t (workers ++ Some w ∷ [])
 unfolding attach_count attached
 sound_attached s t workers number w sound empty shows attaches setting number_is none =
     let p : Setting = s.setting in
@@ -124,7 +124,7 @@ sound_attached s t workers number w sound empty shows attaches setting number_is
     let new : Waits p t.journal (attach_count s.journal) w =
     waits_new p s.journal t.journal w (rw come.0 at empty) come.1 shows (number_is ∙ come.0) none in
     let others : AllWait p t.journal workers = λ i x there.
-    waits_later p s.journal t.journal i x (onward_same p s.journal t.journal (ap tables come.1)) (ap (λ j. lane j i) come.1)
+    waits_later p s.journal t.journal i x (extends_same p s.journal t.journal (ap tables come.1)) (ap (λ j. lane j i) come.1)
     (ap (λ j. is_attached j i) come.1
     ∙ ap (λ b. b || is_attached s.journal i) (ne_eqb (attach_count s.journal) i (λ e. below_count workers i (attach_count s.journal) x there sound.counted (sym e))))
     (sound.wait i x there) in
@@ -226,7 +226,7 @@ sound_flushed s t workers i (Some w) new out sound there (Ok v, flushes, out_is,
     let rs : List Row = map row_of w.waiting in
     let waits : Waits p s.journal i w = sound.wait i w there in
     let done : (first_of (flush_refusals p s.journal i (length rs)) ≡ None) × (t.journal ≡ after_flush p s.journal rs) =
-    flushed_once p i rs s.journal t.journal (told_of v) (subst (λ n. Flushes p n rs s.journal (Ok (told_of v)) t.journal) waits.number_is flushes) in
+    flushed_once p i rs s.journal t.journal (flush_answer_of v) (subst (λ n. FlushStep p n rs s.journal (Ok (flush_answer_of v)) t.journal) waits.number_is flushes) in
     let others : (n : ℕ) (x : Worker) → (n ≡ i → ⊥) → Waits p s.journal n x → Waits p t.journal n x = λ n x differs before.
     waits_beside p s.journal t.journal n i rs x before (ne_eqb i n (λ e. differs (sym e))) waits.follow.own done.1 in
     record {
@@ -260,7 +260,7 @@ sound_finished s t workers i (Some w) new out sound there (Ok v, finishes, out_i
     let p : Setting = s.setting in
     let rs : List Row = map row_of w.waiting in
     let waits : Waits p s.journal i w = sound.wait i w there in
-    let done = finished_once p s.journal t.journal i rs (told_and_rows v) (subst (λ n. Finishes p n rs s.journal (Ok (told_and_rows v)) t.journal) waits.number_is finishes) in
+    let done = finished_once p s.journal t.journal i rs (finish_answer_of v) (subst (λ n. FinishStep p n rs s.journal (Ok (finish_answer_of v)) t.journal) waits.number_is finishes) in
     let after : Journal = after_flush p s.journal rs in
     let wait : AllWait p after (slice_set workers i None) =
     all_set p s.journal after workers i None (slice_get_within workers i (Some w) there) sound.wait (λ x is. absurd cc)

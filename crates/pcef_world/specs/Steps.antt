@@ -12,9 +12,9 @@ use Rattle.pcef_model.specs.declared.step.Step.{Step}
 use Rattle.pcef_model.specs.declared.step.Step.TheVariants as of
 use Rattle.pcef_model.specs.Setting.{Setting}
 use Rattle.pcef_model.specs.Entries.{Journal}
-use Rattle.pcef_model.specs.Journals.{at, gen, judged, lane_len}
+use Rattle.pcef_model.specs.Journals.{at, gen, verdict_at, lane_len}
 use Rattle.pcef_model.specs.Reports.{after_leave}
-use Rattle.pcef_model.specs.Answers.{Outcome, Told, attach_outcome, command_outcome, finish_outcome, flush_outcome, told_and_rows, told_of}
+use Rattle.pcef_model.specs.Outcomes.{Outcome, FlushAnswer, attach_outcome, command_outcome, finish_outcome, flush_outcome, finish_answer_of, flush_answer_of}
 use Rattle.pcef_session.specs.declared.batch.BatchFull.{BatchFull}
 use Rattle.pcef_world.specs.declared.answer.Abandoned.{Abandoned}
 use Rattle.pcef_world.specs.declared.answer.StepAnswer.{StepAnswer}
@@ -46,8 +46,8 @@ pub data Reply : Type 0 where
   attach_reply : Result ℕ AttachFault → Reply
   refresh_reply : ℕ → Reply
   take_reply : Result ℕ BatchFull → Reply
-  flush_reply : Result Told FlushRefusal → Reply
-  finish_reply : Result (Told × ℕ) FlushRefusal → Reply
+  flush_reply : Result FlushAnswer FlushRefusal → Reply
+  finish_reply : Result (FlushAnswer × ℕ) FlushRefusal → Reply
   abandon_reply : Abandoned → Reply
   no_worker : Reply
 
@@ -56,8 +56,8 @@ reply_of (answer.Command r) = command_reply r
 reply_of (answer.Attach r) = attach_reply r
 reply_of (answer.Refresh generation) = refresh_reply generation
 reply_of (answer.Take r) = take_reply r
-reply_of (answer.Flush r) = flush_reply (result_map_both told_of (λ e. e) r)
-reply_of (answer.Finish r) = finish_reply (result_map_both told_and_rows (λ e. e) r)
+reply_of (answer.Flush r) = flush_reply (result_map_both flush_answer_of (λ e. e) r)
+reply_of (answer.Finish r) = finish_reply (result_map_both finish_answer_of (λ e. e) r)
 reply_of (answer.Abandon abandoned) = abandon_reply abandoned
 reply_of answer.NoWorker = no_worker
 
@@ -100,7 +100,7 @@ row_taken p j worker w header = record {
   seq = lane_len j worker + length w.rows;
   generation = w.generation;
   header = header;
-  verdict = judged p (at p j w.generation) header;
+  verdict = verdict_at p (at p j w.generation) header;
 }
 
 abbrev pub with_row : Row → Waiting → Waiting
@@ -131,7 +131,7 @@ abbrev pub with_none : Waiting → Waiting
 with_none w = record w { rows = [] }
 
 -- they wait no longer, or they are refused and all stays as it is
-abbrev pub handed_over : Standing → ℕ → Waiting → Outcome Told FlushRefusal → Reply × Standing
+abbrev pub handed_over : Standing → ℕ → Waiting → Outcome FlushAnswer FlushRefusal → Reply × Standing
 handed_over s worker w (Ok told, after) =
     (flush_reply (Ok told), with_place worker (Some (with_none w)) (with_journal after s))
 handed_over s worker w (Err r, after) = (flush_reply (Err r), s)
@@ -142,7 +142,7 @@ flush_step p s worker (Some w) = handed_over s worker w (flush_outcome p s.journ
 
 -- ---- a worker leaves
 -- with its last rows: its place is empty from then on, or they are refused and all stays as it is
-abbrev pub finished : Standing → ℕ → Outcome (Told × ℕ) FlushRefusal → Reply × Standing
+abbrev pub finished : Standing → ℕ → Outcome (FlushAnswer × ℕ) FlushRefusal → Reply × Standing
 finished s worker (Ok told, after) = (finish_reply (Ok told), with_place worker None (with_journal after s))
 finished s worker (Err r, after) = (finish_reply (Err r), s)
 

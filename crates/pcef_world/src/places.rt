@@ -8,14 +8,14 @@ ghost use Rattle.pcef_world.specs.private.Workers.{MayHandOver, held_by};
 
 use crate::answer::{Abandoned, StepAnswer, finish_told, flush_told};
 use crate::worker::Worker;
-use pcef_catalog::Offers;
+use pcef_catalog::Detects;
 use pcef_packet::{Addr, Header};
 use pcef_session::SessionState;
 use std::alloc::AllocError;
 use std::sync::Arc;
 
 /// A worker takes a packet, after so many rows that it has handed over.
-pub(crate) fn take_at<C: Offers>(
+pub(crate) fn take_at<C: Detects>(
     place: &mut Option<Worker>,
     catalog: &C,
     ue: Addr,

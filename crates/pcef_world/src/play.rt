@@ -5,14 +5,14 @@ ghost use Rattle.pcef_world.specs.Steps.{Played, standing_of};
 
 use crate::answer::StepAnswer;
 use crate::world::WorldState;
-use pcef_catalog::Offers;
+use pcef_catalog::Detects;
 use pcef_model::Step;
 use std::alloc::{AllocError, Global};
 
 impl WorldState {
     /// Makes steps one after the other, as [`WorldState::step`], and gives their answers in order. Takes memory for these
     /// too. Want of memory ends it: the steps before are made, and their answers are lost.
-    pub fn play<C: Offers>(
+    pub fn play<C: Detects>(
         &mut self,
         alloc: Global,
         catalog: &C,

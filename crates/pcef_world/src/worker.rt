@@ -4,13 +4,13 @@ ghost use Rattle.std.specs.Prelude.{◌≡◌, ◌≤◌, Err, IfSome, MatchOpti
 ghost use Rattle.std.specs.Arc.{arc_value};
 ghost use Rattle.std.specs.Result.{result_map_both};
 ghost use Rattle.pcef_table.specs.Tables.{IsTable};
-ghost use Rattle.pcef_model.specs.Answers.{Finishes, Flushes, told_and_rows, told_of};
+ghost use Rattle.pcef_model.specs.Outcomes.{FinishStep, FlushStep, finish_answer_of, flush_answer_of};
 ghost use Rattle.pcef_model.specs.Journals.{lane_len};
 ghost use Rattle.pcef_session.specs.Following.{HasItsSlots, row_of};
 ghost use Rattle.pcef_model.specs.Lawful.{BatchFollows};
 ghost use Rattle.pcef_world.specs.private.Workers.{IsJudged, TakesItem, after_flushing, held_by};
 
-use pcef_catalog::Offers;
+use pcef_catalog::Detects;
 use pcef_model::{FlushRefusal, Row, Verdicts};
 use pcef_packet::{Addr, Header};
 use pcef_session::{Batch, BatchFull, Item, MAX_WAITING, SessionState};
@@ -30,7 +30,7 @@ pub struct Worker {
 
 impl Worker {
     /// Judges a packet by the table that the worker holds, after so many rows that it has handed over.
-    fn judge<C: Offers>(&self, catalog: &C, ue: Addr, handed_over: u64, header: &Header) -> Item
+    fn judge<C: Detects>(&self, catalog: &C, ue: Addr, handed_over: u64, header: &Header) -> Item
         requires table { IsTable (C.offers catalog.now) (held_by self.now).entries }
         requires few { handed_over ≤ 4294967295 }
         ensures { IsJudged (C.offers catalog.now) ue header.now handed_over self.now result }
@@ -50,7 +50,7 @@ impl Worker {
     }
 
     /// Judges a packet, lets it wait, and gives how many wait then.
-    pub(crate) fn take<C: Offers>(
+    pub(crate) fn take<C: Detects>(
         &mut self,
         catalog: &C,
         ue: Addr,
@@ -73,7 +73,7 @@ impl Worker {
     pub(crate) fn flush(&mut self, session: &mut SessionState) -> Result<Verdicts, FlushRefusal>
         requires follow { BatchFollows session.old.setting session.old.journal self.old.number (map row_of self.old.waiting) }
         requires slots { HasItsSlots session.old.setting session.old.journal self.old.waiting }
-        ensures answer { Flushes session.old.setting self.old.number (map row_of self.old.waiting) session.old.journal (result_map_both told_of (λ e. e) result) session.new.journal }
+        ensures answer { FlushStep session.old.setting self.old.number (map row_of self.old.waiting) session.old.journal (result_map_both flush_answer_of (λ e. e) result) session.new.journal }
         ensures worker { self.new ≡ after_flushing result self.old }
         ensures setting { session.new.setting ≡ session.old.setting }
     {
@@ -86,7 +86,7 @@ impl Worker {
     pub(crate) fn finish(&self, session: &mut SessionState) -> Result<(Verdicts, u64), FlushRefusal>
         requires follow { BatchFollows session.old.setting session.old.journal self.now.number (map row_of self.now.waiting) }
         requires slots { HasItsSlots session.old.setting session.old.journal self.now.waiting }
-        ensures answer { Finishes session.old.setting self.now.number (map row_of self.now.waiting) session.old.journal (result_map_both told_and_rows (λ e. e) result) session.new.journal }
+        ensures answer { FinishStep session.old.setting self.now.number (map row_of self.now.waiting) session.old.journal (result_map_both finish_answer_of (λ e. e) result) session.new.journal }
         ensures setting { session.new.setting ≡ session.old.setting }
     {
         session.finish(self.number, &self.waiting)

@@ -3,7 +3,7 @@
 ghost use Rattle.std.specs.Prelude.{◌≡◌, ◌≤◌, [], IfErr, IfOk, length};
 ghost use Rattle.std.specs.Arc.{arc_value};
 ghost use Rattle.std.specs.Result.{result_err};
-ghost use Rattle.pcef_model.specs.Answers.{Attaches, Opens};
+ghost use Rattle.pcef_model.specs.Outcomes.{AttachStep, Opens};
 ghost use Rattle.pcef_model.specs.Journals.{attach_count, gen};
 ghost use Rattle.pcef_model.specs.Terms.{setting_of};
 ghost use Rattle.pcef_model.specs.declared.step.Step.{Step};
@@ -16,7 +16,7 @@ ghost use Rattle.pcef_world.specs.private.Places.{after_coming};
 use crate::answer::{StepAnswer, attach_told, command_told};
 use crate::places::{abandon_at, finish_at, flush_at, refresh_at, take_at};
 use crate::worker::Worker;
-use pcef_catalog::{Listing, Offers};
+use pcef_catalog::{Detects, Listing};
 use pcef_model::{AttachFault, Command, OpenFault, Profile, Step};
 use pcef_packet::Header;
 use pcef_session::{Batch, SessionState};
@@ -59,8 +59,6 @@ impl WorldState {
         ensures answer { Opens (setting_of profile listing) (result_err result) }
         ensures made { IfOk result (λ w. (w.session.setting ≡ setting_of profile listing) × (w.session.journal ≡ []) × (w.workers ≡ [])) }
     {
-        // What holds of a profile is known where a field is read.
-        let _rows = profile.rows;
         let session = SessionState::open(alloc, profile, listing)?;
         Ok(WorldState {
             alloc,
@@ -86,7 +84,7 @@ impl WorldState {
     /// waiting. A worker finishes with a last flush, or is abandoned, and then its waiting rows get no verdict. The step of
     /// a worker that isn't attached answers [`StepAnswer::NoWorker`] and changes nothing. Takes memory, but not for `Take`
     /// and `Abandon`. Want of memory comes only where the step isn't refused, and changes nothing.
-    pub fn step<C: Offers>(&mut self, catalog: &C, step: Step) -> Result<StepAnswer, AllocError>
+    pub fn step<C: Detects>(&mut self, catalog: &C, step: Step) -> Result<StepAnswer, AllocError>
         requires { C.offers catalog.now ≡ self.old.session.setting.catalog }
         ensures answer { IfOk result (λ a. Plays self.old.session.setting (standing_of self.old) step a (standing_of self.new)) }
         ensures lacks { IfErr result (λ _. Lacks self.old.session.setting (standing_of self.old) step (standing_of self.new)) }
@@ -113,7 +111,7 @@ impl WorldState {
 
     // A worker that comes holds the newest generation, and no row waits.
     fn come(&mut self) -> Result<u8, AttachFault>
-        ensures answer { Attaches self.old.session.journal result self.new.session.journal }
+        ensures answer { AttachStep self.old.session.journal result self.new.session.journal }
         ensures workers { self.new.workers ≡ after_coming self.old.session.journal result self.old.workers }
         ensures setting { self.new.session.setting ≡ self.old.session.setting }
     {
@@ -146,7 +144,7 @@ impl WorldState {
         attach_told(self.come())
     }
 
-    fn take<C: Offers>(&mut self, catalog: &C, worker: u8, header: &Header) -> StepAnswer
+    fn take<C: Detects>(&mut self, catalog: &C, worker: u8, header: &Header) -> StepAnswer
         requires { C.offers catalog.now ≡ self.old.session.setting.catalog }
         ensures answer { Plays self.old.session.setting (standing_of self.old) (of.Take worker header.now) result (standing_of self.new) }
         ensures setting { self.new.session.setting ≡ self.old.session.setting }

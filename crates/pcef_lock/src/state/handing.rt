@@ -2,9 +2,9 @@
 
 ghost use Rattle.std.specs.Prelude.{◌≡◌, ◌≤◌, length, map, true};
 ghost use Rattle.std.specs.Result.{result_map_both};
-ghost use Rattle.pcef_model.specs.Answers.{abandon_outcome, told_and_rows, told_of};
+ghost use Rattle.pcef_model.specs.Outcomes.{abandon_outcome, finish_answer_of, flush_answer_of};
 ghost use Rattle.pcef_model.specs.Journals.{slots};
-ghost use Rattle.pcef_lock.specs.Answers.{HandsLast, HandsOver};
+ghost use Rattle.pcef_lock.specs.Outcomes.{LeaveStep, HandOverStep};
 ghost use Rattle.pcef_lock.specs.Counting.{with_taken};
 ghost use Rattle.pcef_lock.specs.Judging.{AllJudged};
 ghost use Rattle.pcef_lock.specs.Lanes.{continues_lane};
@@ -42,7 +42,7 @@ impl<N: Naming, W: Board<Slot<N>> + Drop> State<N, W> {
     /// the worker is refused as of one that isn't attached. Takes memory.
     pub fn flush(&mut self, seat: &mut Seat<N>, batch: &Batch) -> Result<Verdicts, FlushRefusal>
         requires { AllJudged N.setting N.first seat.old.subscriber batch.now }
-        ensures answer { HandsOver N.setting seat.old.worker batch.now self.old.session.journal (result_map_both told_of (λ e. e) result) self.new.session.journal }
+        ensures answer { HandOverStep N.setting seat.old.worker batch.now self.old.session.journal (result_map_both flush_answer_of (λ e. e) result) self.new.session.journal }
         ensures tables { self.new.tables ≡ self.old.tables }
         ensures seen { IsPrefix seat.old.subscriber self.old.tables }
         ensures books { self.new.books ≡ record self.old.books { totals = with_taken result self.old.books.totals batch.now } }
@@ -71,7 +71,7 @@ impl<N: Naming, W: Board<Slot<N>> + Drop> State<N, W> {
         batch: &Batch,
     ) -> Result<(Verdicts, u64), FlushRefusal>
         requires { AllJudged N.setting N.first seat.old.subscriber batch.now }
-        ensures answer { HandsLast N.setting seat.old.worker batch.now self.old.session.journal (result_map_both told_and_rows (λ e. e) result) self.new.session.journal }
+        ensures answer { LeaveStep N.setting seat.old.worker batch.now self.old.session.journal (result_map_both finish_answer_of (λ e. e) result) self.new.session.journal }
         ensures tables { self.new.tables ≡ self.old.tables }
         ensures seen { IsPrefix seat.old.subscriber self.old.tables }
         ensures books { self.new.books ≡ record self.old.books { totals = with_taken result self.old.books.totals batch.now } }

@@ -3,15 +3,15 @@ use Rattle.std.specs.Prelude.{[], map}
 use Rattle.pcef_bearer.specs.Bindings.{rules_on}
 use Rattle.pcef_bearer.specs.declared.bearers.Bound.{Bound}
 use Rattle.pcef_model.specs.declared.command.Command.TheVariants.{LoseBearer}
-use Rattle.pcef_model.specs.declared.telling.Telling.{Telling}
-use Rattle.pcef_model.specs.declared.telling.Telling.TheVariants.{Inactive}
+use Rattle.pcef_model.specs.declared.pending_report.PendingReport.{PendingReport}
+use Rattle.pcef_model.specs.declared.pending_report.PendingReport.TheVariants.{Inactive}
 use Rattle.pcef_model.specs.Reports.{in_order}
 use Rattle.pcef_bearer.specs.Bindings.{is_named}
 use Rattle.std.specs.Prelude.{ℕ, ◌≡◌, List, Option, Some, None, Bool, filter, not}
 use Rattle.indexmap.specs.IndexMap.{insert_entry}
 use Rattle.pcef_rule.specs.declared.quantity.BearerId.{BearerId}
 use Rattle.pcef_rule.specs.declared.rule.Properties.{Properties}
-use Rattle.pcef_bearer.specs.Bindings.{Binding, HasRoom, bound_at, id_beside, put, refusals, with_rules, without}
+use Rattle.pcef_bearer.specs.Bindings.{Binding, HasRoom, bound_at, id_excluding, put, refusals, with_rules, without}
 use Rattle.pcef_model.specs.Refusals.{first_of}
 use Rattle.pcef_model.specs.declared.command.Command.{Command}
 use Rattle.pcef_model.specs.declared.command.Command.TheVariants.{Monitor}
@@ -60,7 +60,7 @@ CanBind (Some x) b = Binds x.properties b
 
 -- a rule is bound to this bearer
 pub record IsBoundTo (rule : Properties) (old new : Binding) (id : BearerId) : Type 0 where
-  pub bearer_is : id_beside old.default_qos old.bound (without rule.name old.bound) rule.qos ≡ Some id.0
+  pub bearer_is : id_excluding old.default_qos old.bound (without rule.name old.bound) rule.qos ≡ Some id.0
   pub binding_is : new ≡ with_rules old (put (bound_at rule.name rule.qos rule.rates id.0) old.bound)
 
 abbrev pub IsRebound : Option Activation → Command → Binding → Binding → Option BearerId → Type 0
@@ -71,6 +71,6 @@ IsRebound None c old new bearer =
 
 -- ---- rules that go with their bearer
 -- the reports of the rules that are bound to a lost bearer, by the bytes of their names
-abbrev pub inactive_by : List Bound → Command → List Telling
+abbrev pub inactive_by : List Bound → Command → List PendingReport
 inactive_by bound (LoseBearer id) = map Inactive (in_order (map (λ b. b.name) (rules_on id.0 bound)))
 inactive_by bound _ = []

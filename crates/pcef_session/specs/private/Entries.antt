@@ -7,7 +7,7 @@ use Rattle.pcef_model.specs.Entries.{Journal}
 use Rattle.pcef_model.specs.Journals.{gen}
 use Rattle.pcef_model.specs.Setting.{Setting}
 use Rattle.pcef_rule.specs.declared.quantity.BearerId.{BearerId}
-use Rattle.pcef_bearer.specs.Bindings.{Binding, id_beside, without}
+use Rattle.pcef_bearer.specs.Bindings.{Binding, id_excluding, without}
 use Rattle.pcef_table.specs.declared.entry.Entry.{Entry}
 use Rattle.pcef_table.specs.Tables.{TableValue}
 use Rattle.pcef_usage.specs.declared.usage.KeyState.{KeyState}
@@ -36,6 +36,6 @@ pub record IsEntryOn (id : BearerId) (keys : List KeyState) (x : Activation) (e 
 -- the key is on
 pub record IsEntryOf (b : Binding) (keys : List KeyState) (x : Activation) (e : Entry) : Type 0 where
   pub source_is : e.source ≡ x.source
-  pub bearer_is : id_beside b.default_qos b.bound (without x.properties.name b.bound) x.properties.qos ≡ Some e.bearer.0
+  pub bearer_is : id_excluding b.default_qos b.bound (without x.properties.name b.bound) x.properties.qos ≡ Some e.bearer.0
   pub slot_is : option_map (λ s. s.0) e.slot ≡ option_map (λ k. place_of k keys) x.properties.key
   pub counted_is : e.counted ≡ is_on x.properties.key keys

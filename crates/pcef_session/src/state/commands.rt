@@ -2,7 +2,7 @@
 
 ghost use Rattle.std.specs.Prelude.{◌≡◌, Ok};
 ghost use Rattle.pcef_model.specs.declared.command.Command.TheVariants as of;
-ghost use Rattle.pcef_model.specs.Answers.{Does, Gives, command_outcome};
+ghost use Rattle.pcef_model.specs.Outcomes.{CommandStep, Gives, command_outcome};
 ghost use Rattle.pcef_session.specs.Preparing.{IsIdle, IsPreparedFor, IsReady, command_of};
 
 use super::SessionState;
@@ -74,7 +74,7 @@ impl SessionState {
 
     /// Does a command, or answers the first refusal in the order of [`Refusal`], which changes nothing.
     pub fn command(&mut self, command: Command) -> Result<Accepted, Refusal>
-        ensures answer { Does self.old.setting command self.old.journal result self.new.journal }
+        ensures answer { CommandStep self.old.setting command self.old.journal result self.new.journal }
         ensures setting { self.new.setting ≡ self.old.setting }
     {
         match self.prepare(command) {

@@ -4,7 +4,7 @@ ghost use Rattle.std.specs.Prelude.{◌≡◌, ◌≤◌, ◌+◌, IfOk, OnErr, 
 ghost use Rattle.std.specs.Result.{result_map_both};
 ghost use Rattle.pcef_model.specs.Entries.{rows};
 ghost use Rattle.pcef_model.specs.Reports.{after_flush};
-ghost use Rattle.pcef_model.specs.Answers.{Flushes, told, told_of};
+ghost use Rattle.pcef_model.specs.Outcomes.{FlushStep, flush_answer, flush_answer_of};
 ghost use Rattle.pcef_session.specs.Following.{HasItsSlots, HasSmallRows, row_of};
 ghost use Rattle.pcef_model.specs.Lawful.{BatchFollows};
 ghost use Rattle.pcef_model.specs.Refusals.{first_of, flush_refusals};
@@ -50,7 +50,7 @@ impl SessionState {
         requires follow { BatchFollows self.old.setting self.old.journal worker (map row_of items.now) }
         requires slots { HasItsSlots self.old.setting self.old.journal items.now }
         requires octets { HasSmallRows items.now }
-        ensures told { IfOk result (λ v. told_of v ≡ told (map row_of items.now) self.old.journal self.new.journal) }
+        ensures flush_answer { IfOk result (λ v. flush_answer_of v ≡ flush_answer (map row_of items.now) self.old.journal self.new.journal) }
         ensures taken { OnOk result (self.new.journal ≡ after_flush self.old.setting self.old.journal (map row_of items.now)) }
         ensures kept { OnErr result (self.new.journal ≡ self.old.journal) }
         ensures setting { self.new.setting ≡ self.old.setting }
@@ -75,7 +75,7 @@ impl SessionState {
     pub fn flush(&mut self, worker: u8, batch: &Batch) -> Result<Verdicts, FlushRefusal>
         requires follow { BatchFollows self.old.setting self.old.journal worker (map row_of batch.now) }
         requires slots { HasItsSlots self.old.setting self.old.journal batch.now }
-        ensures answer { Flushes self.old.setting worker (map row_of batch.now) self.old.journal (result_map_both told_of (λ e. e) result) self.new.journal }
+        ensures answer { FlushStep self.old.setting worker (map row_of batch.now) self.old.journal (result_map_both flush_answer_of (λ e. e) result) self.new.journal }
         ensures setting { self.new.setting ≡ self.old.setting }
     {
         if let Some(refusal) = self.flush_refusal(worker, batch.len()) {

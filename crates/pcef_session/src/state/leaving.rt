@@ -3,7 +3,7 @@
 ghost use Rattle.std.specs.Prelude.{◌≡◌, ◌≤◌, ◌<◌, MatchOption, map, true};
 ghost use Rattle.std.specs.Result.{result_map_both};
 ghost use Rattle.pcef_lane.specs.Lanes.{lane_end};
-ghost use Rattle.pcef_model.specs.Answers.{Finishes, abandon_outcome, told_and_rows};
+ghost use Rattle.pcef_model.specs.Outcomes.{FinishStep, abandon_outcome, finish_answer_of};
 ghost use Rattle.pcef_model.specs.Journals.{attach_count, lane_len};
 ghost use Rattle.pcef_model.specs.Lawful.{BatchFollows};
 ghost use Rattle.pcef_model.specs.Refusals.{is_attached};
@@ -52,7 +52,7 @@ impl SessionState {
     pub fn finish(&mut self, worker: u8, batch: &Batch) -> Result<(Verdicts, u64), FlushRefusal>
         requires follow { BatchFollows self.old.setting self.old.journal worker (map row_of batch.now) }
         requires slots { HasItsSlots self.old.setting self.old.journal batch.now }
-        ensures answer { Finishes self.old.setting worker (map row_of batch.now) self.old.journal (result_map_both told_and_rows (λ e. e) result) self.new.journal }
+        ensures answer { FinishStep self.old.setting worker (map row_of batch.now) self.old.journal (result_map_both finish_answer_of (λ e. e) result) self.new.journal }
         ensures setting { self.new.setting ≡ self.old.setting }
     {
         match self.flush(worker, batch) {

@@ -4,7 +4,7 @@ ghost use Rattle.std.specs.Prelude.{◌≡◌, ◌++◌, ◌+◌, ◌≤◌, ◌
 ghost use Rattle.std.specs.Arc.{arc_value};
 ghost use Rattle.std.specs.Option.{option_copied, option_map};
 ghost use Rattle.pcef_model.specs.ActiveRules.{predefined};
-ghost use Rattle.pcef_model.specs.Answers.{IsRefused, changes};
+ghost use Rattle.pcef_model.specs.Outcomes.{IsRefused, changes};
 ghost use Rattle.pcef_model.specs.Commands.{activated, is_table};
 ghost use Rattle.pcef_model.specs.declared.command.Command.TheVariants as of;
 ghost use Rattle.pcef_model.specs.Journals.{attached, now};
@@ -22,9 +22,9 @@ use crate::ended_keys::add_ended_keys;
 use crate::entries::{bearer_for, entry_of};
 use crate::inactive::inactive;
 use crate::keys::{place_of, switched_key, switches_on};
-use crate::planning::{add_asked, add_noticed};
+use crate::pending_reports::{add_requested, add_noticed};
 use crate::prepared::{Activation, Prepared, PreparedChange};
-use pcef_model::{Command, Refusal, Telling};
+use pcef_model::{Command, Refusal, PendingReport};
 use pcef_rule::{BearerId, KeyName, RuleName};
 use pcef_table::{Source, Table};
 use std::alloc::{AllocError, Global};
@@ -166,7 +166,7 @@ impl SessionState {
     }
 
     /// The reports of the rules that a command takes away with their bearer.
-    fn inactive(&self, command: &Command) -> Result<Vec<Telling>, AllocError>
+    fn inactive(&self, command: &Command) -> Result<Vec<PendingReport>, AllocError>
         ensures { IfOk result (λ v. v.items ≡ inactive (now self.now.setting self.now.journal) command.now) }
     {
         inactive(self.alloc, self.bearers.bound(), command)
@@ -175,7 +175,7 @@ impl SessionState {
     /// Adds the reports of the keys that a command ends.
     fn add_ended(
         &self,
-        reports: &mut Vec<Telling>,
+        reports: &mut Vec<PendingReport>,
         command: &Command,
         rule: Option<&Activation>,
     ) -> Result<(), AllocError>
@@ -193,13 +193,13 @@ impl SessionState {
     }
 
     /// What a command reports by itself.
-    fn plan(&self, command: &Command, rule: Option<&Activation>) -> Result<Vec<Telling>, AllocError>
+    fn plan(&self, command: &Command, rule: Option<&Activation>) -> Result<Vec<PendingReport>, AllocError>
         requires rule { Activates self.now.setting (activated self.now.setting command.now) (option_copied rule) }
         ensures { IfOk result (λ v. v.items ≡ plan self.now.setting self.now.journal command.now) }
     {
         let mut reports = self.inactive(command)?;
         self.add_ended(&mut reports, command, rule)?;
-        add_asked(&mut reports, command)?;
+        add_requested(&mut reports, command)?;
         add_noticed(&mut reports, command, self.subscribed)?;
         Ok(reports)
     }
@@ -223,7 +223,7 @@ impl SessionState {
 
     /// Takes room for a rule, and in the journal for a command, these reports, the thresholds of eight keys and the
     /// leaving of each worker.
-    fn take_room(&mut self, reports: &[Telling]) -> Result<(), AllocError>
+    fn take_room(&mut self, reports: &[PendingReport]) -> Result<(), AllocError>
         ensures setting { self.new.setting ≡ self.old.setting }
         ensures journal { self.new.journal ≡ self.old.journal }
         ensures room { HasAtLeast self.old.room self.new.room }

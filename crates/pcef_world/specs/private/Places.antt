@@ -12,7 +12,7 @@ use Rattle.pcef_model.specs.declared.answer.AttachFault.TheVariants as lacks
 use Rattle.pcef_model.specs.declared.answer.FlushRefusal.{FlushRefusal}
 use Rattle.pcef_model.specs.declared.answer.FlushRefusal.TheVariants.{NoMemory}
 use Rattle.pcef_model.specs.declared.answer.Verdicts.{Verdicts}
-use Rattle.pcef_model.specs.Answers.{Finishes, Flushes, told_and_rows, told_of}
+use Rattle.pcef_model.specs.Outcomes.{FinishStep, FlushStep, finish_answer_of, flush_answer_of}
 use Rattle.pcef_model.specs.Setting.{Setting}
 use Rattle.pcef_model.specs.Entries.{Journal}
 use Rattle.pcef_model.specs.Journals.{gen, lane_len}
@@ -67,7 +67,7 @@ RefreshesAt p j (Some w) (Err lack) new = new ≡ Some w
 abbrev pub FlushesAt : Setting → Journal → Option Worker → Result StepAnswer AllocError → Journal → Option Worker → Type 0
 FlushesAt p j None out k new = (out ≡ Ok answer.NoWorker) × (k ≡ j) × (new ≡ None)
 FlushesAt p j (Some w) out k new =
-    (r : Result Verdicts FlushRefusal) × Flushes p w.number (map row_of w.waiting) j (result_map_both told_of (λ e. e) r) k
+    (r : Result Verdicts FlushRefusal) × FlushStep p w.number (map row_of w.waiting) j (result_map_both flush_answer_of (λ e. e) r) k
     × (out ≡ flush_told r) × (new ≡ Some (after_flushing r w))
 
 abbrev pub after_finishing : {A E : Type 0} → Result A E → Worker → Option Worker
@@ -77,7 +77,7 @@ after_finishing (Err e) w = Some w
 abbrev pub FinishesAt : Setting → Journal → Option Worker → Result StepAnswer AllocError → Journal → Option Worker → Type 0
 FinishesAt p j None out k new = (out ≡ Ok answer.NoWorker) × (k ≡ j) × (new ≡ None)
 FinishesAt p j (Some w) out k new =
-    (r : Result (Verdicts × ℕ) FlushRefusal) × Finishes p w.number (map row_of w.waiting) j (result_map_both told_and_rows (λ e. e) r) k
+    (r : Result (Verdicts × ℕ) FlushRefusal) × FinishStep p w.number (map row_of w.waiting) j (result_map_both finish_answer_of (λ e. e) r) k
     × (out ≡ finish_told r) × (new ≡ after_finishing r w)
 
 abbrev pub AbandonsAt : Journal → Option Worker → StepAnswer → Journal → Option Worker → Type 0

@@ -1,5 +1,5 @@
 use Rattle.std.proofs.Common.{◌≡◌, map, take}
-use Rattle.pcef_model.specs.Answers.{judged_of}
+use Rattle.pcef_model.specs.Outcomes.{judged_of}
 use Rattle.pcef_session.specs.Following.{row_of}
 use Rattle.pcef_session.proofs.rows.note_rows.Given as goal
 

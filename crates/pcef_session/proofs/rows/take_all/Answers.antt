@@ -12,4 +12,4 @@ finish-requires c =
 pub returns-clause-room : goal.returns-clause-room
 returns-clause-room c =
     let same = ap (λ (states : List KeyState). length states) c.take_rows.ensures.states ∙ length-rows_counted row_of slot_of c.args.items.now c.args.counted.now.states in
-    omega (arith, same, c.take_rows.ensures.room, c.finish.ensures.room, c.requires.few)
+    omega (arith, same, c.take_rows.ensures.room, c.report_thresholds.ensures.room, c.requires.few)

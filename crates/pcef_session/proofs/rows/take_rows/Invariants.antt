@@ -1,7 +1,7 @@
 use Rattle.std.proofs.Common.{◌≡◌, ◌≤◌, ◌+◌, length, map, drop}
 use Rattle.pcef_model.specs.Reports.{with_rows}
 use Rattle.pcef_usage.specs.Flushes.{rows_counted}
-use Rattle.pcef_session.specs.private.Taking.{CanCountAll}
+use Rattle.pcef_session.specs.private.TakenRows.{CanCountAll}
 use Rattle.pcef_session.specs.Following.{row_of, slot_of}
 use Rattle.pcef_session.proofs.rows.take_rows.Given as goal
 

@@ -1,6 +1,6 @@
 use Rattle.std.proofs.Common.{[], subst}
 use Rattle.std.specs.Result.{result_err}
-use Rattle.pcef_model.specs.Answers.{Opens}
+use Rattle.pcef_model.specs.Outcomes.{Opens}
 use Rattle.pcef_model.specs.Terms.{Terms, setting_of}
 use Rattle.pcef_session.proofs.FirstSession.{opens_as_made}
 use Rattle.pcef_session.proofs.state.open_bearers.Goals as goal

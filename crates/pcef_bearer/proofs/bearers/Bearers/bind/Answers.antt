@@ -1,4 +1,4 @@
-use Rattle.pcef_bearer.proofs.Kept.{last_put}
+use Rattle.pcef_bearer.proofs.BindingKept.{last_put}
 use Rattle.pcef_bearer.proofs.bearers.Bearers.bind.Goals as goal
 
 pub returns-clause-last : goal.returns-clause-last

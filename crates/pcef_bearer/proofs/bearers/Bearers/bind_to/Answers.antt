@@ -1,4 +1,4 @@
-use Rattle.pcef_bearer.proofs.Kept.{kept_put_at}
+use Rattle.pcef_bearer.proofs.BindingKept.{kept_put_at}
 use Rattle.pcef_bearer.proofs.bearers.Bearers.bind_to.Goals as goal
 
 pub invariant_of-self : goal.invariant_of-self

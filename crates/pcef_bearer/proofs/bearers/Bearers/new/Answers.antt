@@ -1,6 +1,6 @@
 use Rattle.std.proofs.Common.{◌∙◌, Some, ap, arith, sym}
 use Rattle.pcef_rule.specs.declared.qci.Kind.{Kind}
-use Rattle.pcef_bearer.proofs.Kept.{empty_binding}
+use Rattle.pcef_bearer.proofs.BindingKept.{empty_binding}
 use Rattle.pcef_bearer.proofs.bearers.Bearers.new.Goals as goal
 
 pub invariant_of-result : goal.invariant_of-result

@@ -1,6 +1,6 @@
 use Rattle.std.proofs.Common.{not}
 use Rattle.pcef_model.specs.Commands.{takes_away}
-use Rattle.pcef_bearer.proofs.Kept.{kept_part}
+use Rattle.pcef_bearer.proofs.BindingKept.{kept_part}
 use Rattle.pcef_bearer.proofs.bearers.Bearers.take_away.Goals as goal
 
 pub invariant_of-self : goal.invariant_of-self

@@ -1,6 +1,6 @@
 use Rattle.std.proofs.Common.{◌∙◌, not, sym}
 use Rattle.pcef_bearer.specs.Bindings.{is_named}
-use Rattle.pcef_bearer.proofs.Kept.{kept_part, without_absent}
+use Rattle.pcef_bearer.proofs.BindingKept.{kept_part, without_absent}
 use Rattle.pcef_bearer.proofs.bearers.Bearers.unbind.Goals as goal
 
 pub returns-in_default-clause-bound : goal.returns-in_default-clause-bound

@@ -2,7 +2,7 @@ use Rattle.std.proofs.Common.{rules, ◌≡◌, ◌≤◌, ◌<◌, ◌+◌, ◌
 use Rattle.std.specs.Prelude.{slice_set}
 use Rattle.std.proofs.lemmas.List.{length_push}
 use Rattle.pcef_model.specs.Setting.{Setting}
-use Rattle.pcef_model.proofs.Onward.{attached_not}
+use Rattle.pcef_model.proofs.JournalExtends.{attached_not}
 use Rattle.pcef_session.proofs.Leaving.{attach_refused}
 use Rattle.pcef_lock.proofs.Keeps.{sound_attached, sound_same}
 use Rattle.pcef_lock.proofs.Seats.{next_is_ready}

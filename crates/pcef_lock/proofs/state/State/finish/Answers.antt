@@ -1,5 +1,5 @@
 use Rattle.std.proofs.Common.{rules, ◌≡◌, ◌∙◌, ◌≤◌, List, All, ap, arith, length, map, subst, sym, true}
-use Rattle.pcef_model.specs.Answers.{told_and_rows}
+use Rattle.pcef_model.specs.Outcomes.{finish_answer_of}
 use Rattle.pcef_model.specs.Journals.{slots}
 use Rattle.pcef_session.proofs.Leaving.{finished_not, finished_once}
 use Rattle.pcef_session.specs.declared.batch.Item.{Item}
@@ -40,7 +40,7 @@ count_items-requires-clause-low g c =
 
 pub count_items-requires-clause-fits : goal.count_items-requires-clause-fits
 count_items-requires-clause-fits g c = λ n low.
-    let once = finished_once c.self.inside.session.setting c.self.inside.session.journal c.finish.new.self.journal c.args.seat.now.worker (map row_of c.args.batch.now) (told_and_rows c.in-Ok.last) c.in-Ok.ensures.answer in
+    let once = finished_once c.self.inside.session.setting c.self.inside.session.journal c.finish.new.self.journal c.args.seat.now.worker (map row_of c.args.batch.now) (finish_answer_of c.in-Ok.last) c.in-Ok.ensures.answer in
     let same : length c.items.result.now ≡ length c.args.batch.now = ap length c.items.ensures.items in
     let fits = octets_fit g.N.Naming.setting g.N.Naming.first c.self.inside.session c.self.inside.publisher c.self.inside.books c.self.inside.places (length c.self.inside.subscribers.items)
     c.args.seat.now.worker c.args.batch.now n c.self.invariant once.0 low in
@@ -53,7 +53,7 @@ invariant_of-self-2 g c =
     c.args.seat.now.worker c.args.batch.now c.self.invariant goes_on c.compare.ensures.begins c.requires in
     let few : length (slots c.self.inside.session.setting c.self.inside.session.journal) ≤ 8 = omega (arith, c.slot_count-slots.ensures.number, c.slot_count-slots.ensures.few) in
     let small : HasSmallRows c.args.batch.now = subst HasSmallRows c.items.ensures.items c.items.ensures.octets in
-    let once = finished_once c.self.inside.session.setting c.self.inside.session.journal c.finish.new.self.journal c.args.seat.now.worker (map row_of c.args.batch.now) (told_and_rows c.in-Ok.last) c.in-Ok.ensures.answer in
+    let once = finished_once c.self.inside.session.setting c.self.inside.session.journal c.finish.new.self.journal c.args.seat.now.worker (map row_of c.args.batch.now) (finish_answer_of c.in-Ok.last) c.in-Ok.ensures.answer in
     let books : c.count_items.new.books ≡ record { totals = with_items c.self.inside.books.totals c.args.batch.now; issued = c.self.inside.books.issued } =
     c.count_items.ensures.books ∙ ap (λ xs. record { totals = with_items c.self.inside.books.totals xs; issued = c.self.inside.books.issued }) c.items.ensures.items in
     rw c.compare.ensures.publisher

@@ -5,12 +5,12 @@ use Rattle.pcef_model.specs.Refusals.{attach_faults, first_of}
 use Rattle.pcef_model.specs.Terms.{setting_of}
 use Rattle.pcef_model.proofs.NewLanes.{new_lane}
 use Rattle.std.specs.Prelude.{Err, None, Ok}
-use Rattle.pcef_model.specs.Answers.{Attaches}
+use Rattle.pcef_model.specs.Outcomes.{AttachStep}
 use Rattle.pcef_model.specs.declared.answer.AttachFault.TheVariants.{NoMemory}
 use Rattle.pcef_lane.proofs.LaneEnds.{attached_len, lanes_count}
 use Rattle.pcef_session.specs.SessionModel.{SessionModel}
 use Rattle.pcef_session.proofs.Leaving.{attach_few, attach_lacks, attach_next, attach_refused, ok_of}
-use Rattle.pcef_session.proofs.SoundLater.{sound_attached}
+use Rattle.pcef_session.proofs.InvariantKept.{sound_attached}
 use Rattle.pcef_session.proofs.state.SessionState.attach.Goals as goal
 
 pub returns-in-Some-clause-answer : goal.returns-in-Some-clause-answer
@@ -21,8 +21,8 @@ returns-then-is_err-clause-answer c =
     let s = c.self.inside in
     let accepted : first_of (attach_faults s.counted.journal) ≡ None =
     subst (λ (v : SessionModel). first_of (attach_faults v.journal) ≡ None) (sym c.self.view_is) (sym c.in_default.ensures) in
-    subst (λ (v : SessionModel). Attaches v.journal (Err NoMemory) c.reserve.new.self.journal) c.self.view_is
-    (subst (λ (j : Journal). Attaches s.counted.journal (Err NoMemory) j) (sym c.reserve.ensures.journal) (attach_lacks s.counted.journal accepted))
+    subst (λ (v : SessionModel). AttachStep v.journal (Err NoMemory) c.reserve.new.self.journal) c.self.view_is
+    (subst (λ (j : Journal). AttachStep s.counted.journal (Err NoMemory) j) (sym c.reserve.ensures.journal) (attach_lacks s.counted.journal accepted))
 
 pub overflow_cast-worker : goal.overflow_cast-worker
 overflow_cast-worker c =
@@ -56,7 +56,7 @@ returns-clause-answer c =
     let count = lanes_count s.counted.journal s.lanes c.self.invariant.lanes in
     let accepted : first_of (attach_faults s.counted.journal) ≡ None =
     subst (λ (v : SessionModel). first_of (attach_faults v.journal) ≡ None) (sym c.self.view_is) (sym c.in_default.ensures) in
-    subst (λ (v : SessionModel). Attaches v.journal (Ok c.len-worker.result) c.enter.new.self.journal) c.self.view_is
+    subst (λ (v : SessionModel). AttachStep v.journal (Ok c.len-worker.result) c.enter.new.self.journal) c.self.view_is
     (attach_next s.counted.journal c.enter.new.self.journal c.len-worker.result (c.len-worker.ensures ∙ count) accepted
     (c.enter.ensures.journal ∙ ap (λ j. entry.Attach c.len-worker.result ∷ j) c.reserve.ensures.journal))
 

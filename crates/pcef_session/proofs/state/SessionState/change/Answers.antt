@@ -2,7 +2,7 @@ use Rattle.std.proofs.Common.{◌≡◌, ◌∙◌, ◌≤◌, ℕ, ap, sym, sub
 use Rattle.std.specs.Prelude.{Option, unwrap_or}
 use Rattle.std.specs.Arc.{arc_value}
 use Rattle.pcef_model.specs.declared.entry.Entry.TheVariants as entry
-use Rattle.pcef_model.specs.declared.telling.Telling.{Telling}
+use Rattle.pcef_model.specs.declared.pending_report.PendingReport.{PendingReport}
 use Rattle.pcef_model.specs.Entries.{Journal}
 use Rattle.pcef_model.specs.Journals.{attached, gen, now, report_count, slots}
 use Rattle.pcef_model.specs.Reports.{after_command, plan}
@@ -13,11 +13,11 @@ use Rattle.pcef_usage.specs.declared.usage.KeyState.{KeyState}
 use Rattle.pcef_model.specs.declared.trigger.TriggerSet.{TriggerSet}
 use Rattle.pcef_usage.specs.Commands.{subscribed_by}
 use Rattle.pcef_usage.specs.Keys.{finds_no_slot, keys_of}
-use Rattle.pcef_usage.specs.Tellings.{KnowsAll}
+use Rattle.pcef_usage.specs.PendingReports.{KnowsAll}
 use Rattle.pcef_usage.proofs.Commanded.{keys_entered}
 use Rattle.pcef_usage.proofs.Planned.{knows_plan}
 use Rattle.pcef_model.specs.declared.answer.Accepted.{Accepted}
-use Rattle.pcef_model.specs.Answers.{Gives, bearer_named, command_outcome}
+use Rattle.pcef_model.specs.Outcomes.{Gives, bearer_named, command_outcome}
 use Rattle.pcef_session.specs.private.Parts.{Parts}
 use Rattle.pcef_session.specs.private.Changes.{CanBind, entered_by, key_of, rule_key}
 use Rattle.pcef_session.specs.SessionModel.{SessionModel}
@@ -27,8 +27,8 @@ use Rattle.pcef_model.specs.Terms.{setting_of}
 use Rattle.pcef_model.specs.Commands.{key_named}
 use Rattle.pcef_session.proofs.Activations.{served_key}
 use Rattle.pcef_session.proofs.Acceptance.{asks_known, can_bind, served_slot}
-use Rattle.pcef_session.proofs.Commanding.{IsCommanded, bearer_commanded, entering, journal_commanded, left_by, outcome_commanded, told_by}
-use Rattle.pcef_session.proofs.SoundLater.{few_entered_by, sound_commanded}
+use Rattle.pcef_session.proofs.CommandAgrees.{IsCommanded, bearer_commanded, entering, journal_commanded, left_by, outcome_commanded, told_by}
+use Rattle.pcef_session.proofs.InvariantKept.{few_entered_by, sound_commanded}
 use Rattle.pcef_session.proofs.state.SessionState.change.Goals as goal
 use Rattle.pcef_bearer.specs.Bindings.{Binding}
 use Rattle.pcef_session.specs.Preparing.{IsBearerFor, IsReady}
@@ -68,7 +68,7 @@ tell-requires-clause-known c =
     c.enter.ensures.states ∙ ap (λ (k : Option (List ℕ)). entered_by k command s.counted.states) (c.rule_key-key.ensures ∙ ap rule_key c.as_ref.ensures.value) in
     let keys : keys_of c.enter.new.counted.states ≡ slots p (entry.Command command ∷ j) =
     ap keys_of (entered ∙ entering p command c.args.change.rule s.counted.states ready.rule) ∙ keys_entered p j command s.counted.states c.self.invariant.agrees.keys_are in
-    subst (λ (ts : List Telling). KnowsAll (keys_of c.enter.new.counted.states) ts) (sym (c.deref.ensures.value ∙ ready.plan_is))
+    subst (λ (ts : List PendingReport). KnowsAll (keys_of c.enter.new.counted.states) ts) (sym (c.deref.ensures.value ∙ ready.plan_is))
     (subst (λ (ks : List (List ℕ)). KnowsAll ks (plan p j command)) (sym keys) (knows_plan p j command (asks_known p j command ready.accepted)))
 
 pub tell-requires-clause-room : goal.tell-requires-clause-room
@@ -82,7 +82,7 @@ tell-requires-clause-room c =
     let few : length (entered_by (rule_key c.args.change.rule) command s.counted.states) ≤ 8 =
     few_entered_by p s.counted.journal command c.args.change.rule s.counted.states c.self.invariant.agrees.keys_are ready.accepted ready.changing ready.rule c.self.invariant.small.few_keys in
     let same : length c.enter.new.counted.states ≡ length (entered_by (rule_key c.args.change.rule) command s.counted.states) = ap (λ (states : List KeyState). length states) entered in
-    let reports : length c.deref.result.now ≡ length c.args.change.reports.items = ap (λ (ts : List Telling). length ts) c.deref.ensures.value in
+    let reports : length c.deref.result.now ≡ length c.args.change.reports.items = ap (λ (ts : List PendingReport). length ts) c.deref.ensures.value in
     omega (arith, few, same, reports, ready.has_room, c.enter.ensures.room)
 
 pub invariant_of-self : goal.invariant_of-self
@@ -100,13 +100,13 @@ invariant_of-self c =
     c.enter.ensures.states ∙ ap (λ (k : Option (List ℕ)). entered_by k command s.counted.states) (c.rule_key-key.ensures ∙ ap rule_key c.as_ref.ensures.value) in
     let journal : c.tell.new.counted.journal ≡ told_by b (plan p j command) (entered_by (rule_key c.args.change.rule) command s.counted.states) (entry.Command command ∷ j) =
     c.tell.ensures.journal ∙ ap (λ (t : TriggerSet). told_by t.usage_report c.deref.result.now c.enter.new.counted.states c.enter.new.counted.journal) triggers ∙
-    ap (λ (ts : List Telling). told_by b ts c.enter.new.counted.states c.enter.new.counted.journal) planned ∙
+    ap (λ (ts : List PendingReport). told_by b ts c.enter.new.counted.states c.enter.new.counted.journal) planned ∙
     ap (λ (states : List KeyState). told_by b (plan p j command) states c.enter.new.counted.journal) entered ∙
     ap (told_by b (plan p j command) (entered_by (rule_key c.args.change.rule) command s.counted.states)) c.enter.ensures.journal in
     let few : length (entered_by (rule_key c.args.change.rule) command s.counted.states) ≤ 8 =
     few_entered_by p s.counted.journal command c.args.change.rule s.counted.states c.self.invariant.agrees.keys_are ready.accepted ready.changing ready.rule c.self.invariant.small.few_keys in
     let states : length c.enter.new.counted.states ≡ length (entered_by (rule_key c.args.change.rule) command s.counted.states) = ap (λ (states : List KeyState). length states) entered in
-    let reports : length c.deref.result.now ≡ length c.args.change.reports.items = ap (λ (ts : List Telling). length ts) c.deref.ensures.value in
+    let reports : length c.deref.result.now ≡ length c.args.change.reports.items = ap (λ (ts : List PendingReport). length ts) c.deref.ensures.value in
     let room : length (attached j) ≤ c.tell.new.counted.room = omega (arith, few, states, reports, ready.has_room, c.enter.ensures.room, c.tell.ensures.room) in
     sound_commanded s _ command c.args.change.rule c.args.change.bearer c.self.invariant
     (record {
@@ -115,7 +115,7 @@ invariant_of-self c =
       brings = ready.rule;
       rules_are = c.change_rules.ensures.active;
       rebound = c.change_rules.ensures.bearers;
-      keys_are = c.tell.ensures.states ∙ ap (λ (t : TriggerSet). left_by t.usage_report c.deref.result.now c.enter.new.counted.states) triggers ∙ ap (λ (ts : List Telling). left_by b ts c.enter.new.counted.states) planned ∙ ap (left_by b (plan p j command)) entered;
+      keys_are = c.tell.ensures.states ∙ ap (λ (t : TriggerSet). left_by t.usage_report c.deref.result.now c.enter.new.counted.states) triggers ∙ ap (λ (ts : List PendingReport). left_by b ts c.enter.new.counted.states) planned ∙ ap (left_by b (plan p j command)) entered;
       triggers_are = triggers;
       shows = subst (Shows p (after_command p j command) (gen (after_command p j command))) (sym table) (table_after p j command (arc_value s.table) (option_map (λ t. arc_value t) c.args.change.table) c.self.invariant.agrees.table_shows ready.table);
     })
@@ -136,7 +136,7 @@ returns-clause-answer c =
     c.enter.ensures.states ∙ ap (λ (k : Option (List ℕ)). entered_by k command s.counted.states) (c.rule_key-key.ensures ∙ ap rule_key c.as_ref.ensures.value) in
     let journal : c.tell.new.counted.journal ≡ told_by b (plan p j command) (entered_by (rule_key c.args.change.rule) command s.counted.states) (entry.Command command ∷ j) =
     c.tell.ensures.journal ∙ ap (λ (t : TriggerSet). told_by t.usage_report c.deref.result.now c.enter.new.counted.states c.enter.new.counted.journal) triggers ∙
-    ap (λ (ts : List Telling). told_by b ts c.enter.new.counted.states c.enter.new.counted.journal) planned ∙
+    ap (λ (ts : List PendingReport). told_by b ts c.enter.new.counted.states c.enter.new.counted.journal) planned ∙
     ap (λ (states : List KeyState). told_by b (plan p j command) states c.enter.new.counted.journal) entered ∙
     ap (told_by b (plan p j command) (entered_by (rule_key c.args.change.rule) command s.counted.states)) c.enter.ensures.journal in
     let after : c.tell.new.counted.journal ≡ after_command p j command = journal_commanded p j command c.args.change.rule (parts_of s) c.tell.new.counted.journal c.self.invariant.agrees ready.accepted ready.rule journal in
@@ -153,7 +153,7 @@ returns-clause-answer c =
       brings = ready.rule;
       rules_are = c.change_rules.ensures.active;
       rebound = c.change_rules.ensures.bearers;
-      keys_are = c.tell.ensures.states ∙ ap (λ (t : TriggerSet). left_by t.usage_report c.deref.result.now c.enter.new.counted.states) triggers ∙ ap (λ (ts : List Telling). left_by b ts c.enter.new.counted.states) planned ∙ ap (left_by b (plan p j command)) entered;
+      keys_are = c.tell.ensures.states ∙ ap (λ (t : TriggerSet). left_by t.usage_report c.deref.result.now c.enter.new.counted.states) triggers ∙ ap (λ (ts : List PendingReport). left_by b ts c.enter.new.counted.states) planned ∙ ap (left_by b (plan p j command)) entered;
       triggers_are = triggers;
       shows = subst (Shows p (after_command p j command) (gen (after_command p j command))) (sym table) (table_after p j command (arc_value s.table) (option_map (λ t. arc_value t) c.args.change.table) c.self.invariant.agrees.table_shows ready.table);
     } in

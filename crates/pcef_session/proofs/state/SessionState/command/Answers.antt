@@ -1,10 +1,10 @@
 use Rattle.std.proofs.Common.{rules, subst, sym, Err}
 use Rattle.pcef_model.specs.Entries.{Journal}
-use Rattle.pcef_model.specs.Answers.{Does}
-use Rattle.pcef_session.proofs.Commanding.{does_refused}
+use Rattle.pcef_model.specs.Outcomes.{CommandStep}
+use Rattle.pcef_session.proofs.CommandAgrees.{does_refused}
 use Rattle.pcef_session.proofs.state.SessionState.command.Goals as goal
 
 pub returns-in-Err-clause-answer : goal.returns-in-Err-clause-answer
 returns-in-Err-clause-answer c =
-    subst (λ (j : Journal). Does c.args.self.now.setting c.args.command c.args.self.now.journal (Err c.in-Err.refusal) j) (sym c.prepare.ensures.journal)
+    subst (λ (j : Journal). CommandStep c.args.self.now.setting c.args.command c.args.self.now.journal (Err c.in-Err.refusal) j) (sym c.prepare.ensures.journal)
     (does_refused c.args.self.now.setting c.args.self.now.journal c.args.command c.in-Err.refusal (search rules))

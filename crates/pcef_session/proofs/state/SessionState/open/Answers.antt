@@ -1,7 +1,7 @@
 use Rattle.std.proofs.Common.{rules, ◌∙◌, ap, refl}
 use Rattle.pcef_table.specs.Tables.{TableValue}
 use Rattle.pcef_session.proofs.FirstSession.{triggers_first}
-use Rattle.pcef_session.proofs.SoundLater.{sound_opened}
+use Rattle.pcef_session.proofs.InvariantKept.{sound_opened}
 use Rattle.pcef_session.proofs.state.SessionState.open.Goals as goal
 
 pub invariant_of-result : goal.invariant_of-result

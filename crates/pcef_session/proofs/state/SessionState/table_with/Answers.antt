@@ -1,6 +1,6 @@
 use Rattle.std.proofs.Common.{◌≡◌, Some, None, subst, sym, refl, true}
 use Rattle.pcef_model.specs.Refusals.{first_of, refusals}
-use Rattle.pcef_model.specs.Answers.{changes}
+use Rattle.pcef_model.specs.Outcomes.{changes}
 use Rattle.pcef_model.specs.Commands.{activated}
 use Rattle.pcef_model.proofs.Acceptance.{activation_accepted}
 use Rattle.pcef_model.proofs.RulesAfter.{makes_active}

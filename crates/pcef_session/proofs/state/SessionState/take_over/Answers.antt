@@ -7,13 +7,13 @@ use Rattle.std.proofs.Common.{◌≡◌, ◌+◌, ◌≤◌, sym, subst, refl, a
 use Rattle.pcef_model.specs.Entries.{rows}
 use Rattle.pcef_model.specs.Reports.{after_flush}
 use Rattle.pcef_session.specs.SessionModel.{SessionModel}
-use Rattle.pcef_session.specs.private.Taking.{CanCountAll}
+use Rattle.pcef_session.specs.private.TakenRows.{CanCountAll}
 use Rattle.pcef_session.specs.Following.{HasItsSlots, row_of}
 use Rattle.pcef_model.specs.Lawful.{BatchFollows}
 use Rattle.pcef_model.specs.Refusals.{first_of, flush_refusals}
 use Rattle.pcef_session.specs.private.Soundness.{parts_of}
 use Rattle.pcef_model.specs.Terms.{setting_of}
-use Rattle.pcef_session.proofs.Taking.{can_count_all, flushed_journal, sound_flushed, states_agree, within_rows}
+use Rattle.pcef_session.proofs.FlushAgrees.{can_count_all, flushed_journal, sound_flushed, states_agree, within_rows}
 use Rattle.pcef_session.proofs.state.SessionState.take_over.Goals as goal
 
 pub take_all-requires-clause-fits : goal.take_all-requires-clause-fits

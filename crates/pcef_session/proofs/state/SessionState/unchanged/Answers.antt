@@ -1,7 +1,7 @@
 use Rattle.std.proofs.Common.{◌∙◌, ap, refl, subst, sym, true, Ok}
 use Rattle.pcef_model.specs.declared.answer.Accepted.{Accepted}
 use Rattle.pcef_bearer.specs.Bindings.{Binding, bearer_of}
-use Rattle.pcef_model.specs.Answers.{Gives, command_outcome}
+use Rattle.pcef_model.specs.Outcomes.{Gives, command_outcome}
 use Rattle.pcef_model.specs.declared.command.Command.TheVariants.{Activate}
 use Rattle.pcef_model.specs.Journals.{now, report_count}
 use Rattle.pcef_table.specs.Tables.{TableValue}
@@ -9,7 +9,7 @@ use Rattle.pcef_session.specs.Preparing.{IsIdle}
 use Rattle.pcef_session.specs.SessionModel.{SessionModel}
 use Rattle.pcef_session.specs.private.Soundness.{held_of, model_of}
 use Rattle.pcef_session.proofs.BearerLaws.{bearer_bound}
-use Rattle.pcef_session.proofs.Commanding.{outcome_idle}
+use Rattle.pcef_session.proofs.CommandAgrees.{outcome_idle}
 use Rattle.pcef_session.proofs.state.SessionState.unchanged.Goals as goal
 
 pub returns : goal.returns

@@ -2,7 +2,7 @@ use Rattle.std.proofs.Common.{arith, ◌≡◌, ◌<◌, ◌∙◌, ap, sym, sub
 use Rattle.std.proofs.lemmas.List.{length-map}
 use Rattle.pcef_usage.specs.Counted.{Counted}
 use Rattle.pcef_usage.specs.Keys.{state_at}
-use Rattle.pcef_usage.specs.Tellings.{threshold}
+use Rattle.pcef_usage.specs.PendingReports.{threshold}
 use Rattle.pcef_usage.proofs.Loops.{slot_within, knows_slot, threshold_at, threshold_here, told_step, states_step, keys_step, told_end, states_end}
 use Rattle.pcef_usage.proofs.counted.CountedJournal.tell_reached.Goals as goal
 

@@ -1,13 +1,13 @@
 use Rattle.std.proofs.Common.{◌≡◌, ◌≤◌, ◌+◌, drop, length, map}
 use Rattle.pcef_usage.specs.Keys.{keys_of}
-use Rattle.pcef_usage.specs.Tellings.{told, states_told}
+use Rattle.pcef_usage.specs.PendingReports.{appended, states_told}
 use Rattle.pcef_usage.proofs.Loops.{threshold_at}
 use Rattle.pcef_usage.proofs.counted.CountedJournal.tell_reached.Given as goal
 
 abbrev pub invariant-loop-slot : goal.invariant-loop-slot
 invariant-loop-slot l = record {
-  journal : told (drop l.slot-index (map (threshold_at l.initial.self.states) l.reached)) l.self.states l.self.journal ≡
-      told (map (threshold_at l.initial.self.states) l.reached) l.initial.self.states l.initial.self.journal;
+  journal : appended (drop l.slot-index (map (threshold_at l.initial.self.states) l.reached)) l.self.states l.self.journal ≡
+      appended (map (threshold_at l.initial.self.states) l.reached) l.initial.self.states l.initial.self.journal;
   states : states_told (drop l.slot-index (map (threshold_at l.initial.self.states) l.reached)) l.self.states ≡
       states_told (map (threshold_at l.initial.self.states) l.reached) l.initial.self.states;
   keys : keys_of l.self.states ≡ keys_of l.initial.self.states;

@@ -1,0 +1,35 @@
+-- What the value behind a session's lock answers, and the journal after it.
+use Rattle.std.specs.Prelude.{ℕ, ◌≡◌, ◌⊎◌, ◌+◌, false, List, Result, Ok, Err, map}
+use Rattle.pcef_model.specs.Setting.{Setting}
+use Rattle.pcef_model.specs.Entries.{Journal}
+use Rattle.pcef_model.specs.Outcomes.{AttachStep, FinishStep, FlushStep, Gives, FlushAnswer}
+use Rattle.pcef_model.specs.declared.answer.AttachFault.{AttachFault}
+use Rattle.pcef_model.specs.declared.answer.AttachFault.TheVariants.{NoPlace}
+use Rattle.pcef_model.specs.declared.answer.FlushRefusal.{FlushRefusal}
+use Rattle.pcef_model.specs.declared.answer.FlushRefusal.TheVariants.{NotAttached}
+use Rattle.pcef_session.specs.declared.batch.Item.{Item}
+use Rattle.pcef_session.specs.Following.{row_of}
+use Rattle.pcef_share.specs.Amounts.{Account}
+use Rattle.pcef_lock.specs.Lanes.{continues_lane}
+
+-- a worker comes, unless all places were taken
+abbrev pub SeatStep : ℕ → ℕ → Journal → Result ℕ AttachFault → Journal → Type 0
+SeatStep issued places before result after =
+    AttachStep before result after ⊎ ((issued ≡ places + 1) × Gives (Err NoPlace, before) result after)
+
+-- a share more is issued where a worker came
+abbrev pub with_share : {A E : Type 0} → Result A E → Account → Account
+with_share (Ok a) books = record books { issued = books.issued + 1 }
+with_share (Err e) books = books
+
+-- rows are handed over, unless they don't continue their lane
+abbrev pub HandOverStep : Setting → ℕ → List Item → Journal → Result FlushAnswer FlushRefusal → Journal → Type 0
+HandOverStep p worker items before result after =
+    FlushStep p worker (map row_of items) before result after
+    ⊎ ((continues_lane before worker items ≡ false) × Gives (Err NotAttached, before) result after)
+
+-- a worker's last rows are handed over and it leaves, unless they don't continue their lane
+abbrev pub LeaveStep : Setting → ℕ → List Item → Journal → Result (FlushAnswer × ℕ) FlushRefusal → Journal → Type 0
+LeaveStep p worker items before result after =
+    FinishStep p worker (map row_of items) before result after
+    ⊎ ((continues_lane before worker items ≡ false) × Gives (Err NotAttached, before) result after)
