@@ -1,6 +1,7 @@
 pub mod Outcomes
 pub mod Counting
 pub mod Desks
+pub mod Gathering
 pub mod Judging
 pub mod Kept
 pub mod Lanes

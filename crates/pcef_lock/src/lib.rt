@@ -3,6 +3,7 @@
 
 mod counting;
 mod desk;
+mod finished;
 mod lanes;
 mod opening;
 mod publishing;
@@ -13,6 +14,7 @@ mod state;
 mod tests;
 
 pub use desk::{Desk, commands_so_far};
+pub use finished::Finished;
 pub use opening::{SharedFault, opened};
 pub use seat::Seat;
 pub use shared::Shared;

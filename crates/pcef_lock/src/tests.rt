@@ -5,7 +5,7 @@ ghost use Rattle.pcef_session.specs.Shown.{Shows};
 ghost use Rattle.pcef_share.specs.Names.{name_at};
 
 use super::*;
-use pcef_catalog::Listing;
+use pcef_catalog::{Catalog, Detects, Listing, Offers};
 use pcef_filter::read_filter;
 use pcef_model::{Body, Command, Profile};
 use pcef_packet::{Addr, Dir, Header, Ports};
@@ -27,7 +27,7 @@ fn qos() -> Result<Qos, Fail> {
 
 // A session of 10.0.0.2 that takes 1000 rows and 10 commands, and offers no rules.
 fn session(alloc: Global) -> Result<SessionState, Fail>
-    ensures { IfOk result (λ s. s.journal ≡ []) }
+    ensures { IfOk result (λ s. (s.journal ≡ []) × (s.setting.catalog ≡ [])) }
 {
     let profile = Profile {
         ue: Addr::V4(0x0a00_0002),
@@ -99,11 +99,12 @@ fn judged_and_flushed<N: Naming, R: Wait + Drop>(
     requires name { N.ledger ≡ name_at blanks }
     requires setting { session.setting ≡ N.setting }
     requires fresh { session.journal ≡ [] }
+    requires offers { session.setting.catalog ≡ [] }
     requires first { N.first ≡ gen session.journal }
     requires table { Shows session.setting session.journal (gen session.journal) opened.table }
     requires book { (opened.book ≡ N.book) × (opened.root ≡ N.root) }
 {
-    let listing = session.listing().share()?;
+    let catalog = Catalog::new(alloc, Vec::new(alloc))?;
     let Ok((mut state, mut desk)) = State::<N, _>::open(rt, alloc, session, opened, blanks, 2)
     else {
         return Err("the session didn't come behind a lock")?;
@@ -118,11 +119,11 @@ fn judged_and_flushed<N: Naming, R: Wait + Drop>(
     let before = state.totals();
     let mut quick = state.attach()?;
     let mut first = Batch::new(alloc)?;
-    first.push(quick.judge(&listing, 0, &packet(53, 28)));
-    first.push(quick.judge(&listing, 1, &packet(53, 600)));
+    first.push(quick.judge(&catalog, 0, &packet(53, 28)));
+    first.push(quick.judge(&catalog, 1, &packet(53, 600)));
     state.flush(&mut quick, &first)?;
     let mut second = Batch::new(alloc)?;
-    second.push(late.judge(&listing, 0, &packet(54, 40)));
+    second.push(late.judge(&catalog, 0, &packet(54, 40)));
     state.finish(&mut late, &second)?;
     Ok((before, state.totals()))
 }
@@ -148,11 +149,12 @@ fn told_to_the_desk<N: Naming, R: Wait + Drop>(
     requires name { N.ledger ≡ name_at blanks }
     requires setting { session.setting ≡ N.setting }
     requires fresh { session.journal ≡ [] }
+    requires offers { session.setting.catalog ≡ [] }
     requires first { N.first ≡ gen session.journal }
     requires table { Shows session.setting session.journal (gen session.journal) opened.table }
     requires book { (opened.book ≡ N.book) × (opened.root ≡ N.root) }
 {
-    let catalog = Arc::new(alloc, session.listing().share()?)?;
+    let catalog = Arc::new(alloc, Catalog::new(alloc, Vec::new(alloc))?)?;
     let commands = commands_so_far(alloc, &session)?;
     let Ok((state, shares)) = State::<N, _>::open(rt, alloc, session, opened, blanks, 2) else {
         return Err("the session didn't come behind a lock")?;
@@ -166,10 +168,10 @@ fn told_to_the_desk<N: Naming, R: Wait + Drop>(
 }
 
 // The desk installs the rule and monitors its key.
-fn give_commands<N: Naming, W: Board<Slot<N>> + Drop, R: Wait>(
+fn give_commands<C: Offers + Drop, N: Naming, W: Board<Slot<N>> + Drop, R: Wait>(
     rt: &R,
     alloc: Global,
-    shared: &Shared<Listing, N, W>,
+    shared: &Shared<C, N, W>,
     desk: &mut Desk<N>,
 ) -> Result<(), Fail> {
     desk.command(rt, shared, Command::Install(web(alloc)?))?;
@@ -182,10 +184,10 @@ fn give_commands<N: Naming, W: Board<Slot<N>> + Drop, R: Wait>(
 }
 
 // Two workers come, and hand rows over.
-fn handed_over_by_two<N: Naming, W: Board<Slot<N>> + Drop, R: Wait>(
+fn handed_over_by_two<C: Detects + Drop, N: Naming, W: Board<Slot<N>> + Drop, R: Wait>(
     rt: &R,
     alloc: Global,
-    shared: &Shared<Listing, N, W>,
+    shared: &Shared<C, N, W>,
 ) -> Result<(u64, u64), Fail> {
     let one = shared.attach(rt)?;
     let two = shared.attach(rt)?;
@@ -195,9 +197,9 @@ fn handed_over_by_two<N: Naming, W: Board<Slot<N>> + Drop, R: Wait>(
 }
 
 // The octets of the report that the desk asks for, and how many reports come after it.
-fn reported<N: Naming, W: Board<Slot<N>> + Drop, R: Wait>(
+fn reported<C: Offers + Drop, N: Naming, W: Board<Slot<N>> + Drop, R: Wait>(
     rt: &R,
-    shared: &Shared<Listing, N, W>,
+    shared: &Shared<C, N, W>,
     desk: &mut Desk<N>,
 ) -> Result<(u64, u64), Fail> {
     desk.command(rt, shared, Command::ReportNow(KeyName::new("vid")?))?;
@@ -213,10 +215,10 @@ fn reported<N: Naming, W: Board<Slot<N>> + Drop, R: Wait>(
 }
 
 // Hands rows over one by one, each in one hold of the lock, and gives how many were taken over.
-fn handed_over<N: Naming, W: Board<Slot<N>> + Drop, R: Wait>(
+fn handed_over<C: Detects + Drop, N: Naming, W: Board<Slot<N>> + Drop, R: Wait>(
     rt: &R,
     alloc: Global,
-    shared: &Shared<Listing, N, W>,
+    shared: &Shared<C, N, W>,
     mut seat: Seat<N>,
     header: &Header,
     times: u64,
@@ -232,10 +234,10 @@ fn handed_over<N: Naming, W: Board<Slot<N>> + Drop, R: Wait>(
     taken
 }
 
-fn is_handed_over<N: Naming, W: Board<Slot<N>> + Drop, R: Wait>(
+fn is_handed_over<C: Detects + Drop, N: Naming, W: Board<Slot<N>> + Drop, R: Wait>(
     rt: &R,
     alloc: Global,
-    shared: &Shared<Listing, N, W>,
+    shared: &Shared<C, N, W>,
     seat: &mut Seat<N>,
     header: &Header,
     seq: u64,

@@ -1,5 +1,5 @@
-//! Tests of lines, profiles, answers, and of scripts on whole sessions. Their crates have no tests of their own,
-//! since a crate with tests is proved twice.
+//! Tests of lines, profiles, answers, and of scripts as texts. Their crates have no tests of their own, since a crate with
+//! tests is proved twice.
 #![tactic(auto)]
 
 #[cfg(test)]

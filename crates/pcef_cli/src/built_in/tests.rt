@@ -10,7 +10,7 @@ use super::{
     is_remaining, remaining_properties, remaining_shape,
 };
 use crate::tests::{PROFILE, run_on, script_of};
-use pcef_catalog::{Catalog, Detect, Offers, Predefined};
+use pcef_catalog::{Catalog, Detect, Detects, Offers, Predefined};
 use pcef_packet::{Addr, Dir, Header, Ports};
 use std::alloc::Global;
 use std::sync::Arc;

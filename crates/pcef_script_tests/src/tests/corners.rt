@@ -1,6 +1,6 @@
 //! Ends that fail once and would then work again, and lines at fault over several blocks.
 
-use super::PROFILE;
+use pcef_test_scripts::PROFILE;
 use pcef_catalog::Catalog;
 use pcef_profile::read_profile;
 use pcef_script::{ScriptFault, run_script};
@@ -167,7 +167,7 @@ fn two_hundred_lines_at_fault_over_several_blocks(rt: HostRuntime) -> Result<(),
         script.push('\n')?;
         answers.push_str("{\"fault\":3,\"name\":\"NotJson\"}\n")?;
     }
-    let (text, faults) = super::run(alloc, PROFILE, script.as_str())?;
+    let (text, faults) = pcef_test_scripts::run(alloc, PROFILE, script.as_str())?;
     assert_eq!(rt; text.as_str(), answers.as_str());
     assert_eq!(rt; faults, 200);
     Ok(())

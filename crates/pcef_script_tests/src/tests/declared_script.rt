@@ -1,6 +1,6 @@
 //! Scripts of sessions whose profile declares QCIs, with answers worked out by hand.
 
-use super::run;
+use pcef_test_scripts::run;
 use std::test::Fail;
 
 const PROFILE: &str =

@@ -1,6 +1,6 @@
 //! Scripts whose reader or writer fails, after each byte in turn.
 
-use super::PROFILE;
+use pcef_test_scripts::PROFILE;
 use pcef_catalog::Catalog;
 use pcef_profile::read_profile;
 use pcef_script::{ScriptFault, run_script};

@@ -3,7 +3,7 @@
 //! With memory for everything each command is done at once. `rt try --test --fail-alloc N` lets the Nth
 //! allocation fail.
 
-use super::PROFILE;
+use pcef_test_scripts::PROFILE;
 use pcef_catalog::Catalog;
 use pcef_core::World;
 use pcef_line::{Line, read_line};

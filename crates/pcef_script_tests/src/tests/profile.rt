@@ -1,6 +1,6 @@
 //! Profiles whose readings were worked out by hand.
 
-use super::PROFILE;
+use pcef_test_scripts::PROFILE;
 use pcef_packet::Addr;
 use pcef_profile::{ReadProfileFault, read_profile};
 use std::alloc::Global;

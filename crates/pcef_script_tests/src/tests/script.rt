@@ -1,6 +1,6 @@
 //! Scripts and their answers, worked out by hand.
 
-use super::PROFILE;
+use pcef_test_scripts::PROFILE;
 use std::alloc::Global;
 use std::test::Fail;
 
@@ -39,7 +39,7 @@ fn run(alloc: Global, lines: &[&str]) -> Result<(String, u64), Fail> {
     for line in lines {
         script.push_str(*line)?;
     }
-    super::run(alloc, PROFILE, script.as_str())
+    pcef_test_scripts::run(alloc, PROFILE, script.as_str())
 }
 
 #[test]

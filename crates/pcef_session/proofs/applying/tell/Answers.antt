@@ -9,8 +9,8 @@ append_reports-requires-clause-known c =
     subst (λ (keys : List (List ℕ)). KnowsAll keys c.args.all_pending.now) (sym (ap keys_of c.switch_off_reported.ensures.states ∙ keys_all_stopped c.args.all_pending.now c.args.counted.now.states))
     c.requires.known
 
-pub finish-requires : goal.finish-requires
-finish-requires c =
+pub report_thresholds-requires : goal.report_thresholds-requires
+report_thresholds-requires c =
     let many = length_left c.args.counted.now.states _ _ _ c.args.all_pending.now c.args.all_pending.now refl c.switch_off_reported.ensures.states c.append_reports.ensures.states in
     omega (arith, many, c.requires.room, c.switch_off_reported.ensures.room, c.append_reports.ensures.room)
 

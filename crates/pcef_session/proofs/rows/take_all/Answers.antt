@@ -4,8 +4,8 @@ use Rattle.pcef_usage.proofs.Flushed.{length-rows_counted}
 use Rattle.pcef_session.specs.Following.{row_of, slot_of}
 use Rattle.pcef_session.proofs.rows.take_all.Goals as goal
 
-pub finish-requires : goal.finish-requires
-finish-requires c =
+pub report_thresholds-requires : goal.report_thresholds-requires
+report_thresholds-requires c =
     let same = ap (λ (states : List KeyState). length states) c.take_rows.ensures.states ∙ length-rows_counted row_of slot_of c.args.items.now c.args.counted.now.states in
     omega (arith, same, c.take_rows.ensures.room, c.requires.room, c.requires.few)
 

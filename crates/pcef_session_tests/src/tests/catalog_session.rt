@@ -1,6 +1,6 @@
 //! A session with its catalog: each of its calls once.
 
-use super::PROFILE;
+use pcef_test_scripts::PROFILE;
 use pcef_catalog::{Catalog, Offers};
 use pcef_core::Session;
 use pcef_model::{Command, FlushRefusal, Refusal};

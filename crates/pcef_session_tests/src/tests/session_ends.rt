@@ -1,6 +1,6 @@
 //! Keys that are stopped, triggers, lost bearers, and the end of a session, through scripts.
 
-use super::{PROFILE, run, script_of};
+use pcef_test_scripts::{PROFILE, run, script_of};
 use std::alloc::Global;
 use std::process::Abort;
 use std::test::Fail;

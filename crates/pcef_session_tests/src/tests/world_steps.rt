@@ -1,6 +1,6 @@
 //! A session from its first rule to its end: step by step, and as a list of steps.
 
-use super::PROFILE;
+use pcef_test_scripts::PROFILE;
 use pcef_answer::step_answer;
 use pcef_catalog::Catalog;
 use pcef_core::{World, run};

@@ -1,6 +1,6 @@
 //! Scripts of commands, bearers and generations, with answers worked out by hand.
 
-use super::{PROFILE, run, script_of};
+use pcef_test_scripts::{PROFILE, run, script_of};
 use std::alloc::Global;
 use std::test::Fail;
 

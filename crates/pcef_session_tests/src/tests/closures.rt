@@ -4,7 +4,7 @@ ghost use Rattle.std.specs.Prelude.{◌≡◌, [], ◌∷◌};
 ghost use Rattle.pcef_catalog.specs.Shapes.{test_holds};
 ghost use Rattle.pcef_catalog.specs.declared.shape.Test.TheVariants.{Dscp};
 
-use super::{PROFILE, run_on, script_of};
+use pcef_test_scripts::{PROFILE, run_on, script_of};
 use arrayvec::ArrayVec;
 use pcef_catalog::{Alternative, Catalog, Detect, Offers, Predefined, Shape, Test};
 use pcef_core::Session;

@@ -192,7 +192,7 @@ pub(super) fn saturated(alloc: Global) -> Result<(String, String), Fail> {
 fn a_full_session_answers_each_line(rt: HostRuntime) -> Result<(), Fail> {
     let alloc = rt.alloc();
     let (lines, answers) = saturated(alloc)?;
-    let (text, faults) = super::run(alloc, PROFILE, lines.as_str())?;
+    let (text, faults) = pcef_test_scripts::run(alloc, PROFILE, lines.as_str())?;
     assert_eq!(rt; text.as_str(), answers.as_str());
     assert_eq!(rt; faults, 2);
     Ok(())

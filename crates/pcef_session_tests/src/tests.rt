@@ -1,0 +1,8 @@
+//! Sessions from their opening to their end.
+
+mod catalog_session;
+mod closures;
+mod saturated;
+mod session;
+mod session_ends;
+mod world_steps;
