@@ -6,11 +6,11 @@ mod answer;
 mod command;
 mod entry;
 mod laws;
+mod pending_report;
 mod profile;
 mod report;
 mod row;
 mod step;
-mod pending_report;
 mod trigger;
 mod verdict;
 
@@ -21,10 +21,10 @@ pub use laws::{
     bearers_have_their_own_ids, journals_grow, rows_are_lawful, sessions_end_whole, usage_is_exact,
     waiting_rows_stay,
 };
+pub use pending_report::PendingReport;
 pub use profile::{MAX_CAPACITY, MAX_COMMANDS, Profile};
 pub use report::{Body, Cause, InactiveCause, Report};
 pub use row::Row;
 pub use step::Step;
-pub use pending_report::PendingReport;
 pub use trigger::{AccessKind, NoticeValue, OfNotice, TriggerSet};
 pub use verdict::Verdict;

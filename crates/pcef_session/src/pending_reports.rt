@@ -19,7 +19,10 @@ fn is_subscribed(set: TriggerSet, kind: AccessKind) -> bool
 }
 
 /// Adds the report that a command asks for.
-pub(crate) fn add_requested(reports: &mut Vec<PendingReport>, command: &Command) -> Result<(), AllocError>
+pub(crate) fn add_requested(
+    reports: &mut Vec<PendingReport>,
+    command: &Command,
+) -> Result<(), AllocError>
     ensures { OnOk result (reports.new.items ≡ reports.old.items ++ requested command.now) }
 {
     match command {

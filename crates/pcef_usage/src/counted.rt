@@ -10,7 +10,7 @@ ghost use Rattle.pcef_usage.specs.PendingReports.{Knows, KnowsAll, after_stop, a
 
 use crate::usage::{KeyState, Usage};
 use pcef_journal::Journal;
-use pcef_model::{Body, Cause, Entry, InactiveCause, Report, Row, PendingReport};
+use pcef_model::{Body, Cause, Entry, InactiveCause, PendingReport, Report, Row};
 use pcef_rule::{KeyName, Slot};
 use std::alloc::{AllocError, Global};
 use std::marker::Model;

@@ -3,7 +3,7 @@
 ghost use Rattle.std.specs.Prelude.{◌≡◌, ◌<◌, ◌≤◌, ◌+◌, length};
 
 use super::*;
-use pcef_model::{Body, Cause, Command, Entry, Report, Row, PendingReport, Verdict};
+use pcef_model::{Body, Cause, Command, Entry, PendingReport, Report, Row, Verdict};
 use pcef_packet::{Addr, Dir, Header};
 use pcef_rule::{KeyName, Slot};
 use std::process::Abort;

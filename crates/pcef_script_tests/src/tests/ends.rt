@@ -1,9 +1,9 @@
 //! Scripts whose reader or writer fails, after each byte in turn.
 
-use pcef_test_scripts::PROFILE;
 use pcef_catalog::Catalog;
 use pcef_profile::read_profile;
 use pcef_script::{ScriptFault, run_script};
+use pcef_test_scripts::PROFILE;
 use std::alloc::Global;
 use std::io;
 use std::io::{Read, Write};

@@ -3,12 +3,12 @@
 //! With memory for everything each command is done at once. `rt try --test --fail-alloc N` lets the Nth
 //! allocation fail.
 
-use pcef_test_scripts::PROFILE;
 use pcef_catalog::Catalog;
 use pcef_core::World;
 use pcef_line::{Line, read_line};
 use pcef_model::Step;
 use pcef_profile::read_profile;
+use pcef_test_scripts::PROFILE;
 use pcef_world::StepAnswer;
 use std::alloc::{AllocError, Global};
 use std::sync::Arc;

@@ -1,8 +1,8 @@
 //! Profiles whose readings were worked out by hand.
 
-use pcef_test_scripts::PROFILE;
 use pcef_packet::Addr;
 use pcef_profile::{ReadProfileFault, read_profile};
+use pcef_test_scripts::PROFILE;
 use std::alloc::Global;
 
 fn fault_of(alloc: Global, text: &str) -> Option<ReadProfileFault> {

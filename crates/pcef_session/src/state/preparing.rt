@@ -22,9 +22,9 @@ use crate::ended_keys::add_ended_keys;
 use crate::entries::{bearer_for, entry_of};
 use crate::inactive::inactive;
 use crate::keys::{place_of, switched_key, switches_on};
-use crate::pending_reports::{add_requested, add_noticed};
+use crate::pending_reports::{add_noticed, add_requested};
 use crate::prepared::{Activation, Prepared, PreparedChange};
-use pcef_model::{Command, Refusal, PendingReport};
+use pcef_model::{Command, PendingReport, Refusal};
 use pcef_rule::{BearerId, KeyName, RuleName};
 use pcef_table::{Source, Table};
 use std::alloc::{AllocError, Global};
@@ -193,7 +193,11 @@ impl SessionState {
     }
 
     /// What a command reports by itself.
-    fn plan(&self, command: &Command, rule: Option<&Activation>) -> Result<Vec<PendingReport>, AllocError>
+    fn plan(
+        &self,
+        command: &Command,
+        rule: Option<&Activation>,
+    ) -> Result<Vec<PendingReport>, AllocError>
         requires rule { Activates self.now.setting (activated self.now.setting command.now) (option_copied rule) }
         ensures { IfOk result (λ v. v.items ≡ plan self.now.setting self.now.journal command.now) }
     {

@@ -1,12 +1,12 @@
 //! A session with its catalog: each of its calls once.
 
-use pcef_test_scripts::PROFILE;
 use pcef_catalog::{Catalog, Offers};
 use pcef_core::Session;
 use pcef_model::{Command, FlushRefusal, Refusal};
 use pcef_profile::read_profile;
 use pcef_rule::{KeyName, RuleName};
 use pcef_session::Batch;
+use pcef_test_scripts::PROFILE;
 use std::sync::Arc;
 use std::test::Fail;
 

@@ -4,7 +4,6 @@ ghost use Rattle.std.specs.Prelude.{◌≡◌, [], ◌∷◌};
 ghost use Rattle.pcef_catalog.specs.Shapes.{test_holds};
 ghost use Rattle.pcef_catalog.specs.declared.shape.Test.TheVariants.{Dscp};
 
-use pcef_test_scripts::{PROFILE, run_on, script_of};
 use arrayvec::ArrayVec;
 use pcef_catalog::{Alternative, Catalog, Detect, Offers, Predefined, Shape, Test};
 use pcef_core::Session;
@@ -12,6 +11,7 @@ use pcef_model::{Command, Verdict};
 use pcef_packet::{Addr, Dir, Header, Ports};
 use pcef_profile::read_profile;
 use pcef_rule::{Arp, BearerId, Gate, Properties, Qci, Qos, RuleName};
+use pcef_test_scripts::{PROFILE, run_on, script_of};
 use std::sync::Arc;
 use std::sync::atomic::{AtomicU64, Ordering};
 use std::test::Fail;

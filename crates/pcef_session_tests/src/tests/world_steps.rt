@@ -1,12 +1,12 @@
 //! A session from its first rule to its end: step by step, and as a list of steps.
 
-use pcef_test_scripts::PROFILE;
 use pcef_answer::step_answer;
 use pcef_catalog::Catalog;
 use pcef_core::{World, run};
 use pcef_line::{Line, read_line};
 use pcef_model::Step;
 use pcef_profile::read_profile;
+use pcef_test_scripts::PROFILE;
 use std::alloc::{AllocError, Global};
 use std::sync::Arc;
 use std::test::Fail;
