@@ -2,3 +2,5 @@ pub mod FilterLists
 pub mod LineLaws
 pub mod NameTests
 pub mod Objects
+pub mod ShortAnswers
+pub mod ShortSteps

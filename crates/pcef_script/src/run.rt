@@ -14,7 +14,7 @@ ghost use Rattle.pcef_script.specs.Scripts.{Opened};
 
 use crate::fault::ScriptFault;
 use crate::running::{Running, end_line, take_block};
-use pcef_catalog::{Catalog, Detects};
+use pcef_catalog::{Catalog, Detects, Offers};
 use pcef_model::{OpenFault, Profile};
 use pcef_world::WorldState;
 use std::alloc::Global;
@@ -72,6 +72,7 @@ fn run<C: Detects, R: Read, W: Write>(
                     alloc,
                     catalog,
                     &mut script.world,
+                    &mut script.lines,
                     &script.line,
                     script.faults,
                     writer,
