@@ -7,9 +7,12 @@ mod field;
 mod known;
 mod laws;
 mod line;
+mod octets;
 mod reading;
 mod rule;
 mod short;
+#[cfg(test)]
+mod tests;
 mod trigger;
 mod values;
 mod word;

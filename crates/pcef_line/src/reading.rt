@@ -103,6 +103,7 @@ pub fn read_line(alloc: Global, text: &str) -> Result<Line, LineFault>
 #[derive(Drop)]
 pub struct LineReader {
     scratch: Scratch,
+    octets: Vec<u8>,
 }
 
 impl LineReader {
@@ -110,6 +111,7 @@ impl LineReader {
     pub fn new(alloc: Global) -> LineReader {
         LineReader {
             scratch: Scratch::new(alloc),
+            octets: Vec::new(alloc),
         }
     }
 
@@ -118,7 +120,7 @@ impl LineReader {
     pub fn read(&mut self, alloc: Global, text: &str) -> Result<Line, LineFault>
         ensures { (due : Result Line LineFault) × LineOf text.now due × Gives (λ l. l) result due }
     {
-        match short_line(alloc, text, &mut self.scratch) {
+        match short_line(text, &mut self.scratch, &mut self.octets) {
             Some(line) => line,
             None => line_of(alloc, text),
         }

@@ -16,7 +16,6 @@ use crate::line::Line;
 use crate::values::{dir_of, packet_of};
 use json::{Reader, Scratch, Token};
 use pcef_model::Step;
-use std::alloc::Global;
 
 /// The fields that were read of a line that has no others. Of one that stands twice the last value counts.
 #[derive(Clone, Copy)]
@@ -103,15 +102,15 @@ fn fields_of<'a>(reader: &mut Reader<'a>) -> Option<Fields<'a>>
     Some(fields)
 }
 
-fn take(alloc: Global, worker: u8, dir: &str, packet: &str) -> Result<Line, LineFault>
+fn take(octets: &mut Vec<u8>, worker: u8, dir: &str, packet: &str) -> Result<Line, LineFault>
     ensures { Gives (λ l. l) result (taken dir.now packet.now worker) }
 {
     let dir = dir_of(dir, Field::Dir)?;
-    let header = packet_of(alloc, packet, Field::Packet, dir)?;
+    let header = packet_of(octets, packet, Field::Packet, dir)?;
     Ok(Line::Step(Step::Take { worker, header }))
 }
 
-fn line_of(alloc: Global, fields: Fields<'_>) -> Option<Result<Line, LineFault>>
+fn line_of(octets: &mut Vec<u8>, fields: Fields<'_>) -> Option<Result<Line, LineFault>>
     ensures { IfSome result (λ r. Gives (λ l. l) r (line_at reading_of (object (found_in fields.entry)))) }
 {
     let worker = fields.worker?;
@@ -119,21 +118,22 @@ fn line_of(alloc: Global, fields: Fields<'_>) -> Option<Result<Line, LineFault>>
         return None;
     }
     match (fields.word?, fields.dir, fields.packet) {
-        ("take", Some(dir), Some(packet)) => Some(take(alloc, worker, dir, packet)),
+        ("take", Some(dir), Some(packet)) => Some(take(octets, worker, dir, packet)),
         ("refresh", None, None) => Some(Ok(Line::Step(Step::Refresh { worker }))),
         ("flush", None, None) => Some(Ok(Line::Step(Step::Flush { worker }))),
         _ => None,
     }
 }
 
-/// What [`crate::read_line`] answers to a text that is such a line, written as is usual.
+/// What [`crate::read_line`] answers to a text that is such a line, written as is usual. The octets of its packet are
+/// left in `octets`.
 pub(crate) fn short_line(
-    alloc: Global,
     text: &str,
     scratch: &mut Scratch,
+    octets: &mut Vec<u8>,
 ) -> Option<Result<Line, LineFault>>
     ensures { IfSome result (λ r. Gives (λ l. l) r (line_by reading_of text.now)) }
 {
     let mut reader = Reader::new(text, scratch).ok()?;
-    line_of(alloc, fields_of(&mut reader)?)
+    line_of(octets, fields_of(&mut reader)?)
 }

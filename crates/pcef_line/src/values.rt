@@ -10,7 +10,7 @@ ghost use Rattle.pcef_line.specs.LineValues.{Gives, member_at, object_at, list_a
 
 use crate::fault::LineFault;
 use crate::field::Field;
-use hex::FromHexError;
+use crate::octets::decode;
 use pcef_packet::{Dir, Header, read_header};
 use pcef_rule::Name;
 use serde_json::Value;
@@ -127,28 +127,34 @@ pub(crate) fn dir_field(object: &Value, field: Field) -> Result<Dir, LineFault>
     dir_of(text_field(object, field, field)?, field)
 }
 
-/// The octets that a field's text spells in hexadecimal.
-fn octets_of(alloc: Global, text: &str, field: Field) -> Result<Vec<u8>, LineFault>
-    ensures { Gives (λ o. o.items) result (under (λ e. BadHex field) (decode_of text.now)) }
+/// The octets that a field's text spells in hexadecimal, in memory that may be kept for the next ones.
+fn octets_of<'a>(octets: &'a mut Vec<u8>, text: &str, field: Field) -> Result<&'a [u8], LineFault>
+    ensures { Gives (λ o. o.now) result (under (λ e. BadHex field) (decode_of text.now)) }
 {
-    match hex::decode(alloc, text) {
-        Ok(octets) => Ok(octets),
-        Err(FromHexError::OutOfMemory) => Err(LineFault::NoMemory),
-        Err(_) => Err(LineFault::BadHex(field)),
+    let digits = text.as_bytes();
+    if digits.len() % 2 == 1 {
+        return Err(LineFault::BadHex(field));
     }
+    let Ok(()) = octets.resize(digits.len() / 2, 0) else {
+        return Err(LineFault::NoMemory);
+    };
+    if !decode(digits, octets.as_mut_slice()) {
+        return Err(LineFault::BadHex(field));
+    }
+    Ok(octets.as_slice())
 }
 
-/// The header of the packet that a field's text spells.
+/// The header of the packet that a field's text spells. The octets are left in `octets`.
 pub(crate) fn packet_of(
-    alloc: Global,
+    octets: &mut Vec<u8>,
     text: &str,
     field: Field,
     dir: Dir,
 ) -> Result<Header, LineFault>
     ensures { Gives (λ h. h) result (packet_of field dir text.now) }
 {
-    let octets = octets_of(alloc, text, field)?;
-    match read_header(dir, &octets) {
+    let octets = octets_of(octets, text, field)?;
+    match read_header(dir, octets) {
         Ok(header) => Ok(header),
         Err(fault) => Err(LineFault::BadPacket(field, fault)),
     }
@@ -164,5 +170,10 @@ pub(crate) fn packet_field(
 ) -> Result<Header, LineFault>
     ensures { Gives (λ h. h) result (packet_at field dir (view object.now)) }
 {
-    packet_of(alloc, text_field(object, field, field)?, field, dir)
+    packet_of(
+        &mut Vec::new(alloc),
+        text_field(object, field, field)?,
+        field,
+        dir,
+    )
 }
