@@ -6,3 +6,4 @@ pub mod LineShape
 pub mod LineTriggers
 pub mod LineValues
 pub mod LineWords
+pub mod ShortLines

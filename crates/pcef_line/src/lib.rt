@@ -7,8 +7,12 @@ mod field;
 mod known;
 mod laws;
 mod line;
+mod octets;
 mod reading;
 mod rule;
+mod short;
+#[cfg(test)]
+mod tests;
 mod trigger;
 mod values;
 mod word;
@@ -18,4 +22,4 @@ pub use fault::LineFault;
 pub use field::Field;
 pub use laws::one_line;
 pub use line::Line;
-pub use reading::read_line;
+pub use reading::{LineReader, read_line};

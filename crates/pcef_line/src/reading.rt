@@ -15,8 +15,10 @@ use crate::fault::LineFault;
 use crate::field::Field;
 use crate::known::is_known;
 use crate::line::Line;
+use crate::short::short_line;
 use crate::word::Word;
 use crate::worker::{abandon, finish, flush, refresh, take};
+use json::Scratch;
 use pcef_model::{Command, Step};
 use serde_json::Value;
 use std::alloc::Global;
@@ -94,4 +96,33 @@ pub fn read_line(alloc: Global, text: &str) -> Result<Line, LineFault>
     ensures { (due : Result Line LineFault) × LineOf text.now due × Gives (λ l. l) result due }
 {
     line_of(alloc, text)
+}
+
+/// Reads lines, one after another, and keeps the memory that reading takes: some 16 KB, and as much again as the
+/// longest line. `take`, `refresh` and `flush` in their usual form are read in one pass over their text.
+#[derive(Drop)]
+pub struct LineReader {
+    scratch: Scratch,
+    octets: Vec<u8>,
+}
+
+impl LineReader {
+    /// Nothing was read yet. Takes no memory.
+    pub fn new(alloc: Global) -> LineReader {
+        LineReader {
+            scratch: Scratch::new(alloc),
+            octets: Vec::new(alloc),
+        }
+    }
+
+    /// The line that a text is, or its first fault, as [`read_line`] answers it. The reader may go on after a fault.
+    /// Takes memory; want of it is answered in place of any line or fault.
+    pub fn read(&mut self, alloc: Global, text: &str) -> Result<Line, LineFault>
+        ensures { (due : Result Line LineFault) × LineOf text.now due × Gives (λ l. l) result due }
+    {
+        match short_line(text, &mut self.scratch, &mut self.octets) {
+            Some(line) => line,
+            None => line_of(alloc, text),
+        }
+    }
 }

@@ -2,13 +2,15 @@
 
 ghost use Rattle.std.specs.Prelude.{◌≡◌, ◌≤◌, IfOk};
 ghost use Rattle.serde_json.specs.View.{view, items_view};
-ghost use Rattle.pcef_line.specs.declared.fault.LineFault.TheVariants.{BadName};
-ghost use Rattle.pcef_decoding.specs.Readings.{passing};
-ghost use Rattle.pcef_line.specs.LineValues.{Gives, member_at, object_at, list_at, text_at, number_at, flag_at, is_name, name_at, dir_at, octets_at, packet_at};
+ghost use Rattle.hex.specs.Hex.{decode_of};
+ghost use Rattle.pcef_line.specs.declared.fault.LineFault.TheVariants.{BadField, BadHex, BadName};
+ghost use Rattle.pcef_decoding.specs.Readings.{or_fault, passing, under};
+ghost use Rattle.pcef_line.specs.ShortLines.{packet_of};
+ghost use Rattle.pcef_line.specs.LineValues.{Gives, member_at, object_at, list_at, text_at, number_at, flag_at, is_name, name_at, dir_of, dir_at, packet_at};
 
 use crate::fault::LineFault;
 use crate::field::Field;
-use hex::FromHexError;
+use crate::octets::decode;
 use pcef_packet::{Dir, Header, read_header};
 use pcef_rule::Name;
 use serde_json::Value;
@@ -106,32 +108,60 @@ pub(crate) fn name_field<K>(object: &Value, field: Field) -> Result<Name<K>, Lin
     name_of(text_field(object, field, field)?, field)
 }
 
-/// A field's direction.
-#[tactic(auto, unfolding(crate::specs::LineValues::dir_at))]
-pub(crate) fn dir_field(object: &Value, field: Field) -> Result<Dir, LineFault>
-    ensures { Gives (λ d. d) result (dir_at field (view object.now)) }
+/// The direction that a field's text names.
+pub(crate) fn dir_of(text: &str, field: Field) -> Result<Dir, LineFault>
+    ensures { Gives (λ d. d) result (or_fault (BadField field) (dir_of text.now)) }
 {
-    match text_field(object, field, field)? {
+    match text {
         "up" => Ok(Dir::Up),
         "down" => Ok(Dir::Down),
         _ => Err(LineFault::BadField(field)),
     }
 }
 
-/// The octets that a field's text spells in hexadecimal.
-#[tactic(auto, unfolding(crate::specs::LineValues::octets_at))]
-fn octets_field(alloc: Global, object: &Value, field: Field) -> Result<Vec<u8>, LineFault>
-    ensures { Gives (λ o. o.items) result (octets_at field (view object.now)) }
+/// A field's direction.
+#[tactic(auto, unfolding(crate::specs::LineValues::dir_at))]
+pub(crate) fn dir_field(object: &Value, field: Field) -> Result<Dir, LineFault>
+    ensures { Gives (λ d. d) result (dir_at field (view object.now)) }
 {
-    match hex::decode(alloc, text_field(object, field, field)?) {
-        Ok(octets) => Ok(octets),
-        Err(FromHexError::OutOfMemory) => Err(LineFault::NoMemory),
-        Err(_) => Err(LineFault::BadHex(field)),
+    dir_of(text_field(object, field, field)?, field)
+}
+
+/// The octets that a field's text spells in hexadecimal, in memory that may be kept for the next ones.
+fn octets_of<'a>(octets: &'a mut Vec<u8>, text: &str, field: Field) -> Result<&'a [u8], LineFault>
+    ensures { Gives (λ o. o.now) result (under (λ e. BadHex field) (decode_of text.now)) }
+{
+    let digits = text.as_bytes();
+    if digits.len() % 2 == 1 {
+        return Err(LineFault::BadHex(field));
+    }
+    let Ok(()) = octets.resize(digits.len() / 2, 0) else {
+        return Err(LineFault::NoMemory);
+    };
+    if !decode(digits, octets.as_mut_slice()) {
+        return Err(LineFault::BadHex(field));
+    }
+    Ok(octets.as_slice())
+}
+
+/// The header of the packet that a field's text spells. The octets are left in `octets`.
+pub(crate) fn packet_of(
+    octets: &mut Vec<u8>,
+    text: &str,
+    field: Field,
+    dir: Dir,
+) -> Result<Header, LineFault>
+    ensures { Gives (λ h. h) result (packet_of field dir text.now) }
+{
+    let octets = octets_of(octets, text, field)?;
+    match read_header(dir, octets) {
+        Ok(header) => Ok(header),
+        Err(fault) => Err(LineFault::BadPacket(field, fault)),
     }
 }
 
 /// The header of a field's packet.
-#[tactic(auto, unfolding(crate::specs::LineValues::packet_at))]
+#[tactic(auto, unfolding(crate::specs::LineValues::packet_at, crate::specs::LineValues::octets_at))]
 pub(crate) fn packet_field(
     alloc: Global,
     object: &Value,
@@ -140,9 +170,10 @@ pub(crate) fn packet_field(
 ) -> Result<Header, LineFault>
     ensures { Gives (λ h. h) result (packet_at field dir (view object.now)) }
 {
-    let octets = octets_field(alloc, object, field)?;
-    match read_header(dir, &octets) {
-        Ok(header) => Ok(header),
-        Err(fault) => Err(LineFault::BadPacket(field, fault)),
-    }
+    packet_of(
+        &mut Vec::new(alloc),
+        text_field(object, field, field)?,
+        field,
+        dir,
+    )
 }

@@ -44,6 +44,16 @@ some_more bytes line (b ∷ run) flag kept le =
       kept.1 ∙ below line_most (length line) (omega (arith, lt, ap length same)) ∙ sym (below line_most (length (line ++ b ∷ run)) short),
     )
 
+passed : (most n : ℕ) → nat_lt most n ≡ true → most < n
+passed most n is = grind (arith, nat_tests)
+
+-- bytes after a line that is too long already
+pub some_dropped : (bytes line run : List ℕ) (flag : Bool) → IsKept bytes flag line → flag ≡ true → IsKept bytes flag (line ++ run)
+some_dropped bytes line run flag kept is =
+    let long = passed line_most (length line) (sym kept.1 ∙ is) in
+    let longer : line_most < length (line ++ run) = omega (arith, long, length-append line run) in
+    (kept.0 ∙ sym (take-append-le line_most line run (omega (arith, long))), is ∙ sym (above line_most (length (line ++ run)) longer))
+
 pub kept_by : (bytes line : List ℕ) (flag : Bool) (n : ℕ) → IsKept bytes flag line → kept_at_read bytes flag n ≡ kept_of line n
 kept_by bytes line flag n kept = rw (kept.0, kept.1) refl
 

@@ -1,5 +1,6 @@
 pub mod Answering
 pub mod Cuts
+pub mod Feeds
 pub mod KeptLines
 pub mod LineReads
 pub mod ReadBlocks

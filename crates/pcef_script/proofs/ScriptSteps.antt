@@ -9,7 +9,6 @@ use Rattle.std.proofs.lemmas.Bool.{false≢true}
 use Rattle.std.proofs.lemmas.Bool.Decides.{nat_tests}
 use Rattle.pcef_model.specs.Setting.{Setting}
 use Rattle.pcef_model.specs.Refusals.{first_of, open_faults}
-use Rattle.pcef_model.specs.Terms.{setting_of}
 use Rattle.pcef_world.specs.Worlds.{World}
 use Rattle.pcef_script.specs.declared.fault.ScriptFault.{ScriptFault}
 use Rattle.pcef_script.specs.declared.fault.ScriptFault.TheVariants as fault

@@ -6,6 +6,7 @@ ghost use Rattle.pcef_script.specs.declared.fault.ScriptFault.TheVariants.{NoMem
 ghost use Rattle.pcef_script.specs.ScriptLines.{script_most, kept_of, IsKept, Takes, has_feed, is_blank, is_space, within_limit};
 
 use crate::fault::ScriptFault;
+use memchr::memchr;
 use std::alloc::Global;
 use std::marker::Model;
 
@@ -61,12 +62,10 @@ fn plain_len(bytes: &[u8], most: usize) -> usize
     ensures plain { has_feed (take result bytes.now) ≡ false }
 {
     let most = most.min(bytes.len());
-    for n in 0..most {
-        if bytes[n] == b'\n' {
-            return n;
-        }
+    match memchr(b'\n', bytes.split_at(most).0) {
+        Some(place) => place,
+        None => most,
     }
-    most
 }
 
 impl Pending {
@@ -82,15 +81,21 @@ impl Pending {
     }
 
     /// Takes bytes up to the next line feed, fewer where they would pass a limit or find no memory, and gives how
-    /// many. [`Pending::take`] takes the next one, or tells why not.
+    /// many. Those of a line that is too long already are only counted. [`Pending::take`] takes the next one, or tells
+    /// why not.
     pub(crate) fn take_plain(&mut self, bytes: &[u8]) -> usize
         ensures within { result ≤ length bytes.now }
         ensures plain { has_feed (take result bytes.now) ≡ false }
         ensures most { self.old.read ≤ script_most → self.old.read + result ≤ script_most }
         ensures line { (line : List ℕ) → self.old ≡ kept_of line self.old.read → self.new ≡ kept_of (line ++ take result bytes.now) (self.old.read + result) }
     {
-        let line_left = MAX_LINE.saturating_sub(self.bytes.len());
         let script_left = MAX_SCRIPT.saturating_sub(self.read) as usize;
+        if self.is_too_long {
+            let taken = plain_len(bytes, script_left);
+            self.read += taken as u64;
+            return taken;
+        }
+        let line_left = MAX_LINE.saturating_sub(self.bytes.len());
         let taken = plain_len(bytes, line_left.min(script_left));
         match self.bytes.extend_from_slice(bytes.split_at(taken).0) {
             Ok(()) => {

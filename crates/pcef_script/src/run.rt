@@ -72,6 +72,7 @@ fn run<C: Detects, R: Read, W: Write>(
                     alloc,
                     catalog,
                     &mut script.world,
+                    &mut script.lines,
                     &script.line,
                     script.faults,
                     writer,

@@ -14,6 +14,7 @@ use crate::input::Pending;
 use crate::step::{Answer, answer_line, answer_too_long};
 use crate::writing::put_all;
 use pcef_catalog::Detects;
+use pcef_line::LineReader;
 use pcef_world::WorldState;
 use std::alloc::{AllocError, Global};
 use std::io::Write;
@@ -23,6 +24,8 @@ use std::io::Write;
 pub(crate) struct Running {
     /// The session and its workers.
     pub world: WorldState,
+    /// Reads the lines.
+    pub lines: LineReader,
     /// The line that is being read.
     pub line: Pending,
     /// How many lines were at fault.
@@ -41,6 +44,7 @@ fn answer_of<C: Detects>(
     alloc: Global,
     catalog: &C,
     world: &mut WorldState,
+    lines: &mut LineReader,
     line: &Pending,
 ) -> Result<Answer, AllocError>
     requires { C.offers catalog.now ≡ world.old.session.setting.catalog }
@@ -49,7 +53,7 @@ fn answer_of<C: Detects>(
 {
     match line.bytes() {
         None => answer_too_long(alloc),
-        Some(bytes) => answer_line(alloc, catalog, world, bytes),
+        Some(bytes) => answer_line(alloc, catalog, world, lines, bytes),
     }
 }
 
@@ -72,6 +76,7 @@ pub(crate) fn end_line<C: Detects, W: Write>(
     alloc: Global,
     catalog: &C,
     world: &mut WorldState,
+    lines: &mut LineReader,
     line: &Pending,
     faults: u64,
     writer: &mut W,
@@ -84,7 +89,7 @@ pub(crate) fn end_line<C: Detects, W: Write>(
     if line.is_blank() {
         return Ok(faults);
     }
-    match answer_of(alloc, catalog, world, line) {
+    match answer_of(alloc, catalog, world, lines, line) {
         Ok(answer) => tell(writer, &answer, faults),
         Err(_) => Err(ScriptFault::NoMemory),
     }
@@ -110,6 +115,7 @@ fn take_byte<C: Detects, W: Write>(
         alloc,
         catalog,
         &mut script.world,
+        &mut script.lines,
         &script.line,
         script.faults,
         writer,
@@ -172,6 +178,7 @@ impl Running {
     {
         Running {
             world,
+            lines: LineReader::new(alloc),
             line: Pending::new(alloc),
             faults: 0,
         }

@@ -10,7 +10,7 @@ ghost use Rattle.pcef_line.specs.declared.line.Line.TheVariants.{Show};
 
 use pcef_answer::{fault_text, show_answer, step_answer};
 use pcef_catalog::Detects;
-use pcef_line::{Line, LineFault, read_line};
+use pcef_line::{Line, LineFault, LineReader};
 use pcef_model::Step;
 use pcef_world::WorldState;
 use std::alloc::{AllocError, Global};
@@ -102,13 +102,14 @@ fn answer_text<C: Detects>(
     alloc: Global,
     catalog: &C,
     world: &mut WorldState,
+    lines: &mut LineReader,
     text: &str,
 ) -> Result<Answer, AllocError>
     requires { C.offers catalog.now ≡ world.old.session.setting.catalog }
     ensures answer { IfOk result (λ a. AnswersDue (LineOf text.now) world.old.session.setting (standing_of world.old) (string_bytes a.text) a.is_fault (standing_of world.new)) }
     ensures setting { world.new.session.setting ≡ world.old.session.setting }
 {
-    match read_line(alloc, text) {
+    match lines.read(alloc, text) {
         Ok(line) => done(alloc, catalog, world, line),
         Err(at_fault) => read_fault(alloc, at_fault),
     }
@@ -119,6 +120,7 @@ pub(crate) fn answer_line<C: Detects>(
     alloc: Global,
     catalog: &C,
     world: &mut WorldState,
+    lines: &mut LineReader,
     line: &[u8],
 ) -> Result<Answer, AllocError>
     requires { C.offers catalog.now ≡ world.old.session.setting.catalog }
@@ -126,7 +128,7 @@ pub(crate) fn answer_line<C: Detects>(
     ensures setting { world.new.session.setting ≡ world.old.session.setting }
 {
     match str::from_utf8(line) {
-        Ok(text) => answer_text(alloc, catalog, world, text),
+        Ok(text) => answer_text(alloc, catalog, world, lines, text),
         Err(_) => fault(alloc, LineFault::NotUtf8),
     }
 }
