@@ -1,8 +1,9 @@
 //! Capture files in libpcap's savefile format.
 
-ghost use Rattle.std.specs.Prelude.{◌≡◌, ◌<◌, ◌≤◌, ◌⊎◌, IfErr, IfOk, IsOkAnd, Ok as DueOk, Err as DueErr, drop, length, map};
+ghost use Rattle.std.specs.Prelude.{◌≡◌, ◌<◌, ◌≤◌, ◌⊎◌, IfErr, IfOk, Ok as DueOk, Err as DueErr, drop, length, map};
 ghost use Rattle.pcef_capture_file.specs.declared.fault.CaptureFault.TheVariants.{NoMemory};
 ghost use Rattle.pcef_capture_file.specs.Captured.{captured, Reads};
+ghost use Rattle.pcef_capture_file.specs.Captures.{ReadsClassic};
 ghost use Rattle.pcef_capture_file.specs.Classic.{file_header_of, header_behind, line_len, magic_of, record_of, recorded_len};
 
 use crate::endianness::Endianness;
@@ -92,8 +93,8 @@ fn header_behind(
     }
 }
 
-/// The header at the front of a file, which takes 24 octets, or its first fault in the order of
-/// [`CaptureFault`]: `NotACapture`, `CutHeader`, `Version` (2.4 alone is read) or `LinkType`. Of the
+/// The header at the front of a file, which takes 24 octets, or its first fault in this
+/// order: `NotACapture`, `CutHeader`, `Version` (2.4 alone is read) or `LinkType`. Of the
 /// number of the link type the lower 16 bits count. Takes no memory.
 #[tactic(auto, unfolding(crate::specs::Classic::file_header_of))]
 pub fn read_file_header(octets: &[u8]) -> Result<FileHeader, CaptureFault>
@@ -190,8 +191,10 @@ fn behind_header<'a>(
 /// to the first record at fault, which is told beside them. The packets borrow the file's octets; the
 /// list of them takes memory. An `Err` is the fault of the file's header, or `NoMemory`.
 pub fn read_classic<'a>(alloc: Global, octets: &'a [u8]) -> Result<Capture<'a>, CaptureFault>
-    ensures packets { IfOk result (λ capture. IsOkAnd (file_header_of octets.now) (λ header. Reads (record_of header) (drop 24 octets.now) (map captured capture.packets.items) capture.fault)) }
-    ensures fault { IfErr result (λ fault. (fault ≡ NoMemory) ⊎ (file_header_of octets.now ≡ DueErr fault)) }
+    ensures packets { IfOk result (λ capture.
+        ReadsClassic octets.now (map captured capture.packets.items) capture.fault) }
+    ensures fault { IfErr result (λ fault.
+        (fault ≡ NoMemory) ⊎ (file_header_of octets.now ≡ DueErr fault)) }
 {
     match read_file_header(octets) {
         Ok(header) => behind_header(alloc, header, octets),
