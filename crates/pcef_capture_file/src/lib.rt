@@ -24,7 +24,7 @@ pub use direction::direction_of;
 pub use endianness::Endianness;
 pub use fault::CaptureFault;
 pub use frame::ipv4_of;
-pub use laws::one_reading;
+pub use laws::{one_capture, one_reading};
 pub use link::Link;
 pub use packet::{Capture, Packet};
 pub use padding::padded;
