@@ -15,7 +15,7 @@ use clap::Error;
 use counts::Counts;
 use end::End;
 use options::{Options, asked, command};
-use pcef_capture_file::{CaptureFault, read_classic};
+use pcef_capture_file::{CaptureFault, read_capture};
 use std::io::{self, BufWriter, ErrorKind, Write};
 use std::process::ExitCode;
 use std::{env, fs};
@@ -44,7 +44,7 @@ fn run(rt: &HostRuntime, options: &Options<'_>) -> End {
         Ok(file) => file,
         Err(error) => return end_of(&error, End::Read),
     };
-    let capture = match read_classic(alloc, &file) {
+    let capture = match read_capture(alloc, &file) {
         Ok(capture) => capture,
         Err(CaptureFault::NoMemory) => return End::NoMemory,
         Err(fault) => return End::Capture(fault),

@@ -41,7 +41,7 @@ pub fn command<'a>(alloc: Global) -> Result<Command<'a>, AllocError> {
         .value_name("FILE")
         .required(true)
         .action(ArgAction::Set)
-        .help("A capture file in the classic format of libpcap");
+        .help("A capture file: classic pcap, or pcapng");
     Command::new(alloc, "pcef_capture")
         .about("Writes the packets of a capture file as lines of a script of pcef")
         .arg(ue)?

@@ -1,5 +1,16 @@
 //! Lines for packets.
 
+ghost use Rattle.std.specs.Prelude.{◌≡◌, IfOk, OnOk, codes, map, string_bytes};
+ghost use Rattle.std.specs.Io.KnownBytes.{Appends};
+ghost use Rattle.pcef_capture_file.specs.Captured.{captured};
+ghost use Rattle.pcef_capture.specs.declared.counts.Outcome.TheVariants.{Taken};
+ghost use Rattle.pcef_capture_file.specs.Directions.{direction_in};
+ghost use Rattle.pcef_capture_file.specs.Padding.{padded};
+ghost use Rattle.pcef_capture.specs.Fates.{filled_fate};
+ghost use Rattle.pcef_capture.specs.Lines.{dir_word, flush_line, take_line};
+ghost use Rattle.pcef_capture.specs.Turns.{flush_if, lines_at, rest_flush, taken_after, WroteFate, WroteFrame};
+ghost use Rattle.pcef_capture.specs.Writing.{WritesTakes};
+
 use crate::counts::{Counts, Outcome};
 use crate::options::Options;
 use crate::turn::Turn;
@@ -8,15 +19,54 @@ use pcef_packet::{Addr, Dir};
 use std::alloc::Global;
 use std::io::{self, Write};
 
-fn word(dir: Dir) -> &'static str {
+/// The word for a direction.
+fn word(dir: Dir) -> &'static str
+    ensures { result.now ≡ dir_word dir }
+{
     match dir {
         Dir::Up => "up",
         Dir::Down => "down",
     }
 }
 
-fn write_flush<W: Write>(writer: &mut W, worker: u8) -> io::Result<()> {
+/// Writes the line of a flush.
+#[tactic(auto, unfolding(crate::specs::Lines::flush_line))]
+fn write_flush<W: Write>(writer: &mut W, worker: u8) -> io::Result<()>
+    ensures { OnOk result (
+        Appends (W.contents writer.old) (W.contents writer.new) (flush_line worker)) }
+{
     writeln!(writer, "{{\"do\":\"flush\",\"worker\":{worker}}}")
+}
+
+/// Writes the line of a flush, if a worker is to flush.
+fn write_full<W: Write>(writer: &mut W, full: Option<u8>) -> io::Result<()>
+    ensures { OnOk result (
+        Appends (W.contents writer.old) (W.contents writer.new) (flush_if full)) }
+{
+    match full {
+        Some(worker) => write_flush(writer, worker),
+        None => Ok(()),
+    }
+}
+
+/// Writes the line of a packet.
+#[tactic(auto, unfolding(crate::specs::Lines::take_line))]
+fn write_line<W: Write>(
+    alloc: Global,
+    writer: &mut W,
+    worker: u8,
+    dir: Dir,
+    octets: &[u8],
+) -> io::Result<()>
+    ensures { OnOk result (
+        Appends (W.contents writer.old) (W.contents writer.new) (take_line worker (dir, octets.now))) }
+{
+    let packet = hex::encode(alloc, octets)?;
+    let dir = word(dir);
+    writeln!(
+        writer,
+        "{{\"do\":\"take\",\"worker\":{worker},\"dir\":\"{dir}\",\"packet\":\"{packet}\"}}"
+    )
 }
 
 /// Writes the line of a packet, and that of a flush where 32 wait.
@@ -26,17 +76,14 @@ fn write_take<W: Write>(
     turn: &mut Turn,
     dir: Dir,
     octets: &[u8],
-) -> io::Result<Outcome> {
-    let packet = hex::encode(alloc, octets)?;
-    let dir = word(dir);
-    let worker = turn.worker;
-    writeln!(
-        writer,
-        "{{\"do\":\"take\",\"worker\":{worker},\"dir\":\"{dir}\",\"packet\":\"{packet}\"}}"
-    )?;
-    if let Some(full) = turn.take() {
-        write_flush(writer, full)?;
-    }
+) -> io::Result<Outcome>
+    ensures lines { OnOk result (Appends (W.contents writer.old) (W.contents writer.new)
+        (lines_at turn.old (dir, octets.now))) }
+    ensures turn { OnOk result (turn.new ≡ taken_after turn.old) }
+    ensures outcome { IfOk result (λ outcome. outcome ≡ Taken) }
+{
+    write_line(alloc, writer, turn.worker, dir, octets)?;
+    write_full(writer, turn.take())?;
     Ok(Outcome::Taken)
 }
 
@@ -47,7 +94,11 @@ fn write_padded<W: Write>(
     turn: &mut Turn,
     ue: Addr,
     octets: &[u8],
-) -> io::Result<Outcome> {
+) -> io::Result<Outcome>
+    ensures { IfOk result (λ outcome. WroteFate turn.old turn.new
+        (W.contents writer.old) (W.contents writer.new) outcome
+        (filled_fate (padded octets.now) (direction_in ue (padded octets.now)))) }
+{
     let whole = padded(alloc, octets)?;
     match direction_of(ue, &whole) {
         Ok(Some(dir)) => write_take(alloc, writer, turn, dir, &whole),
@@ -56,13 +107,18 @@ fn write_padded<W: Write>(
     }
 }
 
+/// Writes the lines for a frame, if it has any.
 fn write_packet<W: Write>(
     alloc: Global,
     writer: &mut W,
     turn: &mut Turn,
     options: &Options<'_>,
     packet: &Packet<'_>,
-) -> io::Result<Outcome> {
+) -> io::Result<Outcome>
+    ensures { IfOk result (λ outcome.
+        WroteFrame options.now.ue options.now.pads (captured packet.now) turn.old turn.new
+        (W.contents writer.old) (W.contents writer.new) outcome) }
+{
     match content_of(options.ue, packet) {
         Content::Packet(dir, octets) => write_take(alloc, writer, turn, dir, octets),
         Content::Cut(octets) => {
@@ -77,6 +133,18 @@ fn write_packet<W: Write>(
     }
 }
 
+/// Writes the line of a flush where packets wait.
+fn write_rest<W: Write>(writer: &mut W, turn: &Turn) -> io::Result<()>
+    ensures { OnOk result (
+        Appends (W.contents writer.old) (W.contents writer.new) (rest_flush turn.now)) }
+{
+    if turn.waiting == 0 {
+        Ok(())
+    } else {
+        write_flush(writer, turn.worker)
+    }
+}
+
 /// Writes a `take` line for each packet with the session's address on one side, workers in turn, a
 /// `flush` line after every 32, and one at the end where packets wait. What is written isn't flushed.
 pub fn write_takes<W: Write>(
@@ -84,14 +152,16 @@ pub fn write_takes<W: Write>(
     options: &Options<'_>,
     packets: &[Packet<'_>],
     writer: &mut W,
-) -> io::Result<Counts> {
+) -> io::Result<Counts>
+    ensures { IfOk result (λ counts.
+        WritesTakes options.now.ue options.now.pads options.now.workers (map captured packets.now)
+        (W.contents writer.old) (W.contents writer.new) counts) }
+{
     let mut turn = Turn::first(options.workers);
     let mut counts = Counts::default();
     for packet in packets {
         counts.count(write_packet(alloc, writer, &mut turn, options, packet)?);
     }
-    if turn.waiting > 0 {
-        write_flush(writer, turn.worker)?;
-    }
+    write_rest(writer, &turn)?;
     Ok(counts)
 }

@@ -1,1 +1,2 @@
+pub mod BlockReadings
 pub mod Readings

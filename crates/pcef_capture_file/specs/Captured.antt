@@ -1,7 +1,8 @@
 -- Packets, and what it means that they are those of a file.
-use Rattle.std.specs.Prelude.{◌≡◌, ◌<◌, ℕ, List, [], ◌∷◌, length, Option, Some, None, Result, Ok, Err}
+use Rattle.std.specs.Prelude.{◌≡◌, ◌<◌, ℕ, nat_lt, List, [], ◌∷◌, length, take, drop, Option, Some, None, Result, Ok, Err, if◌then◌else◌}
 use Rattle.pcef_capture_file.specs.declared.endianness.Endianness.{Endianness}
 use Rattle.pcef_capture_file.specs.declared.fault.CaptureFault.{CaptureFault}
+use Rattle.pcef_capture_file.specs.declared.fault.CaptureFault.TheVariants as fault
 use Rattle.pcef_capture_file.specs.declared.link.Link.{Link}
 use Rattle.pcef_capture_file.specs.declared.packet.Packet.{Packet}
 
@@ -14,6 +15,12 @@ pub record Captured : Type 0 where
 
 abbrev pub captured : Packet → Captured
 captured p = record { link = p.link; endianness = p.endianness; original = p.original; octets = p.octets.now }
+
+-- the packet of so many octets at the front, and what stands behind it
+unfoldable pub packet_front : Link → Endianness → ℕ → ℕ → List ℕ → Result (Captured × List ℕ) CaptureFault
+packet_front link e recorded line octets =
+    if nat_lt (length octets) recorded then Err fault.CutPacket
+    else Ok (record { link = link; endianness = e; original = line; octets = take recorded octets }, drop recorded octets)
 
 -- The octets are records with these packets, one after another: up to the end where there is no fault,
 -- else up to a record at fault.

@@ -1,7 +1,7 @@
 -- The savefile format of libpcap (pcap-savefile(5); draft-ietf-opsawg-pcap, clauses 4 and 5).
-use Rattle.std.specs.Prelude.{ℕ, ◌+◌, ◌%◌, ◌^◌, ◌==◌, ◌&&◌, nat_lt, Bool, List, length, take, drop, Option, Some, None, Result, Ok, Err, if◌then◌else◌}
+use Rattle.std.specs.Prelude.{ℕ, ◌+◌, ◌%◌, ◌^◌, ◌==◌, ◌&&◌, nat_lt, Bool, List, length, drop, Option, Some, None, Result, Ok, Err, if◌then◌else◌}
 use Rattle.pcef_decoding.specs.Readings.{◌>>=◌, or_fault}
-use Rattle.pcef_capture_file.specs.Captured.{Captured}
+use Rattle.pcef_capture_file.specs.Captured.{Captured, packet_front}
 use Rattle.pcef_capture_file.specs.Links.{link_of}
 use Rattle.pcef_capture_file.specs.Numbers.{number}
 use Rattle.pcef_capture_file.specs.declared.classic.FileHeader.{FileHeader}
@@ -40,13 +40,16 @@ header_behind e scale octets =
 unfoldable pub file_header_of : List ℕ → Result FileHeader CaptureFault
 file_header_of octets = or_fault fault.NotACapture (magic_of octets) >>= (λ magic. header_behind magic.0 magic.1 octets)
 
--- a record: 16 octets, of which octets 8 to 11 are the length of the packet behind them and octets 12 to
--- 15 its length on the line
-unfoldable pub captured_len : FileHeader → List ℕ → ℕ
-captured_len header octets = number header.endianness octets 8 4
+-- octets 8 to 11 of a record's header are the length of the packet behind it, and octets 12 to 15 the length
+-- that it had on the line
+unfoldable pub recorded_len : Endianness → List ℕ → ℕ
+recorded_len e octets = number e octets 8 4
 
+unfoldable pub line_len : Endianness → List ℕ → ℕ
+line_len e octets = number e octets 12 4
+
+-- a record: a header of 16 octets, and the packet
 unfoldable pub record_of : FileHeader → List ℕ → Result (Captured × List ℕ) CaptureFault
 record_of header octets =
     if nat_lt (length octets) 16 then Err fault.CutRecord
-    else if nat_lt (length (drop 16 octets)) (captured_len header octets) then Err fault.CutPacket
-    else Ok (record { link = header.link; endianness = header.endianness; original = number header.endianness octets 12 4; octets = take (captured_len header octets) (drop 16 octets) }, drop (captured_len header octets) (drop 16 octets))
+    else packet_front header.link header.endianness (recorded_len header.endianness octets) (line_len header.endianness octets) (drop 16 octets)

@@ -1,4 +1,7 @@
+pub mod BlockPackets
+pub mod Blocks
 pub mod Captured
+pub mod Captures
 pub mod Classic
 pub mod Contents
 pub mod Directions
@@ -8,3 +11,5 @@ pub mod Laws
 pub mod Links
 pub mod Numbers
 pub mod Padding
+pub mod PcapNg
+pub mod Sections

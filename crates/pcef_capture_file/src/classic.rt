@@ -1,14 +1,15 @@
 //! Capture files in libpcap's savefile format.
 
-ghost use Rattle.std.specs.Prelude.{◌≡◌, ◌<◌, ◌≤◌, ◌⊎◌, IfErr, IfOk, IsOkAnd, MatchResult, Ok as DueOk, Err as DueErr, drop, length, map};
+ghost use Rattle.std.specs.Prelude.{◌≡◌, ◌<◌, ◌≤◌, ◌⊎◌, IfErr, IfOk, Ok as DueOk, Err as DueErr, drop, length, map};
 ghost use Rattle.pcef_capture_file.specs.declared.fault.CaptureFault.TheVariants.{NoMemory};
 ghost use Rattle.pcef_capture_file.specs.Captured.{captured, Reads};
-ghost use Rattle.pcef_capture_file.specs.Classic.{file_header_of, header_behind, magic_of, record_of};
+ghost use Rattle.pcef_capture_file.specs.Captures.{ReadsClassic};
+ghost use Rattle.pcef_capture_file.specs.Classic.{file_header_of, header_behind, line_len, magic_of, record_of, recorded_len};
 
 use crate::endianness::Endianness;
 use crate::fault::CaptureFault;
 use crate::link::Link;
-use crate::packet::{Capture, Packet};
+use crate::packet::{Capture, Packet, packet_at_front};
 use std::alloc::{AllocError, Global};
 
 /// The length of the header of a file, in octets.
@@ -92,8 +93,8 @@ fn header_behind(
     }
 }
 
-/// The header at the front of a file, which takes 24 octets, or its first fault in the order of
-/// [`CaptureFault`]: `NotACapture`, `CutHeader`, `Version` (2.4 alone is read) or `LinkType`. Of the
+/// The header at the front of a file, which takes 24 octets, or its first fault in this
+/// order: `NotACapture`, `CutHeader`, `Version` (2.4 alone is read) or `LinkType`. Of the
 /// number of the link type the lower 16 bits count. Takes no memory.
 #[tactic(auto, unfolding(crate::specs::Classic::file_header_of))]
 pub fn read_file_header(octets: &[u8]) -> Result<FileHeader, CaptureFault>
@@ -106,34 +107,38 @@ pub fn read_file_header(octets: &[u8]) -> Result<FileHeader, CaptureFault>
     }
 }
 
+/// The lengths that the header of a record tells: of the packet behind it as it was recorded, and on the
+/// line.
+#[tactic(auto, unfolding(crate::specs::Classic::recorded_len, crate::specs::Classic::line_len))]
+fn record_lengths(endianness: Endianness, octets: &[u8]) -> (u32, u32)
+    requires { 16 ≤ length octets.now }
+    ensures recorded { result.0 ≡ recorded_len endianness octets.now }
+    ensures line { result.1 ≡ line_len endianness octets.now }
+{
+    let recorded = endianness.number_in_4(octets, 8);
+    let line = endianness.number_in_4(octets, 12);
+    (recorded, line)
+}
+
 /// The packet of the record at the front of the octets, and the octets behind the record; `CutRecord`
 /// where there are fewer than 16 octets, `CutPacket` where the packet goes on beyond them. Takes no
 /// memory.
-#[tactic(auto, unfolding(crate::specs::Classic::record_of, crate::specs::Classic::captured_len))]
+#[tactic(auto, unfolding(crate::specs::Classic::record_of))]
 pub fn read_record<'a>(
     header: FileHeader,
     octets: &'a [u8],
 ) -> Result<(Packet<'a>, &'a [u8]), CaptureFault>
-    ensures record { MatchResult result (λ found. record_of header octets.now ≡ DueOk (captured found.0, found.1.now)) (λ fault. record_of header octets.now ≡ DueErr fault) }
+    ensures packet { IfOk result (λ found.
+        record_of header octets.now ≡ DueOk (captured found.0, found.1.now)) }
+    ensures fault { IfErr result (λ fault. record_of header octets.now ≡ DueErr fault) }
     ensures shorter { IfOk result (λ found. length found.1.now < length octets.now) }
 {
     if octets.len() < RECORD_HEADER_LEN {
         return Err(CaptureFault::CutRecord);
     }
-    let len = header.endianness.number_in_4(octets, 8) as usize;
-    let original = header.endianness.number_in_4(octets, 12);
-    let behind = &octets[RECORD_HEADER_LEN..];
-    if behind.len() < len {
-        return Err(CaptureFault::CutPacket);
-    }
-    let (octets, rest) = behind.split_at(len);
-    let packet = Packet {
-        link: header.link,
-        endianness: header.endianness,
-        original,
-        octets,
-    };
-    Ok((packet, rest))
+    let (recorded, line) = record_lengths(header.endianness, octets);
+    let behind = octets.split_at(RECORD_HEADER_LEN).1;
+    packet_at_front(header.link, header.endianness, recorded, line, behind)
 }
 
 /// The packets of all records.
@@ -186,8 +191,10 @@ fn behind_header<'a>(
 /// to the first record at fault, which is told beside them. The packets borrow the file's octets; the
 /// list of them takes memory. An `Err` is the fault of the file's header, or `NoMemory`.
 pub fn read_classic<'a>(alloc: Global, octets: &'a [u8]) -> Result<Capture<'a>, CaptureFault>
-    ensures packets { IfOk result (λ capture. IsOkAnd (file_header_of octets.now) (λ header. Reads (record_of header) (drop 24 octets.now) (map captured capture.packets.items) capture.fault)) }
-    ensures fault { IfErr result (λ fault. (fault ≡ NoMemory) ⊎ (file_header_of octets.now ≡ DueErr fault)) }
+    ensures packets { IfOk result (λ capture.
+        ReadsClassic octets.now (map captured capture.packets.items) capture.fault) }
+    ensures fault { IfErr result (λ fault.
+        (fault ≡ NoMemory) ⊎ (file_header_of octets.now ≡ DueErr fault)) }
 {
     match read_file_header(octets) {
         Ok(header) => behind_header(alloc, header, octets),

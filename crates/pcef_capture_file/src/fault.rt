@@ -6,7 +6,7 @@ ghost use Rattle.pcef_capture_file.specs.Faults.{fault_number};
 use thiserror::Error;
 
 /// Why a capture file is refused, or read no further. Of several faults the first in the file is
-/// answered, and of those at one place the first in this order.
+/// answered.
 #[derive(Clone, Copy, Debug, PartialEq, Eq, Error)]
 pub enum CaptureFault {
     /// The first four octets are those of no format that is known.
@@ -24,9 +24,22 @@ pub enum CaptureFault {
     /// The file ends within the header of a record.
     #[error("the file ends within the header of a record")]
     CutRecord,
-    /// The file ends within the packet of a record.
-    #[error("the file ends within a packet")]
+    /// The file ends within the packet of a record, or a packet goes on beyond its block.
+    #[error("the file or the block ends within a packet")]
     CutPacket,
+    /// The file ends within a block.
+    #[error("the file ends within a block")]
+    CutBlock,
+    /// The length of a block is no multiple of four, leaves no room for what its type has, or isn't the
+    /// same at both ends.
+    #[error("the length of a block is wrong")]
+    BlockLength,
+    /// The octets that tell the order of a section's numbers are unknown.
+    #[error("the order of the numbers of a section is unknown")]
+    ByteOrder,
+    /// A packet names an interface that its section didn't describe before.
+    #[error("the interface of a packet isn't described")]
+    UnknownInterface,
     /// There is no memory left. It may come before any other.
     #[error("there is no memory left")]
     NoMemory,
@@ -44,7 +57,11 @@ impl CaptureFault {
             CaptureFault::LinkType => 4,
             CaptureFault::CutRecord => 5,
             CaptureFault::CutPacket => 6,
-            CaptureFault::NoMemory => 7,
+            CaptureFault::CutBlock => 7,
+            CaptureFault::BlockLength => 8,
+            CaptureFault::ByteOrder => 9,
+            CaptureFault::UnknownInterface => 10,
+            CaptureFault::NoMemory => 11,
         }
     }
 }

@@ -1,6 +1,9 @@
 //! Reads capture files: the packets that were recorded, and the IPv4 packets in them.
 #![tactic(auto)]
 
+mod block_packet;
+mod blocks;
+mod capture;
 mod classic;
 mod content;
 mod direction;
@@ -11,17 +14,21 @@ mod laws;
 mod link;
 mod packet;
 mod padding;
+mod pcapng;
+mod section;
 
+pub use capture::read_capture;
 pub use classic::{FileHeader, TimeScale, read_classic, read_file_header, read_record};
 pub use content::{Content, content_of};
 pub use direction::direction_of;
 pub use endianness::Endianness;
 pub use fault::CaptureFault;
 pub use frame::ipv4_of;
-pub use laws::one_reading;
+pub use laws::{one_capture, one_reading};
 pub use link::Link;
 pub use packet::{Capture, Packet};
 pub use padding::padded;
+pub use pcapng::read_pcapng;
 
 #[cfg(test)]
 mod tests;

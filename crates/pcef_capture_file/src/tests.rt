@@ -2,3 +2,4 @@
 mod classic;
 mod frames;
 mod packets;
+mod pcapng;

@@ -9,7 +9,7 @@ use Rattle.pcef_capture_file.proofs.classic.records.Goals as goal
 pub returns-in-Err : goal.returns-in-Err
 returns-in-Err c =
     let some : 0 < length c.loop-rest.rest.now = some_length c.loop-rest.rest.now (sym c.is_empty.ensures ∙ c.loop-rest-test.true) in
-    let read = c.loop-rest.invariant [] (Some c.in-Err.fault) (some, c.in-Err.ensures.record) in
+    let read = c.loop-rest.invariant [] (Some c.in-Err.fault) (some, c.in-Err.ensures.fault) in
     subst (λ packets. Reads (record_of c.args.header) c.args.octets.now packets (Some c.in-Err.fault)) (append-nil _) read
 
 pub returns : goal.returns

@@ -1,0 +1,33 @@
+-- What it means that packets are those of a pcapng file (draft-ietf-opsawg-pcapng, clause 3).
+use Rattle.std.specs.Prelude.{◌≡◌, ◌<◌, ℕ, List, [], ◌∷◌, length, Option, Some, None, Result, Ok, Err}
+use Rattle.std.specs.List.{filter_map}
+use Rattle.pcef_decoding.specs.Readings.{◌>>=◌}
+use Rattle.pcef_capture_file.specs.Blocks.{block_of}
+use Rattle.pcef_capture_file.specs.BlockPackets.{packet_of}
+use Rattle.pcef_capture_file.specs.Captured.{Captured}
+use Rattle.pcef_capture_file.specs.Sections.{Standing, at_start, section_after}
+use Rattle.pcef_capture_file.specs.declared.fault.CaptureFault.{CaptureFault}
+
+-- how the section stands behind the block at the front, the packet in the block, and the octets behind it
+unfoldable pub step_of : Standing → List ℕ → Result (Standing × (Option Captured × List ℕ)) CaptureFault
+step_of s octets =
+    block_of s.endianness octets
+    >>= (λ found. section_after s found.0
+    >>= (λ after. packet_of s.interfaces found.0
+    >>= (λ packet. Ok (after, (packet, found.1)))))
+
+-- The octets are blocks one after another, with these packets or none in them: up to the end where there is
+-- no fault, else up to a block at fault.
+abbrev pub ReadsBlocks : Standing → List ℕ → List (Option Captured) → Option CaptureFault → Type 0
+ReadsBlocks s octets [] None = octets ≡ []
+ReadsBlocks s octets [] (Some fault) = (0 < length octets) × (step_of s octets ≡ Err fault)
+ReadsBlocks s octets (found ∷ others) fault =
+    (after : Standing) × (rest : List ℕ) × (step_of s octets ≡ Ok (after, (found, rest))) × ReadsBlocks after rest others fault
+
+-- those that are there
+abbrev pub packets_among : List (Option Captured) → List Captured
+packets_among found = filter_map (λ packet. packet) found
+
+abbrev pub ReadsFile : List ℕ → List Captured → Option CaptureFault → Type 0
+ReadsFile octets packets fault =
+    (found : List (Option Captured)) × ReadsBlocks at_start octets found fault × (packets ≡ packets_among found)

@@ -1,0 +1,54 @@
+-- Sections of a pcapng file and their interfaces (draft-ietf-opsawg-pcapng, clauses 4.1 and 4.2).
+use Rattle.std.specs.Prelude.{ℕ, ◌==◌, ◌&&◌, ◌||◌, nat_lt, Bool, List, [], ◌∷◌, ◌++◌, length, Result, Ok, Err, if◌then◌else◌}
+use Rattle.pcef_decoding.specs.Readings.{◌>>=◌, or_fault}
+use Rattle.pcef_capture_file.specs.Blocks.{Framed}
+use Rattle.pcef_capture_file.specs.Links.{link_of}
+use Rattle.pcef_capture_file.specs.Numbers.{number}
+use Rattle.pcef_capture_file.specs.declared.endianness.Endianness.{Endianness}
+use Rattle.pcef_capture_file.specs.declared.endianness.Endianness.TheVariants.{Big}
+use Rattle.pcef_capture_file.specs.declared.fault.CaptureFault.{CaptureFault}
+use Rattle.pcef_capture_file.specs.declared.fault.CaptureFault.TheVariants as fault
+use Rattle.pcef_capture_file.specs.declared.section.Interface.{Interface}
+use Rattle.pcef_capture_file.specs.declared.section.Section.{Section}
+
+-- how a section stands: the order of its numbers, and the interfaces that were described so far
+pub record Standing : Type 0 where
+  pub endianness : Endianness
+  pub interfaces : List Interface
+
+abbrev pub standing : Section → Standing
+standing section = record { endianness = section.endianness; interfaces = section.interfaces.items }
+
+-- before the first section header, which tells the order
+abbrev pub at_start : Standing
+at_start = record { endianness = Big; interfaces = [] }
+
+-- The version stands in octets 4 to 7 of the body, two numbers. It is 1.0, and 1.2 means the same.
+unfoldable pub is_section_version : Framed → Bool
+is_section_version block =
+    (number block.endianness block.body 4 2 == 1)
+    && ((number block.endianness block.body 6 2 == 0) || (number block.endianness block.body 6 2 == 2))
+
+-- a section header has 16 octets and options, and describes no interface
+unfoldable pub section_in : Framed → Result Standing CaptureFault
+section_in block =
+    if nat_lt (length block.body) 16 then Err fault.BlockLength
+    else if is_section_version block then Ok (record { endianness = block.endianness; interfaces = [] })
+    else Err fault.Version
+
+-- An interface description has 8 octets and options: the link type is octets 0 and 1, the most octets that
+-- are recorded of a frame are octets 4 to 7.
+unfoldable pub interface_in : Framed → Result Interface CaptureFault
+interface_in block =
+    if nat_lt (length block.body) 8 then Err fault.BlockLength
+    else or_fault fault.LinkType (link_of (number block.endianness block.body 0 2))
+    >>= (λ link. Ok (record { link = link; snap_len = number block.endianness block.body 4 4 }))
+
+-- Behind a section header, of type 0x0A0D0D0A, another section stands, behind an interface description, of
+-- type 1, one interface more; other blocks leave it as it is.
+unfoldable pub section_after : Standing → Framed → Result Standing CaptureFault
+section_after s block =
+    if block.kind == 168627466 then section_in block
+    else if block.kind == 1
+    then interface_in block >>= (λ interface. Ok (record { endianness = s.endianness; interfaces = s.interfaces ++ interface ∷ [] }))
+    else Ok s
