@@ -1,5 +1,6 @@
 //! A session of two workers behind its lock, whose octets were counted by hand.
 ghost use Rattle.std.specs.Prelude.{◌≡◌, [], IfOk};
+ghost use Rattle.std.specs.Arc.{arc_value};
 ghost use Rattle.pcef_model.specs.Journals.{gen};
 ghost use Rattle.pcef_session.specs.Shown.{Shows};
 ghost use Rattle.pcef_share.specs.Names.{name_at};
@@ -132,16 +133,25 @@ fn judged_and_flushed<N: Naming, R: Wait + Drop>(
 fn two_workers_hand_over_and_the_desk_is_told(rt: HostRuntime) -> Result<(), Fail> {
     let session = session(rt.alloc())?;
     let opened = opened(&session)?;
-    let told = told_to_the_desk::<Brand, _>(&rt, rt.alloc(), session, opened, Blanks::new())?;
+    let catalog = Arc::new(rt.alloc(), Catalog::new(rt.alloc(), Vec::new(rt.alloc()))?)?;
+    let told = told_to_the_desk::<Catalog, Brand, _>(
+        &rt,
+        rt.alloc(),
+        catalog,
+        session,
+        opened,
+        Blanks::new(),
+    )?;
     assert_eq!(rt; told, [200, 100, 65_600, 0, 3]);
     Ok(())
 }
 
 // How many rows of 28 octets one worker hands over and how many of 600 the other, what a report that is then asked for
 // says of their key, how many reports come after it, and how many commands the desk has.
-fn told_to_the_desk<N: Naming, R: Wait + Drop>(
+fn told_to_the_desk<C: Detects + Drop, N: Naming, R: Wait + Drop>(
     rt: &R,
     alloc: Global,
+    catalog: Arc<C>,
     session: SessionState,
     opened: Opened,
     blanks: Blanks,
@@ -149,12 +159,11 @@ fn told_to_the_desk<N: Naming, R: Wait + Drop>(
     requires name { N.ledger ≡ name_at blanks }
     requires setting { session.setting ≡ N.setting }
     requires fresh { session.journal ≡ [] }
-    requires offers { session.setting.catalog ≡ [] }
+    requires offers { C.offers (arc_value catalog) ≡ session.setting.catalog }
     requires first { N.first ≡ gen session.journal }
     requires table { Shows session.setting session.journal (gen session.journal) opened.table }
     requires book { (opened.book ≡ N.book) × (opened.root ≡ N.root) }
 {
-    let catalog = Arc::new(alloc, Catalog::new(alloc, Vec::new(alloc))?)?;
     let commands = commands_so_far(alloc, &session)?;
     let Ok((state, shares)) = State::<N, _>::open(rt, alloc, session, opened, blanks, 2) else {
         return Err("the session didn't come behind a lock")?;
