@@ -1,4 +1,5 @@
 pub mod DottedDecimal
+pub mod Explanations
 pub mod ProfileKeys
 pub mod ProfileOf
 pub mod ProfileValues

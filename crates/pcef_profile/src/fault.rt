@@ -1,6 +1,7 @@
 //! Why a profile can't be read.
 
 ghost use Rattle.std.specs.Prelude.{◌≡◌};
+ghost use Rattle.pcef_profile.specs.Explanations.{fault_name};
 ghost use Rattle.pcef_profile.specs.ProfileOf.{fault_number};
 ghost use Rattle.pcef_profile.specs.declared.fault.ReadProfileFault.TheVariants.{NoMemory};
 
@@ -43,6 +44,21 @@ impl<T: Drop> From<AllocFailed<T>> for ReadProfileFault {
 }
 
 impl ReadProfileFault {
+    /// The name of the fault.
+    pub fn name(self) -> &'static str
+        ensures { result.now ≡ fault_name self }
+    {
+        match self {
+            ReadProfileFault::NotToml => "NotToml",
+            ReadProfileFault::UnknownKey => "UnknownKey",
+            ReadProfileFault::Missing => "Missing",
+            ReadProfileFault::BadValue => "BadValue",
+            ReadProfileFault::UnknownQci => "UnknownQci",
+            ReadProfileFault::DefaultIsGbr => "DefaultIsGbr",
+            ReadProfileFault::NoMemory => "NoMemory",
+        }
+    }
+
     /// The number of the fault, 1 to 7.
     pub fn number(self) -> u8
         ensures { result ≡ fault_number self }

@@ -2,11 +2,14 @@
 #![tactic(auto)]
 
 mod address;
+mod explaining;
 mod fault;
 mod key;
 mod reading;
 mod shape;
 mod values;
+mod wanted;
 
+pub use explaining::explain;
 pub use fault::ReadProfileFault;
 pub use reading::read_profile;

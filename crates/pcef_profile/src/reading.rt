@@ -11,13 +11,11 @@ use crate::fault::ReadProfileFault;
 use crate::key::Key;
 use crate::shape::{is_known, is_whole};
 use crate::values::{address_at, capacity_at, declarations_at, number_at, qos_at};
+use crate::wanted::MAX_ROWS;
 use pcef_model::{MAX_CAPACITY, MAX_COMMANDS, Profile};
 use pcef_rule::{Kind, Qci, QciFault, QciTable};
 use std::alloc::Global;
 use toml::Table;
-
-/// The most rows of a journal.
-const MAX_ROWS: u64 = 4_294_967_295;
 
 /// The kinds of the QCIs with those that a profile declares.
 fn declared_qcis(declared: &[(u8, Kind)]) -> Result<QciTable, ReadProfileFault>

@@ -7,6 +7,8 @@ ghost use Rattle.pcef_decoding.specs.Readings.{if_there, names_one_of};
 ghost use Rattle.pcef_profile.specs.ProfileKeys.{key_text, keys_of_declared, inner_of, entries_of, each_table, keys_known, keys_there, is_known, is_whole};
 
 use crate::key::Key;
+use std::alloc::{AllocError, Global};
+use std::fmt::{self, Display, Formatter, Write};
 use toml::{Table, Value};
 
 const OF_PROFILE: &[Key] = &[
@@ -40,7 +42,7 @@ pub(crate) fn entry(table: &Table, key: Key) -> Option<&Value>
 }
 
 /// The table at a key. A value of another kind is judged later.
-fn inner(table: &Table, key: Key) -> Option<&Table>
+pub(crate) fn inner(table: &Table, key: Key) -> Option<&Table>
     ensures { option_map (λ t. table_view t.now) result ≡ inner_of key (table_view table.now) }
 {
     entry(table, key)?.as_table()
@@ -122,4 +124,77 @@ pub(crate) fn is_whole(table: &Table) -> bool
         && inner(table, Key::Default).is_none_or(|table| keys_are_there(OF_DEFAULT, table))
         && inner(table, Key::Capacity).is_none_or(|table| keys_are_there(OF_CAPACITY, table))
         && entries(table, Key::Declared).is_none_or(|values| entries_are_whole(values))
+}
+
+/// Which table of a profile.
+#[derive(Clone, Copy)]
+pub(crate) enum Level {
+    Profile,
+    Default,
+    Capacity,
+    /// An entry of the array of declared QCIs, counted from 1.
+    Declared(usize),
+}
+
+impl Level {
+    /// The keys that the table may have.
+    pub(crate) fn keys(self) -> &'static [Key] {
+        match self {
+            Level::Profile => OF_PROFILE,
+            Level::Default => OF_DEFAULT,
+            Level::Capacity => OF_CAPACITY,
+            Level::Declared(_) => OF_DECLARED,
+        }
+    }
+
+    /// The keys that it must have.
+    pub(crate) fn needed(self) -> &'static [Key] {
+        match self {
+            Level::Profile => NEEDED_OF_PROFILE,
+            _ => self.keys(),
+        }
+    }
+
+    /// The same in words.
+    pub(crate) fn expected(self) -> &'static str {
+        match self {
+            Level::Profile => "ue, rows, commands, default, capacity or declared",
+            Level::Default => "qci, level, capability or vulnerability",
+            Level::Capacity => "up or down",
+            Level::Declared(_) => "qci or kind",
+        }
+    }
+}
+
+impl Display for Level {
+    fn fmt<W: Write>(&self, f: &mut Formatter<W>) -> fmt::Result {
+        match self {
+            Level::Profile => Ok(()),
+            Level::Default => f.write_str("default."),
+            Level::Capacity => f.write_str("capacity."),
+            Level::Declared(number) => write!(f, "declared[{number}]."),
+        }
+    }
+}
+
+/// The tables of a profile that are there.
+pub(crate) fn levels(alloc: Global, table: &Table) -> Result<Vec<(Level, &Table)>, AllocError> {
+    let mut levels = Vec::new(alloc);
+    levels.push((Level::Profile, table))?;
+    if let Some(table) = inner(table, Key::Default) {
+        levels.push((Level::Default, table))?;
+    }
+    if let Some(table) = inner(table, Key::Capacity) {
+        levels.push((Level::Capacity, table))?;
+    }
+    if let Some(values) = entries(table, Key::Declared) {
+        let mut number = 0usize;
+        for value in values {
+            number = number.saturating_add(1);
+            if let Some(table) = value.as_table() {
+                levels.push((Level::Declared(number), table))?;
+            }
+        }
+    }
+    Ok(levels)
 }

@@ -1,0 +1,189 @@
+//! Says why a text is no profile.
+
+ghost use Rattle.std.specs.Prelude.{◌≡◌, IfOk, string_bytes};
+ghost use Rattle.pcef_profile.specs.Explanations.{Explains};
+
+use crate::fault::ReadProfileFault;
+use crate::key::Key;
+use crate::shape::{Level, entry, inner, levels};
+use crate::wanted::{Shown, Wanted, is_plain, wanted_at};
+use std::alloc::{AllocError, Global};
+use toml::de::Error;
+use toml::{Table, Value};
+
+/// The line of a place in a text, counted from 1, and what stands there.
+fn line_at(text: &str, place: usize) -> (usize, &str) {
+    let mut number = 1usize;
+    for octet in text.as_bytes().iter().take(place) {
+        if *octet == b'\n' {
+            number = number.saturating_add(1);
+        }
+    }
+    match text.lines().nth(number.saturating_sub(1)) {
+        Some(line) => (number, line),
+        None => (number, ""),
+    }
+}
+
+/// What is told of a text that isn't TOML: the line, and what the reader of TOML says.
+fn not_toml(alloc: Global, text: &str, error: &Error) -> Result<String, AllocError> {
+    let place = match error.span() {
+        Some(span) => span.start,
+        None => 0,
+    };
+    let (number, line) = line_at(text, place);
+    let message = error.message();
+    if line.is_empty() || !is_plain(line) {
+        return format!(in alloc; "line {number}: {message}");
+    }
+    format!(in alloc; "line {number}: {line}: {message}")
+}
+
+/// The first key that a table may not have.
+fn unknown_key(alloc: Global, table: &Table) -> Result<Option<String>, AllocError> {
+    for (level, table) in levels(alloc, table)? {
+        for text in table.keys() {
+            if !level.keys().iter().any(|key| key.text() == text.as_str()) {
+                let text = if is_plain(text.as_str()) {
+                    text.as_str()
+                } else {
+                    ".."
+                };
+                let keys = level.expected();
+                return Ok(Some(format!(in alloc; "{level}{text}: {keys} is expected")?));
+            }
+        }
+    }
+    Ok(None)
+}
+
+/// The first key that a table lacks.
+fn missing_key(alloc: Global, table: &Table) -> Result<Option<String>, AllocError> {
+    for (level, table) in levels(alloc, table)? {
+        for key in level.needed() {
+            if entry(table, *key).is_none() {
+                let text = key.text();
+                let wanted = wanted_at(level, *key);
+                return Ok(Some(format!(in alloc; "{level}{text}: {wanted} is expected")?));
+            }
+        }
+    }
+    Ok(None)
+}
+
+fn told(
+    alloc: Global,
+    level: Level,
+    key: Key,
+    value: &Value,
+    wanted: Wanted,
+) -> Result<String, AllocError> {
+    let text = key.text();
+    let found = Shown(value);
+    format!(in alloc; "{level}{text} = {found}: {wanted} is expected")
+}
+
+/// The first value of a wrong kind or out of its range.
+fn value_out_of_range(alloc: Global, table: &Table) -> Result<Option<String>, AllocError> {
+    for (level, table) in levels(alloc, table)? {
+        for key in level.keys() {
+            if let Some(value) = entry(table, *key) {
+                let wanted = wanted_at(level, *key);
+                if !wanted.is(value) {
+                    return Ok(Some(told(alloc, level, *key, value, wanted)?));
+                }
+            }
+        }
+    }
+    Ok(None)
+}
+
+/// The first entry of an array that is no table, or has the QCI of an earlier one.
+fn entry_at_fault(alloc: Global, values: &[Value]) -> Result<Option<String>, AllocError> {
+    let mut seen = Vec::new(alloc);
+    let mut number = 0usize;
+    for value in values {
+        number = number.saturating_add(1);
+        let Some(inner) = value.as_table() else {
+            let found = Shown(value);
+            return Ok(Some(format!(in alloc;
+                "declared[{number}] = {found}: a table is expected"
+            )?));
+        };
+        if let Some(qci) = entry(inner, Key::Qci).and_then(|value| value.as_integer()) {
+            if seen.contains(&qci) {
+                return Ok(Some(format!(in alloc;
+                    "declared[{number}].qci = {qci}: each QCI once is expected"
+                )?));
+            }
+            seen.push(qci)?;
+        }
+    }
+    Ok(None)
+}
+
+fn bad_value(alloc: Global, table: &Table) -> Result<Option<String>, AllocError> {
+    if let Some(told) = value_out_of_range(alloc, table)? {
+        return Ok(Some(told));
+    }
+    match entry(table, Key::Declared).and_then(|value| value.as_array()) {
+        Some(values) => entry_at_fault(alloc, values.as_slice()),
+        None => Ok(None),
+    }
+}
+
+/// What is told of the default QCI.
+fn default_qci(alloc: Global, table: &Table, expected: &str) -> Result<Option<String>, AllocError> {
+    match inner(table, Key::Default).and_then(|table| entry(table, Key::Qci)) {
+        Some(value) => {
+            let found = Shown(value);
+            Ok(Some(format!(in alloc; "default.qci = {found}: {expected} is expected")?))
+        }
+        None => Ok(None),
+    }
+}
+
+fn of_table(
+    alloc: Global,
+    table: &Table,
+    fault: ReadProfileFault,
+) -> Result<Option<String>, AllocError> {
+    match fault {
+        ReadProfileFault::UnknownKey => unknown_key(alloc, table),
+        ReadProfileFault::Missing => missing_key(alloc, table),
+        ReadProfileFault::BadValue => bad_value(alloc, table),
+        ReadProfileFault::UnknownQci => {
+            default_qci(alloc, table, "a QCI that is standard or declared")
+        }
+        ReadProfileFault::DefaultIsGbr => {
+            default_qci(alloc, table, "a QCI without guaranteed bit rate")
+        }
+        ReadProfileFault::NotToml | ReadProfileFault::NoMemory => Ok(None),
+    }
+}
+
+/// What is found and expected at the place of a fault.
+fn details(alloc: Global, text: &str, fault: ReadProfileFault) -> Result<String, AllocError> {
+    let told = match toml::table_from_str(alloc, text) {
+        Ok(table) => of_table(alloc, &table, fault)?,
+        Err(error) if error.is_memory() => return Err(AllocError),
+        Err(error) => Some(not_toml(alloc, text, &error)?),
+    };
+    match told {
+        Some(told) => Ok(told),
+        None => format!(in alloc; "{fault}"),
+    }
+}
+
+/// A line for people that says why [`crate::read_profile`] answers a fault to a text: the fault's name, the key or the
+/// line, what was found there, and what is expected. It has no line feed at its end.
+///
+/// Takes memory for the line, and for the text as TOML.
+pub fn explain(alloc: Global, text: &str, fault: ReadProfileFault) -> Result<String, AllocError>
+    ensures { IfOk result (λ line. Explains fault (string_bytes line)) }
+{
+    let mut line = String::from_str(alloc, fault.name())?;
+    line.push_str(": ")?;
+    line.push_str(details(alloc, text, fault)?.as_str())?;
+    Ok(line)
+}
