@@ -2,8 +2,8 @@
 use Rattle.std.proofs.Common.{◌≡◌, ◌≢◌, ℕ, suc, ◌+◌, ◌-◌, ◌<◌, ◌≤◌, ◌^◌, Bool, true, false, None, nat_lt, add-one, take-suc, List, [], ◌∷◌, ◌++◌, length, Option, refl, sym, ap, ◌∙◌, subst, append_assoc, append-nil, arith, length-append, take, drop, get_or, take-append-drop, inl, inr}
 use Rattle.std.specs.Result.{is_ok}
 use Rattle.std.specs.Prelude.{IfErr, IfOk, Result, Ok, Err}
-use Rattle.std.specs.Io.KnownBytes.{Appends, IsAtEnd}
-use Rattle.std.proofs.KnownBytes.{Appends-nil, Appends-trans}
+use Rattle.std.specs.Io.KnownBytes.{Appends, IsAtEnd, Keeps}
+use Rattle.std.proofs.KnownBytes.{Appends-kept, Appends-nil, Appends-trans}
 use Rattle.std.proofs.lemmas.List.{at_drop_more, length-take, take_at}
 use Rattle.std.proofs.lemmas.Bool.{false≢true}
 use Rattle.std.proofs.lemmas.Bool.Decides.{nat_tests}
@@ -19,6 +19,7 @@ use Rattle.pcef_script.specs.Running.{EndFails, EndsLine, IsAfter, OpenFails, St
 use Rattle.pcef_script.specs.Scripts.{Opened, Ran, Wrote, all_lines, cut, ended_lines, last_line}
 use Rattle.pcef_script.proofs.Answering.{answered_more, answers_more, front_after}
 use Rattle.pcef_script.proofs.Cuts.{cut_end, cut_plain, cut_run}
+use Rattle.pcef_script.proofs.Feeds.{last_feed}
 
 one_longer : (input : List ℕ) (b : ℕ) → length (input ++ b ∷ []) ≡ length input + 1
 one_longer input b = length-append input (b ∷ [])
@@ -216,6 +217,23 @@ stopped_in p fault.TooMuch start b left input block h =
     (longer (length (input ++ block)) (length (input ++ h.0)) (length h.2) len h.4.0, h.4.1, subst (λ t. Wrote p (ended_lines t) h.4.1 start b) (sym front) h.4.2)
 stopped_in p fault.Read start b left input block h = absurd h.4
 stopped_in p (fault.Profile _) start b left input block h = absurd h.4
+
+-- the line feeds that are read end the lines up to the last one
+ended_by_last : (input front rest : List ℕ) → has_feed rest ≡ false → ended_lines (input ++ (front ++ 10 ∷ rest)) ≡ all_lines (input ++ front)
+ended_by_last input front rest none =
+    let whole : input ++ (front ++ 10 ∷ rest) ≡ ((input ++ front) ++ 10 ∷ []) ++ rest = regroup input front rest 10 ∙ sym (append_assoc (input ++ front) (10 ∷ []) rest) in
+    ap ended_lines whole
+    ∙ ap (λ (c : List (List ℕ) × List ℕ). c.0) (cut_run ((input ++ front) ++ 10 ∷ []) rest none)
+    ∙ ap (λ (c : List (List ℕ) × List ℕ). c.0) (cut_end (input ++ front))
+
+-- the answers are written, and can't be flushed
+pub flush_fails : (p : Setting) (start now new : Option (List ℕ)) (line : Kept) (faults : ℕ) (w : World) (input block : List ℕ) → IsAfter p start now line faults w (input ++ block) → Keeps now new → has_feed block ≡ true
+    → StoppedIn p fault.Write start new input block
+flush_fails p start now new line faults w input block h kept some =
+    let c = last_feed block some in
+    let lines : ended_lines (input ++ block) ≡ all_lines (input ++ c.0) = ap (λ t. ended_lines (input ++ t)) c.2 ∙ ended_by_last input c.0 c.1 c.3 in
+    let answers = subst (λ ls. Answers p at_start (answered ls) h.text faults (standing_of w)) lines h.answers in
+    (c.0, 10, c.1, c.2, (refl, (h.text, faults, standing_of w, answers, (h.text, [], sym (append-nil h.text), Appends-kept start now new h.text h.written kept))))
 
 -- ---- the session was opened before
 pub opened_stopped : (p q : Setting) (e : ScriptFault) (start b : Option (List ℕ)) (input block : List ℕ) → StoppedIn p e start b input block → first_of (open_faults q) ≡ None → Opened {A = ℕ} q (Err e)

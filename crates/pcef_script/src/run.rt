@@ -13,7 +13,7 @@ ghost use Rattle.pcef_script.specs.Runs.{Runs};
 ghost use Rattle.pcef_script.specs.Scripts.{Opened};
 
 use crate::fault::ScriptFault;
-use crate::running::{Running, end_line, take_block};
+use crate::running::{Running, answer_block, end_line};
 use pcef_catalog::{Catalog, Detects, Offers};
 use pcef_model::{OpenFault, Profile};
 use pcef_world::WorldState;
@@ -78,7 +78,7 @@ fn run<C: Detects, R: Read, W: Write>(
                     writer,
                 );
             }
-            Ok(n) => take_block(alloc, catalog, &mut script, writer, &block[..n])?,
+            Ok(n) => answer_block(alloc, catalog, &mut script, writer, &block[..n])?,
             Err(_) => return Err(ScriptFault::Read),
         }
     }
@@ -87,12 +87,14 @@ fn run<C: Detects, R: Read, W: Write>(
 /// Answers each line of a script on a session of its own, and gives the number of lines at fault.
 ///
 /// A line feed ends a line, and so does the end of input; there is no answer to a line of spaces, tabs and CR alone.
-/// A line has at most 262,144 bytes, of which no more are kept, and a script 1,073,741,824. Reads in blocks of 8,192
-/// bytes, the last of which ends one byte after those that a script may have, and writes each answer when its line has ended, without flushing the writer. Takes memory for the line, the
-/// answer and what the session keeps.
+/// A line has at most 262,144 bytes, of which no more are kept, and a script 1,073,741,824. Reads in blocks of at most
+/// 8,192 bytes, the last of which ends one byte after those that a script may have, and writes each answer when its
+/// line has ended. Flushes the writer after each block in which a line ended, so that whoever waits for an answer has
+/// it before more is read; the caller flushes at the end. Takes memory for the line, the answer and what the session
+/// keeps.
 ///
-/// Ends early with the first [`ScriptFault`] that it meets: the reader's or the writer's (an interruption too, and a
-/// write that takes no byte), a script that is too long, want of memory, or a profile that no session can have, before
+/// Ends early with the first [`ScriptFault`] that it meets: the reader's or the writer's (an interruption too, a
+/// write that takes no byte, and a flush that fails), a script that is too long, want of memory, or a profile that no session can have, before
 /// anything is read.
 pub fn run_script<R: Read, W: Write>(
     alloc: Global,

@@ -6,13 +6,14 @@ ghost use Rattle.pcef_model.specs.Setting.{Setting};
 ghost use Rattle.pcef_script.specs.declared.fault.ScriptFault.TheVariants.{Write as WriteFault};
 ghost use Rattle.pcef_script.specs.ScriptAnswers.{AnswersLine, number_of};
 ghost use Rattle.pcef_world.specs.Steps.{standing_of};
-ghost use Rattle.pcef_script.specs.ScriptLines.{AppendsFront, kept_of};
+ghost use Rattle.pcef_script.specs.ScriptLines.{AppendsFront, has_feed, kept_of};
 ghost use Rattle.pcef_script.specs.Running.{EndFails, EndsLine, IsAfter, StoppedIn, Stopped};
 
 use crate::fault::ScriptFault;
 use crate::input::Pending;
 use crate::step::{Answer, answer_line, answer_too_long};
 use crate::writing::put_all;
+use memchr::memchr;
 use pcef_catalog::Detects;
 use pcef_line::LineReader;
 use pcef_world::WorldState;
@@ -149,7 +150,7 @@ fn take_some<C: Detects, W: Write>(
 }
 
 /// Takes bytes of the script.
-pub(crate) fn take_block<C: Detects, W: Write>(
+fn take_block<C: Detects, W: Write>(
     alloc: Global,
     catalog: &C,
     script: &mut Running,
@@ -167,6 +168,37 @@ pub(crate) fn take_block<C: Detects, W: Write>(
         rest = rest.split_at(taken).1;
     }
     Ok(())
+}
+
+/// Whether a line ends in some bytes.
+fn has_feed(bytes: &[u8]) -> bool
+    ensures { result ≡ has_feed bytes.now }
+{
+    memchr(b'\n', bytes).is_some()
+}
+
+/// Takes bytes of the script, and flushes the writer where a line ends in them: whoever waits for its answer
+/// gets it before more is read.
+pub(crate) fn answer_block<C: Detects, W: Write>(
+    alloc: Global,
+    catalog: &C,
+    script: &mut Running,
+    writer: &mut W,
+    block: &[u8],
+) -> Result<(), ScriptFault>
+    requires { C.offers catalog.now ≡ script.old.world.session.setting.catalog }
+    ensures ok { (p : Setting) (start : Option (List ℕ)) (input : List ℕ) → IsAfter p start (W.contents writer.old) script.old.line script.old.faults script.old.world input → OnOk result (IsAfter p start (W.contents writer.new) script.new.line script.new.faults script.new.world (input ++ block.now)) }
+    ensures err { (p : Setting) (start : Option (List ℕ)) (input : List ℕ) → IsAfter p start (W.contents writer.old) script.old.line script.old.faults script.old.world input → IfErr result (λ e. StoppedIn p e start (W.contents writer.new) input block.now) }
+    ensures offers { script.new.world.session.setting.catalog ≡ script.old.world.session.setting.catalog }
+{
+    take_block(alloc, catalog, script, writer, block)?;
+    if !has_feed(block) {
+        return Ok(());
+    }
+    match writer.flush() {
+        Ok(()) => Ok(()),
+        Err(_) => Err(ScriptFault::Write),
+    }
 }
 
 impl Running {

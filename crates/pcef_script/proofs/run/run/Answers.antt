@@ -57,9 +57,9 @@ loop-script-smaller g c =
     let h = c.loop-script.invariant in
     let block = take c.in-Ok.n c.read_some.new.block in
     let p = c.args.world.session.setting in
-    let after = c.in_ok-take_block-in-Ok.ensures.ok p (g.W.Write.contents c.args.writer.now) h.input h.after in
+    let after = c.in_ok-answer_block-in-Ok.ensures.ok p (g.W.Write.contents c.args.writer.now) h.input h.after in
     let old = c.loop-script.script.line in
-    let new = c.take_block.new.script.line in
+    let new = c.answer_block.new.script.line in
     let len : length block ≡ c.in-Ok.n = sym c.in-Ok.ensures.bound.1 in
     nearer old.read new.read c.in-Ok.n h.input block (read_is old h.input h.after.kept) (read_is new (h.input ++ block) after.kept) len c.in-Ok.n-test.1 h.after.most
 
@@ -72,23 +72,23 @@ loop-script-preserved g c =
     record {
       input = h.input ++ block;
       read = Consumes-trans (remaining c.args.reader.now) (remaining c.loop-script.reader) (remaining c.read_some.new.reader) h.input block h.read c.in-Ok.ensures.bytes.0;
-      after = c.in_ok-take_block-in-Ok.ensures.ok p (g.W.Write.contents c.args.writer.now) h.input h.after;
-      offers = c.take_block.ensures.offers ∙ h.offers;
+      after = c.in_ok-answer_block-in-Ok.ensures.ok p (g.W.Write.contents c.args.writer.now) h.input h.after;
+      offers = c.answer_block.ensures.offers ∙ h.offers;
       room = c.read_some.ensures.room ∙ h.room;
     }
 
-pub returns-in_err-take_block-in-Ok-clause-opened : goal.returns-in_err-take_block-in-Ok-clause-opened
-returns-in_err-take_block-in-Ok-clause-opened g c = λ p is.
+pub returns-in_err-answer_block-in-Ok-clause-opened : goal.returns-in_err-answer_block-in-Ok-clause-opened
+returns-in_err-answer_block-in-Ok-clause-opened g c = λ p is.
     let q = err_from_is_err_and c.from_residual.result c.from_residual.ensures.1 in
     let h = c.loop-script.invariant in
     let contents = g.W.Write.contents in
     let block = take c.in-Ok.n c.read_some.new.block in
-    let e = c.in_err-take_block-in-Ok.field-0.0 in
-    rw (q.1, q.2) (opened_stopped c.args.world.session.setting p e (contents c.args.writer.now) (contents c.take_block.new.writer) h.input block
-    (c.in_err-take_block-in-Ok.ensures.err c.args.world.session.setting (contents c.args.writer.now) h.input h.after) is)
+    let e = c.in_err-answer_block-in-Ok.field-0.0 in
+    rw (q.1, q.2) (opened_stopped c.args.world.session.setting p e (contents c.args.writer.now) (contents c.answer_block.new.writer) h.input block
+    (c.in_err-answer_block-in-Ok.ensures.err c.args.world.session.setting (contents c.args.writer.now) h.input h.after) is)
 
-pub returns-in_err-take_block-in-Ok-clause-answers : goal.returns-in_err-take_block-in-Ok-clause-answers
-returns-in_err-take_block-in-Ok-clause-answers g c =
+pub returns-in_err-answer_block-in-Ok-clause-answers : goal.returns-in_err-answer_block-in-Ok-clause-answers
+returns-in_err-answer_block-in-Ok-clause-answers g c =
     let q = err_from_is_err_and c.from_residual.result c.from_residual.ensures.1 in
     let h = c.loop-script.invariant in
     let remaining = g.R.Read.remaining in
@@ -96,15 +96,15 @@ returns-in_err-take_block-in-Ok-clause-answers g c =
     let p = c.args.world.session.setting in
     let start = contents c.args.writer.now in
     let block = take c.in-Ok.n c.read_some.new.block in
-    let e = c.in_err-take_block-in-Ok.field-0.0 in
+    let e = c.in_err-answer_block-in-Ok.field-0.0 in
     let line = c.loop-script.script.line in
     let len : length block ≡ c.in-Ok.n = sym c.in-Ok.ensures.bound.1 in
     let fits = block_fits line h.input block (read_is line h.input h.after.kept) h.after.most (omega (arith, len, c.in-Ok.ensures.most, c.room.ensures)) in
     rw (q.1, q.2) (
       h.input ++ block,
       Consumes-trans (remaining c.args.reader.now) (remaining c.loop-script.reader) (remaining c.read_some.new.reader) h.input block h.read c.in-Ok.ensures.bytes.0,
-      block_within p e start (contents c.take_block.new.writer) h.input block fits (c.in_err-take_block-in-Ok.ensures.err p start h.input h.after),
-      stopped_in p e start (contents c.take_block.new.writer) (remaining c.read_some.new.reader) h.input block (c.in_err-take_block-in-Ok.ensures.err p start h.input h.after),
+      block_within p e start (contents c.answer_block.new.writer) h.input block fits (c.in_err-answer_block-in-Ok.ensures.err p start h.input h.after),
+      stopped_in p e start (contents c.answer_block.new.writer) (remaining c.read_some.new.reader) h.input block (c.in_err-answer_block-in-Ok.ensures.err p start h.input h.after),
     )
 
 pub read_some-requires : goal.read_some-requires
