@@ -1,7 +1,10 @@
 -- The ends of the program: their statuses, and what holds at status 0.
 use Rattle.std.proofs.Common.{◌≡◌, ◌∙◌, ℕ, ◌<◌, ◌≤◌, Bool, true, false, List, [], ap, append-nil, arith, inl, inr, refl, subst, sym}
-use Rattle.std.specs.Prelude.{◌==◌, OnOk, IfErr, Option, None, Some, Result, Ok, Err, String, string_bytes}
+use Rattle.std.specs.Prelude.{◌==◌, Option, None, Some, Result, Ok, Err, String, string_bytes}
 use Rattle.std.specs.declared.alloc.Global.{Global}
+use Rattle.std.specs.declared.io.ErrorKind.{ErrorKind}
+use Rattle.std.specs.declared.io.ErrorKind.TheVariants.{OutOfMemory}
+use Rattle.std.specs.IoError.{error_kind}
 use Rattle.std.specs.Io.KnownBytes.{Appends}
 use Rattle.std.proofs.KnownBytes.{Appends-kept}
 use Rattle.std.proofs.lemmas.Bool.{eqb-true}
@@ -13,17 +16,11 @@ use Rattle.pcef_profile.specs.declared.fault.ReadProfileFault.{ReadProfileFault}
 use Rattle.pcef_profile.specs.declared.fault.ReadProfileFault.TheVariants as profile
 use Rattle.pcef_script.specs.declared.fault.ScriptFault.{ScriptFault}
 use Rattle.pcef_script.specs.declared.fault.ScriptFault.TheVariants as script
-use Rattle.pcef_script.specs.ScriptLines.{AppendsFront}
 use Rattle.pcef_script.specs.Scripts.{Wrote, all_lines}
 use Rattle.pcef_cli.specs.declared.end.End.{End}
 use Rattle.pcef_cli.specs.declared.end.End.TheVariants as ending
-use Rattle.pcef_cli.specs.Ends.{end_status, lines_end, profile_end, script_end}
-use Rattle.pcef_cli.specs.Programs.{Ends, IsWhole, RanScript}
-
--- ---- what is said of faults
-pub told_front : {T : Type 0} (r : Result T ScriptFault) (a b : Option (List ℕ)) (text : List ℕ) → OnOk r (Appends a b text) → IfErr r (λ e. (e ≡ script.Write) × AppendsFront a b text) → AppendsFront a b text
-told_front (Ok done) a b text all front = (text, [], sym (append-nil text), all)
-told_front (Err e) a b text all front = front.1
+use Rattle.pcef_cli.specs.Ends.{end_status, lines_end, profile_end, script_end, unread_end}
+use Rattle.pcef_cli.specs.Programs.{Ends, IsWhole, RanScript, Text}
 
 -- ---- statuses
 pub status_most : (e : End) → end_status e ≤ 4
@@ -32,7 +29,9 @@ status_most ending.LinesAtFault = omega arith
 status_most (ending.Profile fault) = omega arith
 status_most ending.Usage = omega arith
 status_most ending.NoMemory = omega arith
+status_most ending.NoProfile = omega arith
 status_most ending.Read = omega arith
+status_most ending.TooMuch = omega arith
 status_most ending.Write = omega arith
 
 not_zero : (n : ℕ) → 0 < n → n ≡ 0 → ⊥
@@ -64,8 +63,12 @@ no_faults n is = by_test (n == 0) refl
     by_test false fails = let one = rw fails at is in absurd (not_zero 1 (omega arith) one)
 
 -- ---- status 0
+unread_status : (kind : ErrorKind) → end_status (unread_end kind) ≡ 0 → ⊥
+unread_status OutOfMemory is = not_zero 3 (omega arith) is
+unread_status kind is = not_zero 4 (omega arith) is
+
 ran_whole : (offers : List Offer) (text : String Global) (terms : Terms) (end : End) (before left old new : Option (List ℕ)) → GivesTerms (Ok terms) (ProfileOf (string_bytes text))
-    → RanScript (setting_of terms offers) end before left old new → end_status end ≡ 0 → IsWhole offers (Some (Some text)) before left old new
+    → RanScript (setting_of terms offers) end before left old new → end_status end ≡ 0 → IsWhole offers (Some (Ok text)) before left old new
 ran_whole offers text terms end before left old new gives (result, opened, written, runs, kept, inr is) zero = absurd (not_zero 4 (omega arith) (sym (ap end_status is) ∙ zero))
 ran_whole offers text terms end before left old new gives (Err fault, opened, written, runs, kept, inl is) zero = absurd (fault_status fault (sym (ap end_status is) ∙ zero))
 ran_whole offers text terms end before left old new gives (Ok faults, opened, written, runs, kept, inl is) zero =
@@ -73,8 +76,8 @@ ran_whole offers text terms end before left old new gives (Ok faults, opened, wr
     let wrote : Wrote (setting_of terms offers) (all_lines runs.0) 0 old written = subst (λ n. Wrote (setting_of terms offers) (all_lines runs.0) n old written) none runs.3.1 in
     (text, terms, runs.0, refl, gives, runs.1, runs.3.0, (wrote.0, wrote.1, wrote.2, Appends-kept old written new wrote.0 wrote.3 kept))
 
-pub whole_ended : (offers : List Offer) (asked : Option (Option (String Global))) (end : End) (before left old new : Option (List ℕ)) → Ends offers asked end before left old new → end_status end ≡ 0 → IsWhole offers asked before left old new
+pub whole_ended : (offers : List Offer) (asked : Option Text) (end : End) (before left old new : Option (List ℕ)) → Ends offers asked end before left old new → end_status end ≡ 0 → IsWhole offers asked before left old new
 whole_ended offers None end before left old new h zero = absurd (not_zero 2 (omega arith) (sym (ap end_status h.0) ∙ zero))
-whole_ended offers (Some None) end before left old new h zero = absurd (not_zero 4 (omega arith) (sym (ap end_status h.0) ∙ zero))
-whole_ended offers (Some (Some text)) end before left old new (Ok terms, gives, ran) zero = ran_whole offers text terms end before left old new gives ran zero
-whole_ended offers (Some (Some text)) end before left old new (Err fault, gives, ended) zero = absurd (profile_status fault (sym (ap end_status ended.0) ∙ zero))
+whole_ended offers (Some (Err error)) end before left old new h zero = absurd (unread_status (error_kind error) (sym (ap end_status h.0) ∙ zero))
+whole_ended offers (Some (Ok text)) end before left old new (Ok terms, gives, ran) zero = ran_whole offers text terms end before left old new gives ran zero
+whole_ended offers (Some (Ok text)) end before left old new (Err fault, gives, ended) zero = absurd (profile_status fault (sym (ap end_status ended.0) ∙ zero))

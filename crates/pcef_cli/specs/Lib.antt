@@ -1,3 +1,4 @@
 pub mod BuiltIn
 pub mod Ends
 pub mod Programs
+pub mod Telling

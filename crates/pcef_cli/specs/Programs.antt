@@ -1,9 +1,11 @@
--- What the program does with its words and profiles, from a reader with `before` still to come and a writer
+-- What the program does with its words and its profile, from a reader with `before` still to come and a writer
 -- with `old` written, to `left` and `new` (own choice).
-use Rattle.std.specs.Prelude.{ℕ, ◌≡◌, ◌⊎◌, Bool, false, List, [], ◌∷◌, String, codes, string_bytes, Option, Some, None, Result, Ok, Err, if◌then◌else◌}
+use Rattle.std.specs.Prelude.{ℕ, ◌≡◌, ◌⊎◌, List, [], ◌∷◌, String, Vec, codes, string_bytes, Option, Some, None, is_some, Result, Ok, Err, if◌then◌else◌}
 use Rattle.std.specs.Str.{bytes_eq}
 use Rattle.std.specs.declared.alloc.Global.{Global}
 use Rattle.std.specs.Io.KnownBytes.{Consumes, IsAtEnd, Keeps}
+use Rattle.std.specs.IoError.{error_kind}
+use Rattle.std.specs.declared.io.Error.{Error}
 use Rattle.pcef_catalog.specs.declared.listing.Offer.{Offer}
 use Rattle.pcef_model.specs.Setting.{Setting}
 use Rattle.pcef_model.specs.Terms.{Terms, setting_of}
@@ -14,17 +16,21 @@ use Rattle.pcef_script.specs.Runs.{Runs}
 use Rattle.pcef_script.specs.Scripts.{Opened, Wrote, all_lines}
 use Rattle.pcef_cli.specs.declared.end.End.{End}
 use Rattle.pcef_cli.specs.declared.end.End.TheVariants as ending
-use Rattle.pcef_cli.specs.Ends.{profile_end, script_end}
+use Rattle.pcef_cli.specs.Ends.{profile_end, script_end, unread_end}
 
 -- ---- what the words ask for
-abbrev pub asks_for_script : List (String Global) → Bool
-asks_for_script (word ∷ path ∷ []) = bytes_eq (string_bytes word) (codes "script")
-asks_for_script words = false
+-- a profile's text, or why its file can't be read
+abbrev pub Text : Type 0
+Text = Result (String Global) Error
 
--- the profile of the script that is asked for; it has a text where its file can be read
-abbrev pub asked : List (String Global) → List (Option (String Global)) → Option (Option (String Global))
-asked words (profile ∷ []) = if asks_for_script words then Some profile else None
-asked words profiles = None
+-- the path of the profile of the script that is asked for
+abbrev pub path_of : List (Vec ℕ Global) → Option (List ℕ)
+path_of (word ∷ path ∷ []) = if bytes_eq word.items (codes "script") then Some path.items else None
+path_of words = None
+
+-- and its text
+abbrev pub asked : List (Vec ℕ Global) → Option Text → Option Text
+asked words profile = if is_some (path_of words) then profile else None
 
 -- ---- what is done
 abbrev pub IsUntouched : Option (List ℕ) → Option (List ℕ) → Option (List ℕ) → Option (List ℕ) → Type 0
@@ -41,16 +47,16 @@ EndsBy offers (Ok terms) end before left old new = RanScript (setting_of terms o
 EndsBy offers (Err fault) end before left old new = (end ≡ profile_end fault) × IsUntouched before left old new
 
 -- a script is run on the session of its profile, or the end is the profile's
-abbrev pub Ends : List Offer → Option (Option (String Global)) → End → Option (List ℕ) → Option (List ℕ) → Option (List ℕ) → Option (List ℕ) → Type 0
+abbrev pub Ends : List Offer → Option Text → End → Option (List ℕ) → Option (List ℕ) → Option (List ℕ) → Option (List ℕ) → Type 0
 Ends offers None end before left old new = (end ≡ ending.Usage) × IsUntouched before left old new
-Ends offers (Some None) end before left old new = (end ≡ ending.Read) × IsUntouched before left old new
-Ends offers (Some (Some text)) end before left old new =
+Ends offers (Some (Err error)) end before left old new = (end ≡ unread_end (error_kind error)) × IsUntouched before left old new
+Ends offers (Some (Ok text)) end before left old new =
     (read : Result Terms ReadProfileFault) × GivesTerms read (ProfileOf (string_bytes text)) × EndsBy offers read end before left old new
 
 -- ---- status 0
 -- a script was asked for whose profile has no fault; all its input was read, no line is at fault, and the
 -- answers to all lines are written
-abbrev pub IsWhole : List Offer → Option (Option (String Global)) → Option (List ℕ) → Option (List ℕ) → Option (List ℕ) → Option (List ℕ) → Type 0
+abbrev pub IsWhole : List Offer → Option Text → Option (List ℕ) → Option (List ℕ) → Option (List ℕ) → Option (List ℕ) → Type 0
 IsWhole offers asked before left old new =
-    (text : String Global) × (terms : Terms) × (input : List ℕ) × (asked ≡ Some (Some text)) × GivesTerms (Ok terms) (ProfileOf (string_bytes text))
+    (text : String Global) × (terms : Terms) × (input : List ℕ) × (asked ≡ Some (Ok text)) × GivesTerms (Ok terms) (ProfileOf (string_bytes text))
     × Consumes before left input × IsAtEnd left × Wrote (setting_of terms offers) (all_lines input) 0 old new

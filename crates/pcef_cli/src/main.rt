@@ -4,6 +4,8 @@
 mod built_in;
 mod end;
 mod program;
+mod telling;
+mod words;
 
 ghost use Rattle.std.specs.Prelude.{◌≡◌, ◌≤◌, IfOk};
 ghost use Rattle.std.specs.Arc.{arc_value};
@@ -19,37 +21,10 @@ use pcef_catalog::{Catalog, Detect, Predefined};
 use pcef_packet::Header;
 use program::program;
 use std::alloc::AllocError;
-use std::io::{self, BufWriter, ErrorKind};
+use std::io::{self, BufWriter};
 use std::process::ExitCode;
 use std::sync::Arc;
-use std::{env, fs};
-
-/// The arguments after the program's name.
-fn words(rt: &HostRuntime) -> io::Result<Vec<String>> {
-    let mut words = Vec::new(rt.alloc());
-    for word in env::args(rt)?.skip(1) {
-        words.push(word)?;
-    }
-    Ok(words)
-}
-
-/// The text of a file, or none where it can't be read as text. Want of memory ends the program.
-fn text_of(rt: &HostRuntime, path: &str) -> io::Result<Option<String>> {
-    match fs::read_to_string(rt, path) {
-        Ok(text) => Ok(Some(text)),
-        Err(error) if error.kind() == ErrorKind::OutOfMemory => Err(error),
-        Err(_) => Ok(None),
-    }
-}
-
-/// The texts of the files that the arguments name as profiles.
-fn profiles(rt: &HostRuntime, words: &[String]) -> io::Result<Vec<Option<String>>> {
-    let mut texts = Vec::new(rt.alloc());
-    if let [_, path] = words {
-        texts.push(text_of(rt, path.as_str())?)?;
-    }
-    Ok(texts)
-}
+use words::{profile_of, words};
 
 /// Runs the program, whose catalog has the built-in rules.
 fn run_with(rt: &HostRuntime, catalog: Arc<Catalog>) -> io::Result<u8>
@@ -57,15 +32,15 @@ fn run_with(rt: &HostRuntime, catalog: Arc<Catalog>) -> io::Result<u8>
     ensures { IfOk result (λ status. status ≤ 4) }
 {
     let alloc = rt.alloc();
-    let words = words(rt)?;
-    let profiles = profiles(rt, &words)?;
+    let words = words(alloc, rt)?;
+    let profile = profile_of(rt, &words);
     let mut reader = rt.stdin();
     let mut writer = BufWriter::new(alloc, io::writer(rt))?;
     let mut faults = rt.stderr();
     Ok(program(
         alloc,
         &words,
-        &profiles,
+        &profile,
         catalog,
         &mut reader,
         &mut writer,

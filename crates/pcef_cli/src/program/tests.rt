@@ -1,7 +1,7 @@
 //! Exit statuses, and what is said of faults.
 
 use super::program;
-use crate::end::{End, profile_end, script_end};
+use crate::end::{End, profile_end, script_end, unread_end};
 use crate::tests::PROFILE;
 use pcef_catalog::Catalog;
 use pcef_model::OpenFault;
@@ -13,30 +13,34 @@ use std::io::{Read, Write};
 use std::sync::Arc;
 use std::test::Fail;
 
-/// The exit status of the program on these words, profile and input, and what it wrote of answers and
-/// faults.
+/// Words as octets.
+pub(crate) fn octets(alloc: Global, words: &[&str]) -> Result<Vec<Vec<u8>>, Fail> {
+    let mut arguments = Vec::new(alloc);
+    for word in words {
+        arguments.push(Vec::from_slice(alloc, word.as_bytes())?)?;
+    }
+    Ok(arguments)
+}
+
+/// The exit status of the program on these words, profile (none can't be read) and input, and what it wrote of
+/// answers and faults.
 fn run(
     alloc: Global,
-    words: &[&str],
+    words: &[Vec<u8>],
     profile: Option<&str>,
     input: &str,
 ) -> Result<(u8, String, String), Fail> {
-    let mut arguments = Vec::new(alloc);
-    for word in words {
-        arguments.push(String::from_str(alloc, *word)?)?;
-    }
-    let mut profiles = Vec::new(alloc);
-    profiles.push(match profile {
-        Some(text) => Some(String::from_str(alloc, text)?),
-        None => None,
-    })?;
+    let profile = match profile {
+        Some(text) => Ok(String::from_str(alloc, text)?),
+        None => Err(io::Error::from_raw_os_error(2)),
+    };
     let catalog = Arc::new(alloc, Catalog::new(alloc, Vec::new(alloc))?)?;
     let mut answers = Vec::new(alloc);
     let mut faults = Vec::new(alloc);
     let status = program(
         alloc,
-        &arguments,
-        &profiles,
+        words,
+        &Some(profile),
         catalog,
         &mut input.as_bytes(),
         &mut answers,
@@ -51,7 +55,6 @@ fn run(
 
 #[test]
 fn statuses_and_faults(rt: HostRuntime) -> Result<(), Fail> {
-    let usage = "usage: pcef script PROFILE | pcef run PROFILE WORKERS\n";
     let script: &[&str] = &["script", "profile.toml"];
     for (words, profile, input, status, answers, faults) in [
         (
@@ -70,31 +73,138 @@ fn statuses_and_faults(rt: HostRuntime) -> Result<(), Fail> {
             "{\"fault\":3,\"name\":\"NotJson\"}\n",
             "",
         ),
-        (script, Some("ue = 1"), "", 1, "", "profile fault 3\n"),
-        (script, Some("?"), "", 1, "", "profile fault 1\n"),
-        (script, None, "", 4, "", "read fault\n"),
         (
-            &["run", "profile.toml", "1"],
-            Some(PROFILE),
+            script,
+            None,
             "",
-            2,
+            4,
             "",
-            usage,
-        ),
-        (&["script"], Some(PROFILE), "", 2, "", usage),
-        (
-            &["scripts", "profile.toml"],
-            Some(PROFILE),
-            "",
-            2,
-            "",
-            usage,
+            "read fault\nprofile.toml: No such file or directory (os error 2)\n",
         ),
     ] {
-        let (got, wrote, said) = run(rt.alloc(), words, profile, input)?;
+        let words = octets(rt.alloc(), words)?;
+        let (got, wrote, said) = run(rt.alloc(), &words, profile, input)?;
         assert_eq!(rt; got, status);
         assert_eq!(rt; wrote.as_str(), answers);
         assert_eq!(rt; said.as_str(), faults);
+    }
+    Ok(())
+}
+
+#[test]
+fn other_words_are_usage(rt: HostRuntime) -> Result<(), Fail> {
+    let usage = "usage: pcef script PROFILE | pcef run PROFILE WORKERS\n";
+    let wrong: [&[&str]; 6] = [
+        &[],
+        &["script"],
+        &["run", "profile.toml", "1"],
+        &["scripts", "profile.toml"],
+        &["--help"],
+        &["--version", "profile.toml"],
+    ];
+    for words in wrong {
+        let words = octets(rt.alloc(), words)?;
+        let (status, answers, said) = run(rt.alloc(), &words, Some(PROFILE), "x")?;
+        assert_eq!(rt; status, 2);
+        assert_eq!(rt; answers.as_str(), "");
+        assert!(rt; said.as_str().starts_with(usage));
+        assert!(rt;
+            said.as_str()
+                .contains("rattle-kit-13b logic dac8208d650f15bf\n")
+        );
+    }
+    Ok(())
+}
+
+#[test]
+fn a_word_that_is_no_text(rt: HostRuntime) -> Result<(), Fail> {
+    let mut words = octets(rt.alloc(), &["script"])?;
+    words.push(Vec::from_slice(rt.alloc(), b"a\xff")?)?;
+    let (status, _, said) = run(rt.alloc(), &words, None, "")?;
+    assert_eq!(rt; status, 4);
+    assert_eq!(rt;
+        said.as_str(),
+        "read fault\na\u{fffd}: No such file or directory (os error 2)\n"
+    );
+    words.remove(0);
+    let (status, _, said) = run(rt.alloc(), &words, None, "")?;
+    assert_eq!(rt; status, 2);
+    assert!(rt; said.as_str().starts_with("usage: "));
+    Ok(())
+}
+
+#[test]
+fn a_file_too_large_for_memory(rt: HostRuntime) -> Result<(), Fail> {
+    let alloc = rt.alloc();
+    let words = octets(alloc, &["script", "profile.toml"])?;
+    let catalog = Arc::new(alloc, Catalog::new(alloc, Vec::new(alloc))?)?;
+    let mut answers = Vec::new(alloc);
+    let mut faults = Vec::new(alloc);
+    let profile = Some(Err(io::Error::from(io::ErrorKind::OutOfMemory)));
+    let mut input = "".as_bytes();
+    let status = program(
+        alloc,
+        &words,
+        &profile,
+        catalog,
+        &mut input,
+        &mut answers,
+        &mut faults,
+    );
+    assert_eq!(rt; status, 3);
+    assert!(rt; faults.as_slice().starts_with(b"want of memory\n"));
+    Ok(())
+}
+
+/// What stands before and after the text that a test puts into a profile.
+const LIMITS: &str = "commands = 1\n";
+
+const REST: &str =
+    "\n[default]\nqci = 9\nlevel = 8\ncapability = false\nvulnerability = true\n\n[capacity]\nup = 1\ndown = 1\n";
+
+#[test]
+fn a_second_line_explains_a_fault_of_the_profile(rt: HostRuntime) -> Result<(), Fail> {
+    let alloc = rt.alloc();
+    let words = octets(alloc, &["script", "profile.toml"])?;
+    for (front, said) in [
+        (
+            "ue = \"10.0.0.2\"\nrows 1000\n",
+            "profile fault 1\nNotToml: line 3: rows 1000: key with no value, expected `=`\n",
+        ),
+        (
+            "ue = \"10.0.0.2\"\nrow = 1000\nrows = 1\n",
+            "profile fault 2\nUnknownKey: row: ue, rows, commands, default, capacity or declared is expected\n",
+        ),
+        (
+            "ue = \"10.0.0.2\"\n",
+            "profile fault 3\nMissing: rows: a whole number from 1 to 4294967295 is expected\n",
+        ),
+        (
+            "ue = \"10.0.0.2\"\nrows = 0\n",
+            "profile fault 4\nBadValue: rows = 0: a whole number from 1 to 4294967295 is expected\n",
+        ),
+        (
+            "ue = \"10.0.0\"\nrows = 1\n",
+            "profile fault 4\nBadValue: ue = \"10.0.0\": an IPv4 address in quotes, as \"10.0.0.2\", is expected\n",
+        ),
+        (
+            "ue = \"10.0.0.2\"\nrows = 1\ndeclared = [{qci = 77, kind = \"GBR\"}, {qci = 78, kind = \"Gbr\"}]\n",
+            "profile fault 4\nBadValue: declared[2].kind = \"Gbr\": \"GBR\" or \"NON-GBR\" is expected\n",
+        ),
+        (
+            "ue = \"10.0.0.2\"\nrows = 1\ndeclared = [{qci = 77, kind = \"GBR\"}, {qci = 77, kind = \"GBR\"}]\n",
+            "profile fault 4\nBadValue: declared[2].qci = 77: each QCI once is expected\n",
+        ),
+        (
+            "ue = \"10.0.0.2\"\nrows = 1\ndeclared = [5]\n",
+            "profile fault 4\nBadValue: declared[1] = 5: a table is expected\n",
+        ),
+    ] {
+        let text = format!(in alloc; "{LIMITS}{front}{REST}")?;
+        let (status, answers, faults) = run(alloc, &words, Some(text.as_str()), "x")?;
+        assert_eq!(rt; status, 1);
+        assert_eq!(rt; answers.as_str(), "");
+        assert_eq!(rt; faults.as_str(), said);
     }
     Ok(())
 }
@@ -108,12 +218,18 @@ const GBR_QCI: &str =
 
 #[test]
 fn faults_of_the_default_qci_have_their_numbers(rt: HostRuntime) -> Result<(), Fail> {
-    let words: &[&str] = &["script", "profile.toml"];
+    let words = octets(rt.alloc(), &["script", "profile.toml"])?;
     for (profile, said) in [
-        (UNKNOWN_QCI, "profile fault 5\n"),
-        (GBR_QCI, "profile fault 6\n"),
+        (
+            UNKNOWN_QCI,
+            "profile fault 5\nUnknownQci: default.qci = 100: a QCI that is standard or declared is expected\n",
+        ),
+        (
+            GBR_QCI,
+            "profile fault 6\nDefaultIsGbr: default.qci = 1: a QCI without guaranteed bit rate is expected\n",
+        ),
     ] {
-        let (status, answers, faults) = run(rt.alloc(), words, Some(profile), "x")?;
+        let (status, answers, faults) = run(rt.alloc(), &words, Some(profile), "x")?;
         assert_eq!(rt; status, 1);
         assert_eq!(rt; answers.as_str(), "");
         assert_eq!(rt; faults.as_str(), said);
@@ -128,6 +244,12 @@ fn each_end_has_its_status_and_text(rt: HostRuntime) -> Result<(), Fail> {
         (script_end(Ok(2)), 1, ""),
         (script_end(Err(ScriptFault::Read)), 4, "read fault\n"),
         (script_end(Err(ScriptFault::TooMuch)), 4, "read fault\n"),
+        (unread_end(io::ErrorKind::NotFound), 4, "read fault\n"),
+        (
+            unread_end(io::ErrorKind::OutOfMemory),
+            3,
+            "want of memory\n",
+        ),
         (script_end(Err(ScriptFault::Write)), 4, "write fault\n"),
         (
             script_end(Err(ScriptFault::NoMemory)),
@@ -254,11 +376,8 @@ fn run_between(
     room: usize,
     can_flush: bool,
 ) -> Result<(u8, Output, String), Fail> {
-    let mut words = Vec::new(alloc);
-    words.push(String::from_str(alloc, "script")?)?;
-    words.push(String::from_str(alloc, "profile.toml")?)?;
-    let mut profiles = Vec::new(alloc);
-    profiles.push(Some(String::from_str(alloc, PROFILE)?))?;
+    let words = octets(alloc, &["script", "profile.toml"])?;
+    let profile = Some(Ok(String::from_str(alloc, PROFILE)?));
     let catalog = Arc::new(alloc, Catalog::new(alloc, Vec::new(alloc))?)?;
     let mut input = Input {
         is_given: false,
@@ -274,7 +393,7 @@ fn run_between(
     let status = program(
         alloc,
         &words,
-        &profiles,
+        &profile,
         catalog,
         &mut input,
         &mut output,
@@ -286,16 +405,18 @@ fn run_between(
 #[test]
 fn failing_ends_and_flushes(rt: HostRuntime) -> Result<(), Fail> {
     let answer = "{\"fault\":3,\"name\":\"NotJson\"}\n";
-    for (fails, room, can_flush, status, answers, said) in [
-        (false, 100, true, 1u8, answer, ""),
-        (true, 100, true, 4, answer, "read fault\n"),
-        (false, 0, true, 4, "", "write fault\n"),
-        (false, 100, false, 4, answer, "write fault\n"),
-        (true, 100, false, 4, answer, "write fault\n"),
+    let unread = "read fault\nStandard input: the answers to the whole lines before are written.\n";
+    let unwritten = "write fault\nStandard output takes no more answers.\n";
+    for (fails, room, can_flush, flushes, status, answers, said) in [
+        (false, 100, true, 2u64, 1u8, answer, ""),
+        (true, 100, true, 2, 4, answer, unread),
+        (false, 0, true, 1, 4, "", unwritten),
+        (false, 100, false, 2, 4, answer, unwritten),
+        (true, 100, false, 2, 4, answer, unwritten),
     ] {
         let (got, output, faults) = run_between(rt.alloc(), fails, room, can_flush)?;
         assert_eq!(rt; got, status);
-        assert_eq!(rt; output.flushes, 1);
+        assert_eq!(rt; output.flushes, flushes);
         assert!(rt; output.taken.as_slice() == answers.as_bytes());
         assert_eq!(rt; faults.as_str(), said);
     }

@@ -1,22 +1,18 @@
 use Rattle.std.proofs.Common.{◌≤◌, ◌∙◌, subst, sym}
 use Rattle.std.specs.Arc.{arc_value}
 use Rattle.pcef_catalog.specs.Catalogs.{offers_of}
-use Rattle.pcef_script.specs.ScriptLines.{AppendsFront}
 use Rattle.pcef_cli.specs.Programs.{Ends, asked}
-use Rattle.pcef_cli.proofs.Endings.{status_most, told_front, whole_ended}
+use Rattle.pcef_cli.proofs.Endings.{status_most, whole_ended}
 use Rattle.pcef_cli.proofs.program.program.Goals as goal
 
 pub returns-clause-ends : goal.returns-clause-ends
 returns-clause-ends g c =
     let remaining = g.R.Read.remaining in
     let contents = g.W.Write.contents in
-    let old = g.E.Write.contents c.args.faults.now in
-    let new = g.E.Write.contents c.put_all.new.writer in
-    let end = c.end_of-end.result in
-    let told = told_front c.put_all.result old new c.as_bytes.result.now c.put_all.ensures.all c.put_all.ensures.front in (
+    let end = c.end_of-end.result in (
       end,
       c.status.ensures,
-      subst (AppendsFront old new) (c.as_bytes.ensures.value ∙ c.text.ensures) told,
+      c.tell.ensures,
       subst (λ a. Ends (offers_of (arc_value c.args.catalog)) a end (remaining c.args.reader.now) (remaining c.end_of-end.new.reader) (contents c.args.writer.now) (contents c.end_of-end.new.writer))
           c.asked-asked.ensures c.end_of-end.ensures,
     )
@@ -32,5 +28,5 @@ returns-clause-whole g c = λ zero.
     let end = c.end_of-end.result in
     let ended = subst (λ a. Ends offers a end (remaining c.args.reader.now) (remaining c.end_of-end.new.reader) (contents c.args.writer.now) (contents c.end_of-end.new.writer))
     c.asked-asked.ensures c.end_of-end.ensures in
-    whole_ended offers (asked c.args.words.now c.args.profiles.now) end (remaining c.args.reader.now) (remaining c.end_of-end.new.reader) (contents c.args.writer.now) (contents c.end_of-end.new.writer)
+    whole_ended offers (asked c.args.words.now c.args.profile.now) end (remaining c.args.reader.now) (remaining c.end_of-end.new.reader) (contents c.args.writer.now) (contents c.end_of-end.new.writer)
     ended (sym c.status.ensures ∙ zero)
