@@ -9,4 +9,5 @@ pub mod Loops
 pub mod Numbers
 pub mod Publications
 pub mod Seats
+pub mod Told
 pub mod Totals

@@ -5,6 +5,7 @@ ghost use Rattle.std.specs.Arc.{arc_value};
 ghost use Rattle.pcef_share.specs.Amounts.{zeros};
 ghost use Rattle.pcef_lock.specs.Counting.{with_command, with_taken};
 ghost use Rattle.pcef_lock.specs.Judging.{AllJudged};
+ghost use Rattle.pcef_lock.specs.Outcomes.{judged_rows};
 ghost use Rattle.pcef_lock.specs.Reports.{AreNumbered};
 ghost use mathlib.Core.List.{IsPrefix};
 
@@ -95,6 +96,7 @@ impl<C: Offers + Drop, N: Naming, W: Board<Slot<N>> + Drop> Shared<C, N, W> {
         batch: &Batch,
     ) -> Result<Verdicts, FlushRefusal>
         requires { AllJudged N.setting N.first seat.old.subscriber batch.now }
+        ensures told { IfOk result (λ v. v.rows.items ≡ judged_rows batch.now) }
         ensures shares { seat.new.shares ≡ with_taken result seat.old.shares batch.now }
         ensures seat { (seat.new.worker ≡ seat.old.worker) × (seat.new.subscriber ≡ seat.old.subscriber) × (seat.new.ue ≡ seat.old.ue) }
     {
@@ -109,6 +111,7 @@ impl<C: Offers + Drop, N: Naming, W: Board<Slot<N>> + Drop> Shared<C, N, W> {
         batch: &Batch,
     ) -> Result<(Verdicts, u64), FlushRefusal>
         requires { AllJudged N.setting N.first seat.old.subscriber batch.now }
+        ensures told { IfOk result (λ v. v.0.rows.items ≡ judged_rows batch.now) }
         ensures shares { seat.new.shares ≡ with_taken result seat.old.shares batch.now }
         ensures seat { (seat.new.worker ≡ seat.old.worker) × (seat.new.subscriber ≡ seat.old.subscriber) × (seat.new.ue ≡ seat.old.ue) }
     {
