@@ -89,8 +89,7 @@ fn ran<
 }
 
 /// Runs the workers on a new session.
-fn totals(rt: &HostRuntime, load: Load) -> Option<Totals> {
-    let alloc = rt.alloc();
+fn totals<R: Threads + Wait + Sync>(rt: &R, alloc: Global, load: Load) -> Option<Totals> {
     let session = session(alloc, load)?;
     let opened = opened(&session).ok()?;
     let catalog = Arc::new(alloc, Catalog::new(alloc, Vec::new(alloc)).ok()?).ok()?;
@@ -104,7 +103,7 @@ fn main(rt: HostRuntime) -> ExitCode {
     let Some(load) = load else {
         return ExitCode::from(2);
     };
-    let Some(totals) = totals(&rt, load) else {
+    let Some(totals) = totals(&rt, rt.alloc(), load) else {
         return ExitCode::from(4);
     };
     let counted = totals.keys.as_slice().iter().map(|key| key.counted).sum::<u64>();

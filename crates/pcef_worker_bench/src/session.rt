@@ -46,8 +46,8 @@ fn qos() -> Option<Qos> {
 /// The rule of a number: what comes from its port counts for the key `all`.
 fn rule(alloc: Global, number: u16) -> Option<Rule> {
     let port = FIRST_PORT.saturating_add(number);
-    let name = format!(alloc; "rule-{number}").ok()?;
-    let text = format!(alloc; "permit out 17 from any {port} to assigned").ok()?;
+    let name = format!(in alloc; "rule-{number}").ok()?;
+    let text = format!(in alloc; "permit out 17 from any {port} to assigned").ok()?;
     let properties = Properties {
         name: RuleName::new(name.as_str()).ok()?,
         precedence: u32::from(number),
