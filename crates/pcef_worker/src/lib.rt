@@ -3,9 +3,9 @@
 
 mod gate;
 mod handing;
-mod worker;
 #[cfg(test)]
 mod tests;
+mod worker;
 
 pub use gate::{Gate, OpenGate, Point};
 pub use worker::Worker;

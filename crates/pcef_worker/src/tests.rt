@@ -82,10 +82,7 @@ fn packet(octets: u32) -> Header {
         src: Addr::V4(0xc633_6407),
         dst: Addr::V4(0x0a00_0002),
         proto: 17,
-        ports: Some(Ports {
-            src: 53,
-            dst: 5000,
-        }),
+        ports: Some(Ports { src: 53, dst: 5000 }),
         octets,
         dscp: 0,
     }

@@ -21,7 +21,10 @@ pub fn refused_flush<C: Detects + Drop, N: Naming, W: Board<Slot<N>> + Drop, R: 
     assert_eq!(rt; worker.take(&packet(28)), Ok(()));
     assert_eq!(rt; worker.take(&packet(600)), Ok(()));
     for _ in 0..2u8 {
-        assert_eq!(rt; handed_over(rt, shared, &mut worker), Err(FlushRefusal::RowsFull));
+        assert_eq!(rt;
+            handed_over(rt, shared, &mut worker),
+            Err(FlushRefusal::RowsFull)
+        );
         assert_eq!(rt; (worker.waiting().len(), worker.rows().len()), (2, 0));
     }
     let Err((worker, refusal)) = worker.finish(rt, shared) else {
@@ -29,7 +32,10 @@ pub fn refused_flush<C: Detects + Drop, N: Naming, W: Board<Slot<N>> + Drop, R: 
     };
     assert_eq!(rt; refusal, FlushRefusal::RowsFull);
     let left = worker.abandon(rt, shared);
-    assert_eq!(rt; (left.worker(), left.items().len(), left.abandoned()), (0, 0, 2));
+    assert_eq!(rt;
+        (left.worker(), left.items().len(), left.abandoned()),
+        (0, 0, 2)
+    );
     let mut next = attached(rt, alloc, shared)?;
     assert_eq!(rt; next.take(&packet(40)), Ok(()));
     assert_eq!(rt; handed_over(rt, shared, &mut next), Ok(1));
@@ -112,7 +118,10 @@ fn hands_in<C: Detects + Drop, N: Naming, W: Board<Slot<N>> + Drop, R: Wait + Ab
     let Ok((left, verdicts)) = worker.finish(rt, shared) else {
         return Err("the session takes the rows")?;
     };
-    assert_eq!(rt; (left.worker(), left.abandoned(), verdicts.rows.len()), (number, 0, last));
+    assert_eq!(rt;
+        (left.worker(), left.abandoned(), verdicts.rows.len()),
+        (number, 0, last)
+    );
     assert_eq!(rt; left.items().len(), rows.len());
     for (item, row) in left.items().iter().zip(rows.iter()) {
         assert_eq!(rt; told(item), *row);

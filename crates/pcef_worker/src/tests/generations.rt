@@ -17,13 +17,13 @@ pub fn rule_gone<C: Detects + Drop, N: Naming, W: Board<Slot<N>> + Drop, R: Wait
     desk: &mut Desk<N>,
 ) -> Result<(), Fail> {
     let mut worker = attached(rt, alloc, shared)?;
-    assert_eq!(rt; worker.generation(), 2);
     assert_eq!(rt; (worker.refresh(), worker.generation()), (2, 2));
     desk.command(rt, shared, Command::Remove(RuleName::new("web")?))?;
     assert_eq!(rt; worker.take(&packet(28)), Ok(()));
     assert_eq!(rt; worker.generation(), 2);
     assert_eq!(rt; (worker.refresh(), worker.generation()), (3, 3));
     assert_eq!(rt; worker.take(&packet(28)), Ok(()));
+    assert_eq!(rt; (worker.refresh(), worker.waiting().len()), (3, 2));
     answered(rt, shared, &mut worker, [(2, true), (3, false)])?;
     desk.command(rt, shared, Command::Install(web(alloc)?))?;
     assert_eq!(rt; worker.take(&packet(28)), Ok(()));
