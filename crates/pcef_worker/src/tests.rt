@@ -6,6 +6,7 @@ ghost use Rattle.pcef_session.specs.Shown.{Shows};
 ghost use Rattle.pcef_share.specs.Names.{name_at};
 
 mod batches;
+mod gathering;
 mod generations;
 mod memory;
 mod threads;
@@ -36,6 +37,8 @@ enum Story {
     RuleGone,
     HeldUp,
     NoMemory,
+    Gathered,
+    OtherLane,
 }
 
 fn qos() -> Result<Qos, Fail> {
@@ -155,6 +158,8 @@ fn tell_behind_its_lock<
         Story::RuleGone => generations::rule_gone(rt, alloc, &shared, &mut desk),
         Story::HeldUp => threads::held_up(rt, alloc, &shared, &mut desk),
         Story::NoMemory => memory::no_memory(rt, alloc, &shared),
+        Story::Gathered => gathering::gathered(rt, alloc, shared, desk),
+        Story::OtherLane => gathering::other_lane(rt, alloc, shared, desk),
     }
 }
 
