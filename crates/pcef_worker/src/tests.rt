@@ -17,7 +17,7 @@ use pcef_filter::read_filter;
 use pcef_lock::{Desk, Shared, State, commands_so_far, opened};
 use pcef_model::{Body, Command, Profile};
 use pcef_packet::{Addr, Dir, Header, Ports};
-use pcef_publish::{Board, Opened, Slot};
+use pcef_publish::{Board, Opened, Slot, Writer};
 use pcef_rule::{Arp, KeyName, Properties, Qci, QciTable, Qos, Rule, RuleName, Sums};
 use pcef_session::{Item, SessionState};
 use pcef_share::{Blanks, Naming};
@@ -139,18 +139,8 @@ fn tell_behind_its_lock<
     requires table { Shows session.setting session.journal (gen session.journal) opened.table }
     requires book { (opened.book ≡ N.book) × (opened.root ≡ N.root) }
 {
-    let commands = commands_so_far(alloc, &session)?;
-    let Ok((state, shares)) = State::<N, _>::open(rt, alloc, session, opened, blanks, 2) else {
-        return Err("the session didn't come behind a lock")?;
-    };
-    let mut desk = Desk::new(commands, shares);
-    let shared = Shared::new(catalog, state);
-    desk.command(rt, &shared, Command::Install(web(alloc)?))?;
-    let monitor = Command::Monitor {
-        key: KeyName::new("vid")?,
-        grant: 1_000_000,
-    };
-    desk.command(rt, &shared, monitor)?;
+    let (shared, mut desk) = locked::<C, N, _>(rt, alloc, catalog, session, opened, blanks)?;
+    prepare(rt, alloc, &shared, &mut desk)?;
     match story {
         Story::RefusedFlush => batches::refused_flush(rt, alloc, &shared, &mut desk),
         Story::FullBatch => batches::full_batch(rt, alloc, &shared),
@@ -161,6 +151,46 @@ fn tell_behind_its_lock<
         Story::Gathered => gathering::gathered(rt, alloc, shared, desk),
         Story::OtherLane => gathering::other_lane(rt, alloc, shared, desk),
     }
+}
+
+// A session behind its lock, with places for two workers, and its desk.
+fn locked<C: Offers + Drop, N: Naming, R: Wait + Drop>(
+    rt: R,
+    alloc: Global,
+    catalog: Arc<C>,
+    session: SessionState,
+    opened: Opened,
+    blanks: Blanks,
+) -> Result<(Shared<C, N, Writer<N, R>>, Desk<N>), Fail>
+    requires name { N.ledger ≡ name_at blanks }
+    requires setting { session.setting ≡ N.setting }
+    requires fresh { session.journal ≡ [] }
+    requires offers { C.offers (arc_value catalog) ≡ session.setting.catalog }
+    requires first { N.first ≡ gen session.journal }
+    requires table { Shows session.setting session.journal (gen session.journal) opened.table }
+    requires book { (opened.book ≡ N.book) × (opened.root ≡ N.root) }
+{
+    let commands = commands_so_far(alloc, &session)?;
+    match State::<N, _>::open(rt, alloc, session, opened, blanks, 2) {
+        Ok((state, shares)) => Ok((Shared::new(catalog, state), Desk::new(commands, shares))),
+        Err(_) => Err("the session didn't come behind a lock")?,
+    }
+}
+
+// The desk installs the rule and monitors its key.
+fn prepare<C: Offers + Drop, N: Naming, W: Board<Slot<N>> + Drop, R: Wait>(
+    rt: &R,
+    alloc: Global,
+    shared: &Shared<C, N, W>,
+    desk: &mut Desk<N>,
+) -> Result<(), Fail> {
+    desk.command(rt, shared, Command::Install(web(alloc)?))?;
+    let monitor = Command::Monitor {
+        key: KeyName::new("vid")?,
+        grant: 1000,
+    };
+    desk.command(rt, shared, monitor)?;
+    Ok(())
 }
 
 // A worker that is held up nowhere.

@@ -19,12 +19,31 @@ pub fn gathered<C: Detects + Drop, N: Naming, W: Board<Slot<N>> + Drop, R: Wait 
     let one = left_after(rt, alloc, &shared, &[28, 600])?;
     assert_eq!(rt; reported(rt, &shared, &mut desk)?, 628);
     let two = abandoned_after(rt, alloc, &shared)?;
+    let back = without_one(rt, alloc, shared, desk, one)?;
+    with_both(rt, back, two)
+}
+
+// What comes back where one worker is out.
+fn without_one<C: Detects + Drop, N: Naming, W: Board<Slot<N>> + Drop, R: Wait>(
+    rt: &R,
+    alloc: Global,
+    shared: Shared<C, N, W>,
+    desk: Desk<N>,
+    one: Finished<N>,
+) -> Result<Ungathered<C, N, W>, Fail> {
     let mut finished = Vec::new(alloc);
     finished.push(one)?;
-    let Err(back) = shared.gather(rt, desk, finished) else {
-        return Err("one worker is out")?;
-    };
-    assert_eq!(rt; back.fault, GatherFault::WorkersOut(1));
+    match shared.gather(rt, desk, finished) {
+        Err(back) if back.fault == GatherFault::WorkersOut(1) => Ok(back),
+        _ => Err("one worker is out")?,
+    }
+}
+
+fn with_both<C: Detects + Drop, N: Naming, W: Board<Slot<N>> + Drop, R: Wait + Abort>(
+    rt: &R,
+    back: Ungathered<C, N, W>,
+    two: Finished<N>,
+) -> Result<(), Fail> {
     let Ungathered {
         fault: _,
         shared,
@@ -32,10 +51,10 @@ pub fn gathered<C: Detects + Drop, N: Naming, W: Board<Slot<N>> + Drop, R: Wait 
         mut finished,
     } = back;
     finished.push(two)?;
-    let Ok(totals) = shared.gather(rt, desk, finished) else {
-        return Err("all workers have left")?;
-    };
-    is_exact(rt, &totals)
+    match shared.gather(rt, desk, finished) {
+        Ok(totals) => is_exact(rt, &totals),
+        Err(_) => Err("all workers have left")?,
+    }
 }
 
 // A worker that took packets of these octets, handed them over and left.

@@ -19,18 +19,35 @@ pub fn rule_gone<C: Detects + Drop, N: Naming, W: Board<Slot<N>> + Drop, R: Wait
     let mut worker = attached(rt, alloc, shared)?;
     assert_eq!(rt; (worker.refresh(), worker.generation()), (2, 2));
     desk.command(rt, shared, Command::Remove(RuleName::new("web")?))?;
+    takes_before_and_after_a_refresh(rt, &mut worker);
+    answered(rt, shared, &mut worker, [(2, true), (3, false)])?;
+    desk.command(rt, shared, Command::Install(web(alloc)?))?;
+    takes_before_and_after_a_meet(rt, shared, &mut worker)?;
+    answered(rt, shared, &mut worker, [(3, false), (4, true)])
+}
+
+fn takes_before_and_after_a_refresh<C: Detects + Drop, N: Naming, R: Abort>(
+    rt: &R,
+    worker: &mut Worker<C, N, OpenGate>,
+) {
     assert_eq!(rt; worker.take(&packet(28)), Ok(()));
     assert_eq!(rt; worker.generation(), 2);
     assert_eq!(rt; (worker.refresh(), worker.generation()), (3, 3));
     assert_eq!(rt; worker.take(&packet(28)), Ok(()));
     assert_eq!(rt; (worker.refresh(), worker.waiting().len()), (3, 2));
-    answered(rt, shared, &mut worker, [(2, true), (3, false)])?;
-    desk.command(rt, shared, Command::Install(web(alloc)?))?;
+}
+
+fn takes_before_and_after_a_meet<
+    C: Detects + Drop,
+    N: Naming,
+    W: Board<Slot<N>> + Drop,
+    R: Wait + Abort,
+>(rt: &R, shared: &Shared<C, N, W>, worker: &mut Worker<C, N, OpenGate>) -> Result<(), Fail> {
     assert_eq!(rt; worker.take(&packet(28)), Ok(()));
     assert_eq!(rt; worker.generation(), 3);
     assert_eq!(rt; (worker.meet(rt, shared)?, worker.generation()), (4, 4));
     assert_eq!(rt; worker.take(&packet(28)), Ok(()));
-    answered(rt, shared, &mut worker, [(3, false), (4, true)])
+    Ok(())
 }
 
 // Hands two rows over, and looks by which generation each was judged, and whether the rule let it pass.

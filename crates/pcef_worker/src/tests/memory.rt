@@ -15,6 +15,15 @@ pub fn no_memory<C: Detects + Drop, N: Naming, W: Board<Slot<N>> + Drop, R: Wait
 ) -> Result<(), Fail> {
     let came = Worker::attach(rt, alloc, shared, OpenGate);
     let mut worker = came.or_else(|_| Worker::attach(rt, alloc, shared, OpenGate))?;
+    hands_over_at_last(rt, shared, &mut worker);
+    Ok(())
+}
+
+fn hands_over_at_last<C: Detects + Drop, N: Naming, W: Board<Slot<N>> + Drop, R: Wait + Abort>(
+    rt: &R,
+    shared: &Shared<C, N, W>,
+    worker: &mut Worker<C, N, OpenGate>,
+) {
     assert_eq!(rt; (worker.worker(), worker.generation()), (0, 2));
     assert_eq!(rt; worker.take(&packet(28)), Ok(()));
     let mut answer = worker.flush(rt, shared).is_ok();
@@ -24,5 +33,4 @@ pub fn no_memory<C: Detects + Drop, N: Naming, W: Board<Slot<N>> + Drop, R: Wait
     }
     assert!(rt; answer);
     assert_eq!(rt; (worker.waiting().len(), worker.rows().len()), (0, 1));
-    Ok(())
 }
