@@ -22,10 +22,12 @@ use pcef_session::{Item, SessionState};
 use pcef_share::{Blanks, Naming};
 use std::alloc::Global;
 use std::marker::Brand;
-use std::process::Abort;
 use std::sync::{Arc, Wait};
 use std::test::*;
 use std::thread::Threads;
+
+// What a story tells, zeros after it.
+type Told = [u64; 8];
 
 // What happens to a session.
 #[derive(Clone, Copy)]
@@ -88,18 +90,13 @@ fn packet(octets: u32) -> Header {
     }
 }
 
-// The number in its lane and the octets of a row.
-fn told(item: &Item) -> (u64, u32) {
-    (item.row.seq, item.row.header.octets)
-}
-
 // Tells of a session that takes so many rows.
-fn tell<R: Threads + Wait + Abort + Sync>(
+fn tell<R: Threads + Wait + Sync>(
     rt: &R,
     alloc: Global,
     rows: u32,
     story: Story,
-) -> Result<(), Fail> {
+) -> Result<Told, Fail> {
     let session = session(alloc, rows)?;
     let opened = opened(&session)?;
     let catalog = Arc::new(alloc, Catalog::new(alloc, Vec::new(alloc))?)?;
@@ -118,7 +115,7 @@ fn tell<R: Threads + Wait + Abort + Sync>(
 fn tell_behind_its_lock<
     C: Detects + Drop + Send + Sync,
     N: Naming + Send + Sync,
-    R: Threads + Wait + Abort + Sync,
+    R: Threads + Wait + Sync,
 >(
     rt: &R,
     alloc: Global,
@@ -127,7 +124,7 @@ fn tell_behind_its_lock<
     opened: Opened,
     blanks: Blanks,
     story: Story,
-) -> Result<(), Fail>
+) -> Result<Told, Fail>
     requires name { N.ledger ≡ name_at blanks }
     requires setting { session.setting ≡ N.setting }
     requires fresh { session.journal ≡ [] }
@@ -142,12 +139,7 @@ fn tell_behind_its_lock<
     };
     let mut desk = Desk::new(commands, shares);
     let shared = Shared::new(catalog, state);
-    desk.command(rt, &shared, Command::Install(web(alloc)?))?;
-    let monitor = Command::Monitor {
-        key: KeyName::new("vid")?,
-        grant: 1_000_000,
-    };
-    desk.command(rt, &shared, monitor)?;
+    give_commands(rt, alloc, &shared, &mut desk)?;
     match story {
         Story::RefusedFlush => batches::refused_flush(rt, alloc, &shared, &mut desk),
         Story::FullBatch => batches::full_batch(rt, alloc, &shared),
@@ -158,6 +150,22 @@ fn tell_behind_its_lock<
     }
 }
 
+// The desk installs the rule and monitors its key.
+fn give_commands<C: Offers + Drop, N: Naming, W: Board<Slot<N>> + Drop, R: Wait>(
+    rt: &R,
+    alloc: Global,
+    shared: &Shared<C, N, W>,
+    desk: &mut Desk<N>,
+) -> Result<(), Fail> {
+    desk.command(rt, shared, Command::Install(web(alloc)?))?;
+    let monitor = Command::Monitor {
+        key: KeyName::new("vid")?,
+        grant: 1_000_000,
+    };
+    desk.command(rt, shared, monitor)?;
+    Ok(())
+}
+
 // A worker that is held up nowhere.
 fn attached<C: Detects + Drop, N: Naming, W: Board<Slot<N>> + Drop, R: Wait>(
     rt: &R,
@@ -165,6 +173,19 @@ fn attached<C: Detects + Drop, N: Naming, W: Board<Slot<N>> + Drop, R: Wait>(
     shared: &Shared<C, N, W>,
 ) -> Result<Worker<C, N, OpenGate>, Fail> {
     Ok(Worker::attach(rt, alloc, shared, OpenGate)?)
+}
+
+// How many rows wait, and how many were handed over.
+fn rows_of<C: Detects + Drop, N: Naming, G: Gate + Drop>(worker: &Worker<C, N, G>) -> (u64, u64) {
+    (worker.waiting().len() as u64, worker.rows().len() as u64)
+}
+
+// Takes a packet of so many octets, and says whether its row waits now.
+fn takes<C: Detects + Drop, N: Naming, G: Gate + Drop>(
+    worker: &mut Worker<C, N, G>,
+    octets: u32,
+) -> bool {
+    worker.take(&packet(octets)).is_ok()
 }
 
 // The octets of the report of the key that the desk asks for, where nobody asked for one before.
