@@ -23,10 +23,12 @@ use pcef_session::{Item, SessionState};
 use pcef_share::{Blanks, Naming};
 use std::alloc::Global;
 use std::marker::Brand;
-use std::process::Abort;
 use std::sync::{Arc, Wait};
 use std::test::*;
 use std::thread::Threads;
+
+// What a story tells, zeros after it.
+type Told = [u64; 8];
 
 // What happens to a session.
 #[derive(Clone, Copy)]
@@ -91,18 +93,13 @@ fn packet(octets: u32) -> Header {
     }
 }
 
-// The number in its lane and the octets of a row.
-fn told(item: &Item) -> (u64, u32) {
-    (item.row.seq, item.row.header.octets)
-}
-
 // Tells of a session that takes so many rows.
-fn tell<R: Threads + Wait + Abort + Sync>(
+fn tell<R: Threads + Wait + Sync>(
     rt: &R,
     alloc: Global,
     rows: u32,
     story: Story,
-) -> Result<(), Fail> {
+) -> Result<Told, Fail> {
     let session = session(alloc, rows)?;
     let opened = opened(&session)?;
     let catalog = Arc::new(alloc, Catalog::new(alloc, Vec::new(alloc))?)?;
@@ -121,7 +118,7 @@ fn tell<R: Threads + Wait + Abort + Sync>(
 fn tell_behind_its_lock<
     C: Detects + Drop + Send + Sync,
     N: Naming + Send + Sync,
-    R: Threads + Wait + Abort + Sync,
+    R: Threads + Wait + Sync,
 >(
     rt: &R,
     alloc: Global,
@@ -130,7 +127,7 @@ fn tell_behind_its_lock<
     opened: Opened,
     blanks: Blanks,
     story: Story,
-) -> Result<(), Fail>
+) -> Result<Told, Fail>
     requires name { N.ledger ≡ name_at blanks }
     requires setting { session.setting ≡ N.setting }
     requires fresh { session.journal ≡ [] }
@@ -139,8 +136,13 @@ fn tell_behind_its_lock<
     requires table { Shows session.setting session.journal (gen session.journal) opened.table }
     requires book { (opened.book ≡ N.book) × (opened.root ≡ N.root) }
 {
-    let (shared, mut desk) = locked::<C, N, _>(rt, alloc, catalog, session, opened, blanks)?;
-    prepare(rt, alloc, &shared, &mut desk)?;
+    let commands = commands_so_far(alloc, &session)?;
+    let Ok((state, shares)) = State::<N, _>::open(rt, alloc, session, opened, blanks, 2) else {
+        return Err("the session didn't come behind a lock")?;
+    };
+    let mut desk = Desk::new(commands, shares);
+    let shared = Shared::new(catalog, state);
+    give_commands(rt, alloc, &shared, &mut desk)?;
     match story {
         Story::RefusedFlush => batches::refused_flush(rt, alloc, &shared, &mut desk),
         Story::FullBatch => batches::full_batch(rt, alloc, &shared),
@@ -153,32 +155,8 @@ fn tell_behind_its_lock<
     }
 }
 
-// A session behind its lock, with places for two workers, and its desk.
-fn locked<C: Offers + Drop, N: Naming, R: Wait + Drop>(
-    rt: R,
-    alloc: Global,
-    catalog: Arc<C>,
-    session: SessionState,
-    opened: Opened,
-    blanks: Blanks,
-) -> Result<(Shared<C, N, Writer<N, R>>, Desk<N>), Fail>
-    requires name { N.ledger ≡ name_at blanks }
-    requires setting { session.setting ≡ N.setting }
-    requires fresh { session.journal ≡ [] }
-    requires offers { C.offers (arc_value catalog) ≡ session.setting.catalog }
-    requires first { N.first ≡ gen session.journal }
-    requires table { Shows session.setting session.journal (gen session.journal) opened.table }
-    requires book { (opened.book ≡ N.book) × (opened.root ≡ N.root) }
-{
-    let commands = commands_so_far(alloc, &session)?;
-    match State::<N, _>::open(rt, alloc, session, opened, blanks, 2) {
-        Ok((state, shares)) => Ok((Shared::new(catalog, state), Desk::new(commands, shares))),
-        Err(_) => Err("the session didn't come behind a lock")?,
-    }
-}
-
 // The desk installs the rule and monitors its key.
-fn prepare<C: Offers + Drop, N: Naming, W: Board<Slot<N>> + Drop, R: Wait>(
+fn give_commands<C: Offers + Drop, N: Naming, W: Board<Slot<N>> + Drop, R: Wait>(
     rt: &R,
     alloc: Global,
     shared: &Shared<C, N, W>,
@@ -187,7 +165,7 @@ fn prepare<C: Offers + Drop, N: Naming, W: Board<Slot<N>> + Drop, R: Wait>(
     desk.command(rt, shared, Command::Install(web(alloc)?))?;
     let monitor = Command::Monitor {
         key: KeyName::new("vid")?,
-        grant: 1000,
+        grant: 1_000_000,
     };
     desk.command(rt, shared, monitor)?;
     Ok(())
@@ -200,6 +178,19 @@ fn attached<C: Detects + Drop, N: Naming, W: Board<Slot<N>> + Drop, R: Wait>(
     shared: &Shared<C, N, W>,
 ) -> Result<Worker<C, N, OpenGate>, Fail> {
     Ok(Worker::attach(rt, alloc, shared, OpenGate)?)
+}
+
+// How many rows wait, and how many were handed over.
+fn rows_of<C: Detects + Drop, N: Naming, G: Gate + Drop>(worker: &Worker<C, N, G>) -> (u64, u64) {
+    (worker.waiting().len() as u64, worker.rows().len() as u64)
+}
+
+// Takes a packet of so many octets, and says whether its row waits now.
+fn takes<C: Detects + Drop, N: Naming, G: Gate + Drop>(
+    worker: &mut Worker<C, N, G>,
+    octets: u32,
+) -> bool {
+    worker.take(&packet(octets)).is_ok()
 }
 
 // The octets of the report of the key that the desk asks for, where nobody asked for one before.

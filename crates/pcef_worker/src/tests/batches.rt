@@ -2,103 +2,141 @@
 
 use super::*;
 use pcef_model::FlushRefusal;
-use pcef_session::BatchFull;
 
 #[test]
 fn a_refused_flush_keeps_the_rows(rt: HostRuntime) -> Result<(), Fail> {
-    tell(&rt, rt.alloc(), 1, Story::RefusedFlush)
+    let told = tell(&rt, rt.alloc(), 1, Story::RefusedFlush)?;
+    assert_eq!(rt; told, [2, 0, 2, 0, 0, 2, 1, 40]);
+    Ok(())
 }
 
-// The session takes one row, and two wait. Once they are given up, one of another worker is taken: so nothing of them
-// came to the session.
-pub fn refused_flush<C: Detects + Drop, N: Naming, W: Board<Slot<N>> + Drop, R: Wait + Abort>(
+// The session takes one row, and two wait: how many wait and were handed over after each of two flushes, how many rows
+// are handed in and how many were given up. A later worker's row is taken, so nothing of them came to the session: how
+// many verdicts it gets, and the octets of the report.
+pub fn refused_flush<C: Detects + Drop, N: Naming, W: Board<Slot<N>> + Drop, R: Wait>(
     rt: &R,
     alloc: Global,
     shared: &Shared<C, N, W>,
     desk: &mut Desk<N>,
-) -> Result<(), Fail> {
-    let mut worker = attached(rt, alloc, shared)?;
-    is_refused(rt, shared, &mut worker);
-    gives_up(rt, shared, worker)?;
-    let mut next = attached(rt, alloc, shared)?;
-    hands_one_over(rt, shared, &mut next);
-    assert_eq!(rt; reported(rt, shared, desk)?, 40);
-    Ok(())
+) -> Result<Told, Fail> {
+    let (first, second, left) = refused_twice(rt, alloc, shared)?;
+    let later = one_handed_over(rt, alloc, shared)?;
+    let octets = reported(rt, shared, desk)?;
+    Ok([
+        first.0, first.1, second.0, second.1, left.0, left.1, later, octets,
+    ])
 }
 
-// Two rows wait, and a flush is refused twice.
-fn is_refused<C: Detects + Drop, N: Naming, W: Board<Slot<N>> + Drop, R: Wait + Abort>(
+// The rows that wait and that were handed over after each refused flush, and those that are handed in and given up.
+fn refused_twice<C: Detects + Drop, N: Naming, W: Board<Slot<N>> + Drop, R: Wait>(
+    rt: &R,
+    alloc: Global,
+    shared: &Shared<C, N, W>,
+) -> Result<((u64, u64), (u64, u64), (u64, u64)), Fail> {
+    let mut worker = attached(rt, alloc, shared)?;
+    if !(takes(&mut worker, 28) && takes(&mut worker, 600)) {
+        return Err("two rows may wait")?;
+    }
+    let first = refused(rt, shared, &mut worker)?;
+    let second = refused(rt, shared, &mut worker)?;
+    Ok((first, second, given_up(rt, shared, worker)?))
+}
+
+// A flush for which the session has no room: the rows that wait and that were handed over after it.
+fn refused<C: Detects + Drop, N: Naming, W: Board<Slot<N>> + Drop, R: Wait>(
     rt: &R,
     shared: &Shared<C, N, W>,
     worker: &mut Worker<C, N, OpenGate>,
-) {
-    assert_eq!(rt; worker.take(&packet(28)), Ok(()));
-    assert_eq!(rt; worker.take(&packet(600)), Ok(()));
-    for _ in 0..2u8 {
-        assert_eq!(rt;
-            handed_over(rt, shared, worker),
-            Err(FlushRefusal::RowsFull)
-        );
-        assert_eq!(rt; (worker.waiting().len(), worker.rows().len()), (2, 0));
+) -> Result<(u64, u64), Fail> {
+    match worker.flush(rt, shared) {
+        Err(FlushRefusal::RowsFull) => Ok(rows_of(worker)),
+        _ => Err("the session has no room")?,
     }
 }
 
-// A worker may not finish, and abandons two rows.
-fn gives_up<C: Detects + Drop, N: Naming, W: Board<Slot<N>> + Drop, R: Wait + Abort>(
+// A finish for which the session has no room, and then the way out: the rows that are handed in and given up.
+fn given_up<C: Detects + Drop, N: Naming, W: Board<Slot<N>> + Drop, R: Wait>(
     rt: &R,
     shared: &Shared<C, N, W>,
     worker: Worker<C, N, OpenGate>,
-) -> Result<(), Fail> {
-    let Err((worker, refusal)) = worker.finish(rt, shared) else {
-        return Err("the session takes one row")?;
+) -> Result<(u64, u64), Fail> {
+    let Err((worker, FlushRefusal::RowsFull)) = worker.finish(rt, shared) else {
+        return Err("the session has no room")?;
     };
-    assert_eq!(rt; refusal, FlushRefusal::RowsFull);
     let left = worker.abandon(rt, shared);
-    assert_eq!(rt;
-        (left.worker(), left.items().len(), left.abandoned()),
-        (0, 0, 2)
-    );
-    Ok(())
+    Ok((left.items().len() as u64, u64::from(left.abandoned())))
 }
 
-fn hands_one_over<C: Detects + Drop, N: Naming, W: Board<Slot<N>> + Drop, R: Wait + Abort>(
+// A worker comes and hands a row of 40 octets over: how many verdicts it gets.
+fn one_handed_over<C: Detects + Drop, N: Naming, W: Board<Slot<N>> + Drop, R: Wait>(
     rt: &R,
+    alloc: Global,
     shared: &Shared<C, N, W>,
-    worker: &mut Worker<C, N, OpenGate>,
-) {
-    assert_eq!(rt; worker.take(&packet(40)), Ok(()));
-    assert_eq!(rt; handed_over(rt, shared, worker), Ok(1));
+) -> Result<u64, Fail> {
+    let mut worker = attached(rt, alloc, shared)?;
+    if !takes(&mut worker, 40) {
+        return Err("a row may wait")?;
+    }
+    handed_over(rt, shared, &mut worker)
 }
 
-// How many verdicts a flush gave.
+// How many verdicts a flush gives.
 fn handed_over<C: Detects + Drop, N: Naming, W: Board<Slot<N>> + Drop, R: Wait>(
     rt: &R,
     shared: &Shared<C, N, W>,
     worker: &mut Worker<C, N, OpenGate>,
-) -> Result<usize, FlushRefusal> {
+) -> Result<u64, Fail> {
     let verdicts = worker.flush(rt, shared)?;
-    Ok(verdicts.rows.len())
+    Ok(verdicts.rows.len() as u64)
 }
 
 #[test]
 fn as_many_rows_wait_as_may(rt: HostRuntime) -> Result<(), Fail> {
-    tell(&rt, rt.alloc(), 100, Story::FullBatch)
+    let told = tell(&rt, rt.alloc(), 100, Story::FullBatch)?;
+    assert_eq!(rt; told, [32, 32, 0, 32, 0, 32, 32, 40]);
+    Ok(())
 }
 
-// 32 rows wait, and the packet that comes next is taken once they are handed over.
-pub fn full_batch<C: Detects + Drop, N: Naming, W: Board<Slot<N>> + Drop, R: Wait + Abort>(
+// 33 packets come: how many rows are taken and wait, and how many were handed over; how many verdicts a flush gives,
+// and again how many wait and were handed over. One more comes: the number and the octets of its row.
+pub fn full_batch<C: Detects + Drop, N: Naming, W: Board<Slot<N>> + Drop, R: Wait>(
     rt: &R,
     alloc: Global,
     shared: &Shared<C, N, W>,
-) -> Result<(), Fail> {
+) -> Result<Told, Fail> {
     let mut worker = attached(rt, alloc, shared)?;
-    is_filled(rt, &mut worker);
-    is_emptied(rt, shared, &mut worker);
+    let taken = as_many_as_may(&mut worker);
+    let before = rows_of(&worker);
+    let verdicts = handed_over(rt, shared, &mut worker)?;
+    let after = rows_of(&worker);
+    let (seq, octets) = next_row(&mut worker)?;
+    Ok([
+        taken, before.0, before.1, verdicts, after.0, after.1, seq, octets,
+    ])
+}
+
+// How many of 33 packets are taken.
+fn as_many_as_may<C: Detects + Drop, N: Naming>(worker: &mut Worker<C, N, OpenGate>) -> u64 {
+    let mut taken = 0;
+    for _ in 0..33u8 {
+        if takes(worker, 28) {
+            taken += 1;
+        }
+    }
+    taken
+}
+
+// A packet of 40 octets is taken where no row waits: the number of its row in its lane, and its octets.
+fn next_row<C: Detects + Drop, N: Naming>(
+    worker: &mut Worker<C, N, OpenGate>,
+) -> Result<(u64, u64), Fail> {
+    if !takes(worker, 40) {
+        return Err("a row may wait")?;
+    }
     let [item] = worker.waiting() else {
         return Err("one row waits")?;
     };
-    assert_eq!(rt; told(item), (32, 40));
-    Ok(())
+    Ok((item.row.seq, u64::from(item.row.header.octets)))
 }
 
 fn is_filled<C: Detects + Drop, N: Naming, R: Abort>(rt: &R, worker: &mut Worker<C, N, OpenGate>) {
@@ -121,58 +159,79 @@ fn is_emptied<C: Detects + Drop, N: Naming, W: Board<Slot<N>> + Drop, R: Wait + 
 
 #[test]
 fn what_two_workers_hand_in(rt: HostRuntime) -> Result<(), Fail> {
-    tell(&rt, rt.alloc(), 100, Story::TwoWorkers)
+    let told = tell(&rt, rt.alloc(), 100, Story::TwoWorkers)?;
+    assert_eq!(rt; told, [0, 28, 600, 28, 1, 600, 1256, 0]);
+    Ok(())
 }
 
-// One worker hands over rows of 28 and of 600 octets and then another of 28, the other one of 600: 1256 octets.
-pub fn two_workers<C: Detects + Drop, N: Naming, W: Board<Slot<N>> + Drop, R: Wait + Abort>(
+// One worker hands over rows of 28, 600 and 28 octets, the other one a row of 600: their numbers and the octets of the
+// rows that they hand in, in order, and the octets of the report.
+pub fn two_workers<C: Detects + Drop, N: Naming, W: Board<Slot<N>> + Drop, R: Wait>(
     rt: &R,
     alloc: Global,
     shared: &Shared<C, N, W>,
     desk: &mut Desk<N>,
-) -> Result<(), Fail> {
-    let mut one = attached(rt, alloc, shared)?;
-    let mut two = attached(rt, alloc, shared)?;
-    take_in_turn(rt, shared, &mut one, &mut two);
-    hands_in(rt, shared, one, &[(0, 28), (1, 600), (2, 28)], 1)?;
-    hands_in(rt, shared, two, &[(0, 600)], 1)?;
-    assert_eq!(rt; reported(rt, shared, desk)?, 1256);
-    Ok(())
+) -> Result<Told, Fail> {
+    let one = attached(rt, alloc, shared)?;
+    let two = attached(rt, alloc, shared)?;
+    let two = with_row(two, 600)?;
+    let one = with_two_handed_over(rt, shared, one)?;
+    let (first, rows) = handed_in(rt, shared, with_row(one, 28)?, 3)?;
+    let (second, row) = handed_in(rt, shared, two, 1)?;
+    let octets = reported(rt, shared, desk)?;
+    Ok([first, rows[0], rows[1], rows[2], second, row[0], octets, 0])
 }
 
-fn take_in_turn<C: Detects + Drop, N: Naming, W: Board<Slot<N>> + Drop, R: Wait + Abort>(
-    rt: &R,
-    shared: &Shared<C, N, W>,
-    one: &mut Worker<C, N, OpenGate>,
-    two: &mut Worker<C, N, OpenGate>,
-) {
-    assert_eq!(rt; (one.worker(), two.worker()), (0, 1));
-    assert_eq!(rt; one.take(&packet(28)), Ok(()));
-    assert_eq!(rt; two.take(&packet(600)), Ok(()));
-    assert_eq!(rt; one.take(&packet(600)), Ok(()));
-    assert_eq!(rt; handed_over(rt, shared, one), Ok(2));
-    assert_eq!(rt; one.take(&packet(28)), Ok(()));
+// A worker with one more row that waits.
+fn with_row<C: Detects + Drop, N: Naming>(
+    mut worker: Worker<C, N, OpenGate>,
+    octets: u32,
+) -> Result<Worker<C, N, OpenGate>, Fail> {
+    if !takes(&mut worker, octets) {
+        return Err("a row may wait")?;
+    }
+    Ok(worker)
 }
 
-// A worker leaves, having handed these rows over, so many of them last.
-fn hands_in<C: Detects + Drop, N: Naming, W: Board<Slot<N>> + Drop, R: Wait + Abort>(
+// Rows of 28 and of 600 octets are handed over in one flush.
+fn with_two_handed_over<C: Detects + Drop, N: Naming, W: Board<Slot<N>> + Drop, R: Wait>(
     rt: &R,
     shared: &Shared<C, N, W>,
     worker: Worker<C, N, OpenGate>,
-    rows: &[(u64, u32)],
-    last: usize,
-) -> Result<(), Fail> {
-    let number = worker.worker();
-    let Ok((left, verdicts)) = worker.finish(rt, shared) else {
-        return Err("the session takes the rows")?;
-    };
-    assert_eq!(rt;
-        (left.worker(), left.abandoned(), verdicts.rows.len()),
-        (number, 0, last)
-    );
-    assert_eq!(rt; left.items().len(), rows.len());
-    for (item, row) in left.items().iter().zip(rows.iter()) {
-        assert_eq!(rt; told(item), *row);
+) -> Result<Worker<C, N, OpenGate>, Fail> {
+    let mut worker = with_row(with_row(worker, 28)?, 600)?;
+    if handed_over(rt, shared, &mut worker)? != 2 {
+        return Err("two rows waited")?;
     }
-    Ok(())
+    Ok(worker)
+}
+
+// A worker whose last row waits leaves: its number, and the octets of the first three of so many rows.
+fn handed_in<C: Detects + Drop, N: Naming, W: Board<Slot<N>> + Drop, R: Wait>(
+    rt: &R,
+    shared: &Shared<C, N, W>,
+    worker: Worker<C, N, OpenGate>,
+    rows: usize,
+) -> Result<(u64, [u64; 3]), Fail> {
+    let Ok((left, verdicts)) = worker.finish(rt, shared) else {
+        return Err("the session has room")?;
+    };
+    if verdicts.rows.len() != 1 || left.abandoned() != 0 || left.items().len() != rows {
+        return Err("one row waited, and all were handed over")?;
+    }
+    Ok((u64::from(left.worker()), octets_in_order(left.items())?))
+}
+
+// The octets of the first three rows of a lane.
+fn octets_in_order(items: &[Item]) -> Result<[u64; 3], Fail> {
+    let mut octets = [0; 3];
+    for (number, item) in items.iter().enumerate() {
+        if item.row.seq != number as u64 {
+            return Err("the rows are out of order")?;
+        }
+        if number < 3 {
+            octets[number] = u64::from(item.row.header.octets);
+        }
+    }
+    Ok(octets)
 }
