@@ -136,12 +136,7 @@ fn tell_behind_its_lock<
     requires table { Shows session.setting session.journal (gen session.journal) opened.table }
     requires book { (opened.book ≡ N.book) × (opened.root ≡ N.root) }
 {
-    let commands = commands_so_far(alloc, &session)?;
-    let Ok((state, shares)) = State::<N, _>::open(rt, alloc, session, opened, blanks, 2) else {
-        return Err("the session didn't come behind a lock")?;
-    };
-    let mut desk = Desk::new(commands, shares);
-    let shared = Shared::new(catalog, state);
+    let (shared, mut desk) = locked::<C, N, _>(rt, alloc, catalog, session, opened, blanks)?;
     give_commands(rt, alloc, &shared, &mut desk)?;
     match story {
         Story::RefusedFlush => batches::refused_flush(rt, alloc, &shared, &mut desk),
@@ -152,6 +147,30 @@ fn tell_behind_its_lock<
         Story::NoMemory => memory::no_memory(rt, alloc, &shared),
         Story::Gathered => gathering::gathered(rt, alloc, shared, desk),
         Story::OtherLane => gathering::other_lane(rt, alloc, shared, desk),
+    }
+}
+
+// A session behind its lock, with places for two workers, and its desk.
+fn locked<C: Offers + Drop, N: Naming, R: Wait + Drop>(
+    rt: R,
+    alloc: Global,
+    catalog: Arc<C>,
+    session: SessionState,
+    opened: Opened,
+    blanks: Blanks,
+) -> Result<(Shared<C, N, Writer<N, R>>, Desk<N>), Fail>
+    requires name { N.ledger ≡ name_at blanks }
+    requires setting { session.setting ≡ N.setting }
+    requires fresh { session.journal ≡ [] }
+    requires offers { C.offers (arc_value catalog) ≡ session.setting.catalog }
+    requires first { N.first ≡ gen session.journal }
+    requires table { Shows session.setting session.journal (gen session.journal) opened.table }
+    requires book { (opened.book ≡ N.book) × (opened.root ≡ N.root) }
+{
+    let commands = commands_so_far(alloc, &session)?;
+    match State::<N, _>::open(rt, alloc, session, opened, blanks, 2) {
+        Ok((state, shares)) => Ok((Shared::new(catalog, state), Desk::new(commands, shares))),
+        Err(_) => Err("the session didn't come behind a lock")?,
     }
 }
 

@@ -139,24 +139,6 @@ fn next_row<C: Detects + Drop, N: Naming>(
     Ok((item.row.seq, u64::from(item.row.header.octets)))
 }
 
-fn is_filled<C: Detects + Drop, N: Naming, R: Abort>(rt: &R, worker: &mut Worker<C, N, OpenGate>) {
-    for _ in 0..32u8 {
-        assert_eq!(rt; worker.take(&packet(28)), Ok(()));
-    }
-    assert_eq!(rt; worker.take(&packet(40)), Err(BatchFull));
-    assert_eq!(rt; (worker.waiting().len(), worker.rows().len()), (32, 0));
-}
-
-fn is_emptied<C: Detects + Drop, N: Naming, W: Board<Slot<N>> + Drop, R: Wait + Abort>(
-    rt: &R,
-    shared: &Shared<C, N, W>,
-    worker: &mut Worker<C, N, OpenGate>,
-) {
-    assert_eq!(rt; handed_over(rt, shared, worker), Ok(32));
-    assert_eq!(rt; (worker.waiting().len(), worker.rows().len()), (0, 32));
-    assert_eq!(rt; worker.take(&packet(40)), Ok(()));
-}
-
 #[test]
 fn what_two_workers_hand_in(rt: HostRuntime) -> Result<(), Fail> {
     let told = tell(&rt, rt.alloc(), 100, Story::TwoWorkers)?;
