@@ -26,7 +26,7 @@ use Rattle.pcef_model.proofs.JournalExtends.{rows_after_command, rows_after_flus
 use Rattle.pcef_model.proofs.SlotPlaces.{Grows}
 use Rattle.pcef_share.specs.Amounts.{plus}
 use Rattle.pcef_lock.specs.Counting.{AreCounted, IsLow, slot_total, with_item, with_items, with_slot}
-use Rattle.pcef_lock.proofs.Totals.{get_left, get_past, get_plus, get_there, length_plus, past_among, place_at, plus_other, plus_same}
+use Rattle.pcef_lock.proofs.Ledgers.{get_left, get_past, get_plus, get_there, length_plus, past_among, place_at, plus_other, plus_same}
 
 -- ---- what the definitions look at
 pub counted_same : (p : Setting) (j k : Journal) (key : List ℕ) → tables k ≡ tables j → rows k ≡ rows j → counted p k key ≡ counted p j key

@@ -16,7 +16,7 @@ use Rattle.pcef_lock.specs.Published.{ArePublished}
 use Rattle.pcef_lock.specs.private.Soundness.{IsSound}
 use Rattle.pcef_model.proofs.NewLanes.{lawful_numbered}
 use Rattle.pcef_lock.proofs.Keeps.{locked}
-use Rattle.pcef_lock.proofs.Totals.{length_plus, plus_other, plus_same}
+use Rattle.pcef_lock.proofs.Ledgers.{length_plus, plus_other, plus_same}
 
 no_rows : (rs : List Row) → All (λ (r : Row). r.worker < 0) rs → rs ≡ []
 no_rows [] below = refl

@@ -1,12 +1,16 @@
 pub mod Commanded
+pub mod Compared
 pub mod Continued
 pub mod Counted
 pub mod FirstState
+pub mod Gathered
 pub mod Handing
 pub mod Judged
 pub mod Keeps
+pub mod Ledgers
 pub mod Loops
 pub mod Numbers
 pub mod Publications
 pub mod Seats
-pub mod Totals
+pub mod Told
+pub mod TotalsOfKeys

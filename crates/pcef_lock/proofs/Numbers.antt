@@ -1,5 +1,5 @@
 -- The reports of lawful journals are numbered from 0 on.
-use Rattle.std.proofs.Common.{◌≡◌, ◌∙◌, ◌+◌, ℕ, zero, suc, List, [], ◌∷◌, ◌++◌, length, drop, reverse, refl, sym, ap, subst, arith}
+use Rattle.std.proofs.Common.{◌≡◌, ◌+◌, ℕ, zero, suc, List, [], ◌∷◌, ◌++◌, length, drop, reverse, refl, sym, subst, arith}
 use Rattle.std.proofs.lemmas.List.{length-reverse, reverse-append}
 use Rattle.pcef_model.specs.declared.entry.Entry.TheVariants as entry
 use Rattle.pcef_model.specs.declared.report.Report.{Report}
@@ -7,7 +7,7 @@ use Rattle.pcef_model.specs.declared.row.Row.{Row}
 use Rattle.pcef_model.specs.Entries.{Journal, reports}
 use Rattle.pcef_model.specs.Lawful.{Lawful, at_first, by_attach, by_command, by_flush, by_leave}
 use Rattle.pcef_model.specs.declared.pending_report.PendingReport.{PendingReport}
-use Rattle.pcef_model.specs.Reports.{after_command, after_flush, plan, tell, thresholds, with_rows}
+use Rattle.pcef_model.specs.Reports.{after_command, plan, tell, thresholds, with_rows}
 use Rattle.pcef_model.specs.Setting.{Setting}
 use Rattle.pcef_lock.specs.Reports.{AreNumbered}
 

@@ -1,10 +1,71 @@
--- What is handed in when all workers have left.
-use Rattle.std.specs.Prelude.{ℕ, List}
+-- What is handed in when all workers have left, and what it adds up to (TS 29.212, clause 4.5.16).
+use Rattle.std.specs.Prelude.{ℕ, ◌≡◌, ◌+◌, ◌≤◌, ◌<◌, ◌==◌, Bool, false, List, Option, Some, find, length, map, reverse, slice_get, sum_by, if◌then◌else◌}
+use Rattle.std.specs.Option.{option_map, option_map_or}
+use Rattle.pcef_model.specs.declared.command.Command.{Command}
+use Rattle.pcef_model.specs.declared.row.Row.{Row}
+use Rattle.pcef_model.specs.Setting.{Setting}
+use Rattle.pcef_model.specs.Entries.{Journal, commands, lane}
+use Rattle.pcef_model.specs.Journals.{attach_count, counted, reported, slots, unreported}
 use Rattle.pcef_session.specs.declared.batch.Item.{Item}
+use Rattle.pcef_session.specs.Following.{row_of}
+use Rattle.pcef_lock.specs.declared.gathering.GatherFault.{GatherFault}
+use Rattle.pcef_lock.specs.declared.gathering.GatherFault.TheVariants.{DeskDiffers, LaneDiffers, WorkersOut}
+use Rattle.pcef_lock.specs.declared.key_totals.KeyTotal.{KeyTotal}
+use Rattle.pcef_lock.specs.HandedIn.{HandedIn}
 
--- what a worker that left hands in: its number, the rows that it handed over by its own list, and how many waiting rows
--- it abandoned
-pub record HandedIn : Type 0 where
-  pub worker : ℕ
-  pub items : List Item
-  pub abandoned : ℕ
+-- ---- what the workers' own lists say
+-- the rows by the own list of a worker, if it is handed in
+abbrev pub own_list : ℕ → List HandedIn → Option (List Row)
+own_list worker handed = option_map (λ h. map row_of h.items) (find (λ h. h.worker == worker) handed)
+
+-- a worker is handed in, and its own list is its lane: each of its rows once, in order
+abbrev pub HasLane : Journal → List HandedIn → ℕ → Type 0
+HasLane j handed worker = own_list worker handed ≡ Some (reverse (lane j worker))
+
+-- so it is for every worker that ever came
+abbrev pub HaveLanes : Journal → List HandedIn → Type 0
+HaveLanes j handed = (worker : ℕ) → worker < attach_count j → HasLane j handed worker
+
+abbrev pub is_for : ℕ → Item → Bool
+is_for slot i = option_map_or (λ s. slot == s.0) i.slot false
+
+-- the octets of rows that count for a slot
+abbrev pub octets_for : ℕ → List Item → ℕ
+octets_for slot items = sum_by (λ i. if is_for slot i then i.row.header.octets else 0) items
+
+-- over all that is handed in: the octets that count for a slot, and the rows that were abandoned
+abbrev pub gathered : ℕ → List HandedIn → ℕ
+gathered slot handed = sum_by (λ h. octets_for slot h.items) handed
+
+abbrev pub rows_abandoned : List HandedIn → ℕ
+rows_abandoned handed = sum_by (λ h. h.abandoned) handed
+
+-- ---- what the journal says
+-- the totals of a key
+abbrev pub total_of : Setting → Journal → List ℕ → KeyTotal
+total_of p j key = record {
+  key = key;
+  counted = counted p j key;
+  reported = reported j key;
+  unreported = unreported p j key;
+}
+
+-- the totals of the keys that have a slot, in slot order
+abbrev pub key_totals : Setting → Journal → List KeyTotal
+key_totals p j = map (total_of p j) (slots p j)
+
+-- what was counted for the key of each slot is what the own lists have for it
+abbrev pub AreGathered : List KeyTotal → List HandedIn → Type 0
+AreGathered keys handed = (n : ℕ) (k : KeyTotal) → slice_get keys n ≡ Some k → k.counted ≡ gathered n handed
+
+-- ---- whether totals are had
+-- as many are handed in as workers came, each worker with its lane, and the desk with the journal's commands
+abbrev pub CanGather : Journal → List Command → List HandedIn → Type 0
+CanGather j listed handed = (attach_count j ≤ length handed) × HaveLanes j handed × (listed ≡ reverse (commands j))
+
+-- So many workers weren't handed in, no two that were being one. Else: the lane of this worker differs. Else: the list
+-- of the desk does.
+abbrev pub IsAtFault : Journal → List Command → List HandedIn → GatherFault → Type 0
+IsAtFault j listed handed (WorkersOut n) = (n + length handed ≡ attach_count j) × (0 < n)
+IsAtFault j listed handed (LaneDiffers w) = (attach_count j ≤ length handed) × (w < attach_count j) × (HasLane j handed w → ⊥)
+IsAtFault j listed handed DeskDiffers = (attach_count j ≤ length handed) × HaveLanes j handed × (listed ≡ reverse (commands j) → ⊥)

@@ -2,6 +2,7 @@ pub mod Outcomes
 pub mod Counting
 pub mod Desks
 pub mod Gathering
+pub mod HandedIn
 pub mod Judging
 pub mod Kept
 pub mod Lanes

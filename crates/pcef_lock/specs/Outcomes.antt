@@ -2,11 +2,12 @@
 use Rattle.std.specs.Prelude.{ℕ, ◌≡◌, ◌⊎◌, ◌+◌, false, List, Result, Ok, Err, map}
 use Rattle.pcef_model.specs.Setting.{Setting}
 use Rattle.pcef_model.specs.Entries.{Journal}
-use Rattle.pcef_model.specs.Outcomes.{AttachStep, FinishStep, FlushStep, Gives, FlushAnswer}
+use Rattle.pcef_model.specs.Outcomes.{AttachStep, FinishStep, FlushStep, Gives, FlushAnswer, judged_of}
 use Rattle.pcef_model.specs.declared.answer.AttachFault.{AttachFault}
 use Rattle.pcef_model.specs.declared.answer.AttachFault.TheVariants.{NoPlace}
 use Rattle.pcef_model.specs.declared.answer.FlushRefusal.{FlushRefusal}
 use Rattle.pcef_model.specs.declared.answer.FlushRefusal.TheVariants.{NotAttached}
+use Rattle.pcef_model.specs.declared.answer.Judged.{Judged}
 use Rattle.pcef_session.specs.declared.batch.Item.{Item}
 use Rattle.pcef_session.specs.Following.{row_of}
 use Rattle.pcef_share.specs.Amounts.{Account}
@@ -21,6 +22,10 @@ SeatStep issued places before result after =
 abbrev pub with_share : {A E : Type 0} → Result A E → Account → Account
 with_share (Ok a) books = record books { issued = books.issued + 1 }
 with_share (Err e) books = books
+
+-- what is told of rows that are taken over: the generation and the verdict of each, in order
+abbrev pub judged_rows : List Item → List Judged
+judged_rows items = map judged_of (map row_of items)
 
 -- rows are handed over, unless they don't continue their lane
 abbrev pub HandOverStep : Setting → ℕ → List Item → Journal → Result FlushAnswer FlushRefusal → Journal → Type 0

@@ -76,6 +76,13 @@ impl<N: Naming> Desk<N> {
         self.commands.as_slice()
     }
 
+    /// The shares of the commands.
+    pub(crate) fn into_shares(self) -> Shares<N>
+        ensures { result ≡ plus zeros command_ledger (length self.commands) }
+    {
+        self.shares
+    }
+
     /// Gives a command, as [`crate::State::command`] answers it. One that is accepted and changes something comes to
     /// the desk's list and into its share. Takes memory, and may meet want of it before another refusal is seen.
     pub fn command<C: Offers + Drop, W: Board<Slot<N>> + Drop, R: Wait>(

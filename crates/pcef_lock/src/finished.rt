@@ -21,7 +21,7 @@ impl<N: Naming> Model for Finished<N> {
     ghost use Rattle.std.specs.Prelude.{◌≡◌};
     ghost use Rattle.pcef_share.specs.Amounts.{zeros};
     ghost use Rattle.pcef_lock.specs.Counting.{with_items};
-    ghost use Rattle.pcef_lock.specs.Gathering.{HandedIn};
+    ghost use Rattle.pcef_lock.specs.HandedIn.{HandedIn};
 
     ghost Value = { HandedIn };
 
@@ -63,5 +63,11 @@ impl<N: Naming> Finished<N> {
         ensures { result ≡ self.now.abandoned }
     {
         self.abandoned
+    }
+    /// What its rows count.
+    pub(crate) fn into_shares(self) -> Shares<N>
+        ensures { result ≡ with_items zeros self.items }
+    {
+        self.shares
     }
 }

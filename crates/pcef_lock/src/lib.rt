@@ -4,9 +4,12 @@
 mod counting;
 mod desk;
 mod finished;
+mod gathering;
+mod key_totals;
 mod lanes;
 mod opening;
 mod publishing;
+mod sameness;
 mod seat;
 mod shared;
 mod state;
@@ -15,7 +18,9 @@ mod tests;
 
 pub use desk::{Desk, commands_so_far};
 pub use finished::Finished;
+pub use gathering::{GatherFault, Totals};
+pub use key_totals::{KeyTotal, KeyTotals};
 pub use opening::{SharedFault, opened};
 pub use seat::Seat;
-pub use shared::Shared;
-pub use state::State;
+pub use shared::{Shared, Ungathered};
+pub use state::{State, StateUngathered};

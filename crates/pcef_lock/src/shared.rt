@@ -1,15 +1,22 @@
 //! The lock of a session.
 
-ghost use Rattle.std.specs.Prelude.{◌≡◌, ◌+◌, ◌<◌, ◌^◌, IfErr, IfOk, length};
+ghost use Rattle.std.specs.Prelude.{◌≡◌, ◌≤◌, ◌+◌, ◌<◌, ◌^◌, All, IfErr, IfOk, length, reverse};
 ghost use Rattle.std.specs.Arc.{arc_value};
+ghost use Rattle.pcef_model.specs.Entries.{commands, rows};
+ghost use Rattle.pcef_model.specs.Journals.{attach_count};
 ghost use Rattle.pcef_share.specs.Amounts.{zeros};
 ghost use Rattle.pcef_lock.specs.Counting.{with_command, with_taken};
+ghost use Rattle.pcef_lock.specs.Gathering.{AreGathered, HaveLanes, key_totals, rows_abandoned};
 ghost use Rattle.pcef_lock.specs.Judging.{AllJudged};
+ghost use Rattle.pcef_lock.specs.Outcomes.{judged_rows};
 ghost use Rattle.pcef_lock.specs.Reports.{AreNumbered};
 ghost use mathlib.Core.List.{IsPrefix};
 
+use crate::desk::Desk;
+use crate::finished::Finished;
+use crate::gathering::{GatherFault, Totals};
 use crate::seat::Seat;
-use crate::state::State;
+use crate::state::{State, StateUngathered};
 use pcef_catalog::Offers;
 use pcef_model::{Accepted, AttachFault, Command, FlushRefusal, Refusal, Report, Verdicts};
 use pcef_publish::{Board, Slot};
@@ -37,6 +44,19 @@ impl<C: Offers + Drop, N: Naming, W: Board<Slot<N>> + Drop> Model for Shared<C, 
     ghost view = { λ s. C.offers (arc_value s.catalog) };
 
     ghost invariant = { λ s. C.offers (arc_value s.catalog) ≡ N.setting.catalog };
+}
+
+/// What is handed back where no totals were had: the reason, and all that was handed in.
+#[derive(Drop)]
+pub struct Ungathered<C: Offers + Drop, N: Naming, W: Board<Slot<N>> + Drop> {
+    /// Why.
+    pub fault: GatherFault,
+    /// The session behind its lock.
+    pub shared: Shared<C, N, W>,
+    /// The desk.
+    pub desk: Desk<N>,
+    /// What the workers handed in.
+    pub finished: Vec<Finished<N>>,
 }
 
 impl<C: Offers + Drop, N: Naming, W: Board<Slot<N>> + Drop> Shared<C, N, W> {
@@ -95,6 +115,7 @@ impl<C: Offers + Drop, N: Naming, W: Board<Slot<N>> + Drop> Shared<C, N, W> {
         batch: &Batch,
     ) -> Result<Verdicts, FlushRefusal>
         requires { AllJudged N.setting N.first seat.old.subscriber batch.now }
+        ensures told { IfOk result (λ v. v.rows.items ≡ judged_rows batch.now) }
         ensures shares { seat.new.shares ≡ with_taken result seat.old.shares batch.now }
         ensures seat { (seat.new.worker ≡ seat.old.worker) × (seat.new.subscriber ≡ seat.old.subscriber) × (seat.new.ue ≡ seat.old.ue) }
     {
@@ -109,6 +130,7 @@ impl<C: Offers + Drop, N: Naming, W: Board<Slot<N>> + Drop> Shared<C, N, W> {
         batch: &Batch,
     ) -> Result<(Verdicts, u64), FlushRefusal>
         requires { AllJudged N.setting N.first seat.old.subscriber batch.now }
+        ensures told { IfOk result (λ v. v.0.rows.items ≡ judged_rows batch.now) }
         ensures shares { seat.new.shares ≡ with_taken result seat.old.shares batch.now }
         ensures seat { (seat.new.worker ≡ seat.old.worker) × (seat.new.subscriber ≡ seat.old.subscriber) × (seat.new.ue ≡ seat.old.ue) }
     {
@@ -126,5 +148,45 @@ impl<C: Offers + Drop, N: Naming, W: Board<Slot<N>> + Drop> Shared<C, N, W> {
         ensures fits { IfOk result (λ v. from + length v.items < 2 ^ 64) }
     {
         self.state.lock(rt).collect(from)
+    }
+
+    /// As [`State::gather`], of the value behind the lock, which ends with it. The headline's last clause: for each
+    /// monitoring key the octets that the journal's rows passed for it, those of all workers' lists, and those that were
+    /// reported and that weren't are one number; each row stands in one worker's list, once.
+    pub fn gather<R: Wait>(
+        self,
+        rt: &R,
+        desk: Desk<N>,
+        finished: Vec<Finished<N>>,
+    ) -> Result<Totals, Ungathered<C, N, W>>
+        requires { length finished.items ≤ 16 }
+        ensures workers { IfOk result (λ t. length finished.items ≡ attach_count t.session.journal) }
+        ensures lanes { IfOk result (λ t. HaveLanes t.session.journal finished.items) }
+        ensures desk { IfOk result (λ t. desk.commands ≡ reverse (commands t.session.journal)) }
+        ensures keys { IfOk result (λ t. t.keys ≡ key_totals N.setting t.session.journal) }
+        ensures gathered { IfOk result (λ t. AreGathered t.keys finished.items) }
+        ensures sums { IfOk result (λ t. All (λ k. k.counted ≡ k.reported + k.unreported) t.keys) }
+        ensures rows { IfOk result (λ t. t.rows ≡ length (rows t.session.journal)) }
+        ensures abandoned { IfOk result (λ t. t.abandoned ≡ rows_abandoned finished.items) }
+        ensures back { IfErr result (λ e. (e.desk ≡ desk) × (e.finished.items ≡ finished.items)) }
+    {
+        let Shared { catalog, state } = self;
+        match state.into_inner().gather(desk, finished) {
+            Ok(totals) => Ok(totals),
+            Err(ungathered) => {
+                let StateUngathered {
+                    fault,
+                    state,
+                    desk,
+                    finished,
+                } = ungathered;
+                Err(Ungathered {
+                    fault,
+                    shared: Shared::new(catalog, state),
+                    desk,
+                    finished,
+                })
+            }
+        }
     }
 }

@@ -27,7 +27,10 @@ use std::alloc::{AllocError, Global};
 use std::marker::Model;
 
 mod collecting;
+mod gathering;
 mod handing;
+
+pub use gathering::StateUngathered;
 
 /// A session with the publisher of its tables, the subscribers that no worker has yet, and its books. It is the value
 /// behind a session's lock: what always holds of it, every hold of the lock finds.

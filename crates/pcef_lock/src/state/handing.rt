@@ -1,10 +1,10 @@
 //! Rows that workers hand over, and workers that leave.
 
-ghost use Rattle.std.specs.Prelude.{◌≡◌, ◌≤◌, length, map, true};
+ghost use Rattle.std.specs.Prelude.{◌≡◌, ◌≤◌, IfOk, length, map, true};
 ghost use Rattle.std.specs.Result.{result_map_both};
 ghost use Rattle.pcef_model.specs.Outcomes.{abandon_outcome, finish_answer_of, flush_answer_of};
 ghost use Rattle.pcef_model.specs.Journals.{slots};
-ghost use Rattle.pcef_lock.specs.Outcomes.{LeaveStep, HandOverStep};
+ghost use Rattle.pcef_lock.specs.Outcomes.{LeaveStep, HandOverStep, judged_rows};
 ghost use Rattle.pcef_lock.specs.Counting.{with_taken};
 ghost use Rattle.pcef_lock.specs.Judging.{AllJudged};
 ghost use Rattle.pcef_lock.specs.Lanes.{continues_lane};
@@ -42,6 +42,7 @@ impl<N: Naming, W: Board<Slot<N>> + Drop> State<N, W> {
     /// the worker is refused as of one that isn't attached. Takes memory.
     pub fn flush(&mut self, seat: &mut Seat<N>, batch: &Batch) -> Result<Verdicts, FlushRefusal>
         requires { AllJudged N.setting N.first seat.old.subscriber batch.now }
+        ensures told { IfOk result (λ v. v.rows.items ≡ judged_rows batch.now) }
         ensures answer { HandOverStep N.setting seat.old.worker batch.now self.old.session.journal (result_map_both flush_answer_of (λ e. e) result) self.new.session.journal }
         ensures tables { self.new.tables ≡ self.old.tables }
         ensures seen { IsPrefix seat.old.subscriber self.old.tables }
@@ -71,6 +72,7 @@ impl<N: Naming, W: Board<Slot<N>> + Drop> State<N, W> {
         batch: &Batch,
     ) -> Result<(Verdicts, u64), FlushRefusal>
         requires { AllJudged N.setting N.first seat.old.subscriber batch.now }
+        ensures told { IfOk result (λ v. v.0.rows.items ≡ judged_rows batch.now) }
         ensures answer { LeaveStep N.setting seat.old.worker batch.now self.old.session.journal (result_map_both finish_answer_of (λ e. e) result) self.new.session.journal }
         ensures tables { self.new.tables ≡ self.old.tables }
         ensures seen { IsPrefix seat.old.subscriber self.old.tables }

@@ -8,6 +8,7 @@ use Rattle.pcef_lock.specs.Counting.{IsLow, with_items}
 use Rattle.pcef_lock.specs.Lanes.{continues_lane}
 use Rattle.pcef_lock.proofs.Handing.{all_low, handed_well, octets_fit, sound_finished}
 use Rattle.pcef_lock.proofs.Keeps.{sound_same}
+use Rattle.pcef_lock.proofs.Told.{finish_told}
 use Rattle.pcef_lock.proofs.state.State.finish.Goals as goal
 
 pub finish-requires-clause-follow : goal.finish-requires-clause-follow
@@ -59,3 +60,8 @@ invariant_of-self-2 g c =
     rw c.compare.ensures.publisher
     (sound_finished g.N.Naming.setting g.N.Naming.first c.self.inside.session c.finish.new.self c.self.inside.publisher c.self.inside.books c.count_items.new.books c.self.inside.places (length c.self.inside.subscribers.items)
     c.args.seat.now.worker c.args.batch.now few well.has small once.0 once.1 c.finish.ensures.setting books c.self.invariant)
+
+pub returns-clause-told : goal.returns-clause-told
+returns-clause-told g c =
+    finish_told c.self.inside.session.setting c.args.seat.now.worker (map row_of c.args.batch.now) c.self.inside.session.journal c.finish.new.self.journal
+    (finish_answer_of c.in-Ok.last) c.in-Ok.ensures.answer

@@ -1,0 +1,144 @@
+//! All books of a session, when its workers have left.
+
+ghost use Rattle.std.specs.Prelude.{◌≡◌, ◌≤◌, ◌<◌, ◌+◌, ◌∷◌, ℕ, All, IfErr, IfOk, IfSome, None, Some, length, map, reverse, slice_index};
+ghost use Rattle.pcef_model.specs.Entries.{commands, rows};
+ghost use Rattle.pcef_model.specs.Journals.{attach_count};
+ghost use Rattle.pcef_model.specs.Lawful.{Lawful};
+ghost use Rattle.pcef_share.specs.Amounts.{zeros};
+ghost use Rattle.pcef_lock.specs.Counting.{slot_total, with_items};
+ghost use Rattle.pcef_lock.specs.Gathering.{AreGathered, CanGather, HaveLanes, IsAtFault, key_totals, rows_abandoned};
+
+use super::State;
+use crate::desk::Desk;
+use crate::finished::Finished;
+use crate::gathering::{GatherFault, Totals, abandoned, are_commands, differing};
+use crate::key_totals::{KeyTotal, KeyTotals};
+use arrayvec::ArrayVec;
+use pcef_publish::{Board, Slot};
+use pcef_session::SessionState;
+use pcef_share::{Naming, Shares};
+
+/// What is handed back where no totals were had: the reason, and all that was handed in.
+#[derive(Drop)]
+pub struct StateUngathered<N: Naming, W: Board<Slot<N>> + Drop> {
+    /// Why.
+    pub fault: GatherFault,
+    /// The value behind the lock.
+    pub state: State<N, W>,
+    /// The desk.
+    pub desk: Desk<N>,
+    /// What the workers handed in.
+    pub finished: Vec<Finished<N>>,
+}
+
+/// The shares of the desk and of the workers.
+fn all_shares<N: Naming>(
+    shares: Shares<N>,
+    finished: Vec<Finished<N>>,
+) -> ArrayVec<Option<Shares<N>>, 17>
+    requires { length finished.items ≤ 16 }
+    ensures { result.items ≡ Some shares ∷ map (λ h. Some (with_items zeros h.items)) finished.items }
+{
+    let mut all = ArrayVec::new();
+    all.push(Some(shares));
+    for f in finished {
+        all.push(Some(f.into_shares()));
+    }
+    all
+}
+
+/// The totals of the keys of a session, whose books hold these amounts.
+fn totals_of(session: &SessionState, amounts: &[u64; 10]) -> KeyTotals
+    requires { (n : ℕ) → n < 8 → slice_index amounts.now n ≡ slot_total session.now.setting session.now.journal n }
+    ensures keys { result ≡ key_totals session.now.setting session.now.journal }
+    ensures few { length result ≤ 8 }
+{
+    let mut totals = KeyTotals::new();
+    for (slot, state) in session.usage().states().iter().enumerate() {
+        totals.push(KeyTotal {
+            key: state.key.copy(),
+            counted: amounts[slot],
+            reported: state.reported,
+            unreported: state.unreported,
+        });
+    }
+    totals
+}
+
+impl<N: Naming, W: Board<Slot<N>> + Drop> State<N, W> {
+    /// How many workers ever came.
+    fn workers(&self) -> u8
+        ensures number { result ≡ attach_count self.now.session.journal }
+        ensures most { result ≤ 16 }
+    {
+        self.books.issued() - 1
+    }
+
+    /// Why no totals can be had, if they can't.
+    fn gather_fault(&self, desk: &Desk<N>, finished: &[Finished<N>]) -> Option<GatherFault>
+        requires { length finished.now ≤ 16 }
+        ensures none { result ≡ None → CanGather self.now.session.journal desk.now.commands finished.now }
+        ensures some { IfSome result (IsAtFault self.now.session.journal desk.now.commands finished.now) }
+        ensures lawful { Lawful self.now.session.setting self.now.session.journal }
+    {
+        let journal = self.session.journal();
+        let workers = self.workers();
+        let here = finished.len() as u8;
+        if here < workers {
+            return Some(GatherFault::WorkersOut(workers - here));
+        }
+        if let Some(worker) = differing(journal, finished, workers) {
+            return Some(GatherFault::LaneDiffers(worker));
+        }
+        if !are_commands(desk.commands(), journal.commands()) {
+            return Some(GatherFault::DeskDiffers);
+        }
+        None
+    }
+
+    /// The totals of the session when all its workers have left: each was handed in with its lane, and the desk with
+    /// the journal's commands. What is counted for a key is then what the own lists of the workers have for it, and it
+    /// is reported or unreported. Else all comes back with the first fault in the order of [`GatherFault`]. Takes no
+    /// memory. The conditions of the caller: the desk and the workers are those of this lock, and no two of them are of
+    /// one worker.
+    pub fn gather(
+        self,
+        desk: Desk<N>,
+        finished: Vec<Finished<N>>,
+    ) -> Result<Totals, StateUngathered<N, W>>
+        requires { length finished.items ≤ 16 }
+        ensures session { IfOk result (λ t. t.session ≡ self.session) }
+        ensures workers { IfOk result (λ _. length finished.items ≡ attach_count self.session.journal) }
+        ensures lanes { IfOk result (λ _. HaveLanes self.session.journal finished.items) }
+        ensures desk { IfOk result (λ _. desk.commands ≡ reverse (commands self.session.journal)) }
+        ensures keys { IfOk result (λ t. t.keys ≡ key_totals N.setting self.session.journal) }
+        ensures gathered { IfOk result (λ t. AreGathered t.keys finished.items) }
+        ensures sums { IfOk result (λ t. All (λ k. k.counted ≡ k.reported + k.unreported) t.keys) }
+        ensures rows { IfOk result (λ t. t.rows ≡ length (rows self.session.journal)) }
+        ensures abandoned { IfOk result (λ t. t.abandoned ≡ rows_abandoned finished.items) }
+        ensures fault { IfErr result (λ e. IsAtFault self.session.journal desk.commands finished.items e.fault) }
+        ensures back { IfErr result (λ e. (e.state ≡ self) × (e.desk ≡ desk) × (e.finished.items ≡ finished.items)) }
+    {
+        if let Some(fault) = self.gather_fault(&desk, finished.as_slice()) {
+            return Err(StateUngathered {
+                fault,
+                state: self,
+                desk,
+                finished,
+            });
+        }
+        let abandoned = abandoned(finished.as_slice());
+        let shares = all_shares(desk.into_shares(), finished);
+        let State { session, books, .. } = self;
+        let Ok(amounts) = books.gather(shares) else {
+            unreachable!()
+        };
+        let keys = totals_of(&session, &amounts);
+        Ok(Totals {
+            session,
+            rows: amounts[8],
+            abandoned,
+            keys,
+        })
+    }
+}

@@ -1,0 +1,11 @@
+use Rattle.std.proofs.Common.{◌∙◌}
+use Rattle.pcef_lock.proofs.Judged.{all_judged_later}
+use Rattle.pcef_worker.proofs.worker.Worker.meet.Goals as goal
+
+pub invariant_of-self : goal.invariant_of-self
+invariant_of-self g c = (
+  c.meet.ensures.seat.1 ∙ c.self.invariant.0,
+  c.meet.ensures.seat.2 ∙ c.self.invariant.1,
+  c.self.invariant.2,
+  all_judged_later g.N.Naming.setting g.N.Naming.first c.self.inside.seat.subscriber c.meet.new.seat.subscriber c.self.inside.waiting c.meet.ensures.grows c.self.invariant.3,
+)

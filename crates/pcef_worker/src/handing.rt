@@ -1,0 +1,148 @@
+//! Rows that a worker hands over, and how it leaves.
+
+ghost use Rattle.std.specs.Prelude.{◌≡◌, ◌++◌, ◌≤◌, ◌+◌, IfErr, IfOk, OnErr, OnOk, length, vec_capacity, vec_len};
+ghost use Rattle.pcef_lock.specs.Outcomes.{judged_rows};
+ghost use Rattle.pcef_worker.specs.Working.{abandoned, finished, flushed};
+
+use crate::gate::{Gate, Point};
+use crate::worker::Worker;
+use pcef_catalog::Detects;
+use pcef_lock::{Finished, Seat, Shared};
+use pcef_model::{FlushRefusal, Verdicts};
+use pcef_publish::{Board, Slot};
+use pcef_session::{Item, MAX_WAITING};
+use pcef_share::Naming;
+use std::sync::Wait;
+
+/// Adds copies of rows to a list that has the room.
+fn keep_all(rows: &mut Vec<Item>, items: &[Item])
+    requires { vec_len rows.old + length items.now ≤ vec_capacity rows.old }
+    ensures { rows.new.items ≡ rows.old.items ++ items.now }
+{
+    for item in items {
+        rows.push_reserved(Item {
+            row: item.row.copy(),
+            slot: item.slot,
+        });
+    }
+}
+
+impl<C: Detects + Drop, N: Naming, G: Gate + Drop> Worker<C, N, G> {
+    /// Hands the waiting rows over in one hold of the lock, and keeps them in the worker's own list.
+    fn hand_over<W: Board<Slot<N>> + Drop, R: Wait>(
+        &mut self,
+        rt: &R,
+        shared: &Shared<C, N, W>,
+    ) -> Result<Verdicts, FlushRefusal>
+        ensures told { IfOk result (λ v. v.rows.items ≡ judged_rows self.old.waiting) }
+        ensures flushed { OnOk result (self.new ≡ flushed self.old) }
+        ensures refused { OnErr result (self.new ≡ self.old) }
+    {
+        if self.rows.reserve(MAX_WAITING).is_err() {
+            return Err(FlushRefusal::NoMemory);
+        }
+        let verdicts = match shared.flush(rt, &mut self.seat, &self.waiting) {
+            Ok(verdicts) => verdicts,
+            Err(refusal) => return Err(refusal),
+        };
+        keep_all(&mut self.rows, self.waiting.items());
+        self.waiting.clear();
+        Ok(verdicts)
+    }
+
+    /// Hands the waiting rows over and leaves, in one hold of the lock.
+    fn hand_last<W: Board<Slot<N>> + Drop, R: Wait>(
+        &mut self,
+        rt: &R,
+        shared: &Shared<C, N, W>,
+    ) -> Result<Verdicts, FlushRefusal>
+        ensures told { IfOk result (λ v. v.rows.items ≡ judged_rows self.old.waiting) }
+        ensures flushed { OnOk result (self.new ≡ flushed self.old) }
+        ensures refused { OnErr result (self.new ≡ self.old) }
+    {
+        if self.rows.reserve(MAX_WAITING).is_err() {
+            return Err(FlushRefusal::NoMemory);
+        }
+        let verdicts = match shared.finish(rt, &mut self.seat, &self.waiting) {
+            Ok((verdicts, _)) => verdicts,
+            Err(refusal) => return Err(refusal),
+        };
+        keep_all(&mut self.rows, self.waiting.items());
+        self.waiting.clear();
+        Ok(verdicts)
+    }
+
+    /// What it hands in that left with so many rows waiting.
+    fn into_finished(self, abandoned: u8) -> Finished<N>
+        ensures { result ≡ record { worker = self.worker; items = self.rows; abandoned = abandoned } }
+    {
+        let Worker {
+            seat,
+            catalog: _,
+            gate: _,
+            waiting: _,
+            rows,
+        } = self;
+        let Seat {
+            worker,
+            shares,
+            subscriber: _,
+            ue: _,
+        } = seat;
+        Finished::new(worker, rows, shares, abandoned)
+    }
+
+    /// Hands the waiting rows over, all or none, in one hold of the lock, and gives their verdicts; or answers the first
+    /// refusal in the order of [`FlushRefusal`], which changes nothing. The gate is called before and after, with no
+    /// lock held. Takes memory, and may meet want of it before another refusal is seen. Waits for the lock.
+    pub fn flush<W: Board<Slot<N>> + Drop, R: Wait>(
+        &mut self,
+        rt: &R,
+        shared: &Shared<C, N, W>,
+    ) -> Result<Verdicts, FlushRefusal>
+        ensures told { IfOk result (λ v. v.rows.items ≡ judged_rows self.old.waiting) }
+        ensures flushed { OnOk result (self.new ≡ flushed self.old) }
+        ensures refused { OnErr result (self.new ≡ self.old) }
+    {
+        self.gate.at(Point::FlushBegins(self.seat.worker));
+        let answer = self.hand_over(rt, shared);
+        self.gate.at(Point::FlushAnswered(self.seat.worker));
+        answer
+    }
+
+    /// Hands the waiting rows over, as [`Worker::flush`] does, and leaves, both in one hold of the lock: what it hands
+    /// in, and the verdicts of its last rows. After a refusal, which changes nothing, the worker comes back and is
+    /// there as before. The gate is called before and after, with no lock held. Takes memory. Waits for the lock.
+    pub fn finish<W: Board<Slot<N>> + Drop, R: Wait>(
+        self,
+        rt: &R,
+        shared: &Shared<C, N, W>,
+    ) -> Result<(Finished<N>, Verdicts), (Worker<C, N, G>, FlushRefusal)>
+        ensures left { IfOk result (λ r. r.0 ≡ finished self) }
+        ensures told { IfOk result (λ r. r.1.rows.items ≡ judged_rows self.waiting) }
+        ensures back { IfErr result (λ e. e.0 ≡ self) }
+    {
+        let mut worker = self;
+        worker.gate.at(Point::FlushBegins(worker.seat.worker));
+        let answer = worker.hand_last(rt, shared);
+        worker.gate.at(Point::FlushAnswered(worker.seat.worker));
+        match answer {
+            Ok(verdicts) => Ok((worker.into_finished(0), verdicts)),
+            Err(refusal) => Err((worker, refusal)),
+        }
+    }
+
+    /// Leaves in one hold of the lock. The rows that wait get no verdict and never reach the session: they are only
+    /// counted. Takes no memory. Waits for the lock.
+    pub fn abandon<W: Board<Slot<N>> + Drop, R: Wait>(
+        self,
+        rt: &R,
+        shared: &Shared<C, N, W>,
+    ) -> Finished<N>
+        ensures { result ≡ abandoned self }
+    {
+        let waiting = self.waiting.len() as u8;
+        shared.abandon(rt, &self.seat);
+        self.into_finished(waiting)
+    }
+}

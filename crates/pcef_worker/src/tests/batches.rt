@@ -1,0 +1,219 @@
+//! Rows that wait, that are handed over and that are not.
+
+use super::*;
+use pcef_model::FlushRefusal;
+
+#[test]
+fn a_refused_flush_keeps_the_rows(rt: HostRuntime) -> Result<(), Fail> {
+    let told = tell(&rt, rt.alloc(), 1, Story::RefusedFlush)?;
+    assert_eq!(rt; told, [2, 0, 2, 0, 0, 2, 1, 40]);
+    Ok(())
+}
+
+// The session takes one row, and two wait: how many wait and were handed over after each of two flushes, how many rows
+// are handed in and how many were given up. A later worker's row is taken, so nothing of them came to the session: how
+// many verdicts it gets, and the octets of the report.
+pub fn refused_flush<C: Detects + Drop, N: Naming, W: Board<Slot<N>> + Drop, R: Wait>(
+    rt: &R,
+    alloc: Global,
+    shared: &Shared<C, N, W>,
+    desk: &mut Desk<N>,
+) -> Result<Told, Fail> {
+    let (first, second, left) = refused_twice(rt, alloc, shared)?;
+    let later = one_handed_over(rt, alloc, shared)?;
+    let octets = reported(rt, shared, desk)?;
+    Ok([
+        first.0, first.1, second.0, second.1, left.0, left.1, later, octets,
+    ])
+}
+
+// The rows that wait and that were handed over after each refused flush, and those that are handed in and given up.
+fn refused_twice<C: Detects + Drop, N: Naming, W: Board<Slot<N>> + Drop, R: Wait>(
+    rt: &R,
+    alloc: Global,
+    shared: &Shared<C, N, W>,
+) -> Result<((u64, u64), (u64, u64), (u64, u64)), Fail> {
+    let mut worker = attached(rt, alloc, shared)?;
+    if !(takes(&mut worker, 28) && takes(&mut worker, 600)) {
+        return Err("two rows may wait")?;
+    }
+    let first = refused(rt, shared, &mut worker)?;
+    let second = refused(rt, shared, &mut worker)?;
+    Ok((first, second, given_up(rt, shared, worker)?))
+}
+
+// A flush for which the session has no room: the rows that wait and that were handed over after it.
+fn refused<C: Detects + Drop, N: Naming, W: Board<Slot<N>> + Drop, R: Wait>(
+    rt: &R,
+    shared: &Shared<C, N, W>,
+    worker: &mut Worker<C, N, OpenGate>,
+) -> Result<(u64, u64), Fail> {
+    match worker.flush(rt, shared) {
+        Err(FlushRefusal::RowsFull) => Ok(rows_of(worker)),
+        _ => Err("the session has no room")?,
+    }
+}
+
+// A finish for which the session has no room, and then the way out: the rows that are handed in and given up.
+fn given_up<C: Detects + Drop, N: Naming, W: Board<Slot<N>> + Drop, R: Wait>(
+    rt: &R,
+    shared: &Shared<C, N, W>,
+    worker: Worker<C, N, OpenGate>,
+) -> Result<(u64, u64), Fail> {
+    let Err((worker, FlushRefusal::RowsFull)) = worker.finish(rt, shared) else {
+        return Err("the session has no room")?;
+    };
+    let left = worker.abandon(rt, shared);
+    Ok((left.items().len() as u64, u64::from(left.abandoned())))
+}
+
+// A worker comes and hands a row of 40 octets over: how many verdicts it gets.
+fn one_handed_over<C: Detects + Drop, N: Naming, W: Board<Slot<N>> + Drop, R: Wait>(
+    rt: &R,
+    alloc: Global,
+    shared: &Shared<C, N, W>,
+) -> Result<u64, Fail> {
+    let mut worker = attached(rt, alloc, shared)?;
+    if !takes(&mut worker, 40) {
+        return Err("a row may wait")?;
+    }
+    handed_over(rt, shared, &mut worker)
+}
+
+// How many verdicts a flush gives.
+fn handed_over<C: Detects + Drop, N: Naming, W: Board<Slot<N>> + Drop, R: Wait>(
+    rt: &R,
+    shared: &Shared<C, N, W>,
+    worker: &mut Worker<C, N, OpenGate>,
+) -> Result<u64, Fail> {
+    let verdicts = worker.flush(rt, shared)?;
+    Ok(verdicts.rows.len() as u64)
+}
+
+#[test]
+fn as_many_rows_wait_as_may(rt: HostRuntime) -> Result<(), Fail> {
+    let told = tell(&rt, rt.alloc(), 100, Story::FullBatch)?;
+    assert_eq!(rt; told, [32, 32, 0, 32, 0, 32, 32, 40]);
+    Ok(())
+}
+
+// 33 packets come: how many rows are taken and wait, and how many were handed over; how many verdicts a flush gives,
+// and again how many wait and were handed over. One more comes: the number and the octets of its row.
+pub fn full_batch<C: Detects + Drop, N: Naming, W: Board<Slot<N>> + Drop, R: Wait>(
+    rt: &R,
+    alloc: Global,
+    shared: &Shared<C, N, W>,
+) -> Result<Told, Fail> {
+    let mut worker = attached(rt, alloc, shared)?;
+    let taken = as_many_as_may(&mut worker);
+    let before = rows_of(&worker);
+    let verdicts = handed_over(rt, shared, &mut worker)?;
+    let after = rows_of(&worker);
+    let (seq, octets) = next_row(&mut worker)?;
+    Ok([
+        taken, before.0, before.1, verdicts, after.0, after.1, seq, octets,
+    ])
+}
+
+// How many of 33 packets are taken.
+fn as_many_as_may<C: Detects + Drop, N: Naming>(worker: &mut Worker<C, N, OpenGate>) -> u64 {
+    let mut taken = 0;
+    for _ in 0..33u8 {
+        if takes(worker, 28) {
+            taken += 1;
+        }
+    }
+    taken
+}
+
+// A packet of 40 octets is taken where no row waits: the number of its row in its lane, and its octets.
+fn next_row<C: Detects + Drop, N: Naming>(
+    worker: &mut Worker<C, N, OpenGate>,
+) -> Result<(u64, u64), Fail> {
+    if !takes(worker, 40) {
+        return Err("a row may wait")?;
+    }
+    let [item] = worker.waiting() else {
+        return Err("one row waits")?;
+    };
+    Ok((item.row.seq, u64::from(item.row.header.octets)))
+}
+
+#[test]
+fn what_two_workers_hand_in(rt: HostRuntime) -> Result<(), Fail> {
+    let told = tell(&rt, rt.alloc(), 100, Story::TwoWorkers)?;
+    assert_eq!(rt; told, [0, 28, 600, 28, 1, 600, 1256, 0]);
+    Ok(())
+}
+
+// One worker hands over rows of 28, 600 and 28 octets, the other one a row of 600: their numbers and the octets of the
+// rows that they hand in, in order, and the octets of the report.
+pub fn two_workers<C: Detects + Drop, N: Naming, W: Board<Slot<N>> + Drop, R: Wait>(
+    rt: &R,
+    alloc: Global,
+    shared: &Shared<C, N, W>,
+    desk: &mut Desk<N>,
+) -> Result<Told, Fail> {
+    let one = attached(rt, alloc, shared)?;
+    let two = attached(rt, alloc, shared)?;
+    let two = with_row(two, 600)?;
+    let one = with_two_handed_over(rt, shared, one)?;
+    let (first, rows) = handed_in(rt, shared, with_row(one, 28)?, 3)?;
+    let (second, row) = handed_in(rt, shared, two, 1)?;
+    let octets = reported(rt, shared, desk)?;
+    Ok([first, rows[0], rows[1], rows[2], second, row[0], octets, 0])
+}
+
+// A worker with one more row that waits.
+fn with_row<C: Detects + Drop, N: Naming>(
+    mut worker: Worker<C, N, OpenGate>,
+    octets: u32,
+) -> Result<Worker<C, N, OpenGate>, Fail> {
+    if !takes(&mut worker, octets) {
+        return Err("a row may wait")?;
+    }
+    Ok(worker)
+}
+
+// Rows of 28 and of 600 octets are handed over in one flush.
+fn with_two_handed_over<C: Detects + Drop, N: Naming, W: Board<Slot<N>> + Drop, R: Wait>(
+    rt: &R,
+    shared: &Shared<C, N, W>,
+    worker: Worker<C, N, OpenGate>,
+) -> Result<Worker<C, N, OpenGate>, Fail> {
+    let mut worker = with_row(with_row(worker, 28)?, 600)?;
+    if handed_over(rt, shared, &mut worker)? != 2 {
+        return Err("two rows waited")?;
+    }
+    Ok(worker)
+}
+
+// A worker whose last row waits leaves: its number, and the octets of the first three of so many rows.
+fn handed_in<C: Detects + Drop, N: Naming, W: Board<Slot<N>> + Drop, R: Wait>(
+    rt: &R,
+    shared: &Shared<C, N, W>,
+    worker: Worker<C, N, OpenGate>,
+    rows: usize,
+) -> Result<(u64, [u64; 3]), Fail> {
+    let Ok((left, verdicts)) = worker.finish(rt, shared) else {
+        return Err("the session has room")?;
+    };
+    if verdicts.rows.len() != 1 || left.abandoned() != 0 || left.items().len() != rows {
+        return Err("one row waited, and all were handed over")?;
+    }
+    Ok((u64::from(left.worker()), octets_in_order(left.items())?))
+}
+
+// The octets of the first three rows of a lane.
+fn octets_in_order(items: &[Item]) -> Result<[u64; 3], Fail> {
+    let mut octets = [0; 3];
+    for (number, item) in items.iter().enumerate() {
+        if item.row.seq != number as u64 {
+            return Err("the rows are out of order")?;
+        }
+        if number < 3 {
+            octets[number] = u64::from(item.row.header.octets);
+        }
+    }
+    Ok(octets)
+}

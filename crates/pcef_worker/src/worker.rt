@@ -1,0 +1,148 @@
+//! Workers, with the rows that wait and those that they handed over.
+
+ghost use Rattle.std.specs.Prelude.{◌≡◌, ◌≤◌, ◌+◌, [], IfErr, IfOk, OnErr, OnOk, length};
+ghost use mathlib.Core.List.{IsPrefix};
+ghost use Rattle.pcef_worker.specs.Working.{Takes};
+
+use crate::gate::Gate;
+use pcef_catalog::{Detects, Offers};
+use pcef_lock::{Seat, Shared};
+use pcef_model::AttachFault;
+use pcef_packet::Header;
+use pcef_publish::{Board, Slot};
+use pcef_session::{Batch, BatchFull, Item, MAX_WAITING};
+use pcef_share::Naming;
+use std::alloc::{AllocError, Global};
+use std::marker::Model;
+use std::sync::{Arc, Wait};
+
+/// A worker of a session: its seat, what is offered, the rows that wait, and its own list of those that it handed
+/// over. Its shares hold what that list counts. It is used with the [`Shared`] that it was attached to: that is the
+/// caller's condition.
+#[derive(Drop)]
+pub struct Worker<C: Offers + Drop, N: Naming, G: Gate + Drop> {
+    pub(crate) seat: Seat<N>,
+    pub(crate) catalog: Arc<C>,
+    pub(crate) gate: G,
+    pub(crate) waiting: Batch,
+    pub(crate) rows: Vec<Item>,
+}
+
+impl<C: Offers + Drop, N: Naming, G: Gate + Drop> Model for Worker<C, N, G> {
+    ghost use Rattle.std.specs.Prelude.{◌≡◌};
+    ghost use Rattle.std.specs.Arc.{arc_value};
+    ghost use Rattle.pcef_share.specs.Amounts.{zeros};
+    ghost use Rattle.pcef_lock.specs.Counting.{with_items};
+    ghost use Rattle.pcef_lock.specs.Judging.{AllJudged};
+    ghost use Rattle.pcef_worker.specs.Working.{WorkerModel};
+
+    ghost Value = { WorkerModel };
+
+    ghost view = { λ w. record { worker = w.seat.worker; seen = w.seat.subscriber; waiting = w.waiting; rows = w.rows.items } };
+
+    ghost invariant = { λ w. (w.seat.shares ≡ with_items zeros w.rows.items) × (w.seat.ue ≡ N.setting.ue)
+        × (C.offers (arc_value w.catalog) ≡ N.setting.catalog) × AllJudged N.setting N.first w.seat.subscriber w.waiting };
+}
+
+impl<C: Detects + Drop, N: Naming, G: Gate + Drop> Worker<C, N, G> {
+    /// Attaches a worker, in one hold of the lock: it then holds the newest table, and no row waits. Or answers the
+    /// first fault in the order of [`AttachFault`], which leaves the session as it was; there is no place too where as
+    /// many workers came as the lock was made for. Takes memory, which may be refused before another fault is seen.
+    pub fn attach<W: Board<Slot<N>> + Drop, R: Wait>(
+        rt: &R,
+        alloc: Global,
+        shared: &Shared<C, N, W>,
+        gate: G,
+    ) -> Result<Worker<C, N, G>, AttachFault>
+        ensures waiting { IfOk result (λ w. w.waiting ≡ []) }
+        ensures rows { IfOk result (λ w. w.rows ≡ []) }
+    {
+        let Ok(waiting) = Batch::new(alloc) else {
+            return Err(AttachFault::NoMemory);
+        };
+        let Ok(catalog) = shared.catalog() else {
+            return Err(AttachFault::NoMemory);
+        };
+        let seat = match shared.attach(rt) {
+            Ok(seat) => seat,
+            Err(fault) => return Err(fault),
+        };
+        Ok(Worker {
+            seat,
+            catalog,
+            gate,
+            waiting,
+            rows: Vec::new(alloc),
+        })
+    }
+
+    /// The number of the worker.
+    pub fn worker(&self) -> u8
+        ensures { result ≡ self.now.worker }
+    {
+        self.seat.worker
+    }
+
+    /// The generation of the table that is held.
+    pub fn generation(&self) -> u32
+        ensures { result + 1 ≡ N.first + length self.now.seen }
+    {
+        self.seat.subscriber.current().0
+    }
+
+    /// The rows that wait, in order, each with the slot that it counts for: at most 32.
+    pub fn waiting(&self) -> &[Item]
+        ensures rows { result.now ≡ self.now.waiting }
+        ensures most { length result.now ≤ 32 }
+    {
+        self.waiting.items()
+    }
+
+    /// The rows that were handed over, in order.
+    pub fn rows(&self) -> &[Item]
+        ensures { result.now ≡ self.now.rows }
+    {
+        self.rows.as_slice()
+    }
+
+    /// Judges a packet by the table that is held, and lets its row wait; or refuses it where 32 rows wait, which
+    /// changes nothing. Takes no lock and no memory, and doesn't wait.
+    pub fn take(&mut self, header: &Header) -> Result<(), BatchFull>
+        ensures takes { OnOk result (Takes N.setting N.first header.now self.old self.new) }
+        ensures full { OnErr result (32 ≤ length self.old.waiting) }
+        ensures same { OnErr result (self.new ≡ self.old) }
+    {
+        if self.waiting.len() >= MAX_WAITING {
+            return Err(BatchFull);
+        }
+        let seq = self.rows.len() as u64 + self.waiting.len() as u64;
+        let item = self.seat.judge(&*self.catalog, seq, header);
+        self.waiting.push(item);
+        Ok(())
+    }
+
+    /// Reads the published table once, with no lock, and answers the generation that is then held, which is never older
+    /// than before. Where there is no reading or no copy, the table held stays. Takes no memory.
+    pub fn refresh(&mut self) -> u32
+        ensures grows { IsPrefix self.old.seen self.new.seen }
+        ensures number { result + 1 ≡ N.first + length self.new.seen }
+        ensures same { self.new ≡ record self.old { seen = self.new.seen } }
+    {
+        self.seat.subscriber.refresh()
+    }
+
+    /// Takes the newest table in one hold of the lock, and answers its generation. Where a further owner of the table is
+    /// refused, nothing changes. Waits for the lock.
+    pub fn meet<W: Board<Slot<N>> + Drop, R: Wait>(
+        &mut self,
+        rt: &R,
+        shared: &Shared<C, N, W>,
+    ) -> Result<u32, AllocError>
+        ensures grows { IsPrefix self.old.seen self.new.seen }
+        ensures number { IfOk result (λ g. g + 1 ≡ N.first + length self.new.seen) }
+        ensures same { self.new ≡ record self.old { seen = self.new.seen } }
+        ensures refused { OnErr result (self.new ≡ self.old) }
+    {
+        shared.meet(rt, &mut self.seat)
+    }
+}
