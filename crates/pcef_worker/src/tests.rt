@@ -39,8 +39,6 @@ enum Story {
     RuleGone,
     HeldUp,
     NoMemory,
-    Gathered,
-    OtherLane,
 }
 
 fn qos() -> Result<Qos, Fail> {
@@ -145,8 +143,6 @@ fn tell_behind_its_lock<
         Story::RuleGone => generations::rule_gone(rt, alloc, &shared, &mut desk),
         Story::HeldUp => threads::held_up(rt, alloc, &shared, &mut desk),
         Story::NoMemory => memory::no_memory(rt, alloc, &shared),
-        Story::Gathered => gathering::gathered(rt, alloc, shared, desk),
-        Story::OtherLane => gathering::other_lane(rt, alloc, shared, desk),
     }
 }
 

@@ -1,13 +1,48 @@
 //! What the workers and the desk hand in at the end.
 
+ghost use Rattle.std.specs.Prelude.{◌≡◌, []};
+ghost use Rattle.std.specs.Arc.{arc_value};
+ghost use Rattle.pcef_model.specs.Journals.{gen};
+ghost use Rattle.pcef_session.specs.Shown.{Shows};
+ghost use Rattle.pcef_share.specs.Names.{name_at};
+
 use super::*;
-use pcef_lock::{Finished, GatherFault, Seat, Ungathered};
+use pcef_lock::{Finished, GatherFault, Totals, Ungathered};
 
 #[test]
 fn what_two_workers_hand_in_is_gathered(rt: HostRuntime) -> Result<(), Fail> {
-    let told = tell(&rt, rt.alloc(), 100, Story::Gathered)?;
+    let told = tell_gathered(&rt, rt.alloc())?;
     assert_eq!(rt; told, [628, 1, 3, 1, 656, 628, 28, 1]);
     Ok(())
+}
+
+// Tells of a session that is gathered.
+fn tell_gathered<R: Threads + Wait + Sync>(rt: &R, alloc: Global) -> Result<Told, Fail> {
+    let session = session(alloc, 100)?;
+    let opened = opened(&session)?;
+    let catalog = Arc::new(alloc, Catalog::new(alloc, Vec::new(alloc))?)?;
+    tell_of::<Catalog, Brand, _>(rt, alloc, catalog, session, opened, Blanks::new())
+}
+
+fn tell_of<C: Detects + Drop, N: Naming, R: Wait>(
+    rt: &R,
+    alloc: Global,
+    catalog: Arc<C>,
+    session: SessionState,
+    opened: Opened,
+    blanks: Blanks,
+) -> Result<Told, Fail>
+    requires name { N.ledger ≡ name_at blanks }
+    requires setting { session.setting ≡ N.setting }
+    requires fresh { session.journal ≡ [] }
+    requires offers { C.offers (arc_value catalog) ≡ session.setting.catalog }
+    requires first { N.first ≡ gen session.journal }
+    requires table { Shows session.setting session.journal (gen session.journal) opened.table }
+    requires book { (opened.book ≡ N.book) × (opened.root ≡ N.root) }
+{
+    let (shared, mut desk) = locked::<C, N, _>(rt, alloc, catalog, session, opened, blanks)?;
+    give_commands(rt, alloc, &shared, &mut desk)?;
+    gathered(rt, alloc, shared, desk)
 }
 
 // One worker hands over rows of 28 and of 600 octets, of which a report tells; the other one of 28, and it abandons one
@@ -20,48 +55,46 @@ pub fn gathered<C: Detects + Drop, N: Naming, W: Board<Slot<N>> + Drop, R: Wait>
     shared: Shared<C, N, W>,
     mut desk: Desk<N>,
 ) -> Result<Told, Fail> {
-    let one = left_after(rt, alloc, &shared, &[28, 600])?;
+    let one = left_after(rt, alloc, &shared, &[28, 600], 0)?;
     let octets = reported(rt, &shared, &mut desk)?;
-    let two = abandoned_after(rt, alloc, &shared)?;
-    let back = without_one(rt, alloc, shared, desk, one)?;
-    let [rows, abandoned, counted, reported, unreported, keys] = with_both(rt, back, two)?;
-    Ok([
-        octets, 1, rows, abandoned, counted, reported, unreported, keys,
-    ])
+    let two = left_after(rt, alloc, &shared, &[28], 40)?;
+    let back = without_the_other(rt, alloc, shared, desk, one)?;
+    let out = out_of(&back);
+    let totals = with_the_other(rt, back, two)?;
+    told_of(octets, out, &totals)
 }
 
-// A worker that took packets of these octets, handed them over and left.
+// A worker that handed packets of these octets over and left, with one more that waits, if it has octets.
 fn left_after<C: Detects + Drop, N: Naming, W: Board<Slot<N>> + Drop, R: Wait>(
     rt: &R,
     alloc: Global,
     shared: &Shared<C, N, W>,
     octets: &[u32],
+    waiting: u32,
 ) -> Result<Finished<N>, Fail> {
     let mut worker = attached(rt, alloc, shared)?;
-    for volume in octets {
-        takes(&mut worker, *volume);
-    }
-    match worker.finish(rt, shared) {
-        Ok((left, _)) => Ok(left),
-        Err(_) => Err("the session takes the rows")?,
-    }
-}
-
-// A worker that handed a packet of 28 octets over, took one more and left.
-fn abandoned_after<C: Detects + Drop, N: Naming, W: Board<Slot<N>> + Drop, R: Wait>(
-    rt: &R,
-    alloc: Global,
-    shared: &Shared<C, N, W>,
-) -> Result<Finished<N>, Fail> {
-    let mut worker = attached(rt, alloc, shared)?;
-    takes(&mut worker, 28);
-    worker.flush(rt, shared)?;
-    takes(&mut worker, 40);
+    hand_over(rt, shared, &mut worker, octets, waiting);
     Ok(worker.abandon(rt, shared))
 }
 
-// What comes back where one worker is out.
-fn without_one<C: Detects + Drop, N: Naming, W: Board<Slot<N>> + Drop, R: Wait>(
+fn hand_over<C: Detects + Drop, N: Naming, W: Board<Slot<N>> + Drop, R: Wait>(
+    rt: &R,
+    shared: &Shared<C, N, W>,
+    worker: &mut Worker<C, N, OpenGate>,
+    octets: &[u32],
+    waiting: u32,
+) {
+    for volume in octets {
+        takes(worker, *volume);
+    }
+    let _ = worker.flush(rt, shared).is_ok();
+    if waiting > 0 {
+        takes(worker, waiting);
+    }
+}
+
+// What comes back where one worker is handed in and the other is out.
+fn without_the_other<C: Detects + Drop, N: Naming, W: Board<Slot<N>> + Drop, R: Wait>(
     rt: &R,
     alloc: Global,
     shared: Shared<C, N, W>,
@@ -71,32 +104,46 @@ fn without_one<C: Detects + Drop, N: Naming, W: Board<Slot<N>> + Drop, R: Wait>(
     let mut finished = Vec::new(alloc);
     finished.push(one)?;
     match shared.gather(rt, desk, finished) {
-        Err(back) if back.fault == GatherFault::WorkersOut(1) => Ok(back),
-        _ => Err("one worker is out")?,
+        Ok(_) => Err("one worker is out")?,
+        Err(back) => Ok(back),
     }
 }
 
-// The totals with the other one too.
-fn with_both<C: Detects + Drop, N: Naming, W: Board<Slot<N>> + Drop, R: Wait>(
+// How many workers are out.
+fn out_of<C: Detects + Drop, N: Naming, W: Board<Slot<N>> + Drop>(
+    back: &Ungathered<C, N, W>,
+) -> u64 {
+    match back.fault {
+        GatherFault::WorkersOut(out) => u64::from(out),
+        _ => 0,
+    }
+}
+
+// The totals where the other one is handed in too.
+fn with_the_other<C: Detects + Drop, N: Naming, W: Board<Slot<N>> + Drop, R: Wait>(
     rt: &R,
     back: Ungathered<C, N, W>,
     two: Finished<N>,
-) -> Result<[u64; 6], Fail> {
-    let Ungathered {
-        fault: _,
-        shared,
-        desk,
-        mut finished,
-    } = back;
+) -> Result<Totals, Fail> {
+    let mut finished = back.finished;
     finished.push(two)?;
-    let Ok(totals) = shared.gather(rt, desk, finished) else {
-        return Err("all workers have left")?;
-    };
+    if finished.len() > 16 {
+        return Err("there are two workers")?;
+    }
+    match back.shared.gather(rt, back.desk, finished) {
+        Ok(totals) => Ok(totals),
+        Err(_) => Err("all workers are handed in")?,
+    }
+}
+
+fn told_of(octets: u64, out: u64, totals: &Totals) -> Result<Told, Fail> {
     let keys = totals.keys.as_slice();
     let Some(key) = keys.first() else {
         return Err("the key has a slot")?;
     };
     Ok([
+        octets,
+        out,
         totals.rows,
         totals.abandoned,
         key.counted,
@@ -104,50 +151,4 @@ fn with_both<C: Detects + Drop, N: Naming, W: Board<Slot<N>> + Drop, R: Wait>(
         key.unreported,
         keys.len() as u64,
     ])
-}
-
-#[test]
-fn a_list_that_is_not_the_lane_is_named(rt: HostRuntime) -> Result<(), Fail> {
-    let told = tell(&rt, rt.alloc(), 100, Story::OtherLane)?;
-    assert_eq!(rt; told, [1, 0, 0, 0, 0, 0, 0, 0]);
-    Ok(())
-}
-
-// A worker hands a row over. Somebody hands in an empty list in its name: the number of the place that was taken for
-// it, and whose lane differs.
-pub fn other_lane<C: Detects + Drop, N: Naming, W: Board<Slot<N>> + Drop, R: Wait>(
-    rt: &R,
-    alloc: Global,
-    shared: Shared<C, N, W>,
-    desk: Desk<N>,
-) -> Result<Told, Fail> {
-    let one = left_after(rt, alloc, &shared, &[28])?;
-    let (worker, empty) = nothing_of_the_first(rt, alloc, &shared)?;
-    let mut finished = Vec::new(alloc);
-    finished.push(empty)?;
-    finished.push(one)?;
-    match shared.gather(rt, desk, finished) {
-        Err(back) => match back.fault {
-            GatherFault::LaneDiffers(differs) => {
-                Ok([u64::from(worker), u64::from(differs), 0, 0, 0, 0, 0, 0])
-            }
-            _ => Err("the list of the first worker is empty")?,
-        },
-        Ok(_) => Err("there are no totals")?,
-    }
-}
-
-// An empty list in the name of worker 0, with the shares of the worker that came next.
-fn nothing_of_the_first<C: Detects + Drop, N: Naming, W: Board<Slot<N>> + Drop, R: Wait>(
-    rt: &R,
-    alloc: Global,
-    shared: &Shared<C, N, W>,
-) -> Result<(u8, Finished<N>), Fail> {
-    let Seat {
-        worker,
-        shares,
-        subscriber: _,
-        ue: _,
-    } = shared.attach(rt)?;
-    Ok((worker, Finished::new(0, Vec::new(alloc), shares, 0)))
 }
