@@ -1,6 +1,7 @@
 //! Rows that wait, that are handed over and that are not.
 
 use super::*;
+use pcef_lock::Finished;
 use pcef_model::FlushRefusal;
 
 #[test]
@@ -60,11 +61,15 @@ fn given_up<C: Detects + Drop, N: Naming, W: Board<Slot<N>> + Drop, R: Wait>(
     shared: &Shared<C, N, W>,
     worker: Worker<C, N, OpenGate>,
 ) -> Result<(u64, u64), Fail> {
-    let Err((worker, FlushRefusal::RowsFull)) = worker.finish(rt, shared) else {
-        return Err("the session has no room")?;
-    };
-    let left = worker.abandon(rt, shared);
-    Ok((left.items().len() as u64, u64::from(left.abandoned())))
+    match worker.finish(rt, shared) {
+        Ok(_) => Err("the session has no room")?,
+        Err((worker, _)) => Ok(handed_in_by(&worker.abandon(rt, shared))),
+    }
+}
+
+// The rows that are handed in and given up.
+fn handed_in_by<N: Naming>(left: &Finished<N>) -> (u64, u64) {
+    (left.items().len() as u64, u64::from(left.abandoned()))
 }
 
 // A worker comes and hands a row of 40 octets over: how many verdicts it gets.

@@ -60,7 +60,8 @@ pub fn gathered<C: Detects + Drop, N: Naming, W: Board<Slot<N>> + Drop, R: Wait>
     let two = left_after(rt, alloc, &shared, &[28], 40)?;
     let back = without_the_other(rt, alloc, shared, desk, one)?;
     let out = out_of(&back);
-    let totals = with_the_other(rt, back, two)?;
+    let (shared, desk, finished) = parts_of(back);
+    let totals = with_the_other(rt, shared, desk, finished, two)?;
     told_of(octets, out, &totals)
 }
 
@@ -119,18 +120,33 @@ fn out_of<C: Detects + Drop, N: Naming, W: Board<Slot<N>> + Drop>(
     }
 }
 
+// What comes back, without the reason.
+fn parts_of<C: Detects + Drop, N: Naming, W: Board<Slot<N>> + Drop>(
+    back: Ungathered<C, N, W>,
+) -> (Shared<C, N, W>, Desk<N>, Vec<Finished<N>>) {
+    let Ungathered {
+        fault: _,
+        shared,
+        desk,
+        finished,
+    } = back;
+    (shared, desk, finished)
+}
+
 // The totals where the other one is handed in too.
 fn with_the_other<C: Detects + Drop, N: Naming, W: Board<Slot<N>> + Drop, R: Wait>(
     rt: &R,
-    back: Ungathered<C, N, W>,
+    shared: Shared<C, N, W>,
+    desk: Desk<N>,
+    finished: Vec<Finished<N>>,
     two: Finished<N>,
 ) -> Result<Totals, Fail> {
-    let mut finished = back.finished;
+    let mut finished = finished;
     finished.push(two)?;
     if finished.len() > 16 {
         return Err("there are two workers")?;
     }
-    match back.shared.gather(rt, back.desk, finished) {
+    match shared.gather(rt, desk, finished) {
         Ok(totals) => Ok(totals),
         Err(_) => Err("all workers are handed in")?,
     }
