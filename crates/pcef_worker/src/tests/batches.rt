@@ -2,7 +2,7 @@
 
 use super::*;
 use pcef_lock::Finished;
-use pcef_model::FlushRefusal;
+use pcef_model::{FlushRefusal, Verdicts};
 
 #[test]
 fn a_refused_flush_keeps_the_rows(rt: HostRuntime) -> Result<(), Fail> {
@@ -200,9 +200,17 @@ fn handed_in<C: Detects + Drop, N: Naming, W: Board<Slot<N>> + Drop, R: Wait>(
     worker: Worker<C, N, OpenGate>,
     rows: usize,
 ) -> Result<(u64, [u64; 3]), Fail> {
-    let Ok((left, verdicts)) = worker.finish(rt, shared) else {
-        return Err("the session has room")?;
-    };
+    match worker.finish(rt, shared) {
+        Ok((left, verdicts)) => told_of_the_last(&left, &verdicts, rows),
+        Err(_) => Err("the session has room")?,
+    }
+}
+
+fn told_of_the_last<N: Naming>(
+    left: &Finished<N>,
+    verdicts: &Verdicts,
+    rows: usize,
+) -> Result<(u64, [u64; 3]), Fail> {
     if verdicts.rows.len() != 1 || left.abandoned() != 0 || left.items().len() != rows {
         return Err("one row waited, and all were handed over")?;
     }
