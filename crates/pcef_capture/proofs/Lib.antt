@@ -1,1 +1,2 @@
+pub mod Askings
 pub mod Writings

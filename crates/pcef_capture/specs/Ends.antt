@@ -7,5 +7,5 @@ abbrev pub end_status : End → ℕ
 end_status Done = 0
 end_status (Capture fault) = 1
 end_status NoMemory = 3
-end_status Read = 4
-end_status Write = 4
+end_status (Read error) = 4
+end_status (Write error) = 4

@@ -1,3 +1,4 @@
+pub mod CommandLine
 pub mod Counting
 pub mod Ends
 pub mod Fates

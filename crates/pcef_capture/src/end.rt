@@ -4,6 +4,7 @@ ghost use Rattle.std.specs.Prelude.{◌≡◌};
 ghost use Rattle.pcef_capture.specs.Ends.{end_status};
 
 use pcef_capture_file::CaptureFault;
+use std::io;
 
 /// How the program ends.
 #[derive(Drop)]
@@ -15,9 +16,9 @@ pub enum End {
     /// There is no memory left.
     NoMemory,
     /// The file can't be read.
-    Read,
+    Read(io::Error),
     /// The lines can't be written.
-    Write,
+    Write(io::Error),
 }
 
 impl End {
@@ -29,7 +30,7 @@ impl End {
             End::Done => 0,
             End::Capture(_) => 1,
             End::NoMemory => 3,
-            End::Read | End::Write => 4,
+            End::Read(_) | End::Write(_) => 4,
         }
     }
 }

@@ -11,18 +11,18 @@ mod options;
 mod takes;
 mod turn;
 
-use clap::Error;
+use clap::{Error, error};
 use counts::Counts;
 use end::End;
-use options::{Options, asked, command};
-use pcef_capture_file::{CaptureFault, read_capture};
+use options::{Options, asked};
+use pcef_capture_file::{Capture, CaptureFault, read_capture};
 use std::io::{self, BufWriter, ErrorKind, Write};
 use std::process::ExitCode;
 use std::{env, fs};
 use takes::write_takes;
 
 /// Where an error of the system ends the program.
-fn end_of(error: &io::Error, other: End) -> End {
+fn end_of(error: io::Error, other: End) -> End {
     match error.kind() {
         ErrorKind::OutOfMemory => End::NoMemory,
         _ => other,
@@ -37,27 +37,28 @@ fn tell(rt: &HostRuntime, counts: &Counts) {
     );
 }
 
-/// Writes the lines of a file.
-fn run(rt: &HostRuntime, options: &Options<'_>) -> End {
-    let alloc = rt.alloc();
-    let file = match fs::read(rt, options.file) {
-        Ok(file) => file,
-        Err(error) => return end_of(&error, End::Read),
-    };
-    let capture = match read_capture(alloc, &file) {
-        Ok(capture) => capture,
-        Err(CaptureFault::NoMemory) => return End::NoMemory,
-        Err(fault) => return End::Capture(fault),
-    };
-    let Ok(mut writer) = BufWriter::new(alloc, io::writer(rt)) else {
+/// The least length of a file whose reading is told as it goes on.
+const LARGE: usize = 16_777_216;
+
+/// Whether standard error is a terminal, by the name that Linux has for it.
+fn is_terminal(rt: &HostRuntime) -> bool {
+    match fs::read_link(rt, "/proc/self/fd/2") {
+        Ok(name) => name.as_str().starts_with("/dev/pts/") || name.as_str().starts_with("/dev/tty"),
+        Err(_) => false,
+    }
+}
+
+/// Writes the lines of a capture.
+fn write(rt: &HostRuntime, options: &Options<'_>, capture: &Capture<'_>) -> End {
+    let Ok(mut writer) = BufWriter::new(rt.alloc(), io::writer(rt)) else {
         return End::NoMemory;
     };
-    let counts = match write_takes(alloc, options, &capture.packets, &mut writer) {
+    let counts = match write_takes(rt.alloc(), options, &capture.packets, &mut writer) {
         Ok(counts) => counts,
-        Err(error) => return end_of(&error, End::Write),
+        Err(error) => return end_of(error, End::Write(error)),
     };
     if let Err(error) = writer.flush() {
-        return end_of(&error, End::Write);
+        return end_of(error, End::Write(error));
     }
     tell(rt, &counts);
     match capture.fault {
@@ -66,8 +67,30 @@ fn run(rt: &HostRuntime, options: &Options<'_>) -> End {
     }
 }
 
-/// Tells why the program ends early, and gives its exit status.
-fn status(rt: &HostRuntime, end: &End) -> u8 {
+/// Writes the lines of a file. How far it is is told where the file is large and somebody looks.
+fn run(rt: &HostRuntime, options: &Options<'_>) -> End {
+    let file = match fs::read(rt, options.file) {
+        Ok(file) => file,
+        Err(error) => return end_of(error, End::Read(error)),
+    };
+    let is_watched = file.len() >= LARGE && is_terminal(rt);
+    if is_watched {
+        let _ = eprintln!(rt; "{} octets are read", file.len());
+    }
+    let capture = match read_capture(rt.alloc(), &file) {
+        Ok(capture) => capture,
+        Err(CaptureFault::NoMemory) => return End::NoMemory,
+        Err(fault) => return End::Capture(fault),
+    };
+    if is_watched {
+        let count = capture.packets.len();
+        let _ = eprintln!(rt; "{count} frames are found, and their lines are written now");
+    }
+    write(rt, options, &capture)
+}
+
+/// Tells why the program ends early, and gives its exit status. That it can't be told changes nothing.
+fn told(rt: &HostRuntime, file: &str, end: &End) -> u8 {
     match end {
         End::Done => {}
         End::Capture(fault) => {
@@ -77,18 +100,21 @@ fn status(rt: &HostRuntime, end: &End) -> u8 {
         End::NoMemory => {
             let _ = eprintln!(rt; "want of memory");
         }
-        End::Read => {
-            let _ = eprintln!(rt; "read fault");
+        End::Read(error) => {
+            let _ = eprintln!(rt; "read fault\n{file}: {error}");
         }
-        End::Write => {
-            let _ = eprintln!(rt; "write fault");
+        End::Write(error) => {
+            let _ = eprintln!(rt; "write fault\nStandard output: {error}");
         }
     }
     end.status()
 }
 
-/// The exit status of wrong arguments, or of a question for help or for the version.
+/// The exit status of wrong arguments, of want of memory, or of a question for help or for the version.
 fn told_by(rt: &HostRuntime, error: &Error) -> u8 {
+    if error.kind() == error::ErrorKind::OutOfMemory {
+        return told(rt, "", &End::NoMemory);
+    }
     match error.print(rt) {
         Ok(()) if error.use_stderr() => 2,
         Ok(()) => 0,
@@ -96,32 +122,40 @@ fn told_by(rt: &HostRuntime, error: &Error) -> u8 {
     }
 }
 
-fn main(rt: HostRuntime) -> ExitCode {
+/// The arguments, the program's name before them.
+fn words(rt: &HostRuntime) -> io::Result<Vec<String>> {
     let mut words = Vec::new(rt.alloc());
-    let Ok(given) = env::args(&rt) else {
-        return ExitCode::from(status(&rt, &End::NoMemory));
-    };
-    for word in given {
-        if words.push(word).is_err() {
-            return ExitCode::from(status(&rt, &End::NoMemory));
+    for word in env::args(rt)? {
+        words.push(word)?;
+    }
+    Ok(words)
+}
+
+/// Does what the arguments ask for, and gives the exit status.
+fn status(rt: &HostRuntime) -> u8 {
+    let words = match words(rt) {
+        Ok(words) => words,
+        Err(error) if error.kind() == ErrorKind::InvalidData => {
+            let _ = eprintln!(rt; "usage: an argument isn't UTF-8");
+            return 2;
         }
-    }
-    let Ok(command) = command(rt.alloc()) else {
-        return ExitCode::from(status(&rt, &End::NoMemory));
+        Err(_) => return told(rt, "", &End::NoMemory),
     };
-    match command.try_get_matches_from(words.as_slice()) {
-        Ok(matches) => match asked(&matches) {
-            Some(options) => {
-                let end = run(&rt, &options);
-                ExitCode::from(status(&rt, &end))
-            }
-            None => {
-                let _ = eprintln!(rt; "usage: --ue wants an IPv4 address");
-                ExitCode::from(2)
-            }
-        },
-        Err(error) => ExitCode::from(told_by(&rt, &error)),
+    match asked(rt.alloc(), words.as_slice()) {
+        Ok(Some(options)) => {
+            let end = run(rt, &options);
+            told(rt, options.file, &end)
+        }
+        Ok(None) => {
+            let _ = eprintln!(rt; "usage: --ue wants an IPv4 address");
+            2
+        }
+        Err(error) => told_by(rt, &error),
     }
+}
+
+fn main(rt: HostRuntime) -> ExitCode {
+    ExitCode::from(status(&rt))
 }
 
 #[cfg(test)]

@@ -1,11 +1,12 @@
 //! Lines for frames that were worked out by hand.
 use crate::counts::Counts;
-use crate::options::Options;
+use crate::options::{Options, asked};
 use crate::takes::write_takes;
 use pcef_capture_file::{Endianness, Link, Packet};
 use pcef_packet::Addr;
 use std::alloc::Global;
 use std::process::Abort;
+use std::test::Fail;
 
 /// A UDP packet of 28 octets from 198.51.100.7 port 53 to 10.0.0.2 port 5000.
 const DOWN: [u8; 28] = [
@@ -110,4 +111,54 @@ fn workers_in_turn(rt: HostRuntime) {
         place = place.saturating_add(1);
     }
     assert_eq!(rt; place, 74);
+}
+
+/// What some words ask for: the address, the number of workers, whether packets are padded, and the file.
+fn asked_by<'a>(alloc: Global, words: &'a [String]) -> Option<(Addr, u8, bool, &'a str)> {
+    match asked(alloc, words) {
+        Ok(Some(options)) => Some((options.ue, options.workers, options.pads, options.file)),
+        _ => None,
+    }
+}
+
+#[test]
+fn what_words_ask_for(rt: HostRuntime) -> Result<(), Fail> {
+    let whole: [&[&str]; 3] = [
+        &["--ue", "10.0.0.2", "a.pcap"],
+        &["a.pcap", "--workers=16", "--ue=10.0.0.1", "--pad"],
+        &["--ue", "10.0.0.2", "--workers", "3", "--", "--pad"],
+    ];
+    let due = [
+        (UE, 1u8, false, "a.pcap"),
+        (ROUTER, 16, true, "a.pcap"),
+        (UE, 3, false, "--pad"),
+    ];
+    for (line, due) in whole.iter().zip(due) {
+        let words = line_of(rt.alloc(), *line)?;
+        assert!(rt; asked_by(rt.alloc(), &words) == Some(due));
+    }
+    let wrong: [&[&str]; 7] = [
+        &[],
+        &["a.pcap"],
+        &["--ue", "10.0.0.2"],
+        &["--ue", "10.0.0", "a.pcap"],
+        &["--ue", "10.0.0.2", "--workers", "0", "a.pcap"],
+        &["--ue", "10.0.0.2", "--workers", "17", "a.pcap"],
+        &["--ue", "10.0.0.2", "a.pcap", "b.pcap"],
+    ];
+    for line in wrong {
+        let words = line_of(rt.alloc(), line)?;
+        assert!(rt; asked_by(rt.alloc(), &words).is_none());
+    }
+    Ok(())
+}
+
+/// A command line with the program's name.
+fn line_of(alloc: Global, words: &[&str]) -> Result<Vec<String>, Fail> {
+    let mut line = Vec::new(alloc);
+    line.push(String::from_str(alloc, "pcef_capture")?)?;
+    for word in words {
+        line.push(String::from_str(alloc, *word)?)?;
+    }
+    Ok(line)
 }

@@ -75,7 +75,7 @@ impl End {
     }
 
     /// What a person needs to know of it, where that is always the same: lines, or nothing.
-    pub fn note(&self) -> &'static str {
+    pub(crate) fn note(&self) -> &'static str {
         match self {
             End::Done | End::LinesAtFault | End::Profile(_) | End::NoProfile => "",
             End::Usage => USAGE_NOTE,

@@ -1,0 +1,17 @@
+-- What clap finds in the words.
+use Rattle.std.proofs.Common.{◌≡◌, ◌∙◌, ℕ, List, refl, sym, ap}
+use Rattle.std.specs.Prelude.{Option, None, Some, is_some, Result, Ok}
+use Rattle.std.proofs.lemmas.Bool.{false≢true}
+use Rattle.clap.specs.Words.{ReadsOne}
+
+none_differs : {T : Type 0} (v : T) → None ≡ Some v → ⊥
+none_differs v is = false≢true (ap is_some is)
+
+-- a value that was read has a text, which it is read of
+pub text_of : {T E : Type 0} (gives : List ℕ → Result T E → Type 0) (text : Option (List ℕ)) (result : Option T) (v : T) → (text ≡ None → result ≡ None)
+    → ((t : List ℕ) → text ≡ Some t → ReadsOne gives t result) → result ≡ Some v → (t : List ℕ) × (text ≡ Some t) × gives t (Ok v)
+text_of gives None result v none value is = absurd (none_differs v (sym (none refl) ∙ is))
+text_of gives (Some t) result v none value is =
+    let read = value t refl in
+    let right = rw is at read in
+    (t, refl, right)
