@@ -3,8 +3,6 @@
 
 mod gate;
 mod handing;
-#[cfg(test)]
-mod tests;
 mod worker;
 
 pub use gate::{Gate, OpenGate, Point};

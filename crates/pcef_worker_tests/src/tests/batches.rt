@@ -49,8 +49,8 @@ fn refused<C: Detects + Drop, N: Naming, W: Board<Slot<N>> + Drop, R: Wait>(
     shared: &Shared<C, N, W>,
     worker: &mut Worker<C, N, OpenGate>,
 ) -> Result<(u64, u64), Fail> {
-    match worker.flush(rt, shared) {
-        Err(FlushRefusal::RowsFull) => Ok(rows_of(worker)),
+    match worker.flush(rt, shared).err() {
+        Some(FlushRefusal::RowsFull) => Ok(rows_of(worker)),
         _ => Err("the session has no room")?,
     }
 }
@@ -61,9 +61,9 @@ fn given_up<C: Detects + Drop, N: Naming, W: Board<Slot<N>> + Drop, R: Wait>(
     shared: &Shared<C, N, W>,
     worker: Worker<C, N, OpenGate>,
 ) -> Result<(u64, u64), Fail> {
-    match worker.finish(rt, shared) {
-        Ok(_) => Err("the session has no room")?,
-        Err((worker, _)) => Ok(handed_in_by(&worker.abandon(rt, shared))),
+    match worker.finish(rt, shared).err() {
+        None => Err("the session has no room")?,
+        Some((worker, _)) => Ok(handed_in_by(&worker.abandon(rt, shared))),
     }
 }
 
@@ -200,9 +200,9 @@ fn handed_in<C: Detects + Drop, N: Naming, W: Board<Slot<N>> + Drop, R: Wait>(
     worker: Worker<C, N, OpenGate>,
     rows: usize,
 ) -> Result<(u64, [u64; 3]), Fail> {
-    match worker.finish(rt, shared) {
-        Ok((left, verdicts)) => told_of_the_last(&left, &verdicts, rows),
-        Err(_) => Err("the session has room")?,
+    match worker.finish(rt, shared).ok() {
+        Some(last) => told_of_the_last(&last.0, &last.1, rows),
+        None => Err("the session has room")?,
     }
 }
 

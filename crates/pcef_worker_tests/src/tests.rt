@@ -11,7 +11,6 @@ mod generations;
 mod memory;
 mod threads;
 
-use super::*;
 use pcef_catalog::{Catalog, Detects, Listing, Offers};
 use pcef_filter::read_filter;
 use pcef_lock::{Desk, Shared, State, commands_so_far, opened};
@@ -21,6 +20,7 @@ use pcef_publish::{Board, Opened, Slot, Writer};
 use pcef_rule::{Arp, KeyName, Properties, Qci, QciTable, Qos, Rule, RuleName, Sums};
 use pcef_session::{Item, SessionState};
 use pcef_share::{Blanks, Naming};
+use pcef_worker::{Gate, OpenGate, Worker};
 use std::alloc::Global;
 use std::marker::Brand;
 use std::sync::{Arc, Wait};

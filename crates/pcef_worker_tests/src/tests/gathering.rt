@@ -104,9 +104,9 @@ fn without_the_other<C: Detects + Drop, N: Naming, W: Board<Slot<N>> + Drop, R: 
 ) -> Result<Ungathered<C, N, W>, Fail> {
     let mut finished = Vec::new(alloc);
     finished.push(one)?;
-    match shared.gather(rt, desk, finished) {
-        Ok(_) => Err("one worker is out")?,
-        Err(back) => Ok(back),
+    match shared.gather(rt, desk, finished).err() {
+        Some(back) => Ok(back),
+        None => Err("one worker is out")?,
     }
 }
 
@@ -146,9 +146,9 @@ fn with_the_other<C: Detects + Drop, N: Naming, W: Board<Slot<N>> + Drop, R: Wai
     if finished.len() > 16 {
         return Err("there are two workers")?;
     }
-    match shared.gather(rt, desk, finished) {
-        Ok(totals) => Ok(totals),
-        Err(_) => Err("all workers are handed in")?,
+    match shared.gather(rt, desk, finished).ok() {
+        Some(totals) => Ok(totals),
+        None => Err("all workers are handed in")?,
     }
 }
 

@@ -30,10 +30,10 @@ fn attached_at_last<C: Detects + Drop, N: Naming, W: Board<Slot<N>> + Drop, R: W
     alloc: Global,
     shared: &Shared<C, N, W>,
 ) -> Result<Worker<C, N, OpenGate>, Fail> {
-    if let Ok(worker) = Worker::attach(rt, alloc, shared, OpenGate) {
-        return Ok(worker);
+    match Worker::attach(rt, alloc, shared, OpenGate).ok() {
+        Some(worker) => Ok(worker),
+        None => attached(rt, alloc, shared),
     }
-    attached(rt, alloc, shared)
 }
 
 // Whether one of two flushes is answered, the first of which may leave the row waiting.

@@ -1,6 +1,7 @@
 //! Workers in threads of their own.
 
 use super::*;
+use pcef_worker::Point;
 use std::sync::atomic::{AtomicBool, Ordering};
 use std::thread::{join, yield_now};
 
