@@ -1,11 +1,10 @@
 -- The ends of the program: their statuses, and what holds at status 0.
-use Rattle.std.proofs.Common.{◌≡◌, ◌∙◌, ℕ, ◌<◌, ◌≤◌, Bool, true, false, List, [], ap, append-nil, arith, inl, inr, refl, subst, sym}
-use Rattle.std.specs.Prelude.{◌==◌, Option, None, Some, Result, Ok, Err, String, string_bytes}
+use Rattle.std.proofs.Common.{◌≡◌, ◌∙◌, ℕ, ◌<◌, ◌≤◌, Bool, true, false, List, ap, arith, inl, inr, refl, subst, sym}
+use Rattle.std.specs.Prelude.{◌==◌, Option, None, Some, Ok, Err, String, string_bytes}
 use Rattle.std.specs.declared.alloc.Global.{Global}
 use Rattle.std.specs.declared.io.ErrorKind.{ErrorKind}
 use Rattle.std.specs.declared.io.ErrorKind.TheVariants.{OutOfMemory}
 use Rattle.std.specs.IoError.{error_kind}
-use Rattle.std.specs.Io.KnownBytes.{Appends}
 use Rattle.std.proofs.KnownBytes.{Appends-kept}
 use Rattle.std.proofs.lemmas.Bool.{eqb-true}
 use Rattle.pcef_catalog.specs.declared.listing.Offer.{Offer}

@@ -21,7 +21,7 @@ Version: 0.1, proved with rattle-kit-13b logic dac8208d650f15bf
 ";
 
 const TOO_MUCH_NOTE: &str =
-    "Standard input: more than 1,073,741,824 bytes; the answers to the whole lines within are written.\n";
+    "Standard input has more than 1,073,741,824 bytes; the answers to the whole lines within are written.\n";
 
 /// How the program ends.
 #[derive(Drop)]
@@ -80,7 +80,8 @@ impl End {
             End::Done | End::LinesAtFault | End::Profile(_) | End::NoProfile => "",
             End::Usage => USAGE_NOTE,
             End::NoMemory => "The answers to the lines before are written.\n",
-            End::Read => "Standard input: the answers to the whole lines before are written.\n",
+            End::Read =>
+                "Standard input fails; the answers to the whole lines before are written.\n",
             End::TooMuch => TOO_MUCH_NOTE,
             End::Write => "Standard output takes no more answers.\n",
         }

@@ -118,18 +118,15 @@ fn other_words_are_usage(rt: HostRuntime) -> Result<(), Fail> {
 
 #[test]
 fn a_word_that_is_no_text(rt: HostRuntime) -> Result<(), Fail> {
-    let mut words = octets(rt.alloc(), &["script"])?;
-    words.push(Vec::from_slice(rt.alloc(), b"a\xff")?)?;
-    let (status, _, said) = run(rt.alloc(), &words, None, "")?;
-    assert_eq!(rt; status, 4);
-    assert_eq!(rt;
-        said.as_str(),
-        "read fault\na\u{fffd}: No such file or directory (os error 2)\n"
-    );
-    words.remove(0);
-    let (status, _, said) = run(rt.alloc(), &words, None, "")?;
-    assert_eq!(rt; status, 2);
-    assert!(rt; said.as_str().starts_with("usage: "));
+    let alloc = rt.alloc();
+    let unread = "read fault\na\u{fffd}: No such file or directory (os error 2)\n";
+    for (front, status, said) in [("script", 4u8, unread), ("scripts", 2, "usage: ")] {
+        let mut words = octets(alloc, &[front])?;
+        words.push(Vec::from_slice(alloc, b"a\xff")?)?;
+        let (got, _, faults) = run(alloc, &words, None, "")?;
+        assert_eq!(rt; got, status);
+        assert!(rt; faults.as_str().starts_with(said));
+    }
     Ok(())
 }
 
@@ -405,7 +402,8 @@ fn run_between(
 #[test]
 fn failing_ends_and_flushes(rt: HostRuntime) -> Result<(), Fail> {
     let answer = "{\"fault\":3,\"name\":\"NotJson\"}\n";
-    let unread = "read fault\nStandard input: the answers to the whole lines before are written.\n";
+    let unread =
+        "read fault\nStandard input fails; the answers to the whole lines before are written.\n";
     let unwritten = "write fault\nStandard output takes no more answers.\n";
     for (fails, room, can_flush, flushes, status, answers, said) in [
         (false, 100, true, 2u64, 1u8, answer, ""),
