@@ -18,7 +18,11 @@ use std::alloc::{AllocError, Global};
 pub fn show_answer(alloc: Global, session: &SessionState) -> Result<String, AllocError>
     ensures { IfOk result (λ text. TellsSession session.now.setting session.now.journal (string_bytes text)) }
 {
-    let active = active_list(alloc, session.listing(), session.table().entries())?;
+    let active = active_list(
+        alloc,
+        session.listing(),
+        session.indexed().table().entries(),
+    )?;
     let bearers = bearer_list(alloc, session.bearers())?;
     let keys = key_list(alloc, session.usage().states())?;
     let generation = session.generation();

@@ -1,17 +1,21 @@
-//! Judges recorded packets by a table of rules, again and again: what a linear scan takes.
+//! Judges recorded packets by a table of rules, again and again: what the index takes, and what a linear
+//! scan.
 //!
-//! `pcef_bench RULES PACKETS PASSES`. RULES has a line for each filter, `NAME PRECEDENCE FLOW TEXT`, where
+//! `pcef_bench RULES PACKETS PASSES [scan]`. RULES has a line for each filter, `NAME PRECEDENCE FLOW TEXT`, where
 //! FLOW is a flow word or `-`, and the filters of a rule stand together. PACKETS has a count of four
 //! octets, and for each packet its length in two octets, its direction (0 uplink, 1 downlink) and its
 //! octets, little endian. With PASSES 0 the verdict on each packet is written, one a line, else how many
-//! packets of all passes went which way.
+//! packets of all passes went which way. With `scan` no index is asked.
+//!
+//! `pcef_bench RULES build TIMES` builds the index so many times, and writes the number of rules.
 #![tactic(auto)]
 
 mod packets;
 mod rules;
 
-use packets::{Tally, judge_all, without_count, write_verdicts};
+use packets::{Tally, Way, judge_all, without_count, write_verdicts};
 use pcef_catalog::Catalog;
+use pcef_index::{Index, Indexed};
 use pcef_packet::Addr;
 use std::io::{self, BufWriter, Write};
 use std::process::ExitCode;
@@ -29,24 +33,43 @@ fn words(rt: &HostRuntime) -> io::Result<Vec<String>> {
     Ok(words)
 }
 
+/// Builds the index of the rules of a file again and again, or tells that these are none.
+fn build(rt: &HostRuntime, catalog: &Catalog, rules: &str, times: u32) -> io::Result<bool> {
+    let text = fs::read_to_string(rt, rules)?;
+    let mut writer = io::writer(rt);
+    let Ok(table) = rules::table(rt.alloc(), catalog, text.as_str()) else {
+        return Ok(false);
+    };
+    for _ in 0..times {
+        let _index = Index::build(rt.alloc(), &table, catalog)?;
+    }
+    writeln!(writer, "rules {}", table.len())?;
+    Ok(true)
+}
+
 /// Judges the packets of one file by the rules of another, or tells that these are none.
-fn run(rt: &HostRuntime, rules: &str, packets: &str, passes: u32) -> io::Result<bool> {
+fn run(
+    rt: &HostRuntime,
+    catalog: &Catalog,
+    rules: &str,
+    packets: &str,
+    passes: u32,
+    way: Way,
+) -> io::Result<bool> {
     let text = fs::read_to_string(rt, rules)?;
     let file = fs::read(rt, packets)?;
     let recorded = without_count(&file);
     let mut writer = BufWriter::new(rt.alloc(), io::writer(rt))?;
-    let Ok(catalog) = Catalog::new(rt.alloc(), Vec::new(rt.alloc())) else {
-        return Err(io::Error::from(io::ErrorKind::OutOfMemory));
-    };
-    let Ok(table) = rules::table(rt.alloc(), &catalog, text.as_str()) else {
+    let Ok(table) = rules::table(rt.alloc(), catalog, text.as_str()) else {
         return Ok(false);
     };
+    let rules = Indexed::new(rt.alloc(), table, catalog)?;
     if passes == 0 {
-        write_verdicts(&catalog, &table, UE, recorded, &mut writer)?;
+        write_verdicts(catalog, &rules, way, UE, recorded, &mut writer)?;
     } else {
         let mut tally = Tally::default();
         for _ in 0..passes {
-            judge_all(&catalog, &table, UE, recorded, &mut tally);
+            judge_all(catalog, &rules, way, UE, recorded, &mut tally);
         }
         writeln!(
             writer,
@@ -58,18 +81,30 @@ fn run(rt: &HostRuntime, rules: &str, packets: &str, passes: u32) -> io::Result<
     Ok(true)
 }
 
+/// Does what the words ask for, or tells that they ask for nothing.
+fn done(rt: &HostRuntime, catalog: &Catalog, words: &[String]) -> io::Result<bool> {
+    let (rules, packets, passes, way) = match words {
+        [rules, packets, passes] => (rules, packets, passes, Way::Index),
+        [rules, packets, passes, word] if word.as_str() == "scan" => {
+            (rules, packets, passes, Way::Scan)
+        }
+        _ => return Ok(false),
+    };
+    match passes.as_str().parse::<u32>() {
+        Ok(times) if packets.as_str() == "build" => build(rt, catalog, rules.as_str(), times),
+        Ok(passes) => run(rt, catalog, rules.as_str(), packets.as_str(), passes, way),
+        Err(_) => Ok(false),
+    }
+}
+
 fn main(rt: HostRuntime) -> ExitCode {
     let Ok(words) = words(&rt) else {
         return ExitCode::from(3);
     };
-    let done = match words.as_slice() {
-        [rules, packets, passes] => match passes.as_str().parse::<u32>() {
-            Ok(passes) => run(&rt, rules.as_str(), packets.as_str(), passes),
-            Err(_) => Ok(false),
-        },
-        _ => Ok(false),
+    let Ok(catalog) = Catalog::new(rt.alloc(), Vec::new(rt.alloc())) else {
+        return ExitCode::from(4);
     };
-    match done {
+    match done(&rt, &catalog, words.as_slice()) {
         Ok(true) => ExitCode::from(0),
         Ok(false) => ExitCode::from(2),
         Err(_) => ExitCode::from(4),

@@ -4,10 +4,19 @@ ghost use Rattle.pcef_catalog.specs.Catalogs.{offers_of};
 ghost use Rattle.pcef_table.specs.Tables.{IsTable};
 
 use pcef_catalog::Catalog;
+use pcef_index::Indexed;
 use pcef_model::Verdict;
-use pcef_packet::{Addr, Dir, read_header};
-use pcef_table::Table;
+use pcef_packet::{Addr, Dir, Header, read_header};
 use std::io::{self, Write};
+
+/// How packets are judged.
+#[derive(Clone, Copy)]
+pub enum Way {
+    /// By the index.
+    Index,
+    /// By a linear scan of the table.
+    Scan,
+}
 
 /// How many packets went which way.
 #[derive(Clone, Copy, Debug, Default)]
@@ -66,15 +75,26 @@ fn next(recorded: &[u8]) -> Option<Recorded<'_>> {
     })
 }
 
+/// The verdict on a packet.
+fn judge(catalog: &Catalog, rules: &Indexed, way: Way, ue: Addr, header: &Header) -> Verdict
+    requires { IsTable (offers_of catalog.now) rules.now.entries }
+{
+    match way {
+        Way::Index => rules.classify(catalog, ue, header),
+        Way::Scan => rules.table().classify(catalog, ue, header),
+    }
+}
+
 /// Judges each packet once.
 pub(crate) fn judge_all(
     catalog: &Catalog,
-    table: &Table,
+    rules: &Indexed,
+    way: Way,
     ue: Addr,
     recorded: &[u8],
     tally: &mut Tally,
 )
-    requires { IsTable (offers_of catalog.now) table.now.entries }
+    requires { IsTable (offers_of catalog.now) rules.now.entries }
 {
     let mut left = recorded;
     for _ in 0..u64::MAX {
@@ -82,7 +102,7 @@ pub(crate) fn judge_all(
             break;
         };
         if let Ok(header) = read_header(packet.dir, packet.octets) {
-            tally.count(&table.classify(catalog, ue, &header), header.octets);
+            tally.count(&judge(catalog, rules, way, ue, &header), header.octets);
         }
         left = packet.rest;
     }
@@ -103,12 +123,13 @@ fn write_verdict<W: Write>(verdict: &Verdict, writer: &mut W) -> io::Result<()> 
 /// Writes the verdict on each packet that can be read, one a line.
 pub(crate) fn write_verdicts<W: Write>(
     catalog: &Catalog,
-    table: &Table,
+    rules: &Indexed,
+    way: Way,
     ue: Addr,
     recorded: &[u8],
     writer: &mut W,
 ) -> io::Result<()>
-    requires { IsTable (offers_of catalog.now) table.now.entries }
+    requires { IsTable (offers_of catalog.now) rules.now.entries }
 {
     let mut left = recorded;
     for _ in 0..u64::MAX {
@@ -116,7 +137,7 @@ pub(crate) fn write_verdicts<W: Write>(
             break;
         };
         if let Ok(header) = read_header(packet.dir, packet.octets) {
-            write_verdict(&table.classify(catalog, ue, &header), writer)?;
+            write_verdict(&judge(catalog, rules, way, ue, &header), writer)?;
         }
         left = packet.rest;
     }

@@ -8,6 +8,7 @@ ghost use Rattle.pcef_catalog.specs.Catalogs.{offers_of};
 use indexmap::IndexMap;
 use pcef_bearer::Bearers;
 use pcef_catalog::{Catalog, Offers};
+use pcef_index::Indexed;
 use pcef_journal::Journal;
 use pcef_lane::LaneEnd;
 use pcef_model::{
@@ -15,7 +16,7 @@ use pcef_model::{
 };
 use pcef_rule::RuleName;
 use pcef_session::{Batch, Prepared, SessionState, open_fault};
-use pcef_table::{Source, Table};
+use pcef_table::Source;
 use pcef_usage::Usage;
 use std::alloc::Global;
 use std::sync::Arc;
@@ -157,11 +158,11 @@ impl Session {
         &self.catalog
     }
 
-    /// The table of the newest generation, with the active rules.
-    pub fn table(&self) -> &Arc<Table>
+    /// The table of the newest generation, with the active rules, and its index.
+    pub fn indexed(&self) -> &Arc<Indexed>
         ensures { Shows (state_of self.now).setting (state_of self.now).journal (gen (state_of self.now).journal) (arc_value result.now) }
     {
-        self.state.table()
+        self.state.indexed()
     }
 
     /// The active rules by their names, in the order in which they became active.

@@ -24,7 +24,7 @@ use Rattle.pcef_filter.specs.Matching.{dst_port, endpoint_fits, in_ranges, match
 use Rattle.pcef_index.specs.declared.cells.Cells.{Cells}
 use Rattle.pcef_index.specs.declared.cells.Half.{Half}
 use Rattle.pcef_index.specs.declared.cells.Half.TheVariants.{High, Low}
-use Rattle.pcef_index.specs.private.Cells.{filter_passes, half_cells, header_cells, high_cells, is_in, local_end, local_in, octet_of, only, place_cells, place_passes, port_cells, ports_pass, proto_cells, ranges_pass, remote_end, remote_in, way_cell, way_in, whole}
+use Rattle.pcef_index.specs.private.Cells.{are_whole, filter_passes, half_cells, header_cells, high_cells, is_in, local_end, local_in, octet_of, only, place_cells, place_passes, port_cells, ports_pass, proto_cells, ranges_pass, remote_end, remote_in, way_cell, way_in, whole}
 use Rattle.pcef_index.specs.private.Marks.{ArePortsRanged, IsRanged}
 
 inside : (k : ℕ) (c : Cells) → c.first ≤ k → k ≤ c.last → is_in k c ≡ true
@@ -93,8 +93,12 @@ octet_in_small High port small = omega arith
 octet_in_small Low port small = omega arith
 
 ports_in : (half : Half) (base : ℕ) (rs : List PortRange) (port : ℕ) → port < 2 ^ 16 → ports_fit rs (Some port) ≡ true → ports_pass half base rs (base + octet_in half port) ≡ true
-ports_in half base [] port small fits = in_whole base (octet_in half port) (octet_in_small half port small)
-ports_in half base (r ∷ rs) port small fits = ranges_in half base (r ∷ rs) port fits
+ports_in High base [] port small fits = in_whole base (octet_in High port) (octet_in_small High port small)
+ports_in Low base [] port small fits = in_whole base (octet_in Low port) (octet_in_small Low port small)
+ports_in half base (r ∷ rs) port small fits =
+    cond_both (are_whole half (r ∷ rs)) (is_in (base + octet_in half port) (whole base)) (ranges_pass half base (r ∷ rs) (base + octet_in half port)) (λ (b : Bool). b ≡ true)
+    (λ _. in_whole base (octet_in half port) (octet_in_small half port small))
+    (λ _. ranges_in half base (r ∷ rs) port fits)
 
 abbrev pub remote_of : Dir → Option Ports → Option ℕ
 remote_of Up ports = dst_port ports

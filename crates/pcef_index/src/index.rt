@@ -62,7 +62,7 @@ fn push_if(places: &mut ArrayVec<u8, 64>, place: u8, passes: bool)
 }
 
 /// The index of some rules, which are no more than a table has.
-fn index_of(alloc: Global, sources: Vec<Source>) -> Result<Index, AllocError>
+pub(crate) fn index_of(alloc: Global, sources: Vec<Source>) -> Result<Index, AllocError>
     requires { length sources.items ≤ 64 }
     ensures { IfOk result (λ i. i ≡ sources.items) }
 {

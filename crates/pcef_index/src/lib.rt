@@ -6,11 +6,13 @@ mod candidates;
 mod cells;
 mod header_cells;
 mod index;
+mod indexed;
 mod lines;
 mod marking;
 mod sieve;
 
 pub use index::Index;
+pub use indexed::Indexed;
 
 #[cfg(test)]
 mod tests;

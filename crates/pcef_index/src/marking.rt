@@ -1,7 +1,8 @@
 //! Marks of lines at the cells that they let pass.
 
 ghost use Rattle.std.specs.Prelude.{◌≡◌, ◌<◌, ◌≤◌, ◌+◌, length};
-ghost use Rattle.pcef_index.specs.private.Cells.{filter_passes, is_in, line_passes, place_passes, ports_pass, ranges_pass};
+ghost use Rattle.std.specs.List.{list_any};
+ghost use Rattle.pcef_index.specs.private.Cells.{are_whole, filter_passes, is_in, line_passes, place_passes, ports_pass, ranges_pass, spans};
 ghost use Rattle.pcef_index.specs.private.Marks.{Marks};
 
 use crate::cells::{
@@ -42,13 +43,33 @@ fn mark_place(words: &mut [u64], spot: Spot, place: &Place)
     mark(words, spot, place_cells(1024, 0, place));
 }
 
+/// Whether a range has several high octets.
+fn any_spans(ranges: &[PortRange]) -> bool
+    ensures { result ≡ list_any spans ranges.now }
+{
+    ranges
+        .iter()
+        .any(|range| range.first / 256 != range.last / 256)
+}
+
+/// Whether a port list lets all octets of this half pass: where it is empty, and all low ones where a range has
+/// several high ones.
+fn are_whole(half: Half, ranges: &[PortRange]) -> bool
+    ensures { result ≡ are_whole half ranges.now }
+{
+    match half {
+        Half::High => ranges.is_empty(),
+        Half::Low => ranges.is_empty() || any_spans(ranges),
+    }
+}
+
 fn mark_ports(words: &mut [u64], spot: Spot, half: Half, base: u16, ranges: &[PortRange])
     requires bit { spot.bit < 64 }
     requires within { spot.at + 2305 < length words.old }
     requires low { base ≤ 2048 }
     ensures { Marks words.old words.new spot.at spot.bit (ports_pass half base ranges.now) }
 {
-    if ranges.is_empty() {
+    if are_whole(half, ranges) {
         mark(words, spot, all_octets(base));
     } else {
         mark_ranges(words, spot, half, base, ranges);

@@ -38,7 +38,7 @@ pub enum SharedFault {
 pub fn opened(session: &SessionState) -> Result<Opened, AllocError>
     ensures { IfOk result (λ o. Shows session.now.setting session.now.journal (gen session.now.journal) o.table) }
 {
-    Ok(Opened::new(Arc::try_clone(session.table())?))
+    Ok(Opened::new(Arc::try_clone(session.indexed())?))
 }
 
 /// Publishes the table of an opened history, with a subscriber for each place.

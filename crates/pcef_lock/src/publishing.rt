@@ -20,7 +20,7 @@ pub(crate) fn publish<N: Naming, W: Board<Slot<N>> + Drop>(
     ensures published { OnOk result (publisher.new ≡ publisher.old ++ option_to_list (table_made prepared.now)) }
     ensures refused { OnErr result (publisher.new ≡ publisher.old) }
 {
-    match prepared.table() {
+    match prepared.indexed() {
         Some(table) => publisher.publish(Arc::try_clone(table)?),
         None => Ok(()),
     }

@@ -31,9 +31,9 @@ impl<N: Naming> Seat<N> {
         requires ue { self.now.ue ≡ N.setting.ue }
         ensures { IsTaken N.setting N.first self.now.worker seq self.now.subscriber header.now result }
     {
-        let (generation, table) = self.subscriber.current();
-        let verdict = table.classify(catalog, self.ue, header);
-        let slot = table.counts(catalog, &verdict);
+        let (generation, held) = self.subscriber.current();
+        let verdict = held.classify(catalog, self.ue, header);
+        let slot = held.table().counts(catalog, &verdict);
         Item {
             row: Row {
                 worker: self.worker,

@@ -7,8 +7,8 @@ ghost use Rattle.pcef_table.specs.Tables.{IsTable};
 ghost use Rattle.pcef_publish.specs.Lists.{Ends, IsLonger, IsSeen};
 
 use crate::front::Front;
+use pcef_index::Indexed;
 use pcef_share::Naming;
-use pcef_table::Table;
 use std::alloc::AllocError;
 use std::marker::Model;
 use std::sync::Arc;
@@ -16,7 +16,7 @@ use std::sync::Arc;
 /// A table with the history that ends with it. Contracts see it as that list.
 #[derive(Drop)]
 pub struct Entry<N: Naming> {
-    table: Arc<Table>,
+    table: Arc<Indexed>,
     pub front: Front<N>,
 }
 
@@ -34,7 +34,7 @@ impl<N: Naming> Model for Entry<N> {
 }
 
 impl<N: Naming> Entry<N> {
-    pub fn new(table: Arc<Table>, front: Front<N>) -> Entry<N>
+    pub fn new(table: Arc<Indexed>, front: Front<N>) -> Entry<N>
         requires { Ends front (arc_value table) }
         ensures { result ≡ front }
     {
@@ -60,7 +60,7 @@ impl<N: Naming> Entry<N> {
 
     /// The table and its generation.
     #[tactic(auto, using(crate::proofs::Runs::run_length, crate::proofs::Runs::run_seen, crate::proofs::Runs::run_table))]
-    pub fn current(&self) -> (u32, &Arc<Table>)
+    pub fn current(&self) -> (u32, &Arc<Indexed>)
         ensures number { result.0 ≡ (arc_value result.1.now).number }
         ensures last { Ends self.now (arc_value result.1.now) }
         ensures count { result.0 + 1 ≡ N.first + length self.now }

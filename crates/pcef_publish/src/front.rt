@@ -11,13 +11,13 @@ ghost use Rattle.pcef_publish.specs.private.Chains.{head_of, items_of, word_of};
 use crate::entry::Entry;
 use crate::rule::{Add, Ask, Check, Draw, Law, Note, Nothing};
 use logbook::{Offer, Pen, Seen, Start, Word};
+use pcef_index::Indexed;
 use pcef_share::Naming;
-use pcef_table::Table;
 use std::marker::{Brand, Model, PhantomData};
 use std::sync::Arc;
 
 // A pen that may write a cell which is not at home.
-fn draw(word: &Word<Note, u64, Law>, seen: &Seen<Note, u64, Law>, item: &Table) -> Pen
+fn draw(word: &Word<Note, u64, Law>, seen: &Seen<Note, u64, Law>, item: &Indexed) -> Pen
     requires { word.now ≡ word_of seen.now.book }
     ensures { (result.book ≡ seen.now.book) × (result.nib.right ≡ may_write) }
 {
@@ -44,7 +44,7 @@ pub struct Opened {
     word: Word<Note, u64, Law>,
     seen: Seen<Note, u64, Law>,
     pen: Pen,
-    table: Arc<Table>,
+    table: Arc<Indexed>,
 }
 
 impl Model for Opened {
@@ -67,7 +67,7 @@ impl Model for Opened {
 
 impl Opened {
     /// A history that begins with this table, once it has a name. Takes no memory of its own.
-    pub fn new(table: Arc<Table>) -> Opened
+    pub fn new(table: Arc<Indexed>) -> Opened
         ensures { result.table ≡ arc_value table }
     {
         let (seen, mut first, _second) = Seen::open(Start::alone(), 0, 0);
@@ -152,7 +152,7 @@ impl<N: Naming> Author<N> {
     }
 
     /// Adds a table to all that there are. It can't fail.
-    pub fn add(&mut self, table: &Table)
+    pub fn add(&mut self, table: &Indexed)
         requires number { table.now.number ≡ N.first + length self.old }
         requires table { IsTable N.setting.catalog table.now.entries }
         ensures { self.new ≡ self.old ++ table.now ∷ [] }
@@ -174,7 +174,7 @@ impl<N: Naming> Author<N> {
     }
 
     /// Shows that a front is a beginning of the whole. It can't fail.
-    pub fn knows(&mut self, front: &Front<N>, table: &Table)
+    pub fn knows(&mut self, front: &Front<N>, table: &Indexed)
         ensures same { self.new ≡ self.old }
         ensures begins { IsPrefix front.now self.old }
     {

@@ -11,8 +11,8 @@ use crate::front::{Author, Front, Opened};
 use crate::shown::{Board, Shown, Slot, Writer};
 use crate::subscriber::Subscriber;
 use left_right::WriteHandle;
+use pcef_index::Indexed;
 use pcef_share::Naming;
-use pcef_table::Table;
 use std::alloc::{AllocError, Global};
 use std::marker::Model;
 use std::sync::{Arc, OnceLock, Wait};
@@ -175,7 +175,7 @@ impl<N: Naming, W: Board<Slot<N>> + Drop> Publisher<N, W> {
     /// Adds the next table to the list. The table is over the name's catalog, and its generation is one
     /// above the last published one: both are the caller's condition. Takes memory; where there is none,
     /// the list stays as it was. May wait for readers to leave.
-    pub fn publish(&mut self, table: Arc<Table>) -> Result<(), AllocError>
+    pub fn publish(&mut self, table: Arc<Indexed>) -> Result<(), AllocError>
         requires number { (arc_value table).number ≡ N.first + length self.old }
         requires table { IsTable N.setting.catalog (arc_value table).entries }
         ensures published { OnOk result (self.new ≡ self.old ++ arc_value table ∷ []) }

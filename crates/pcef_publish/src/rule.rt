@@ -1,7 +1,7 @@
 //! The rule of the history.
 use logbook::{Gain, Pen, Plain, Play, Rule};
+use pcef_index::Indexed;
 use pcef_share::Naming;
-use pcef_table::Table;
 use std::marker::PhantomData;
 
 /// An item that the author of the chain `root` added by the pen of the key `by`. The pen of the key `next`
@@ -10,7 +10,7 @@ pub struct Note {
     pub root: u64,
     pub by: u64,
     pub next: u64,
-    pub item: Table,
+    pub item: Indexed,
 }
 
 pub struct Law;
@@ -44,7 +44,7 @@ impl Gain<Note, u64> for Nothing {
 /// What is asked for.
 #[derive(Drop)]
 pub struct Ask<'a> {
-    pub item: &'a Table,
+    pub item: &'a Indexed,
     pub by: &'a Pen,
     pub next: &'a Pen,
 }

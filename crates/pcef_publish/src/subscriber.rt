@@ -10,8 +10,8 @@ use crate::entry::Entry;
 use crate::publisher::Publisher;
 use crate::shown::{Board, Shown, Slot};
 use left_right::ReadHandle;
+use pcef_index::Indexed;
 use pcef_share::Naming;
-use pcef_table::Table;
 use std::alloc::AllocError;
 use std::marker::Model;
 use std::sync::Arc;
@@ -53,7 +53,7 @@ impl<N: Naming> Subscriber<N> {
     }
 
     /// The generation that is held, and its table. Neither waits nor takes memory.
-    pub fn current(&self) -> (u32, &Arc<Table>)
+    pub fn current(&self) -> (u32, &Arc<Indexed>)
         ensures number { result.0 ≡ (arc_value result.1.now).number }
         ensures last { Ends self.now (arc_value result.1.now) }
         ensures count { result.0 + 1 ≡ N.first + length self.now }

@@ -3,8 +3,8 @@ ghost use Rattle.std.specs.Prelude.{◌≡◌, [], IfOk};
 ghost use Rattle.std.specs.Arc.{arc_value};
 
 use super::*;
+use pcef_index::Indexed;
 use pcef_share::Naming;
-use pcef_table::Table;
 use std::alloc::{AllocError, Global};
 use std::marker::Brand;
 use std::sync::{Arc, Wait};
@@ -12,11 +12,11 @@ use std::test::*;
 use std::thread::{Threads, join};
 
 // The empty table of a generation.
-fn table(alloc: Global, generation: u32) -> Result<Arc<Table>, AllocError>
+fn table(alloc: Global, generation: u32) -> Result<Arc<Indexed>, AllocError>
     ensures number { IfOk result (λ t. (arc_value t).number ≡ generation) }
     ensures entries { IfOk result (λ t. (arc_value t).entries ≡ []) }
 {
-    Ok(Arc::new(alloc, Table::empty(alloc, generation)?)?)
+    Ok(Arc::new(alloc, Indexed::empty(alloc, generation)?)?)
 }
 
 #[test]

@@ -15,9 +15,9 @@ mod times;
 ghost use Rattle.std.specs.Prelude.{◌≡◌, ◌<◌, [], IfOk};
 ghost use Rattle.std.specs.Arc.{arc_value};
 
+use pcef_index::Indexed;
 use pcef_publish::{Opened, Publisher, Subscriber};
 use pcef_share::Naming;
-use pcef_table::Table;
 use std::alloc::{AllocError, Global};
 use std::marker::Brand;
 use std::process::ExitCode;
@@ -58,11 +58,11 @@ fn read_load(rt: &HostRuntime) -> io::Result<Option<Load>> {
 }
 
 /// The empty table of a generation.
-fn empty_table(alloc: Global, generation: u32) -> Result<Arc<Table>, AllocError>
+fn empty_table(alloc: Global, generation: u32) -> Result<Arc<Indexed>, AllocError>
     ensures number { IfOk result (λ t. (arc_value t).number ≡ generation) }
     ensures entries { IfOk result (λ t. (arc_value t).entries ≡ []) }
 {
-    Ok(Arc::new(alloc, Table::empty(alloc, generation)?)?)
+    Ok(Arc::new(alloc, Indexed::empty(alloc, generation)?)?)
 }
 
 fn refresh_each<N: Naming>(subscribers: &mut [Subscriber<N>], times: u32) {
@@ -74,7 +74,7 @@ fn refresh_each<N: Naming>(subscribers: &mut [Subscriber<N>], times: u32) {
 }
 
 /// Swaps each of these for another owner of the newest table.
-fn swap_each(held: &mut [Arc<Table>], newest: &Arc<Table>) -> Result<(), AllocError> {
+fn swap_each(held: &mut [Arc<Indexed>], newest: &Arc<Indexed>) -> Result<(), AllocError> {
     for own in held {
         *own = Arc::try_clone(newest)?;
     }
@@ -82,7 +82,11 @@ fn swap_each(held: &mut [Arc<Table>], newest: &Arc<Table>) -> Result<(), AllocEr
 }
 
 /// So many owners of a table.
-fn owners(alloc: Global, table: &Arc<Table>, count: u32) -> Result<Vec<Arc<Table>>, AllocError> {
+fn owners(
+    alloc: Global,
+    table: &Arc<Indexed>,
+    count: u32,
+) -> Result<Vec<Arc<Indexed>>, AllocError> {
     let mut owners = Vec::new(alloc);
     for _ in 0..count {
         owners.push(Arc::try_clone(table)?)?;
@@ -94,8 +98,8 @@ fn owners(alloc: Global, table: &Arc<Table>, count: u32) -> Result<Vec<Arc<Table
 fn time_each<N: Naming, C: Clock>(
     clock: &C,
     subscribers: &mut [Subscriber<N>],
-    held: &mut [Arc<Table>],
-    newest: &Arc<Table>,
+    held: &mut [Arc<Indexed>],
+    newest: &Arc<Indexed>,
     times: &mut Times,
 ) -> io::Result<()> {
     let mut lap = Lap::begin(clock)?;

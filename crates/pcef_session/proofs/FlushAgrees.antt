@@ -236,7 +236,7 @@ within_rows p j worker count accepted =
 pub sound_flushed : (s t : Inside) (worker : ℕ) (items : List Item) (before : Counted) → IsSound s → first_of (flush_refusals (setting_of s.profile s.listing) s.counted.journal worker (length items)) ≡ None →
     BatchFollows (setting_of s.profile s.listing) s.counted.journal worker (map row_of items) → HasItsSlots (setting_of s.profile s.listing) s.counted.journal items → HasSmallRows items →
     before.states ≡ s.counted.states → before.journal ≡ s.counted.journal → IsTaken s.subscribed.usage_report items before t.counted → t.profile ≡ s.profile → t.listing ≡ s.listing → t.active ≡ s.active →
-    t.bearers ≡ s.bearers → t.table ≡ s.table → t.subscribed ≡ s.subscribed →
+    t.bearers ≡ s.bearers → t.newest ≡ s.newest → t.subscribed ≡ s.subscribed →
     t.lanes ≡ with_lane worker (map row_of items) s.lanes → t.closed ≡ s.closed → t.terminated ≡ s.terminated → length (attached s.counted.journal) ≤ t.counted.room → IsSound t
 sound_flushed s t worker items before sound accepted follow its small states_are journal_is taken profile listing active bearers table subscribed_is lanes closed terminated room =
     let p : Setting = setting_of s.profile s.listing in

@@ -61,7 +61,7 @@ one_fewer n (m ∷ ns) is =
 
 -- a worker comes
 pub sound_attached : (s t : Inside) (n : ℕ) → IsSound s → n ≡ attach_count s.counted.journal → first_of (attach_faults s.counted.journal) ≡ None → t.profile ≡ s.profile → t.listing ≡ s.listing →
-    t.counted.journal ≡ entry.Attach n ∷ s.counted.journal → t.counted.states ≡ s.counted.states → t.active ≡ s.active → t.bearers ≡ s.bearers → t.table ≡ s.table → t.subscribed ≡ s.subscribed →
+    t.counted.journal ≡ entry.Attach n ∷ s.counted.journal → t.counted.states ≡ s.counted.states → t.active ≡ s.active → t.bearers ≡ s.bearers → t.newest ≡ s.newest → t.subscribed ≡ s.subscribed →
     t.lanes ≡ s.lanes ++ at_start ∷ [] → t.closed ≡ s.closed → t.terminated ≡ s.terminated → suc (length (attached s.counted.journal)) ≤ t.counted.room → IsSound t
 unfolding attached
 sound_attached s t n sound number accepted profile listing journal states active bearers table subscribed lanes closed terminated room =
@@ -92,7 +92,7 @@ sound_attached s t n sound number accepted profile listing journal states active
 
 -- a worker leaves
 pub sound_left : (s t : Inside) (n : ℕ) → IsSound s → is_attached s.counted.journal n ≡ true → t.profile ≡ s.profile → t.listing ≡ s.listing →
-    t.counted.journal ≡ entry.Leave n ∷ s.counted.journal → t.counted.states ≡ s.counted.states → t.active ≡ s.active → t.bearers ≡ s.bearers → t.table ≡ s.table → t.subscribed ≡ s.subscribed →
+    t.counted.journal ≡ entry.Leave n ∷ s.counted.journal → t.counted.states ≡ s.counted.states → t.active ≡ s.active → t.bearers ≡ s.bearers → t.newest ≡ s.newest → t.subscribed ≡ s.subscribed →
     t.lanes ≡ set s.lanes n (left (get_or s.lanes n at_start)) → t.closed ≡ s.closed → t.terminated ≡ s.terminated → s.counted.room ≤ t.counted.room + 1 → IsSound t
 unfolding attached
 sound_left s t n sound is profile listing journal states active bearers table subscribed lanes closed terminated room =
@@ -122,7 +122,7 @@ sound_left s t n sound is profile listing journal states active bearers table su
 
 -- a session that is opened
 pub sound_opened : (s : Inside) → s.counted.journal ≡ [] → s.counted.states ≡ [] → s.active.entries ≡ [] → s.bearers ≡ binding_of (setting_of s.profile s.listing) before_all →
-    (arc_value s.table).number ≡ 0 → (arc_value s.table).entries ≡ [] → s.subscribed ≡ no_triggers → s.lanes ≡ [] → s.closed ≡ false → s.terminated ≡ false → s.profile.commands ≤ 1000000 →
+    (arc_value s.newest).number ≡ 0 → (arc_value s.newest).entries ≡ [] → s.subscribed ≡ no_triggers → s.lanes ≡ [] → s.closed ≡ false → s.terminated ≡ false → s.profile.commands ≤ 1000000 →
     s.profile.rows ≤ 4294967295 → IsSound s
 unfolding attached
 sound_opened s journal states active bearers number entries subscribed lanes closed terminated most_commands most_rows =

@@ -18,9 +18,10 @@ ghost use Rattle.pcef_session.specs.private.Changes.{Binds, CanBind, IsBoundTo, 
 use crate::prepared::Activation;
 use indexmap::IndexMap;
 use pcef_bearer::Bearers;
+use pcef_index::Indexed;
 use pcef_model::{Command, Entry, PendingReport, TriggerSet};
 use pcef_rule::{BearerId, KeyName, RuleName};
-use pcef_table::{Source, Table};
+use pcef_table::Source;
 use pcef_usage::CountedJournal;
 use std::sync::Arc;
 
@@ -100,7 +101,7 @@ pub(crate) fn terminated_by(command: &Command, old: bool) -> bool
 }
 
 /// Holds the table that a command makes, or goes on holding the old one.
-pub(crate) fn keep_table(held: &mut Arc<Table>, made: Option<Arc<Table>>)
+pub(crate) fn keep_table(held: &mut Arc<Indexed>, made: Option<Arc<Indexed>>)
     ensures { arc_value held.new ≡ unwrap_or (option_map (λ t. arc_value t) made) (arc_value held.old) }
 {
     if let Some(table) = made {

@@ -5,9 +5,10 @@ ghost use Rattle.std.specs.Arc.{arc_value};
 ghost use Rattle.std.specs.Option.{option_copied, option_map};
 ghost use Rattle.pcef_session.specs.Preparing.{table_made};
 
+use pcef_index::Indexed;
 use pcef_model::{Command, PendingReport};
 use pcef_rule::{BearerId, Properties, RuleName};
-use pcef_table::{Source, Table};
+use pcef_table::Source;
 use std::sync::Arc;
 
 /// A rule that becomes active.
@@ -24,8 +25,8 @@ pub struct Activation {
 pub struct PreparedChange {
     /// The command.
     pub command: Command,
-    /// The table that the command makes, if it makes one: that of the journal after it and all that is reported with it.
-    pub table: Option<Arc<Table>>,
+    /// The table that the command makes, with its index, if it makes one: that of the journal after it and all that is reported with it.
+    pub table: Option<Arc<Indexed>>,
     /// The rule that the command makes active.
     pub rule: Option<Activation>,
     /// The bearer that this rule gets.
@@ -44,8 +45,8 @@ pub enum Prepared {
 }
 
 impl Prepared {
-    /// The table of the journal after the command and all that is reported with it, if the command makes one.
-    pub fn table(&self) -> Option<&Arc<Table>>
+    /// The table, with its index, of the journal after the command and all that is reported with it, if the command makes one.
+    pub fn indexed(&self) -> Option<&Arc<Indexed>>
         ensures { option_map (λ t. arc_value t) (option_copied result) ≡ table_made self.now }
     {
         match self {

@@ -17,13 +17,14 @@ ghost use Rattle.pcef_session.specs.Shown.{Shows};
 use indexmap::IndexMap;
 use pcef_bearer::Bearers;
 use pcef_catalog::Listing;
+use pcef_index::Indexed;
 use pcef_journal::Journal;
 use pcef_lane::{Lanes, MAX_WORKERS};
 use pcef_model::{AttachFault, Entry, OpenFault, Profile, TriggerSet};
 use pcef_rule::{Kind, RuleName};
-use pcef_table::{Source, Table};
+use pcef_table::Source;
 use pcef_usage::{CountedJournal, Usage};
-use std::alloc::Global;
+use std::alloc::{AllocError, Global};
 use std::marker::Model;
 use std::sync::Arc;
 
@@ -45,7 +46,7 @@ pub struct SessionState {
     counted: CountedJournal,
     active: IndexMap<RuleName, Source>,
     bearers: Bearers,
-    table: Arc<Table>,
+    newest: Arc<Indexed>,
     subscribed: TriggerSet,
     lanes: Lanes,
     closed: bool,
@@ -83,9 +84,17 @@ fn open_bearers(profile: &Profile) -> Result<Bearers, OpenFault>
     Bearers::new(profile.default_qos, profile.capacity, profile.qcis)
 }
 
+/// The table of the first generation, which has no rules, with its index.
+fn first_table(alloc: Global) -> Result<Arc<Indexed>, AllocError>
+    ensures number { IfOk result (λ t. (arc_value t).number ≡ 0) }
+    ensures entries { IfOk result (λ t. (arc_value t).entries ≡ []) }
+{
+    Ok(Arc::new(alloc, Indexed::empty(alloc, 0)?)?)
+}
+
 impl SessionState {
     /// A session with an empty journal, or the first fault in the order of [`OpenFault`]. Takes memory for
-    /// the rules that may come, and for the first table.
+    /// the rules that may come, and for the first table and its index.
     pub fn open(
         alloc: Global,
         profile: Profile,
@@ -104,10 +113,7 @@ impl SessionState {
         let Ok(active) = IndexMap::with_capacity(alloc, MAX_RULES + 1) else {
             return Err(OpenFault::NoMemory);
         };
-        let Ok(table) = Table::empty(alloc, 0) else {
-            return Err(OpenFault::NoMemory);
-        };
-        let Ok(table) = Arc::new(alloc, table) else {
+        let Ok(newest) = first_table(alloc) else {
             return Err(OpenFault::NoMemory);
         };
         Ok(SessionState {
@@ -117,7 +123,7 @@ impl SessionState {
             counted,
             active,
             bearers,
-            table,
+            newest,
             subscribed: TriggerSet::default(),
             lanes: Lanes::new(),
             closed: false,
@@ -192,7 +198,7 @@ impl SessionState {
     pub fn generation(&self) -> u32
         ensures { result ≡ gen self.now.journal }
     {
-        self.table.generation()
+        self.newest.generation()
     }
 
     /// The journal, which is lawful.
@@ -217,10 +223,10 @@ impl SessionState {
         &self.listing
     }
 
-    /// The table of the newest generation.
-    pub fn table(&self) -> &Arc<Table>
+    /// The table of the newest generation, with its index.
+    pub fn indexed(&self) -> &Arc<Indexed>
         ensures { Shows self.now.setting self.now.journal (gen self.now.journal) (arc_value result.now) }
     {
-        &self.table
+        &self.newest
     }
 }

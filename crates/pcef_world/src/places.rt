@@ -41,11 +41,11 @@ pub(crate) fn refresh_at(
 {
     match place {
         None => Ok(StepAnswer::NoWorker),
-        Some(worker) => match Arc::try_clone(session.table()) {
+        Some(worker) => match Arc::try_clone(session.indexed()) {
             Err(lack) => Err(lack),
-            Ok(table) => {
-                worker.table = table;
-                Ok(StepAnswer::Refresh(worker.table.generation()))
+            Ok(newest) => {
+                worker.held = newest;
+                Ok(StepAnswer::Refresh(worker.held.generation()))
             }
         },
     }

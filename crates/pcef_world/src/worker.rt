@@ -11,10 +11,10 @@ ghost use Rattle.pcef_model.specs.Lawful.{BatchFollows};
 ghost use Rattle.pcef_world.specs.private.Workers.{IsJudged, TakesItem, after_flushing, held_by};
 
 use pcef_catalog::Detects;
+use pcef_index::Indexed;
 use pcef_model::{FlushRefusal, Row, Verdicts};
 use pcef_packet::{Addr, Header};
 use pcef_session::{Batch, BatchFull, Item, MAX_WAITING, SessionState};
-use pcef_table::Table;
 use std::sync::Arc;
 
 /// A worker: the table of the generation that it holds, and its waiting rows.
@@ -22,8 +22,8 @@ use std::sync::Arc;
 pub struct Worker {
     /// Its number.
     pub number: u8,
-    /// The table that it judges by.
-    pub table: Arc<Table>,
+    /// The table that it judges by, with its index.
+    pub held: Arc<Indexed>,
     /// The rows that wait.
     pub waiting: Batch,
 }
@@ -35,13 +35,13 @@ impl Worker {
         requires few { handed_over ≤ 4294967295 }
         ensures { IsJudged (C.offers catalog.now) ue header.now handed_over self.now result }
     {
-        let verdict = self.table.classify(catalog, ue, header);
-        let slot = self.table.counts(catalog, &verdict);
+        let verdict = self.held.classify(catalog, ue, header);
+        let slot = self.held.table().counts(catalog, &verdict);
         Item {
             row: Row {
                 worker: self.number,
                 seq: handed_over + self.waiting.len() as u64,
-                generation: self.table.generation(),
+                generation: self.held.generation(),
                 header: *header,
                 verdict,
             },

@@ -17,10 +17,10 @@ use crate::answer::{StepAnswer, attach_told, command_told};
 use crate::places::{abandon_at, finish_at, flush_at, refresh_at, take_at};
 use crate::worker::Worker;
 use pcef_catalog::{Detects, Listing};
+use pcef_index::Indexed;
 use pcef_model::{AttachFault, Command, OpenFault, Profile, Step};
 use pcef_packet::Header;
 use pcef_session::{Batch, SessionState};
-use pcef_table::Table;
 use std::alloc::{AllocError, Global};
 use std::marker::Model;
 use std::sync::Arc;
@@ -46,11 +46,11 @@ impl Model for WorldState {
     ghost invariant = { IsSoundWorld };
 }
 
-/// The table of a session's newest generation, for one more worker to hold.
-fn newest(session: &SessionState) -> Result<Arc<Table>, AllocError>
+/// The table of a session's newest generation, with its index, for one more worker to hold.
+fn newest(session: &SessionState) -> Result<Arc<Indexed>, AllocError>
     ensures { IfOk result (λ t. Shows session.now.setting session.now.journal (gen session.now.journal) (arc_value t)) }
 {
-    Arc::try_clone(session.table())
+    Arc::try_clone(session.indexed())
 }
 
 impl WorldState {
@@ -124,13 +124,13 @@ impl WorldState {
         let Ok(waiting) = Batch::new(self.alloc) else {
             return Err(AttachFault::NoMemory);
         };
-        let Ok(table) = newest(&self.session) else {
+        let Ok(held) = newest(&self.session) else {
             return Err(AttachFault::NoMemory);
         };
         let number = self.session.attach()?;
         self.workers.push_reserved(Some(Worker {
             number,
-            table,
+            held,
             waiting,
         }));
         Ok(number)

@@ -1,5 +1,5 @@
 -- The cells that a filter lets pass, and those of a header: one cell for each octet of each field.
-use Rattle.std.specs.Prelude.{ℕ, ◌+◌, ◌-◌, ◌/◌, ◌%◌, ◌^◌, ◌==◌, nat_le, Bool, Option, Some, None, List, [], ◌∷◌, if◌then◌else◌, ◌&&◌, ◌||◌}
+use Rattle.std.specs.Prelude.{ℕ, ◌+◌, ◌-◌, ◌/◌, ◌%◌, ◌^◌, ◌==◌, nat_le, Bool, not, length, Option, Some, None, List, [], ◌∷◌, if◌then◌else◌, ◌&&◌, ◌||◌}
 use Rattle.std.specs.List.{list_any}
 use Rattle.pcef_packet.specs.declared.header.Addr.{Addr}
 use Rattle.pcef_packet.specs.declared.header.Addr.TheVariants.{V4}
@@ -88,10 +88,17 @@ half_cells Low base r = low_cells base r
 abbrev pub ranges_pass : Half → ℕ → List PortRange → ℕ → Bool
 ranges_pass half base ranges k = list_any (λ r. is_in k (half_cells half base r)) ranges
 
+-- a port list lets all octets pass where it is empty, and all low ones where a range has several high ones
+abbrev pub spans : PortRange → Bool
+spans r = not ((r.first / 256) == (r.last / 256))
+
+abbrev pub are_whole : Half → List PortRange → Bool
+are_whole High ranges = length ranges == 0
+are_whole Low ranges = (length ranges == 0) || list_any spans ranges
+
 -- a cell of this octet of ports that a port list lets pass
 abbrev pub ports_pass : Half → ℕ → List PortRange → ℕ → Bool
-ports_pass half base [] k = is_in k (whole base)
-ports_pass half base (r ∷ rs) k = ranges_pass half base (r ∷ rs) k
+ports_pass half base ranges k = if are_whole half ranges then is_in k (whole base) else ranges_pass half base ranges k
 
 -- a cell of the remote address that a place lets pass
 abbrev pub place_passes : Place → ℕ → Bool

@@ -19,7 +19,7 @@ parts_of s = record {
   binding = s.bearers;
   keys = s.counted.states;
   triggers = s.subscribed;
-  table = arc_value s.table;
+  table = arc_value s.newest;
 }
 
 abbrev pub model_of : Inside → SessionModel

@@ -30,14 +30,14 @@ impl SessionState {
         let first_report = self.counted.journal().reports_len();
         let key = rule_key(rule.as_ref());
         change_rules(&mut self.active, &mut self.bearers, &command, rule, bearer);
-        keep_table(&mut self.table, table);
+        keep_table(&mut self.newest, table);
         self.subscribed = subscribed_by(&command, self.subscribed);
         self.closed = closed_by(&command, self.closed);
         self.terminated = terminated_by(&command, self.terminated);
         enter(&mut self.counted, command, key);
         tell(&mut self.counted, &reports, self.subscribed.usage_report);
         Accepted {
-            generation: self.table.generation(),
+            generation: self.newest.generation(),
             bearer,
             first_report,
             past_last_report: self.counted.journal().reports_len(),
@@ -52,7 +52,7 @@ impl SessionState {
     {
         let reports = self.counted.journal().reports_len();
         Accepted {
-            generation: self.table.generation(),
+            generation: self.newest.generation(),
             bearer: self.bearers.bearer_of(name),
             first_report: reports,
             past_last_report: reports,

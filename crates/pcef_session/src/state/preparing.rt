@@ -24,18 +24,24 @@ use crate::inactive::inactive;
 use crate::keys::{place_of, switched_key, switches_on};
 use crate::pending_reports::{add_noticed, add_requested};
 use crate::prepared::{Activation, Prepared, PreparedChange};
+use pcef_catalog::Listing;
+use pcef_index::Indexed;
 use pcef_model::{Command, PendingReport, Refusal};
 use pcef_rule::{BearerId, KeyName, RuleName};
 use pcef_table::{Source, Table};
 use std::alloc::{AllocError, Global};
 use std::sync::Arc;
 
-/// A table that can be shared, if there is one.
-fn share(alloc: Global, table: Option<Table>) -> Result<Option<Arc<Table>>, AllocError>
+/// A table with its index, so that it can be shared, if there is one.
+fn share(
+    alloc: Global,
+    table: Option<Table>,
+    listing: &Listing,
+) -> Result<Option<Arc<Indexed>>, AllocError>
     ensures { IfOk result (λ t. option_map (λ x. arc_value x) t ≡ table) }
 {
     match table {
-        Some(table) => Ok(Some(Arc::new(alloc, table)?)),
+        Some(table) => Ok(Some(Arc::new(alloc, Indexed::new(alloc, table, listing)?)?)),
         None => Ok(None),
     }
 }
@@ -95,7 +101,7 @@ impl SessionState {
         ensures { IfOk result (λ t. ShowsNext self.now.setting self.now.journal command.now t) }
     {
         let entry = entry_of(self.counted.usage(), rule, bearer)?;
-        self.table.with(&self.listing, entry)
+        self.newest.table().with(&self.listing, entry)
     }
 
     /// The table where the key that a command switches counts, or doesn't.
@@ -105,7 +111,8 @@ impl SessionState {
         ensures { IfOk result (λ t. ShowsNext self.now.setting self.now.journal command.now t) }
     {
         let slot = place_of(self.counted.usage(), key);
-        self.table
+        self.newest
+            .table()
             .counting(&self.listing, slot, switches_on(command))
     }
 
@@ -116,7 +123,7 @@ impl SessionState {
         requires switched { key_switched command.now ≡ None }
         ensures { IfOk result (λ t. ShowsNext self.now.setting self.now.journal command.now t) }
     {
-        self.table.without_taken(&self.listing, command)
+        self.newest.table().without_taken(&self.listing, command)
     }
 
     /// The table that a command makes.
@@ -185,7 +192,7 @@ impl SessionState {
         add_ended_keys(
             reports,
             self.counted.usage().states(),
-            self.table.entries(),
+            self.newest.table().entries(),
             &self.listing,
             command,
             rule,
@@ -254,6 +261,7 @@ impl SessionState {
         let table = share(
             self.alloc,
             self.next_table(&command, rule.as_ref(), bearer)?,
+            &self.listing,
         )?;
         let reports = self.plan(&command, rule.as_ref())?;
         self.take_room(reports.as_slice())?;

@@ -59,7 +59,7 @@ fn what_an_opened_session_shows(rt: HostRuntime) -> Result<(), Fail> {
     let catalog = Arc::new(alloc, Catalog::new(alloc, Vec::new(alloc))?)?;
     let session = Session::open(alloc, read_profile(alloc, PROFILE)?, catalog)?;
     assert_eq!(rt; session.catalog().listing().offers().len(), 0);
-    assert_eq!(rt; session.table().entries().len(), 0);
+    assert_eq!(rt; session.indexed().table().entries().len(), 0);
     assert!(rt; session.active().is_empty());
     assert!(rt; session.bearers().bound().is_empty());
     assert_eq!(rt; session.profile().rows, 1000);

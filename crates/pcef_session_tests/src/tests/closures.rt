@@ -117,7 +117,7 @@ fn a_table_calls_the_closure(rt: HostRuntime) -> Result<(), Fail> {
     session.command(Command::Activate(RuleName::new("expedited")?))?;
     let ue = session.profile().ue;
     let verdict = session
-        .table()
+        .indexed()
         .classify(&**session.catalog(), ue, &EXPEDITED);
     assert!(rt;
         matches!(

@@ -20,7 +20,7 @@ use Rattle.pcef_session.specs.Shown.{Shows}
 
 -- the table that a worker holds
 abbrev pub held_by : Worker → TableValue
-held_by w = arc_value w.table
+held_by w = arc_value w.held
 
 -- ---- what a worker does
 -- an item that a worker makes of a packet, where it has handed over so many rows

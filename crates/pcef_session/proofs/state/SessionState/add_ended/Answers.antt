@@ -19,4 +19,4 @@ returns c =
     subst (λ (m : SessionModel). OnOk c.add_ended_keys.result (c.add_ended_keys.new.reports.items ≡ c.args.reports.now.items ++ ended m.setting m.journal command)) c.self.view_is
     (on_ok_weaker c.add_ended_keys.result
     (λ is. is ∙ ap (λ ts. c.args.reports.now.items ++ ts) (ended_keys v.setting v.journal command x v.parts c.self.invariant.agrees rule))
-    (rw (c.states.ensures.states, c.usage.ensures, c.entries.ensures.entries, c.deref.ensures) at c.add_ended_keys.ensures))
+    (rw (c.states.ensures.states, c.usage.ensures, c.entries.ensures.entries, (c.table.ensures ∙ c.deref.ensures)) at c.add_ended_keys.ensures))

@@ -94,7 +94,7 @@ invariant_of-self c =
     let ready : IsReady (model_of s) c.args.change = subst (λ (v : SessionModel). IsReady v c.args.change) (sym c.self.view_is) c.requires in
     let b = (subscribed_by command s.subscribed).usage_report in
     let triggers : c.subscribed_by-self-inside.result ≡ subscribed_by command s.subscribed = c.subscribed_by-self-inside.ensures in
-    let table : arc_value c.keep_table.new.held ≡ unwrap_or (option_map (λ t. arc_value t) c.args.change.table) (arc_value s.table) = c.keep_table.ensures in
+    let table : arc_value c.keep_table.new.held ≡ unwrap_or (option_map (λ t. arc_value t) c.args.change.table) (arc_value s.newest) = c.keep_table.ensures in
     let planned : c.deref.result.now ≡ plan p j command = c.deref.ensures.value ∙ ready.plan_is in
     let entered : c.enter.new.counted.states ≡ entered_by (rule_key c.args.change.rule) command s.counted.states =
     c.enter.ensures.states ∙ ap (λ (k : Option (List ℕ)). entered_by k command s.counted.states) (c.rule_key-key.ensures ∙ ap rule_key c.as_ref.ensures.value) in
@@ -117,7 +117,7 @@ invariant_of-self c =
       rebound = c.change_rules.ensures.bearers;
       keys_are = c.tell.ensures.states ∙ ap (λ (t : TriggerSet). left_by t.usage_report c.deref.result.now c.enter.new.counted.states) triggers ∙ ap (λ (ts : List PendingReport). left_by b ts c.enter.new.counted.states) planned ∙ ap (left_by b (plan p j command)) entered;
       triggers_are = triggers;
-      shows = subst (Shows p (after_command p j command) (gen (after_command p j command))) (sym table) (table_after p j command (arc_value s.table) (option_map (λ t. arc_value t) c.args.change.table) c.self.invariant.agrees.table_shows ready.table);
+      shows = subst (Shows p (after_command p j command) (gen (after_command p j command))) (sym table) (table_after p j command (arc_value s.newest) (option_map (λ t. arc_value t) c.args.change.table) c.self.invariant.agrees.table_shows ready.table);
     })
     refl refl refl c.closed_by-self-inside.ensures c.terminated_by-self-inside.ensures room (journal_commanded p j command c.args.change.rule (parts_of s) c.tell.new.counted.journal c.self.invariant.agrees ready.accepted ready.rule journal)
 
@@ -130,7 +130,7 @@ returns-clause-answer c =
     let ready : IsReady (model_of s) c.args.change = subst (λ (v : SessionModel). IsReady v c.args.change) (sym c.self.view_is) c.requires in
     let b = (subscribed_by command s.subscribed).usage_report in
     let triggers : c.subscribed_by-self-inside.result ≡ subscribed_by command s.subscribed = c.subscribed_by-self-inside.ensures in
-    let table : arc_value c.keep_table.new.held ≡ unwrap_or (option_map (λ t. arc_value t) c.args.change.table) (arc_value s.table) = c.keep_table.ensures in
+    let table : arc_value c.keep_table.new.held ≡ unwrap_or (option_map (λ t. arc_value t) c.args.change.table) (arc_value s.newest) = c.keep_table.ensures in
     let planned : c.deref.result.now ≡ plan p j command = c.deref.ensures.value ∙ ready.plan_is in
     let entered : c.enter.new.counted.states ≡ entered_by (rule_key c.args.change.rule) command s.counted.states =
     c.enter.ensures.states ∙ ap (λ (k : Option (List ℕ)). entered_by k command s.counted.states) (c.rule_key-key.ensures ∙ ap rule_key c.as_ref.ensures.value) in
@@ -155,12 +155,12 @@ returns-clause-answer c =
       rebound = c.change_rules.ensures.bearers;
       keys_are = c.tell.ensures.states ∙ ap (λ (t : TriggerSet). left_by t.usage_report c.deref.result.now c.enter.new.counted.states) triggers ∙ ap (λ (ts : List PendingReport). left_by b ts c.enter.new.counted.states) planned ∙ ap (left_by b (plan p j command)) entered;
       triggers_are = triggers;
-      shows = subst (Shows p (after_command p j command) (gen (after_command p j command))) (sym table) (table_after p j command (arc_value s.table) (option_map (λ t. arc_value t) c.args.change.table) c.self.invariant.agrees.table_shows ready.table);
+      shows = subst (Shows p (after_command p j command) (gen (after_command p j command))) (sym table) (table_after p j command (arc_value s.newest) (option_map (λ t. arc_value t) c.args.change.table) c.self.invariant.agrees.table_shows ready.table);
     } in
     let a : Accepted = record { generation = c.generation.result; bearer = c.args.change.bearer; first_report = c.reports_len-first_report.result; past_last_report = c.reports_len.result; unchanged = false } in
     let given : Gives (command_outcome p j command) (Ok a) c.tell.new.counted.journal =
     outcome_commanded p j command a c.tell.new.counted.journal ready.accepted ready.changing after
-    (c.generation.ensures ∙ ap (λ (t : TableValue). t.number) (c.deref-2.ensures ∙ table) ∙ (table_after p j command (arc_value s.table) (option_map (λ t. arc_value t) c.args.change.table) c.self.invariant.agrees.table_shows ready.table).number_is ∙ sym (ap gen after))
+    (c.generation.ensures ∙ ap (λ (t : TableValue). t.number) (c.deref-2.ensures ∙ table) ∙ (table_after p j command (arc_value s.newest) (option_map (λ t. arc_value t) c.args.change.table) c.self.invariant.agrees.table_shows ready.table).number_is ∙ sym (ap gen after))
     (bearer_commanded p j command c.args.change.rule (parts_of s) parts c.args.change.bearer c.self.invariant.agrees is ∙ ap (λ (k : Journal). bearer_named (now p k) command) (sym after))
     (c.reports_len-first_report.ensures ∙ ap report_count c.journal.ensures) (c.reports_len.ensures ∙ ap report_count c.journal-2.ensures) refl in
     subst (λ (v : SessionModel). Gives (command_outcome v.setting v.journal command) (Ok a) c.tell.new.counted.journal) c.self.view_is given

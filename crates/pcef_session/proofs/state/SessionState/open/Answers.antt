@@ -1,5 +1,4 @@
-use Rattle.std.proofs.Common.{rules, ◌∙◌, ap, refl}
-use Rattle.pcef_table.specs.Tables.{TableValue}
+use Rattle.std.proofs.Common.{rules, refl}
 use Rattle.pcef_session.proofs.FirstSession.{triggers_first}
 use Rattle.pcef_session.proofs.InvariantKept.{sound_opened}
 use Rattle.pcef_session.proofs.state.SessionState.open.Goals as goal
@@ -7,6 +6,5 @@ use Rattle.pcef_session.proofs.state.SessionState.open.Goals as goal
 pub invariant_of-result : goal.invariant_of-result
 invariant_of-result c =
     sound_opened _ c.new-counted.ensures.journal c.new-counted.ensures.states (search rules) (search rules)
-    (ap (λ (t : TableValue). t.number) c.in-Ok-new.ensures.ok ∙ c.in-Ok-empty.ensures.number)
-    (ap (λ (t : TableValue). t.entries) c.in-Ok-new.ensures.ok ∙ c.in-Ok-empty.ensures.entries)
-    (triggers_first c.default.result c.default.ensures.0 c.default.ensures.1.0 c.default.ensures.1.1.0 c.default.ensures.1.1.1.0 c.default.ensures.1.1.1.1) c.new-2.ensures refl refl (search rules) (search rules)
+    c.in-Ok-first_table.ensures.number c.in-Ok-first_table.ensures.entries
+    (triggers_first c.default.result c.default.ensures.0 c.default.ensures.1.0 c.default.ensures.1.1.0 c.default.ensures.1.1.1.0 c.default.ensures.1.1.1.1) c.new.ensures refl refl (search rules) (search rules)

@@ -1,4 +1,4 @@
-use Rattle.std.proofs.Common.{◌≡◌, None, subst, sym}
+use Rattle.std.proofs.Common.{◌≡◌, ◌∙◌, None, subst, sym}
 use Rattle.pcef_model.specs.Commands.{activated}
 use Rattle.pcef_session.specs.SessionModel.{SessionModel}
 use Rattle.pcef_session.specs.private.Entries.{ShowsNext}
@@ -9,7 +9,7 @@ use Rattle.pcef_session.proofs.state.SessionState.table_left.Goals as goal
 use Rattle.std.specs.Prelude.{IfOk}
 
 pub without_taken-requires-clause-number : goal.without_taken-requires-clause-number
-without_taken-requires-clause-number c = let fits = number_fits (held_of c.self.inside) (held_sound c.self.inside c.self.invariant) in rw c.deref.ensures fits
+without_taken-requires-clause-number c = let fits = number_fits (held_of c.self.inside) (held_sound c.self.inside c.self.invariant) in rw (c.table.ensures ∙ c.deref.ensures) fits
 
 pub returns : goal.returns
 returns c =
@@ -19,4 +19,4 @@ returns c =
     subst (λ (m : SessionModel). IfOk c.without_taken.result (λ t. ShowsNext m.setting m.journal command t)) c.self.view_is
     (if_ok _ _ _ c.without_taken.result
     (table_left v command (held_sound c.self.inside c.self.invariant) none c.requires.table c.requires.switched)
-    (rw c.deref.ensures at c.without_taken.ensures.number) (rw c.deref.ensures at c.without_taken.ensures.entries))
+    (rw (c.table.ensures ∙ c.deref.ensures) at c.without_taken.ensures.number) (rw (c.table.ensures ∙ c.deref.ensures) at c.without_taken.ensures.entries))

@@ -1,4 +1,4 @@
-use Rattle.std.proofs.Common.{◌≡◌, None, subst, sym}
+use Rattle.std.proofs.Common.{◌≡◌, ◌∙◌, None, subst, sym}
 use Rattle.pcef_model.specs.Refusals.{first_of, refusals}
 use Rattle.pcef_session.specs.SessionModel.{SessionModel}
 use Rattle.pcef_session.specs.private.Entries.{ShowsNext}
@@ -9,7 +9,7 @@ use Rattle.pcef_session.proofs.state.SessionState.table_switched.Goals as goal
 use Rattle.std.specs.Prelude.{IfOk}
 
 pub counting-requires-clause-number : goal.counting-requires-clause-number
-counting-requires-clause-number c = let fits = number_fits (held_of c.self.inside) (held_sound c.self.inside c.self.invariant) in rw c.deref.ensures fits
+counting-requires-clause-number c = let fits = number_fits (held_of c.self.inside) (held_sound c.self.inside c.self.invariant) in rw (c.table.ensures ∙ c.deref.ensures) fits
 
 pub returns : goal.returns
 returns c =
@@ -19,4 +19,4 @@ returns c =
     subst (λ (m : SessionModel). IfOk c.counting.result (λ t. ShowsNext m.setting m.journal command t)) c.self.view_is
     (if_ok _ _ _ c.counting.result
     (table_switched v command c.args.key.now c.place_of-slot.result (held_sound c.self.inside c.self.invariant) accepted c.requires.switched (rw c.usage.ensures at c.place_of-slot.ensures))
-    (rw c.deref.ensures at c.counting.ensures.number) (rw (c.deref.ensures, c.switches_on.ensures) at c.counting.ensures.entries))
+    (rw (c.table.ensures ∙ c.deref.ensures) at c.counting.ensures.number) (rw ((c.table.ensures ∙ c.deref.ensures), c.switches_on.ensures) at c.counting.ensures.entries))

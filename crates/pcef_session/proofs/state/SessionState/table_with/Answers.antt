@@ -1,4 +1,4 @@
-use Rattle.std.proofs.Common.{◌≡◌, Some, None, subst, sym, refl, true}
+use Rattle.std.proofs.Common.{◌≡◌, ◌∙◌, Some, None, subst, sym, refl, true}
 use Rattle.pcef_model.specs.Refusals.{first_of, refusals}
 use Rattle.pcef_model.specs.Outcomes.{changes}
 use Rattle.pcef_model.specs.Commands.{activated}
@@ -15,7 +15,7 @@ use Rattle.pcef_session.proofs.state.SessionState.table_with.Goals as goal
 use Rattle.std.specs.Prelude.{IfOk}
 
 pub with-requires-clause-number : goal.with-requires-clause-number
-with-requires-clause-number c = let fits = number_fits (held_of c.self.inside) (held_sound c.self.inside c.self.invariant) in rw c.deref.ensures fits
+with-requires-clause-number c = let fits = number_fits (held_of c.self.inside) (held_sound c.self.inside c.self.invariant) in rw (c.table.ensures ∙ c.deref.ensures) fits
 
 pub with-requires-clause-known : goal.with-requires-clause-known
 with-requires-clause-known c =
@@ -37,7 +37,7 @@ with-requires-clause-room c =
     let b = brought v.setting command (Some x) x refl (subst (λ (m : SessionModel). Activates m.setting (activated m.setting command) (Some x)) (sym c.self.view_is) c.requires.rule) in
     let room = room_for_rule v command b.rule x c.in_ok-entry.entry (held_sound c.self.inside c.self.invariant) (activation_accepted v.setting v.journal command b.rule accepted changing b.becomes)
     (makes_active v.setting command b.rule b.becomes) b.is_of made in
-    rw c.deref.ensures room
+    rw (c.table.ensures ∙ c.deref.ensures) room
 
 pub returns : goal.returns
 returns c =
@@ -50,4 +50,4 @@ returns c =
     subst (λ (m : SessionModel). IfOk c.with.result (λ t. ShowsNext m.setting m.journal command t)) c.self.view_is
     (if_ok _ _ _ c.with.result
     (table_with v command b.rule x c.in_ok-entry.entry (held_sound c.self.inside c.self.invariant) (makes_active v.setting command b.rule b.becomes) b.is_of made)
-    (rw c.deref.ensures at c.with.ensures.number) (rw c.deref.ensures at c.with.ensures.entries))
+    (rw (c.table.ensures ∙ c.deref.ensures) at c.with.ensures.number) (rw (c.table.ensures ∙ c.deref.ensures) at c.with.ensures.entries))

@@ -1,0 +1,11 @@
+-- Commands with their answers.
+use Rattle.std.specs.Prelude.{◌++◌, List, [], ◌∷◌, Result}
+use Rattle.pcef_model.specs.declared.answer.Accepted.{Accepted}
+use Rattle.pcef_model.specs.declared.answer.Refusal.{Refusal}
+use Rattle.pcef_model.specs.declared.command.Command.{Command}
+use Rattle.pcef_lock.specs.Desks.{listed}
+
+-- the commands that were accepted and changed something, in order, each with its answer
+unfoldable pub changing : List Command → List (Result Accepted Refusal) → List Command
+changing (c ∷ cs) (a ∷ answers) = listed a c [] ++ changing cs answers
+changing cs answers = []

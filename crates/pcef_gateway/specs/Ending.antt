@@ -1,0 +1,53 @@
+-- What a session's run comes to (TS 29.212, clause 4.5.16, for the octets that are reported).
+use Rattle.std.specs.Prelude.{ℕ, ◌≡◌, ◌+◌, ◌++◌, ◌<◌, List, All, Result, Ok, Err, length}
+use mathlib.Core.List.{IsPrefix}
+use Rattle.pcef_model.specs.declared.command.Command.{Command}
+use Rattle.pcef_model.specs.Setting.{Setting}
+use Rattle.pcef_model.specs.Entries.{Journal, rows}
+use Rattle.pcef_model.specs.Journals.{attach_count}
+use Rattle.pcef_lock.specs.Gathering.{AreGathered, HaveLanes, key_totals, rows_abandoned}
+use Rattle.pcef_lock.specs.HandedIn.{HandedIn}
+use Rattle.pcef_lock.specs.declared.gathering.Totals.{Totals}
+use Rattle.pcef_gateway.specs.Arriving.{headers_for}
+use Rattle.pcef_gateway.specs.Commanding.{changing}
+use Rattle.pcef_gateway.specs.InOrder.{commands_of, lane_headers, reports_of}
+use Rattle.pcef_gateway.specs.declared.arrivals.Arrival.{Arrival}
+use Rattle.pcef_gateway.specs.declared.ended.Ended.{Ended}
+use Rattle.pcef_gateway.specs.declared.fault.RunFault.{RunFault}
+
+-- what the desk and the workers handed in agrees with the journal, and adds up to this
+pub record AddUpTo (p : Setting) (listed : List Command) (handed : List HandedIn) (t : Totals) : Type 0 where
+  pub many : length handed ≡ attach_count t.session.journal
+  pub lanes : HaveLanes t.session.journal handed
+  pub listed_are : listed ≡ commands_of t.session.journal
+  pub keys_are : t.keys ≡ key_totals p t.session.journal
+  pub gathered : AreGathered t.keys handed
+  pub sums : All (λ k. k.counted ≡ k.reported + k.unreported) t.keys
+  pub rows_are : t.rows ≡ length (rows t.session.journal)
+  pub abandoned_are : t.abandoned ≡ rows_abandoned handed
+
+-- by these lists of the workers: each of its lane, and together they have what was counted for each key
+pub record AreGatheredFrom (t : Totals) : Type 0 where
+  pub handed : List HandedIn
+  pub many : length handed ≡ attach_count t.session.journal
+  pub lanes : HaveLanes t.session.journal handed
+  pub gathered : AreGathered t.keys handed
+  pub abandoned_are : t.abandoned ≡ rows_abandoned handed
+
+-- it came to nothing for this reason
+abbrev pub FailsBy : {A : Type 0} → RunFault → Result A RunFault → Type 0
+FailsBy fault (Ok a) = ⊥
+FailsBy fault (Err e) = e ≡ fault
+
+-- a session of this setting and journal ran with these packets and commands and so many workers, and came to this
+pub record RunsTo (p : Setting) (before : Journal) (arrivals : List Arrival) (given : List Command) (workers : ℕ) (e : Ended) : Type 0 where
+  pub attached : attach_count e.totals.session.journal ≡ workers
+  pub keys : e.totals.keys ≡ key_totals p e.totals.session.journal
+  pub sums : All (λ k. k.counted ≡ k.reported + k.unreported) e.totals.keys
+  pub gathered : AreGatheredFrom e.totals
+  pub rows_are : e.totals.rows ≡ length (rows e.totals.session.journal)
+  pub lanes : (w : ℕ) → w < workers → IsPrefix (lane_headers e.totals.session.journal w) (headers_for w arrivals)
+  pub whole : e.totals.rows + e.totals.abandoned + e.dropped ≡ length arrivals
+  pub answers : length e.answers.items ≡ length given
+  pub commands_are : commands_of e.totals.session.journal ≡ commands_of before ++ changing given e.answers.items
+  pub reports_are : e.reports.items ≡ reports_of e.totals.session.journal

@@ -1,0 +1,14 @@
+-- What a worker makes of the packets that it takes.
+use Rattle.std.specs.Prelude.{ℕ, ◌≡◌, ◌+◌, List, length, map, take}
+use Rattle.pcef_packet.specs.declared.header.Header.{Header}
+use Rattle.pcef_session.specs.declared.batch.Item.{Item}
+use Rattle.pcef_lock.specs.HandedIn.{HandedIn}
+
+-- the packet of a row
+abbrev pub header_of : Item → Header
+header_of i = i.row.header
+
+-- of these packets a worker handed in the first; the others were abandoned, or so many dropped
+pub record HandsIn (packets : List Header) (dropped : ℕ) (h : HandedIn) : Type 0 where
+  pub first : map header_of h.items ≡ take (length h.items) packets
+  pub whole : length packets ≡ length h.items + h.abandoned + dropped

@@ -1,0 +1,45 @@
+//! What a session's run comes to.
+
+ghost use Rattle.std.specs.Prelude.{◌≡◌, IfOk};
+ghost use Rattle.pcef_model.specs.Lawful.{Lawful};
+ghost use Rattle.pcef_gateway.specs.InOrder.{reports_of};
+
+use pcef_journal::Reports;
+use pcef_lock::Totals;
+use pcef_model::{Accepted, Refusal, Report};
+use pcef_session::SessionState;
+use std::alloc::{AllocError, Global};
+
+/// The answer to a command.
+pub type Answer = Result<Accepted, Refusal>;
+
+/// What a session's run comes to.
+#[derive(Drop)]
+pub struct Ended {
+    /// What the session adds up to.
+    pub totals: Totals,
+    /// How many packets workers dropped whose flush had been refused.
+    pub dropped: u64,
+    /// The answer to each command, in order.
+    pub answers: Vec<Answer>,
+    /// All reports of the journal, in order.
+    pub reports: Vec<Report>,
+}
+
+fn copies(alloc: Global, reports: Reports<'_>) -> Result<Vec<Report>, AllocError>
+    ensures { IfOk result (λ v. v.items ≡ reports.entry) }
+{
+    let mut list = Vec::new(alloc);
+    for report in reports {
+        list.push(report.copy())?;
+    }
+    Ok(list)
+}
+
+/// The reports of a session, in order. Takes memory for them. The session's journal is lawful.
+pub(crate) fn all_reports(alloc: Global, session: &SessionState) -> Result<Vec<Report>, AllocError>
+    ensures reports { IfOk result (λ v. v.items ≡ reports_of session.now.journal) }
+    ensures lawful { Lawful session.now.setting session.now.journal }
+{
+    copies(alloc, session.journal().reports_from(0))
+}

@@ -1,0 +1,201 @@
+//! What the calling thread does: it starts the workers, leads packets to them and gives commands, and ends it all.
+
+ghost use Rattle.std.specs.Prelude.{◌≡◌, ◌++◌, ◌<◌, ◌≤◌, ℕ, All, IfOk, [], length, slice_index_or, vec_len};
+ghost use Rattle.pcef_gateway.specs.Arriving.{headers_for};
+ghost use Rattle.pcef_gateway.specs.Commanding.{changing};
+ghost use Rattle.pcef_lock.specs.Desks.{listed};
+ghost use Rattle.pcef_gateway.specs.Sending.{HandInTheirs};
+ghost use Rattle.pcef_gateway.specs.Serving.{HandsIn};
+ghost use Rattle.pcef_gateway.specs.Taking.{taken};
+
+use crate::arrivals::Arrival;
+use crate::ended::Answer;
+use crate::fault::Failure;
+use crate::lent::Lent;
+use crate::line::{Closed, Line};
+use pcef_catalog::{Detects, Offers};
+use pcef_lock::{Desk, Finished, Shared};
+use pcef_model::{Command, Refusal};
+use pcef_publish::{Board, Slot};
+use pcef_share::Naming;
+use pcef_worker::{Gate, Worker};
+use std::alloc::Global;
+use std::sync::Wait;
+use std::thread::{Scope, Threads};
+
+/// What the workers handed in, by their numbers, and how many packets they dropped.
+#[derive(Drop)]
+pub(crate) struct Handed<N: Naming> {
+    pub(crate) finished: Vec<Finished<N>>,
+    pub(crate) dropped: u64,
+}
+
+/// Attaches so many workers, to which the gate is lent.
+pub(crate) fn attach_all<
+    'g,
+    C: Detects + Drop,
+    N: Naming,
+    W: Board<Slot<N>> + Drop,
+    G: Gate,
+    R: Wait,
+>(
+    rt: &R,
+    alloc: Global,
+    shared: &Shared<C, N, W>,
+    gate: &'g G,
+    workers: u8,
+) -> Result<Vec<Worker<C, N, Lent<'g, G>>>, Failure>
+    ensures many { IfOk result (λ v. vec_len v ≡ workers) }
+    ensures new { IfOk result (λ v. All (λ w. taken w ≡ []) v.items) }
+{
+    let mut all = Vec::new(alloc);
+    for number in 0..workers {
+        let Some(worker) = Worker::attach(rt, alloc, shared, Lent::new(gate)).ok() else {
+            return Err(Failure::Attach);
+        };
+        if worker.worker() != number {
+            return Err(Failure::Attach);
+        }
+        if all.push(worker).is_err() {
+            return Err(Failure::NoMemory);
+        }
+    }
+    Ok(all)
+}
+
+/// Starts workers in threads of the scope.
+pub(crate) fn start_all<
+    's,
+    E,
+    C: Detects + Drop + Send + Sync,
+    N: Naming + Send + Sync,
+    W: Board<Slot<N>> + Drop + Send,
+    G: Gate + Sync,
+    R: Threads + Wait + Sync,
+>(
+    rt: &'s R,
+    scope: &Scope<'s, E>,
+    alloc: Global,
+    shared: &'s Shared<C, N, W>,
+    workers: Vec<Worker<C, N, Lent<'s, G>>>,
+) -> Result<Vec<Line<N>>, Failure>
+    requires { All (λ w. taken w ≡ []) workers.items }
+    ensures many { IfOk result (λ lines. vec_len lines ≡ vec_len workers.entry) }
+    ensures empty { IfOk result (λ lines. All (λ line. line ≡ []) lines.items) }
+{
+    let mut lines = Vec::new(alloc);
+    for worker in workers {
+        let line = Line::start(rt, scope, alloc, shared, worker)?;
+        if lines.push(line).is_err() {
+            return Err(Failure::NoMemory);
+        }
+    }
+    Ok(lines)
+}
+
+/// Leads each packet to its worker. Waits while that one's ring is full.
+pub(crate) fn feed<N: Naming + Send + Sync, R: Wait>(
+    rt: &R,
+    lines: &mut [Line<N>],
+    arrivals: &[Arrival],
+)
+    requires known { All (λ a. a.worker < length lines.old) arrivals.now }
+    ensures { (w : ℕ) → w < length lines.old → slice_index_or lines.new w [] ≡ slice_index_or lines.old w [] ++ headers_for w arrivals.now }
+{
+    for arrival in arrivals {
+        lines[usize::from(arrival.worker)].send(rt, arrival.header);
+    }
+}
+
+/// Gives a command, and keeps its answer. Fails for want of memory.
+fn give<C: Offers + Drop, N: Naming, W: Board<Slot<N>> + Drop, R: Wait>(
+    rt: &R,
+    shared: &Shared<C, N, W>,
+    desk: &mut Desk<N>,
+    command: Command,
+) -> Result<Answer, Failure>
+    ensures { IfOk result (λ a. desk.new.commands ≡ listed a command desk.old.commands) }
+{
+    let answer = desk.command(rt, shared, command);
+    if matches!(answer, Err(Refusal::NoMemory)) {
+        return Err(Failure::NoMemory);
+    }
+    Ok(answer)
+}
+
+/// Leads packets to the workers and gives the commands meanwhile, which stand evenly among the packets. An answer for
+/// each command.
+pub(crate) fn take_in<C: Offers + Drop, N: Naming + Send + Sync, W: Board<Slot<N>> + Drop, R: Wait>(
+    rt: &R,
+    alloc: Global,
+    shared: &Shared<C, N, W>,
+    desk: &mut Desk<N>,
+    lines: &mut [Line<N>],
+    arrivals: &[Arrival],
+    commands: Vec<Command>,
+) -> Result<Vec<Answer>, Failure>
+    requires known { All (λ a. a.worker < length lines.old) arrivals.now }
+    ensures packets { IfOk result (λ _. (w : ℕ) → w < length lines.old → slice_index_or lines.new w [] ≡ slice_index_or lines.old w [] ++ headers_for w arrivals.now) }
+    ensures answers { IfOk result (λ v. length v.items ≡ length commands.items) }
+    ensures listed { IfOk result (λ v. desk.new.commands ≡ desk.old.commands ++ changing commands.items v.items) }
+{
+    let between = arrivals.len() / (commands.len() + 1);
+    let mut left = arrivals;
+    let mut answers = Vec::new(alloc);
+    for command in commands {
+        let (next, later) = left.split_at(between.min(left.len()));
+        feed(rt, lines, next);
+        left = later;
+        let answer = give(rt, shared, desk, command)?;
+        if answers.push(answer).is_err() {
+            return Err(Failure::NoMemory);
+        }
+    }
+    feed(rt, lines, left);
+    Ok(answers)
+}
+
+/// What a worker handed in, if it had memory and is of this number.
+fn closed<N: Naming + Send + Sync, R: Threads>(
+    rt: &R,
+    line: Line<N>,
+    worker: u8,
+) -> Result<Closed<N>, Failure>
+    ensures number { IfOk result (λ c. c.finished.worker ≡ worker) }
+    ensures handed { IfOk result (λ c. HandsIn line c.dropped c.finished) }
+{
+    let closed = line.close(rt)?;
+    if closed.lacked_memory {
+        return Err(Failure::NoMemory);
+    }
+    if closed.finished.worker() != worker {
+        return Err(Failure::Gather);
+    }
+    Ok(closed)
+}
+
+/// Ends each ring, and waits for each worker.
+pub(crate) fn close_all<N: Naming + Send + Sync, R: Threads>(
+    rt: &R,
+    alloc: Global,
+    lines: Vec<Line<N>>,
+) -> Result<Handed<N>, Failure>
+    requires { vec_len lines ≤ 16 }
+    ensures { IfOk result (λ h. HandInTheirs lines.items h.dropped h.finished.items) }
+{
+    let mut finished = Vec::new(alloc);
+    let mut dropped = 0u64;
+    let mut worker = 0u8;
+    for line in lines {
+        let closed = closed(rt, line, worker)?;
+        let Some(more) = dropped.checked_add(closed.dropped) else {
+            return Err(Failure::Ring);
+        };
+        dropped = more;
+        if finished.push(closed.finished).is_err() {
+            return Err(Failure::NoMemory);
+        }
+        worker += 1;
+    }
+    Ok(Handed { finished, dropped })
+}

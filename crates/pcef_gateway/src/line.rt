@@ -1,0 +1,140 @@
+//! The ring to a worker, and its thread.
+
+ghost use Rattle.std.specs.Prelude.{◌≡◌, ◌++◌, ◌∷◌, [], IfOk};
+ghost use Rattle.rtrb.specs.Ring.{SameConsumer, received};
+ghost use Rattle.pcef_gateway.specs.Serving.{HandsIn};
+ghost use Rattle.pcef_gateway.specs.Taking.{taken};
+
+use crate::fault::Failure;
+use crate::lent::Lent;
+use crate::serving::{Left, work};
+use pcef_catalog::Detects;
+use pcef_lock::{Finished, Shared};
+use pcef_packet::Header;
+use pcef_publish::{Board, Slot};
+use pcef_share::Naming;
+use pcef_worker::{Gate, Worker};
+use rtrb::{Consumer, Producer, PushError, RingBuffer};
+use std::alloc::Global;
+use std::marker::Model;
+use std::snapshot::Snapshot;
+use std::sync::Wait;
+use std::thread;
+use std::thread::{Promise, PromisedHandle, Scope, Threads};
+
+/// The places of a ring.
+const PLACES: usize = 64;
+
+/// A worker gives back the end of the ring that it was given.
+#[derive(Drop)]
+pub(crate) struct SameRing {
+    end: Snapshot<Consumer<Header>>,
+}
+
+impl<N: Naming> Promise<Left<N>> for SameRing {
+    ghost kept_by = { λ p r. SameConsumer p.end.value r.consumer };
+}
+
+/// A worker in its thread, and the way to it. Contracts see what was sent.
+#[derive(Drop)]
+pub(crate) struct Line<N: Naming> {
+    producer: Producer<Header>,
+    handle: PromisedHandle<Left<N>, SameRing>,
+}
+
+impl<N: Naming> Model for Line<N> {
+    ghost use Rattle.std.specs.Prelude.{List};
+    ghost use Rattle.rtrb.specs.Ring.{IsPair, sent};
+    ghost use Rattle.pcef_packet.specs.declared.header.Header.{Header};
+
+    ghost Value = { List Header };
+
+    ghost view = { λ l. sent l.producer };
+
+    ghost invariant = { λ l. IsPair l.producer l.handle.promise.end.value };
+}
+
+/// What a worker handed in that left, and how many packets it dropped.
+#[derive(Drop)]
+pub(crate) struct Closed<N: Naming> {
+    pub(crate) finished: Finished<N>,
+    pub(crate) dropped: u64,
+    pub(crate) lacked_memory: bool,
+}
+
+impl<N: Naming + Send + Sync> Line<N> {
+    /// Starts a worker in a thread of the scope.
+    pub(crate) fn start<
+        's,
+        E,
+        C: Detects + Drop + Send + Sync,
+        W: Board<Slot<N>> + Drop + Send,
+        G: Gate + Sync,
+        R: Threads + Wait + Sync,
+    >(
+        rt: &'s R,
+        scope: &Scope<'s, E>,
+        alloc: Global,
+        shared: &'s Shared<C, N, W>,
+        worker: Worker<C, N, Lent<'s, G>>,
+    ) -> Result<Line<N>, Failure>
+        requires { taken worker ≡ [] }
+        ensures { IfOk result (λ line. line ≡ []) }
+    {
+        let Ok((producer, consumer)) = RingBuffer::new(alloc, PLACES) else {
+            return Err(Failure::Ring);
+        };
+        let promise = SameRing {
+            end: Snapshot::of(&consumer),
+        };
+        let job = move || -> Left<N>
+            requires new { taken worker ≡ [] }
+            requires first { received consumer ≡ [] }
+            ensures { SameConsumer consumer result.consumer }
+        { work(rt, shared, worker, consumer) };
+        match scope.spawn_with(promise, job) {
+            Ok(handle) => Ok(Line { producer, handle }),
+            Err(_) => Err(Failure::Thread),
+        }
+    }
+
+    /// Sends a packet to the worker. Tries again while the ring is full.
+    pub(crate) fn send<R: Wait>(&mut self, rt: &R, header: Header)
+        ensures { self.new ≡ self.old ++ header ∷ [] }
+    {
+        let mut header = header;
+        let producer = &mut self.producer;
+        for _ in rt.forever() {
+            match producer.push(header) {
+                Ok(()) => return,
+                Err(PushError::Full(back)) => header = back,
+            }
+            thread::yield_now();
+        }
+        unreachable!()
+    }
+
+    /// Ends the ring, and waits for the worker.
+    pub(crate) fn close<R: Threads>(self, rt: &R) -> Result<Closed<N>, Failure>
+        ensures { IfOk result (λ c. HandsIn self c.dropped c.finished) }
+    {
+        let Line { producer, handle } = self;
+        let Some(mut ended) = producer.finish() else {
+            return Err(Failure::Ring);
+        };
+        let Left {
+            finished,
+            mut consumer,
+            dropped,
+            lacked_memory,
+        } = handle.join(rt);
+        if consumer.slots_after(&mut ended) > 0 {
+            return Err(Failure::Ring);
+        }
+        Ok(Closed {
+            finished,
+            dropped,
+            lacked_memory,
+        })
+    }
+}

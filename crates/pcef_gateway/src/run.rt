@@ -1,0 +1,308 @@
+//! Sessions that run in threads.
+
+ghost use Rattle.std.specs.Prelude.{◌≡◌, ◌↔◌, ◌⊎◌, ◌+◌, ◌++◌, ◌<◌, ◌≤◌, ℕ, All, IfOk, [], length, vec_len};
+ghost use Rattle.std.specs.Arc.{arc_value};
+ghost use mathlib.Core.List.{IsPrefix};
+ghost use Rattle.pcef_model.specs.Entries.{rows};
+ghost use Rattle.pcef_model.specs.Journals.{attach_count, gen};
+ghost use Rattle.pcef_model.specs.Lawful.{Lawful};
+ghost use Rattle.pcef_session.specs.Shown.{Shows};
+ghost use Rattle.pcef_share.specs.Names.{name_at};
+ghost use Rattle.pcef_lock.specs.Gathering.{key_totals};
+ghost use Rattle.pcef_gateway.specs.Arriving.{headers_for};
+ghost use Rattle.pcef_gateway.specs.Commanding.{changing};
+ghost use Rattle.pcef_gateway.specs.Ending.{AddUpTo, AreGatheredFrom, FailsBy, RunsTo};
+ghost use Rattle.pcef_gateway.specs.InOrder.{commands_of, lane_headers, reports_of};
+ghost use Rattle.pcef_gateway.specs.Sending.{HandInArrivals};
+ghost use Rattle.pcef_gateway.specs.Taking.{taken};
+ghost use Rattle.pcef_gateway.specs.declared.fault.RunFault.TheVariants.{StrangeWorker, Workers};
+
+use crate::arrivals::{Arrival, are_known};
+use crate::ended::{Answer, Ended, all_reports};
+use crate::fault::{Failure, RunFault};
+use crate::intake::{Handed, attach_all, close_all, start_all, take_in};
+use crate::lent::Lent;
+use crate::line::Line;
+use pcef_catalog::{Detects, Offers};
+use pcef_lane::MAX_WORKERS;
+use pcef_lock::{Desk, Finished, Shared, State, Totals, commands_so_far, opened};
+use pcef_model::Command;
+use pcef_publish::{Board, Opened, Slot, Writer};
+use pcef_session::SessionState;
+use pcef_share::{Blanks, Naming};
+use pcef_worker::{Gate, Worker};
+use std::alloc::Global;
+use std::marker::Brand;
+use std::sync::{Arc, Wait};
+use std::thread;
+use std::thread::Threads;
+
+/// Runs a session with so many workers, each in a thread of its own, till all packets were led to their workers and
+/// all commands were given. Each worker is attached before the first packet and the first command; it holds the gate
+/// only by a loan. The commands are given in order, spread evenly among the packets. A worker hands its rows over
+/// where 32 wait or no packet comes, and then reads which table is the newest. One whose rows are refused leaves, and
+/// drops what comes still.
+///
+/// The catalog has to be that of the session, and no worker may ever have come to it: that is the caller's condition.
+/// Answers the first [`RunFault`] in their order for the first two of them, before anything is done; the session is
+/// given up with a fault. Want of memory of a command or a worker ends the run. Takes memory for rings, answers and
+/// reports. Waits for the lock, for places in the rings, and for the workers' threads.
+pub fn run_session<C: Detects + Drop + Send + Sync, G: Gate + Sync, R: Threads + Wait + Sync>(
+    rt: &R,
+    alloc: Global,
+    catalog: Arc<C>,
+    session: SessionState,
+    arrivals: Vec<Arrival>,
+    commands: Vec<Command>,
+    workers: u8,
+    gate: &G,
+) -> Result<Ended, RunFault>
+    requires fresh { attach_count session.journal ≡ 0 }
+    requires offers { C.offers (arc_value catalog) ≡ session.setting.catalog }
+    ensures attached { IfOk result (λ e. attach_count e.totals.session.journal ≡ workers) }
+    ensures keys { IfOk result (λ e. e.totals.keys ≡ key_totals session.setting e.totals.session.journal) }
+    ensures sums { IfOk result (λ e. All (λ k. k.counted ≡ k.reported + k.unreported) e.totals.keys) }
+    ensures gathered { IfOk result (λ e. AreGatheredFrom e.totals) }
+    ensures rows { IfOk result (λ e. e.totals.rows ≡ length (rows e.totals.session.journal)) }
+    ensures lanes { IfOk result (λ e. (w : ℕ) → w < workers → IsPrefix (lane_headers e.totals.session.journal w) (headers_for w arrivals.items)) }
+    ensures whole { IfOk result (λ e. e.totals.rows + e.totals.abandoned + e.dropped ≡ length arrivals.items) }
+    ensures answers { IfOk result (λ e. length e.answers.items ≡ length commands.items) }
+    ensures commands { IfOk result (λ e. commands_of e.totals.session.journal ≡ commands_of session.journal ++ changing commands.items e.answers.items) }
+    ensures reports { IfOk result (λ e. e.reports.items ≡ reports_of e.totals.session.journal) }
+    ensures workers { FailsBy Workers result ↔ ((workers ≡ 0) ⊎ (16 < workers)) }
+    ensures strange { FailsBy StrangeWorker result ↔ ((0 < workers) × (workers ≤ 16) × (All (λ a. a.worker < workers) arrivals.items → ⊥)) }
+{
+    if workers == 0 || usize::from(workers) > MAX_WORKERS {
+        return Err(RunFault::Workers);
+    }
+    if !are_known(&arrivals, workers) {
+        return Err(RunFault::StrangeWorker);
+    }
+    match run_known(
+        rt, alloc, catalog, session, &arrivals, commands, workers, gate,
+    ) {
+        Ok(ended) => Ok(ended),
+        Err(failure) => Err(failure.fault()),
+    }
+}
+
+/// Runs a session with packets for its workers alone.
+fn run_known<C: Detects + Drop + Send + Sync, G: Gate + Sync, R: Threads + Wait + Sync>(
+    rt: &R,
+    alloc: Global,
+    catalog: Arc<C>,
+    session: SessionState,
+    arrivals: &[Arrival],
+    commands: Vec<Command>,
+    workers: u8,
+    gate: &G,
+) -> Result<Ended, Failure>
+    requires few { workers ≤ 16 }
+    requires known { All (λ a. a.worker < workers) arrivals.now }
+    requires fresh { attach_count session.journal ≡ 0 }
+    requires offers { C.offers (arc_value catalog) ≡ session.setting.catalog }
+    ensures { IfOk result (λ e. RunsTo session.setting session.journal arrivals.now commands.items workers e) }
+{
+    let Ok(opened) = opened(&session) else {
+        return Err(Failure::Shared);
+    };
+    run_named::<C, Brand, G, R>(
+        rt,
+        alloc,
+        catalog,
+        session,
+        opened,
+        Blanks::new(),
+        arrivals,
+        commands,
+        workers,
+        gate,
+    )
+}
+
+/// Runs a session that goes by a name.
+fn run_named<
+    C: Detects + Drop + Send + Sync,
+    N: Naming + Send + Sync,
+    G: Gate + Sync,
+    R: Threads + Wait + Sync,
+>(
+    rt: &R,
+    alloc: Global,
+    catalog: Arc<C>,
+    session: SessionState,
+    opened: Opened,
+    blanks: Blanks,
+    arrivals: &[Arrival],
+    commands: Vec<Command>,
+    workers: u8,
+    gate: &G,
+) -> Result<Ended, Failure>
+    requires few { workers ≤ 16 }
+    requires known { All (λ a. a.worker < workers) arrivals.now }
+    requires name { N.ledger ≡ name_at blanks }
+    requires setting { session.setting ≡ N.setting }
+    requires first { N.first ≡ gen session.journal }
+    requires fresh { attach_count session.journal ≡ 0 }
+    requires offers { C.offers (arc_value catalog) ≡ session.setting.catalog }
+    requires table { Shows session.setting session.journal (gen session.journal) opened.table }
+    requires book { (opened.book ≡ N.book) × (opened.root ≡ N.root) }
+    ensures { IfOk result (λ e. RunsTo session.setting session.journal arrivals.now commands.items workers e) }
+{
+    let (shared, desk) = lock::<C, N, _>(rt, alloc, catalog, session, opened, blanks, workers)?;
+    let attached = attach_all(rt, alloc, &shared, gate, workers)?;
+    let worked = run_workers(rt, alloc, &shared, desk, attached, arrivals, commands)?;
+    let ended = end(rt, alloc, shared, worked)?;
+    Ok(ended)
+}
+
+/// What desk and workers hand in.
+#[derive(Drop)]
+struct Worked<N: Naming> {
+    desk: Desk<N>,
+    answers: Vec<Answer>,
+    handed: Handed<N>,
+}
+
+/// Puts a session behind its lock, with a desk.
+fn lock<C: Offers + Drop, N: Naming, R: Wait + Drop>(
+    rt: R,
+    alloc: Global,
+    catalog: Arc<C>,
+    session: SessionState,
+    opened: Opened,
+    blanks: Blanks,
+    workers: u8,
+) -> Result<(Shared<C, N, Writer<N, R>>, Desk<N>), Failure>
+    requires name { N.ledger ≡ name_at blanks }
+    requires setting { session.setting ≡ N.setting }
+    requires first { N.first ≡ gen session.journal }
+    requires fresh { attach_count session.journal ≡ 0 }
+    requires offers { C.offers (arc_value catalog) ≡ session.setting.catalog }
+    requires table { Shows session.setting session.journal (gen session.journal) opened.table }
+    requires book { (opened.book ≡ N.book) × (opened.root ≡ N.root) }
+    ensures { IfOk result (λ r. r.1.commands ≡ commands_of session.journal) }
+{
+    let Ok(commands) = commands_so_far(alloc, &session) else {
+        return Err(Failure::Shared);
+    };
+    match State::<N, _>::open(rt, alloc, session, opened, blanks, workers) {
+        Ok((state, shares)) => Ok((Shared::new(catalog, state), Desk::new(commands, shares))),
+        Err(_) => Err(Failure::Shared),
+    }
+}
+
+/// Runs workers in threads, with the calling thread as the intake.
+fn run_workers<
+    C: Detects + Drop + Send + Sync,
+    N: Naming + Send + Sync,
+    W: Board<Slot<N>> + Drop + Send,
+    G: Gate + Sync,
+    R: Threads + Wait + Sync,
+>(
+    rt: &R,
+    alloc: Global,
+    shared: &Shared<C, N, W>,
+    desk: Desk<N>,
+    attached: Vec<Worker<C, N, Lent<'_, G>>>,
+    arrivals: &[Arrival],
+    commands: Vec<Command>,
+) -> Result<Worked<N>, Failure>
+    requires few { vec_len attached ≤ 16 }
+    requires new { All (λ w. taken w ≡ []) attached.items }
+    requires known { All (λ a. a.worker < vec_len attached) arrivals.now }
+    ensures answers { IfOk result (λ w. length w.answers.items ≡ length commands.items) }
+    ensures desk { IfOk result (λ w. w.desk.commands ≡ desk.commands ++ changing commands.items w.answers.items) }
+    ensures handed { IfOk result (λ w. HandInArrivals (vec_len attached.entry) arrivals.now w.handed.dropped w.handed.finished.items) }
+{
+    thread::scope(
+        thread::scope_env(),
+        rt,
+        move |scope| -> Result<Worked<N>, Failure>
+            requires few { vec_len attached ≤ 16 }
+            requires new { All (λ w. taken w ≡ []) attached.items }
+            requires known { All (λ a. a.worker < vec_len attached) arrivals.now }
+            ensures answers { IfOk result (λ w. length w.answers.items ≡ length commands.items) }
+            ensures desk { IfOk result (λ w. w.desk.commands ≡ desk.commands ++ changing commands.items w.answers.items) }
+            ensures handed { IfOk result (λ w. HandInArrivals (vec_len attached.entry) arrivals.entry.now w.handed.dropped w.handed.finished.items) }
+        {
+            let lines = start_all(rt, scope, alloc, shared, attached)?;
+            lead(rt, alloc, shared, desk, lines, arrivals, commands)
+        },
+    )
+}
+
+/// Leads packets to workers, gives commands, and waits for the workers.
+fn lead<C: Offers + Drop, N: Naming + Send + Sync, W: Board<Slot<N>> + Drop, R: Threads + Wait>(
+    rt: &R,
+    alloc: Global,
+    shared: &Shared<C, N, W>,
+    desk: Desk<N>,
+    lines: Vec<Line<N>>,
+    arrivals: &[Arrival],
+    commands: Vec<Command>,
+) -> Result<Worked<N>, Failure>
+    requires few { vec_len lines ≤ 16 }
+    requires empty { All (λ line. line ≡ []) lines.items }
+    requires known { All (λ a. a.worker < vec_len lines) arrivals.now }
+    ensures answers { IfOk result (λ w. length w.answers.items ≡ length commands.items) }
+    ensures desk { IfOk result (λ w. w.desk.commands ≡ desk.commands ++ changing commands.items w.answers.items) }
+    ensures handed { IfOk result (λ w. HandInArrivals (vec_len lines) arrivals.now w.handed.dropped w.handed.finished.items) }
+{
+    let mut desk = desk;
+    let mut lines = lines;
+    let answers = take_in(rt, alloc, shared, &mut desk, &mut lines, arrivals, commands)?;
+    let handed = close_all(rt, alloc, lines)?;
+    Ok(Worked {
+        desk,
+        answers,
+        handed,
+    })
+}
+
+/// Gathers what was handed in.
+fn gathered<C: Offers + Drop, N: Naming, W: Board<Slot<N>> + Drop, R: Wait>(
+    rt: &R,
+    shared: Shared<C, N, W>,
+    desk: Desk<N>,
+    finished: Vec<Finished<N>>,
+) -> Result<Totals, Failure>
+    requires { length finished.items ≤ 16 }
+    ensures { IfOk result (λ t. AddUpTo N.setting desk.commands finished.items t) }
+{
+    match shared.gather(rt, desk, finished) {
+        Ok(totals) => Ok(totals),
+        Err(_) => Err(Failure::Gather),
+    }
+}
+
+/// Gathers what was handed in, and adds the reports.
+fn end<C: Offers + Drop, N: Naming, W: Board<Slot<N>> + Drop, R: Wait>(
+    rt: &R,
+    alloc: Global,
+    shared: Shared<C, N, W>,
+    worked: Worked<N>,
+) -> Result<Ended, Failure>
+    requires { length worked.handed.finished.items ≤ 16 }
+    ensures add_up { IfOk result (λ e. AddUpTo N.setting worked.desk.commands worked.handed.finished.items e.totals) }
+    ensures rest { IfOk result (λ e. (e.dropped ≡ worked.handed.dropped) × (e.answers ≡ worked.answers)) }
+    ensures reports { IfOk result (λ e. e.reports.items ≡ reports_of e.totals.session.journal) }
+    ensures lawful { IfOk result (λ e. Lawful e.totals.session.setting e.totals.session.journal) }
+{
+    let Worked {
+        desk,
+        answers,
+        handed,
+    } = worked;
+    let Handed { finished, dropped } = handed;
+    let totals = gathered(rt, shared, desk, finished)?;
+    let Ok(reports) = all_reports(alloc, &totals.session) else {
+        return Err(Failure::NoMemory);
+    };
+    Ok(Ended {
+        totals,
+        dropped,
+        answers,
+        reports,
+    })
+}

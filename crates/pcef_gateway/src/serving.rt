@@ -1,0 +1,204 @@
+//! What a worker does in its thread.
+
+ghost use Rattle.std.specs.Prelude.{◌≡◌, ◌+◌, ◌++◌, ◌∷◌, ◌<◌, [], OnOk, length};
+ghost use mathlib.Core.List.{IsPrefix};
+ghost use Rattle.rtrb.specs.Ring.{SameConsumer, received};
+ghost use Rattle.pcef_gateway.specs.Serving.{HandsIn};
+ghost use Rattle.pcef_gateway.specs.Taking.{taken};
+
+use pcef_catalog::Detects;
+use pcef_lock::{Finished, Shared};
+use pcef_model::FlushRefusal;
+use pcef_packet::Header;
+use pcef_publish::{Board, Slot};
+use pcef_session::MAX_WAITING;
+use pcef_share::Naming;
+use pcef_worker::{Gate, Worker};
+use rtrb::Consumer;
+use std::sync::Wait;
+use std::thread;
+
+/// What a worker leaves behind: what it hands in, its end of the ring, and how many packets it dropped.
+#[derive(Drop)]
+pub(crate) struct Left<N: Naming> {
+    pub(crate) finished: Finished<N>,
+    pub(crate) consumer: Consumer<Header>,
+    pub(crate) dropped: u64,
+    pub(crate) lacked_memory: bool,
+    ghost handed: { HandsIn (received consumer) dropped finished },
+}
+
+impl<N: Naming> Left<N> {
+    fn new(
+        finished: Finished<N>,
+        consumer: Consumer<Header>,
+        dropped: u64,
+        lacked_memory: bool,
+    ) -> Left<N>
+        requires { HandsIn (received consumer) dropped finished }
+        ensures { result.consumer ≡ consumer }
+    {
+        Left {
+            finished,
+            consumer,
+            dropped,
+            lacked_memory,
+        }
+    }
+}
+
+/// Hands the waiting rows over, and reads which table is the newest.
+fn hand_over<C: Detects + Drop, N: Naming, W: Board<Slot<N>> + Drop, G: Gate + Drop, R: Wait>(
+    rt: &R,
+    shared: &Shared<C, N, W>,
+    worker: &mut Worker<C, N, G>,
+) -> Result<(), FlushRefusal>
+    ensures taken { taken worker.new ≡ taken worker.old }
+    ensures waiting { OnOk result (worker.new.waiting ≡ []) }
+{
+    let flushed = worker.flush(rt, shared).err();
+    worker.refresh();
+    match flushed {
+        Some(refusal) => Err(refusal),
+        None => Ok(()),
+    }
+}
+
+/// Sees that fewer than 32 rows wait.
+fn make_room<C: Detects + Drop, N: Naming, W: Board<Slot<N>> + Drop, G: Gate + Drop, R: Wait>(
+    rt: &R,
+    shared: &Shared<C, N, W>,
+    worker: &mut Worker<C, N, G>,
+) -> Result<(), FlushRefusal>
+    ensures taken { taken worker.new ≡ taken worker.old }
+    ensures room { OnOk result (length worker.new.waiting < 32) }
+{
+    if worker.waiting().len() < MAX_WAITING {
+        return Ok(());
+    }
+    hand_over(rt, shared, worker)
+}
+
+/// Takes a packet, for which there is room.
+fn take<C: Detects + Drop, N: Naming, G: Gate + Drop>(worker: &mut Worker<C, N, G>, header: Header)
+    requires { length worker.old.waiting < 32 }
+    ensures { taken worker.new ≡ taken worker.old ++ header ∷ [] }
+{
+    match worker.take(&header) {
+        Ok(()) => {}
+        Err(_) => unreachable!(),
+    }
+}
+
+/// While no packet comes the rows that wait are handed over.
+fn rest<C: Detects + Drop, N: Naming, W: Board<Slot<N>> + Drop, G: Gate + Drop, R: Wait>(
+    rt: &R,
+    shared: &Shared<C, N, W>,
+    worker: &mut Worker<C, N, G>,
+) -> Result<(), FlushRefusal>
+    ensures { taken worker.new ≡ taken worker.old }
+{
+    if worker.waiting().is_empty() {
+        thread::yield_now();
+        return Ok(());
+    }
+    hand_over(rt, shared, worker)
+}
+
+/// Takes packets till the ring ends, and hands their rows over where 32 wait or no packet comes. Ends too where they
+/// aren't taken over, by the refusal.
+fn serve<C: Detects + Drop, N: Naming, W: Board<Slot<N>> + Drop, G: Gate + Drop, R: Wait>(
+    rt: &R,
+    shared: &Shared<C, N, W>,
+    worker: &mut Worker<C, N, G>,
+    consumer: &mut Consumer<Header>,
+) -> Result<(), FlushRefusal>
+    requires { taken worker.old ≡ received consumer.old }
+    ensures ring { SameConsumer consumer.old consumer.new }
+    ensures taken { taken worker.new ≡ received consumer.new }
+{
+    for _ in rt.forever() {
+        make_room(rt, shared, worker)?;
+        let gone = consumer.is_abandoned();
+        match consumer.pop() {
+            Ok(header) => take(worker, header),
+            Err(_) => {
+                if gone {
+                    return Ok(());
+                }
+                rest(rt, shared, worker)?;
+            }
+        }
+    }
+    unreachable!()
+}
+
+/// Drops packets till the ring ends: how many.
+fn drain<R: Wait>(rt: &R, consumer: &mut Consumer<Header>) -> u64
+    ensures ring { SameConsumer consumer.old consumer.new }
+    ensures more { IsPrefix (received consumer.old) (received consumer.new) }
+    ensures many { length (received consumer.new) ≡ length (received consumer.old) + result }
+{
+    let mut dropped = 0u64;
+    for _ in rt.forever() {
+        if dropped == u64::MAX {
+            break;
+        }
+        let gone = consumer.is_abandoned();
+        match consumer.pop() {
+            Ok(_) => dropped += 1,
+            Err(_) => {
+                if gone {
+                    break;
+                }
+                thread::yield_now();
+            }
+        }
+    }
+    dropped
+}
+
+/// Leaves with the last flush; where that is refused, the rows that wait are abandoned. Says too whether there was no
+/// memory for it.
+fn leave<C: Detects + Drop, N: Naming, W: Board<Slot<N>> + Drop, G: Gate + Drop, R: Wait>(
+    rt: &R,
+    shared: &Shared<C, N, W>,
+    worker: Worker<C, N, G>,
+) -> (Finished<N>, bool)
+    ensures { HandsIn (taken worker) 0 result.0 }
+{
+    match worker.finish(rt, shared) {
+        Ok((finished, _)) => (finished, false),
+        Err((worker, refusal)) => {
+            let lacks_memory = lacks_memory(refusal);
+            (worker.abandon(rt, shared), lacks_memory)
+        }
+    }
+}
+
+fn lacks_memory(refusal: FlushRefusal) -> bool {
+    matches!(refusal, FlushRefusal::NoMemory)
+}
+
+/// A worker's work: it takes the packets of its ring till that ends, and leaves. After a refused flush it leaves at
+/// once, and drops what comes still.
+pub(crate) fn work<C: Detects + Drop, N: Naming, W: Board<Slot<N>> + Drop, G: Gate + Drop, R: Wait>(
+    rt: &R,
+    shared: &Shared<C, N, W>,
+    worker: Worker<C, N, G>,
+    consumer: Consumer<Header>,
+) -> Left<N>
+    requires new { taken worker ≡ [] }
+    requires first { received consumer ≡ [] }
+    ensures { SameConsumer consumer result.consumer }
+{
+    let mut worker = worker;
+    let mut consumer = consumer;
+    let refusal = serve(rt, shared, &mut worker, &mut consumer).err();
+    let (finished, lacked_memory) = match refusal {
+        None => leave(rt, shared, worker),
+        Some(refusal) => (worker.abandon(rt, shared), lacks_memory(refusal)),
+    };
+    let dropped = drain(rt, &mut consumer);
+    Left::new(finished, consumer, dropped, lacked_memory)
+}

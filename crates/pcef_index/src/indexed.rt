@@ -1,0 +1,85 @@
+//! A table with its index.
+
+ghost use Rattle.std.specs.Prelude.{◌≡◌, [], IfOk, map};
+ghost use Rattle.pcef_table.specs.Tables.{IsTable};
+ghost use Rattle.pcef_table.specs.Verdicts.{IsVerdict};
+
+use crate::index::{Index, index_of};
+use pcef_catalog::{Detects, Offers};
+use pcef_model::Verdict;
+use pcef_packet::{Addr, Header};
+use pcef_table::Table;
+use std::alloc::{AllocError, Global};
+use std::marker::Model;
+
+/// A table and the index that was built of it, which never change. Contracts see the table.
+#[derive(Drop)]
+pub struct Indexed {
+    table: Table,
+    index: Index,
+}
+
+impl Model for Indexed {
+    ghost use Rattle.std.specs.Prelude.{◌≡◌, map};
+    ghost use Rattle.pcef_table.specs.Tables.{TableValue};
+
+    ghost Value = { TableValue };
+
+    ghost view = { λ i. i.table };
+
+    ghost invariant = { λ i. i.index ≡ map (λ e. e.source) i.table.entries };
+}
+
+impl Indexed {
+    /// The table of a generation without rules, with its index, or want of memory.
+    pub fn empty(alloc: Global, generation: u32) -> Result<Indexed, AllocError>
+        ensures number { IfOk result (λ i. i.number ≡ generation) }
+        ensures entries { IfOk result (λ i. i.entries ≡ []) }
+    {
+        let table = Table::empty(alloc, generation)?;
+        let index = index_of(alloc, Vec::new(alloc))?;
+        Ok(Indexed { table, index })
+    }
+
+    /// The table with its index, or want of memory, which gives the table up.
+    pub fn new<C: Offers>(alloc: Global, table: Table, catalog: &C) -> Result<Indexed, AllocError>
+        ensures { IfOk result (λ i. i ≡ table) }
+    {
+        let index = Index::build(alloc, &table, catalog)?;
+        Ok(Indexed { table, index })
+    }
+
+    /// The table.
+    pub fn table(&self) -> &Table
+        ensures { result.now ≡ self.now }
+    {
+        &self.table
+    }
+
+    /// The index of the table.
+    pub fn index(&self) -> &Index
+        ensures { result.now ≡ map (λ e. e.source) self.now.entries }
+    {
+        &self.index
+    }
+
+    /// The number of the table's generation.
+    pub fn generation(&self) -> u32
+        ensures { result ≡ self.now.number }
+    {
+        self.table.generation()
+    }
+
+    /// What the generation decides of a packet, for a session with this address (TS 23.203,
+    /// clause 6.2.2), found by the index. Takes no memory.
+    pub fn classify<C: Detects>(&self, catalog: &C, ue: Addr, header: &Header) -> Verdict
+        requires { IsTable (C.offers catalog.now) self.now.entries }
+        ensures { IsVerdict (C.offers catalog.now) self.now.entries ue header.now result }
+    {
+        if self.table.len() <= 1 {
+            self.table.classify(catalog, ue, header)
+        } else {
+            self.index.classify(&self.table, catalog, ue, header)
+        }
+    }
+}

@@ -1,0 +1,193 @@
+//! Workers of one session behind its lock, each in a thread of its own: how many packets they judge and hand over.
+//!
+//! `pcef_worker_bench WORKERS BATCHES RULES` opens a session with 1 to 64 rules behind a lock. Each of 1 to 16 workers
+//! attaches, takes 32 packets and flushes, so many times, and finishes. Then all is gathered, and the rows of the
+//! journal and the octets that were counted for the key of the rules are written.
+//!
+//! With a fourth word the workers do something else:
+//!
+//! - `times`: each flush is timed, and on standard error stand the least, the median and the ninetieth of a hundred.
+//! - `own`: each judges 32 packets by the table that it holds and lets their rows go. Nothing is shared.
+//! - `read`: as `own`, and each refreshes before it judges 32 packets.
+//!
+//! With the last two no row reaches the session, and the rows that were judged are written. What all workers together
+//! took, in nanoseconds, stands on standard error.
+#![tactic(auto)]
+
+mod alone;
+mod opening;
+mod times;
+mod working;
+
+ghost use Rattle.std.specs.Prelude.{◌≡◌, []};
+ghost use Rattle.std.specs.Arc.{arc_value};
+ghost use Rattle.pcef_model.specs.Journals.{gen};
+ghost use Rattle.pcef_session.specs.Shown.{Shows};
+ghost use Rattle.pcef_share.specs.Names.{name_at};
+
+use opening::{give_commands, locked, packets, session};
+use pcef_catalog::{Catalog, Detects};
+use pcef_lock::opened;
+use pcef_publish::Opened;
+use pcef_session::SessionState;
+use pcef_share::{Blanks, Naming};
+use std::alloc::Global;
+use std::marker::Brand;
+use std::process::ExitCode;
+use std::sync::{Arc, Wait};
+use std::thread::Threads;
+use std::time::Clock;
+use std::{env, io};
+use working::{Reached, outcome_of};
+
+/// What the workers do.
+#[derive(Clone, Copy, Debug, PartialEq, Eq)]
+pub enum Work {
+    /// Take and flush.
+    Flush,
+    /// Take and flush, each flush timed.
+    TimedFlush,
+    /// Judge by the table that is held.
+    Own,
+    /// Refresh, and judge by the table that is then held.
+    Read,
+}
+
+/// What is to be done.
+#[derive(Clone, Copy)]
+pub struct Load {
+    /// How many workers there are.
+    pub workers: u8,
+    /// How many times each has 32 packets.
+    pub batches: u32,
+    /// How many rules the session has.
+    pub rules: u8,
+    /// What the workers do.
+    pub work: Work,
+}
+
+/// The work that a word names.
+fn work_named(word: &str) -> Option<Work> {
+    match word {
+        "times" => Some(Work::TimedFlush),
+        "own" => Some(Work::Own),
+        "read" => Some(Work::Read),
+        _ => None,
+    }
+}
+
+/// What these numbers ask for, where they are within their limits.
+fn load_of(workers: u32, batches: u32, rules: u32, work: Work) -> Option<Load> {
+    if !(1..=16).contains(&workers) || !(1..=64).contains(&rules) {
+        return None;
+    }
+    Some(Load {
+        workers: workers as u8,
+        batches,
+        rules: rules as u8,
+        work,
+    })
+}
+
+/// What the words after the program's name ask for, where three numbers are there, and a word for the work or nothing.
+fn read_load(rt: &HostRuntime) -> io::Result<Option<Load>> {
+    let mut numbers = Vec::new(rt.alloc());
+    let mut work = Work::Flush;
+    for word in env::args(rt)?.skip(1) {
+        match word.as_str().parse::<u32>() {
+            Ok(number) => numbers.push(number)?,
+            Err(_) => match work_named(word.as_str()) {
+                Some(named) => work = named,
+                None => return Ok(None),
+            },
+        }
+    }
+    match numbers.as_slice() {
+        [workers, batches, rules] => Ok(load_of(*workers, *batches, *rules, work)),
+        _ => Ok(None),
+    }
+}
+
+/// What the workers of a session reach.
+fn measured<R: Threads + Wait + Sync, K: Clock + Sync>(
+    rt: &R,
+    clock: &K,
+    alloc: Global,
+    load: Load,
+) -> Option<Reached> {
+    let session = session(alloc, load)?;
+    let Ok(opened) = opened(&session) else {
+        return None;
+    };
+    let offered = Catalog::new(alloc, Vec::new(alloc)).ok()?;
+    let catalog = Arc::new(alloc, offered).ok()?;
+    behind_its_lock::<Catalog, Brand, _, _>(
+        rt,
+        clock,
+        alloc,
+        catalog,
+        session,
+        opened,
+        Blanks::new(),
+        load,
+    )
+}
+
+/// What the workers of a session reach that comes behind its lock and takes its rules.
+fn behind_its_lock<
+    C: Detects + Drop + Send + Sync,
+    N: Naming + Send + Sync,
+    R: Threads + Wait + Sync,
+    K: Clock + Sync,
+>(
+    rt: &R,
+    clock: &K,
+    alloc: Global,
+    catalog: Arc<C>,
+    session: SessionState,
+    opened: Opened,
+    blanks: Blanks,
+    load: Load,
+) -> Option<Reached>
+    requires name { N.ledger ≡ name_at blanks }
+    requires setting { session.setting ≡ N.setting }
+    requires fresh { session.journal ≡ [] }
+    requires offers { C.offers (arc_value catalog) ≡ session.setting.catalog }
+    requires first { N.first ≡ gen session.journal }
+    requires table { Shows session.setting session.journal (gen session.journal) opened.table }
+    requires book { (opened.book ≡ N.book) × (opened.root ≡ N.root) }
+{
+    let packets = packets(alloc, load)?;
+    let (shared, mut desk) = locked::<C, N, _>(
+        rt,
+        alloc,
+        catalog,
+        session,
+        opened,
+        blanks,
+        load.workers,
+    )?;
+    give_commands(rt, alloc, &shared, &mut desk, load)?;
+    outcome_of(rt, clock, alloc, shared, desk, packets.as_slice(), load)
+}
+
+fn main(rt: HostRuntime) -> ExitCode {
+    let Ok(load) = read_load(&rt) else {
+        return ExitCode::from(4);
+    };
+    let Some(load) = load else {
+        return ExitCode::from(2);
+    };
+    let Some(reached) = measured(&rt, &rt, rt.alloc(), load) else {
+        return ExitCode::from(4);
+    };
+    let _ = eprintln!(rt; "nanoseconds {}", reached.nanoseconds);
+    if load.work == Work::TimedFlush {
+        let [least, median, late] = reached.flushes;
+        let _ = eprintln!(rt; "flush: least {least}, median {median}, ninetieth {late} ns");
+    }
+    match println!(rt; "rows {} counted {}", reached.rows, reached.counted) {
+        Ok(()) => ExitCode::from(0),
+        Err(_) => ExitCode::from(4),
+    }
+}

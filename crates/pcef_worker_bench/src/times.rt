@@ -1,0 +1,40 @@
+//! What parts of a run took.
+
+use std::alloc::AllocError;
+use std::io;
+use std::time::{Clock, Instant};
+
+/// A look at the clock.
+#[derive(Clone, Copy)]
+pub struct Lap {
+    from: Instant,
+}
+
+impl Lap {
+    /// Looks at the clock.
+    pub fn begin<K: Clock>(clock: &K) -> io::Result<Lap> {
+        Ok(Lap {
+            from: Instant::now(clock)?,
+        })
+    }
+
+    /// Looks again, and answers what passed since the first look, in nanoseconds.
+    pub fn end<K: Clock>(&self, clock: &K) -> io::Result<u64> {
+        let passed = Instant::now(clock)?.saturating_duration_since(self.from);
+        let seconds = passed.as_secs().saturating_mul(1_000_000_000);
+        Ok(seconds.saturating_add(u64::from(passed.subsec_nanos())))
+    }
+}
+
+/// What stands at so many hundredths of the way from the least to the greatest, where all are in order.
+fn at(passed: &[u64], hundredths: usize) -> u64 {
+    let place = passed.len().saturating_mul(hundredths) / 100;
+    passed.get(place).copied().unwrap_or(0)
+}
+
+/// The least, the median and the ninetieth of a hundred.
+pub fn spread(mut passed: Vec<u64>) -> Result<[u64; 3], AllocError> {
+    passed.sort()?;
+    let passed = passed.as_slice();
+    Ok([at(passed, 0), at(passed, 50), at(passed, 90)])
+}
