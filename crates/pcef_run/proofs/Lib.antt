@@ -1,0 +1,6 @@
+pub mod FirstLines
+pub mod KeyLines
+pub mod Obeyings
+pub mod PlanInputs
+pub mod PlanLines
+pub mod Splits

@@ -1,0 +1,55 @@
+-- Lines that are planned, one after the other.
+use Rattle.std.proofs.Common.{◌≡◌, ◌≢◌, ◌∙◌, ◌⊎◌, ◌<◌, ◌≤◌, ℕ, Bool, true, false, List, [], ◌∷◌, ◌++◌, length, refl, sym, ap, append-nil, subst, inl, inr}
+use Rattle.std.proofs.lemmas.Bool.{le-ltb, lt-ltb}
+use Rattle.std.proofs.lemmas.List.Elements.{filter-append}
+use Rattle.std.specs.Prelude.{OnOk, Result, Some, Ok, Err, not, if◌then◌else◌}
+use Rattle.pcef_line.specs.declared.fault.LineFault.{LineFault}
+use Rattle.pcef_line.specs.declared.fault.LineFault.TheVariants.{LineTooLong, NoMemory}
+use Rattle.pcef_line.specs.declared.line.Line.{Line}
+use Rattle.pcef_script.specs.ScriptAnswers.{DueWithin, LineDue, answered}
+use Rattle.pcef_script.specs.ScriptLines.{is_blank, is_too_long, line_most}
+use Rattle.pcef_run.specs.Plans.{ArePlanned, AskFor, Asks, IsPlanOf, IsUnfit, fits, fits_if_read}
+use Rattle.pcef_run.specs.declared.fault.Unfit.{Unfit}
+use Rattle.pcef_run.specs.declared.plan.Plan.{Plan}
+
+asked_more : (workers : ℕ) (lines : List (List ℕ)) (asked : List Line) (bytes : List ℕ) (l : Line) → AskFor workers lines asked → Asks workers bytes l → AskFor workers (lines ++ bytes ∷ []) (asked ++ l ∷ [])
+asked_more workers [] asked bytes l none asks = (l, [], ap (λ t. t ++ l ∷ []) none, asks, refl)
+asked_more workers (b ∷ lines) asked bytes l (first, others, is, reads, rest) asks =
+    (first, others ++ l ∷ [], ap (λ t. t ++ l ∷ []) is, reads, asked_more workers lines others bytes l rest asks)
+
+filled_one : (test : Bool) (bytes : List ℕ) → is_blank bytes ≡ test → answered (bytes ∷ []) ≡ (if not test then bytes ∷ [] else [])
+filled_one test bytes is = rw is refl
+
+-- a blank line is passed over
+pub blank_planned : (workers : ℕ) (lines : List (List ℕ)) (bytes : List ℕ) (plan : Plan) → is_blank bytes ≡ true → ArePlanned workers lines plan → ArePlanned workers (lines ++ bytes ∷ []) plan
+blank_planned workers lines bytes plan blank (asked, ask, is) =
+    let same : answered (lines ++ bytes ∷ []) ≡ answered lines =
+    filter-append (λ line. not (is_blank line)) lines (bytes ∷ []) ∙ ap (λ t. answered lines ++ t) (filled_one true bytes blank) ∙ append-nil (answered lines) in
+    (asked, subst (λ ls. AskFor workers ls asked) (sym same) ask, is)
+
+-- and another one is asked for
+pub line_planned : (workers : ℕ) (lines : List (List ℕ)) (bytes : List ℕ) (plan new : Plan) (l : Line) → is_blank bytes ≡ false → LineDue bytes (Ok l) → fits workers l ≡ true
+    → ((asked : List Line) → IsPlanOf asked plan → IsPlanOf (asked ++ l ∷ []) new) → ArePlanned workers lines plan → ArePlanned workers (lines ++ bytes ∷ []) new
+line_planned workers lines bytes plan new l filled due fit grows (asked, ask, is) =
+    let same : answered (lines ++ bytes ∷ []) ≡ answered lines ++ bytes ∷ [] =
+    filter-append (λ line. not (is_blank line)) lines (bytes ∷ []) ∙ ap (λ t. answered lines ++ t) (filled_one false bytes filled) in
+    (asked ++ l ∷ [], subst (λ ls. AskFor workers ls (asked ++ l ∷ [])) (sym same) (asked_more workers (answered lines) asked bytes l ask (due, fit)), grows asked is)
+
+-- what is asked for was added
+pub line_added : (r : Result (Unit {0}) Unfit) (workers : ℕ) (lines : List (List ℕ)) (bytes : List ℕ) (plan new : Plan) (l : Line) → is_blank bytes ≡ false → LineDue bytes (Ok l) → OnOk r (fits workers l ≡ true)
+    → ((asked : List Line) → IsPlanOf asked plan → OnOk r (IsPlanOf (asked ++ l ∷ []) new)) → ArePlanned workers lines plan → OnOk r (ArePlanned workers (lines ++ bytes ∷ []) new)
+line_added (Ok done) workers lines bytes plan new l filled due fit grows planned = line_planned workers lines bytes plan new l filled due fit grows planned
+line_added (Err e) workers lines bytes plan new l filled due fit grows planned = tt
+
+-- a line that couldn't be read
+pub unfit_read : (workers : ℕ) (bytes : List ℕ) (fault : LineFault) → is_blank bytes ≡ false → fault ≢ NoMemory
+    → (due : Result Line LineFault) × LineDue bytes due × ((fault ≡ NoMemory) ⊎ (due ≡ Err fault)) → IsUnfit workers bytes
+unfit_read workers bytes fault filled some (due, is, inl none) = absurd (some none)
+unfit_read workers bytes fault filled some (due, is, inr same) = (filled, due, is, ap (fits_if_read workers) same)
+
+-- ---- what is due to a line
+pub long_due : (bytes : List ℕ) → line_most < length bytes → LineDue bytes (Err LineTooLong)
+long_due bytes long = rw (lt-ltb line_most (length bytes) long) refl
+
+pub within_due : (bytes : List ℕ) (due : Result Line LineFault) → length bytes ≤ line_most → DueWithin (Some bytes) due → LineDue bytes due
+within_due bytes due short is = rw (le-ltb line_most (length bytes) short) is

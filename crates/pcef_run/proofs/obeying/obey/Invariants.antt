@@ -1,0 +1,7 @@
+use Rattle.std.specs.Prelude.{◌≡◌}
+use Rattle.pcef_run.specs.Runs.{Obeyed}
+use Rattle.pcef_run.proofs.obeying.obey.Given as goal
+
+abbrev pub invariant-loop-command : goal.invariant-loop-command
+invariant-loop-command l =
+    Obeyed l.fn.session.setting l.fn.session.journal l.yielded l.answers.items l.session.journal × (l.session.setting ≡ l.fn.session.setting)

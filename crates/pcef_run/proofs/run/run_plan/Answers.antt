@@ -1,0 +1,7 @@
+use Rattle.pcef_run.proofs.Obeyings.{nobody_attached}
+use Rattle.pcef_run.proofs.run.run_plan.Goals as goal
+
+pub run_session-requires-clause-fresh : goal.run_session-requires-clause-fresh
+run_session-requires-clause-fresh g c = λ κs within.
+    nobody_attached c.in_ok-session.session.setting c.in_ok-session.session.journal c.obey.new.session.journal c.args.plan.first.items c.in-Ok.answers.items
+    c.in_ok-session.ensures.1 c.in-Ok.ensures.answers

@@ -1,0 +1,4 @@
+pub mod Inputs
+pub mod Plans
+pub mod Runs
+pub mod Summaries

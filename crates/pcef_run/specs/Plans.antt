@@ -1,0 +1,110 @@
+-- What an input asks of a run (own choice).
+use Rattle.std.specs.Prelude.{ℕ, ◌≡◌, ◌≤◌, ◌+◌, Bool, true, false, nat_lt, List, [], ◌∷◌, ◌++◌, length, Option, Some, None, Result, Ok, Err, if◌then◌else◌}
+use Rattle.pcef_model.specs.declared.command.Command.{Command}
+use Rattle.pcef_model.specs.declared.step.Step.TheVariants as step
+use Rattle.pcef_line.specs.declared.fault.LineFault.{LineFault}
+use Rattle.pcef_line.specs.declared.line.Line.{Line}
+use Rattle.pcef_line.specs.declared.line.Line.TheVariants as line
+use Rattle.pcef_gateway.specs.declared.arrivals.Arrival.{Arrival}
+use Rattle.pcef_script.specs.ScriptAnswers.{LineDue, answered}
+use Rattle.pcef_script.specs.ScriptLines.{is_blank}
+use Rattle.pcef_script.specs.Scripts.{all_lines}
+use Rattle.pcef_run.specs.declared.fault.PlanFault.{PlanFault}
+use Rattle.pcef_run.specs.declared.fault.PlanFault.TheVariants as fault
+use Rattle.pcef_run.specs.declared.plan.Plan.{Plan}
+use Rattle.pcef_run.specs.Inputs.{IsRead, IsUnread}
+
+-- ---- lines
+abbrev pub command_line : Command → Line
+command_line c = line.Step (step.Command c)
+
+abbrev pub packet_line : Arrival → Line
+packet_line a = line.Step (step.Take a.worker a.header)
+
+-- the command or the packet that a line is, if it is one
+abbrev pub command_in : Line → List Command
+command_in (line.Step (step.Command c)) = c ∷ []
+command_in other = []
+
+abbrev pub packet_in : Line → List Arrival
+packet_in (line.Step (step.Take w h)) = record { worker = w; header = h } ∷ []
+packet_in other = []
+
+abbrev pub is_packet : Line → Bool
+is_packet (line.Step (step.Take w h)) = true
+is_packet other = false
+
+-- a line that a run has a use for: a command, or a packet for one of so many workers
+abbrev pub fits : ℕ → Line → Bool
+fits workers (line.Step (step.Command c)) = true
+fits workers (line.Step (step.Take w h)) = nat_lt w workers
+fits workers other = false
+
+-- ---- plans
+unfoldable pub commands_in : List Line → List Command
+commands_in [] = []
+commands_in (first ∷ lines) = command_in first ++ commands_in lines
+
+unfoldable pub packets_in : List Line → List Arrival
+packets_in [] = []
+packets_in (first ∷ lines) = packet_in first ++ packets_in lines
+
+-- the lines before the first packet, and those from it on
+unfoldable pub before_packets : List Line → List Line
+before_packets [] = []
+before_packets (first ∷ lines) = if is_packet first then [] else first ∷ before_packets lines
+
+unfoldable pub from_packets : List Line → List Line
+from_packets [] = []
+from_packets (first ∷ lines) = if is_packet first then first ∷ lines else from_packets lines
+
+pub record IsPlanOf (asked : List Line) (plan : Plan) : Type 0 where
+  pub first : plan.first.items ≡ commands_in (before_packets asked)
+  pub arrivals : plan.arrivals.items ≡ packets_in asked
+  pub later : plan.later.items ≡ commands_in (from_packets asked)
+
+-- ---- inputs
+-- a line that is read and fits
+abbrev pub Asks : ℕ → List ℕ → Line → Type 0
+Asks workers bytes asked = LineDue bytes (Ok asked) × (fits workers asked ≡ true)
+
+abbrev pub AskFor : ℕ → List (List ℕ) → List Line → Type 0
+AskFor workers [] asked = asked ≡ []
+AskFor workers (bytes ∷ rest) asked =
+    (first : Line) × (others : List Line) × (asked ≡ first ∷ others) × Asks workers bytes first × AskFor workers rest others
+
+-- what these lines ask for, blank ones aside
+abbrev pub ArePlanned : ℕ → List (List ℕ) → Plan → Type 0
+ArePlanned workers lines plan = (asked : List Line) × AskFor workers (answered lines) asked × IsPlanOf asked plan
+
+-- a line that isn't blank and is at fault, or doesn't fit
+abbrev pub fits_if_read : ℕ → Result Line LineFault → Bool
+fits_if_read workers (Ok asked) = fits workers asked
+fits_if_read workers (Err fault) = false
+
+abbrev pub IsUnfit : ℕ → List ℕ → Type 0
+IsUnfit workers bytes = (is_blank bytes ≡ false) × (due : Result Line LineFault) × LineDue bytes due × (fits_if_read workers due ≡ false)
+
+-- the first such line among these, by its number
+abbrev pub FirstUnfit : ℕ → List (List ℕ) → ℕ → Type 0
+FirstUnfit workers lines number =
+    (front : List (List ℕ)) × (bytes : List ℕ) × (rest : List (List ℕ)) × (before : List Line)
+    × (lines ≡ front ++ bytes ∷ rest) × (number ≡ length front + 1) × AskFor workers (answered front) before × IsUnfit workers bytes
+
+-- The plan of an input that was read to its end, or its first line that is unfit; and else why it wasn't read. Want of memory
+-- may come in either.
+abbrev pub Plans : ℕ → Result Plan PlanFault → Option (List ℕ) → Option (List ℕ) → Type 0
+Plans workers (Ok plan) before left = (input : List ℕ) × IsRead input before left × ArePlanned workers (all_lines input) plan
+Plans workers (Err (fault.Line number)) before left = (input : List ℕ) × IsRead input before left × FirstUnfit workers (all_lines input) number
+Plans workers (Err other) before left = IsUnread other before left
+
+-- ---- for private clauses
+abbrev pub FailsIn : ℕ → List (List ℕ) → PlanFault → Type 0
+FailsIn workers lines (fault.Line number) = FirstUnfit workers lines number
+FailsIn workers lines fault.NoMemory = Unit {0}
+FailsIn workers lines other = ⊥
+
+-- the first line of an input, and what its line feed ends
+abbrev pub IsFirstLine : List ℕ → List ℕ → Option (List ℕ) → Type 0
+IsFirstLine input first None = all_lines input ≡ first ∷ []
+IsFirstLine input first (Some rest) = (all_lines input ≡ first ∷ all_lines rest) × (length rest + 1 ≤ length input)

@@ -1,0 +1,37 @@
+-- A run of a plan (own choice).
+use Rattle.std.specs.Prelude.{ℕ, ◌≡◌, ◌+◌, Bool, true, false, List, [], ◌∷◌, length, Result, Ok, Err}
+use Rattle.std.specs.List.{count_by}
+use Rattle.pcef_model.specs.declared.answer.Accepted.{Accepted}
+use Rattle.pcef_model.specs.declared.answer.Refusal.{Refusal}
+use Rattle.pcef_model.specs.declared.command.Command.{Command}
+use Rattle.pcef_model.specs.Entries.{Journal}
+use Rattle.pcef_model.specs.Outcomes.{CommandStep}
+use Rattle.pcef_model.specs.Setting.{Setting}
+use Rattle.pcef_gateway.specs.Ending.{RunsTo}
+use Rattle.pcef_run.specs.declared.plan.Plan.{Plan}
+use Rattle.pcef_run.specs.declared.run.Ran.{Ran}
+
+-- the answers to commands that are given one after the other, and the journal after them
+abbrev pub Obeyed : Setting → Journal → List Command → List (Result Accepted Refusal) → Journal → Type 0
+Obeyed p before [] answers after = (answers ≡ []) × (after ≡ before)
+Obeyed p before (c ∷ cs) answers after =
+    (first : Result Accepted Refusal) × (others : List (Result Accepted Refusal)) × (between : Journal)
+    × (answers ≡ first ∷ others) × CommandStep p c before first between × Obeyed p between cs others after
+
+-- an Activate of an active rule is accepted too
+abbrev pub is_accepted : Result Accepted Refusal → Bool
+is_accepted (Ok a) = true
+is_accepted (Err r) = false
+
+-- of all commands: those before the first packet, and those of the run
+abbrev pub commands_of : Ran → ℕ
+commands_of ran = length ran.answers.items + length ran.ended.answers.items
+
+abbrev pub accepted_of : Ran → ℕ
+accepted_of ran = count_by is_accepted ran.answers.items + count_by is_accepted ran.ended.answers.items
+
+-- a new session is given the commands before the first packet, and then runs with the packets and the other commands
+abbrev pub RunsPlan : Setting → Plan → ℕ → Ran → Type 0
+RunsPlan p plan workers ran =
+    (between : Journal) × Obeyed p [] plan.first.items ran.answers.items between
+    × RunsTo p between plan.arrivals.items plan.later.items workers ran.ended

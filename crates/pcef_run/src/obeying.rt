@@ -1,0 +1,37 @@
+//! Commands that a session is given before it runs.
+
+ghost use Rattle.std.specs.Prelude.{◌≡◌, IfOk};
+ghost use Rattle.std.specs.List.{count_by};
+ghost use Rattle.pcef_run.specs.Runs.{Obeyed, is_accepted};
+
+use pcef_gateway::Answer;
+use pcef_model::{Command, Refusal};
+use pcef_session::SessionState;
+use std::alloc::{AllocError, Global};
+
+/// Gives commands to a session, and keeps the answers. Fails for want of memory, which a command may meet too.
+pub(crate) fn obey(
+    alloc: Global,
+    session: &mut SessionState,
+    commands: Vec<Command>,
+) -> Result<Vec<Answer>, AllocError>
+    ensures answers { IfOk result (λ v. Obeyed session.old.setting session.old.journal commands.items v.items session.new.journal) }
+    ensures setting { session.new.setting ≡ session.old.setting }
+{
+    let mut answers = Vec::new(alloc);
+    for command in commands {
+        let answer = session.command(command);
+        if matches!(answer, Err(Refusal::NoMemory)) {
+            return Err(AllocError);
+        }
+        answers.push(answer)?;
+    }
+    Ok(answers)
+}
+
+/// How many commands were accepted.
+pub(crate) fn accepted_among(answers: &[Answer]) -> u64
+    ensures { result ≡ count_by is_accepted answers.now }
+{
+    answers.iter().filter(|answer| answer.is_ok()).count() as u64
+}

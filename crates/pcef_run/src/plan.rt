@@ -1,0 +1,73 @@
+//! What an input asks of a run.
+
+ghost use Rattle.std.specs.Prelude.{◌≡◌, ◌++◌, ◌∷◌, [], IfErr, List, OnOk, false, true};
+ghost use Rattle.pcef_line.specs.declared.line.Line.{Line};
+ghost use Rattle.pcef_run.specs.Plans.{IsPlanOf, command_line, fits, packet_line};
+ghost use Rattle.pcef_run.specs.declared.fault.Unfit.TheVariants.{AtFault};
+
+use crate::fault::Unfit;
+use pcef_gateway::Arrival;
+use pcef_line::Line;
+use pcef_model::{Command, Step};
+use std::alloc::{AllocError, Global};
+
+/// What an input asks of a run: commands, then packets with commands among them.
+#[derive(Drop)]
+pub struct Plan {
+    /// The commands that stand before the first packet.
+    pub first: Vec<Command>,
+    /// The packets, each with its worker, in order.
+    pub arrivals: Vec<Arrival>,
+    /// The commands that stand after the first packet.
+    pub later: Vec<Command>,
+}
+
+impl Plan {
+    /// Nothing is asked for yet.
+    pub(crate) fn new(alloc: Global) -> Plan
+        ensures { IsPlanOf [] result }
+    {
+        Plan {
+            first: Vec::new(alloc),
+            arrivals: Vec::new(alloc),
+            later: Vec::new(alloc),
+        }
+    }
+
+    fn add_command(&mut self, command: Command) -> Result<(), AllocError>
+        ensures { (asked : List Line) → IsPlanOf asked self.old → OnOk result (IsPlanOf (asked ++ command_line command ∷ []) self.new) }
+    {
+        if self.arrivals.is_empty() {
+            self.first.push(command)?;
+        } else {
+            self.later.push(command)?;
+        }
+        Ok(())
+    }
+
+    fn add_packet(&mut self, arrival: Arrival) -> Result<(), AllocError>
+        ensures { (asked : List Line) → IsPlanOf asked self.old → OnOk result (IsPlanOf (asked ++ packet_line arrival ∷ []) self.new) }
+    {
+        self.arrivals.push(arrival)?;
+        Ok(())
+    }
+
+    /// Adds what a line asks for, if it is a command or a packet for one of so many workers.
+    pub(crate) fn add(&mut self, line: Line, workers: u8) -> Result<(), Unfit>
+        ensures fits { OnOk result (fits workers line ≡ true) }
+        ensures plan { (asked : List Line) → IsPlanOf asked self.old → OnOk result (IsPlanOf (asked ++ line ∷ []) self.new) }
+        ensures unfit { IfErr result (λ e. e ≡ AtFault → fits workers line ≡ false) }
+    {
+        let added = match line {
+            Line::Step(Step::Command(command)) => self.add_command(command),
+            Line::Step(Step::Take { worker, header }) if worker < workers => {
+                self.add_packet(Arrival { worker, header })
+            }
+            _ => return Err(Unfit::AtFault),
+        };
+        match added {
+            Ok(()) => Ok(()),
+            Err(_) => Err(Unfit::NoMemory),
+        }
+    }
+}

@@ -1,0 +1,120 @@
+//! Reads the plan of a run.
+
+ghost use Rattle.std.specs.Prelude.{◌≡◌, ◌++◌, ◌∷◌, [], IfErr, IfOk, List, OnOk, Result, option_map, ℕ};
+ghost use Rattle.std.specs.List.{list_all};
+ghost use Rattle.pcef_line.specs.LineValues.{Gives};
+ghost use Rattle.pcef_line.specs.declared.line.Line.{Line};
+ghost use Rattle.pcef_line.specs.declared.fault.LineFault.{LineFault};
+ghost use Rattle.pcef_script.specs.ScriptAnswers.{LineDue};
+ghost use Rattle.pcef_script.specs.ScriptLines.{is_blank, is_space};
+ghost use Rattle.pcef_script.specs.Scripts.{all_lines};
+ghost use Rattle.pcef_run.specs.Plans.{ArePlanned, Asks, FailsIn, IsFirstLine, IsUnfit, Plans};
+ghost use Rattle.pcef_run.specs.declared.fault.Unfit.TheVariants.{AtFault};
+
+use crate::fault::{PlanFault, Unfit, unread};
+use crate::input::read_all;
+use crate::plan::Plan;
+use memchr::memchr;
+use pcef_line::{Line, LineFault, LineReader};
+use std::alloc::Global;
+use std::io::Read;
+use std::str;
+
+/// The most bytes of a line, without its line feed.
+const MAX_LINE: usize = 262_144;
+
+fn is_space(bytes: &[u8]) -> bool
+    ensures { result ≡ list_all is_space bytes.now }
+{
+    bytes
+        .iter()
+        .all(|byte| *byte == b' ' || *byte == b'\t' || *byte == b'\r')
+}
+
+/// Whether a line is passed over: it is within the limit and holds only spaces, tabs and CR.
+fn is_blank(line: &[u8]) -> bool
+    ensures { result ≡ is_blank line.now }
+{
+    line.len() <= MAX_LINE && is_space(line)
+}
+
+/// The first line of an input, and what follows its line feed, if one ends it.
+fn first_line(input: &[u8]) -> (&[u8], Option<&[u8]>)
+    ensures { IsFirstLine input.now result.0.now (option_map (λ rest. rest.now) result.1) }
+{
+    let Some(place) = memchr(b'\n', input) else {
+        return (input, None);
+    };
+    let (line, rest) = input.split_at(place);
+    (line, Some(rest.split_at(1).1))
+}
+
+/// What a line is, or its first fault.
+fn line_of(alloc: Global, reader: &mut LineReader, bytes: &[u8]) -> Result<Line, LineFault>
+    ensures { (due : Result Line LineFault) × LineDue bytes.now due × Gives (λ l. l) result due }
+{
+    if bytes.len() > MAX_LINE {
+        return Err(LineFault::LineTooLong);
+    }
+    match str::from_utf8(bytes) {
+        Ok(text) => reader.read(alloc, text),
+        Err(_) => Err(LineFault::NotUtf8),
+    }
+}
+
+/// Adds what a line asks for to a plan of the lines before it.
+fn plan_line(
+    alloc: Global,
+    reader: &mut LineReader,
+    plan: &mut Plan,
+    bytes: &[u8],
+    workers: u8,
+) -> Result<(), Unfit>
+    ensures planned { (lines : List (List ℕ)) → ArePlanned workers lines plan.old → OnOk result (ArePlanned workers (lines ++ bytes.now ∷ []) plan.new) }
+    ensures unfit { IfErr result (λ e. e ≡ AtFault → IsUnfit workers bytes.now) }
+{
+    if is_blank(bytes) {
+        return Ok(());
+    }
+    match line_of(alloc, reader, bytes) {
+        Ok(line) => plan.add(line, workers),
+        Err(fault) => Err(unread(fault)),
+    }
+}
+
+/// The plan of the lines of an input.
+fn plan_of(alloc: Global, input: &[u8], workers: u8) -> Result<Plan, PlanFault>
+    ensures plan { IfOk result (λ plan. ArePlanned workers (all_lines input.now) plan) }
+    ensures fault { IfErr result (λ e. FailsIn workers (all_lines input.now) e) }
+{
+    let mut plan = Plan::new(alloc);
+    let mut reader = LineReader::new(alloc);
+    let mut number = 0u64;
+    let mut rest = input;
+    loop {
+        let (line, later) = first_line(rest);
+        number += 1;
+        match plan_line(alloc, &mut reader, &mut plan, line, workers) {
+            Ok(()) => {}
+            Err(Unfit::AtFault) => return Err(PlanFault::Line(number)),
+            Err(Unfit::NoMemory) => return Err(PlanFault::NoMemory),
+        }
+        match later {
+            Some(later) => rest = later,
+            None => return Ok(plan),
+        }
+    }
+}
+
+/// Reads an input to its end, and gives what its lines ask of a run with so many workers: commands, and packets for
+/// these workers. Lines are those of a script, and blank ones are passed over. Keeps the whole input, at most
+/// 1,073,741,824 bytes, until all lines are read. Takes memory for it and for the plan.
+///
+/// Answers the first [`PlanFault`] that it meets: that of the reader, an input that is too long, want of memory, or, once all is read,
+/// the first line that is at fault, is neither a command nor a packet, or names another worker.
+pub fn read_plan<R: Read>(alloc: Global, reader: &mut R, workers: u8) -> Result<Plan, PlanFault>
+    ensures { Plans workers result (R.remaining reader.old) (R.remaining reader.new) }
+{
+    let input = read_all(alloc, reader)?;
+    plan_of(alloc, &input, workers)
+}

@@ -1,0 +1,93 @@
+//! Runs a plan.
+
+ghost use Rattle.std.specs.Prelude.{◌≡◌, [], IfOk};
+ghost use Rattle.std.specs.Arc.{arc_value};
+ghost use Rattle.pcef_model.specs.Terms.{setting_of};
+ghost use Rattle.pcef_run.specs.Runs.{RunsPlan, accepted_of, commands_of};
+
+use crate::fault::RunEnd;
+use crate::obeying::{accepted_among, obey};
+use crate::plan::Plan;
+use pcef_catalog::{Detects, Offers};
+use pcef_gateway::{Answer, Ended, RunFault, run_session};
+use pcef_model::{OpenFault, Profile};
+use pcef_session::SessionState;
+use pcef_worker::OpenGate;
+use std::alloc::Global;
+use std::sync::{Arc, Wait};
+use std::thread::Threads;
+
+/// What a run of a plan comes to.
+#[derive(Drop)]
+pub struct Ran {
+    /// The answer to each command before the first packet, in order.
+    pub answers: Vec<Answer>,
+    /// What the session came to, with the answers to the other commands.
+    pub ended: Ended,
+}
+
+impl Ran {
+    /// How many commands were accepted.
+    pub fn accepted(&self) -> u64
+        ensures { result ≡ accepted_of self.now }
+    {
+        accepted_among(&self.answers) + accepted_among(&self.ended.answers)
+    }
+
+    /// How many commands there were.
+    pub fn commands(&self) -> u64
+        ensures { result ≡ commands_of self.now }
+    {
+        self.answers.len() as u64 + self.ended.answers.len() as u64
+    }
+}
+
+fn open<C: Offers>(alloc: Global, profile: Profile, catalog: &C) -> Result<SessionState, RunEnd>
+    ensures { IfOk result (λ s. (s.setting ≡ setting_of profile (C.offers catalog.now)) × (s.journal ≡ [])) }
+{
+    let Ok(listing) = catalog.listing().share() else {
+        return Err(RunEnd::NoMemory);
+    };
+    match SessionState::open(alloc, profile, listing) {
+        Ok(session) => Ok(session),
+        Err(OpenFault::NoMemory) => Err(RunEnd::NoMemory),
+        Err(fault) => Err(RunEnd::Open(fault)),
+    }
+}
+
+fn run_fault(fault: RunFault) -> RunEnd {
+    match fault {
+        RunFault::NoMemory => RunEnd::NoMemory,
+        _ => RunEnd::Run(fault),
+    }
+}
+
+/// Opens a session of a profile, gives it the commands that stand before the first packet, and then runs it with so many
+/// workers, each in a thread of its own, to which the packets go, while the other commands are given
+/// ([`pcef_gateway::run_session`]). Takes memory. Waits for the workers.
+pub fn run_plan<C: Detects + Drop + Send + Sync, R: Threads + Wait + Sync>(
+    rt: &R,
+    alloc: Global,
+    catalog: Arc<C>,
+    profile: Profile,
+    plan: Plan,
+    workers: u8,
+) -> Result<Ran, RunEnd>
+    ensures { IfOk result (λ ran. RunsPlan (setting_of profile (C.offers (arc_value catalog))) plan workers ran) }
+{
+    let Plan {
+        first,
+        arrivals,
+        later,
+    } = plan;
+    let mut session = open(alloc, profile, &*catalog)?;
+    let Ok(answers) = obey(alloc, &mut session, first) else {
+        return Err(RunEnd::NoMemory);
+    };
+    match run_session(
+        rt, alloc, catalog, session, arrivals, later, workers, &OpenGate,
+    ) {
+        Ok(ended) => Ok(Ran { answers, ended }),
+        Err(fault) => Err(run_fault(fault)),
+    }
+}
