@@ -6,9 +6,13 @@ ghost use Rattle.pcef_session.specs.Shown.{Shows};
 ghost use Rattle.pcef_share.specs.Names.{name_at};
 
 mod batches;
+mod beginnings;
+mod closing;
 mod gathering;
 mod generations;
+mod last_flush;
 mod memory;
+mod opening;
 mod threads;
 
 use pcef_catalog::{Catalog, Detects, Listing, Offers};
@@ -27,6 +31,8 @@ use std::sync::{Arc, Wait};
 use std::test::*;
 use std::thread::Threads;
 
+use beginnings::Beginning;
+
 // What a story tells, zeros after it.
 type Told = [u64; 8];
 
@@ -39,6 +45,16 @@ enum Story {
     RuleGone,
     HeldUp,
     NoMemory,
+    Begins(Beginning),
+}
+
+// How many places for workers the lock has.
+fn places(story: Story) -> u8 {
+    match story {
+        Story::Begins(Beginning::OnePlace) => 1,
+        Story::Begins(Beginning::LastLeaves) => 3,
+        _ => 2,
+    }
 }
 
 fn qos() -> Result<Qos, Fail> {
@@ -115,7 +131,8 @@ fn tell<R: Threads + Wait + Sync>(
     )
 }
 
-// The session comes behind its lock with places for two workers, the rule is installed, and its key is monitored.
+// The session comes behind its lock. Where the story doesn't begin before that, the rule is installed, and its key is
+// monitored.
 fn tell_behind_its_lock<
     C: Detects + Drop + Send + Sync,
     N: Naming + Send + Sync,
@@ -137,7 +154,11 @@ fn tell_behind_its_lock<
     requires table { Shows session.setting session.journal (gen session.journal) opened.table }
     requires book { (opened.book ≡ N.book) × (opened.root ≡ N.root) }
 {
-    let (shared, mut desk) = locked::<C, N, _>(rt, alloc, catalog, session, opened, blanks)?;
+    let places = places(story);
+    let (shared, mut desk) = locked::<C, N, _>(rt, alloc, catalog, session, opened, blanks, places)?;
+    if let Story::Begins(beginning) = story {
+        return beginnings::begun(rt, alloc, &shared, &mut desk, beginning);
+    }
     give_commands(rt, alloc, &shared, &mut desk)?;
     match story {
         Story::RefusedFlush => batches::refused_flush(rt, alloc, &shared, &mut desk),
@@ -146,10 +167,11 @@ fn tell_behind_its_lock<
         Story::RuleGone => generations::rule_gone(rt, alloc, &shared, &mut desk),
         Story::HeldUp => threads::held_up(rt, alloc, &shared, &mut desk),
         Story::NoMemory => memory::no_memory(rt, alloc, &shared),
+        Story::Begins(_) => Err("it has begun")?,
     }
 }
 
-// A session behind its lock, with places for two workers, and its desk.
+// A session behind its lock, with places for so many workers, and its desk.
 fn locked<C: Offers + Drop, N: Naming, R: Wait + Drop>(
     rt: R,
     alloc: Global,
@@ -157,6 +179,7 @@ fn locked<C: Offers + Drop, N: Naming, R: Wait + Drop>(
     session: SessionState,
     opened: Opened,
     blanks: Blanks,
+    places: u8,
 ) -> Result<(Shared<C, N, Writer<N, R>>, Desk<N>), Fail>
     requires name { N.ledger ≡ name_at blanks }
     requires setting { session.setting ≡ N.setting }
@@ -167,7 +190,7 @@ fn locked<C: Offers + Drop, N: Naming, R: Wait + Drop>(
     requires book { (opened.book ≡ N.book) × (opened.root ≡ N.root) }
 {
     let commands = commands_so_far(alloc, &session)?;
-    match State::<N, _>::open(rt, alloc, session, opened, blanks, 2) {
+    match State::<N, _>::open(rt, alloc, session, opened, blanks, places) {
         Ok((state, shares)) => Ok((Shared::new(catalog, state), Desk::new(commands, shares))),
         Err(_) => Err("the session didn't come behind a lock")?,
     }
