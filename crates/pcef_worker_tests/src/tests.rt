@@ -15,6 +15,7 @@ mod memory;
 mod opening;
 mod threads;
 
+use beginnings::Beginning;
 use pcef_catalog::{Catalog, Detects, Listing, Offers};
 use pcef_filter::read_filter;
 use pcef_lock::{Desk, Shared, State, commands_so_far, opened};
@@ -30,8 +31,6 @@ use std::marker::Brand;
 use std::sync::{Arc, Wait};
 use std::test::*;
 use std::thread::Threads;
-
-use beginnings::Beginning;
 
 // What a story tells, zeros after it.
 type Told = [u64; 8];
@@ -155,7 +154,9 @@ fn tell_behind_its_lock<
     requires book { (opened.book ≡ N.book) × (opened.root ≡ N.root) }
 {
     let places = places(story);
-    let (shared, mut desk) = locked::<C, N, _>(rt, alloc, catalog, session, opened, blanks, places)?;
+    let (shared, mut desk) = locked::<C, N, _>(
+        rt, alloc, catalog, session, opened, blanks, places,
+    )?;
     if let Story::Begins(beginning) = story {
         return beginnings::begun(rt, alloc, &shared, &mut desk, beginning);
     }

@@ -100,7 +100,9 @@ fn met_and_reported<C: Detects + Drop, N: Naming, W: Board<Slot<N>> + Drop, R: W
     if one_passed(rt, shared, worker)? != (generation, bearer) {
         return Err("a refresh after a meeting changed a verdict")?;
     }
-    Ok([before, met, generation, bearer, number, octets, later, refreshed])
+    Ok([
+        before, met, generation, bearer, number, octets, later, refreshed,
+    ])
 }
 
 // Takes a packet of 28 octets and hands its row over: the generation that judged it, and the bearer on which it passes by
@@ -154,7 +156,12 @@ fn of_the_key(report: &Report) -> Result<(u64, u64), Fail> {
 
 #[test]
 fn a_worker_that_refreshes_late_judges_by_what_it_held(rt: HostRuntime) -> Result<(), Fail> {
-    let told = tell(&rt, rt.alloc(), 100, Story::Begins(Beginning::RefreshesLate))?;
+    let told = tell(
+        &rt,
+        rt.alloc(),
+        100,
+        Story::Begins(Beginning::RefreshesLate),
+    )?;
     assert_eq!(rt; told, [0, 0, 1, 1, 1, 0, 0, 0]);
     Ok(())
 }

@@ -37,11 +37,7 @@ pub fn tell_gathered<R: Threads + Wait + Sync>(
     tell_of::<Catalog, Brand, _>(rt, alloc, catalog, session, opened, Blanks::new(), story)
 }
 
-fn tell_of<
-    C: Detects + Drop + Send + Sync,
-    N: Naming + Send + Sync,
-    R: Threads + Wait + Sync,
->(
+fn tell_of<C: Detects + Drop + Send + Sync, N: Naming + Send + Sync, R: Threads + Wait + Sync>(
     rt: &R,
     alloc: Global,
     catalog: Arc<C>,

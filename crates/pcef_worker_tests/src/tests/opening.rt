@@ -21,11 +21,7 @@ fn a_lock_has_one_to_sixteen_places(rt: HostRuntime) -> Result<(), Fail> {
 }
 
 // Tells of a lock with so many places.
-fn tell_places<R: Threads + Wait + Sync>(
-    rt: &R,
-    alloc: Global,
-    places: u8,
-) -> Result<u64, Fail> {
+fn tell_places<R: Threads + Wait + Sync>(rt: &R, alloc: Global, places: u8) -> Result<u64, Fail> {
     let session = session(alloc, 100)?;
     let opened = opened(&session)?;
     refused_places::<Brand, _>(rt, alloc, session, opened, Blanks::new(), places)
