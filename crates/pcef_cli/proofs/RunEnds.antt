@@ -31,6 +31,12 @@ unflushed ran taken text a b c is appended kept = subst (AppendsFront a c) is (t
 pub unwritten : (ran : Ran) (taken : Counts) (text : List ℕ) (a b : Option (List ℕ)) → text ≡ summary_text ran taken → AppendsFront a b text → IsWritten ran taken ending.Write a b
 unwritten ran taken text a b is front = subst (AppendsFront a b) is front
 
+-- by how the flush ended
+pub flushed : (ran : Ran) (taken : Counts) (end : End) (text : List ℕ) (a b c : Option (List ℕ)) → text ≡ summary_text ran taken → Appends a b text
+    → (end ≡ ending.Done) ⊎ (end ≡ ending.Write) → Keeps b c → IsWritten ran taken end a c
+flushed ran taken end text a b c is appended (inl done) kept = rw done (written ran taken text a b c is appended kept)
+flushed ran taken end text a b c is appended (inr fails) kept = rw fails (unflushed ran taken text a b c is appended kept)
+
 -- ---- a plan that was run
 pub one_told : (p : Setting) (plan : Plan) (workers : ℕ) (ran : Ran) (end : End) (old new : Option (List ℕ)) → RunsPlan p plan workers ran
     → (taken : Counts) × IsWritten ran taken end old new → RanOne p workers plan end old new

@@ -1,6 +1,8 @@
 //! The program where a run is asked for.
 
-ghost use Rattle.std.specs.Prelude.{◌≡◌};
+ghost use Rattle.std.specs.Prelude.{◌≡◌, ◌⊎◌};
+ghost use Rattle.std.specs.Io.KnownBytes.{Keeps};
+ghost use Rattle.pcef_cli.specs.declared.end.End.TheVariants.{Done, Write as WriteEnd};
 ghost use Rattle.std.specs.Arc.{arc_value};
 ghost use Rattle.pcef_catalog.specs.Catalogs.{offers_of};
 ghost use Rattle.pcef_model.specs.Terms.{setting_of};
@@ -18,6 +20,17 @@ use std::io::{Read, Write};
 use std::sync::{Arc, Wait};
 use std::thread::Threads;
 
+/// Flushes the writer.
+fn flush_end<W: Write>(writer: &mut W) -> End
+    ensures end { (result ≡ Done) ⊎ (result ≡ WriteEnd) }
+    ensures kept { Keeps (W.contents writer.old) (W.contents writer.new) }
+{
+    match writer.flush() {
+        Ok(()) => End::Done,
+        Err(_) => End::Write,
+    }
+}
+
 /// Writes what a run came to, and flushes the writer.
 fn write_summary<W: Write>(alloc: Global, ran: &Ran, taken: Counts, writer: &mut W) -> End
     ensures { IsWritten ran.now taken result (W.contents writer.old) (W.contents writer.new) }
@@ -26,11 +39,7 @@ fn write_summary<W: Write>(alloc: Global, ran: &Ran, taken: Counts, writer: &mut
         return End::NoMemory;
     };
     match put_all(writer, text.as_bytes()) {
-        Ok(()) => {}
-        Err(_) => return End::Write,
-    }
-    match writer.flush() {
-        Ok(()) => End::Done,
+        Ok(()) => flush_end(writer),
         Err(_) => End::Write,
     }
 }
