@@ -19,7 +19,7 @@ use Rattle.pcef_session.specs.Following.{row_of}
 use Rattle.pcef_lock.specs.Gathering.{HasLane, rows_abandoned}
 use Rattle.pcef_lock.specs.HandedIn.{HandedIn}
 use Rattle.pcef_gateway.specs.Arriving.{headers_for}
-use Rattle.pcef_gateway.specs.Commanding.{changing}
+use Rattle.pcef_gateway.specs.Commanding.{FoundMemory, changing}
 use Rattle.pcef_gateway.specs.Ending.{AddUpTo, RunsTo}
 use Rattle.pcef_gateway.specs.InOrder.{commands_of, lane_headers, reports_of}
 use Rattle.pcef_gateway.specs.Sending.{HandInArrivals, rows_of}
@@ -75,14 +75,15 @@ rows_sum p j handed d lawful numbered many lanes =
 
 pub runs_to : (p : Setting) (before : Journal) (arrivals : List Arrival) (given listed first : List Command) (workers dropped : ℕ) (handed : List HandedIn) (e : Ended)
     → AddUpTo p listed handed e.totals → HandInArrivals workers arrivals dropped handed → Lawful e.totals.session.setting e.totals.session.journal
-    → e.dropped ≡ dropped → length e.answers.items ≡ length given → first ≡ commands_of before → listed ≡ first ++ changing given e.answers.items
+    → e.dropped ≡ dropped → length e.answers.items ≡ length given → All FoundMemory e.answers.items → first ≡ commands_of before → listed ≡ first ++ changing given e.answers.items
     → e.reports.items ≡ reports_of e.totals.session.journal → RunsTo p before arrivals given workers e
-runs_to p before arrivals given listed first workers dropped handed e add_up hand_in lawful dropped_is answers first_is listed_is reports_are =
+runs_to p before arrivals given listed first workers dropped handed e add_up hand_in lawful dropped_is answers memory first_is listed_is reports_are =
     let j = e.totals.session.journal in
     let d : HandedIn = record { worker = 0; items = []; abandoned = 0 } in
     let numbered : (n : ℕ) → n < length handed → (get_or handed n d).worker ≡ n = λ n below. hand_in.numbered n d below in
     let sum : sum_by (λ (h : HandedIn). length h.items) handed ≡ length (rows j) = rows_sum e.totals.session.setting j handed d lawful numbered add_up.many add_up.lanes in
     record {
+      setting_is = add_up.setting_is;
       attached = sym add_up.many ∙ hand_in.many;
       keys = add_up.keys_are;
       sums = add_up.sums;
@@ -96,6 +97,7 @@ runs_to p before arrivals given listed first workers dropped handed e add_up han
           subst (λ hs. IsPrefix hs (headers_for w arrivals)) own (hand_in.first w d there);
       whole = omega (arith, add_up.rows_are, add_up.abandoned_are, dropped_is, hand_in.whole, sum_of_rows handed, sum);
       answers = answers;
+      memory = memory;
       commands_are = sym add_up.listed_are ∙ listed_is ∙ ap (λ cs. cs ++ changing given e.answers.items) first_is;
       reports_are = reports_are;
     }

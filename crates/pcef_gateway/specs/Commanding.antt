@@ -1,7 +1,8 @@
 -- Commands with their answers.
-use Rattle.std.specs.Prelude.{◌++◌, List, [], ◌∷◌, Result}
+use Rattle.std.specs.Prelude.{◌≡◌, ◌++◌, List, [], ◌∷◌, Result, Err}
 use Rattle.pcef_model.specs.declared.answer.Accepted.{Accepted}
 use Rattle.pcef_model.specs.declared.answer.Refusal.{Refusal}
+use Rattle.pcef_model.specs.declared.answer.Refusal.TheVariants.{NoMemory}
 use Rattle.pcef_model.specs.declared.command.Command.{Command}
 use Rattle.pcef_lock.specs.Desks.{listed}
 
@@ -9,3 +10,7 @@ use Rattle.pcef_lock.specs.Desks.{listed}
 unfoldable pub changing : List Command → List (Result Accepted Refusal) → List Command
 changing (c ∷ cs) (a ∷ answers) = listed a c [] ++ changing cs answers
 changing cs answers = []
+
+-- the answer of a command that met no want of memory
+abbrev pub FoundMemory : Result Accepted Refusal → Type 0
+FoundMemory answer = answer ≡ Err NoMemory → ⊥

@@ -9,7 +9,7 @@ use Rattle.pcef_lock.specs.Gathering.{AreGathered, HaveLanes, key_totals, rows_a
 use Rattle.pcef_lock.specs.HandedIn.{HandedIn}
 use Rattle.pcef_lock.specs.declared.gathering.Totals.{Totals}
 use Rattle.pcef_gateway.specs.Arriving.{headers_for}
-use Rattle.pcef_gateway.specs.Commanding.{changing}
+use Rattle.pcef_gateway.specs.Commanding.{FoundMemory, changing}
 use Rattle.pcef_gateway.specs.InOrder.{commands_of, lane_headers, reports_of}
 use Rattle.pcef_gateway.specs.declared.arrivals.Arrival.{Arrival}
 use Rattle.pcef_gateway.specs.declared.ended.Ended.{Ended}
@@ -17,6 +17,7 @@ use Rattle.pcef_gateway.specs.declared.fault.RunFault.{RunFault}
 
 -- what the desk and the workers handed in agrees with the journal, and adds up to this
 pub record AddUpTo (p : Setting) (listed : List Command) (handed : List HandedIn) (t : Totals) : Type 0 where
+  pub setting_is : t.session.setting ≡ p
   pub many : length handed ≡ attach_count t.session.journal
   pub lanes : HaveLanes t.session.journal handed
   pub listed_are : listed ≡ commands_of t.session.journal
@@ -41,6 +42,7 @@ FailsBy fault (Err e) = e ≡ fault
 
 -- a session of this setting and journal ran with these packets and commands and so many workers, and came to this
 pub record RunsTo (p : Setting) (before : Journal) (arrivals : List Arrival) (given : List Command) (workers : ℕ) (e : Ended) : Type 0 where
+  pub setting_is : e.totals.session.setting ≡ p
   pub attached : attach_count e.totals.session.journal ≡ workers
   pub keys : e.totals.keys ≡ key_totals p e.totals.session.journal
   pub sums : All (λ k. k.counted ≡ k.reported + k.unreported) e.totals.keys
@@ -49,5 +51,6 @@ pub record RunsTo (p : Setting) (before : Journal) (arrivals : List Arrival) (gi
   pub lanes : (w : ℕ) → w < workers → IsPrefix (lane_headers e.totals.session.journal w) (headers_for w arrivals)
   pub whole : e.totals.rows + e.totals.abandoned + e.dropped ≡ length arrivals
   pub answers : length e.answers.items ≡ length given
+  pub memory : All FoundMemory e.answers.items
   pub commands_are : commands_of e.totals.session.journal ≡ commands_of before ++ changing given e.answers.items
   pub reports_are : e.reports.items ≡ reports_of e.totals.session.journal

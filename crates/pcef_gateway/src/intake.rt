@@ -2,7 +2,7 @@
 
 ghost use Rattle.std.specs.Prelude.{◌≡◌, ◌++◌, ◌<◌, ◌≤◌, ℕ, All, IfOk, [], length, slice_index_or, vec_len};
 ghost use Rattle.pcef_gateway.specs.Arriving.{headers_for};
-ghost use Rattle.pcef_gateway.specs.Commanding.{changing};
+ghost use Rattle.pcef_gateway.specs.Commanding.{FoundMemory, changing};
 ghost use Rattle.pcef_lock.specs.Desks.{listed};
 ghost use Rattle.pcef_gateway.specs.Sending.{HandInTheirs};
 ghost use Rattle.pcef_gateway.specs.Serving.{HandsIn};
@@ -15,7 +15,7 @@ use crate::lent::Lent;
 use crate::line::{Closed, Line};
 use pcef_catalog::{Detects, Offers};
 use pcef_lock::{Desk, Finished, Shared};
-use pcef_model::{Command, Refusal};
+use pcef_model::{AttachFault, Command, Refusal};
 use pcef_publish::{Board, Slot};
 use pcef_share::Naming;
 use pcef_worker::{Gate, Worker};
@@ -50,8 +50,10 @@ pub(crate) fn attach_all<
 {
     let mut all = Vec::new(alloc);
     for number in 0..workers {
-        let Some(worker) = Worker::attach(rt, alloc, shared, Lent::new(gate)).ok() else {
-            return Err(Failure::Attach);
+        let worker = match Worker::attach(rt, alloc, shared, Lent::new(gate)) {
+            Ok(worker) => worker,
+            Err(AttachFault::NoMemory) => return Err(Failure::NoMemory),
+            Err(_) => return Err(Failure::Attach),
         };
         if worker.worker() != number {
             return Err(Failure::Attach);
@@ -114,13 +116,13 @@ fn give<C: Offers + Drop, N: Naming, W: Board<Slot<N>> + Drop, R: Wait>(
     desk: &mut Desk<N>,
     command: Command,
 ) -> Result<Answer, Failure>
-    ensures { IfOk result (λ a. desk.new.commands ≡ listed a command desk.old.commands) }
+    ensures listed { IfOk result (λ a. desk.new.commands ≡ listed a command desk.old.commands) }
+    ensures memory { IfOk result FoundMemory }
 {
-    let answer = desk.command(rt, shared, command);
-    if matches!(answer, Err(Refusal::NoMemory)) {
-        return Err(Failure::NoMemory);
+    match desk.command(rt, shared, command) {
+        Err(Refusal::NoMemory) => Err(Failure::NoMemory),
+        answer => Ok(answer),
     }
-    Ok(answer)
 }
 
 /// Leads packets to the workers and gives the commands meanwhile, which stand evenly among the packets. An answer for
@@ -137,6 +139,7 @@ pub(crate) fn take_in<C: Offers + Drop, N: Naming + Send + Sync, W: Board<Slot<N
     requires known { All (λ a. a.worker < length lines.old) arrivals.now }
     ensures packets { IfOk result (λ _. (w : ℕ) → w < length lines.old → slice_index_or lines.new w [] ≡ slice_index_or lines.old w [] ++ headers_for w arrivals.now) }
     ensures answers { IfOk result (λ v. length v.items ≡ length commands.items) }
+    ensures memory { IfOk result (λ v. All FoundMemory v.items) }
     ensures listed { IfOk result (λ v. desk.new.commands ≡ desk.old.commands ++ changing commands.items v.items) }
 {
     let between = arrivals.len() / (commands.len() + 1);

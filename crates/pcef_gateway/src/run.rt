@@ -10,7 +10,7 @@ ghost use Rattle.pcef_session.specs.Shown.{Shows};
 ghost use Rattle.pcef_share.specs.Names.{name_at};
 ghost use Rattle.pcef_lock.specs.Gathering.{key_totals};
 ghost use Rattle.pcef_gateway.specs.Arriving.{headers_for};
-ghost use Rattle.pcef_gateway.specs.Commanding.{changing};
+ghost use Rattle.pcef_gateway.specs.Commanding.{FoundMemory, changing};
 ghost use Rattle.pcef_gateway.specs.Ending.{AddUpTo, AreGatheredFrom, FailsBy, RunsTo};
 ghost use Rattle.pcef_gateway.specs.InOrder.{commands_of, lane_headers, reports_of};
 ghost use Rattle.pcef_gateway.specs.Sending.{HandInArrivals};
@@ -25,7 +25,7 @@ use crate::lent::Lent;
 use crate::line::Line;
 use pcef_catalog::{Detects, Offers};
 use pcef_lane::MAX_WORKERS;
-use pcef_lock::{Desk, Finished, Shared, State, Totals, commands_so_far, opened};
+use pcef_lock::{Desk, Finished, Shared, SharedFault, State, Totals, commands_so_far, opened};
 use pcef_model::Command;
 use pcef_publish::{Board, Opened, Slot, Writer};
 use pcef_session::SessionState;
@@ -45,8 +45,9 @@ use std::thread::Threads;
 ///
 /// The catalog has to be that of the session, and no worker may ever have come to it: that is the caller's condition.
 /// Answers the first [`RunFault`] in their order for the first two of them, before anything is done; the session is
-/// given up with a fault. Want of memory of a command or a worker ends the run. Takes memory for rings, answers and
-/// reports. Waits for the lock, for places in the rings, and for the workers' threads.
+/// given up with a fault. Want of memory ends the run with [`RunFault::NoMemory`], also where a command or a worker meets
+/// it; where the publication gives no reader that is [`RunFault::Shared`]. Takes memory for rings, answers and reports.
+/// Waits for the lock, for places in the rings, and for the workers' threads.
 pub fn run_session<C: Detects + Drop + Send + Sync, G: Gate + Sync, R: Threads + Wait + Sync>(
     rt: &R,
     alloc: Global,
@@ -59,6 +60,7 @@ pub fn run_session<C: Detects + Drop + Send + Sync, G: Gate + Sync, R: Threads +
 ) -> Result<Ended, RunFault>
     requires fresh { attach_count session.journal ≡ 0 }
     requires offers { C.offers (arc_value catalog) ≡ session.setting.catalog }
+    ensures setting { IfOk result (λ e. e.totals.session.setting ≡ session.setting) }
     ensures attached { IfOk result (λ e. attach_count e.totals.session.journal ≡ workers) }
     ensures keys { IfOk result (λ e. e.totals.keys ≡ key_totals session.setting e.totals.session.journal) }
     ensures sums { IfOk result (λ e. All (λ k. k.counted ≡ k.reported + k.unreported) e.totals.keys) }
@@ -67,6 +69,7 @@ pub fn run_session<C: Detects + Drop + Send + Sync, G: Gate + Sync, R: Threads +
     ensures lanes { IfOk result (λ e. (w : ℕ) → w < workers → IsPrefix (lane_headers e.totals.session.journal w) (headers_for w arrivals.items)) }
     ensures whole { IfOk result (λ e. e.totals.rows + e.totals.abandoned + e.dropped ≡ length arrivals.items) }
     ensures answers { IfOk result (λ e. length e.answers.items ≡ length commands.items) }
+    ensures memory { IfOk result (λ e. All FoundMemory e.answers.items) }
     ensures commands { IfOk result (λ e. commands_of e.totals.session.journal ≡ commands_of session.journal ++ changing commands.items e.answers.items) }
     ensures reports { IfOk result (λ e. e.reports.items ≡ reports_of e.totals.session.journal) }
     ensures workers { FailsBy Workers result ↔ ((workers ≡ 0) ⊎ (16 < workers)) }
@@ -104,7 +107,7 @@ fn run_known<C: Detects + Drop + Send + Sync, G: Gate + Sync, R: Threads + Wait 
     ensures { IfOk result (λ e. RunsTo session.setting session.journal arrivals.now commands.items workers e) }
 {
     let Ok(opened) = opened(&session) else {
-        return Err(Failure::Shared);
+        return Err(Failure::NoMemory);
     };
     run_named::<C, Brand, G, R>(
         rt,
@@ -184,10 +187,11 @@ fn lock<C: Offers + Drop, N: Naming, R: Wait + Drop>(
     ensures { IfOk result (λ r. r.1.commands ≡ commands_of session.journal) }
 {
     let Ok(commands) = commands_so_far(alloc, &session) else {
-        return Err(Failure::Shared);
+        return Err(Failure::NoMemory);
     };
     match State::<N, _>::open(rt, alloc, session, opened, blanks, workers) {
         Ok((state, shares)) => Ok((Shared::new(catalog, state), Desk::new(commands, shares))),
+        Err((_, SharedFault::NoMemory)) => Err(Failure::NoMemory),
         Err(_) => Err(Failure::Shared),
     }
 }
@@ -212,6 +216,7 @@ fn run_workers<
     requires new { All (λ w. taken w ≡ []) attached.items }
     requires known { All (λ a. a.worker < vec_len attached) arrivals.now }
     ensures answers { IfOk result (λ w. length w.answers.items ≡ length commands.items) }
+    ensures memory { IfOk result (λ w. All FoundMemory w.answers.items) }
     ensures desk { IfOk result (λ w. w.desk.commands ≡ desk.commands ++ changing commands.items w.answers.items) }
     ensures handed { IfOk result (λ w. HandInArrivals (vec_len attached.entry) arrivals.now w.handed.dropped w.handed.finished.items) }
 {
@@ -223,6 +228,7 @@ fn run_workers<
             requires new { All (λ w. taken w ≡ []) attached.items }
             requires known { All (λ a. a.worker < vec_len attached) arrivals.now }
             ensures answers { IfOk result (λ w. length w.answers.items ≡ length commands.items) }
+            ensures memory { IfOk result (λ w. All FoundMemory w.answers.items) }
             ensures desk { IfOk result (λ w. w.desk.commands ≡ desk.commands ++ changing commands.items w.answers.items) }
             ensures handed { IfOk result (λ w. HandInArrivals (vec_len attached.entry) arrivals.entry.now w.handed.dropped w.handed.finished.items) }
         {
@@ -246,6 +252,7 @@ fn lead<C: Offers + Drop, N: Naming + Send + Sync, W: Board<Slot<N>> + Drop, R: 
     requires empty { All (λ line. line ≡ []) lines.items }
     requires known { All (λ a. a.worker < vec_len lines) arrivals.now }
     ensures answers { IfOk result (λ w. length w.answers.items ≡ length commands.items) }
+    ensures memory { IfOk result (λ w. All FoundMemory w.answers.items) }
     ensures desk { IfOk result (λ w. w.desk.commands ≡ desk.commands ++ changing commands.items w.answers.items) }
     ensures handed { IfOk result (λ w. HandInArrivals (vec_len lines) arrivals.now w.handed.dropped w.handed.finished.items) }
 {

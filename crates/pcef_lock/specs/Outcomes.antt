@@ -1,5 +1,5 @@
 -- What the value behind a session's lock answers, and the journal after it.
-use Rattle.std.specs.Prelude.{ℕ, ◌≡◌, ◌⊎◌, ◌+◌, false, List, Result, Ok, Err, map}
+use Rattle.std.specs.Prelude.{ℕ, ◌≡◌, ◌≢◌, ◌⊎◌, ◌+◌, false, List, Result, Ok, Err, map}
 use Rattle.pcef_model.specs.Setting.{Setting}
 use Rattle.pcef_model.specs.Entries.{Journal}
 use Rattle.pcef_model.specs.Outcomes.{AttachStep, FinishStep, FlushStep, Gives, FlushAnswer, judged_of}
@@ -13,10 +13,10 @@ use Rattle.pcef_session.specs.Following.{row_of}
 use Rattle.pcef_share.specs.Amounts.{Account}
 use Rattle.pcef_lock.specs.Lanes.{continues_lane}
 
--- a worker comes, unless all places were taken
+-- a worker comes as to any session; where all places were taken, there is none
 abbrev pub SeatStep : ℕ → ℕ → Journal → Result ℕ AttachFault → Journal → Type 0
 SeatStep issued places before result after =
-    AttachStep before result after ⊎ ((issued ≡ places + 1) × Gives (Err NoPlace, before) result after)
+    (issued ≡ places + 1 → Gives (Err NoPlace, before) result after) × (issued ≢ places + 1 → AttachStep before result after)
 
 -- a share more is issued where a worker came
 abbrev pub with_share : {A E : Type 0} → Result A E → Account → Account

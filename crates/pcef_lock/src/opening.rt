@@ -19,7 +19,7 @@ use std::alloc::{AllocError, Global};
 use std::sync::{Arc, Wait};
 use thiserror::Error;
 
-/// Why a session didn't come behind a lock. The reasons are looked for in this order.
+/// Why a session didn't come behind a lock. `Places` is looked for first.
 #[derive(Clone, Copy, Debug, PartialEq, Eq, Error)]
 pub enum SharedFault {
     /// There is to be no worker, or more than sixteen.
@@ -67,7 +67,7 @@ impl<N: Naming, R: Wait + Drop> State<N, Writer<N, R>> {
     /// The value behind the lock of a session, with so many places for workers, and the shares of its desk, which hold
     /// the session's commands so far. The condition of the caller: no worker ever came to the session, and the name is
     /// that of the session, of the blanks and of a history that was opened with the session's newest table. The
-    /// session comes back with the first fault in the order of [`SharedFault`]; the opened history is then lost. Takes
+    /// session comes back with a fault; the opened history is then lost. Takes
     /// memory. May wait for readers.
     pub fn open(
         rt: R,

@@ -160,6 +160,7 @@ impl<C: Offers + Drop, N: Naming, W: Board<Slot<N>> + Drop> Shared<C, N, W> {
         finished: Vec<Finished<N>>,
     ) -> Result<Totals, Ungathered<C, N, W>>
         requires { length finished.items ≤ 16 }
+        ensures setting { IfOk result (λ t. t.session.setting ≡ N.setting) }
         ensures workers { IfOk result (λ t. length finished.items ≡ attach_count t.session.journal) }
         ensures lanes { IfOk result (λ t. HaveLanes t.session.journal finished.items) }
         ensures desk { IfOk result (λ t. desk.commands ≡ reverse (commands t.session.journal)) }

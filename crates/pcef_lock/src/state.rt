@@ -139,6 +139,7 @@ impl<N: Naming, W: Board<Slot<N>> + Drop> State<N, W> {
     pub fn command(&mut self, shares: &mut Shares<N>, command: Command) -> Result<Accepted, Refusal>
         ensures answer { CommandStep N.setting command self.old.session.journal result self.new.session.journal }
         ensures tables { IsPrefix self.old.tables self.new.tables }
+        ensures refused { IfErr result (λ _. self.new.tables ≡ self.old.tables) }
         ensures books { self.new.books ≡ record self.old.books { totals = with_command result self.old.books.totals } }
         ensures places { self.new.places ≡ self.old.places }
         ensures shares { shares.new ≡ with_command result shares.old }

@@ -1,13 +1,18 @@
 -- A run of a plan (own choice).
-use Rattle.std.specs.Prelude.{ℕ, ◌≡◌, ◌+◌, Bool, true, false, List, [], ◌∷◌, length, Result, Ok, Err}
+use Rattle.std.specs.Prelude.{ℕ, ◌≡◌, ◌≢◌, ◌+◌, Bool, true, false, List, [], ◌∷◌, All, length, Some, Result, Ok, Err}
 use Rattle.std.specs.List.{count_by}
 use Rattle.pcef_model.specs.declared.answer.Accepted.{Accepted}
 use Rattle.pcef_model.specs.declared.answer.Refusal.{Refusal}
 use Rattle.pcef_model.specs.declared.command.Command.{Command}
 use Rattle.pcef_model.specs.Entries.{Journal}
 use Rattle.pcef_model.specs.Outcomes.{CommandStep}
+use Rattle.pcef_model.specs.Refusals.{first_of, open_faults}
 use Rattle.pcef_model.specs.Setting.{Setting}
+use Rattle.pcef_gateway.specs.Commanding.{FoundMemory}
 use Rattle.pcef_gateway.specs.Ending.{RunsTo}
+use Rattle.pcef_gateway.specs.declared.fault.RunFault.TheVariants.{NoMemory}
+use Rattle.pcef_run.specs.declared.fault.RunEnd.{RunEnd}
+use Rattle.pcef_run.specs.declared.fault.RunEnd.TheVariants as run
 use Rattle.pcef_run.specs.declared.plan.Plan.{Plan}
 use Rattle.pcef_run.specs.declared.run.Ran.{Ran}
 
@@ -33,5 +38,11 @@ accepted_of ran = count_by is_accepted ran.answers.items + count_by is_accepted 
 -- a new session is given the commands before the first packet, and then runs with the packets and the other commands
 abbrev pub RunsPlan : Setting → Plan → ℕ → Ran → Type 0
 RunsPlan p plan workers ran =
-    (between : Journal) × Obeyed p [] plan.first.items ran.answers.items between
+    (between : Journal) × Obeyed p [] plan.first.items ran.answers.items between × All FoundMemory ran.answers.items
     × RunsTo p between plan.arrivals.items plan.later.items workers ran.ended
+
+-- why a plan isn't run to its end: the first fault of its profile, a fault of the run, or want of memory
+abbrev pub EndsPlan : Setting → RunEnd → Type 0
+EndsPlan p (run.Open fault) = first_of (open_faults p) ≡ Some fault
+EndsPlan p (run.Run fault) = fault ≢ NoMemory
+EndsPlan p run.NoMemory = Unit {0}

@@ -1,7 +1,8 @@
 //! Commands that a session is given before it runs.
 
-ghost use Rattle.std.specs.Prelude.{◌≡◌, IfOk};
+ghost use Rattle.std.specs.Prelude.{◌≡◌, All, IfOk};
 ghost use Rattle.std.specs.List.{count_by};
+ghost use Rattle.pcef_gateway.specs.Commanding.{FoundMemory};
 ghost use Rattle.pcef_run.specs.Runs.{Obeyed, is_accepted};
 
 use pcef_gateway::Answer;
@@ -16,15 +17,15 @@ pub(crate) fn obey(
     commands: Vec<Command>,
 ) -> Result<Vec<Answer>, AllocError>
     ensures answers { IfOk result (λ v. Obeyed session.old.setting session.old.journal commands.items v.items session.new.journal) }
+    ensures memory { IfOk result (λ v. All FoundMemory v.items) }
     ensures setting { session.new.setting ≡ session.old.setting }
 {
     let mut answers = Vec::new(alloc);
     for command in commands {
-        let answer = session.command(command);
-        if matches!(answer, Err(Refusal::NoMemory)) {
-            return Err(AllocError);
+        match session.command(command) {
+            Err(Refusal::NoMemory) => return Err(AllocError),
+            answer => answers.push(answer)?,
         }
-        answers.push(answer)?;
     }
     Ok(answers)
 }

@@ -11,7 +11,7 @@ use pcef_line::Line;
 use pcef_model::{Command, Step};
 use std::alloc::{AllocError, Global};
 
-/// What an input asks of a run: commands, then packets with commands among them.
+/// What an input asks of a run: commands, then packets and, apart from these, the commands after the first of them.
 #[derive(Drop)]
 pub struct Plan {
     /// The commands that stand before the first packet.

@@ -1,9 +1,10 @@
 //! Runs a plan.
 
-ghost use Rattle.std.specs.Prelude.{◌≡◌, [], IfOk};
+ghost use Rattle.std.specs.Prelude.{◌≡◌, [], IfErr, IfOk};
 ghost use Rattle.std.specs.Arc.{arc_value};
+ghost use Rattle.pcef_model.specs.Setting.{Setting};
 ghost use Rattle.pcef_model.specs.Terms.{setting_of};
-ghost use Rattle.pcef_run.specs.Runs.{RunsPlan, accepted_of, commands_of};
+ghost use Rattle.pcef_run.specs.Runs.{EndsPlan, RunsPlan, accepted_of, commands_of};
 
 use crate::fault::RunEnd;
 use crate::obeying::{accepted_among, obey};
@@ -43,7 +44,8 @@ impl Ran {
 }
 
 fn open<C: Offers>(alloc: Global, profile: Profile, catalog: &C) -> Result<SessionState, RunEnd>
-    ensures { IfOk result (λ s. (s.setting ≡ setting_of profile (C.offers catalog.now)) × (s.journal ≡ [])) }
+    ensures made { IfOk result (λ s. (s.setting ≡ setting_of profile (C.offers catalog.now)) × (s.journal ≡ [])) }
+    ensures fault { IfErr result (EndsPlan (setting_of profile (C.offers catalog.now))) }
 {
     let Ok(listing) = catalog.listing().share() else {
         return Err(RunEnd::NoMemory);
@@ -55,7 +57,9 @@ fn open<C: Offers>(alloc: Global, profile: Profile, catalog: &C) -> Result<Sessi
     }
 }
 
-fn run_fault(fault: RunFault) -> RunEnd {
+fn run_fault(fault: RunFault) -> RunEnd
+    ensures { (p : Setting) → EndsPlan p result }
+{
     match fault {
         RunFault::NoMemory => RunEnd::NoMemory,
         _ => RunEnd::Run(fault),
@@ -64,7 +68,8 @@ fn run_fault(fault: RunFault) -> RunEnd {
 
 /// Opens a session of a profile, gives it the commands that stand before the first packet, and then runs it with so many
 /// workers, each in a thread of its own, to which the packets go, while the other commands are given
-/// ([`pcef_gateway::run_session`]). Takes memory. Waits for the workers.
+/// ([`pcef_gateway::run_session`]). Answers the first fault of the profile, a fault of the run, or want of memory; the
+/// session is then given up. Takes memory. Waits for the workers.
 pub fn run_plan<C: Detects + Drop + Send + Sync, R: Threads + Wait + Sync>(
     rt: &R,
     alloc: Global,
@@ -73,7 +78,8 @@ pub fn run_plan<C: Detects + Drop + Send + Sync, R: Threads + Wait + Sync>(
     plan: Plan,
     workers: u8,
 ) -> Result<Ran, RunEnd>
-    ensures { IfOk result (λ ran. RunsPlan (setting_of profile (C.offers (arc_value catalog))) plan workers ran) }
+    ensures ran { IfOk result (RunsPlan (setting_of profile (C.offers (arc_value catalog))) plan workers) }
+    ensures fault { IfErr result (EndsPlan (setting_of profile (C.offers (arc_value catalog)))) }
 {
     let Plan {
         first,

@@ -29,7 +29,7 @@ fn two_counted<R: Threads + Wait + Sync>(
 fn is_of_memory(fault: RunFault) -> bool {
     !matches!(
         fault,
-        RunFault::Workers | RunFault::StrangeWorker | RunFault::Gather
+        RunFault::Workers | RunFault::StrangeWorker | RunFault::Attach | RunFault::Gather
     )
 }
 

@@ -56,7 +56,7 @@ impl Meeting {
     /// Says that the one came, and waits for the other.
     fn comes(&self, own: &AtomicBool, other: &AtomicBool) {
         own.store(true, Ordering::SeqCst);
-        for _ in 0..1_000_000u32 {
+        for _ in 0..10_000_000u32 {
             if other.load(Ordering::SeqCst) {
                 return;
             }
@@ -115,7 +115,7 @@ impl Gate for Delay {
             return;
         }
         self.begun.store(true, Ordering::SeqCst);
-        for _ in 0..1_000u32 {
+        for _ in 0..100_000u32 {
             yield_now();
         }
     }

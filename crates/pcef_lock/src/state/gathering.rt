@@ -108,6 +108,7 @@ impl<N: Naming, W: Board<Slot<N>> + Drop> State<N, W> {
     ) -> Result<Totals, StateUngathered<N, W>>
         requires { length finished.items ≤ 16 }
         ensures session { IfOk result (λ t. t.session ≡ self.session) }
+        ensures setting { IfOk result (λ t. t.session.setting ≡ N.setting) }
         ensures workers { IfOk result (λ _. length finished.items ≡ attach_count self.session.journal) }
         ensures lanes { IfOk result (λ _. HaveLanes self.session.journal finished.items) }
         ensures desk { IfOk result (λ _. desk.commands ≡ reverse (commands self.session.journal)) }

@@ -9,7 +9,7 @@ use Rattle.pcef_gateway.proofs.intake.attach_all.Goals as goal
 pub loop-number-preserved : goal.loop-number-preserved
 loop-number-preserved g c =
     let all = c.loop-number.all in
-    let worker = c.in-Some.worker in
+    let worker = c.in-Ok.worker in
     let New : WorkerModel → Type 0 = λ w. taken w ≡ [] in
     let waiting : worker.waiting ≡ [] = search rules in
     let rows : worker.rows ≡ [] = search rules in

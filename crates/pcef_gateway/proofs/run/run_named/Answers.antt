@@ -1,5 +1,10 @@
-use Rattle.std.proofs.Common.{rules, ◌≡◌, length, subst, sym}
+use Rattle.std.proofs.Common.{rules, ◌≡◌, All, length, subst, sym}
+use Rattle.std.specs.Prelude.{Result, Vec}
+use Rattle.std.specs.declared.alloc.Global.{Global}
+use Rattle.pcef_model.specs.declared.answer.Accepted.{Accepted}
+use Rattle.pcef_model.specs.declared.answer.Refusal.{Refusal}
 use Rattle.pcef_model.specs.Setting.{Setting}
+use Rattle.pcef_gateway.specs.Commanding.{FoundMemory}
 use Rattle.pcef_gateway.specs.Ending.{AddUpTo}
 use Rattle.pcef_gateway.specs.Sending.{HandInArrivals}
 use Rattle.pcef_gateway.proofs.Ends.{runs_to}
@@ -18,5 +23,6 @@ returns g c =
     let hand_in : HandInArrivals c.args.workers c.args.arrivals.now worked.handed.dropped handed =
     subst (λ n. HandInArrivals n c.args.arrivals.now worked.handed.dropped handed) c.in_ok-attached.ensures.many c.in_ok-worked.ensures.handed in
     runs_to p before c.args.arrivals.now c.args.commands.items listed _ c.args.workers worked.handed.dropped handed ended
-    add_up hand_in c.in_ok-ended.ensures.lawful c.in_ok-ended.ensures.rest.0 (search rules) c.in_ok-shared.ensures
+    add_up hand_in c.in_ok-ended.ensures.lawful c.in_ok-ended.ensures.rest.0 (search rules)
+    (subst (λ (v : Vec (Result Accepted Refusal) Global). All FoundMemory v.items) (sym c.in_ok-ended.ensures.rest.1) c.in_ok-worked.ensures.memory) c.in_ok-shared.ensures
     (rw (sym c.in_ok-ended.ensures.rest.1) at c.in_ok-worked.ensures.desk) c.in_ok-ended.ensures.reports

@@ -1,4 +1,4 @@
-use Rattle.std.proofs.Common.{rules, ◌≡◌, ◌≤◌, ◌<◌, ◌+◌, ◌-◌, ◌∙◌, ap, arith, inl, length, sym}
+use Rattle.std.proofs.Common.{rules, ◌≡◌, ◌≤◌, ◌<◌, ◌+◌, ◌-◌, ◌∙◌, ap, arith, length, sym}
 use Rattle.std.specs.Prelude.{slice_set}
 use Rattle.std.proofs.lemmas.List.{length_push}
 use Rattle.pcef_model.specs.Setting.{Setting}
@@ -10,7 +10,13 @@ use Rattle.pcef_lock.proofs.state.State.attach.Goals as goal
 
 pub returns-in-Some-clause-answer : goal.returns-in-Some-clause-answer
 returns-in-Some-clause-answer g c =
-    rw (← ap (λ v. v.session.journal) c.self.view_is) (inl (attach_refused c.self.inside.session.journal c.in-Some.fault (sym c.in-Some.ensures)))
+    let room : c.self.inside.books.issued ≤ c.self.inside.places = search rules in
+    let issued = ap (λ v. v.books.issued) c.self.view_is in
+    let places = ap (λ v. v.places) c.self.view_is in
+    rw (← ap (λ v. v.session.journal) c.self.view_is) (
+      (λ full. absurd (omega (arith, room, issued, places, full))),
+      λ _. attach_refused c.self.inside.session.journal c.in-Some.fault (sym c.in-Some.ensures),
+    )
 
 pub invariant_of-self-in-Err : goal.invariant_of-self-in-Err
 invariant_of-self-in-Err g c =
