@@ -19,7 +19,8 @@ use Rattle.pcef_script.specs.Scripts.{Wrote, all_lines}
 use Rattle.pcef_cli.specs.declared.end.End.{End}
 use Rattle.pcef_cli.specs.declared.end.End.TheVariants as ending
 use Rattle.pcef_cli.specs.Ends.{end_status, lines_end, profile_end, script_end, unread_end}
-use Rattle.pcef_cli.specs.Programs.{Ends, IsWhole, RanScript, Text}
+use Rattle.pcef_cli.specs.PlanRuns.{RanPlan}
+use Rattle.pcef_cli.specs.Programs.{Ends, IsWhole, IsWholeRun, IsWholeScript, Ran, RanScript, Text}
 
 -- ---- statuses
 pub status_most : (e : End) → end_status e ≤ 4
@@ -32,6 +33,8 @@ status_most ending.NoProfile = omega arith
 status_most ending.Read = omega arith
 status_most ending.TooMuch = omega arith
 status_most ending.Write = omega arith
+status_most (ending.Line text) = omega arith
+status_most (ending.Run fault) = omega arith
 
 not_zero : (n : ℕ) → 0 < n → n ≡ 0 → ⊥
 not_zero n some is = omega (arith, some, is)
@@ -67,7 +70,7 @@ unread_status OutOfMemory is = not_zero 3 (omega arith) is
 unread_status kind is = not_zero 4 (omega arith) is
 
 ran_whole : (offers : List Offer) (text : String Global) (terms : Terms) (end : End) (before left old new : Option (List ℕ)) → GivesTerms (Ok terms) (ProfileOf (string_bytes text))
-    → RanScript (setting_of terms offers) end before left old new → end_status end ≡ 0 → IsWhole offers (Some (Ok text)) before left old new
+    → RanScript (setting_of terms offers) end before left old new → end_status end ≡ 0 → IsWholeScript offers (Some (Ok text)) before left old new
 ran_whole offers text terms end before left old new gives (result, opened, written, runs, kept, inr is) zero = absurd (not_zero 4 (omega arith) (sym (ap end_status is) ∙ zero))
 ran_whole offers text terms end before left old new gives (Err fault, opened, written, runs, kept, inl is) zero = absurd (fault_status fault (sym (ap end_status is) ∙ zero))
 ran_whole offers text terms end before left old new gives (Ok faults, opened, written, runs, kept, inl is) zero =
@@ -75,8 +78,28 @@ ran_whole offers text terms end before left old new gives (Ok faults, opened, wr
     let wrote : Wrote (setting_of terms offers) (all_lines runs.0) 0 old written = subst (λ n. Wrote (setting_of terms offers) (all_lines runs.0) n old written) none runs.3.1 in
     (text, terms, runs.0, refl, gives, runs.1, runs.3.0, (wrote.0, wrote.1, wrote.2, Appends-kept old written new wrote.0 wrote.3 kept))
 
-pub whole_ended : (offers : List Offer) (asked : Option Text) (end : End) (before left old new : Option (List ℕ)) → Ends offers asked end before left old new → end_status end ≡ 0 → IsWhole offers asked before left old new
-whole_ended offers None end before left old new h zero = absurd (not_zero 2 (omega arith) (sym (ap end_status h.0) ∙ zero))
-whole_ended offers (Some (Err error)) end before left old new h zero = absurd (unread_status (error_kind error) (sym (ap end_status h.0) ∙ zero))
-whole_ended offers (Some (Ok text)) end before left old new (Ok terms, gives, ran) zero = ran_whole offers text terms end before left old new gives ran zero
-whole_ended offers (Some (Ok text)) end before left old new (Err fault, gives, ended) zero = absurd (profile_status fault (sym (ap end_status ended.0) ∙ zero))
+run_whole : (offers : List Offer) (text : String Global) (terms : Terms) (workers : ℕ) (end : End) (before left old new : Option (List ℕ)) → GivesTerms (Ok terms) (ProfileOf (string_bytes text))
+    → RanPlan (setting_of terms offers) workers end before left old new → end_status end ≡ 0 → IsWholeRun offers workers (Some (Ok text)) before left old new
+run_whole offers text terms workers ending.Done before left old new gives ran zero = (text, terms, refl, gives, ran)
+run_whole offers text terms workers ending.LinesAtFault before left old new gives ran zero = absurd ran
+run_whole offers text terms workers (ending.Profile fault) before left old new gives ran zero = absurd (not_zero 1 (omega arith) zero)
+run_whole offers text terms workers ending.Usage before left old new gives ran zero = absurd ran
+run_whole offers text terms workers ending.NoMemory before left old new gives ran zero = absurd (not_zero 3 (omega arith) zero)
+run_whole offers text terms workers ending.NoProfile before left old new gives ran zero = absurd ran
+run_whole offers text terms workers ending.Read before left old new gives ran zero = absurd (not_zero 4 (omega arith) zero)
+run_whole offers text terms workers ending.TooMuch before left old new gives ran zero = absurd (not_zero 4 (omega arith) zero)
+run_whole offers text terms workers ending.Write before left old new gives ran zero = absurd (not_zero 4 (omega arith) zero)
+run_whole offers text terms workers (ending.Line said) before left old new gives ran zero = absurd (not_zero 1 (omega arith) zero)
+run_whole offers text terms workers (ending.Run fault) before left old new gives ran zero = absurd (not_zero 4 (omega arith) zero)
+
+as_asked : (offers : List Offer) (workers : Option ℕ) (text : String Global) (terms : Terms) (end : End) (before left old new : Option (List ℕ)) → GivesTerms (Ok terms) (ProfileOf (string_bytes text))
+    → Ran workers (setting_of terms offers) end before left old new → end_status end ≡ 0 → IsWhole offers workers (Some (Ok text)) before left old new
+as_asked offers None text terms end before left old new gives ran zero = ran_whole offers text terms end before left old new gives ran zero
+as_asked offers (Some workers) text terms end before left old new gives ran zero = run_whole offers text terms workers end before left old new gives ran zero
+
+pub whole_ended : (offers : List Offer) (workers : Option ℕ) (asked : Option Text) (end : End) (before left old new : Option (List ℕ))
+    → Ends offers workers asked end before left old new → end_status end ≡ 0 → IsWhole offers workers asked before left old new
+whole_ended offers workers None end before left old new h zero = absurd (not_zero 2 (omega arith) (sym (ap end_status h.0) ∙ zero))
+whole_ended offers workers (Some (Err error)) end before left old new h zero = absurd (unread_status (error_kind error) (sym (ap end_status h.0) ∙ zero))
+whole_ended offers workers (Some (Ok text)) end before left old new (Ok terms, gives, ran) zero = as_asked offers workers text terms end before left old new gives ran zero
+whole_ended offers workers (Some (Ok text)) end before left old new (Err fault, gives, ended) zero = absurd (profile_status fault (sym (ap end_status ended.0) ∙ zero))

@@ -1,13 +1,20 @@
 -- How the program ends (own choice): its exit status, and what is said of it on the writer for faults.
-use Rattle.std.specs.Prelude.{ℕ, ◌+◌, ◌==◌, List, [], ◌∷◌, ◌++◌, codes, Result, Ok, Err, if◌then◌else◌}
+use Rattle.std.specs.Prelude.{ℕ, ◌≡◌, ◌⊎◌, ◌+◌, ◌==◌, List, [], ◌∷◌, ◌++◌, String, codes, decimal, string_bytes, Result, Ok, Err, if◌then◌else◌}
+use Rattle.std.specs.declared.alloc.Global.{Global}
 use Rattle.std.specs.declared.io.ErrorKind.{ErrorKind}
 use Rattle.std.specs.declared.io.ErrorKind.TheVariants.{OutOfMemory}
+use Rattle.pcef_model.specs.declared.answer.OpenFault.{OpenFault}
 use Rattle.pcef_model.specs.declared.answer.OpenFault.TheVariants as opening
 use Rattle.pcef_profile.specs.ProfileOf.{fault_number}
 use Rattle.pcef_profile.specs.declared.fault.ReadProfileFault.{ReadProfileFault}
 use Rattle.pcef_profile.specs.declared.fault.ReadProfileFault.TheVariants as profile
 use Rattle.pcef_script.specs.declared.fault.ScriptFault.{ScriptFault}
 use Rattle.pcef_script.specs.declared.fault.ScriptFault.TheVariants as script
+use Rattle.pcef_gateway.specs.Faults.{number_of}
+use Rattle.pcef_run.specs.declared.fault.PlanFault.{PlanFault}
+use Rattle.pcef_run.specs.declared.fault.PlanFault.TheVariants as plan
+use Rattle.pcef_run.specs.declared.fault.RunEnd.{RunEnd}
+use Rattle.pcef_run.specs.declared.fault.RunEnd.TheVariants as run
 use Rattle.pcef_cli.specs.declared.end.End.{End}
 use Rattle.pcef_cli.specs.declared.end.End.TheVariants as end
 
@@ -21,6 +28,8 @@ end_status end.NoProfile = 4
 end_status end.Read = 4
 end_status end.TooMuch = 4
 end_status end.Write = 4
+end_status (end.Line text) = 1
+end_status (end.Run fault) = 4
 
 -- a line, or nothing
 abbrev pub end_text : End → List ℕ
@@ -33,6 +42,8 @@ end_text end.NoProfile = codes "read fault" ++ 10 ∷ []
 end_text end.Read = codes "read fault" ++ 10 ∷ []
 end_text end.TooMuch = codes "read fault" ++ 10 ∷ []
 end_text end.Write = codes "write fault" ++ 10 ∷ []
+end_text (end.Line text) = string_bytes text
+end_text (end.Run fault) = codes "run fault " ++ (48 + number_of fault) ∷ 10 ∷ []
 
 -- a profile that can't be had
 abbrev pub profile_end : ReadProfileFault → End
@@ -57,3 +68,24 @@ script_end (Err script.NoMemory) = end.NoMemory
 script_end (Err (script.Profile opening.UnknownQci)) = end.Profile profile.UnknownQci
 script_end (Err (script.Profile opening.DefaultIsGbr)) = end.Profile profile.DefaultIsGbr
 script_end (Err (script.Profile opening.NoMemory)) = end.NoMemory
+
+-- ---- a run
+abbrev pub line_text : ℕ → List ℕ
+line_text number = codes "line " ++ (decimal number ++ codes " fault\n")
+
+-- an input that is no plan; there may be no memory to say which line is at fault
+abbrev pub IsPlanEnd : PlanFault → End → Type 0
+IsPlanEnd plan.Read e = e ≡ end.Read
+IsPlanEnd plan.TooMuch e = e ≡ end.TooMuch
+IsPlanEnd plan.NoMemory e = e ≡ end.NoMemory
+IsPlanEnd (plan.Line number) e = ((text : String Global) × (e ≡ end.Line text) × (string_bytes text ≡ line_text number)) ⊎ (e ≡ end.NoMemory)
+
+abbrev pub open_end : OpenFault → End
+open_end opening.UnknownQci = end.Profile profile.UnknownQci
+open_end opening.DefaultIsGbr = end.Profile profile.DefaultIsGbr
+open_end opening.NoMemory = end.NoMemory
+
+abbrev pub run_end : RunEnd → End
+run_end (run.Open fault) = open_end fault
+run_end (run.Run fault) = end.Run fault
+run_end run.NoMemory = end.NoMemory

@@ -1,4 +1,6 @@
 pub mod BuiltIn
 pub mod Ends
+pub mod PlanRuns
 pub mod Programs
 pub mod Telling
+pub mod Words

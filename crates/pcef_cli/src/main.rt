@@ -3,6 +3,7 @@
 
 mod built_in;
 mod end;
+mod plan_run;
 mod program;
 mod telling;
 mod words;
@@ -19,15 +20,22 @@ use built_in::{
 };
 use pcef_catalog::{Catalog, Detect, Predefined};
 use pcef_packet::Header;
+use pcef_run::{Storing, Taken};
+use pcef_trigger::{Outlet, ReportKind, Reporter};
 use program::program;
 use std::alloc::AllocError;
 use std::io::{self, BufWriter};
 use std::process::ExitCode;
-use std::sync::Arc;
+use std::sync::{Arc, Wait};
+use std::thread::Threads;
 use words::{profile_of, words};
 
-/// Runs the program, whose catalog has the built-in rules.
-fn run_with(rt: &HostRuntime, catalog: Arc<Catalog>) -> io::Result<u8>
+/// Runs the program, whose catalog has the built-in rules, with a stored reporter of each kind.
+fn run_with<T: Threads + Wait + Sync>(
+    threads: &T,
+    rt: &HostRuntime,
+    catalog: Arc<Catalog>,
+) -> io::Result<u8>
     requires { offers_of (arc_value catalog) ≡ built_in_offers }
     ensures { IfOk result (λ status. status ≤ 4) }
 {
@@ -37,11 +45,24 @@ fn run_with(rt: &HostRuntime, catalog: Arc<Catalog>) -> io::Result<u8>
     let mut reader = rt.stdin();
     let mut writer = BufWriter::new(alloc, io::writer(rt))?;
     let mut faults = rt.stderr();
+    let taken = Arc::new(alloc, Taken::new())?;
+    let mut reporters = Vec::with_capacity(alloc, 3)?;
+    for kind in [ReportKind::Usage, ReportKind::Access, ReportKind::Inactive] {
+        let storing = Storing::new(alloc, kind, Arc::try_clone(&taken)?);
+        let reporter: Box<dyn Reporter + Send> = Box::new(alloc, storing)?;
+        reporters.push((kind, reporter))?;
+    }
+    let Ok(outlet) = Outlet::new(reporters) else {
+        return Err(AllocError.into());
+    };
     Ok(program(
+        threads,
         alloc,
         &words,
         &profile,
         catalog,
+        outlet,
+        &taken,
         &mut reader,
         &mut writer,
         &mut faults,
@@ -49,7 +70,7 @@ fn run_with(rt: &HostRuntime, catalog: Arc<Catalog>) -> io::Result<u8>
 }
 
 /// Makes the built-in catalog, and runs the program with it.
-fn run(rt: &HostRuntime) -> io::Result<u8>
+fn run<T: Threads + Wait + Sync>(threads: &T, rt: &HostRuntime) -> io::Result<u8>
     ensures { IfOk result (λ status. status ≤ 4) }
 {
     let alloc = rt.alloc();
@@ -78,14 +99,14 @@ fn run(rt: &HostRuntime) -> io::Result<u8>
     let Ok(catalog) = Catalog::new(alloc, rules) else {
         return Err(AllocError.into());
     };
-    run_with(rt, Arc::new(alloc, catalog)?)
+    run_with(threads, rt, Arc::new(alloc, catalog)?)
 }
 
 /// Runs the program and gives its exit status. What keeps it from starting is told as want of memory.
-fn status(rt: &HostRuntime) -> u8
+fn status<T: Threads + Wait + Sync>(threads: &T, rt: &HostRuntime) -> u8
     ensures { result ≤ 4 }
 {
-    match run(rt) {
+    match run(threads, rt) {
         Ok(status) => status,
         Err(_) => {
             let _ = eprintln!(rt; "want of memory");
@@ -95,7 +116,7 @@ fn status(rt: &HostRuntime) -> u8
 }
 
 fn main(rt: HostRuntime) -> ExitCode {
-    ExitCode::from(status(&rt))
+    ExitCode::from(status(&rt, &rt))
 }
 
 #[cfg(test)]

@@ -1,16 +1,15 @@
 //! Whoever writes a line and waits gets its answer.
 
-use super::program;
-use super::tests::octets;
+use super::tests::{octets, program_on};
 use crate::tests::PROFILE;
-use pcef_catalog::Catalog;
 use std::alloc::Global;
 use std::cell::Cell;
 use std::io;
 use std::io::{Read, Write};
 use std::rc::Rc;
-use std::sync::Arc;
+use std::sync::Wait;
 use std::test::Fail;
+use std::thread::Threads;
 
 /// Writes to a place where the reader looks: how many octets it was given, and how many of these are flushed.
 #[derive(Drop)]
@@ -59,10 +58,13 @@ impl Read for Asking {
 }
 
 /// The exit status for who asks, the number of lines that were read, and what was said of faults.
-fn ask(alloc: Global, can_flush: bool) -> Result<(u8, u64, String), Fail> {
+fn ask<T: Threads + Wait + Sync>(
+    rt: &T,
+    alloc: Global,
+    can_flush: bool,
+) -> Result<(u8, u64, String), Fail> {
     let words = octets(alloc, &["script", "profile.toml"])?;
     let profile = Some(Ok(String::from_str(alloc, PROFILE)?));
-    let catalog = Arc::new(alloc, Catalog::new(alloc, Vec::new(alloc))?)?;
     let flushed = Rc::new(alloc, Cell::new(0u64))?;
     let mut input = Asking {
         lines: 0,
@@ -74,21 +76,21 @@ fn ask(alloc: Global, can_flush: bool) -> Result<(u8, u64, String), Fail> {
         can_flush,
     };
     let mut faults = Vec::new(alloc);
-    let status = program(
+    let status = program_on(
+        rt,
         alloc,
         &words,
         &profile,
-        catalog,
         &mut input,
         &mut output,
         &mut faults,
-    );
+    )?;
     Ok((status, input.lines, String::from_utf8(faults)?))
 }
 
 #[test]
 fn who_waits_for_an_answer_gets_it(rt: HostRuntime) -> Result<(), Fail> {
-    let (status, lines, faults) = ask(rt.alloc(), true)?;
+    let (status, lines, faults) = ask(&rt, rt.alloc(), true)?;
     assert_eq!(rt; (status, lines), (1, 3));
     assert_eq!(rt; faults.as_str(), "");
     Ok(())
@@ -96,7 +98,7 @@ fn who_waits_for_an_answer_gets_it(rt: HostRuntime) -> Result<(), Fail> {
 
 #[test]
 fn a_flush_that_fails_is_a_write_fault(rt: HostRuntime) -> Result<(), Fail> {
-    let (status, lines, faults) = ask(rt.alloc(), false)?;
+    let (status, lines, faults) = ask(&rt, rt.alloc(), false)?;
     assert_eq!(rt; (status, lines), (4, 1));
     assert!(rt; faults.as_str().starts_with("write fault\n"));
     Ok(())

@@ -6,12 +6,15 @@ use crate::tests::PROFILE;
 use pcef_catalog::Catalog;
 use pcef_model::OpenFault;
 use pcef_profile::ReadProfileFault;
+use pcef_run::{Storing, Taken};
 use pcef_script::ScriptFault;
+use pcef_trigger::{Outlet, ReportKind, Reporter};
 use std::alloc::Global;
 use std::io;
 use std::io::{Read, Write};
-use std::sync::Arc;
+use std::sync::{Arc, Wait};
 use std::test::Fail;
+use std::thread::Threads;
 
 /// Words as octets.
 pub(crate) fn octets(alloc: Global, words: &[&str]) -> Result<Vec<Vec<u8>>, Fail> {
@@ -22,9 +25,36 @@ pub(crate) fn octets(alloc: Global, words: &[&str]) -> Result<Vec<Vec<u8>>, Fail
     Ok(arguments)
 }
 
+/// The exit status of the program without rules in its catalog, and with stored reporters.
+pub(crate) fn program_on<T: Threads + Wait + Sync, R: Read, W: Write, E: Write>(
+    rt: &T,
+    alloc: Global,
+    words: &[Vec<u8>],
+    profile: &Option<io::Result<String>>,
+    reader: &mut R,
+    writer: &mut W,
+    faults: &mut E,
+) -> Result<u8, Fail> {
+    let catalog = Arc::new(alloc, Catalog::new(alloc, Vec::new(alloc))?)?;
+    let taken = Arc::new(alloc, Taken::new())?;
+    let mut reporters = Vec::new(alloc);
+    for kind in [ReportKind::Usage, ReportKind::Access, ReportKind::Inactive] {
+        let storing = Storing::new(alloc, kind, Arc::try_clone(&taken)?);
+        let reporter: Box<dyn Reporter + Send> = Box::new(alloc, storing)?;
+        reporters.push((kind, reporter))?;
+    }
+    let Ok(outlet) = Outlet::new(reporters) else {
+        return Err("each kind has one reporter")?;
+    };
+    Ok(program(
+        rt, alloc, words, profile, catalog, outlet, &taken, reader, writer, faults,
+    ))
+}
+
 /// The exit status of the program on these words, profile (none can't be read) and input, and what it wrote of
 /// answers and faults.
-fn run(
+pub(crate) fn run<T: Threads + Wait + Sync>(
+    rt: &T,
     alloc: Global,
     words: &[Vec<u8>],
     profile: Option<&str>,
@@ -34,18 +64,17 @@ fn run(
         Some(text) => Ok(String::from_str(alloc, text)?),
         None => Err(io::Error::from_raw_os_error(2)),
     };
-    let catalog = Arc::new(alloc, Catalog::new(alloc, Vec::new(alloc))?)?;
     let mut answers = Vec::new(alloc);
     let mut faults = Vec::new(alloc);
-    let status = program(
+    let status = program_on(
+        rt,
         alloc,
         words,
         &Some(profile),
-        catalog,
         &mut input.as_bytes(),
         &mut answers,
         &mut faults,
-    );
+    )?;
     Ok((
         status,
         String::from_utf8(answers)?,
@@ -83,7 +112,7 @@ fn statuses_and_faults(rt: HostRuntime) -> Result<(), Fail> {
         ),
     ] {
         let words = octets(rt.alloc(), words)?;
-        let (got, wrote, said) = run(rt.alloc(), &words, profile, input)?;
+        let (got, wrote, said) = run(&rt, rt.alloc(), &words, profile, input)?;
         assert_eq!(rt; got, status);
         assert_eq!(rt; wrote.as_str(), answers);
         assert_eq!(rt; said.as_str(), faults);
@@ -97,20 +126,20 @@ fn other_words_are_usage(rt: HostRuntime) -> Result<(), Fail> {
     let wrong: [&[&str]; 6] = [
         &[],
         &["script"],
-        &["run", "profile.toml", "1"],
+        &["run", "profile.toml"],
         &["scripts", "profile.toml"],
         &["--help"],
         &["--version", "profile.toml"],
     ];
     for words in wrong {
         let words = octets(rt.alloc(), words)?;
-        let (status, answers, said) = run(rt.alloc(), &words, Some(PROFILE), "x")?;
+        let (status, answers, said) = run(&rt, rt.alloc(), &words, Some(PROFILE), "x")?;
         assert_eq!(rt; status, 2);
         assert_eq!(rt; answers.as_str(), "");
         assert!(rt; said.as_str().starts_with(usage));
         assert!(rt;
             said.as_str()
-                .contains("rattle-kit-13b logic dac8208d650f15bf\n")
+                .contains("rattle-kit-13f logic dac8208d650f15bf\n")
         );
     }
     Ok(())
@@ -123,7 +152,7 @@ fn a_word_that_is_no_text(rt: HostRuntime) -> Result<(), Fail> {
     for (front, status, said) in [("script", 4u8, unread), ("scripts", 2, "usage: ")] {
         let mut words = octets(alloc, &[front])?;
         words.push(Vec::from_slice(alloc, b"a\xff")?)?;
-        let (got, _, faults) = run(alloc, &words, None, "")?;
+        let (got, _, faults) = run(&rt, alloc, &words, None, "")?;
         assert_eq!(rt; got, status);
         assert!(rt; faults.as_str().starts_with(said));
     }
@@ -134,20 +163,19 @@ fn a_word_that_is_no_text(rt: HostRuntime) -> Result<(), Fail> {
 fn a_file_too_large_for_memory(rt: HostRuntime) -> Result<(), Fail> {
     let alloc = rt.alloc();
     let words = octets(alloc, &["script", "profile.toml"])?;
-    let catalog = Arc::new(alloc, Catalog::new(alloc, Vec::new(alloc))?)?;
     let mut answers = Vec::new(alloc);
     let mut faults = Vec::new(alloc);
     let profile = Some(Err(io::Error::from(io::ErrorKind::OutOfMemory)));
     let mut input = "".as_bytes();
-    let status = program(
+    let status = program_on(
+        &rt,
         alloc,
         &words,
         &profile,
-        catalog,
         &mut input,
         &mut answers,
         &mut faults,
-    );
+    )?;
     assert_eq!(rt; status, 3);
     assert!(rt; faults.as_slice().starts_with(b"want of memory\n"));
     Ok(())
@@ -198,7 +226,7 @@ fn a_second_line_explains_a_fault_of_the_profile(rt: HostRuntime) -> Result<(), 
         ),
     ] {
         let text = format!(in alloc; "{LIMITS}{front}{REST}")?;
-        let (status, answers, faults) = run(alloc, &words, Some(text.as_str()), "x")?;
+        let (status, answers, faults) = run(&rt, alloc, &words, Some(text.as_str()), "x")?;
         assert_eq!(rt; status, 1);
         assert_eq!(rt; answers.as_str(), "");
         assert_eq!(rt; faults.as_str(), said);
@@ -226,7 +254,7 @@ fn faults_of_the_default_qci_have_their_numbers(rt: HostRuntime) -> Result<(), F
             "profile fault 6\nDefaultIsGbr: default.qci = 1: a QCI without guaranteed bit rate is expected\n",
         ),
     ] {
-        let (status, answers, faults) = run(rt.alloc(), &words, Some(profile), "x")?;
+        let (status, answers, faults) = run(&rt, rt.alloc(), &words, Some(profile), "x")?;
         assert_eq!(rt; status, 1);
         assert_eq!(rt; answers.as_str(), "");
         assert_eq!(rt; faults.as_str(), said);
@@ -367,7 +395,8 @@ impl Read for Input {
 }
 
 /// The exit status of a script from this input to this output, the output then, and what was said of faults.
-fn run_between(
+fn run_between<T: Threads + Wait + Sync>(
+    rt: &T,
     alloc: Global,
     fails: bool,
     room: usize,
@@ -375,7 +404,6 @@ fn run_between(
 ) -> Result<(u8, Output, String), Fail> {
     let words = octets(alloc, &["script", "profile.toml"])?;
     let profile = Some(Ok(String::from_str(alloc, PROFILE)?));
-    let catalog = Arc::new(alloc, Catalog::new(alloc, Vec::new(alloc))?)?;
     let mut input = Input {
         is_given: false,
         fails,
@@ -387,15 +415,15 @@ fn run_between(
         can_flush,
     };
     let mut faults = Vec::new(alloc);
-    let status = program(
+    let status = program_on(
+        rt,
         alloc,
         &words,
         &profile,
-        catalog,
         &mut input,
         &mut output,
         &mut faults,
-    );
+    )?;
     Ok((status, output, String::from_utf8(faults)?))
 }
 
@@ -403,8 +431,8 @@ fn run_between(
 fn failing_ends_and_flushes(rt: HostRuntime) -> Result<(), Fail> {
     let answer = "{\"fault\":3,\"name\":\"NotJson\"}\n";
     let unread =
-        "read fault\nStandard input fails; the answers to the whole lines before are written.\n";
-    let unwritten = "write fault\nStandard output takes no more answers.\n";
+        "read fault\nStandard input fails; the whole lines of a script before that are answered.\n";
+    let unwritten = "write fault\nStandard output takes no more.\n";
     for (fails, room, can_flush, flushes, status, answers, said) in [
         (false, 100, true, 2u64, 1u8, answer, ""),
         (true, 100, true, 2, 4, answer, unread),
@@ -412,7 +440,7 @@ fn failing_ends_and_flushes(rt: HostRuntime) -> Result<(), Fail> {
         (false, 100, false, 2, 4, answer, unwritten),
         (true, 100, false, 2, 4, answer, unwritten),
     ] {
-        let (got, output, faults) = run_between(rt.alloc(), fails, room, can_flush)?;
+        let (got, output, faults) = run_between(&rt, rt.alloc(), fails, room, can_flush)?;
         assert_eq!(rt; got, status);
         assert_eq!(rt; output.flushes, flushes);
         assert!(rt; output.taken.as_slice() == answers.as_bytes());

@@ -2,6 +2,7 @@ use Rattle.std.proofs.Common.{◌≤◌, ◌∙◌, subst, sym}
 use Rattle.std.specs.Arc.{arc_value}
 use Rattle.pcef_catalog.specs.Catalogs.{offers_of}
 use Rattle.pcef_cli.specs.Programs.{Ends, asked}
+use Rattle.pcef_cli.specs.Words.{workers_of}
 use Rattle.pcef_cli.proofs.Endings.{status_most, whole_ended}
 use Rattle.pcef_cli.proofs.program.program.Goals as goal
 
@@ -13,8 +14,10 @@ returns-clause-ends g c =
       end,
       c.status.ensures,
       c.tell.ensures,
-      subst (λ a. Ends (offers_of (arc_value c.args.catalog)) a end (remaining c.args.reader.now) (remaining c.end_of-end.new.reader) (contents c.args.writer.now) (contents c.end_of-end.new.writer))
-          c.asked-asked.ensures c.end_of-end.ensures,
+      subst (λ w. Ends (offers_of (arc_value c.args.catalog)) w (asked c.args.words.now c.args.profile.now) end (remaining c.args.reader.now) (remaining c.end_of-end.new.reader)
+          (contents c.args.writer.now) (contents c.end_of-end.new.writer)) c.workers_of-workers.ensures
+          (subst (λ a. Ends (offers_of (arc_value c.args.catalog)) c.workers_of-workers.result a end (remaining c.args.reader.now) (remaining c.end_of-end.new.reader)
+          (contents c.args.writer.now) (contents c.end_of-end.new.writer)) c.asked-asked.ensures c.end_of-end.ensures),
     )
 
 pub returns-clause-most : goal.returns-clause-most
@@ -26,7 +29,10 @@ returns-clause-whole g c = λ zero.
     let contents = g.W.Write.contents in
     let offers = offers_of (arc_value c.args.catalog) in
     let end = c.end_of-end.result in
-    let ended = subst (λ a. Ends offers a end (remaining c.args.reader.now) (remaining c.end_of-end.new.reader) (contents c.args.writer.now) (contents c.end_of-end.new.writer))
-    c.asked-asked.ensures c.end_of-end.ensures in
-    whole_ended offers (asked c.args.words.now c.args.profile.now) end (remaining c.args.reader.now) (remaining c.end_of-end.new.reader) (contents c.args.writer.now) (contents c.end_of-end.new.writer)
+    let workers = workers_of c.args.words.now in
+    let ended = subst (λ w. Ends offers w (asked c.args.words.now c.args.profile.now) end (remaining c.args.reader.now) (remaining c.end_of-end.new.reader) (contents c.args.writer.now)
+    (contents c.end_of-end.new.writer)) c.workers_of-workers.ensures
+    (subst (λ a. Ends offers c.workers_of-workers.result a end (remaining c.args.reader.now) (remaining c.end_of-end.new.reader) (contents c.args.writer.now) (contents c.end_of-end.new.writer))
+    c.asked-asked.ensures c.end_of-end.ensures) in
+    whole_ended offers workers (asked c.args.words.now c.args.profile.now) end (remaining c.args.reader.now) (remaining c.end_of-end.new.reader) (contents c.args.writer.now) (contents c.end_of-end.new.writer)
     ended (sym c.status.ensures ∙ zero)
