@@ -20,7 +20,6 @@ use Rattle.pcef_model.specs.Entries.{Journal}
 use Rattle.pcef_bearer.specs.declared.bearers.Bound.{Bound}
 use Rattle.pcef_bearer.specs.Bindings.{guaranteed, rules_on}
 use Rattle.pcef_usage.specs.declared.usage.KeyState.{KeyState}
-use Rattle.pcef_session.specs.private.Parts.{Parts}
 use Rattle.pcef_model.specs.declared.answer.Accepted.{Accepted}
 use Rattle.pcef_answer.specs.RefusalAnswers.{data_of}
 use Rattle.pcef_answer.specs.ReportAnswers.{body_data, reports_data, reports_told}

@@ -17,7 +17,6 @@ use Rattle.pcef_model.specs.Setting.{Setting}
 use Rattle.pcef_bearer.specs.declared.bearers.Bound.{Bound}
 use Rattle.pcef_bearer.specs.Bindings.{guaranteed, rules_on}
 use Rattle.pcef_usage.specs.declared.usage.KeyState.{KeyState}
-use Rattle.pcef_session.specs.private.Parts.{Parts}
 use Rattle.pcef_bearer.specs.Standing.{bound_of}
 use Rattle.pcef_session.specs.Shown.{Shows}
 use Rattle.pcef_answer.specs.FaultAnswers.{count}

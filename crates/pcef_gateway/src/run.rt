@@ -153,8 +153,7 @@ fn run_named<
     ensures { IfOk result (λ e. RunsTo session.setting session.journal arrivals.now commands.items workers e) }
 {
     let (shared, desk) = lock::<C, N, _>(rt, alloc, catalog, session, opened, blanks, workers)?;
-    let attached = attach_all(rt, alloc, &shared, gate, workers)?;
-    let worked = run_workers(rt, alloc, &shared, desk, attached, arrivals, commands)?;
+    let worked = work_all(rt, alloc, &shared, desk, gate, workers, arrivals, commands)?;
     let ended = end(rt, alloc, shared, worked)?;
     Ok(ended)
 }
@@ -194,6 +193,34 @@ fn lock<C: Offers + Drop, N: Naming, R: Wait + Drop>(
         Err((_, SharedFault::NoMemory)) => Err(Failure::NoMemory),
         Err(_) => Err(Failure::Shared),
     }
+}
+
+/// Attaches so many workers, and runs them.
+fn work_all<
+    C: Detects + Drop + Send + Sync,
+    N: Naming + Send + Sync,
+    W: Board<Slot<N>> + Drop + Send,
+    G: Gate + Sync,
+    R: Threads + Wait + Sync,
+>(
+    rt: &R,
+    alloc: Global,
+    shared: &Shared<C, N, W>,
+    desk: Desk<N>,
+    gate: &G,
+    workers: u8,
+    arrivals: &[Arrival],
+    commands: Vec<Command>,
+) -> Result<Worked<N>, Failure>
+    requires few { workers ≤ 16 }
+    requires known { All (λ a. a.worker < workers) arrivals.now }
+    ensures answers { IfOk result (λ w. length w.answers.items ≡ length commands.items) }
+    ensures memory { IfOk result (λ w. All FoundMemory w.answers.items) }
+    ensures desk { IfOk result (λ w. w.desk.commands ≡ desk.commands ++ changing commands.items w.answers.items) }
+    ensures handed { IfOk result (λ w. HandInArrivals workers arrivals.now w.handed.dropped w.handed.finished.items) }
+{
+    let attached = attach_all(rt, alloc, shared, gate, workers)?;
+    run_workers(rt, alloc, shared, desk, attached, arrivals, commands)
 }
 
 /// Runs workers in threads, with the calling thread as the intake.

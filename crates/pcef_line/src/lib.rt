@@ -11,8 +11,6 @@ mod octets;
 mod reading;
 mod rule;
 mod short;
-#[cfg(test)]
-mod tests;
 mod trigger;
 mod values;
 mod word;

@@ -1,5 +1,5 @@
 -- What the value behind a session's lock answers, and the journal after it.
-use Rattle.std.specs.Prelude.{ℕ, ◌≡◌, ◌≢◌, ◌⊎◌, ◌+◌, false, List, Result, Ok, Err, map}
+use Rattle.std.specs.Prelude.{ℕ, ◌≡◌, ◌≢◌, ◌+◌, false, true, List, Result, Ok, Err, map}
 use Rattle.pcef_model.specs.Setting.{Setting}
 use Rattle.pcef_model.specs.Entries.{Journal}
 use Rattle.pcef_model.specs.Outcomes.{AttachStep, FinishStep, FlushStep, Gives, FlushAnswer, judged_of}
@@ -27,14 +27,14 @@ with_share (Err e) books = books
 abbrev pub judged_rows : List Item → List Judged
 judged_rows items = map judged_of (map row_of items)
 
--- rows are handed over, unless they don't continue their lane
+-- rows are handed over as to any session; those that don't continue their lane are refused as of a worker that isn't there
 abbrev pub HandOverStep : Setting → ℕ → List Item → Journal → Result FlushAnswer FlushRefusal → Journal → Type 0
 HandOverStep p worker items before result after =
-    FlushStep p worker (map row_of items) before result after
-    ⊎ ((continues_lane before worker items ≡ false) × Gives (Err NotAttached, before) result after)
+    (continues_lane before worker items ≡ false → Gives (Err NotAttached, before) result after)
+    × (continues_lane before worker items ≡ true → FlushStep p worker (map row_of items) before result after)
 
--- a worker's last rows are handed over and it leaves, unless they don't continue their lane
+-- a worker's last rows are handed over and it leaves, as from any session; those that don't continue their lane are refused
 abbrev pub LeaveStep : Setting → ℕ → List Item → Journal → Result (FlushAnswer × ℕ) FlushRefusal → Journal → Type 0
 LeaveStep p worker items before result after =
-    FinishStep p worker (map row_of items) before result after
-    ⊎ ((continues_lane before worker items ≡ false) × Gives (Err NotAttached, before) result after)
+    (continues_lane before worker items ≡ false → Gives (Err NotAttached, before) result after)
+    × (continues_lane before worker items ≡ true → FinishStep p worker (map row_of items) before result after)

@@ -13,8 +13,6 @@ mod sameness;
 mod seat;
 mod shared;
 mod state;
-#[cfg(test)]
-mod tests;
 
 pub use desk::{Desk, commands_so_far};
 pub use finished::Finished;

@@ -16,6 +16,3 @@ pub use reading::read_plan;
 pub use run::{Ran, run_plan};
 pub use summary::summary_text;
 pub use taken::{Counts, Storing, Taken};
-
-#[cfg(test)]
-mod tests;

@@ -1,5 +1,4 @@
-//! Tests of lines, profiles, answers, and of scripts as texts. Their crates have no tests of their own, since a crate with
-//! tests is proved twice.
+//! Tests of answers, and of scripts as texts. They stand above the crates that they test, which are then proved once.
 #![tactic(auto)]
 
 #[cfg(test)]

@@ -6,20 +6,23 @@ ghost use Rattle.pcef_session.specs.Shown.{Shows};
 ghost use Rattle.pcef_share.specs.Names.{name_at};
 
 mod batches;
+mod beginnings;
+mod closing;
 mod gathering;
 mod generations;
+mod last_flush;
 mod memory;
 mod threads;
 
-use pcef_catalog::{Catalog, Detects, Listing, Offers};
-use pcef_filter::read_filter;
+use beginnings::Beginning;
+use pcef_catalog::{Catalog, Detects, Offers};
 use pcef_lock::{Desk, Shared, State, commands_so_far, opened};
-use pcef_model::{Body, Command, Profile};
-use pcef_packet::{Addr, Dir, Header, Ports};
+use pcef_model::{Body, Command};
 use pcef_publish::{Board, Opened, Slot, Writer};
-use pcef_rule::{Arp, KeyName, Properties, Qci, QciTable, Qos, Rule, RuleName, Sums};
+use pcef_rule::RuleName;
 use pcef_session::{Item, SessionState};
 use pcef_share::{Blanks, Naming};
+use pcef_test_sessions::{monitor, packet, session, vid, web};
 use pcef_worker::{Gate, OpenGate, Worker};
 use std::alloc::Global;
 use std::marker::Brand;
@@ -39,58 +42,15 @@ enum Story {
     RuleGone,
     HeldUp,
     NoMemory,
+    Begins(Beginning),
 }
 
-fn qos() -> Result<Qos, Fail> {
-    Ok(Qos {
-        qci: Qci(9),
-        arp: Arp::new(8, false, true)?,
-    })
-}
-
-// A session of 10.0.0.2 that takes so many rows and 10 commands, and offers no rules.
-fn session(alloc: Global, rows: u32) -> Result<SessionState, Fail>
-    ensures { IfOk result (λ s. (s.journal ≡ []) × (s.setting.catalog ≡ [])) }
-{
-    if rows == 0 {
-        return Err("a session takes rows")?;
-    }
-    let profile = Profile {
-        ue: Addr::V4(0x0a00_0002),
-        default_qos: qos()?,
-        capacity: Sums { up: 0, down: 0 },
-        qcis: QciTable::new(&[])?,
-        rows,
-        commands: 10,
-    };
-    let listing = Listing::new(alloc, Vec::new(alloc))?;
-    Ok(SessionState::open(alloc, profile, listing)?)
-}
-
-// The rule `web` with the key `vid`: what comes from port 53.
-fn web(alloc: Global) -> Result<Rule, Fail> {
-    let properties = Properties {
-        name: RuleName::new("web")?,
-        precedence: 100,
-        qos: qos()?,
-        rates: None,
-        gate: pcef_rule::Gate::Enabled,
-        key: Some(KeyName::new("vid")?),
-    };
-    let filter = read_filter("permit out 17 from any 53 to assigned", None)?;
-    Ok(Rule::new(alloc, properties, &[filter])?)
-}
-
-// A packet of the server at 198.51.100.7 to the session, from port 53, of so many octets.
-fn packet(octets: u32) -> Header {
-    Header {
-        dir: Dir::Down,
-        src: Addr::V4(0xc633_6407),
-        dst: Addr::V4(0x0a00_0002),
-        proto: 17,
-        ports: Some(Ports { src: 53, dst: 5000 }),
-        octets,
-        dscp: 0,
+// How many places for workers the lock has.
+fn places(story: Story) -> u8 {
+    match story {
+        Story::Begins(Beginning::OnePlace) => 1,
+        Story::Begins(Beginning::LastLeaves) => 3,
+        _ => 2,
     }
 }
 
@@ -115,7 +75,8 @@ fn tell<R: Threads + Wait + Sync>(
     )
 }
 
-// The session comes behind its lock with places for two workers, the rule is installed, and its key is monitored.
+// The session comes behind its lock. Where the story doesn't begin before that, the rule is installed, and its key is
+// monitored.
 fn tell_behind_its_lock<
     C: Detects + Drop + Send + Sync,
     N: Naming + Send + Sync,
@@ -137,19 +98,41 @@ fn tell_behind_its_lock<
     requires table { Shows session.setting session.journal (gen session.journal) opened.table }
     requires book { (opened.book ≡ N.book) × (opened.root ≡ N.root) }
 {
-    let (shared, mut desk) = locked::<C, N, _>(rt, alloc, catalog, session, opened, blanks)?;
-    give_commands(rt, alloc, &shared, &mut desk)?;
-    match story {
-        Story::RefusedFlush => batches::refused_flush(rt, alloc, &shared, &mut desk),
-        Story::FullBatch => batches::full_batch(rt, alloc, &shared),
-        Story::TwoWorkers => batches::two_workers(rt, alloc, &shared, &mut desk),
-        Story::RuleGone => generations::rule_gone(rt, alloc, &shared, &mut desk),
-        Story::HeldUp => threads::held_up(rt, alloc, &shared, &mut desk),
-        Story::NoMemory => memory::no_memory(rt, alloc, &shared),
+    let places = places(story);
+    match locked::<C, N, _>(rt, alloc, catalog, session, opened, blanks, places) {
+        Ok((shared, mut desk)) => told_by(rt, alloc, &shared, &mut desk, story),
+        Err(fault) => Err(fault),
     }
 }
 
-// A session behind its lock, with places for two workers, and its desk.
+fn told_by<
+    C: Detects + Drop + Send + Sync,
+    N: Naming + Send + Sync,
+    W: Board<Slot<N>> + Drop + Send,
+    R: Threads + Wait + Sync,
+>(
+    rt: &R,
+    alloc: Global,
+    shared: &Shared<C, N, W>,
+    desk: &mut Desk<N>,
+    story: Story,
+) -> Result<Told, Fail> {
+    if let Story::Begins(beginning) = story {
+        return beginnings::begun(rt, alloc, shared, desk, beginning);
+    }
+    give_commands(rt, alloc, shared, desk)?;
+    match story {
+        Story::RefusedFlush => batches::refused_flush(rt, alloc, shared, desk),
+        Story::FullBatch => batches::full_batch(rt, alloc, shared),
+        Story::TwoWorkers => batches::two_workers(rt, alloc, shared, desk),
+        Story::RuleGone => generations::rule_gone(rt, alloc, shared, desk),
+        Story::HeldUp => threads::held_up(rt, alloc, shared, desk),
+        Story::NoMemory => memory::no_memory(rt, alloc, shared),
+        Story::Begins(_) => Err("it has begun")?,
+    }
+}
+
+// A session behind its lock, with places for so many workers, and its desk.
 fn locked<C: Offers + Drop, N: Naming, R: Wait + Drop>(
     rt: R,
     alloc: Global,
@@ -157,6 +140,7 @@ fn locked<C: Offers + Drop, N: Naming, R: Wait + Drop>(
     session: SessionState,
     opened: Opened,
     blanks: Blanks,
+    places: u8,
 ) -> Result<(Shared<C, N, Writer<N, R>>, Desk<N>), Fail>
     requires name { N.ledger ≡ name_at blanks }
     requires setting { session.setting ≡ N.setting }
@@ -167,7 +151,7 @@ fn locked<C: Offers + Drop, N: Naming, R: Wait + Drop>(
     requires book { (opened.book ≡ N.book) × (opened.root ≡ N.root) }
 {
     let commands = commands_so_far(alloc, &session)?;
-    match State::<N, _>::open(rt, alloc, session, opened, blanks, 2) {
+    match State::<N, _>::open(rt, alloc, session, opened, blanks, places) {
         Ok((state, shares)) => Ok((Shared::new(catalog, state), Desk::new(commands, shares))),
         Err(_) => Err("the session didn't come behind a lock")?,
     }
@@ -181,11 +165,7 @@ fn give_commands<C: Offers + Drop, N: Naming, W: Board<Slot<N>> + Drop, R: Wait>
     desk: &mut Desk<N>,
 ) -> Result<(), Fail> {
     desk.command(rt, shared, Command::Install(web(alloc)?))?;
-    let monitor = Command::Monitor {
-        key: KeyName::new("vid")?,
-        grant: 1_000_000,
-    };
-    desk.command(rt, shared, monitor)?;
+    desk.command(rt, shared, monitor(1_000_000)?)?;
     Ok(())
 }
 
@@ -237,7 +217,7 @@ fn reported<C: Offers + Drop, N: Naming, W: Board<Slot<N>> + Drop, R: Wait>(
     if !desk.collect(rt, shared)?.is_empty() {
         return Err("nobody asked for a report")?;
     }
-    desk.command(rt, shared, Command::ReportNow(KeyName::new("vid")?))?;
+    desk.command(rt, shared, Command::ReportNow(vid()?))?;
     let reports = desk.collect(rt, shared)?;
     let [report] = reports.as_slice() else {
         return Err("there is one report")?;

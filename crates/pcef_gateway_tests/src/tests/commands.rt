@@ -2,6 +2,7 @@
 
 use super::*;
 use pcef_model::{Accepted, Body, Cause, Refusal, Report, TriggerSet};
+use pcef_rule::RuleName;
 use pcef_worker::OpenGate;
 
 /// The octets that a report tells, if it is of this number, of the key `vid` and of this cause.

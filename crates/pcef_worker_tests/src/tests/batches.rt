@@ -68,7 +68,8 @@ fn refused<C: Detects + Drop, N: Naming, W: Board<Slot<N>> + Drop, R: Wait>(
     }
 }
 
-// A finish for which the session has no room, and then the way out: the rows that are handed in and given up.
+// A finish for which the session has no room gives the worker back, and then the way out: the rows that are handed in
+// and given up.
 fn given_up<C: Detects + Drop, N: Naming, W: Board<Slot<N>> + Drop, R: Wait>(
     rt: &R,
     shared: &Shared<C, N, W>,
@@ -76,7 +77,13 @@ fn given_up<C: Detects + Drop, N: Naming, W: Board<Slot<N>> + Drop, R: Wait>(
 ) -> Result<(u64, u64), Fail> {
     match worker.finish(rt, shared).err() {
         None => Err("the session has no room")?,
-        Some((worker, _)) => Ok(handed_in_by(&worker.abandon(rt, shared))),
+        Some((worker, refusal)) => {
+            let left = handed_in_by(&worker.abandon(rt, shared));
+            if refusal != FlushRefusal::RowsFull {
+                return Err("the session has room")?;
+            }
+            Ok(left)
+        }
     }
 }
 
@@ -125,8 +132,9 @@ fn as_many_rows_wait_as_may(rt: HostRuntime) -> Result<(), Fail> {
     Ok(())
 }
 
-// 33 packets come: how many rows are taken and wait, and how many were handed over; how many verdicts a flush gives,
-// and again how many wait and were handed over. One more comes: the number and the octets of its row.
+// 33 packets come: how many are taken before one is refused, how many rows wait, and how many were handed over; how many
+// verdicts a flush gives, and again how many wait and were handed over. One more comes: the number and the octets of its
+// row.
 pub fn full_batch<C: Detects + Drop, N: Naming, W: Board<Slot<N>> + Drop, R: Wait>(
     rt: &R,
     alloc: Global,
@@ -157,13 +165,14 @@ fn next_of(number: u64) -> u64 {
     number.saturating_add(1)
 }
 
-// How many of 33 packets are taken.
+// How many of 33 packets are taken before one is refused.
 fn as_many_as_may<C: Detects + Drop, N: Naming>(worker: &mut Worker<C, N, OpenGate>) -> u64 {
     let mut taken = 0;
     for _ in 0..33u8 {
-        if takes(worker, 28) {
-            taken = next_of(taken);
+        if !takes(worker, 28) {
+            return taken;
         }
+        taken = next_of(taken);
     }
     taken
 }

@@ -92,7 +92,7 @@ fn meets_between_two_rows<C: Detects + Drop, N: Naming, W: Board<Slot<N>> + Drop
 }
 
 // Hands two rows over: how each was judged.
-fn answered<C: Detects + Drop, N: Naming, W: Board<Slot<N>> + Drop, R: Wait>(
+pub fn answered<C: Detects + Drop, N: Naming, W: Board<Slot<N>> + Drop, R: Wait>(
     rt: &R,
     shared: &Shared<C, N, W>,
     worker: &mut Worker<C, N, OpenGate>,
@@ -105,7 +105,7 @@ fn answered<C: Detects + Drop, N: Naming, W: Board<Slot<N>> + Drop, R: Wait>(
 }
 
 // The generation, and 1 where the packet passes by the rule, 0 where no rule fits.
-fn judged(row: &Judged) -> Result<(u64, u64), Fail> {
+pub fn judged(row: &Judged) -> Result<(u64, u64), Fail> {
     let passes = match &row.verdict {
         Verdict::Passed { rule, .. } if *rule == RuleName::new("web")? => 1,
         Verdict::Unmatched => 0,

@@ -1,5 +1,6 @@
 //! Workers in threads of their own.
 
+use super::gathering::{GatheredStory, tell_gathered, told_in_turn};
 use super::*;
 use pcef_lock::Finished;
 use pcef_worker::Point;
@@ -27,14 +28,21 @@ impl Gate for HoldsUp<'_> {
 impl HoldsUp<'_> {
     fn wait(&self) {
         self.begun.store(true, Ordering::SeqCst);
-        for _ in 0..10_000_000u32 {
-            if self.answered.load(Ordering::SeqCst) {
-                return;
-            }
-            yield_now();
+        if !comes(self.answered) {
+            self.gave_up.store(true, Ordering::SeqCst);
         }
-        self.gave_up.store(true, Ordering::SeqCst);
     }
+}
+
+// Waits for another thread, and gives up at some time.
+pub fn comes(flag: &AtomicBool) -> bool {
+    for _ in 0..10_000_000u32 {
+        if flag.load(Ordering::SeqCst) {
+            return true;
+        }
+        yield_now();
+    }
+    false
 }
 
 #[test]
@@ -97,4 +105,85 @@ fn handed_over_and_left<
 
 fn rows_of_left<N: Naming>(left: &Finished<N>) -> u64 {
     left.items().len() as u64
+}
+
+#[test]
+fn rows_of_two_threads_are_gathered_unreported(rt: HostRuntime) -> Result<(), Fail> {
+    let told = tell_gathered(&rt, rt.alloc(), GatheredStory::InThreads)?;
+    assert_eq!(rt; told, [0, 1, 2, 0, 56, 0, 56, 1]);
+    Ok(())
+}
+
+// Two workers hand a row of 28 octets over, the first one after the second one's was answered, and nobody asks for a
+// report: how many reports there are, how many workers are out where one is handed in, and the totals where both are.
+pub fn in_threads<
+    C: Detects + Drop + Send + Sync,
+    N: Naming + Send + Sync,
+    W: Board<Slot<N>> + Drop + Send,
+    R: Threads + Wait + Sync,
+>(rt: &R, alloc: Global, shared: Shared<C, N, W>, mut desk: Desk<N>) -> Result<Told, Fail> {
+    match left_unreported(rt, alloc, &shared, &mut desk) {
+        Ok((one, two, reports)) => told_in_turn(rt, alloc, shared, desk, one, two, reports),
+        Err(fault) => Err(fault),
+    }
+}
+
+// What the two workers hand in, and how many reports there are.
+fn left_unreported<
+    C: Detects + Drop + Send + Sync,
+    N: Naming + Send + Sync,
+    W: Board<Slot<N>> + Drop + Send,
+    R: Threads + Wait + Sync,
+>(
+    rt: &R,
+    alloc: Global,
+    shared: &Shared<C, N, W>,
+    desk: &mut Desk<N>,
+) -> Result<(Finished<N>, Finished<N>, u64), Fail> {
+    let Some((one, two)) = both_left(rt, alloc, shared) else {
+        return Err("both come, and the first worker waits for the second one")?;
+    };
+    let reports = desk.collect(rt, shared)?;
+    Ok((one, two, reports.len() as u64))
+}
+
+// What the two workers hand in.
+fn both_left<
+    C: Detects + Drop + Send + Sync,
+    N: Naming + Send + Sync,
+    W: Board<Slot<N>> + Drop + Send,
+    R: Threads + Wait + Sync,
+>(rt: &R, alloc: Global, shared: &Shared<C, N, W>) -> Option<(Finished<N>, Finished<N>)> {
+    let begun = AtomicBool::new(false);
+    let answered = AtomicBool::new(false);
+    let gave_up = AtomicBool::new(false);
+    let gate = HoldsUp {
+        begun: &begun,
+        answered: &answered,
+        gave_up: &gave_up,
+    };
+    let (first, second) = join(
+        rt,
+        || left_after_a_row(rt, alloc, shared, gate),
+        || left_after_a_row(rt, alloc, shared, gate),
+    );
+    let waited = begun.load(Ordering::SeqCst) && !gave_up.load(Ordering::SeqCst);
+    let both = first.zip(second);
+    if waited { both } else { None }
+}
+
+// A worker comes, takes a packet, hands its row over and leaves.
+fn left_after_a_row<C: Detects + Drop, N: Naming, W: Board<Slot<N>> + Drop, R: Wait>(
+    rt: &R,
+    alloc: Global,
+    shared: &Shared<C, N, W>,
+    gate: HoldsUp<'_>,
+) -> Option<Finished<N>> {
+    match Worker::attach(rt, alloc, shared, gate).ok() {
+        Some(mut worker) => {
+            take_and_hand_over(rt, shared, &mut worker, &[28], 0);
+            Some(worker.abandon(rt, shared))
+        }
+        None => None,
+    }
 }

@@ -20,8 +20,7 @@ returns g c =
     let handed = worked.handed.finished.items in
     let add_up : AddUpTo p listed handed ended.totals =
     subst (λ (q : Setting). AddUpTo q listed handed ended.totals) (sym c.requires.setting) c.in_ok-ended.ensures.add_up in
-    let hand_in : HandInArrivals c.args.workers c.args.arrivals.now worked.handed.dropped handed =
-    subst (λ n. HandInArrivals n c.args.arrivals.now worked.handed.dropped handed) c.in_ok-attached.ensures.many c.in_ok-worked.ensures.handed in
+    let hand_in : HandInArrivals c.args.workers c.args.arrivals.now worked.handed.dropped handed = c.in_ok-worked.ensures.handed in
     runs_to p before c.args.arrivals.now c.args.commands.items listed _ c.args.workers worked.handed.dropped handed ended
     add_up hand_in c.in_ok-ended.ensures.lawful c.in_ok-ended.ensures.rest.0 (search rules)
     (subst (λ (v : Vec (Result Accepted Refusal) Global). All FoundMemory v.items) (sym c.in_ok-ended.ensures.rest.1) c.in_ok-worked.ensures.memory) c.in_ok-shared.ensures
