@@ -4,5 +4,7 @@ mod answer;
 mod corners;
 mod declared_script;
 mod ends;
+mod fronts;
 mod memory;
+mod refused_profiles;
 mod script;

@@ -7,11 +7,40 @@ use pcef_test_scripts::PROFILE;
 use std::alloc::Global;
 use std::io;
 use std::io::{Read, Write};
+use std::process::Abort;
 use std::sync::Arc;
 use std::test::Fail;
 
-/// The lines of a script, each with its answer.
-const LINES: [(&str, &str); 4] = [
+/// The lines of a session, each with its answer: a rule and its key, a worker with a packet, and what is shown then.
+const LINES: &[(&str, &str)] = &[
+    (
+        "{\"do\":\"install\",\"rule\":{\"name\":\"web\",\"precedence\":100,\"filters\":[{\"text\":\"permit out 17 from any 53 to assigned\"}],\"qci\":9,\"arp\":{\"level\":8,\"capability\":false,\"vulnerability\":true},\"gate\":\"ENABLED\",\"key\":\"vid\"}}\n",
+        "{\"bearer\":5,\"generation\":1,\"ok\":true,\"reports\":[]}\n",
+    ),
+    (
+        "{\"do\":\"monitor\",\"key\":\"vid\",\"grant\":1000}\n",
+        "{\"generation\":2,\"ok\":true,\"reports\":[]}\n",
+    ),
+    (
+        "{\"do\":\"attach\"}\n",
+        "{\"generation\":2,\"ok\":true,\"worker\":0}\n",
+    ),
+    (
+        "{\"do\":\"take\",\"worker\":0,\"dir\":\"down\",\"packet\":\"4500001c0000000040110000c63364070a0000020035138800080000\"}\n",
+        "{\"ok\":true,\"waiting\":1}\n",
+    ),
+    (
+        "{\"do\":\"flush\",\"worker\":0}\n",
+        "{\"ok\":true,\"reports\":[],\"verdicts\":[{\"bearer\":5,\"generation\":2,\"rule\":\"web\",\"verdict\":\"Passed\"}]}\n",
+    ),
+    (
+        "{\"do\":\"show\"}\n",
+        "{\"active\":[\"web\"],\"bearers\":[{\"down\":0,\"id\":5,\"rules\":1,\"up\":0}],\"generation\":2,\"keys\":[{\"key\":\"vid\",\"on\":true,\"reported\":0,\"unreported\":28}]}\n",
+    ),
+];
+
+/// A line at fault, a blank line, and two more, each with its answer.
+const LINES_AT_FAULT: &[(&str, &str)] = &[
     ("[1]\n", "{\"fault\":4,\"name\":\"NotObject\"}\n"),
     (" \n", ""),
     (
@@ -24,22 +53,22 @@ const LINES: [(&str, &str); 4] = [
     ),
 ];
 
-fn script_of(alloc: Global) -> Result<String, Fail> {
+fn script_of(alloc: Global, lines: &[(&str, &str)]) -> Result<String, Fail> {
     let mut script = String::new(alloc);
-    for (line, _) in LINES {
-        script.push_str(line)?;
+    for (line, _) in lines {
+        script.push_str(*line)?;
     }
     Ok(script)
 }
 
 /// The answers to the lines that end within so many bytes of the script.
-fn answers_within(alloc: Global, most: usize) -> Result<String, Fail> {
+fn answers_within(alloc: Global, lines: &[(&str, &str)], most: usize) -> Result<String, Fail> {
     let mut answers = String::new(alloc);
     let mut end = 0usize;
-    for (line, answer) in LINES {
+    for (line, answer) in lines {
         end = end.saturating_add(line.len());
         if end <= most {
-            answers.push_str(answer)?;
+            answers.push_str(*answer)?;
         }
     }
     Ok(answers)
@@ -67,54 +96,66 @@ impl Read for FailingReader {
     }
 }
 
+/// A reader that fails after so many bytes of these lines ends the script with the answers to the whole lines before.
+fn whole_lines_are_answered(
+    rt: &impl Abort,
+    alloc: Global,
+    lines: &[(&str, &str)],
+    room: usize,
+) -> Result<(), Fail> {
+    let mut reader = FailingReader {
+        script: script_of(alloc, lines)?,
+        given: 0,
+        room,
+    };
+    let mut written = Vec::new(alloc);
+    let profile = read_profile(alloc, PROFILE)?;
+    let catalog = Arc::new(alloc, Catalog::new(alloc, Vec::new(alloc))?)?;
+    let ended = run_script(alloc, &mut reader, &mut written, profile, catalog);
+    assert_eq!(rt; ended, Err(ScriptFault::Read));
+    let text = String::from_utf8(written)?;
+    let expected = answers_within(alloc, lines, room)?;
+    assert_eq!(rt; text.as_str(), expected.as_str(), "at {room}");
+    Ok(())
+}
+
 #[test]
 fn a_reader_that_fails_leaves_the_answers_to_whole_lines(rt: HostRuntime) -> Result<(), Fail> {
     let alloc = rt.alloc();
-    let len = script_of(alloc)?.len();
-    for room in 0..len {
-        let mut reader = FailingReader {
-            script: script_of(alloc)?,
-            given: 0,
-            room,
-        };
-        let mut written = Vec::new(alloc);
-        let profile = read_profile(alloc, PROFILE)?;
-        let catalog = Arc::new(alloc, Catalog::new(alloc, Vec::new(alloc))?)?;
-        let ended = run_script(alloc, &mut reader, &mut written, profile, catalog);
-        assert_eq!(rt; ended, Err(ScriptFault::Read));
-        let text = String::from_utf8(written)?;
-        let expected = answers_within(alloc, room)?;
-        assert_eq!(rt; text.as_str(), expected.as_str());
+    for lines in [LINES, LINES_AT_FAULT] {
+        let len = script_of(alloc, lines)?.len();
+        for room in 0..len {
+            whole_lines_are_answered(&rt, alloc, lines, room)?;
+        }
+        whole_lines_are_answered(&rt, alloc, lines, len)?;
     }
     Ok(())
 }
 
-/// Takes a byte at a time while there is room, and then fails with an error, or by taking none. Notes
-/// whether each byte was as expected.
+/// Takes bytes while there is room, at most so many a call, and then fails with an error, or by taking none.
 #[derive(Drop)]
 struct FailingWriter {
-    expected: String,
-    taken: usize,
+    taken: Vec<u8>,
     room: usize,
-    is_as_expected: bool,
+    most: usize,
     failure: Option<io::ErrorKind>,
 }
 
 impl Write for FailingWriter {
     fn write(&mut self, bytes: &[u8]) -> io::Result<usize> {
-        if self.taken >= self.room || bytes.is_empty() {
+        let count = bytes.len().min(self.most).min(self.room);
+        if count == 0 {
             return match self.failure {
                 Some(kind) => Err(io::Error::from(kind)),
                 None => Ok(0),
             };
         }
-        let is_next = match self.expected.as_bytes().get(self.taken) {
-            Some(byte) => *byte == bytes[0],
-            None => false,
+        let Some(front) = bytes.get(..count) else {
+            return Err(io::Error::from(io::ErrorKind::Other));
         };
-        self.is_as_expected = self.is_as_expected && is_next;
-        self.taken += 1;
-        Ok(1)
+        self.taken.extend_from_slice(front)?;
+        self.room = self.room.saturating_sub(count);
+        Ok(count)
     }
 
     fn flush(&mut self) -> io::Result<()> {
@@ -122,46 +163,64 @@ impl Write for FailingWriter {
     }
 }
 
-/// Runs the script to a writer with so much room.
+/// How the script ends with a writer of so much room that takes so many bytes a call, and what the writer has then.
 fn written(
     alloc: Global,
+    lines: &[(&str, &str)],
     room: usize,
+    most: usize,
     failure: Option<io::ErrorKind>,
-) -> Result<(FailingWriter, Result<u64, ScriptFault>), Fail> {
-    let script = script_of(alloc)?;
+) -> Result<(Result<u64, ScriptFault>, String), Fail> {
+    let script = script_of(alloc, lines)?;
     let mut writer = FailingWriter {
-        expected: answers_within(alloc, script.len())?,
-        taken: 0,
+        taken: Vec::new(alloc),
         room,
-        is_as_expected: true,
+        most,
         failure,
     };
     let profile = read_profile(alloc, PROFILE)?;
     let catalog = Arc::new(alloc, Catalog::new(alloc, Vec::new(alloc))?)?;
     let ended = run_script(alloc, &mut script.as_bytes(), &mut writer, profile, catalog);
-    Ok((writer, ended))
+    Ok((ended, String::from_utf8(writer.taken)?))
+}
+
+/// A writer of too little room for the answers has its front of them. One of enough room has them all, and so many lines
+/// are at fault then.
+fn fronts_are_written(
+    rt: &impl Abort,
+    alloc: Global,
+    lines: &[(&str, &str)],
+    faults: u64,
+    most: usize,
+    failure: Option<io::ErrorKind>,
+) -> Result<(), Fail> {
+    let answers = answers_within(alloc, lines, usize::MAX)?;
+    for room in 0..answers.len() {
+        let Some(front) = answers.as_str().get(..room) else {
+            panic!(rt; "no front of {room} bytes");
+        };
+        let (ended, text) = written(alloc, lines, room, most, failure)?;
+        assert_eq!(rt; ended, Err(ScriptFault::Write));
+        assert_eq!(rt; text.as_str(), front);
+    }
+    let (ended, text) = written(alloc, lines, answers.len(), most, failure)?;
+    assert_eq!(rt; ended, Ok(faults));
+    assert_eq!(rt; text.as_str(), answers.as_str());
+    Ok(())
 }
 
 #[test]
 fn a_writer_that_fails_has_a_front_of_the_answers(rt: HostRuntime) -> Result<(), Fail> {
-    let alloc = rt.alloc();
-    let script = script_of(alloc)?;
-    let len = answers_within(alloc, script.len())?.len();
-    for failure in [
-        Some(io::ErrorKind::Other),
-        Some(io::ErrorKind::Interrupted),
-        None,
-    ] {
-        for room in 0..len {
-            let (writer, ended) = written(alloc, room, failure)?;
-            assert_eq!(rt; ended, Err(ScriptFault::Write));
-            assert_eq!(rt; writer.taken, room);
-            assert!(rt; writer.is_as_expected);
+    for (lines, faults) in [(LINES, 0), (LINES_AT_FAULT, 1)] {
+        for most in [1, usize::MAX] {
+            for failure in [
+                Some(io::ErrorKind::Other),
+                Some(io::ErrorKind::Interrupted),
+                None,
+            ] {
+                fronts_are_written(&rt, rt.alloc(), lines, faults, most, failure)?;
+            }
         }
-        let (writer, ended) = written(alloc, len, failure)?;
-        assert_eq!(rt; ended, Ok(1));
-        assert_eq!(rt; writer.taken, len);
-        assert!(rt; writer.is_as_expected);
     }
     Ok(())
 }
