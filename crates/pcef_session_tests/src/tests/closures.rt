@@ -27,21 +27,26 @@ const EXPEDITED: Header = Header {
     dscp: 46,
 };
 
-/// The same packet and one with the default DSCP, taken by a worker after the rule became active.
-const LINES: [&str; 5] = [
+/// Beside an earlier rule for TCP a table is judged by its index. The same packet, one with the default DSCP, and one of
+/// TCP, which the earlier rule decides.
+const LINES: [&str; 7] = [
+    r#"{"do":"install","rule":{"name":"early","precedence":10,"filters":[{"text":"permit out 6 from any to assigned"}],"qci":9,"arp":{"level":8,"capability":false,"vulnerability":true},"gate":"ENABLED"}}"#,
     r#"{"do":"activate","name":"expedited"}"#,
     r#"{"do":"attach"}"#,
     r#"{"do":"take","worker":0,"dir":"down","packet":"45b8001c0000000040110000c63364070a0000020035138800080000"}"#,
     r#"{"do":"take","worker":0,"dir":"down","packet":"4500001c0000000040110000c63364070a0000020035138800080000"}"#,
+    r#"{"do":"take","worker":0,"dir":"down","packet":"45b8001c0000000040060000c63364070a0000020035138800080000"}"#,
     r#"{"do":"flush","worker":0}"#,
 ];
 
-const ANSWERS: [&str; 5] = [
+const ANSWERS: [&str; 7] = [
     r#"{"bearer":5,"generation":1,"ok":true,"reports":[]}"#,
-    r#"{"generation":1,"ok":true,"worker":0}"#,
+    r#"{"bearer":5,"generation":2,"ok":true,"reports":[]}"#,
+    r#"{"generation":2,"ok":true,"worker":0}"#,
     r#"{"ok":true,"waiting":1}"#,
     r#"{"ok":true,"waiting":2}"#,
-    r#"{"ok":true,"reports":[],"verdicts":[{"bearer":5,"generation":1,"rule":"expedited","verdict":"Passed"},{"generation":1,"verdict":"Unmatched"}]}"#,
+    r#"{"ok":true,"waiting":3}"#,
+    r#"{"ok":true,"reports":[],"verdicts":[{"bearer":5,"generation":2,"rule":"expedited","verdict":"Passed"},{"generation":2,"verdict":"Unmatched"},{"bearer":5,"generation":2,"rule":"early","verdict":"Passed"}]}"#,
 ];
 
 /// A shape of one test.
@@ -71,7 +76,9 @@ fn expedited() -> Result<Properties, Fail> {
 }
 
 #[test]
-fn a_script_calls_the_closure_for_each_packet(rt: HostRuntime) -> Result<(), Fail> {
+fn a_script_calls_the_closure_for_each_packet_that_no_earlier_rule_decides(
+    rt: HostRuntime,
+) -> Result<(), Fail> {
     let alloc = rt.alloc();
     let calls = Arc::new(alloc, AtomicU64::new(0))?;
     let theirs = Arc::try_clone(&calls)?;
