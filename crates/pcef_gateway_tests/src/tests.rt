@@ -104,3 +104,8 @@ fn told(ended: &Ended) -> Result<Figures, Fail> {
     }
     Ok(told)
 }
+
+/// The same of a run that nothing else is asked of.
+fn figures_of(ended: Ended) -> Result<Figures, Fail> {
+    told(&ended)
+}

@@ -229,6 +229,52 @@ fn an_installed_rule_goes_before_a_predefined_one(rt: HostRuntime) -> Result<(),
     Ok(())
 }
 
+/// The line that installs a rule `a` for every packet, of this precedence.
+fn install_for_all(alloc: Global, precedence: u32) -> Result<String, Fail> {
+    Ok(format!(in alloc;
+        "{{\"do\":\"install\",\"rule\":{{\"name\":\"a\",\"precedence\":{precedence},\"filters\":[{{\"text\":\"permit out ip from any to any\"}}],\"qci\":9,\"arp\":{{\"level\":8,\"capability\":false,\"vulnerability\":true}},\"gate\":\"ENABLED\"}}}}"
+    )?)
+}
+
+#[test]
+fn a_worker_that_refreshes_judges_by_the_modified_rules(rt: HostRuntime) -> Result<(), Fail> {
+    let alloc = rt.alloc();
+    let first = install_for_all(alloc, 10)?;
+    let second = install(alloc, "b", 20)?;
+    let earlier = install(alloc, "b", 5)?;
+    let tied = install_for_all(alloc, 50)?;
+    let later = install_for_all(alloc, 51)?;
+    let (_, text) = run(
+        alloc,
+        &DNS_ANSWER,
+        PROFILE,
+        &[
+            first.as_str(),
+            second.as_str(),
+            ATTACH,
+            TAKE,
+            earlier.as_str(),
+            REFRESH,
+            TAKE,
+            "{\"do\":\"remove\",\"name\":\"b\"}",
+            tied.as_str(),
+            ACTIVATE_DNS,
+            REFRESH,
+            TAKE,
+            later.as_str(),
+            REFRESH,
+            TAKE,
+            FLUSH,
+        ],
+    )?;
+    assert!(rt;
+        text.as_str().ends_with(
+            "{\"ok\":true,\"waiting\":4}\n{\"ok\":true,\"reports\":[],\"verdicts\":[{\"bearer\":5,\"generation\":2,\"rule\":\"a\",\"verdict\":\"Passed\"},{\"bearer\":5,\"generation\":3,\"rule\":\"b\",\"verdict\":\"Passed\"},{\"bearer\":5,\"generation\":6,\"rule\":\"a\",\"verdict\":\"Passed\"},{\"bearer\":5,\"generation\":7,\"rule\":\"pre-dns\",\"verdict\":\"Passed\"}]}\n"
+        )
+    );
+    Ok(())
+}
+
 #[test]
 fn predefined_rules_judge_and_count(rt: HostRuntime) -> Result<(), Fail> {
     let (_, text) = run(

@@ -4,6 +4,7 @@ use super::*;
 use pcef_model::{Accepted, Body, Cause, Refusal, Report, TriggerSet};
 use pcef_rule::RuleName;
 use pcef_worker::OpenGate;
+use std::process::Abort;
 
 /// The octets that a report tells, if it is of this number, of the key `vid` and of this cause.
 fn usage(report: &Report, number: u64, cause: Cause) -> Result<u64, Fail> {
@@ -31,6 +32,10 @@ fn a_report_is_asked_for_meanwhile(rt: HostRuntime) -> Result<(), Fail> {
         2,
         &OpenGate,
     )??;
+    report_is_told(&rt, &ended)
+}
+
+fn report_is_told(rt: &impl Abort, ended: &Ended) -> Result<(), Fail> {
     assert!(rt; matches!(ended.answers.as_slice(), [Ok(_)]));
     let [report] = ended.reports.as_slice() else {
         return Err("one report was asked for")?;
@@ -46,7 +51,7 @@ fn a_report_is_asked_for_meanwhile(rt: HostRuntime) -> Result<(), Fail> {
         unreported: 56u64.saturating_sub(octets),
         ..Figures::default()
     };
-    assert_eq!(rt; told(&ended)?, expected);
+    assert_eq!(rt; told(ended)?, expected);
     Ok(())
 }
 
@@ -82,6 +87,10 @@ fn each_command_has_its_answer(rt: HostRuntime) -> Result<(), Fail> {
         1,
         &OpenGate,
     )??;
+    answers_are_told(&rt, &ended)
+}
+
+fn answers_are_told(rt: &impl Abort, ended: &Ended) -> Result<(), Fail> {
     let [removed, monitored_again, activated, subscribed] = ended.answers.as_slice() else {
         return Err("each command has an answer")?;
     };
@@ -101,7 +110,7 @@ fn each_command_has_its_answer(rt: HostRuntime) -> Result<(), Fail> {
         keys: 1,
         ..Figures::default()
     };
-    assert_eq!(rt; told(&ended)?, expected);
+    assert_eq!(rt; told(ended)?, expected);
     assert!(rt; ended.reports.is_empty());
     Ok(())
 }
@@ -113,6 +122,10 @@ fn reports_from_before_the_run_are_told_too(rt: HostRuntime) -> Result<(), Fail>
     let arrivals = packets(alloc, 1, 1)?;
     let commands = vec![in alloc; Command::Stop(vid()?)]?;
     let ended = run(&rt, alloc, reported, arrivals, commands, 1, &OpenGate)??;
+    both_reports_are_told(&rt, &ended)
+}
+
+fn both_reports_are_told(rt: &impl Abort, ended: &Ended) -> Result<(), Fail> {
     assert!(rt; matches!(ended.answers.as_slice(), [Ok(_)]));
     let [before, meanwhile] = ended.reports.as_slice() else {
         return Err("there are two reports")?;
@@ -129,6 +142,6 @@ fn reports_from_before_the_run_are_told_too(rt: HostRuntime) -> Result<(), Fail>
         unreported: 28u64.saturating_sub(octets),
         ..Figures::default()
     };
-    assert_eq!(rt; told(&ended)?, expected);
+    assert_eq!(rt; told(ended)?, expected);
     Ok(())
 }

@@ -54,7 +54,7 @@ fn sixteen_workers_may_come(rt: HostRuntime) -> Result<(), Fail> {
         16,
         &OpenGate,
     )??;
-    assert_eq!(rt; told(&ended)?, Figures::default());
+    assert_eq!(rt; figures_of(ended)?, Figures::default());
     Ok(())
 }
 
@@ -98,7 +98,7 @@ fn each_packet_of_a_full_session_is_told_of(rt: HostRuntime) -> Result<(), Fail>
         1,
         &OpenGate,
     )??;
-    let told = told(&ended)?;
+    let told = figures_of(ended)?;
     assert!(rt; told.rows <= 1);
     let left = 100u64
         .saturating_sub(told.rows)

@@ -20,7 +20,7 @@ fn two_counted<R: Threads + Wait + Sync>(
         2,
         &OpenGate,
     )? {
-        Ok(ended) => Ok(Ok(told(&ended)?)),
+        Ok(ended) => Ok(Ok(figures_of(ended)?)),
         Err(fault) => Ok(Err(fault)),
     }
 }
