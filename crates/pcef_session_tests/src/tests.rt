@@ -5,4 +5,5 @@ mod closures;
 mod saturated;
 mod session;
 mod session_ends;
+mod unflushed;
 mod world_steps;
