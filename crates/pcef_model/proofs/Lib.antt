@@ -3,6 +3,7 @@ pub mod AfterEvents
 pub mod BearerIds
 pub mod BoundRules
 pub mod Bounds
+pub mod Budget
 pub mod Capacity
 pub mod Decisive
 pub mod Ending

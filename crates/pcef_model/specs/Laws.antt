@@ -10,7 +10,7 @@ use Rattle.pcef_model.specs.declared.answer.Refusal.TheVariants as refusal
 use Rattle.pcef_model.specs.declared.command.Command.TheVariants.{Terminate}
 use Rattle.pcef_model.specs.Commands.{is_among}
 use Rattle.pcef_model.specs.Journals.{slots}
-use Rattle.pcef_model.specs.Refusals.{attach_faults, first_of, flush_refusals, refusals}
+use Rattle.pcef_model.specs.Refusals.{attach_faults, first_of, flush_refusals, limited_count, refusals}
 use Rattle.pcef_model.specs.Reports.{after_command}
 use Rattle.std.specs.Prelude.{ℕ, ◌≡◌, ◌≤◌, ◌+◌, true, List, ◌∷◌, if◌then◌else◌, ◌==◌, false, Option}
 use Rattle.pcef_model.specs.declared.command.Command.{Command}
@@ -120,3 +120,8 @@ LanesAreNumbered = (p : Setting) (j : Journal) → Lawful p j → (worker : ℕ)
 
 abbrev pub RowsAreWithinTheProfile : Type 0
 RowsAreWithinTheProfile = (p : Setting) (j : Journal) → Lawful p j → length (rows j) ≤ p.rows
+
+-- ---- commands
+-- no more than the profile allows, Close and Terminate apart
+abbrev pub CommandsAreWithinTheProfile : Type 0
+CommandsAreWithinTheProfile = (p : Setting) (j : Journal) → Lawful p j → limited_count j ≤ p.commands

@@ -1,6 +1,6 @@
 //! Laws of the definitions, proved for whoever reads them.
 
-ghost use Rattle.pcef_model.specs.Laws.{EarlierGenerationsStay, IdsAreDistinct, IdsAreInRange, NothingFollowsTheEnd, NothingIsLost, NothingIsReportedTwice, NothingIsUnreportedAtTheEnd, LanesAreNumbered, RatesAreWithinCapacity, ReportsLeaveGenerations, RowsAreWithinTheProfile, RowsCountByTheirOwnGeneration, RowsHaveTheirVerdicts, RowsLeaveGenerations, SlotsStay, TableCommandsMakeTheNext, WaitingRowsStay, WaitingRowsStayBesideOthers};
+ghost use Rattle.pcef_model.specs.Laws.{CommandsAreWithinTheProfile, EarlierGenerationsStay, IdsAreDistinct, IdsAreInRange, NothingFollowsTheEnd, NothingIsLost, NothingIsReportedTwice, NothingIsUnreportedAtTheEnd, LanesAreNumbered, RatesAreWithinCapacity, ReportsLeaveGenerations, RowsAreWithinTheProfile, RowsCountByTheirOwnGeneration, RowsHaveTheirVerdicts, RowsLeaveGenerations, SlotsStay, TableCommandsMakeTheNext, WaitingRowsStay, WaitingRowsStayBesideOthers};
 
 /// How journals grow: earlier generations stay, and each row counts by its own.
 pub fn journals_grow()
@@ -38,6 +38,11 @@ pub fn rows_are_lawful()
     ensures verdicts { RowsHaveTheirVerdicts }
     ensures lanes { LanesAreNumbered }
     ensures within { RowsAreWithinTheProfile }
+{}
+
+/// Commands: there are no more than the profile allows, Close and Terminate apart.
+pub fn commands_are_lawful()
+    ensures within { CommandsAreWithinTheProfile }
 {}
 
 /// The end of a session: a Terminate leaves nothing unreported, and nothing is accepted after it.

@@ -18,8 +18,8 @@ pub use answer::{Accepted, AttachFault, FlushRefusal, Judged, OpenFault, Refusal
 pub use command::Command;
 pub use entry::Entry;
 pub use laws::{
-    bearers_have_their_own_ids, journals_grow, rows_are_lawful, sessions_end_whole, usage_is_exact,
-    waiting_rows_stay,
+    bearers_have_their_own_ids, commands_are_lawful, journals_grow, rows_are_lawful,
+    sessions_end_whole, usage_is_exact, waiting_rows_stay,
 };
 pub use pending_report::PendingReport;
 pub use profile::{MAX_CAPACITY, MAX_COMMANDS, Profile};
