@@ -1,6 +1,6 @@
 //! A session without the closures of its catalog.
 
-ghost use Rattle.std.specs.Prelude.{◌≡◌, ◌≤◌, ◌||◌, [], IfOk};
+ghost use Rattle.std.specs.Prelude.{◌≡◌, ◌≤◌, ◌||◌, [], IfOk, OnErr};
 ghost use Rattle.std.specs.Arc.{arc_value};
 ghost use Rattle.std.specs.Result.{result_err};
 ghost use Rattle.pcef_bearer.specs.Standing.{binding_of};
@@ -12,6 +12,7 @@ ghost use Rattle.pcef_model.specs.Lawful.{Lawful};
 ghost use Rattle.pcef_model.specs.Refusals.{attach_faults, first_of, open_faults, was_closed, was_terminated};
 ghost use Rattle.pcef_model.specs.Terms.{setting_of};
 ghost use Rattle.pcef_session.specs.Agreement.{AreKept, KeysAgree};
+ghost use Rattle.pcef_session.specs.SessionModel.{HasAtLeast};
 ghost use Rattle.pcef_session.specs.Shown.{Shows};
 
 use indexmap::IndexMap;
@@ -153,11 +154,12 @@ impl SessionState {
 
     /// Attaches a worker and gives its number. Numbers go up from 0 and are never used again. Takes
     /// memory for what the journal says of the worker, its leaving included. Refused, in this order, where sixteen
-    /// workers came, where the session was closed or terminated, and for want of memory.
+    /// workers came, where the session was closed or terminated, and for want of memory; a refusal leaves no less room.
     pub fn attach(&mut self) -> Result<u8, AttachFault>
         ensures answer { AttachStep self.old.journal result self.new.journal }
         ensures lane { IfOk result (λ worker. lane self.old.journal worker ≡ []) }
         ensures setting { self.new.setting ≡ self.old.setting }
+        ensures room { OnErr result (HasAtLeast self.old.room self.new.room) }
     {
         if let Some(fault) = self.attach_fault() {
             return Err(fault);

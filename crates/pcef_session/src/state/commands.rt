@@ -1,9 +1,10 @@
 //! Commands.
 
-ghost use Rattle.std.specs.Prelude.{◌≡◌, Ok};
+ghost use Rattle.std.specs.Prelude.{◌≡◌, Ok, OnErr};
 ghost use Rattle.pcef_model.specs.declared.command.Command.TheVariants as of;
 ghost use Rattle.pcef_model.specs.Outcomes.{CommandStep, Gives, command_outcome};
 ghost use Rattle.pcef_session.specs.Preparing.{IsIdle, IsPreparedFor, IsReady, command_of};
+ghost use Rattle.pcef_session.specs.SessionModel.{HasAtLeast};
 
 use super::SessionState;
 use crate::applying::{
@@ -72,10 +73,12 @@ impl SessionState {
         }
     }
 
-    /// Does a command, or answers the first refusal in the order of [`Refusal`], which changes nothing.
+    /// Does a command, or answers the first refusal in the order of [`Refusal`], which changes nothing, and
+    /// leaves no less room.
     pub fn command(&mut self, command: Command) -> Result<Accepted, Refusal>
         ensures answer { CommandStep self.old.setting command self.old.journal result self.new.journal }
         ensures setting { self.new.setting ≡ self.old.setting }
+        ensures room { OnErr result (HasAtLeast self.old.room self.new.room) }
     {
         match self.prepare(command) {
             Err(refusal) => Err(refusal),

@@ -6,6 +6,7 @@ ghost use Rattle.pcef_model.specs.Entries.{rows};
 ghost use Rattle.pcef_model.specs.Reports.{after_flush};
 ghost use Rattle.pcef_model.specs.Outcomes.{FlushStep, flush_answer, flush_answer_of};
 ghost use Rattle.pcef_session.specs.Following.{HasItsSlots, HasSmallRows, row_of};
+ghost use Rattle.pcef_session.specs.SessionModel.{HasAtLeast};
 ghost use Rattle.pcef_model.specs.Lawful.{BatchFollows};
 ghost use Rattle.pcef_model.specs.Refusals.{first_of, flush_refusals};
 
@@ -54,6 +55,7 @@ impl SessionState {
         ensures taken { OnOk result (self.new.journal ≡ after_flush self.old.setting self.old.journal (map row_of items.now)) }
         ensures kept { OnErr result (self.new.journal ≡ self.old.journal) }
         ensures setting { self.new.setting ≡ self.old.setting }
+        ensures room { OnErr result (HasAtLeast self.old.room self.new.room) }
     {
         let judged = note_rows(self.alloc, items)?;
         self.counted
@@ -71,12 +73,13 @@ impl SessionState {
     /// Takes over a worker's waiting rows, all or none. The rows have to be the worker's next ones, each
     /// with the verdict of its own generation and the slot of the key that it counts for. Takes memory for the
     /// rows, their verdicts and the reports. Refused, in this order, where the worker isn't attached, where the
-    /// journal would hold more rows than the profile allows, and for want of memory.
+    /// journal would hold more rows than the profile allows, and for want of memory; a refusal leaves no less room.
     pub fn flush(&mut self, worker: u8, batch: &Batch) -> Result<Verdicts, FlushRefusal>
         requires follow { BatchFollows self.old.setting self.old.journal worker (map row_of batch.now) }
         requires slots { HasItsSlots self.old.setting self.old.journal batch.now }
         ensures answer { FlushStep self.old.setting worker (map row_of batch.now) self.old.journal (result_map_both flush_answer_of (λ e. e) result) self.new.journal }
         ensures setting { self.new.setting ≡ self.old.setting }
+        ensures room { OnErr result (HasAtLeast self.old.room self.new.room) }
     {
         if let Some(refusal) = self.flush_refusal(worker, batch.len()) {
             return Err(refusal);

@@ -1,6 +1,6 @@
 //! Workers that leave.
 
-ghost use Rattle.std.specs.Prelude.{◌≡◌, ◌≤◌, ◌<◌, MatchOption, map, true};
+ghost use Rattle.std.specs.Prelude.{◌≡◌, ◌≤◌, ◌<◌, MatchOption, OnErr, map, true};
 ghost use Rattle.std.specs.Result.{result_map_both};
 ghost use Rattle.pcef_lane.specs.Lanes.{lane_end};
 ghost use Rattle.pcef_model.specs.Outcomes.{FinishStep, abandon_outcome, finish_answer_of};
@@ -9,6 +9,7 @@ ghost use Rattle.pcef_model.specs.Lawful.{BatchFollows};
 ghost use Rattle.pcef_model.specs.Refusals.{is_attached};
 ghost use Rattle.pcef_model.specs.Reports.{after_leave};
 ghost use Rattle.pcef_session.specs.Following.{HasItsSlots, row_of};
+ghost use Rattle.pcef_session.specs.SessionModel.{HasAtLeast};
 
 use super::SessionState;
 use crate::batch::Batch;
@@ -54,6 +55,7 @@ impl SessionState {
         requires slots { HasItsSlots self.old.setting self.old.journal batch.now }
         ensures answer { FinishStep self.old.setting worker (map row_of batch.now) self.old.journal (result_map_both finish_answer_of (λ e. e) result) self.new.journal }
         ensures setting { self.new.setting ≡ self.old.setting }
+        ensures room { OnErr result (HasAtLeast self.old.room self.new.room) }
     {
         match self.flush(worker, batch) {
             Err(refusal) => Err(refusal),
