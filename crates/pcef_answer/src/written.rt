@@ -12,6 +12,7 @@ ghost use Rattle.pcef_model.specs.declared.verdict.Verdict.TheVariants.{Gated, P
 ghost use Rattle.pcef_answer.specs.StepAnswers.{finished_data, flushed_data, judged_data, taken_data, verdict_data, verdicts_data};
 
 use crate::report::report_list;
+use itoa::Buffer;
 use pcef_journal::Journal;
 use pcef_model::{Judged, Verdict, Verdicts};
 use pcef_rule::{BearerId, RuleName};
@@ -239,5 +240,5 @@ fn push_byte(text: &mut String, byte: u8) -> Result<(), AllocError>
 fn push_number(text: &mut String, number: u64) -> Result<(), AllocError>
     ensures { OnOk result (string_bytes text.new ≡ string_bytes text.old ++ decimal number) }
 {
-    write!(text, "{number}")
+    text.push_str(Buffer::new().format(number))
 }
