@@ -1,6 +1,6 @@
 //! A session with its catalog.
 
-ghost use Rattle.std.specs.Prelude.{◌≡◌, ◌≤◌, ◌<◌, [], IfErr, IfOk, MatchOption, Ok, map, true};
+ghost use Rattle.std.specs.Prelude.{◌≡◌, ◌≤◌, ◌<◌, [], IfErr, IfOk, MatchOption, Ok, OnErr, map, true};
 ghost use Rattle.std.specs.Arc.{arc_value};
 ghost use Rattle.std.specs.Result.{result_err, result_map_both};
 ghost use Rattle.pcef_catalog.specs.Catalogs.{offers_of};
@@ -93,6 +93,7 @@ impl Session {
     pub fn command(&mut self, command: Command) -> Result<Accepted, Refusal>
         ensures answer { CommandStep (state_of self.old).setting command (state_of self.old).journal result (state_of self.new).journal }
         ensures setting { (state_of self.new).setting ≡ (state_of self.old).setting }
+        ensures room { OnErr result (HasAtLeast (state_of self.old).room (state_of self.new).room) }
     {
         self.state.command(command)
     }
@@ -102,6 +103,7 @@ impl Session {
         ensures answer { AttachStep (state_of self.old).journal result (state_of self.new).journal }
         ensures lane { IfOk result (λ worker. lane (state_of self.old).journal worker ≡ []) }
         ensures setting { (state_of self.new).setting ≡ (state_of self.old).setting }
+        ensures room { OnErr result (HasAtLeast (state_of self.old).room (state_of self.new).room) }
     {
         self.state.attach()
     }
@@ -112,6 +114,7 @@ impl Session {
         requires slots { HasItsSlots (state_of self.old).setting (state_of self.old).journal batch.now }
         ensures answer { FlushStep (state_of self.old).setting worker (map row_of batch.now) (state_of self.old).journal (result_map_both flush_answer_of (λ e. e) result) (state_of self.new).journal }
         ensures setting { (state_of self.new).setting ≡ (state_of self.old).setting }
+        ensures room { OnErr result (HasAtLeast (state_of self.old).room (state_of self.new).room) }
     {
         self.state.flush(worker, batch)
     }
@@ -138,6 +141,7 @@ impl Session {
         requires slots { HasItsSlots (state_of self.old).setting (state_of self.old).journal batch.now }
         ensures answer { FinishStep (state_of self.old).setting worker (map row_of batch.now) (state_of self.old).journal (result_map_both finish_answer_of (λ e. e) result) (state_of self.new).journal }
         ensures setting { (state_of self.new).setting ≡ (state_of self.old).setting }
+        ensures room { OnErr result (HasAtLeast (state_of self.old).room (state_of self.new).room) }
     {
         self.state.finish(worker, batch)
     }
