@@ -16,11 +16,11 @@ use Rattle.pcef_profile.specs.declared.fault.ReadProfileFault.TheVariants as pro
 use Rattle.pcef_script.specs.declared.fault.ScriptFault.{ScriptFault}
 use Rattle.pcef_script.specs.declared.fault.ScriptFault.TheVariants as script
 use Rattle.pcef_script.specs.Scripts.{Wrote, all_lines}
-use Rattle.pcef_cli.specs.declared.end.End.{End}
-use Rattle.pcef_cli.specs.declared.end.End.TheVariants as ending
-use Rattle.pcef_cli.specs.Ends.{end_status, lines_end, profile_end, script_end, unread_end}
-use Rattle.pcef_cli.specs.PlanRuns.{RanPlan}
-use Rattle.pcef_cli.specs.Programs.{Ends, IsWhole, IsWholeRun, IsWholeScript, Ran, RanScript, Text}
+use Rattle.pcef_program.specs.declared.end.End.{End}
+use Rattle.pcef_program.specs.declared.end.End.TheVariants as ending
+use Rattle.pcef_program.specs.Ends.{end_status, lines_end, profile_end, script_end, unread_end}
+use Rattle.pcef_program.specs.PlanRuns.{RanPlan}
+use Rattle.pcef_program.specs.Programs.{Ends, IsWhole, IsWholeRun, IsWholeScript, Ran, RanScript, Text}
 
 -- ---- statuses
 pub status_most : (e : End) → end_status e ≤ 4

@@ -16,10 +16,10 @@ use Rattle.pcef_run.specs.declared.fault.RunEnd.TheVariants as run
 use Rattle.pcef_run.specs.declared.plan.Plan.{Plan}
 use Rattle.pcef_run.specs.declared.run.Ran.{Ran}
 use Rattle.pcef_run.specs.declared.taken.Counts.{Counts}
-use Rattle.pcef_cli.specs.declared.end.End.{End}
-use Rattle.pcef_cli.specs.declared.end.End.TheVariants as ending
-use Rattle.pcef_cli.specs.Ends.{IsPlanEnd, run_end}
-use Rattle.pcef_cli.specs.PlanRuns.{IsWritten, RanOne, RanPlan}
+use Rattle.pcef_program.specs.declared.end.End.{End}
+use Rattle.pcef_program.specs.declared.end.End.TheVariants as ending
+use Rattle.pcef_program.specs.Ends.{IsPlanEnd, run_end}
+use Rattle.pcef_program.specs.PlanRuns.{IsWritten, RanOne, RanPlan}
 
 -- ---- what is written
 pub written : (ran : Ran) (taken : Counts) (text : List ℕ) (a b c : Option (List ℕ)) → text ≡ summary_text ran taken → Appends a b text → Keeps b c → IsWritten ran taken ending.Done a c

@@ -7,9 +7,9 @@ use Rattle.std.proofs.KnownBytes.{Appends-nil, Appends-trans}
 use Rattle.pcef_script.specs.declared.fault.ScriptFault.{ScriptFault}
 use Rattle.pcef_script.specs.declared.fault.ScriptFault.TheVariants as script
 use Rattle.pcef_script.specs.ScriptLines.{AppendsFront}
-use Rattle.pcef_cli.specs.declared.end.End.{End}
-use Rattle.pcef_cli.specs.Ends.{end_text}
-use Rattle.pcef_cli.specs.Telling.{AppendsSome, IsTold}
+use Rattle.pcef_program.specs.declared.end.End.{End}
+use Rattle.pcef_program.specs.Ends.{end_text}
+use Rattle.pcef_program.specs.Telling.{AppendsSome, IsTold}
 
 -- bytes that were put, or a front of them
 pub put_some : {T : Type 0} (r : Result T ScriptFault) (a b : Option (List ℕ)) (text : List ℕ) → OnOk r (Appends a b text) → IfErr r (λ e. (e ≡ script.Write) × AppendsFront a b text) → AppendsSome a b

@@ -15,8 +15,8 @@ use Rattle.pcef_run.specs.declared.fault.PlanFault.{PlanFault}
 use Rattle.pcef_run.specs.declared.fault.PlanFault.TheVariants as plan
 use Rattle.pcef_run.specs.declared.fault.RunEnd.{RunEnd}
 use Rattle.pcef_run.specs.declared.fault.RunEnd.TheVariants as run
-use Rattle.pcef_cli.specs.declared.end.End.{End}
-use Rattle.pcef_cli.specs.declared.end.End.TheVariants as end
+use Rattle.pcef_program.specs.declared.end.End.{End}
+use Rattle.pcef_program.specs.declared.end.End.TheVariants as end
 
 abbrev pub end_status : End → ℕ
 end_status end.Done = 0

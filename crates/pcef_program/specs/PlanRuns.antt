@@ -14,9 +14,9 @@ use Rattle.pcef_run.specs.declared.fault.PlanFault.TheVariants as fault
 use Rattle.pcef_run.specs.declared.plan.Plan.{Plan}
 use Rattle.pcef_run.specs.declared.run.Ran.{Ran}
 use Rattle.pcef_run.specs.declared.taken.Counts.{Counts}
-use Rattle.pcef_cli.specs.declared.end.End.{End}
-use Rattle.pcef_cli.specs.declared.end.End.TheVariants as ending
-use Rattle.pcef_cli.specs.Ends.{line_text, open_end}
+use Rattle.pcef_program.specs.declared.end.End.{End}
+use Rattle.pcef_program.specs.declared.end.End.TheVariants as ending
+use Rattle.pcef_program.specs.Ends.{line_text, open_end}
 
 -- what a run came to is written, or a front of it where the writer fails
 abbrev pub IsWritten : Ran → Counts → End → Option (List ℕ) → Option (List ℕ) → Type 0

@@ -13,11 +13,11 @@ use Rattle.pcef_profile.specs.declared.fault.ReadProfileFault.{ReadProfileFault}
 use Rattle.pcef_script.specs.declared.fault.ScriptFault.{ScriptFault}
 use Rattle.pcef_script.specs.Runs.{Runs}
 use Rattle.pcef_script.specs.Scripts.{Opened, Wrote, all_lines}
-use Rattle.pcef_cli.specs.declared.end.End.{End}
-use Rattle.pcef_cli.specs.declared.end.End.TheVariants as ending
-use Rattle.pcef_cli.specs.Ends.{profile_end, script_end, unread_end}
-use Rattle.pcef_cli.specs.PlanRuns.{RanPlan}
-use Rattle.pcef_cli.specs.Words.{path_of}
+use Rattle.pcef_program.specs.declared.end.End.{End}
+use Rattle.pcef_program.specs.declared.end.End.TheVariants as ending
+use Rattle.pcef_program.specs.Ends.{profile_end, script_end, unread_end}
+use Rattle.pcef_program.specs.PlanRuns.{RanPlan}
+use Rattle.pcef_program.specs.Words.{path_of}
 
 -- ---- what the words ask for
 -- a profile's text, or why its file can't be read

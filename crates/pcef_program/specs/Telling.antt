@@ -2,8 +2,8 @@
 use Rattle.std.specs.Prelude.{ℕ, ◌≡◌, List, [], ◌++◌, Option}
 use Rattle.std.specs.Io.KnownBytes.{Appends}
 use Rattle.pcef_script.specs.ScriptLines.{AppendsFront}
-use Rattle.pcef_cli.specs.declared.end.End.{End}
-use Rattle.pcef_cli.specs.Ends.{end_text}
+use Rattle.pcef_program.specs.declared.end.End.{End}
+use Rattle.pcef_program.specs.Ends.{end_text}
 
 -- The line of the end, and then an explanation for people; nothing of an end without a line. Of all that
 -- only a front where the writer fails.

@@ -6,7 +6,7 @@ ghost use Rattle.pcef_catalog.specs.Shapes.{port_between, remote_port, shape_hol
 ghost use Rattle.pcef_rule.specs.Name.{IsName};
 ghost use Rattle.pcef_rule.specs.Priority.{IsLevel};
 ghost use Rattle.pcef_rule.specs.declared.gate.Gate.TheVariants as gate;
-ghost use Rattle.pcef_cli.specs.BuiltIn.{dns_properties, dns_shape, expedited_properties, expedited_shape, qos_of, remaining_properties, remaining_shape};
+ghost use Rattle.pcef_program.specs.BuiltIn.{dns_properties, dns_shape, expedited_properties, expedited_shape, qos_of, remaining_properties, remaining_shape};
 
 use arrayvec::ArrayVec;
 use pcef_catalog::{Alternative, Shape, Test};
@@ -59,28 +59,28 @@ fn properties(name: &str, precedence: u32, qos: Qos, key: Option<KeyName>) -> Pr
 }
 
 /// The properties of the rule for DNS.
-pub(crate) fn dns_properties() -> Properties
+pub fn dns_properties() -> Properties
     ensures { result ≡ dns_properties }
 {
     properties("pre-dns", 50, qos(9, 8, true), Some(key_name("dns")))
 }
 
 /// The properties of the rule for expedited forwarding.
-pub(crate) fn expedited_properties() -> Properties
+pub fn expedited_properties() -> Properties
     ensures { result ≡ expedited_properties }
 {
     properties("pre-ef", 200, qos(5, 4, false), None)
 }
 
 /// The properties of the rule for all packets.
-pub(crate) fn remaining_properties() -> Properties
+pub fn remaining_properties() -> Properties
     ensures { result ≡ remaining_properties }
 {
     properties("pre-rest", 4_294_967_295, qos(9, 8, true), None)
 }
 
 /// DNS over UDP or TCP: the remote port is 53.
-pub(crate) fn dns_shape() -> Shape
+pub fn dns_shape() -> Shape
     ensures { result ≡ dns_shape }
 {
     let mut udp = Alternative::default();
@@ -96,7 +96,7 @@ pub(crate) fn dns_shape() -> Shape
 }
 
 /// Expedited forwarding (RFC 3246): the DSCP is 46.
-pub(crate) fn expedited_shape() -> Shape
+pub fn expedited_shape() -> Shape
     ensures { result ≡ expedited_shape }
 {
     let mut expedited = Alternative::default();
@@ -107,7 +107,7 @@ pub(crate) fn expedited_shape() -> Shape
 }
 
 /// All packets: an alternative without tests.
-pub(crate) fn remaining_shape() -> Shape
+pub fn remaining_shape() -> Shape
     ensures { result ≡ remaining_shape }
 {
     let mut alternatives = ArrayVec::new();
@@ -129,25 +129,22 @@ fn is_remote_dns(header: &Header) -> bool
 }
 
 /// Whether a packet is DNS over UDP or TCP.
-pub(crate) fn is_dns(header: &Header) -> bool
+pub fn is_dns(header: &Header) -> bool
     ensures { result ≡ shape_holds dns_shape header.now }
 {
     (header.proto == 17 || header.proto == 6) && is_remote_dns(header)
 }
 
 /// Whether a packet asks for expedited forwarding.
-pub(crate) fn is_expedited(header: &Header) -> bool
+pub fn is_expedited(header: &Header) -> bool
     ensures { result ≡ shape_holds expedited_shape header.now }
 {
     header.dscp == 46
 }
 
 /// Whether a packet is any packet.
-pub(crate) fn is_remaining(_header: &Header) -> bool
+pub fn is_remaining(_header: &Header) -> bool
     ensures { result ≡ shape_holds remaining_shape _header.now }
 {
     true
 }
-
-#[cfg(test)]
-mod tests;

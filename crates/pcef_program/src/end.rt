@@ -1,8 +1,8 @@
 //! How the program ends.
 
 ghost use Rattle.std.specs.Prelude.{◌≡◌, Err, IfOk, string_bytes};
-ghost use Rattle.pcef_cli.specs.declared.end.End.TheVariants.{Profile, Run};
-ghost use Rattle.pcef_cli.specs.Ends.{IsPlanEnd, end_status, end_text, line_text, open_end, profile_end, run_end, script_end, unread_end};
+ghost use Rattle.pcef_program.specs.declared.end.End.TheVariants.{Profile, Run};
+ghost use Rattle.pcef_program.specs.Ends.{IsPlanEnd, end_status, end_text, line_text, open_end, profile_end, run_end, script_end, unread_end};
 
 use pcef_gateway::RunFault;
 use pcef_model::OpenFault;

@@ -2,12 +2,12 @@
 
 ghost use Rattle.std.specs.Prelude.{◌≡◌, ◌⊎◌};
 ghost use Rattle.std.specs.Io.KnownBytes.{Keeps};
-ghost use Rattle.pcef_cli.specs.declared.end.End.TheVariants.{Done, Write as WriteEnd};
+ghost use Rattle.pcef_program.specs.declared.end.End.TheVariants.{Done, Write as WriteEnd};
 ghost use Rattle.std.specs.Arc.{arc_value};
 ghost use Rattle.pcef_catalog.specs.Catalogs.{offers_of};
 ghost use Rattle.pcef_model.specs.Terms.{setting_of};
 ghost use Rattle.pcef_run.specs.declared.taken.Counts.{Counts};
-ghost use Rattle.pcef_cli.specs.PlanRuns.{IsWritten, RanOne, RanPlan};
+ghost use Rattle.pcef_program.specs.PlanRuns.{IsWritten, RanOne, RanPlan};
 
 use crate::end::{End, plan_end, run_end};
 use pcef_catalog::Catalog;

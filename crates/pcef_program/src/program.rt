@@ -4,11 +4,11 @@ ghost use Rattle.std.specs.Prelude.{◌≡◌, ◌≤◌, Some, option_map};
 ghost use Rattle.std.specs.Arc.{arc_value};
 ghost use Rattle.pcef_catalog.specs.Catalogs.{offers_of};
 ghost use Rattle.pcef_model.specs.Terms.{setting_of};
-ghost use Rattle.pcef_cli.specs.declared.end.End.{End};
-ghost use Rattle.pcef_cli.specs.Ends.{end_status};
-ghost use Rattle.pcef_cli.specs.Programs.{Ends, IsWhole, Ran, RanScript, asked};
-ghost use Rattle.pcef_cli.specs.Telling.{IsTold};
-ghost use Rattle.pcef_cli.specs.Words.{workers_of};
+ghost use Rattle.pcef_program.specs.declared.end.End.{End};
+ghost use Rattle.pcef_program.specs.Ends.{end_status};
+ghost use Rattle.pcef_program.specs.Programs.{Ends, IsWhole, Ran, RanScript, asked};
+ghost use Rattle.pcef_program.specs.Telling.{IsTold};
+ghost use Rattle.pcef_program.specs.Words.{workers_of};
 
 use crate::end::{End, profile_end, script_end, unread_end};
 use crate::plan_run::run_input;
@@ -169,10 +169,3 @@ pub fn program<T: Threads + Wait + Sync, R: Read, W: Write, E: Write>(
     tell(alloc, &end, words, profile, faults);
     end.status()
 }
-
-#[cfg(test)]
-mod live;
-#[cfg(test)]
-mod runs;
-#[cfg(test)]
-mod tests;

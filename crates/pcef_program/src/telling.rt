@@ -1,7 +1,7 @@
 //! What is said of an end on the writer for faults.
 
 ghost use Rattle.std.specs.Prelude.{◌≡◌};
-ghost use Rattle.pcef_cli.specs.Telling.{AppendsSome, IsTold};
+ghost use Rattle.pcef_program.specs.Telling.{AppendsSome, IsTold};
 
 use crate::end::End;
 use crate::words::path_of;

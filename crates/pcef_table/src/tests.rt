@@ -228,6 +228,23 @@ fn a_generation_after_another(rt: HostRuntime) -> Result<(), Fail> {
 }
 
 #[test]
+fn a_generation_without_the_rules_of_a_bearer(rt: HostRuntime) -> Result<(), Fail> {
+    let catalog = Catalog::new(rt.alloc(), Vec::new(rt.alloc()))?;
+    let rules = [
+        ("a", 50, Gate::Enabled, 6),
+        ("b", 60, Gate::Enabled, 5),
+        ("c", 70, Gate::Enabled, 6),
+    ];
+    let table = table_of(&rt, rt.alloc(), &catalog, &rules)?;
+    assert!(rt; table.generation() < 100);
+    let fewer = table.without_bearer(&catalog, BearerId(6))?;
+    assert_eq!(rt; fewer.generation(), 4);
+    assert_eq!(rt; fewer.entries().len(), 1);
+    assert_eq!(rt; fewer.classify(&catalog, UE, &DNS_ANSWER), passed("b", 5)?);
+    Ok(())
+}
+
+#[test]
 fn counting_of_a_slot(rt: HostRuntime) -> Result<(), Fail> {
     let catalog = Catalog::new(rt.alloc(), Vec::new(rt.alloc()))?;
     let table = table_of(&rt, rt.alloc(), &catalog, &[("web", 50, Gate::Enabled, 5)])?;

@@ -1,7 +1,7 @@
 //! Whoever writes a line and waits gets its answer.
 
-use super::tests::{octets, program_on};
-use crate::tests::PROFILE;
+use super::program::{octets, program_on};
+use pcef_test_scripts::PROFILE;
 use std::alloc::Global;
 use std::cell::Cell;
 use std::io;

@@ -1,13 +1,13 @@
 //! Exit statuses, and what is said of faults.
 
-use super::program;
-use crate::end::{End, profile_end, script_end, unread_end};
-use crate::tests::PROFILE;
 use pcef_catalog::Catalog;
 use pcef_model::OpenFault;
 use pcef_profile::ReadProfileFault;
+use pcef_program::end::{End, profile_end, script_end, unread_end};
+use pcef_program::program::program;
 use pcef_run::{Storing, Taken};
 use pcef_script::ScriptFault;
+use pcef_test_scripts::PROFILE;
 use pcef_trigger::{Outlet, ReportKind, Reporter};
 use std::alloc::Global;
 use std::io;

@@ -2,12 +2,12 @@
 
 ghost use Rattle.std.specs.Prelude.{[]};
 
-use super::program;
-use super::tests::{octets, program_on, run};
-use crate::tests::PROFILE;
+use super::program::{octets, program_on, run};
 use pcef_catalog::Catalog;
 use pcef_model::Report;
+use pcef_program::program::program;
 use pcef_run::Taken;
+use pcef_test_scripts::{PROFILE, script_of};
 use pcef_trigger::{Answer, Outlet, ReportKind, Reporter};
 use std::alloc::Global;
 use std::io;
@@ -39,7 +39,7 @@ fn run_lines<T: Threads + Wait + Sync>(
     lines: &[&str],
 ) -> Result<(u8, String, String), Fail> {
     let words = octets(alloc, &["run", "profile.toml", workers])?;
-    let input = crate::tests::script_of(alloc, lines)?;
+    let input = script_of(alloc, lines)?;
     run(rt, alloc, &words, Some(PROFILE), input.as_str())
 }
 
@@ -271,7 +271,7 @@ fn a_reporter_that_refuses_ends_the_program(rt: HostRuntime) -> Result<(), Fail>
     let Ok(outlet) = Outlet::new(reporters) else {
         return Err("there is one reporter")?;
     };
-    let lines = crate::tests::script_of(alloc, &[MONITOR, "{\"do\":\"stop\",\"key\":\"vid\"}"])?;
+    let lines = script_of(alloc, &[MONITOR, "{\"do\":\"stop\",\"key\":\"vid\"}"])?;
     let mut written = Vec::new(alloc);
     let mut faults = Vec::new(alloc);
     let mut input = lines.as_bytes();

@@ -1,5 +1,5 @@
 use Rattle.std.proofs.Common.{refl}
-use Rattle.pcef_cli.proofs.end.run_text.Goals as goal
+use Rattle.pcef_program.proofs.end.run_text.Goals as goal
 
 pub returns-in-Workers : goal.returns-in-Workers
 returns-in-Workers c = rw c.in-Workers.is refl

@@ -2,9 +2,9 @@ use Rattle.std.proofs.Common.{subst, sym}
 use Rattle.std.specs.Arc.{arc_value}
 use Rattle.pcef_catalog.specs.Catalogs.{offers_of}
 use Rattle.pcef_model.specs.Terms.{setting_of}
-use Rattle.pcef_cli.specs.PlanRuns.{RanOne}
-use Rattle.pcef_cli.proofs.RunEnds.{none_told, one_told}
-use Rattle.pcef_cli.proofs.plan_run.run_one.Goals as goal
+use Rattle.pcef_program.specs.PlanRuns.{RanOne}
+use Rattle.pcef_program.proofs.RunEnds.{none_told, one_told}
+use Rattle.pcef_program.proofs.plan_run.run_one.Goals as goal
 
 pub returns-in-Ok : goal.returns-in-Ok
 returns-in-Ok g c = one_told _ c.args.plan c.args.workers c.in-Ok.ran c.tell_run.result _ _ c.in-Ok.ensures.ran c.tell_run.ensures

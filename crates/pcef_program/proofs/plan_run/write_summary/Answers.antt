@@ -1,7 +1,7 @@
 use Rattle.std.proofs.Common.{rules, ◌≡◌}
 use Rattle.pcef_run.specs.Summaries.{summary_text}
-use Rattle.pcef_cli.proofs.RunEnds.{flushed, unwritten}
-use Rattle.pcef_cli.proofs.plan_run.write_summary.Goals as goal
+use Rattle.pcef_program.proofs.RunEnds.{flushed, unwritten}
+use Rattle.pcef_program.proofs.plan_run.write_summary.Goals as goal
 
 pub returns-in-Ok-put_all : goal.returns-in-Ok-put_all
 returns-in-Ok-put_all g c =

@@ -1,10 +1,10 @@
 use Rattle.std.proofs.Common.{◌≤◌, ◌∙◌, subst, sym}
 use Rattle.std.specs.Arc.{arc_value}
 use Rattle.pcef_catalog.specs.Catalogs.{offers_of}
-use Rattle.pcef_cli.specs.Programs.{Ends, asked}
-use Rattle.pcef_cli.specs.Words.{workers_of}
-use Rattle.pcef_cli.proofs.Endings.{status_most, whole_ended}
-use Rattle.pcef_cli.proofs.program.program.Goals as goal
+use Rattle.pcef_program.specs.Programs.{Ends, asked}
+use Rattle.pcef_program.specs.Words.{workers_of}
+use Rattle.pcef_program.proofs.Endings.{status_most, whole_ended}
+use Rattle.pcef_program.proofs.program.program.Goals as goal
 
 pub returns-clause-ends : goal.returns-clause-ends
 returns-clause-ends g c =

@@ -1,5 +1,5 @@
-use Rattle.pcef_cli.proofs.Tellings.{more_some, put_some}
-use Rattle.pcef_cli.proofs.telling.put_details.Goals as goal
+use Rattle.pcef_program.proofs.Tellings.{more_some, put_some}
+use Rattle.pcef_program.proofs.telling.put_details.Goals as goal
 
 pub returns-in-Ok : goal.returns-in-Ok
 returns-in-Ok g c =

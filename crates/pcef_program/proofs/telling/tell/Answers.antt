@@ -1,8 +1,8 @@
 use Rattle.std.proofs.Common.{◌∙◌, subst, sym}
 use Rattle.std.specs.Io.KnownBytes.{Appends}
 use Rattle.pcef_script.specs.ScriptLines.{AppendsFront}
-use Rattle.pcef_cli.proofs.Tellings.{not_empty, told_line, told_more, told_nothing}
-use Rattle.pcef_cli.proofs.telling.tell.Goals as goal
+use Rattle.pcef_program.proofs.Tellings.{not_empty, told_line, told_more, told_nothing}
+use Rattle.pcef_program.proofs.telling.tell.Goals as goal
 
 pub returns-then-is_empty : goal.returns-then-is_empty
 returns-then-is_empty g c = told_nothing c.args.end.now (g.E.Write.contents c.args.faults.now)
