@@ -8,7 +8,6 @@ ghost use Rattle.pcef_share.specs.Names.{name_at};
 mod batches;
 mod beginnings;
 mod closing;
-mod crowded;
 mod gathering;
 mod generations;
 mod last_flush;
@@ -43,7 +42,6 @@ enum Story {
     RuleGone,
     HeldUp,
     NoMemory,
-    Crowded,
     Begins(Beginning),
 }
 
@@ -52,7 +50,6 @@ fn places(story: Story) -> u8 {
     match story {
         Story::Begins(Beginning::OnePlace) => 1,
         Story::Begins(Beginning::LastLeaves) => 3,
-        Story::Crowded => 16,
         _ => 2,
     }
 }
@@ -131,7 +128,6 @@ fn told_by<
         Story::RuleGone => generations::rule_gone(rt, alloc, shared, desk),
         Story::HeldUp => threads::held_up(rt, alloc, shared, desk),
         Story::NoMemory => memory::no_memory(rt, alloc, shared),
-        Story::Crowded => crowded::crowded(rt, alloc, shared, desk),
         Story::Begins(_) => Err("it has begun")?,
     }
 }
