@@ -1,7 +1,7 @@
 -- Lists read from the oldest on and from the newest on.
 use Rattle.std.proofs.Common.{◌≡◌, ◌∙◌, sym, ap, refl, Bool, true, false, List, [], ◌∷◌, ◌++◌}
 use Rattle.std.specs.Prelude.{reverse, filter, if◌then◌else◌}
-use Rattle.std.proofs.lemmas.List.{append-nil, reverse-append, reverse-reverse}
+use Rattle.std.proofs.lemmas.List.{append-nil, reverse-append}
 use Rattle.std.proofs.lemmas.List.Elements.{filter-append}
 
 reverse-filter-cons : {X : Type 0} (p : X → Bool) (x : X) (xs : List X) → reverse (filter p (x ∷ xs)) ≡ reverse (filter p xs) ++ filter p (x ∷ [])

@@ -91,9 +91,9 @@ impl<'a> Iterator for Commands<'a> {
     ghost remaining = { item_count (λ commands. commands) };
 
     fn next(&mut self) -> Option<&'a Command> {
-        let (first, others) = self.rest.split_first()?;
+        let (command, others) = self.rest.split_first()?;
         self.rest = others;
-        Some(first)
+        Some(command)
     }
 }
 
@@ -128,8 +128,8 @@ impl<'a> Iterator for Reports<'a> {
     ghost remaining = { item_count (λ reports. reports) };
 
     fn next(&mut self) -> Option<&'a Report> {
-        let (first, others) = self.rest.split_first()?;
+        let (report, others) = self.rest.split_first()?;
         self.rest = others;
-        Some(first)
+        Some(report)
     }
 }

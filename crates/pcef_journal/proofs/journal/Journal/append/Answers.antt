@@ -1,10 +1,10 @@
-use Rattle.std.proofs.Common.{◌≡◌, ◌∷◌, ◌++◌, [], ◌∙◌, ap, refl, sym, length}
+use Rattle.std.proofs.Common.{◌≡◌, ◌∷◌, [], ◌∙◌, ap, refl, sym}
 use Rattle.std.specs.Prelude.{reverse}
 use Rattle.std.proofs.lemmas.List.{reverse-append}
 use Rattle.pcef_model.specs.declared.entry.Entry.TheVariants as entry
 use Rattle.pcef_model.specs.Entries.{commands, reports, rows}
 use Rattle.pcef_journal.specs.declared.journal.Mark.TheVariants as mark
-use Rattle.pcef_journal.specs.KeptRows.{ArePlaced, rows_of}
+use Rattle.pcef_journal.specs.KeptRows.{rows_of}
 use Rattle.pcef_journal.specs.JournalView.{entries_kept, entries_of, kept_rows}
 use Rattle.pcef_journal.proofs.Placed.{all_placed, one_more_row}
 use Rattle.pcef_journal.proofs.journal.Journal.append.Goals as goal
@@ -32,9 +32,9 @@ invariant_of-self-in-Row c =
       rows_are = ap rows (entries_grow c) ∙ ap (λ rs. c.in-Row.row ∷ rs) c.self.invariant.rows_are ∙ sym (rows_grow c);
       reports_are = ap reports (entries_grow c) ∙ c.self.invariant.reports_are;
       placed =
-        rw (c.push_reserved-in-Row-2.ensures.items, c.new.ensures.names.1)
-        (all_placed c.self.inside.names.names c.new.ensures.names.0 c.self.inside.rows.items c.new.result c.self.invariant.placed
-        (rw (← c.new.ensures.names.1) c.new.ensures.place));
+          rw (c.push_reserved-in-Row-2.ensures.items, c.new.ensures.names.1)
+          (all_placed c.self.inside.names.names c.new.ensures.names.0 c.self.inside.rows.items c.new.result c.self.invariant.placed
+          (rw (← c.new.ensures.names.1) c.new.ensures.place));
     }
 
 pub returns-in-Row-clause-entries : goal.returns-in-Row-clause-entries
