@@ -54,18 +54,18 @@ impl Names {
     }
 
     /// The place of a name, which is added where it is new. Takes no memory.
-    pub(crate) fn place_of(&mut self, name: RuleName) -> u32
+    pub(crate) fn place_of(&mut self, name: &RuleName) -> u32
         requires { 0 < self.old.room }
-        ensures place { slice_get self.new.names result ≡ Some name }
+        ensures place { slice_get self.new.names result ≡ Some name.now }
         ensures names { GoesOn self.old.names self.new.names }
         ensures room { self.old.room ≤ self.new.room + 1 }
     {
         if let Some(last) = self.names.get_index(self.last as usize) {
-            if *last == name {
+            if *last == *name {
                 return self.last;
             }
         }
-        match self.names.insert_full(name) {
+        match self.names.insert_full(name.copy()) {
             Ok((place, _)) => {
                 self.last = place as u32;
                 self.last

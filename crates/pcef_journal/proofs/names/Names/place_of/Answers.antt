@@ -8,7 +8,7 @@ pub returns-clause-names : goal.returns-clause-names
 returns-clause-names c =
     elim c.match-get_index.branch [
       | in-Some+else-eq w ↦
-          name_goes_on same_name _ _ _ c.args.name (ap (λ s. s.names.keys) w.self-inside-is ∙ ap (λ v. v.names) c.self.view_is) c.in-Ok.ensures.keys
+          name_goes_on same_name _ _ _ c.copy.result (ap (λ s. s.names.keys) w.self-inside-is ∙ ap (λ v. v.names) c.self.view_is) c.in-Ok.ensures.keys
       | in_default w ↦
-          name_goes_on same_name _ _ _ c.args.name (ap (λ s. s.names.keys) w.self-inside-is ∙ ap (λ v. v.names) c.self.view_is) c.in-Ok.ensures.keys
+          name_goes_on same_name _ _ _ c.copy.result (ap (λ s. s.names.keys) w.self-inside-is ∙ ap (λ v. v.names) c.self.view_is) c.in-Ok.ensures.keys
     ]
