@@ -92,7 +92,7 @@ impl Journal {
             Entry::Leave(worker) => self.marks.push_reserved(Mark::Leave(worker)),
             Entry::Row(row) => {
                 self.marks.push_reserved(Mark::Row);
-                self.rows.push_reserved(KeptRow::new(row, &mut self.names));
+                self.rows.push_reserved(KeptRow::new(&row, &mut self.names));
             }
             Entry::Report(report) => {
                 self.marks.push_reserved(Mark::Report);

@@ -43,9 +43,9 @@ fn name_at(names: &[RuleName], place: u32) -> RuleName
 }
 
 /// What is kept of a verdict, and the place of its rule's name, which is added where it is new.
-fn keep_verdict(verdict: Verdict, names: &mut Names) -> (u32, KeptVerdict)
+fn keep_verdict(verdict: &Verdict, names: &mut Names) -> (u32, KeptVerdict)
     requires { 0 < names.old.room }
-    ensures verdict { verdict_of names.new.names result.0 result.1 ≡ verdict }
+    ensures verdict { verdict_of names.new.names result.0 result.1 ≡ verdict.now }
     ensures place { IsPlaced (length names.new.names) result.0 result.1 }
     ensures names { GoesOn names.old.names names.new.names }
     ensures room { names.old.room ≤ names.new.room + 1 }
@@ -54,20 +54,20 @@ fn keep_verdict(verdict: Verdict, names: &mut Names) -> (u32, KeptVerdict)
         Verdict::Stray => (0, KeptVerdict::Stray),
         Verdict::Unmatched => (0, KeptVerdict::Unmatched),
         Verdict::Gated { rule } => (names.place_of(rule), KeptVerdict::Gated),
-        Verdict::Passed { rule, bearer } => (names.place_of(rule), KeptVerdict::Passed(bearer)),
+        Verdict::Passed { rule, bearer } => (names.place_of(rule), KeptVerdict::Passed(*bearer)),
     }
 }
 
 impl KeptRow {
     /// What is kept of a row. The name of its rule is added where it is new. Takes no memory.
-    pub(crate) fn new(row: Row, names: &mut Names) -> KeptRow
+    pub(crate) fn new(row: &Row, names: &mut Names) -> KeptRow
         requires { 0 < names.old.room }
-        ensures row { row_of names.new.names result ≡ row }
+        ensures row { row_of names.new.names result ≡ row.now }
         ensures place { IsPlaced (length names.new.names) result.rule result.verdict }
         ensures names { GoesOn names.old.names names.new.names }
         ensures room { names.old.room ≤ names.new.room + 1 }
     {
-        let (rule, verdict) = keep_verdict(row.verdict, names);
+        let (rule, verdict) = keep_verdict(&row.verdict, names);
         KeptRow {
             seq: row.seq,
             generation: row.generation,

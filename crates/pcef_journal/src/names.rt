@@ -53,25 +53,37 @@ impl Names {
         self.names.reserve(additional)
     }
 
-    /// The place of a name, which is added where it is new. Takes no memory.
-    pub(crate) fn place_of(&mut self, name: RuleName) -> u32
+    /// The place of a name that isn't the last one, found by its hash or added. Apart from `place_of`, which
+    /// stays small.
+    #[inline(never)]
+    fn find(&mut self, name: &RuleName) -> u32
         requires { 0 < self.old.room }
-        ensures place { slice_get self.new.names result ≡ Some name }
+        ensures place { slice_get self.new.names result ≡ Some name.now }
         ensures names { GoesOn self.old.names self.new.names }
         ensures room { self.old.room ≤ self.new.room + 1 }
     {
-        if let Some(last) = self.names.get_index(self.last as usize) {
-            if *last == name {
-                return self.last;
-            }
-        }
-        match self.names.insert_full(name) {
+        match self.names.insert_full(name.copy()) {
             Ok((place, _)) => {
                 self.last = place as u32;
                 self.last
             }
             Err(_) => unreachable!(),
         }
+    }
+
+    /// The place of a name, which is added where it is new. Takes no memory.
+    pub(crate) fn place_of(&mut self, name: &RuleName) -> u32
+        requires { 0 < self.old.room }
+        ensures place { slice_get self.new.names result ≡ Some name.now }
+        ensures names { GoesOn self.old.names self.new.names }
+        ensures room { self.old.room ≤ self.new.room + 1 }
+    {
+        if let Some(last) = self.names.get_index(self.last as usize) {
+            if *last == *name {
+                return self.last;
+            }
+        }
+        self.find(name)
     }
 
     /// The names, each at its place.
