@@ -1,2 +1,4 @@
 pub mod Askings
+pub mod Fates
+pub mod Fronts
 pub mod Writings

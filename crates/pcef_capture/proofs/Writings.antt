@@ -76,16 +76,22 @@ flush_there workers n =
 abbrev pub lines_from : ℕ → ℕ → List Item → List ℕ
 lines_from workers n items = flat_map (numbered_lines workers) (enumerate_from n items)
 
-lines_more : (workers n : ℕ) (items : List Item) (item : Item) →
-    lines_from workers n (items ++ item ∷ []) ≡ lines_from workers n items ++ numbered_lines workers (n + length items, item)
-lines_more workers n [] item =
-    let place : n + 0 ≡ n = omega arith in
-    append-nil (numbered_lines workers (n, item)) ∙ ap (λ k. numbered_lines workers (k, item)) (sym place)
-lines_more workers n (x ∷ items) item =
+pub lines_both : (workers n : ℕ) (items more : List Item) →
+    lines_from workers n (items ++ more) ≡ lines_from workers n items ++ lines_from workers (n + length items) more
+lines_both workers n [] more =
+    let place : n ≡ n + 0 = omega arith in
+    ap (λ k. lines_from workers k more) place
+lines_both workers n (x ∷ items) more =
     let first = numbered_lines workers (n, x) in
     let place : n + 1 + length items ≡ n + suc (length items) = omega arith in
-    ap (λ t. first ++ t) (lines_more workers (n + 1) items item ∙ ap (λ k. lines_from workers (n + 1) items ++ numbered_lines workers (k, item)) place)
-    ∙ sym (append_assoc first (lines_from workers (n + 1) items) (numbered_lines workers (n + suc (length items), item)))
+    ap (λ t. first ++ t) (lines_both workers (n + 1) items more ∙ ap (λ k. lines_from workers (n + 1) items ++ lines_from workers k more) place)
+    ∙ sym (append_assoc first (lines_from workers (n + 1) items) (lines_from workers (n + suc (length items)) more))
+
+lines_more : (workers n : ℕ) (items : List Item) (item : Item) →
+    lines_from workers n (items ++ item ∷ []) ≡ lines_from workers n items ++ numbered_lines workers (n + length items, item)
+lines_more workers n items item =
+    lines_both workers n items (item ∷ [])
+    ∙ ap (λ t. lines_from workers n items ++ t) (append-nil (numbered_lines workers (n + length items, item)))
 
 -- ---- frame after frame
 -- what was written when these frames were done
@@ -106,7 +112,7 @@ outcomes_more [] fate = refl
 outcomes_more (f ∷ fates) fate = ap (λ os. f.0 ∷ os) (outcomes_more fates fate)
 
 -- the packet that has a line, as a list
-abbrev there : Option Item → List Item
+abbrev pub there : Option Item → List Item
 there None = []
 there (Some item) = item ∷ []
 
@@ -118,7 +124,7 @@ there_among (o, Some other) (Some item) e =
     let same : other ≡ item = cc e in
     ap (λ i. i ∷ []) same
 
-items_more : (fates : List Fate) (fate : Fate) → items_of (fates ++ fate ∷ []) ≡ items_of fates ++ there fate.1
+pub items_more : (fates : List Fate) (fate : Fate) → items_of (fates ++ fate ∷ []) ≡ items_of fates ++ there fate.1
 items_more fates fate =
     filter_map-append (λ (f : Fate). f.1) fates (fate ∷ []) ∙ ap (λ t. items_of fates ++ t) (there_among fate fate.1 refl)
 
@@ -126,7 +132,7 @@ lines_there : (workers n : ℕ) (turn : Turn) (item : Item) → turn ≡ turn_at
 lines_there workers n turn item is =
     ap (λ t. lines_at t item) is ∙ ap (λ t. take_line (worker_of workers n) item ++ t) (flush_there workers n)
 
-frame_there : (workers : ℕ) (items : List Item) (found : Option Item) (turn after : Turn) (old now next : Option (List ℕ))
+pub frame_there : (workers : ℕ) (items : List Item) (found : Option Item) (turn after : Turn) (old now next : Option (List ℕ))
     → turn ≡ turn_at workers (length items) → after ≡ turn_past turn found
     → Appends old now (lines_from workers 0 items) → Appends now next (lines_if turn found)
     → (after ≡ turn_at workers (length (items ++ there found))) × Appends old next (lines_from workers 0 (items ++ there found))

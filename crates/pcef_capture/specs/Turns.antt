@@ -6,6 +6,7 @@ use Rattle.pcef_capture_file.specs.Captured.{Captured}
 use Rattle.pcef_capture.specs.Fates.{Fate, IsFate}
 use Rattle.pcef_capture.specs.Lines.{Item, flush_line, take_line}
 use Rattle.pcef_capture.specs.Scripts.{worker_of}
+use Rattle.pcef_capture.specs.Writing.{AppendsFront}
 use Rattle.pcef_capture.specs.declared.counts.Outcome.{Outcome}
 use Rattle.pcef_capture.specs.declared.turn.Turn.{Turn}
 
@@ -56,6 +57,11 @@ WroteFate before after old new outcome fate =
 abbrev pub WroteFrame : Addr → Bool → Captured → Turn → Turn → Option (List ℕ) → Option (List ℕ) → Outcome → Type 0
 WroteFrame ue pads frame before after old new outcome =
     (fate : Fate) × IsFate ue pads frame fate × WroteFate before after old new outcome fate
+
+-- or a front of it
+abbrev pub WroteFrameFront : Addr → Bool → Captured → Turn → Option (List ℕ) → Option (List ℕ) → Type 0
+WroteFrameFront ue pads frame before old new =
+    (fate : Fate) × IsFate ue pads frame fate × AppendsFront old new (lines_if before fate.1)
 
 -- where packets wait
 abbrev pub rest_flush : Turn → List ℕ

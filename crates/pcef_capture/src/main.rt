@@ -10,6 +10,7 @@ mod end;
 mod options;
 mod takes;
 mod turn;
+mod writing;
 
 use clap::{Error, error};
 use counts::Counts;

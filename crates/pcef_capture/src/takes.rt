@@ -1,6 +1,6 @@
 //! Lines for packets.
 
-ghost use Rattle.std.specs.Prelude.{◌≡◌, IfOk, OnOk, codes, map, string_bytes};
+ghost use Rattle.std.specs.Prelude.{◌≡◌, IfOk, OnErr, OnOk, codes, map, string_bytes};
 ghost use Rattle.std.specs.Io.KnownBytes.{Appends};
 ghost use Rattle.pcef_capture_file.specs.Captured.{captured};
 ghost use Rattle.pcef_capture.specs.declared.counts.Outcome.TheVariants.{Taken};
@@ -8,12 +8,13 @@ ghost use Rattle.pcef_capture_file.specs.Directions.{direction_in};
 ghost use Rattle.pcef_capture_file.specs.Padding.{padded};
 ghost use Rattle.pcef_capture.specs.Fates.{filled_fate};
 ghost use Rattle.pcef_capture.specs.Lines.{dir_word, flush_line, take_line};
-ghost use Rattle.pcef_capture.specs.Turns.{flush_if, lines_at, rest_flush, taken_after, WroteFate, WroteFrame};
-ghost use Rattle.pcef_capture.specs.Writing.{WritesTakes};
+ghost use Rattle.pcef_capture.specs.Turns.{flush_if, lines_at, rest_flush, taken_after, WroteFate, WroteFrame, WroteFrameFront};
+ghost use Rattle.pcef_capture.specs.Writing.{AppendsFront, WritesFront, WritesTakes};
 
 use crate::counts::{Counts, Outcome};
 use crate::options::Options;
 use crate::turn::Turn;
+use crate::writing::put_all;
 use pcef_capture_file::{Content, Packet, content_of, direction_of, padded};
 use pcef_packet::{Addr, Dir};
 use std::alloc::Global;
@@ -145,23 +146,60 @@ fn write_rest<W: Write>(writer: &mut W, turn: &Turn) -> io::Result<()>
     }
 }
 
-/// Writes a `take` line for each packet with the session's address on one side, workers in turn, a
-/// `flush` line after every 32, and one at the end where packets wait. What is written isn't flushed.
+/// Puts the lines for a frame, if it has any, or a front of them.
+fn put_packet<W: Write>(
+    alloc: Global,
+    writer: &mut W,
+    turn: &mut Turn,
+    options: &Options<'_>,
+    packet: &Packet<'_>,
+) -> io::Result<Outcome>
+    ensures lines { IfOk result (λ outcome.
+        WroteFrame options.now.ue options.now.pads (captured packet.now) turn.old turn.new
+        (W.contents writer.old) (W.contents writer.new) outcome) }
+    ensures front { OnErr result (
+        WroteFrameFront options.now.ue options.now.pads (captured packet.now) turn.old
+        (W.contents writer.old) (W.contents writer.new)) }
+{
+    let mut lines = Vec::new(alloc);
+    let outcome = write_packet(alloc, &mut lines, turn, options, packet)?;
+    put_all(writer, lines.as_slice())?;
+    Ok(outcome)
+}
+
+/// Puts the line of a flush where packets wait, or a front of it.
+fn put_rest<W: Write>(alloc: Global, writer: &mut W, turn: &Turn) -> io::Result<()>
+    ensures lines { OnOk result (
+        Appends (W.contents writer.old) (W.contents writer.new) (rest_flush turn.now)) }
+    ensures front { OnErr result (
+        AppendsFront (W.contents writer.old) (W.contents writer.new) (rest_flush turn.now)) }
+{
+    let mut line = Vec::new(alloc);
+    write_rest(&mut line, turn)?;
+    put_all(writer, line.as_slice())
+}
+
+/// Puts a `take` line for each packet with the session's address on one side, workers in turn, a
+/// `flush` line after every 32, and one at the end where packets wait; or a front of these, and the
+/// writer's error or want of memory. What is put isn't flushed.
 pub fn write_takes<W: Write>(
     alloc: Global,
     options: &Options<'_>,
     packets: &[Packet<'_>],
     writer: &mut W,
 ) -> io::Result<Counts>
-    ensures { IfOk result (λ counts.
+    ensures lines { IfOk result (λ counts.
         WritesTakes options.now.ue options.now.pads options.now.workers (map captured packets.now)
         (W.contents writer.old) (W.contents writer.new) counts) }
+    ensures front { OnErr result (
+        WritesFront options.now.ue options.now.pads options.now.workers (map captured packets.now)
+        (W.contents writer.old) (W.contents writer.new)) }
 {
     let mut turn = Turn::first(options.workers);
     let mut counts = Counts::default();
     for packet in packets {
-        counts.count(write_packet(alloc, writer, &mut turn, options, packet)?);
+        counts.count(put_packet(alloc, writer, &mut turn, options, packet)?);
     }
-    write_rest(writer, &turn)?;
+    put_rest(alloc, writer, &turn)?;
     Ok(counts)
 }

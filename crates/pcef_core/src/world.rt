@@ -1,6 +1,6 @@
 //! A session and its workers, with the catalog.
 
-ghost use Rattle.std.specs.Prelude.{◌≡◌, IfErr, IfOk};
+ghost use Rattle.std.specs.Prelude.{◌≡◌, IfErr, IfOk, OnErr};
 ghost use Rattle.std.specs.Arc.{arc_value};
 ghost use Rattle.std.specs.Result.{result_err};
 ghost use Rattle.pcef_catalog.specs.Catalogs.{offers_of};
@@ -24,7 +24,7 @@ impl World {
     ghost use Rattle.pcef_core.specs.Cores.{world_of};
     ghost use Rattle.pcef_model.specs.Outcomes.{Opens};
     ghost use Rattle.pcef_model.specs.Terms.{setting_of};
-    ghost use Rattle.pcef_world.specs.Steps.{Lacks, Played, Plays, at_start, standing_of};
+    ghost use Rattle.pcef_world.specs.Steps.{Lacks, Played, Plays, PlaysFront, at_start, standing_of};
 
     /// A session with an empty journal and no workers, or the first fault in the order of [`OpenFault`]. Takes
     /// memory for the rules and keys that may come.
@@ -52,9 +52,11 @@ impl World {
         self.state.step(&*self.catalog, step)
     }
 
-    /// Makes steps one after the other, as [`WorldState::play`].
+    /// Makes steps one after the other, as [`WorldState::play`]. Want of memory leaves some of them made, from the first
+    /// on, and nothing else changed.
     pub fn play(&mut self, alloc: Global, steps: Vec<Step>) -> Result<Vec<StepAnswer>, AllocError>
         ensures answers { IfOk result (λ answers. Played (world_of self.old).session.setting (standing_of (world_of self.old)) steps.items answers.items (standing_of (world_of self.new))) }
+        ensures front { OnErr result (PlaysFront (world_of self.old).session.setting (standing_of (world_of self.old)) steps.items (standing_of (world_of self.new))) }
         ensures setting { (world_of self.new).session.setting ≡ (world_of self.old).session.setting }
     {
         self.state.play(alloc, &*self.catalog, steps)

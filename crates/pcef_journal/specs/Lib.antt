@@ -1,3 +1,5 @@
 pub mod JournalView
 pub mod KeptJournal
-pub mod Walks
+pub mod KeptNames
+pub mod KeptRows
+pub mod NamesView

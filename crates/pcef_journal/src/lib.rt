@@ -2,6 +2,8 @@
 #![tactic(auto)]
 
 mod journal;
+mod kept_row;
+mod names;
 mod walk;
 
 pub use journal::Journal;

@@ -132,6 +132,52 @@ fn lanes_of_workers(rt: HostRuntime) -> Result<(), Fail> {
     Ok(())
 }
 
+/// The verdicts of eight rows: of one rule, of a second one between, of the first one again, and of none.
+fn verdicts() -> Result<[Verdict; 8], Fail> {
+    let web = RuleName::new("web")?;
+    let mail = RuleName::new("mail")?;
+    Ok([
+        Verdict::Passed {
+            rule: web.copy(),
+            bearer: BearerId(6),
+        },
+        Verdict::Passed {
+            rule: web.copy(),
+            bearer: BearerId(7),
+        },
+        Verdict::Gated { rule: mail.copy() },
+        Verdict::Stray,
+        Verdict::Passed {
+            rule: web.copy(),
+            bearer: BearerId(6),
+        },
+        Verdict::Unmatched,
+        Verdict::Gated { rule: web },
+        Verdict::Passed {
+            rule: mail,
+            bearer: BearerId(5),
+        },
+    ])
+}
+
+#[test]
+fn rows_of_several_rules(rt: HostRuntime) -> Result<(), Fail> {
+    let verdicts = verdicts()?;
+    let mut journal = Journal::new(rt.alloc());
+    for verdict in &verdicts {
+        let mut judged = row(0, 0, 40)?;
+        judged.verdict = verdict.copy();
+        add(&mut journal, Entry::Row(judged))?;
+    }
+    let mut lane = journal.lane(0);
+    for verdict in &verdicts {
+        let found = lane.next().map(|row| row.verdict.copy());
+        assert_eq!(rt; found, Some(verdict.copy()));
+    }
+    assert!(rt; lane.next().is_none());
+    Ok(())
+}
+
 #[test]
 fn commands_from_the_oldest_on(rt: HostRuntime) -> Result<(), Fail> {
     let journal = small_journal(rt.alloc())?;

@@ -1,51 +1,59 @@
-//! Walks over the entries of a journal, from the oldest on. Each step passes over other entries.
+//! Walks over what a journal keeps, from the oldest on.
 
-ghost use Rattle.std.specs.Prelude.{◌≡◌, ◌-◌, ◌≤◌, drop, length};
-ghost use Rattle.std.specs.Iterator.{YieldsFirstRef, item_count};
-ghost use Rattle.pcef_journal.specs.Walks.{commands_in, lane_in, reports_in};
+ghost use Rattle.std.specs.Prelude.{◌≡◌, length};
+ghost use Rattle.std.specs.Iterator.{YieldsFirst, YieldsFirstRef, item_count};
+ghost use Rattle.pcef_journal.specs.KeptRows.{ArePlaced, lane_in};
 
-use pcef_model::{Command, Entry, Report, Row};
+use crate::kept_row::KeptRow;
+use pcef_model::{Command, Report, Row};
+use pcef_rule::RuleName;
 use std::marker::Model;
 
-/// The rows of a worker.
+/// The rows of a worker. A row is made anew, with the name of its rule.
 #[derive(Drop)]
 pub struct Lane<'a> {
-    rest: &'a [Entry],
+    rest: &'a [KeptRow],
+    names: &'a [RuleName],
     worker: u8,
 }
 
 impl<'a> Model for Lane<'a> {
-    ghost use Rattle.std.specs.Prelude.{List};
+    ghost use Rattle.std.specs.Prelude.{List, length};
     ghost use Rattle.pcef_model.specs.declared.row.Row.{Row};
-    ghost use Rattle.pcef_journal.specs.Walks.{lane_in};
+    ghost use Rattle.pcef_journal.specs.KeptRows.{ArePlaced, lane_in};
 
     ghost Value = { List Row };
 
-    ghost view = { λ l. lane_in l.worker l.rest.now };
+    ghost view = { λ l. lane_in l.worker l.names.now l.rest.now };
+
+    ghost invariant = { λ l. ArePlaced (length l.names.now) l.rest.now };
 }
 
 impl<'a> Lane<'a> {
-    pub(crate) fn new(rest: &'a [Entry], worker: u8) -> Self
-        ensures { result ≡ lane_in worker rest.now }
+    pub(crate) fn new(rest: &'a [KeptRow], names: &'a [RuleName], worker: u8) -> Self
+        requires { ArePlaced (length names.now) rest.now }
+        ensures { result ≡ lane_in worker names.now rest.now }
     {
-        Lane { rest, worker }
+        Lane {
+            rest,
+            names,
+            worker,
+        }
     }
 }
 
 impl<'a> Iterator for Lane<'a> {
-    type Item = &'a Row;
+    type Item = Row;
 
-    ghost next_gives = { YieldsFirstRef (λ rows. rows) };
+    ghost next_gives = { YieldsFirst (λ rows. rows) };
 
     ghost remaining = { item_count (λ rows. rows) };
 
-    fn next(&mut self) -> Option<&'a Row> {
+    fn next(&mut self) -> Option<Row> {
         while let Some((first, others)) = self.rest.split_first() {
             self.rest = others;
-            if let Entry::Row(row) = first {
-                if row.worker == self.worker {
-                    return Some(row);
-                }
+            if first.worker() == self.worker {
+                return Some(first.row(self.names));
             }
         }
         None
@@ -55,22 +63,21 @@ impl<'a> Iterator for Lane<'a> {
 /// The commands of a journal.
 #[derive(Drop)]
 pub struct Commands<'a> {
-    rest: &'a [Entry],
+    rest: &'a [Command],
 }
 
 impl<'a> Model for Commands<'a> {
     ghost use Rattle.std.specs.Prelude.{List};
     ghost use Rattle.pcef_model.specs.declared.command.Command.{Command};
-    ghost use Rattle.pcef_journal.specs.Walks.{commands_in};
 
     ghost Value = { List Command };
 
-    ghost view = { λ c. commands_in c.rest.now };
+    ghost view = { λ c. c.rest.now };
 }
 
 impl<'a> Commands<'a> {
-    pub(crate) fn new(rest: &'a [Entry]) -> Self
-        ensures { result ≡ commands_in rest.now }
+    pub(crate) fn new(rest: &'a [Command]) -> Self
+        ensures { result ≡ rest.now }
     {
         Commands { rest }
     }
@@ -84,56 +91,32 @@ impl<'a> Iterator for Commands<'a> {
     ghost remaining = { item_count (λ commands. commands) };
 
     fn next(&mut self) -> Option<&'a Command> {
-        while let Some((first, others)) = self.rest.split_first() {
-            self.rest = others;
-            if let Entry::Command(command) = first {
-                return Some(command);
-            }
-        }
-        None
+        let (command, others) = self.rest.split_first()?;
+        self.rest = others;
+        Some(command)
     }
 }
 
 /// Reports of a journal.
 #[derive(Drop)]
 pub struct Reports<'a> {
-    rest: &'a [Entry],
+    rest: &'a [Report],
 }
 
 impl<'a> Model for Reports<'a> {
     ghost use Rattle.std.specs.Prelude.{List};
     ghost use Rattle.pcef_model.specs.declared.report.Report.{Report};
-    ghost use Rattle.pcef_journal.specs.Walks.{reports_in};
 
     ghost Value = { List Report };
 
-    ghost view = { λ r. reports_in r.rest.now };
-}
-
-/// Where the last entries with so many reports begin, or the front where there are fewer.
-fn place_of_last(entries: &[Entry], count: u64) -> usize
-    ensures within { result ≤ length entries.now }
-    ensures last { reports_in (drop result entries.now) ≡ drop (length (reports_in entries.now) - count) (reports_in entries.now) }
-{
-    let mut wanted = count;
-    let mut place = entries.len();
-    while wanted > 0 && place > 0 {
-        place -= 1;
-        if let Entry::Report(_) = &entries[place] {
-            wanted -= 1;
-        }
-    }
-    place
+    ghost view = { λ r. r.rest.now };
 }
 
 impl<'a> Reports<'a> {
-    /// The last reports, so many of them.
-    pub(crate) fn last(entries: &'a [Entry], count: u64) -> Self
-        ensures { result ≡ drop (length (reports_in entries.now) - count) (reports_in entries.now) }
+    pub(crate) fn new(rest: &'a [Report]) -> Self
+        ensures { result ≡ rest.now }
     {
-        Reports {
-            rest: entries.split_at(place_of_last(entries, count)).1,
-        }
+        Reports { rest }
     }
 }
 
@@ -145,12 +128,8 @@ impl<'a> Iterator for Reports<'a> {
     ghost remaining = { item_count (λ reports. reports) };
 
     fn next(&mut self) -> Option<&'a Report> {
-        while let Some((first, others)) = self.rest.split_first() {
-            self.rest = others;
-            if let Entry::Report(report) = first {
-                return Some(report);
-            }
-        }
-        None
+        let (report, others) = self.rest.split_first()?;
+        self.rest = others;
+        Some(report)
     }
 }

@@ -63,7 +63,7 @@ fn is_lane(items: &[Item], lane: Lane<'_>) -> bool
     let mut lane = lane;
     for item in items {
         match lane.next() {
-            Some(row) if is_same_row(&item.row, row) => {}
+            Some(row) if is_same_row(&item.row, &row) => {}
             _ => return false,
         }
     }

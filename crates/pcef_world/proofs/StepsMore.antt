@@ -4,7 +4,7 @@ use Rattle.std.proofs.lemmas.List.{map-append}
 use Rattle.pcef_model.specs.Setting.{Setting}
 use Rattle.pcef_model.specs.declared.step.Step.{Step}
 use Rattle.pcef_world.specs.declared.answer.StepAnswer.{StepAnswer}
-use Rattle.pcef_world.specs.Steps.{Played, Plays, Reply, Standing, first_reply, play, reply_of, step_outcome}
+use Rattle.pcef_world.specs.Steps.{Played, Plays, PlaysFront, Reply, Standing, first_reply, play, reply_of, step_outcome}
 
 -- the replies to some steps, and to one more
 replies_more : (p : Setting) (s : Standing) (steps : List Step) (step : Step) →
@@ -34,3 +34,8 @@ played_more p before between after steps answers s a played plays =
 pub played_none : (p : Setting) (before : Standing) → Played p before [] [] before
 unfolding play
 played_none p before = (refl, refl)
+
+-- the steps that were made, and those that weren't
+pub played_front : (p : Setting) (before after : Standing) (steps made rest : List Step) (answers : List StepAnswer) →
+    Played p before made answers after → steps ≡ made ++ rest → PlaysFront p before steps after
+played_front p before after steps made rest answers played whole = (made, rest, whole, played.1)

@@ -191,3 +191,8 @@ play p s (step ∷ steps) = first_reply (step_outcome p s step).0 (play p (step_
 -- the answers are due to the steps, and all stands as it is due
 abbrev pub Played : Setting → Standing → List Step → List StepAnswer → Standing → Type 0
 Played p before steps answers after = (map reply_of answers ≡ (play p before steps).0) × (after ≡ (play p before steps).1)
+
+-- some of the steps, from the first on, are made, and nothing else changes
+abbrev pub PlaysFront : Setting → Standing → List Step → Standing → Type 0
+PlaysFront p before steps after =
+    (front rest : List Step) × (steps ≡ front ++ rest) × (after ≡ (play p before front).1)

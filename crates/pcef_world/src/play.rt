@@ -1,7 +1,7 @@
 //! Steps, one after the other.
 
-ghost use Rattle.std.specs.Prelude.{◌≡◌, IfOk};
-ghost use Rattle.pcef_world.specs.Steps.{Played, standing_of};
+ghost use Rattle.std.specs.Prelude.{◌≡◌, IfOk, OnErr};
+ghost use Rattle.pcef_world.specs.Steps.{Played, PlaysFront, standing_of};
 
 use crate::answer::StepAnswer;
 use crate::world::WorldState;
@@ -11,7 +11,8 @@ use std::alloc::{AllocError, Global};
 
 impl WorldState {
     /// Makes steps one after the other, as [`WorldState::step`], and gives their answers in order. Takes memory for these
-    /// too. Want of memory ends it: the steps before are made, and their answers are lost.
+    /// too. Want of memory ends it: some of the steps, from the first on, are made and stand, their answers are lost, and
+    /// nothing else changes.
     pub fn play<C: Detects>(
         &mut self,
         alloc: Global,
@@ -20,6 +21,7 @@ impl WorldState {
     ) -> Result<Vec<StepAnswer>, AllocError>
         requires { C.offers catalog.now ≡ self.old.session.setting.catalog }
         ensures answers { IfOk result (λ answers. Played self.old.session.setting (standing_of self.old) steps.items answers.items (standing_of self.new)) }
+        ensures front { OnErr result (PlaysFront self.old.session.setting (standing_of self.old) steps.items (standing_of self.new)) }
         ensures setting { self.new.session.setting ≡ self.old.session.setting }
     {
         let mut answers = Vec::with_capacity(alloc, steps.len())?;

@@ -1,0 +1,8 @@
+-- What callers see of names that are kept.
+use Rattle.std.specs.Prelude.{◌-◌, ◌^◌, length, min}
+use Rattle.indexmap.specs.IndexSet.{spare}
+use Rattle.pcef_journal.specs.declared.names.Names.TheInside.{Inside}
+use Rattle.pcef_journal.specs.KeptNames.{KeptNames}
+
+abbrev pub names_of : Inside → KeptNames
+names_of n = record { names = n.names.keys; room = min (spare n.names) (2 ^ 32 - length n.names.keys) }
