@@ -1,34 +1,29 @@
 //! `pcef`: the policy and charging enforcement function of a mobile packet gateway.
 #![tactic(auto)]
 
-mod built_in;
-mod end;
-mod plan_run;
-mod program;
-mod telling;
-mod words;
+mod arguments;
 
 ghost use Rattle.std.specs.Prelude.{◌≡◌, ◌≤◌, IfOk};
 ghost use Rattle.std.specs.Arc.{arc_value};
 ghost use Rattle.pcef_catalog.specs.Catalogs.{offers_of};
 ghost use Rattle.pcef_catalog.specs.Shapes.{shape_holds};
-ghost use Rattle.pcef_cli.specs.BuiltIn.{built_in_offers, dns_shape, expedited_shape, remaining_shape};
+ghost use Rattle.pcef_program.specs.BuiltIn.{built_in_offers, dns_shape, expedited_shape, remaining_shape};
 
-use built_in::{
+use arguments::{profile_of, words};
+use pcef_catalog::{Catalog, Detect, Predefined};
+use pcef_packet::Header;
+use pcef_program::built_in::{
     dns_properties, dns_shape, expedited_properties, expedited_shape, is_dns, is_expedited,
     is_remaining, remaining_properties, remaining_shape,
 };
-use pcef_catalog::{Catalog, Detect, Predefined};
-use pcef_packet::Header;
+use pcef_program::program::program;
 use pcef_run::{Storing, Taken};
 use pcef_trigger::{Outlet, ReportKind, Reporter};
-use program::program;
 use std::alloc::AllocError;
 use std::io::{self, BufWriter};
 use std::process::ExitCode;
 use std::sync::{Arc, Wait};
 use std::thread::Threads;
-use words::{profile_of, words};
 
 /// Runs the program, whose catalog has the built-in rules, with a stored reporter of each kind.
 fn run_with<T: Threads + Wait + Sync>(
@@ -118,6 +113,3 @@ fn status<T: Threads + Wait + Sync>(threads: &T, rt: &HostRuntime) -> u8
 fn main(rt: HostRuntime) -> ExitCode {
     ExitCode::from(status(&rt, &rt))
 }
-
-#[cfg(test)]
-mod tests;

@@ -1,0 +1,53 @@
+//! The arguments, and the file that they name.
+
+use pcef_program::words::path_of;
+use std::alloc::{AllocError, Global};
+use std::env::{Env, FillError};
+use std::io::{self, ErrorKind};
+use std::{fs, str};
+
+/// An argument, if there is one of that number.
+fn word<E: Env>(alloc: Global, env: &E, number: usize) -> Result<Option<Vec<u8>>, AllocError> {
+    let mut room = 256usize;
+    for _ in 0..usize::BITS {
+        let mut octets = Vec::new(alloc);
+        octets.resize(room, 0u8)?;
+        match env.arg(number, octets.as_mut_slice()) {
+            Ok(len) => {
+                octets.truncate(len);
+                return Ok(Some(octets));
+            }
+            Err(FillError::TooLong) => room = room.saturating_add(room),
+            Err(FillError::NotPresent) => return Ok(None),
+        }
+    }
+    Err(AllocError)
+}
+
+/// The arguments after the program's name, as octets: they need not be UTF-8. Takes memory for them.
+pub(crate) fn words<E: Env>(alloc: Global, env: &E) -> Result<Vec<Vec<u8>>, AllocError> {
+    let mut words = Vec::new(alloc);
+    for number in 1..usize::MAX {
+        match word(alloc, env, number)? {
+            Some(word) => words.push(word)?,
+            None => return Ok(words),
+        }
+    }
+    Ok(words)
+}
+
+/// The text of a file, or why it can't be read as text. A file whose name isn't UTF-8 can't.
+fn text_of(rt: &HostRuntime, path: &[u8]) -> io::Result<String> {
+    match str::from_utf8(path) {
+        Ok(path) => fs::read_to_string(rt, path),
+        Err(_) => Err(io::Error::new(ErrorKind::InvalidFilename, "the name isn't UTF-8")),
+    }
+}
+
+/// The text of the profile that the arguments ask for. No file is read where they ask for none.
+pub(crate) fn profile_of(rt: &HostRuntime, words: &[Vec<u8>]) -> Option<io::Result<String>> {
+    match path_of(words) {
+        Some(path) => Some(text_of(rt, path)),
+        None => None,
+    }
+}

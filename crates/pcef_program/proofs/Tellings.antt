@@ -1,0 +1,38 @@
+-- What is said of an end.
+use Rattle.std.proofs.Common.{◌≡◌, ◌∙◌, ◌==◌, ℕ, Bool, false, List, [], ◌++◌, append-nil, ap, length, refl, sym}
+use Rattle.std.proofs.lemmas.Bool.{false≢true}
+use Rattle.std.specs.Prelude.{OnOk, IfErr, Option, Result, Ok, Err}
+use Rattle.std.specs.Io.KnownBytes.{Appends}
+use Rattle.std.proofs.KnownBytes.{Appends-nil, Appends-trans}
+use Rattle.pcef_script.specs.declared.fault.ScriptFault.{ScriptFault}
+use Rattle.pcef_script.specs.declared.fault.ScriptFault.TheVariants as script
+use Rattle.pcef_script.specs.ScriptLines.{AppendsFront}
+use Rattle.pcef_program.specs.declared.end.End.{End}
+use Rattle.pcef_program.specs.Ends.{end_text}
+use Rattle.pcef_program.specs.Telling.{AppendsSome, IsTold}
+
+-- bytes that were put, or a front of them
+pub put_some : {T : Type 0} (r : Result T ScriptFault) (a b : Option (List ℕ)) (text : List ℕ) → OnOk r (Appends a b text) → IfErr r (λ e. (e ≡ script.Write) × AppendsFront a b text) → AppendsSome a b
+put_some (Ok done) a b text all front = (text, all)
+put_some (Err e) a b text all front = (front.1.0, front.1.3)
+
+pub more_some : (a b c : Option (List ℕ)) → AppendsSome a b → AppendsSome b c → AppendsSome a c
+more_some a b c h k = (h.0 ++ k.0, Appends-trans a b c h.0 k.0 h.1 k.1)
+
+-- a line that isn't empty
+pub not_empty : (line : List ℕ) {text : List ℕ} (flag : Bool) → text ≡ line → flag ≡ (length line == 0) → flag ≡ false → text ≡ [] → ⊥
+not_empty line flag is empty fails none = false≢true (sym fails ∙ empty ∙ ap (λ t. length t == 0) (sym is ∙ none))
+
+-- nothing is said
+pub told_nothing : (end : End) (a : Option (List ℕ)) → IsTold end a a
+told_nothing end a = ([], λ none. refl, ([], end_text end ++ [], refl, Appends-nil a))
+
+-- the line, or a front of it
+pub told_line : (end : End) (a b : Option (List ℕ)) → AppendsFront a b (end_text end) → IsTold end a b
+told_line end a b front = ([], λ none. refl, (front.0, front.1, append-nil (end_text end) ∙ front.2, front.3))
+
+-- the line, and what follows it
+pub told_more : (end : End) (a b c : Option (List ℕ)) → (end_text end ≡ [] → ⊥) → Appends a b (end_text end) → AppendsSome b c → IsTold end a c
+told_more end a b c some line more =
+    let whole = end_text end ++ more.0 in
+    (more.0, λ none. absurd (some none), (whole, [], sym (append-nil whole), Appends-trans a b c (end_text end) more.0 line more.1))

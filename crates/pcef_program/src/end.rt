@@ -1,0 +1,237 @@
+//! How the program ends.
+
+ghost use Rattle.std.specs.Prelude.{◌≡◌, Err, IfOk, string_bytes};
+ghost use Rattle.pcef_program.specs.declared.end.End.TheVariants.{Profile, Run};
+ghost use Rattle.pcef_program.specs.Ends.{IsPlanEnd, end_status, end_text, line_text, open_end, profile_end, run_end, script_end, unread_end};
+
+use pcef_gateway::RunFault;
+use pcef_model::OpenFault;
+use pcef_profile::ReadProfileFault;
+use pcef_run::{PlanFault, RunEnd};
+use pcef_script::ScriptFault;
+use std::alloc::{AllocError, Global};
+use std::io::ErrorKind;
+
+const USAGE_NOTE: &str = "
+  script PROFILE       opens a session by the file PROFILE, and answers each line of standard input with a
+                       line on standard output, as soon as it can
+  run PROFILE WORKERS  reads all commands and packets from standard input, runs them through so many workers, 1 to
+                       16, each in a thread of its own, and prints what it came to
+
+Example: pcef script examples/profile.toml < examples/tutorial.jsonl
+Exit status: 0, 1 a profile or a line at fault, 2 usage, 3 want of memory, 4 a read, write or run fault
+Documents: README.md, docs/TUTORIAL.md, docs/FORMATS.md
+Version: 0.1, proved with rattle-kit-13f logic dac8208d650f15bf
+";
+
+const TOO_MUCH_NOTE: &str =
+    "Standard input has more than 1,073,741,824 bytes; the whole lines of a script within are answered.\n";
+
+const LINE_NOTE: &str =
+    "A run takes commands and `take` lines of workers from 0 up to one below WORKERS; nothing was run.\n";
+
+/// How the program ends.
+#[derive(Drop)]
+pub enum End {
+    /// Well.
+    Done,
+    /// A line is at fault.
+    LinesAtFault,
+    /// The arguments are wrong.
+    Usage,
+    /// The profile is at fault.
+    Profile(ReadProfileFault),
+    /// There is no memory left.
+    NoMemory,
+    /// The profile can't be read.
+    NoProfile,
+    /// Standard input can't be read.
+    Read,
+    /// Standard input has more than 1,073,741,824 bytes.
+    TooMuch,
+    /// What is due can't be written.
+    Write,
+    /// A line of a run's input is at fault, is neither a command nor a packet, or names a worker that there isn't: the
+    /// text that names it.
+    Line(String),
+    /// The run came to no end.
+    Run(RunFault),
+}
+
+impl End {
+    /// The exit status.
+    pub fn status(&self) -> u8
+        ensures { result ≡ end_status self.now }
+    {
+        match self {
+            End::Done => 0,
+            End::LinesAtFault | End::Profile(_) | End::Line(_) => 1,
+            End::Usage => 2,
+            End::NoMemory => 3,
+            End::NoProfile | End::Read | End::TooMuch | End::Write | End::Run(_) => 4,
+        }
+    }
+
+    /// What is said of it: a line, or nothing.
+    pub fn text(&self) -> &str
+        ensures { result.now ≡ end_text self.now }
+    {
+        match self {
+            End::Done | End::LinesAtFault => "",
+            End::Usage => "usage: pcef script PROFILE | pcef run PROFILE WORKERS\n",
+            End::Profile(fault) => profile_text(*fault),
+            End::NoMemory => "want of memory\n",
+            End::NoProfile | End::Read | End::TooMuch => "read fault\n",
+            End::Write => "write fault\n",
+            End::Line(text) => text.as_str(),
+            End::Run(fault) => run_text(*fault),
+        }
+    }
+
+    /// What a person needs to know of it, where that is always the same: lines, or nothing.
+    pub(crate) fn note(&self) -> &'static str {
+        match self {
+            End::Done | End::LinesAtFault | End::Profile(_) | End::NoProfile => "",
+            End::Usage => USAGE_NOTE,
+            End::NoMemory => "The lines of a script before that are answered.\n",
+            End::Read =>
+                "Standard input fails; the whole lines of a script before that are answered.\n",
+            End::TooMuch => TOO_MUCH_NOTE,
+            End::Write => "Standard output takes no more.\n",
+            End::Line(_) => LINE_NOTE,
+            End::Run(fault) => run_note(*fault),
+        }
+    }
+}
+
+fn run_text(fault: RunFault) -> &'static str
+    ensures { result.now ≡ end_text (Run fault) }
+{
+    match fault {
+        RunFault::Workers => "run fault 1\n",
+        RunFault::StrangeWorker => "run fault 2\n",
+        RunFault::Shared => "run fault 3\n",
+        RunFault::Ring => "run fault 4\n",
+        RunFault::Attach => "run fault 5\n",
+        RunFault::Thread => "run fault 6\n",
+        RunFault::Gather => "run fault 7\n",
+        RunFault::NoMemory => "run fault 8\n",
+    }
+}
+
+fn run_note(fault: RunFault) -> &'static str {
+    match fault {
+        RunFault::Workers => "There are one to sixteen workers.\n",
+        RunFault::StrangeWorker => "A packet arrives for a worker that there isn't.\n",
+        RunFault::Shared => "The session didn't come behind its lock.\n",
+        RunFault::Ring => "There is no ring to a worker, or one failed.\n",
+        RunFault::Attach =>
+            "A worker wasn't attached: the session was closed before the first packet.\n",
+        RunFault::Thread => "There is no thread for a worker.\n",
+        RunFault::Gather => "What was handed in does not agree with the journal.\n",
+        RunFault::NoMemory => "There is no memory left.\n",
+    }
+}
+
+fn profile_text(fault: ReadProfileFault) -> &'static str
+    ensures { result.now ≡ end_text (Profile fault) }
+{
+    match fault {
+        ReadProfileFault::NotToml => "profile fault 1\n",
+        ReadProfileFault::UnknownKey => "profile fault 2\n",
+        ReadProfileFault::Missing => "profile fault 3\n",
+        ReadProfileFault::BadValue => "profile fault 4\n",
+        ReadProfileFault::UnknownQci => "profile fault 5\n",
+        ReadProfileFault::DefaultIsGbr => "profile fault 6\n",
+        ReadProfileFault::NoMemory => "profile fault 7\n",
+    }
+}
+
+/// The end of a program whose profile's file can't be read.
+pub fn unread_end(kind: ErrorKind) -> End
+    ensures { result ≡ unread_end kind }
+{
+    match kind {
+        ErrorKind::OutOfMemory => End::NoMemory,
+        _ => End::NoProfile,
+    }
+}
+
+/// The end of a program whose profile can't be had.
+pub fn profile_end(fault: ReadProfileFault) -> End
+    ensures { result ≡ profile_end fault }
+{
+    match fault {
+        ReadProfileFault::NoMemory => End::NoMemory,
+        _ => End::Profile(fault),
+    }
+}
+
+fn fault_end(fault: ScriptFault) -> End
+    ensures { result ≡ script_end (Err fault) }
+{
+    match fault {
+        ScriptFault::Read => End::Read,
+        ScriptFault::TooMuch => End::TooMuch,
+        ScriptFault::Write => End::Write,
+        ScriptFault::Profile(OpenFault::UnknownQci) => End::Profile(ReadProfileFault::UnknownQci),
+        ScriptFault::Profile(OpenFault::DefaultIsGbr) => End::Profile(
+            ReadProfileFault::DefaultIsGbr,
+        ),
+        ScriptFault::Profile(OpenFault::NoMemory) | ScriptFault::NoMemory => End::NoMemory,
+    }
+}
+
+/// The end of a program that ran a script, by the number of its lines at fault or by why it ended early.
+pub fn script_end(ended: Result<u64, ScriptFault>) -> End
+    ensures { result ≡ script_end ended }
+{
+    match ended {
+        Ok(0) => End::Done,
+        Ok(_) => End::LinesAtFault,
+        Err(fault) => fault_end(fault),
+    }
+}
+
+/// What is said of a line at fault.
+fn line_text(alloc: Global, number: u64) -> Result<String, AllocError>
+    ensures { IfOk result (λ text. string_bytes text ≡ line_text number) }
+{
+    format!(in alloc; "line {number} fault\n")
+}
+
+/// The end of a program that can't read the input of a run.
+pub fn plan_end(alloc: Global, fault: PlanFault) -> End
+    ensures { IsPlanEnd fault result }
+{
+    match fault {
+        PlanFault::Read => End::Read,
+        PlanFault::TooMuch => End::TooMuch,
+        PlanFault::NoMemory => End::NoMemory,
+        PlanFault::Line(number) => match line_text(alloc, number) {
+            Ok(text) => End::Line(text),
+            Err(_) => End::NoMemory,
+        },
+    }
+}
+
+fn open_end(fault: OpenFault) -> End
+    ensures { result ≡ open_end fault }
+{
+    match fault {
+        OpenFault::UnknownQci => End::Profile(ReadProfileFault::UnknownQci),
+        OpenFault::DefaultIsGbr => End::Profile(ReadProfileFault::DefaultIsGbr),
+        OpenFault::NoMemory => End::NoMemory,
+    }
+}
+
+/// The end of a program whose run came to none.
+pub fn run_end(end: RunEnd) -> End
+    ensures { result ≡ run_end end }
+{
+    match end {
+        RunEnd::Open(fault) => open_end(fault),
+        RunEnd::Run(fault) => End::Run(fault),
+        RunEnd::NoMemory => End::NoMemory,
+    }
+}

@@ -1,0 +1,10 @@
+//! The program `pcef`, without the process that it runs in: the built-in catalog, what the arguments ask for, and
+//! what comes of it.
+#![tactic(auto)]
+
+pub mod built_in;
+pub mod end;
+mod plan_run;
+pub mod program;
+mod telling;
+pub mod words;

@@ -1,0 +1,171 @@
+//! The program, without its ends.
+
+ghost use Rattle.std.specs.Prelude.{◌≡◌, ◌≤◌, Some, option_map};
+ghost use Rattle.std.specs.Arc.{arc_value};
+ghost use Rattle.pcef_catalog.specs.Catalogs.{offers_of};
+ghost use Rattle.pcef_model.specs.Terms.{setting_of};
+ghost use Rattle.pcef_program.specs.declared.end.End.{End};
+ghost use Rattle.pcef_program.specs.Ends.{end_status};
+ghost use Rattle.pcef_program.specs.Programs.{Ends, IsWhole, Ran, RanScript, asked};
+ghost use Rattle.pcef_program.specs.Telling.{IsTold};
+ghost use Rattle.pcef_program.specs.Words.{workers_of};
+
+use crate::end::{End, profile_end, script_end, unread_end};
+use crate::plan_run::run_input;
+use crate::telling::tell;
+use crate::words::{path_of, workers_of};
+use pcef_catalog::Catalog;
+use pcef_model::Profile;
+use pcef_profile::read_profile;
+use pcef_run::Taken;
+use pcef_script::run_script;
+use pcef_trigger::Outlet;
+use std::alloc::Global;
+use std::io::{self, Read, Write};
+use std::sync::{Arc, Wait};
+use std::thread::Threads;
+
+/// Runs a script on the session of a profile. The writer is flushed, also where the script ends early.
+fn run_on<R: Read, W: Write>(
+    alloc: Global,
+    profile: Profile,
+    catalog: Arc<Catalog>,
+    reader: &mut R,
+    writer: &mut W,
+) -> End
+    ensures { RanScript (setting_of profile (offers_of (arc_value catalog))) result
+        (R.remaining reader.old) (R.remaining reader.new) (W.contents writer.old) (W.contents writer.new) }
+{
+    let ended = run_script(alloc, reader, writer, profile, catalog);
+    match writer.flush() {
+        Ok(()) => script_end(ended),
+        Err(_) => End::Write,
+    }
+}
+
+/// Runs a script, or with so many workers a plan, on the session of a profile.
+fn run_as_asked<T: Threads + Wait + Sync, R: Read, W: Write>(
+    rt: &T,
+    alloc: Global,
+    profile: Profile,
+    workers: Option<u8>,
+    catalog: Arc<Catalog>,
+    outlet: Outlet,
+    taken: &Taken,
+    reader: &mut R,
+    writer: &mut W,
+) -> End
+    ensures { Ran workers (setting_of profile (offers_of (arc_value catalog))) result
+        (R.remaining reader.old) (R.remaining reader.new) (W.contents writer.old) (W.contents writer.new) }
+{
+    match workers {
+        None => run_on(alloc, profile, catalog, reader, writer),
+        Some(workers) => run_input(
+            rt, alloc, profile, catalog, workers, outlet, taken, reader, writer,
+        ),
+    }
+}
+
+fn with_profile<T: Threads + Wait + Sync, R: Read, W: Write>(
+    rt: &T,
+    alloc: Global,
+    profile: &io::Result<String>,
+    workers: Option<u8>,
+    catalog: Arc<Catalog>,
+    outlet: Outlet,
+    taken: &Taken,
+    reader: &mut R,
+    writer: &mut W,
+) -> End
+    ensures { Ends (offers_of (arc_value catalog)) workers (Some profile.now) result
+        (R.remaining reader.old) (R.remaining reader.new) (W.contents writer.old) (W.contents writer.new) }
+{
+    let text = match profile {
+        Ok(text) => text,
+        Err(error) => return unread_end(error.kind()),
+    };
+    match read_profile(alloc, text.as_str()) {
+        Ok(profile) => run_as_asked(
+            rt, alloc, profile, workers, catalog, outlet, taken, reader, writer,
+        ),
+        Err(fault) => profile_end(fault),
+    }
+}
+
+/// The profile of the script or the run that the arguments ask for, if they do.
+fn asked<'a>(
+    words: &[Vec<u8>],
+    profile: &'a Option<io::Result<String>>,
+) -> Option<&'a io::Result<String>>
+    ensures { option_map (λ p. p.now) result ≡ asked words.now profile.now }
+{
+    if path_of(words).is_none() {
+        return None;
+    }
+    match profile {
+        Some(profile) => Some(profile),
+        None => None,
+    }
+}
+
+fn end_of<T: Threads + Wait + Sync, R: Read, W: Write>(
+    rt: &T,
+    alloc: Global,
+    asked: Option<&io::Result<String>>,
+    workers: Option<u8>,
+    catalog: Arc<Catalog>,
+    outlet: Outlet,
+    taken: &Taken,
+    reader: &mut R,
+    writer: &mut W,
+) -> End
+    ensures { Ends (offers_of (arc_value catalog)) workers (option_map (λ p. p.now) asked.entry) result
+        (R.remaining reader.old) (R.remaining reader.new) (W.contents writer.old) (W.contents writer.new) }
+{
+    match asked {
+        Some(profile) => with_profile(
+            rt, alloc, profile, workers, catalog, outlet, taken, reader, writer,
+        ),
+        None => End::Usage,
+    }
+}
+
+/// Runs the program and gives its exit status: 0; 1 for a profile fault or a line at fault; 2 for wrong
+/// arguments; 3 for want of memory; 4 for a failing end or a run that came to no end.
+///
+/// `words` are the arguments after the program's name, `profile` is the text of the file that they name as the
+/// profile, or why it can't be read; where they name none, it isn't looked at. `catalog` has the predefined rules.
+/// `faults` is told why the program ends early: a line, and below it what a person needs to know. That it fails
+/// changes nothing else. A script is run as `run_script` does, and the writer is flushed at its end. A run reads the
+/// whole input first, starts a thread for each worker and waits for them; its reports go to `outlet`, whose reporters
+/// count them in `taken`, and one that refuses ends the program as want of memory does.
+pub fn program<T: Threads + Wait + Sync, R: Read, W: Write, E: Write>(
+    rt: &T,
+    alloc: Global,
+    words: &[Vec<u8>],
+    profile: &Option<io::Result<String>>,
+    catalog: Arc<Catalog>,
+    outlet: Outlet,
+    taken: &Taken,
+    reader: &mut R,
+    writer: &mut W,
+    faults: &mut E,
+) -> u8
+    // The status and what is said are those of the end to which the words, the profile and the input come.
+    ensures ends { (end : End) × (result ≡ end_status end)
+        × IsTold end (E.contents faults.old) (E.contents faults.new)
+        × Ends (offers_of (arc_value catalog)) (workers_of words.now) (asked words.now profile.now) end
+        (R.remaining reader.old) (R.remaining reader.new) (W.contents writer.old) (W.contents writer.new) }
+    ensures most { result ≤ 4 }
+    // Status 0 comes only where the whole input was read and all that is due is written.
+    ensures whole { result ≡ 0 → IsWhole (offers_of (arc_value catalog)) (workers_of words.now) (asked words.now profile.now)
+        (R.remaining reader.old) (R.remaining reader.new) (W.contents writer.old) (W.contents writer.new) }
+{
+    let workers = workers_of(words);
+    let asked = asked(words, profile);
+    let end = end_of(
+        rt, alloc, asked, workers, catalog, outlet, taken, reader, writer,
+    );
+    tell(alloc, &end, words, profile, faults);
+    end.status()
+}

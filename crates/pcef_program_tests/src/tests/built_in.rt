@@ -1,0 +1,381 @@
+//! The built-in catalog: what its closures detect, and scripts that activate its rules, with answers worked out
+//! by hand.
+
+ghost use Rattle.std.specs.Prelude.{◌≡◌};
+ghost use Rattle.pcef_catalog.specs.Shapes.{shape_holds};
+ghost use Rattle.pcef_program.specs.BuiltIn.{dns_shape, expedited_shape, remaining_shape};
+
+use pcef_catalog::{Catalog, Detect, Detects, Offers, Predefined};
+use pcef_packet::{Addr, Dir, Header, Ports};
+use pcef_program::built_in::{
+    dns_properties, dns_shape, expedited_properties, expedited_shape, is_dns, is_expedited,
+    is_remaining, remaining_properties, remaining_shape,
+};
+use pcef_test_scripts::{PROFILE, run_on, script_of};
+use std::alloc::Global;
+use std::sync::Arc;
+use std::test::Fail;
+
+const PROFILE_OF_TWO_COMMANDS: &str =
+    "ue = \"10.0.0.2\"\nrows = 1\ncommands = 2\n\n[default]\nqci = 9\nlevel = 8\ncapability = false\nvulnerability = true\n\n[capacity]\nup = 1000000\ndown = 2000000\n";
+
+/// A UDP packet of 28 octets from 198.51.100.7 port 53 to 10.0.0.2 port 5000.
+const DNS_ANSWER: Header = Header {
+    dir: Dir::Down,
+    src: Addr::V4(0xc633_6407),
+    dst: Addr::V4(0x0a00_0002),
+    proto: 17,
+    ports: Some(Ports { src: 53, dst: 5000 }),
+    octets: 28,
+    dscp: 0,
+};
+
+/// The packet that it answers.
+const DNS_QUESTION: Header = Header {
+    dir: Dir::Up,
+    src: Addr::V4(0x0a00_0002),
+    dst: Addr::V4(0xc633_6407),
+    proto: 17,
+    ports: Some(Ports { src: 5000, dst: 53 }),
+    octets: 28,
+    dscp: 0,
+};
+
+/// What the closures of a catalog say of a header, in the order of its rules.
+fn said(catalog: &Catalog, header: &Header) -> [bool; 3] {
+    [
+        catalog.detects(0, header),
+        catalog.detects(1, header),
+        catalog.detects(2, header),
+    ]
+}
+
+/// What the built-in closures say of a header, in the order of the catalog, and what a script on their catalog
+/// answers to these lines.
+fn run(
+    alloc: Global,
+    header: &Header,
+    profile: &str,
+    lines: &[&str],
+) -> Result<([bool; 3], String), Fail> {
+    let dns: Detect = Box::new(
+        alloc,
+        |header: &Header| -> bool
+            ensures { result ≡ shape_holds dns_shape header.now }
+        { is_dns(header) },
+    )?;
+    let expedited: Detect = Box::new(
+        alloc,
+        |header: &Header| -> bool
+            ensures { result ≡ shape_holds expedited_shape header.now }
+        { is_expedited(header) },
+    )?;
+    let remaining: Detect = Box::new(
+        alloc,
+        |header: &Header| -> bool
+            ensures { result ≡ shape_holds remaining_shape header.now }
+        { is_remaining(header) },
+    )?;
+    let mut rules = Vec::new(alloc);
+    rules.push(Predefined::new(dns_properties(), dns_shape(), dns))?;
+    rules.push(Predefined::new(expedited_properties(), expedited_shape(), expedited))?;
+    rules.push(Predefined::new(remaining_properties(), remaining_shape(), remaining))?;
+    let catalog = Catalog::new(alloc, rules)?;
+    let said = said(&catalog, header);
+    let script = script_of(alloc, lines)?;
+    let (text, _) = run_on(alloc, Arc::new(alloc, catalog)?, profile, script.as_str())?;
+    Ok((said, text))
+}
+
+#[test]
+fn closures_and_shapes(rt: HostRuntime) -> Result<(), Fail> {
+    let expedited = Header {
+        dscp: 46,
+        ..DNS_ANSWER
+    };
+    let over_tcp = Header {
+        proto: 6,
+        ..DNS_ANSWER
+    };
+    let other_port = Header {
+        ports: Some(Ports { src: 54, dst: 53 }),
+        ..DNS_ANSWER
+    };
+    let fragment = Header {
+        ports: None,
+        ..DNS_ANSWER
+    };
+    for (header, wanted) in [
+        (DNS_ANSWER, [true, false, true]),
+        (DNS_QUESTION, [true, false, true]),
+        (expedited, [true, true, true]),
+        (over_tcp, [true, false, true]),
+        (other_port, [false, false, true]),
+        (fragment, [false, false, true]),
+    ] {
+        let (said, _) = run(rt.alloc(), &header, PROFILE, &[])?;
+        assert_eq!(rt; said, wanted);
+        let shapes = [
+            dns_shape().holds(&header),
+            expedited_shape().holds(&header),
+            remaining_shape().holds(&header),
+        ];
+        assert_eq!(rt; shapes, wanted);
+    }
+    Ok(())
+}
+
+const ACTIVATE_DNS: &str = "{\"do\":\"activate\",\"name\":\"pre-dns\"}";
+
+const ACTIVATE_EXPEDITED: &str = "{\"do\":\"activate\",\"name\":\"pre-ef\"}";
+
+const ACTIVATE_REMAINING: &str = "{\"do\":\"activate\",\"name\":\"pre-rest\"}";
+
+const ATTACH: &str = "{\"do\":\"attach\"}";
+
+const REFRESH: &str = "{\"do\":\"refresh\",\"worker\":0}";
+
+const TAKE: &str =
+    "{\"do\":\"take\",\"worker\":0,\"dir\":\"down\",\"packet\":\"4500001c0000000040110000c63364070a0000020035138800080000\"}";
+
+/// The same packet with the DSCP 46.
+const TAKE_EXPEDITED: &str =
+    "{\"do\":\"take\",\"worker\":0,\"dir\":\"down\",\"packet\":\"45b8001c0000000040110000c63364070a0000020036138800080000\"}";
+
+const FLUSH: &str = "{\"do\":\"flush\",\"worker\":0}";
+
+const SHOW: &str = "{\"do\":\"show\"}";
+
+/// The line that installs a rule for DNS answers of this name and precedence.
+fn install(alloc: Global, name: &str, precedence: u32) -> Result<String, Fail> {
+    Ok(format!(in alloc;
+        "{{\"do\":\"install\",\"rule\":{{\"name\":\"{name}\",\"precedence\":{precedence},\"filters\":[{{\"text\":\"permit out 17 from any 53 to assigned\"}}],\"qci\":9,\"arp\":{{\"level\":8,\"capability\":false,\"vulnerability\":true}},\"gate\":\"ENABLED\"}}}}"
+    )?)
+}
+
+#[test]
+fn an_active_rule_stays_unchanged(rt: HostRuntime) -> Result<(), Fail> {
+    let alloc = rt.alloc();
+    let taken = install(alloc, "pre-dns", 100)?;
+    let (_, text) = run(
+        alloc,
+        &DNS_ANSWER,
+        PROFILE,
+        &[
+            ACTIVATE_DNS,
+            ACTIVATE_DNS,
+            "{\"do\":\"activate\",\"name\":\"nope\"}",
+            taken.as_str(),
+            ACTIVATE_EXPEDITED,
+            ACTIVATE_EXPEDITED,
+            SHOW,
+            "{\"do\":\"remove\",\"name\":\"pre-ef\"}",
+            "{\"do\":\"remove\",\"name\":\"pre-ef\"}",
+            SHOW,
+        ],
+    )?;
+    assert_eq!(rt;
+        text.as_str(),
+        "{\"bearer\":5,\"generation\":1,\"ok\":true,\"reports\":[]}\n{\"bearer\":5,\"generation\":1,\"ok\":true,\"reports\":[],\"unchanged\":true}\n{\"name\":\"UnknownRule\",\"refused\":5}\n{\"name\":\"NameIsPredefined\",\"refused\":4}\n{\"bearer\":6,\"generation\":2,\"ok\":true,\"reports\":[]}\n{\"bearer\":6,\"generation\":2,\"ok\":true,\"reports\":[],\"unchanged\":true}\n{\"active\":[\"pre-dns\",\"pre-ef\"],\"bearers\":[{\"down\":0,\"id\":5,\"rules\":1,\"up\":0},{\"down\":0,\"id\":6,\"rules\":1,\"up\":0}],\"generation\":2,\"keys\":[{\"key\":\"dns\",\"on\":false,\"reported\":0,\"unreported\":0}]}\n{\"generation\":3,\"ok\":true,\"reports\":[]}\n{\"name\":\"UnknownRule\",\"refused\":5}\n{\"active\":[\"pre-dns\"],\"bearers\":[{\"down\":0,\"id\":5,\"rules\":1,\"up\":0}],\"generation\":3,\"keys\":[{\"key\":\"dns\",\"on\":false,\"reported\":0,\"unreported\":0}]}\n"
+    );
+    Ok(())
+}
+
+#[test]
+fn what_is_unchanged_takes_no_command(rt: HostRuntime) -> Result<(), Fail> {
+    let (_, text) = run(
+        rt.alloc(),
+        &DNS_ANSWER,
+        PROFILE_OF_TWO_COMMANDS,
+        &[
+            ACTIVATE_DNS,
+            ACTIVATE_DNS,
+            ACTIVATE_DNS,
+            ACTIVATE_REMAINING,
+            ACTIVATE_DNS,
+        ],
+    )?;
+    assert_eq!(rt;
+        text.as_str(),
+        "{\"bearer\":5,\"generation\":1,\"ok\":true,\"reports\":[]}\n{\"bearer\":5,\"generation\":1,\"ok\":true,\"reports\":[],\"unchanged\":true}\n{\"bearer\":5,\"generation\":1,\"ok\":true,\"reports\":[],\"unchanged\":true}\n{\"bearer\":5,\"generation\":2,\"ok\":true,\"reports\":[]}\n{\"name\":\"CommandsFull\",\"refused\":3}\n"
+    );
+    Ok(())
+}
+
+#[test]
+fn an_installed_rule_goes_before_a_predefined_one(rt: HostRuntime) -> Result<(), Fail> {
+    let alloc = rt.alloc();
+    let same = install(alloc, "zz", 50)?;
+    let later = install(alloc, "zz", 51)?;
+    let (_, text) = run(
+        alloc,
+        &DNS_ANSWER,
+        PROFILE,
+        &[
+            ACTIVATE_DNS,
+            same.as_str(),
+            ATTACH,
+            TAKE,
+            later.as_str(),
+            REFRESH,
+            TAKE,
+            FLUSH,
+        ],
+    )?;
+    assert_eq!(rt;
+        text.as_str(),
+        "{\"bearer\":5,\"generation\":1,\"ok\":true,\"reports\":[]}\n{\"bearer\":5,\"generation\":2,\"ok\":true,\"reports\":[]}\n{\"generation\":2,\"ok\":true,\"worker\":0}\n{\"ok\":true,\"waiting\":1}\n{\"bearer\":5,\"generation\":3,\"ok\":true,\"reports\":[]}\n{\"generation\":3,\"ok\":true}\n{\"ok\":true,\"waiting\":2}\n{\"ok\":true,\"reports\":[],\"verdicts\":[{\"bearer\":5,\"generation\":2,\"rule\":\"zz\",\"verdict\":\"Passed\"},{\"bearer\":5,\"generation\":3,\"rule\":\"pre-dns\",\"verdict\":\"Passed\"}]}\n"
+    );
+    Ok(())
+}
+
+/// The line that installs a rule `a` for every packet, of this precedence.
+fn install_for_all(alloc: Global, precedence: u32) -> Result<String, Fail> {
+    Ok(format!(in alloc;
+        "{{\"do\":\"install\",\"rule\":{{\"name\":\"a\",\"precedence\":{precedence},\"filters\":[{{\"text\":\"permit out ip from any to any\"}}],\"qci\":9,\"arp\":{{\"level\":8,\"capability\":false,\"vulnerability\":true}},\"gate\":\"ENABLED\"}}}}"
+    )?)
+}
+
+#[test]
+fn a_worker_that_refreshes_judges_by_the_modified_rules(rt: HostRuntime) -> Result<(), Fail> {
+    let alloc = rt.alloc();
+    let first = install_for_all(alloc, 10)?;
+    let second = install(alloc, "b", 20)?;
+    let earlier = install(alloc, "b", 5)?;
+    let tied = install_for_all(alloc, 50)?;
+    let later = install_for_all(alloc, 51)?;
+    let (_, text) = run(
+        alloc,
+        &DNS_ANSWER,
+        PROFILE,
+        &[
+            first.as_str(),
+            second.as_str(),
+            ATTACH,
+            TAKE,
+            earlier.as_str(),
+            REFRESH,
+            TAKE,
+            "{\"do\":\"remove\",\"name\":\"b\"}",
+            tied.as_str(),
+            ACTIVATE_DNS,
+            REFRESH,
+            TAKE,
+            later.as_str(),
+            REFRESH,
+            TAKE,
+            FLUSH,
+        ],
+    )?;
+    assert!(rt;
+        text.as_str().ends_with(
+            "{\"ok\":true,\"waiting\":4}\n{\"ok\":true,\"reports\":[],\"verdicts\":[{\"bearer\":5,\"generation\":2,\"rule\":\"a\",\"verdict\":\"Passed\"},{\"bearer\":5,\"generation\":3,\"rule\":\"b\",\"verdict\":\"Passed\"},{\"bearer\":5,\"generation\":6,\"rule\":\"a\",\"verdict\":\"Passed\"},{\"bearer\":5,\"generation\":7,\"rule\":\"pre-dns\",\"verdict\":\"Passed\"}]}\n"
+        )
+    );
+    Ok(())
+}
+
+#[test]
+fn predefined_rules_judge_and_count(rt: HostRuntime) -> Result<(), Fail> {
+    let (_, text) = run(
+        rt.alloc(),
+        &DNS_ANSWER,
+        PROFILE,
+        &[
+            ACTIVATE_REMAINING,
+            ACTIVATE_EXPEDITED,
+            ACTIVATE_DNS,
+            "{\"do\":\"monitor\",\"key\":\"dns\",\"grant\":1000}",
+            ATTACH,
+            TAKE,
+            TAKE_EXPEDITED,
+            FLUSH,
+            "{\"do\":\"remove\",\"name\":\"pre-dns\"}",
+            SHOW,
+        ],
+    )?;
+    assert_eq!(rt;
+        text.as_str(),
+        "{\"bearer\":5,\"generation\":1,\"ok\":true,\"reports\":[]}\n{\"bearer\":6,\"generation\":2,\"ok\":true,\"reports\":[]}\n{\"bearer\":5,\"generation\":3,\"ok\":true,\"reports\":[]}\n{\"generation\":4,\"ok\":true,\"reports\":[]}\n{\"generation\":4,\"ok\":true,\"worker\":0}\n{\"ok\":true,\"waiting\":1}\n{\"ok\":true,\"waiting\":2}\n{\"ok\":true,\"reports\":[],\"verdicts\":[{\"bearer\":5,\"generation\":4,\"rule\":\"pre-dns\",\"verdict\":\"Passed\"},{\"bearer\":6,\"generation\":4,\"rule\":\"pre-ef\",\"verdict\":\"Passed\"}]}\n{\"generation\":5,\"ok\":true,\"reports\":[{\"cause\":\"RulesGone\",\"key\":\"dns\",\"number\":0,\"octets\":28}]}\n{\"active\":[\"pre-ef\",\"pre-rest\"],\"bearers\":[{\"down\":0,\"id\":5,\"rules\":1,\"up\":0},{\"down\":0,\"id\":6,\"rules\":1,\"up\":0}],\"generation\":5,\"keys\":[{\"key\":\"dns\",\"on\":false,\"reported\":28,\"unreported\":0}]}\n"
+    );
+    Ok(())
+}
+
+/// What a script answers to lines that were made.
+fn answers(alloc: Global, script: &[String]) -> Result<String, Fail> {
+    let mut lines = Vec::new(alloc);
+    for line in script {
+        lines.push(line.as_str())?;
+    }
+    let (_, text) = run(alloc, &DNS_ANSWER, PROFILE, lines.as_slice())?;
+    Ok(text)
+}
+
+#[test]
+fn where_no_more_rules_can_be_active(rt: HostRuntime) -> Result<(), Fail> {
+    let alloc = rt.alloc();
+    let mut script = Vec::new(alloc);
+    for number in 1..65u8 {
+        let name = format!(in alloc; "n{number}")?;
+        script.push(install(alloc, name.as_str(), 100)?)?;
+    }
+    script.push(String::from_str(alloc, ACTIVATE_DNS)?)?;
+    let text = answers(alloc, script.as_slice())?;
+    assert!(rt;
+        text.as_str().ends_with(
+            "{\"bearer\":5,\"generation\":64,\"ok\":true,\"reports\":[]}\n{\"name\":\"RulesFull\",\"refused\":11}\n"
+        )
+    );
+    Ok(())
+}
+
+#[test]
+fn where_every_slot_has_a_key(rt: HostRuntime) -> Result<(), Fail> {
+    let alloc = rt.alloc();
+    let mut script = Vec::new(alloc);
+    for number in 1..9u8 {
+        script.push(format!(in alloc;
+            "{{\"do\":\"monitor\",\"key\":\"k{number}\",\"grant\":1}}"
+        )?)?;
+    }
+    script.push(String::from_str(alloc, ACTIVATE_DNS)?)?;
+    script.push(String::from_str(alloc, ACTIVATE_REMAINING)?)?;
+    let text = answers(alloc, script.as_slice())?;
+    assert!(rt;
+        text.as_str().ends_with(
+            "{\"name\":\"KeysFull\",\"refused\":12}\n{\"bearer\":5,\"generation\":9,\"ok\":true,\"reports\":[]}\n"
+        )
+    );
+    Ok(())
+}
+
+#[test]
+fn where_no_bearer_is_free(rt: HostRuntime) -> Result<(), Fail> {
+    let alloc = rt.alloc();
+    let mut script = Vec::new(alloc);
+    for level in 1..11u8 {
+        script.push(format!(in alloc;
+            "{{\"do\":\"install\",\"rule\":{{\"name\":\"r{level}\",\"precedence\":100,\"filters\":[{{\"text\":\"permit out ip from any to any\"}}],\"qci\":8,\"arp\":{{\"level\":{level},\"capability\":false,\"vulnerability\":true}},\"gate\":\"ENABLED\"}}}}"
+        )?)?;
+    }
+    script.push(String::from_str(alloc, ACTIVATE_EXPEDITED)?)?;
+    let text = answers(alloc, script.as_slice())?;
+    assert!(rt;
+        text.as_str().ends_with(
+            "{\"bearer\":15,\"generation\":10,\"ok\":true,\"reports\":[]}\n{\"name\":\"TooManyBearers\",\"refused\":16}\n"
+        )
+    );
+    Ok(())
+}
+
+#[test]
+fn a_predefined_name_is_never_installed(rt: HostRuntime) -> Result<(), Fail> {
+    let alloc = rt.alloc();
+    let line = install(alloc, "pre-ef", 100)?;
+    let (_, text) = run(alloc, &DNS_ANSWER, PROFILE, &[line.as_str(), SHOW])?;
+    assert_eq!(rt;
+        text.as_str(),
+        "{\"name\":\"NameIsPredefined\",\"refused\":4}\n{\"active\":[],\"bearers\":[{\"down\":0,\"id\":5,\"rules\":0,\"up\":0}],\"generation\":0,\"keys\":[]}\n"
+    );
+    Ok(())
+}

@@ -1,0 +1,450 @@
+//! Exit statuses, and what is said of faults.
+
+use pcef_catalog::Catalog;
+use pcef_model::OpenFault;
+use pcef_profile::ReadProfileFault;
+use pcef_program::end::{End, profile_end, script_end, unread_end};
+use pcef_program::program::program;
+use pcef_run::{Storing, Taken};
+use pcef_script::ScriptFault;
+use pcef_test_scripts::PROFILE;
+use pcef_trigger::{Outlet, ReportKind, Reporter};
+use std::alloc::Global;
+use std::io;
+use std::io::{Read, Write};
+use std::sync::{Arc, Wait};
+use std::test::Fail;
+use std::thread::Threads;
+
+/// Words as octets.
+pub(crate) fn octets(alloc: Global, words: &[&str]) -> Result<Vec<Vec<u8>>, Fail> {
+    let mut arguments = Vec::new(alloc);
+    for word in words {
+        arguments.push(Vec::from_slice(alloc, word.as_bytes())?)?;
+    }
+    Ok(arguments)
+}
+
+/// The exit status of the program without rules in its catalog, and with stored reporters.
+pub(crate) fn program_on<T: Threads + Wait + Sync, R: Read, W: Write, E: Write>(
+    rt: &T,
+    alloc: Global,
+    words: &[Vec<u8>],
+    profile: &Option<io::Result<String>>,
+    reader: &mut R,
+    writer: &mut W,
+    faults: &mut E,
+) -> Result<u8, Fail> {
+    let catalog = Arc::new(alloc, Catalog::new(alloc, Vec::new(alloc))?)?;
+    let taken = Arc::new(alloc, Taken::new())?;
+    let mut reporters = Vec::new(alloc);
+    for kind in [ReportKind::Usage, ReportKind::Access, ReportKind::Inactive] {
+        let storing = Storing::new(alloc, kind, Arc::try_clone(&taken)?);
+        let reporter: Box<dyn Reporter + Send> = Box::new(alloc, storing)?;
+        reporters.push((kind, reporter))?;
+    }
+    let Ok(outlet) = Outlet::new(reporters) else {
+        return Err("each kind has one reporter")?;
+    };
+    Ok(program(
+        rt, alloc, words, profile, catalog, outlet, &taken, reader, writer, faults,
+    ))
+}
+
+/// The exit status of the program on these words, profile (none can't be read) and input, and what it wrote of
+/// answers and faults.
+pub(crate) fn run<T: Threads + Wait + Sync>(
+    rt: &T,
+    alloc: Global,
+    words: &[Vec<u8>],
+    profile: Option<&str>,
+    input: &str,
+) -> Result<(u8, String, String), Fail> {
+    let profile = match profile {
+        Some(text) => Ok(String::from_str(alloc, text)?),
+        None => Err(io::Error::from_raw_os_error(2)),
+    };
+    let mut answers = Vec::new(alloc);
+    let mut faults = Vec::new(alloc);
+    let status = program_on(
+        rt,
+        alloc,
+        words,
+        &Some(profile),
+        &mut input.as_bytes(),
+        &mut answers,
+        &mut faults,
+    )?;
+    Ok((
+        status,
+        String::from_utf8(answers)?,
+        String::from_utf8(faults)?,
+    ))
+}
+
+#[test]
+fn statuses_and_faults(rt: HostRuntime) -> Result<(), Fail> {
+    let script: &[&str] = &["script", "profile.toml"];
+    for (words, profile, input, status, answers, faults) in [
+        (
+            script,
+            Some(PROFILE),
+            "{\"do\":\"attach\"}",
+            0u8,
+            "{\"generation\":0,\"ok\":true,\"worker\":0}\n",
+            "",
+        ),
+        (
+            script,
+            Some(PROFILE),
+            "x",
+            1,
+            "{\"fault\":3,\"name\":\"NotJson\"}\n",
+            "",
+        ),
+        (
+            script,
+            None,
+            "",
+            4,
+            "",
+            "read fault\nprofile.toml: No such file or directory (os error 2)\n",
+        ),
+    ] {
+        let words = octets(rt.alloc(), words)?;
+        let (got, wrote, said) = run(&rt, rt.alloc(), &words, profile, input)?;
+        assert_eq!(rt; got, status);
+        assert_eq!(rt; wrote.as_str(), answers);
+        assert_eq!(rt; said.as_str(), faults);
+    }
+    Ok(())
+}
+
+#[test]
+fn other_words_are_usage(rt: HostRuntime) -> Result<(), Fail> {
+    let usage = "usage: pcef script PROFILE | pcef run PROFILE WORKERS\n";
+    let wrong: [&[&str]; 6] = [
+        &[],
+        &["script"],
+        &["run", "profile.toml"],
+        &["scripts", "profile.toml"],
+        &["--help"],
+        &["--version", "profile.toml"],
+    ];
+    for words in wrong {
+        let words = octets(rt.alloc(), words)?;
+        let (status, answers, said) = run(&rt, rt.alloc(), &words, Some(PROFILE), "x")?;
+        assert_eq!(rt; status, 2);
+        assert_eq!(rt; answers.as_str(), "");
+        assert!(rt; said.as_str().starts_with(usage));
+        assert!(rt;
+            said.as_str()
+                .contains("rattle-kit-13f logic dac8208d650f15bf\n")
+        );
+    }
+    Ok(())
+}
+
+#[test]
+fn a_word_that_is_no_text(rt: HostRuntime) -> Result<(), Fail> {
+    let alloc = rt.alloc();
+    let unread = "read fault\na\u{fffd}: No such file or directory (os error 2)\n";
+    for (front, status, said) in [("script", 4u8, unread), ("scripts", 2, "usage: ")] {
+        let mut words = octets(alloc, &[front])?;
+        words.push(Vec::from_slice(alloc, b"a\xff")?)?;
+        let (got, _, faults) = run(&rt, alloc, &words, None, "")?;
+        assert_eq!(rt; got, status);
+        assert!(rt; faults.as_str().starts_with(said));
+    }
+    Ok(())
+}
+
+#[test]
+fn a_file_too_large_for_memory(rt: HostRuntime) -> Result<(), Fail> {
+    let alloc = rt.alloc();
+    let words = octets(alloc, &["script", "profile.toml"])?;
+    let mut answers = Vec::new(alloc);
+    let mut faults = Vec::new(alloc);
+    let profile = Some(Err(io::Error::from(io::ErrorKind::OutOfMemory)));
+    let mut input = "".as_bytes();
+    let status = program_on(
+        &rt,
+        alloc,
+        &words,
+        &profile,
+        &mut input,
+        &mut answers,
+        &mut faults,
+    )?;
+    assert_eq!(rt; status, 3);
+    assert!(rt; faults.as_slice().starts_with(b"want of memory\n"));
+    Ok(())
+}
+
+/// What stands before and after the text that a test puts into a profile.
+const LIMITS: &str = "commands = 1\n";
+
+const REST: &str =
+    "\n[default]\nqci = 9\nlevel = 8\ncapability = false\nvulnerability = true\n\n[capacity]\nup = 1\ndown = 1\n";
+
+#[test]
+fn a_second_line_explains_a_fault_of_the_profile(rt: HostRuntime) -> Result<(), Fail> {
+    let alloc = rt.alloc();
+    let words = octets(alloc, &["script", "profile.toml"])?;
+    for (front, said) in [
+        (
+            "ue = \"10.0.0.2\"\nrows 1000\n",
+            "profile fault 1\nNotToml: line 3: rows 1000: key with no value, expected `=`\n",
+        ),
+        (
+            "ue = \"10.0.0.2\"\nrow = 1000\nrows = 1\n",
+            "profile fault 2\nUnknownKey: row: ue, rows, commands, default, capacity or declared is expected\n",
+        ),
+        (
+            "ue = \"10.0.0.2\"\n",
+            "profile fault 3\nMissing: rows: a whole number from 1 to 4294967295 is expected\n",
+        ),
+        (
+            "ue = \"10.0.0.2\"\nrows = 0\n",
+            "profile fault 4\nBadValue: rows = 0: a whole number from 1 to 4294967295 is expected\n",
+        ),
+        (
+            "ue = \"10.0.0\"\nrows = 1\n",
+            "profile fault 4\nBadValue: ue = \"10.0.0\": an IPv4 address in quotes, as \"10.0.0.2\", is expected\n",
+        ),
+        (
+            "ue = \"10.0.0.2\"\nrows = 1\ndeclared = [{qci = 77, kind = \"GBR\"}, {qci = 78, kind = \"Gbr\"}]\n",
+            "profile fault 4\nBadValue: declared[2].kind = \"Gbr\": \"GBR\" or \"NON-GBR\" is expected\n",
+        ),
+        (
+            "ue = \"10.0.0.2\"\nrows = 1\ndeclared = [{qci = 77, kind = \"GBR\"}, {qci = 77, kind = \"GBR\"}]\n",
+            "profile fault 4\nBadValue: declared[2].qci = 77: each QCI once is expected\n",
+        ),
+        (
+            "ue = \"10.0.0.2\"\nrows = 1\ndeclared = [5]\n",
+            "profile fault 4\nBadValue: declared[1] = 5: a table is expected\n",
+        ),
+    ] {
+        let text = format!(in alloc; "{LIMITS}{front}{REST}")?;
+        let (status, answers, faults) = run(&rt, alloc, &words, Some(text.as_str()), "x")?;
+        assert_eq!(rt; status, 1);
+        assert_eq!(rt; answers.as_str(), "");
+        assert_eq!(rt; faults.as_str(), said);
+    }
+    Ok(())
+}
+
+/// Profiles whose default QCI is unknown, and has guaranteed rates.
+const UNKNOWN_QCI: &str =
+    "ue = \"10.0.0.2\"\nrows = 1\ncommands = 1\n\n[default]\nqci = 100\nlevel = 8\ncapability = false\nvulnerability = true\n\n[capacity]\nup = 1\ndown = 1\n";
+
+const GBR_QCI: &str =
+    "ue = \"10.0.0.2\"\nrows = 1\ncommands = 1\n\n[default]\nqci = 1\nlevel = 8\ncapability = false\nvulnerability = true\n\n[capacity]\nup = 1\ndown = 1\n";
+
+#[test]
+fn faults_of_the_default_qci_have_their_numbers(rt: HostRuntime) -> Result<(), Fail> {
+    let words = octets(rt.alloc(), &["script", "profile.toml"])?;
+    for (profile, said) in [
+        (
+            UNKNOWN_QCI,
+            "profile fault 5\nUnknownQci: default.qci = 100: a QCI that is standard or declared is expected\n",
+        ),
+        (
+            GBR_QCI,
+            "profile fault 6\nDefaultIsGbr: default.qci = 1: a QCI without guaranteed bit rate is expected\n",
+        ),
+    ] {
+        let (status, answers, faults) = run(&rt, rt.alloc(), &words, Some(profile), "x")?;
+        assert_eq!(rt; status, 1);
+        assert_eq!(rt; answers.as_str(), "");
+        assert_eq!(rt; faults.as_str(), said);
+    }
+    Ok(())
+}
+
+#[test]
+fn each_end_has_its_status_and_text(rt: HostRuntime) -> Result<(), Fail> {
+    for (end, status, text) in [
+        (script_end(Ok(0)), 0u8, ""),
+        (script_end(Ok(2)), 1, ""),
+        (script_end(Err(ScriptFault::Read)), 4, "read fault\n"),
+        (script_end(Err(ScriptFault::TooMuch)), 4, "read fault\n"),
+        (unread_end(io::ErrorKind::NotFound), 4, "read fault\n"),
+        (
+            unread_end(io::ErrorKind::OutOfMemory),
+            3,
+            "want of memory\n",
+        ),
+        (script_end(Err(ScriptFault::Write)), 4, "write fault\n"),
+        (
+            script_end(Err(ScriptFault::NoMemory)),
+            3,
+            "want of memory\n",
+        ),
+        (
+            script_end(Err(ScriptFault::Profile(OpenFault::UnknownQci))),
+            1,
+            "profile fault 5\n",
+        ),
+        (
+            script_end(Err(ScriptFault::Profile(OpenFault::DefaultIsGbr))),
+            1,
+            "profile fault 6\n",
+        ),
+        (
+            script_end(Err(ScriptFault::Profile(OpenFault::NoMemory))),
+            3,
+            "want of memory\n",
+        ),
+        (
+            profile_end(ReadProfileFault::NotToml),
+            1,
+            "profile fault 1\n",
+        ),
+        (
+            profile_end(ReadProfileFault::UnknownKey),
+            1,
+            "profile fault 2\n",
+        ),
+        (
+            profile_end(ReadProfileFault::Missing),
+            1,
+            "profile fault 3\n",
+        ),
+        (
+            profile_end(ReadProfileFault::BadValue),
+            1,
+            "profile fault 4\n",
+        ),
+        (
+            profile_end(ReadProfileFault::UnknownQci),
+            1,
+            "profile fault 5\n",
+        ),
+        (
+            profile_end(ReadProfileFault::DefaultIsGbr),
+            1,
+            "profile fault 6\n",
+        ),
+        (
+            profile_end(ReadProfileFault::NoMemory),
+            3,
+            "want of memory\n",
+        ),
+        (
+            End::Usage,
+            2,
+            "usage: pcef script PROFILE | pcef run PROFILE WORKERS\n",
+        ),
+    ] {
+        assert_eq!(rt; end.status(), status);
+        assert_eq!(rt; end.text(), text);
+    }
+    Ok(())
+}
+
+/// Takes what it is given while there is room, and counts the flushes, which may fail.
+#[derive(Drop)]
+struct Output {
+    taken: Vec<u8>,
+    room: usize,
+    flushes: u64,
+    can_flush: bool,
+}
+
+impl Write for Output {
+    fn write(&mut self, bytes: &[u8]) -> io::Result<usize> {
+        if self.taken.len() >= self.room {
+            return Err(io::Error::from(io::ErrorKind::Other));
+        }
+        self.taken.extend_from_slice(bytes)?;
+        Ok(bytes.len())
+    }
+
+    fn flush(&mut self) -> io::Result<()> {
+        self.flushes = self.flushes.saturating_add(1);
+        if self.can_flush {
+            Ok(())
+        } else {
+            Err(io::Error::from(io::ErrorKind::Other))
+        }
+    }
+}
+
+/// Gives a line, and then fails or is at its end.
+#[derive(Drop)]
+struct Input {
+    is_given: bool,
+    fails: bool,
+}
+
+impl Read for Input {
+    fn read(&mut self, buf: &mut [u8]) -> io::Result<usize> {
+        if !self.is_given && buf.len() >= 2 {
+            self.is_given = true;
+            buf[0] = b'x';
+            buf[1] = b'\n';
+            return Ok(2);
+        }
+        if self.fails {
+            Err(io::Error::from(io::ErrorKind::Interrupted))
+        } else {
+            Ok(0)
+        }
+    }
+}
+
+/// The exit status of a script from this input to this output, the output then, and what was said of faults.
+fn run_between<T: Threads + Wait + Sync>(
+    rt: &T,
+    alloc: Global,
+    fails: bool,
+    room: usize,
+    can_flush: bool,
+) -> Result<(u8, Output, String), Fail> {
+    let words = octets(alloc, &["script", "profile.toml"])?;
+    let profile = Some(Ok(String::from_str(alloc, PROFILE)?));
+    let mut input = Input {
+        is_given: false,
+        fails,
+    };
+    let mut output = Output {
+        taken: Vec::new(alloc),
+        room,
+        flushes: 0,
+        can_flush,
+    };
+    let mut faults = Vec::new(alloc);
+    let status = program_on(
+        rt,
+        alloc,
+        &words,
+        &profile,
+        &mut input,
+        &mut output,
+        &mut faults,
+    )?;
+    Ok((status, output, String::from_utf8(faults)?))
+}
+
+#[test]
+fn failing_ends_and_flushes(rt: HostRuntime) -> Result<(), Fail> {
+    let answer = "{\"fault\":3,\"name\":\"NotJson\"}\n";
+    let unread =
+        "read fault\nStandard input fails; the whole lines of a script before that are answered.\n";
+    let unwritten = "write fault\nStandard output takes no more.\n";
+    for (fails, room, can_flush, flushes, status, answers, said) in [
+        (false, 100, true, 2u64, 1u8, answer, ""),
+        (true, 100, true, 2, 4, answer, unread),
+        (false, 0, true, 1, 4, "", unwritten),
+        (false, 100, false, 2, 4, answer, unwritten),
+        (true, 100, false, 2, 4, answer, unwritten),
+    ] {
+        let (got, output, faults) = run_between(&rt, rt.alloc(), fails, room, can_flush)?;
+        assert_eq!(rt; got, status);
+        assert_eq!(rt; output.flushes, flushes);
+        assert!(rt; output.taken.as_slice() == answers.as_bytes());
+        assert_eq!(rt; faults.as_str(), said);
+    }
+    Ok(())
+}

@@ -1,0 +1,294 @@
+//! Runs over workers in threads, whose packets, octets and reports were counted by hand.
+
+ghost use Rattle.std.specs.Prelude.{[]};
+
+use super::program::{octets, program_on, run};
+use pcef_catalog::Catalog;
+use pcef_model::Report;
+use pcef_program::program::program;
+use pcef_run::Taken;
+use pcef_test_scripts::{PROFILE, script_of};
+use pcef_trigger::{Answer, Outlet, ReportKind, Reporter};
+use std::alloc::Global;
+use std::io;
+use std::io::{Read, Write};
+use std::sync::{Arc, Wait};
+use std::test::Fail;
+use std::thread::Threads;
+
+const INSTALL: &str =
+    "{\"do\":\"install\",\"rule\":{\"name\":\"web\",\"precedence\":100,\"filters\":[{\"text\":\"permit out 17 from any 53 to assigned\"}],\"qci\":9,\"arp\":{\"level\":8,\"capability\":false,\"vulnerability\":true},\"gate\":\"ENABLED\",\"key\":\"vid\"}}";
+
+const VOICE: &str =
+    "{\"do\":\"install\",\"rule\":{\"name\":\"voice\",\"precedence\":50,\"filters\":[{\"text\":\"permit out 6 from any to any\"}],\"qci\":1,\"arp\":{\"level\":2,\"capability\":false,\"vulnerability\":false},\"gbr\":{\"up\":64000,\"down\":64000},\"gate\":\"ENABLED\"}}";
+
+const MONITOR: &str = "{\"do\":\"monitor\",\"key\":\"vid\",\"grant\":1000}";
+
+/// A packet of 28 octets from 198.51.100.7, port 53, for each of two workers.
+const FIRST: &str =
+    "{\"do\":\"take\",\"worker\":0,\"dir\":\"down\",\"packet\":\"4500001c0000000040110000c63364070a0000020035138800080000\"}";
+
+const SECOND: &str =
+    "{\"do\":\"take\",\"worker\":1,\"dir\":\"down\",\"packet\":\"4500001c0000000040110000c63364070a0000020035138800080000\"}";
+
+/// The exit status of a run with so many workers on these lines, and what was written and said.
+fn run_lines<T: Threads + Wait + Sync>(
+    rt: &T,
+    alloc: Global,
+    workers: &str,
+    lines: &[&str],
+) -> Result<(u8, String, String), Fail> {
+    let words = octets(alloc, &["run", "profile.toml", workers])?;
+    let input = script_of(alloc, lines)?;
+    run(rt, alloc, &words, Some(PROFILE), input.as_str())
+}
+
+#[test]
+fn two_workers_with_a_packet_each(rt: HostRuntime) -> Result<(), Fail> {
+    let lines = [INSTALL, MONITOR, FIRST, SECOND];
+    let (status, wrote, said) = run_lines(&rt, rt.alloc(), "2", &lines)?;
+    assert_eq!(rt; status, 0);
+    assert_eq!(rt;
+        wrote.as_str(),
+        "rows 2 abandoned 0 dropped 0\ncommands 2 refused 0\nreports usage 0 access 0 inactive 0\nkey vid counted 56 reported 0 unreported 56\n"
+    );
+    assert_eq!(rt; said.as_str(), "");
+    Ok(())
+}
+
+#[test]
+fn a_report_among_the_packets(rt: HostRuntime) -> Result<(), Fail> {
+    let lines = [
+        INSTALL,
+        MONITOR,
+        FIRST,
+        SECOND,
+        "{\"do\":\"report\",\"key\":\"vid\"}",
+    ];
+    let (status, wrote, _) = run_lines(&rt, rt.alloc(), "2", &lines)?;
+    assert_eq!(rt; status, 0);
+    let front =
+        "rows 2 abandoned 0 dropped 0\ncommands 3 refused 0\nreports usage 1 access 0 inactive 0\nkey vid counted 56 reported ";
+    assert!(rt; wrote.as_str().starts_with(front));
+    let ends = [
+        "0 unreported 56\n",
+        "28 unreported 28\n",
+        "56 unreported 0\n",
+    ];
+    let end = wrote.as_str().split_at(front.len()).1;
+    assert!(rt; ends.iter().any(|known| *known == end));
+    Ok(())
+}
+
+#[test]
+fn reports_of_each_kind_are_counted(rt: HostRuntime) -> Result<(), Fail> {
+    let lines = [
+        "{\"do\":\"triggers\",\"events\":[\"RAT_CHANGE\"]}",
+        INSTALL,
+        VOICE,
+        MONITOR,
+        "{\"do\":\"notice\",\"event\":\"RAT_CHANGE\",\"value\":\"eutran\"}",
+        "{\"do\":\"notice\",\"event\":\"PLMN_CHANGE\",\"value\":\"26201\"}",
+        "{\"do\":\"lose\",\"bearer\":6}",
+        "{\"do\":\"lose\",\"bearer\":6}",
+        "{\"do\":\"activate\",\"name\":\"nope\"}",
+        "",
+        FIRST,
+        "{\"do\":\"remove\",\"name\":\"nope\"}",
+        "{\"do\":\"stop\",\"key\":\"vid\"}",
+    ];
+    let (status, wrote, _) = run_lines(&rt, rt.alloc(), "1", &lines)?;
+    assert_eq!(rt; status, 0);
+    assert!(rt;
+        wrote.as_str().starts_with(
+            "rows 1 abandoned 0 dropped 0\ncommands 8 refused 3\nreports usage 1 access 1 inactive 1\nkey vid counted "
+        )
+    );
+    Ok(())
+}
+
+#[test]
+fn sixteen_workers_without_a_line(rt: HostRuntime) -> Result<(), Fail> {
+    let (status, wrote, said) = run_lines(&rt, rt.alloc(), "16", &[])?;
+    assert_eq!(rt; status, 0);
+    assert_eq!(rt;
+        wrote.as_str(),
+        "rows 0 abandoned 0 dropped 0\ncommands 0 refused 0\nreports usage 0 access 0 inactive 0\n"
+    );
+    assert_eq!(rt; said.as_str(), "");
+    Ok(())
+}
+
+#[test]
+fn the_first_unfit_line_is_told(rt: HostRuntime) -> Result<(), Fail> {
+    for (workers, lines, said) in [
+        ("1", [INSTALL, MONITOR, FIRST, SECOND], "line 4 fault\n"),
+        (
+            "2",
+            [INSTALL, "", "{\"do\":\"attach\"}", "x"],
+            "line 3 fault\n",
+        ),
+        (
+            "2",
+            [INSTALL, MONITOR, "x", "{\"do\":\"show\"}"],
+            "line 3 fault\n",
+        ),
+    ] {
+        let (status, wrote, told) = run_lines(&rt, rt.alloc(), workers, &lines)?;
+        assert_eq!(rt; status, 1);
+        assert_eq!(rt; wrote.as_str(), "");
+        assert!(rt; told.as_str().starts_with(said));
+    }
+    Ok(())
+}
+
+#[test]
+fn other_numbers_of_workers_are_usage(rt: HostRuntime) -> Result<(), Fail> {
+    for workers in [
+        "0",
+        "17",
+        "01",
+        "+1",
+        "",
+        "20",
+        "1 ",
+        "999999999999999999999",
+    ] {
+        let (status, wrote, said) = run_lines(&rt, rt.alloc(), workers, &[FIRST])?;
+        assert_eq!(rt; status, 2);
+        assert_eq!(rt; wrote.as_str(), "");
+        assert!(rt;
+            said.as_str()
+                .starts_with("usage: pcef script PROFILE | pcef run PROFILE WORKERS\n")
+        );
+    }
+    Ok(())
+}
+
+#[test]
+fn a_session_that_was_closed_before_its_packets(rt: HostRuntime) -> Result<(), Fail> {
+    let close = "{\"do\":\"close\"}";
+    for lines in [
+        [INSTALL, MONITOR, close, FIRST, SECOND],
+        [INSTALL, MONITOR, "", "", close],
+    ] {
+        let (status, wrote, said) = run_lines(&rt, rt.alloc(), "2", &lines)?;
+        assert_eq!(rt; status, 4);
+        assert_eq!(rt; wrote.as_str(), "");
+        assert!(rt; said.as_str().starts_with("run fault 5\n"));
+    }
+    Ok(())
+}
+
+/// Fails after a blank.
+#[derive(Drop)]
+struct Failing {
+    is_given: bool,
+}
+
+impl Read for Failing {
+    fn read(&mut self, buf: &mut [u8]) -> io::Result<usize> {
+        if self.is_given || buf.is_empty() {
+            return Err(io::Error::from(io::ErrorKind::Other));
+        }
+        self.is_given = true;
+        buf[0] = b' ';
+        Ok(1)
+    }
+}
+
+/// Takes nothing.
+#[derive(Drop)]
+struct Full;
+
+impl Write for Full {
+    fn write(&mut self, _bytes: &[u8]) -> io::Result<usize> {
+        Ok(0)
+    }
+
+    fn flush(&mut self) -> io::Result<()> {
+        Ok(())
+    }
+}
+
+#[test]
+fn ends_of_a_run_that_fail(rt: HostRuntime) -> Result<(), Fail> {
+    let alloc = rt.alloc();
+    let words = octets(alloc, &["run", "profile.toml", "1"])?;
+    let profile = Some(Ok(String::from_str(alloc, PROFILE)?));
+    let mut written = Vec::new(alloc);
+    let mut faults = Vec::new(alloc);
+    let mut reader = Failing { is_given: false };
+    let status = program_on(
+        &rt,
+        alloc,
+        &words,
+        &profile,
+        &mut reader,
+        &mut written,
+        &mut faults,
+    )?;
+    assert_eq!(rt; status, 4);
+    assert!(rt; written.is_empty());
+    assert!(rt; faults.as_slice().starts_with(b"read fault\n"));
+    let mut faults = Vec::new(alloc);
+    let mut input = "".as_bytes();
+    let status = program_on(
+        &rt,
+        alloc,
+        &words,
+        &profile,
+        &mut input,
+        &mut Full,
+        &mut faults,
+    )?;
+    assert_eq!(rt; status, 4);
+    assert!(rt; faults.as_slice().starts_with(b"write fault\n"));
+    Ok(())
+}
+
+/// Takes no report.
+#[derive(Drop)]
+struct Refusing;
+
+impl Reporter for Refusing {
+    ghost taken = { λ _. [] };
+
+    fn report(&mut self, _report: &Report) -> Answer {
+        Answer::Refused
+    }
+}
+
+#[test]
+fn a_reporter_that_refuses_ends_the_program(rt: HostRuntime) -> Result<(), Fail> {
+    let alloc = rt.alloc();
+    let words = octets(alloc, &["run", "profile.toml", "1"])?;
+    let profile = Some(Ok(String::from_str(alloc, PROFILE)?));
+    let catalog = Arc::new(alloc, Catalog::new(alloc, Vec::new(alloc))?)?;
+    let mut reporters = Vec::new(alloc);
+    let refusing: Box<dyn Reporter + Send> = Box::new(alloc, Refusing)?;
+    reporters.push((ReportKind::Usage, refusing))?;
+    let Ok(outlet) = Outlet::new(reporters) else {
+        return Err("there is one reporter")?;
+    };
+    let lines = script_of(alloc, &[MONITOR, "{\"do\":\"stop\",\"key\":\"vid\"}"])?;
+    let mut written = Vec::new(alloc);
+    let mut faults = Vec::new(alloc);
+    let mut input = lines.as_bytes();
+    let status = program(
+        &rt,
+        alloc,
+        &words,
+        &profile,
+        catalog,
+        outlet,
+        &Taken::new(),
+        &mut input,
+        &mut written,
+        &mut faults,
+    );
+    assert_eq!(rt; status, 3);
+    assert!(rt; written.is_empty());
+    assert!(rt; faults.as_slice().starts_with(b"want of memory\n"));
+    Ok(())
+}
