@@ -1,14 +1,15 @@
 -- What the program does where a run is asked for (own choice).
-use Rattle.std.specs.Prelude.{ℕ, ◌≡◌, ◌≢◌, List, Option, Some, string_bytes, Result, Ok, Err}
+use Rattle.std.specs.Prelude.{ℕ, ◌≡◌, ◌⊎◌, ◌<◌, List, Option, Some, string_bytes, Result, Ok, Err}
 use Rattle.std.specs.Io.KnownBytes.{Appends, Keeps}
 use Rattle.pcef_model.specs.declared.answer.OpenFault.{OpenFault}
 use Rattle.pcef_model.specs.Refusals.{first_of, open_faults}
 use Rattle.pcef_model.specs.Setting.{Setting}
 use Rattle.pcef_profile.specs.declared.fault.ReadProfileFault.{ReadProfileFault}
 use Rattle.pcef_script.specs.ScriptLines.{AppendsFront}
-use Rattle.pcef_gateway.specs.declared.fault.RunFault.TheVariants.{NoMemory as WantOfMemory}
+use Rattle.pcef_gateway.specs.declared.fault.RunFault.{RunFault}
+use Rattle.pcef_gateway.specs.declared.fault.RunFault.TheVariants as failure
 use Rattle.pcef_run.specs.Plans.{Plans}
-use Rattle.pcef_run.specs.Runs.{RunsPlan}
+use Rattle.pcef_run.specs.Runs.{FailsRun, RunsPlan}
 use Rattle.pcef_run.specs.Summaries.{summary_text}
 use Rattle.pcef_run.specs.declared.fault.PlanFault.TheVariants as fault
 use Rattle.pcef_run.specs.declared.plan.Plan.{Plan}
@@ -33,12 +34,20 @@ TellsRun p plan workers end old new = (ran : Ran) × RunsPlan p plan workers ran
 abbrev pub IsOpenFault : Setting → ReadProfileFault → Type 0
 IsOpenFault p fault = (first : OpenFault) × (first_of (open_faults p) ≡ Some first) × (open_end first ≡ ending.Profile fault)
 
+-- A fault of a run with so many workers whose input is a plan: no packet is for a worker that there isn't, and want of
+-- memory has an end of its own.
+abbrev pub IsRunFault : ℕ → RunFault → Type 0
+IsRunFault workers failure.Workers = (workers ≡ 0) ⊎ (16 < workers)
+IsRunFault workers failure.StrangeWorker = ⊥
+IsRunFault workers failure.NoMemory = ⊥
+IsRunFault workers other = Unit {0}
+
 -- the whole input is a plan, and the session ran it; or nothing is written
 abbrev pub RanPlan : Setting → ℕ → End → Option (List ℕ) → Option (List ℕ) → Option (List ℕ) → Option (List ℕ) → Type 0
 RanPlan p workers ending.Done before left old new = (plan : Plan) × Plans workers (Ok plan) before left × TellsRun p plan workers ending.Done old new
 RanPlan p workers ending.Write before left old new = (plan : Plan) × Plans workers (Ok plan) before left × TellsRun p plan workers ending.Write old new
 RanPlan p workers (ending.Run fault) before left old new =
-    (plan : Plan) × Plans workers (Ok plan) before left × (fault ≢ WantOfMemory) × Keeps old new
+    (plan : Plan) × Plans workers (Ok plan) before left × IsRunFault workers fault × Keeps old new
 RanPlan p workers (ending.Profile fault) before left old new =
     (plan : Plan) × Plans workers (Ok plan) before left × IsOpenFault p fault × Keeps old new
 RanPlan p workers (ending.Line text) before left old new =
@@ -53,7 +62,7 @@ RanPlan p workers other before left old new = ⊥
 abbrev pub RanOne : Setting → ℕ → Plan → End → Option (List ℕ) → Option (List ℕ) → Type 0
 RanOne p workers plan ending.Done old new = TellsRun p plan workers ending.Done old new
 RanOne p workers plan ending.Write old new = TellsRun p plan workers ending.Write old new
-RanOne p workers plan (ending.Run fault) old new = (fault ≢ WantOfMemory) × Keeps old new
+RanOne p workers plan (ending.Run fault) old new = FailsRun plan workers fault × Keeps old new
 RanOne p workers plan (ending.Profile fault) old new = IsOpenFault p fault × Keeps old new
 RanOne p workers plan ending.NoMemory old new = Keeps old new
 RanOne p workers plan other old new = ⊥

@@ -1,5 +1,5 @@
 -- A run of a plan (own choice).
-use Rattle.std.specs.Prelude.{ℕ, ◌≡◌, ◌≢◌, ◌+◌, Bool, true, false, List, [], ◌∷◌, All, length, Some, Result, Ok, Err}
+use Rattle.std.specs.Prelude.{ℕ, ◌≡◌, ◌⊎◌, ◌<◌, ◌+◌, Bool, true, false, List, [], ◌∷◌, All, length, Some, Result, Ok, Err}
 use Rattle.std.specs.List.{count_by}
 use Rattle.pcef_model.specs.declared.answer.Accepted.{Accepted}
 use Rattle.pcef_model.specs.declared.answer.Refusal.{Refusal}
@@ -10,7 +10,8 @@ use Rattle.pcef_model.specs.Refusals.{first_of, open_faults}
 use Rattle.pcef_model.specs.Setting.{Setting}
 use Rattle.pcef_gateway.specs.Commanding.{FoundMemory}
 use Rattle.pcef_gateway.specs.Ending.{RunsTo}
-use Rattle.pcef_gateway.specs.declared.fault.RunFault.TheVariants.{NoMemory}
+use Rattle.pcef_gateway.specs.declared.fault.RunFault.{RunFault}
+use Rattle.pcef_gateway.specs.declared.fault.RunFault.TheVariants as fault
 use Rattle.pcef_run.specs.declared.fault.RunEnd.{RunEnd}
 use Rattle.pcef_run.specs.declared.fault.RunEnd.TheVariants as run
 use Rattle.pcef_run.specs.declared.plan.Plan.{Plan}
@@ -41,8 +42,16 @@ RunsPlan p plan workers ran =
     (between : Journal) × Obeyed p [] plan.first.items ran.answers.items between × All FoundMemory ran.answers.items
     × RunsTo p between plan.arrivals.items plan.later.items workers ran.ended
 
+-- A fault of a run with so many workers: there are none or more than 16, or a packet arrives for one that there isn't,
+-- or what the run stands on failed. Want of memory has an end of its own.
+abbrev pub FailsRun : Plan → ℕ → RunFault → Type 0
+FailsRun plan workers fault.Workers = (workers ≡ 0) ⊎ (16 < workers)
+FailsRun plan workers fault.StrangeWorker = All (λ a. a.worker < workers) plan.arrivals.items → ⊥
+FailsRun plan workers fault.NoMemory = ⊥
+FailsRun plan workers other = Unit {0}
+
 -- why a plan isn't run to its end: the first fault of its profile, a fault of the run, or want of memory
-abbrev pub EndsPlan : Setting → RunEnd → Type 0
-EndsPlan p (run.Open fault) = first_of (open_faults p) ≡ Some fault
-EndsPlan p (run.Run fault) = fault ≢ NoMemory
-EndsPlan p run.NoMemory = Unit {0}
+abbrev pub EndsPlan : Setting → Plan → ℕ → RunEnd → Type 0
+EndsPlan p plan workers (run.Open opening) = first_of (open_faults p) ≡ Some opening
+EndsPlan p plan workers (run.Run fault) = FailsRun plan workers fault
+EndsPlan p plan workers run.NoMemory = Unit {0}

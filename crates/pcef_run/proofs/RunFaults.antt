@@ -1,0 +1,20 @@
+-- The faults of a run, by the clauses of the session that runs.
+use Rattle.std.proofs.Common.{◌≡◌, ◌≢◌, ◌⊎◌, ◌<◌, ◌≤◌, ℕ, All, refl}
+use Rattle.std.specs.Prelude.{◌↔◌}
+use Rattle.pcef_gateway.specs.declared.arrivals.Arrival.{Arrival}
+use Rattle.pcef_gateway.specs.declared.fault.RunFault.{RunFault}
+use Rattle.pcef_gateway.specs.declared.fault.RunFault.TheVariants as fault
+use Rattle.pcef_run.specs.Runs.{FailsRun}
+use Rattle.pcef_run.specs.declared.plan.Plan.{Plan}
+
+-- one that comes exactly as a session's run says
+pub fails_run : (plan : Plan) (workers : ℕ) (f : RunFault) → ((f ≡ fault.Workers) ↔ ((workers ≡ 0) ⊎ (16 < workers)))
+    → ((f ≡ fault.StrangeWorker) ↔ ((0 < workers) × (workers ≤ 16) × (All (λ (a : Arrival). a.worker < workers) plan.arrivals.items → ⊥))) → f ≢ fault.NoMemory → FailsRun plan workers f
+fails_run plan workers fault.Workers few strange some = few.0 refl
+fails_run plan workers fault.StrangeWorker few strange some = (strange.0 refl).2
+fails_run plan workers fault.Shared few strange some = tt
+fails_run plan workers fault.Ring few strange some = tt
+fails_run plan workers fault.Attach few strange some = tt
+fails_run plan workers fault.Thread few strange some = tt
+fails_run plan workers fault.Gather few strange some = tt
+fails_run plan workers fault.NoMemory few strange some = absurd (some refl)
