@@ -29,6 +29,6 @@ packets_known workers (bytes ∷ lines) asked (first, others, is, asks, rest) =
     (All-append Known (packet_in first) (packets_in others) (packet_known workers first asks.1) (packets_known workers lines others rest))
 
 pub arrivals_known : (workers : ℕ) (plan : Plan) (before left : Option (List ℕ)) → Plans workers (Ok plan) before left → All (λ (a : Arrival). a.worker < workers) plan.arrivals.items
-arrivals_known workers plan before left (input, read, asked, ask, is) =
+arrivals_known workers plan before left (input, read, (asked, ask, is)) =
     let Known : Arrival → Type 0 = λ a. a.worker < workers in
     subst (All Known) (sym is.arrivals) (packets_known workers (answered (all_lines input)) asked ask)

@@ -4,7 +4,10 @@ use Rattle.std.specs.Prelude.{◌↔◌}
 use Rattle.pcef_gateway.specs.declared.arrivals.Arrival.{Arrival}
 use Rattle.pcef_gateway.specs.declared.fault.RunFault.{RunFault}
 use Rattle.pcef_gateway.specs.declared.fault.RunFault.TheVariants as fault
-use Rattle.pcef_run.specs.Runs.{FailsRun}
+use Rattle.pcef_model.specs.Setting.{Setting}
+use Rattle.pcef_run.specs.Runs.{EndsPlan, FailsRun, OpensNot}
+use Rattle.pcef_run.specs.declared.fault.RunEnd.{RunEnd}
+use Rattle.pcef_run.specs.declared.fault.RunEnd.TheVariants as run
 use Rattle.pcef_run.specs.declared.plan.Plan.{Plan}
 
 -- one that comes exactly as a session's run says
@@ -18,3 +21,9 @@ fails_run plan workers fault.Attach few strange some = tt
 fails_run plan workers fault.Thread few strange some = tt
 fails_run plan workers fault.Gather few strange some = tt
 fails_run plan workers fault.NoMemory few strange some = absurd (some refl)
+
+-- one of a session that isn't opened
+pub opens_not : (p : Setting) (plan : Plan) (workers : ℕ) (e : RunEnd) → OpensNot p e → EndsPlan p plan workers e
+opens_not p plan workers (run.Open opening) due = due
+opens_not p plan workers (run.Run fault) due = absurd due
+opens_not p plan workers run.NoMemory due = tt

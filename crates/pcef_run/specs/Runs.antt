@@ -55,3 +55,9 @@ abbrev pub EndsPlan : Setting → Plan → ℕ → RunEnd → Type 0
 EndsPlan p plan workers (run.Open opening) = first_of (open_faults p) ≡ Some opening
 EndsPlan p plan workers (run.Run fault) = FailsRun plan workers fault
 EndsPlan p plan workers run.NoMemory = Unit {0}
+
+-- ---- for private clauses
+abbrev pub OpensNot : Setting → RunEnd → Type 0
+OpensNot p (run.Open opening) = first_of (open_faults p) ≡ Some opening
+OpensNot p (run.Run fault) = ⊥
+OpensNot p run.NoMemory = Unit {0}

@@ -6,7 +6,7 @@ ghost use Rattle.pcef_model.specs.Setting.{Setting};
 ghost use Rattle.pcef_model.specs.Terms.{setting_of};
 ghost use Rattle.pcef_gateway.specs.declared.fault.RunFault.TheVariants.{NoMemory as WantOfMemory};
 ghost use Rattle.pcef_run.specs.declared.plan.Plan.{Plan};
-ghost use Rattle.pcef_run.specs.Runs.{EndsPlan, FailsRun, RunsPlan, accepted_of, commands_of};
+ghost use Rattle.pcef_run.specs.Runs.{EndsPlan, FailsRun, OpensNot, RunsPlan, accepted_of, commands_of};
 
 use crate::fault::RunEnd;
 use crate::obeying::{accepted_among, obey};
@@ -47,7 +47,7 @@ impl Ran {
 
 fn open<C: Offers>(alloc: Global, profile: Profile, catalog: &C) -> Result<SessionState, RunEnd>
     ensures made { IfOk result (λ s. (s.setting ≡ setting_of profile (C.offers catalog.now)) × (s.journal ≡ [])) }
-    ensures fault { (plan : Plan) (n : ℕ) → IfErr result (EndsPlan (setting_of profile (C.offers catalog.now)) plan n) }
+    ensures fault { IfErr result (OpensNot (setting_of profile (C.offers catalog.now))) }
 {
     let Ok(listing) = catalog.listing().share() else {
         return Err(RunEnd::NoMemory);
@@ -88,7 +88,10 @@ pub fn run_plan<C: Detects + Drop + Send + Sync, R: Threads + Wait + Sync>(
         arrivals,
         later,
     } = plan;
-    let mut session = open(alloc, profile, &*catalog)?;
+    let mut session = match open(alloc, profile, &*catalog) {
+        Ok(session) => session,
+        Err(end) => return Err(end),
+    };
     let Ok(answers) = obey(alloc, &mut session, first) else {
         return Err(RunEnd::NoMemory);
     };
