@@ -3,3 +3,4 @@ pub mod RefusalAnswers
 pub mod ReportAnswers
 pub mod ShowAnswers
 pub mod StepAnswers
+pub mod Written

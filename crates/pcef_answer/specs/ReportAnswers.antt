@@ -3,6 +3,7 @@
 use Rattle.std.specs.Prelude.{ℕ, List, [], codes, drop, map, nat_lt, reverse, if◌then◌else◌}
 use Rattle.serde_json.specs.Data.{Data, string, array, object, member, no_members}
 use Rattle.serde_json.specs.View.{items_of}
+use Rattle.serde_json.specs.Written.{compact_text}
 use Rattle.pcef_model.specs.declared.report.Body.{Body}
 use Rattle.pcef_model.specs.declared.report.Body.TheVariants.{Usage, Access, Inactive}
 use Rattle.pcef_model.specs.declared.report.Cause.{Cause}
@@ -56,3 +57,11 @@ reports_told journal first past_last = if nat_lt first past_last then drop first
 
 abbrev pub reports_data : List Report → Data
 reports_data told = array (items_of (map report_data told))
+
+-- ---- for private clauses
+-- the reports that are told from one number to another, as a list
+abbrev pub told_reports : Journal → ℕ → ℕ → Data
+told_reports journal first past_last = reports_data (reports_told journal first past_last)
+
+abbrev pub reports_text : Journal → ℕ → ℕ → List ℕ
+reports_text journal first past_last = compact_text (told_reports journal first past_last)

@@ -18,6 +18,7 @@ use Rattle.pcef_bearer.specs.declared.bearers.Bound.{Bound}
 use Rattle.pcef_bearer.specs.Bindings.{guaranteed, rules_on}
 use Rattle.pcef_usage.specs.declared.usage.KeyState.{KeyState}
 use Rattle.pcef_bearer.specs.Standing.{bound_of}
+use Rattle.pcef_session.specs.SessionModel.{SessionModel}
 use Rattle.pcef_session.specs.Shown.{Shows}
 use Rattle.pcef_answer.specs.FaultAnswers.{count}
 
@@ -83,6 +84,10 @@ told_data p j entries =
 abbrev pub TellsSession : Setting → Journal → List ℕ → Type 0
 TellsSession p j text = (table : TableValue) × Shows p j (gen j) table × (text ≡ compact_text (told_data p j table.entries))
 
+-- what is told of a session by itself
+abbrev pub ShowsSession : SessionModel → List ℕ → Type 0
+ShowsSession s text = TellsSession s.setting s.journal text
+
 -- ---- for private clauses: the same from what a session keeps beside its journal
 abbrev pub state_data : KeyState → Data
 state_data s = key_data s.key s.on s.reported s.unreported
@@ -92,3 +97,7 @@ states_data states = array (items_of (map state_data states))
 
 abbrev pub kept_data : List Offer → List Entry → List Bound → ℕ → List KeyState → Data
 kept_data offers entries bound generation keys = session_data (active_data offers entries) (bearers_data bound) generation (states_data keys)
+
+-- a bearer, where there is one of this id
+abbrev pub one_bearer : List Bound → ℕ → List Data
+one_bearer bound id = filter_map (bearer_told bound) (id ∷ [])

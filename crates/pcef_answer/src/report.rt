@@ -2,7 +2,7 @@
 
 ghost use Rattle.std.specs.Prelude.{◌≡◌, IfOk};
 ghost use Rattle.serde_json.specs.View.{view};
-ghost use Rattle.pcef_answer.specs.ReportAnswers.{cause_text, kind_text, inactive_text, report_data, reports_told, reports_data};
+ghost use Rattle.pcef_answer.specs.ReportAnswers.{cause_text, kind_text, inactive_text, report_data, reports_data, told_reports};
 
 use pcef_journal::{Journal, Reports};
 use pcef_model::{AccessKind, Body, Cause, InactiveCause, Report};
@@ -74,7 +74,7 @@ pub(crate) fn report_list(
     first: u64,
     past_last: u64,
 ) -> Result<Value, AllocError>
-    ensures { IfOk result (λ v. view v ≡ reports_data (reports_told journal.now.entries first past_last)) }
+    ensures { IfOk result (λ v. view v ≡ told_reports journal.now.entries first past_last) }
 {
     if first < past_last {
         report_values(alloc, journal.reports_from(first))

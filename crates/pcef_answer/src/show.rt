@@ -1,9 +1,9 @@
 //! The answer to `show`.
 
-ghost use Rattle.std.specs.Prelude.{◌≡◌, ◌++◌, ◌∷◌, [], All, IfOk, OnOk, filter_map, map, string_bytes};
+ghost use Rattle.std.specs.Prelude.{◌≡◌, ◌++◌, All, IfOk, OnOk, map, string_bytes};
 ghost use Rattle.serde_json.specs.View.{view};
 ghost use Rattle.pcef_table.specs.Sources.{IsKnown};
-ghost use Rattle.pcef_answer.specs.ShowAnswers.{TellsSession, active_data, bearer_data, bearer_told, bearers_data, bearers_told, entry_data, session_data, state_data, states_data};
+ghost use Rattle.pcef_answer.specs.ShowAnswers.{ShowsSession, active_data, bearer_data, bearers_data, bearers_told, entry_data, session_data, state_data, states_data, one_bearer};
 
 use pcef_bearer::Bearers;
 use pcef_catalog::Listing;
@@ -16,7 +16,7 @@ use std::alloc::{AllocError, Global};
 
 /// The active rules in precedence order, the bearers by id, the generation, and the keys in slot order.
 pub fn show_answer(alloc: Global, session: &SessionState) -> Result<String, AllocError>
-    ensures { IfOk result (λ text. TellsSession session.now.setting session.now.journal (string_bytes text)) }
+    ensures { IfOk result (λ text. ShowsSession session.now (string_bytes text)) }
 {
     let active = active_list(
         alloc,
@@ -36,7 +36,8 @@ fn show_value(
     generation: u32,
     keys: Value,
 ) -> Result<Value, AllocError>
-    ensures { IfOk result (λ v. view v ≡ session_data (view active) (view bearers) generation (view keys)) }
+    ensures { IfOk result (λ v. view v
+        ≡ session_data (view active) (view bearers) generation (view keys)) }
 {
     json!(in alloc; { "active": active, "bearers": bearers, "generation": generation, "keys": keys })
 }
@@ -74,7 +75,8 @@ fn add_bearer(
     id: u8,
     list: &mut Vec<Value>,
 ) -> Result<(), AllocError>
-    ensures { OnOk result (map view list.new.items ≡ map view list.old.items ++ filter_map (bearer_told bearers.now.bound) (id ∷ [])) }
+    ensures { OnOk result (map view list.new.items
+        ≡ map view list.old.items ++ one_bearer bearers.now.bound id) }
 {
     let Some(sums) = bearers.guaranteed(BearerId(id)) else {
         return Ok(());

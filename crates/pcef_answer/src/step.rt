@@ -1,10 +1,9 @@
 //! The answers to commands and to the steps of workers.
 
 ghost use Rattle.std.specs.Prelude.{◌≡◌, IfOk, string_bytes};
-ghost use Rattle.std.specs.Result.{result_map_both};
 ghost use Rattle.serde_json.specs.View.{view};
 ghost use Rattle.serde_json.specs.Written.{compact_text};
-ghost use Rattle.pcef_model.specs.Outcomes.{finish_answer_of, flush_answer_of};
+ghost use Rattle.pcef_session.specs.Answers.{finished_of, flushed_of};
 ghost use Rattle.pcef_world.specs.Steps.{reply_of};
 ghost use Rattle.pcef_answer.specs.StepAnswers.{abandoned_data, accepted_data, command_text, attached_data, attached_text, taken_text, refreshed_data, finished_text, flushed_text, step_text};
 
@@ -28,7 +27,8 @@ pub fn step_answer(
     generation: u32,
     answer: &StepAnswer,
 ) -> Result<String, AllocError>
-    ensures { IfOk result (λ text. string_bytes text ≡ step_text journal.now.entries generation (reply_of answer.now)) }
+    ensures { IfOk result (λ text. string_bytes text
+        ≡ step_text journal.now.entries generation (reply_of answer.now)) }
 {
     match answer {
         StepAnswer::Command(answer) => command_answer(alloc, journal, answer),
@@ -48,7 +48,8 @@ fn command_answer(
     journal: &Journal,
     answer: &Result<Accepted, Refusal>,
 ) -> Result<String, AllocError>
-    ensures { IfOk result (λ text. string_bytes text ≡ command_text journal.now.entries answer.now) }
+    ensures { IfOk result (λ text. string_bytes text
+        ≡ command_text journal.now.entries answer.now) }
 {
     match answer {
         Err(refusal) => refusal_answer(alloc, *refusal),
@@ -129,7 +130,8 @@ fn flushed_answer(
     journal: &Journal,
     answer: &Result<Verdicts, FlushRefusal>,
 ) -> Result<String, AllocError>
-    ensures { IfOk result (λ text. string_bytes text ≡ flushed_text journal.now.entries (result_map_both flush_answer_of (λ e. e) answer.now)) }
+    ensures { IfOk result (λ text. string_bytes text
+        ≡ flushed_text journal.now.entries (flushed_of answer.now)) }
 {
     match answer {
         Err(refusal) => flush_refusal_answer(alloc, *refusal),
@@ -143,7 +145,8 @@ fn finished_answer(
     journal: &Journal,
     answer: &Result<(Verdicts, u64), FlushRefusal>,
 ) -> Result<String, AllocError>
-    ensures { IfOk result (λ text. string_bytes text ≡ finished_text journal.now.entries (result_map_both finish_answer_of (λ e. e) answer.now)) }
+    ensures { IfOk result (λ text. string_bytes text
+        ≡ finished_text journal.now.entries (finished_of answer.now)) }
 {
     match answer {
         Err(refusal) => flush_refusal_answer(alloc, *refusal),

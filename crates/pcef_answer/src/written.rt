@@ -5,11 +5,12 @@ ghost use Rattle.std.specs.Prelude.{◌≡◌, ◌++◌, ◌||◌, ◌==◌, IfO
 ghost use Rattle.std.specs.Bool.{OnTrue};
 ghost use Rattle.json.specs.Print.{escape, escape_byte, quoted};
 ghost use Rattle.serde_json.specs.Written.{comma_if, compact_text};
-ghost use Rattle.pcef_answer.specs.ReportAnswers.{reports_data, reports_told};
+ghost use Rattle.pcef_answer.specs.ReportAnswers.{reports_text};
 ghost use Rattle.pcef_rule.specs.Name.{IsVisible};
 ghost use Rattle.pcef_model.specs.Outcomes.{flush_answer_of};
 ghost use Rattle.pcef_model.specs.declared.verdict.Verdict.TheVariants.{Gated, Passed};
-ghost use Rattle.pcef_answer.specs.StepAnswers.{finished_data, flushed_data, judged_data, taken_data, verdict_data, verdicts_data};
+ghost use Rattle.pcef_answer.specs.StepAnswers.{finished_data, flushed_data, judged_data, taken_data, verdicts_data};
+ghost use Rattle.pcef_answer.specs.Written.{GoesOn, verdict_text};
 
 use crate::report::report_list;
 use itoa::Buffer;
@@ -35,7 +36,8 @@ pub(crate) fn flushed(
     journal: &Journal,
     verdicts: &Verdicts,
 ) -> Result<String, AllocError>
-    ensures { IfOk result (λ text. string_bytes text ≡ compact_text (flushed_data journal.now.entries (flush_answer_of verdicts.now))) }
+    ensures { IfOk result (λ text. string_bytes text
+        ≡ compact_text (flushed_data journal.now.entries (flush_answer_of verdicts.now))) }
 {
     let room = verdicts.rows.len().saturating_mul(96).saturating_add(64);
     let mut text = String::with_capacity(alloc, room)?;
@@ -60,7 +62,8 @@ pub(crate) fn finished(
     verdicts: &Verdicts,
     rows: u64,
 ) -> Result<String, AllocError>
-    ensures { IfOk result (λ text. string_bytes text ≡ compact_text (finished_data journal.now.entries (flush_answer_of verdicts.now) rows)) }
+    ensures { IfOk result (λ text. string_bytes text
+        ≡ compact_text (finished_data journal.now.entries (flush_answer_of verdicts.now) rows)) }
 {
     let room = verdicts.rows.len().saturating_mul(96).saturating_add(96);
     let mut text = String::with_capacity(alloc, room)?;
@@ -87,7 +90,8 @@ fn push_reports(
     first: u64,
     past_last: u64,
 ) -> Result<(), AllocError>
-    ensures { OnOk result (string_bytes text.new ≡ string_bytes text.old ++ compact_text (reports_data (reports_told journal.now.entries first past_last))) }
+    ensures { OnOk result (GoesOn text.old text.new
+        (reports_text journal.now.entries first past_last)) }
 {
     if first < past_last {
         let reports = reports_text(alloc, journal, first, past_last)?;
@@ -103,13 +107,14 @@ fn reports_text(
     first: u64,
     past_last: u64,
 ) -> Result<String, AllocError>
-    ensures { IfOk result (λ text. string_bytes text ≡ compact_text (reports_data (reports_told journal.now.entries first past_last))) }
+    ensures { IfOk result (λ text. string_bytes text
+        ≡ reports_text journal.now.entries first past_last) }
 {
     report_list(alloc, journal, first, past_last)?.to_string(alloc)
 }
 
 fn push_verdicts(text: &mut String, rows: &[Judged]) -> Result<(), AllocError>
-    ensures { OnOk result (string_bytes text.new ≡ string_bytes text.old ++ compact_text (verdicts_data rows.now)) }
+    ensures { OnOk result (GoesOn text.old text.new (compact_text (verdicts_data rows.now))) }
 {
     text.push_str("[")?;
     let mut later = false;
@@ -121,7 +126,8 @@ fn push_verdicts(text: &mut String, rows: &[Judged]) -> Result<(), AllocError>
 }
 
 fn push_item(text: &mut String, later: bool, judged: &Judged) -> Result<(), AllocError>
-    ensures { OnOk result (string_bytes text.new ≡ string_bytes text.old ++ (comma_if later ++ compact_text (judged_data judged.now))) }
+    ensures { OnOk result (GoesOn text.old text.new
+        (comma_if later ++ compact_text (judged_data judged.now))) }
 {
     if later {
         text.push_str(",")?;
@@ -130,7 +136,7 @@ fn push_item(text: &mut String, later: bool, judged: &Judged) -> Result<(), Allo
 }
 
 fn push_judged(text: &mut String, judged: &Judged) -> Result<(), AllocError>
-    ensures { OnOk result (string_bytes text.new ≡ string_bytes text.old ++ compact_text (judged_data judged.now)) }
+    ensures { OnOk result (GoesOn text.old text.new (compact_text (judged_data judged.now))) }
 {
     let generation = judged.generation;
     match &judged.verdict {
@@ -142,7 +148,8 @@ fn push_judged(text: &mut String, judged: &Judged) -> Result<(), AllocError>
 }
 
 fn push_ruleless(text: &mut String, generation: u32, end: &str) -> Result<(), AllocError>
-    ensures { OnOk result (string_bytes text.new ≡ string_bytes text.old ++ (codes "{\"generation\":" ++ (decimal generation ++ end.now))) }
+    ensures { OnOk result (GoesOn text.old text.new
+        (codes "{\"generation\":" ++ (decimal generation ++ end.now))) }
 {
     text.push_str("{\"generation\":")?;
     push_number(text, u64::from(generation))?;
@@ -150,7 +157,7 @@ fn push_ruleless(text: &mut String, generation: u32, end: &str) -> Result<(), Al
 }
 
 fn push_gated(text: &mut String, generation: u32, rule: &RuleName) -> Result<(), AllocError>
-    ensures { OnOk result (string_bytes text.new ≡ string_bytes text.old ++ compact_text (verdict_data generation (Gated rule.now))) }
+    ensures { OnOk result (GoesOn text.old text.new (verdict_text generation (Gated rule.now))) }
 {
     text.push_str("{\"generation\":")?;
     push_number(text, u64::from(generation))?;
@@ -163,7 +170,8 @@ fn push_passed(
     rule: &RuleName,
     bearer: BearerId,
 ) -> Result<(), AllocError>
-    ensures { OnOk result (string_bytes text.new ≡ string_bytes text.old ++ compact_text (verdict_data generation (Passed rule.now bearer))) }
+    ensures { OnOk result (GoesOn text.old text.new
+        (verdict_text generation (Passed rule.now bearer))) }
 {
     text.push_str("{\"bearer\":")?;
     push_number(text, u64::from(bearer.0))?;
@@ -173,7 +181,8 @@ fn push_passed(
 }
 
 fn push_rule(text: &mut String, rule: &RuleName, end: &str) -> Result<(), AllocError>
-    ensures { OnOk result (string_bytes text.new ≡ string_bytes text.old ++ (codes ",\"rule\":" ++ (quoted rule.now ++ end.now))) }
+    ensures { OnOk result (GoesOn text.old text.new
+        (codes ",\"rule\":" ++ (quoted rule.now ++ end.now))) }
 {
     text.push_str(",\"rule\":")?;
     push_quoted(text, rule)?;
@@ -181,7 +190,7 @@ fn push_rule(text: &mut String, rule: &RuleName, end: &str) -> Result<(), AllocE
 }
 
 fn push_quoted(text: &mut String, name: &RuleName) -> Result<(), AllocError>
-    ensures { OnOk result (string_bytes text.new ≡ string_bytes text.old ++ quoted name.now) }
+    ensures { OnOk result (GoesOn text.old text.new (quoted name.now)) }
 {
     text.push_str("\"")?;
     push_escaped(text, name)?;
@@ -189,7 +198,7 @@ fn push_quoted(text: &mut String, name: &RuleName) -> Result<(), AllocError>
 }
 
 fn push_escaped(text: &mut String, name: &RuleName) -> Result<(), AllocError>
-    ensures { OnOk result (string_bytes text.new ≡ string_bytes text.old ++ escape name.now) }
+    ensures { OnOk result (GoesOn text.old text.new (escape name.now)) }
 {
     if is_plain(name) {
         text.push_str(name.as_str())
@@ -217,7 +226,7 @@ fn is_special(byte: u8) -> bool
 }
 
 fn push_bytes(text: &mut String, name: &RuleName) -> Result<(), AllocError>
-    ensures { OnOk result (string_bytes text.new ≡ string_bytes text.old ++ escape name.now) }
+    ensures { OnOk result (GoesOn text.old text.new (escape name.now)) }
 {
     for byte in name.as_str().as_bytes() {
         push_byte(text, *byte)?;
@@ -227,7 +236,7 @@ fn push_bytes(text: &mut String, name: &RuleName) -> Result<(), AllocError>
 
 fn push_byte(text: &mut String, byte: u8) -> Result<(), AllocError>
     requires { IsVisible byte }
-    ensures { OnOk result (string_bytes text.new ≡ string_bytes text.old ++ escape_byte byte) }
+    ensures { OnOk result (GoesOn text.old text.new (escape_byte byte)) }
 {
     if is_special(byte) {
         text.push_str("\\")?;
@@ -238,7 +247,7 @@ fn push_byte(text: &mut String, byte: u8) -> Result<(), AllocError>
 }
 
 fn push_number(text: &mut String, number: u64) -> Result<(), AllocError>
-    ensures { OnOk result (string_bytes text.new ≡ string_bytes text.old ++ decimal number) }
+    ensures { OnOk result (GoesOn text.old text.new (decimal number)) }
 {
     text.push_str(Buffer::new().format(number))
 }

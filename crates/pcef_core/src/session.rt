@@ -1,8 +1,8 @@
 //! A session with its catalog.
 
-ghost use Rattle.std.specs.Prelude.{◌≡◌, ◌≤◌, ◌<◌, [], IfErr, IfOk, MatchOption, Ok, OnErr, map, true};
+ghost use Rattle.std.specs.Prelude.{◌≡◌, [], IfErr, IfOk, OnErr, true};
 ghost use Rattle.std.specs.Arc.{arc_value};
-ghost use Rattle.std.specs.Result.{result_err, result_map_both};
+ghost use Rattle.std.specs.Result.{result_err};
 ghost use Rattle.pcef_catalog.specs.Catalogs.{offers_of};
 
 use indexmap::IndexMap;
@@ -30,22 +30,19 @@ pub struct Session {
 }
 
 impl Session {
-    ghost use Rattle.pcef_bearer.specs.Standing.{binding_of};
-    ghost use Rattle.pcef_lane.specs.Lanes.{lane_end};
-    ghost use Rattle.pcef_model.specs.Outcomes.{AttachStep, CommandStep, FinishStep, FlushStep, Gives, IsRefused, Opens, abandon_outcome, command_outcome, finish_answer_of, flush_answer_of};
+    ghost use Rattle.pcef_core.specs.Sessions.{journal_in, setting_in, setting_with, state_of};
+    ghost use Rattle.pcef_model.specs.Outcomes.{AttachStep, Opens, abandon_outcome};
     ghost use Rattle.pcef_model.specs.Entries.{lane};
-    ghost use Rattle.pcef_model.specs.Journals.{attach_count, gen, now};
-    ghost use Rattle.pcef_model.specs.Lawful.{BatchFollows, Lawful};
+    ghost use Rattle.pcef_model.specs.Journals.{gen};
+    ghost use Rattle.pcef_model.specs.Lawful.{Lawful};
     ghost use Rattle.pcef_model.specs.Refusals.{is_attached};
     ghost use Rattle.pcef_model.specs.Reports.{after_leave};
     ghost use Rattle.pcef_model.specs.Terms.{setting_of};
-    ghost use Rattle.pcef_session.specs.Agreement.{AreKept, KeysAgree};
-    ghost use Rattle.pcef_session.specs.Following.{HasItsSlots, row_of};
+    ghost use Rattle.pcef_session.specs.Agreement.{KeysAgree};
+    ghost use Rattle.pcef_session.specs.Answers.{AnswersCommand, AnswersFinish, AnswersFlush, AreActive, IsLaneEnd, IsOpened, KeepsPrepared, MayFollow, Refuses, Settles, ShowsNewest, binding_now};
+    ghost use Rattle.pcef_session.specs.Following.{HasItsSlots};
     ghost use Rattle.pcef_session.specs.Preparing.{IsPreparedFor, command_of};
     ghost use Rattle.pcef_session.specs.SessionModel.{HasAtLeast};
-    ghost use Rattle.pcef_core.specs.Sessions.{state_of};
-    ghost use Rattle.pcef_session.specs.Shown.{Shows};
-    ghost use Rattle.pcef_session.specs.declared.prepared.Prepared.{Prepared};
 
     /// A session with an empty journal, or the first fault in the order of [`OpenFault`]. Takes memory for the rules
     /// that may come, and for the first table.
@@ -54,8 +51,9 @@ impl Session {
         profile: Profile,
         catalog: Arc<Catalog>,
     ) -> Result<Session, OpenFault>
-        ensures answer { Opens (setting_of profile (offers_of (arc_value catalog))) (result_err result) }
-        ensures made { IfOk result (λ s. ((state_of s).setting ≡ setting_of profile (offers_of (arc_value catalog))) × ((state_of s).journal ≡ [])) }
+        ensures answer { Opens (setting_with profile (arc_value catalog)) (result_err result) }
+        ensures made { IfOk result (λ s.
+            IsOpened (setting_with profile (arc_value catalog)) (state_of s)) }
     {
         if let Some(fault) = open_fault(&profile) {
             return Err(fault);
@@ -69,13 +67,13 @@ impl Session {
 
     /// As [`SessionState::prepare`].
     pub fn prepare(&mut self, command: Command) -> Result<Prepared, Refusal>
-        ensures setting { (state_of self.new).setting ≡ (state_of self.old).setting }
-        ensures journal { (state_of self.new).journal ≡ (state_of self.old).journal }
+        ensures setting { setting_in self.new ≡ setting_in self.old }
+        ensures journal { journal_in self.new ≡ journal_in self.old }
         ensures room { HasAtLeast (state_of self.old).room (state_of self.new).room }
-        ensures refused { IfErr result (IsRefused (state_of self.old).setting (state_of self.old).journal command) }
+        ensures refused { IfErr result (Refuses (state_of self.old) command) }
         ensures ready { IfOk result (λ d. IsPreparedFor (state_of self.new) d) }
         ensures command { IfOk result (λ d. command_of d ≡ command) }
-        ensures others { (d : Prepared) → IsPreparedFor (state_of self.old) d → IsPreparedFor (state_of self.new) d }
+        ensures others { KeepsPrepared (state_of self.old) (state_of self.new) }
     {
         self.state.prepare(command)
     }
@@ -83,16 +81,16 @@ impl Session {
     /// As [`SessionState::settle`].
     pub fn settle(&mut self, prepared: Prepared) -> Accepted
         requires { IsPreparedFor (state_of self.old) prepared }
-        ensures answer { Gives (command_outcome (state_of self.old).setting (state_of self.old).journal (command_of prepared)) (Ok result) (state_of self.new).journal }
-        ensures setting { (state_of self.new).setting ≡ (state_of self.old).setting }
+        ensures answer { Settles (state_of self.old) prepared result (state_of self.new) }
+        ensures setting { setting_in self.new ≡ setting_in self.old }
     {
         self.state.settle(prepared)
     }
 
     /// As [`SessionState::command`].
     pub fn command(&mut self, command: Command) -> Result<Accepted, Refusal>
-        ensures answer { CommandStep (state_of self.old).setting command (state_of self.old).journal result (state_of self.new).journal }
-        ensures setting { (state_of self.new).setting ≡ (state_of self.old).setting }
+        ensures answer { AnswersCommand (state_of self.old) command result (state_of self.new) }
+        ensures setting { setting_in self.new ≡ setting_in self.old }
         ensures room { OnErr result (HasAtLeast (state_of self.old).room (state_of self.new).room) }
     {
         self.state.command(command)
@@ -100,9 +98,9 @@ impl Session {
 
     /// As [`SessionState::attach`].
     pub fn attach(&mut self) -> Result<u8, AttachFault>
-        ensures answer { AttachStep (state_of self.old).journal result (state_of self.new).journal }
-        ensures lane { IfOk result (λ worker. lane (state_of self.old).journal worker ≡ []) }
-        ensures setting { (state_of self.new).setting ≡ (state_of self.old).setting }
+        ensures answer { AttachStep (journal_in self.old) result (journal_in self.new) }
+        ensures lane { IfOk result (λ worker. lane (journal_in self.old) worker ≡ []) }
+        ensures setting { setting_in self.new ≡ setting_in self.old }
         ensures room { OnErr result (HasAtLeast (state_of self.old).room (state_of self.new).room) }
     {
         self.state.attach()
@@ -110,10 +108,11 @@ impl Session {
 
     /// As [`SessionState::flush`].
     pub fn flush(&mut self, worker: u8, batch: &Batch) -> Result<Verdicts, FlushRefusal>
-        requires follow { BatchFollows (state_of self.old).setting (state_of self.old).journal worker (map row_of batch.now) }
-        requires slots { HasItsSlots (state_of self.old).setting (state_of self.old).journal batch.now }
-        ensures answer { FlushStep (state_of self.old).setting worker (map row_of batch.now) (state_of self.old).journal (result_map_both flush_answer_of (λ e. e) result) (state_of self.new).journal }
-        ensures setting { (state_of self.new).setting ≡ (state_of self.old).setting }
+        requires follow { MayFollow (state_of self.old) worker batch.now }
+        requires slots { HasItsSlots (setting_in self.old) (journal_in self.old) batch.now }
+        ensures answer { AnswersFlush (state_of self.old) worker batch.now
+            result (state_of self.new) }
+        ensures setting { setting_in self.new ≡ setting_in self.old }
         ensures room { OnErr result (HasAtLeast (state_of self.old).room (state_of self.new).room) }
     {
         self.state.flush(worker, batch)
@@ -121,26 +120,27 @@ impl Session {
 
     /// As [`SessionState::lane_end`].
     pub fn lane_end(&self, worker: u8) -> Option<LaneEnd>
-        ensures { MatchOption result (attach_count (state_of self.now).journal ≤ worker) (λ end. (worker < attach_count (state_of self.now).journal) × (end ≡ lane_end (state_of self.now).journal worker)) }
+        ensures { IsLaneEnd (journal_in self.now) worker result }
     {
         self.state.lane_end(worker)
     }
 
     /// As [`SessionState::detach`].
     pub fn detach(&mut self, worker: u8)
-        requires { is_attached (state_of self.old).journal worker ≡ true }
-        ensures journal { (state_of self.new).journal ≡ after_leave worker (state_of self.old).journal }
-        ensures setting { (state_of self.new).setting ≡ (state_of self.old).setting }
+        requires { is_attached (journal_in self.old) worker ≡ true }
+        ensures journal { journal_in self.new ≡ after_leave worker (journal_in self.old) }
+        ensures setting { setting_in self.new ≡ setting_in self.old }
     {
         self.state.detach(worker);
     }
 
     /// As [`SessionState::finish`].
     pub fn finish(&mut self, worker: u8, batch: &Batch) -> Result<(Verdicts, u64), FlushRefusal>
-        requires follow { BatchFollows (state_of self.old).setting (state_of self.old).journal worker (map row_of batch.now) }
-        requires slots { HasItsSlots (state_of self.old).setting (state_of self.old).journal batch.now }
-        ensures answer { FinishStep (state_of self.old).setting worker (map row_of batch.now) (state_of self.old).journal (result_map_both finish_answer_of (λ e. e) result) (state_of self.new).journal }
-        ensures setting { (state_of self.new).setting ≡ (state_of self.old).setting }
+        requires follow { MayFollow (state_of self.old) worker batch.now }
+        requires slots { HasItsSlots (setting_in self.old) (journal_in self.old) batch.now }
+        ensures answer { AnswersFinish (state_of self.old) worker batch.now
+            result (state_of self.new) }
+        ensures setting { setting_in self.new ≡ setting_in self.old }
         ensures room { OnErr result (HasAtLeast (state_of self.old).room (state_of self.new).room) }
     {
         self.state.finish(worker, batch)
@@ -148,66 +148,66 @@ impl Session {
 
     /// As [`SessionState::abandon`].
     pub fn abandon(&mut self, worker: u8) -> u64
-        ensures rows { result ≡ (abandon_outcome (state_of self.old).journal worker).0 }
-        ensures journal { (state_of self.new).journal ≡ (abandon_outcome (state_of self.old).journal worker).1 }
-        ensures setting { (state_of self.new).setting ≡ (state_of self.old).setting }
+        ensures rows { result ≡ (abandon_outcome (journal_in self.old) worker).0 }
+        ensures journal { journal_in self.new ≡ (abandon_outcome (journal_in self.old) worker).1 }
+        ensures setting { setting_in self.new ≡ setting_in self.old }
     {
         self.state.abandon(worker)
     }
 
     /// The catalog, which offers the predefined rules of the session.
     pub fn catalog(&self) -> &Arc<Catalog>
-        ensures { offers_of (arc_value result.now) ≡ (state_of self.now).setting.catalog }
+        ensures { offers_of (arc_value result.now) ≡ (setting_in self.now).catalog }
     {
         &self.catalog
     }
 
     /// The table of the newest generation, with the active rules, and its index.
     pub fn indexed(&self) -> &Arc<Indexed>
-        ensures { Shows (state_of self.now).setting (state_of self.now).journal (gen (state_of self.now).journal) (arc_value result.now) }
+        ensures { ShowsNewest (state_of self.now) (arc_value result.now) }
     {
         self.state.indexed()
     }
 
     /// The active rules by their names, in the order in which they became active.
     pub fn active(&self) -> &IndexMap<RuleName, Source>
-        ensures { AreKept (state_of self.now).setting.catalog result.now.entries (now (state_of self.now).setting (state_of self.now).journal).rules }
+        ensures { AreActive (state_of self.now) result.now.entries }
     {
         self.state.active()
     }
 
     /// The bearers.
     pub fn bearers(&self) -> &Bearers
-        ensures { result.now ≡ binding_of (state_of self.now).setting (now (state_of self.now).setting (state_of self.now).journal) }
+        ensures { result.now ≡ binding_now (state_of self.now) }
     {
         self.state.bearers()
     }
 
     /// The keys that have a slot, with their usage.
     pub fn usage(&self) -> &Usage
-        ensures { KeysAgree (state_of self.now).setting (state_of self.now).journal result.now }
+        ensures { KeysAgree (setting_in self.now) (journal_in self.now) result.now }
     {
         self.state.usage()
     }
 
     /// The number of the newest generation.
     pub fn generation(&self) -> u32
-        ensures { result ≡ gen (state_of self.now).journal }
+        ensures { result ≡ gen (journal_in self.now) }
     {
         self.state.generation()
     }
 
     /// The journal, which is lawful.
     pub fn journal(&self) -> &Journal
-        ensures journal { result.now.entries ≡ (state_of self.now).journal }
-        ensures lawful { Lawful (state_of self.now).setting (state_of self.now).journal }
+        ensures journal { result.now.entries ≡ journal_in self.now }
+        ensures lawful { Lawful (setting_in self.now) (journal_in self.now) }
     {
         self.state.journal()
     }
 
     /// What is fixed for the session.
     pub fn profile(&self) -> &Profile
-        ensures { setting_of result.now (state_of self.now).setting.catalog ≡ (state_of self.now).setting }
+        ensures { setting_of result.now (setting_in self.now).catalog ≡ setting_in self.now }
     {
         self.state.profile()
     }

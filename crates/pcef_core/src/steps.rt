@@ -1,13 +1,11 @@
 //! What a list of steps makes of a session.
 
-ghost use Rattle.std.specs.Prelude.{◌≡◌, IfOk};
+ghost use Rattle.std.specs.Prelude.{IfOk};
 ghost use Rattle.std.specs.Arc.{arc_value};
 ghost use Rattle.std.specs.Result.{result_err};
-ghost use Rattle.pcef_catalog.specs.Catalogs.{offers_of};
-ghost use Rattle.pcef_core.specs.Cores.{world_of};
+ghost use Rattle.pcef_core.specs.Cores.{HasRun};
+ghost use Rattle.pcef_core.specs.Sessions.{setting_with};
 ghost use Rattle.pcef_model.specs.Outcomes.{Opens};
-ghost use Rattle.pcef_model.specs.Terms.{setting_of};
-ghost use Rattle.pcef_world.specs.Steps.{Played, at_start, standing_of};
 
 use crate::world::World;
 use pcef_catalog::Catalog;
@@ -25,8 +23,9 @@ pub fn run(
     catalog: Arc<Catalog>,
     steps: Vec<Step>,
 ) -> Result<(World, Vec<StepAnswer>), OpenFault>
-    ensures fault { Opens (setting_of profile (offers_of (arc_value catalog))) (result_err result) }
-    ensures played { IfOk result (λ r. Played (setting_of profile (offers_of (arc_value catalog))) at_start steps.items r.1.items (standing_of (world_of r.0))) }
+    ensures fault { Opens (setting_with profile (arc_value catalog)) (result_err result) }
+    ensures played { IfOk result (λ r.
+        HasRun profile (arc_value catalog) steps.items r.1.items r.0) }
 {
     let mut world = World::open(alloc, profile, catalog)?;
     match world.play(alloc, steps) {

@@ -21,17 +21,18 @@ pub struct World {
 }
 
 impl World {
-    ghost use Rattle.pcef_core.specs.Cores.{world_of};
+    ghost use Rattle.pcef_core.specs.Cores.{world_of, world_setting, world_standing};
+    ghost use Rattle.pcef_core.specs.Sessions.{setting_with};
     ghost use Rattle.pcef_model.specs.Outcomes.{Opens};
-    ghost use Rattle.pcef_model.specs.Terms.{setting_of};
-    ghost use Rattle.pcef_world.specs.Steps.{Lacks, Played, Plays, PlaysFront, at_start, standing_of};
+    ghost use Rattle.pcef_world.specs.Steps.{LacksForStep, MakesFront, MakesStep, MakesSteps, at_start};
 
     /// A session with an empty journal and no workers, or the first fault in the order of [`OpenFault`]. Takes
     /// memory for the rules and keys that may come.
     pub fn open(alloc: Global, profile: Profile, catalog: Arc<Catalog>) -> Result<World, OpenFault>
-        ensures answer { Opens (setting_of profile (offers_of (arc_value catalog))) (result_err result) }
-        ensures setting { IfOk result (λ w. (world_of w).session.setting ≡ setting_of profile (offers_of (arc_value catalog))) }
-        ensures start { IfOk result (λ w. standing_of (world_of w) ≡ at_start) }
+        ensures answer { Opens (setting_with profile (arc_value catalog)) (result_err result) }
+        ensures setting { IfOk result (λ w.
+            world_setting w ≡ setting_with profile (arc_value catalog)) }
+        ensures start { IfOk result (λ w. world_standing w ≡ at_start) }
     {
         if let Some(fault) = open_fault(&profile) {
             return Err(fault);
@@ -45,9 +46,11 @@ impl World {
 
     /// Makes one step, as [`WorldState::step`].
     pub fn step(&mut self, step: Step) -> Result<StepAnswer, AllocError>
-        ensures answer { IfOk result (λ a. Plays (world_of self.old).session.setting (standing_of (world_of self.old)) step a (standing_of (world_of self.new))) }
-        ensures lacks { IfErr result (λ _. Lacks (world_of self.old).session.setting (standing_of (world_of self.old)) step (standing_of (world_of self.new))) }
-        ensures setting { (world_of self.new).session.setting ≡ (world_of self.old).session.setting }
+        ensures answer { IfOk result (λ a.
+            MakesStep (world_of self.old) step a (world_of self.new)) }
+        ensures lacks { IfErr result (λ _.
+            LacksForStep (world_of self.old) step (world_of self.new)) }
+        ensures setting { world_setting self.new ≡ world_setting self.old }
     {
         self.state.step(&*self.catalog, step)
     }
@@ -55,9 +58,11 @@ impl World {
     /// Makes steps one after the other, as [`WorldState::play`]. Want of memory leaves some of them made, from the first
     /// on, and nothing else changed.
     pub fn play(&mut self, alloc: Global, steps: Vec<Step>) -> Result<Vec<StepAnswer>, AllocError>
-        ensures answers { IfOk result (λ answers. Played (world_of self.old).session.setting (standing_of (world_of self.old)) steps.items answers.items (standing_of (world_of self.new))) }
-        ensures front { OnErr result (PlaysFront (world_of self.old).session.setting (standing_of (world_of self.old)) steps.items (standing_of (world_of self.new))) }
-        ensures setting { (world_of self.new).session.setting ≡ (world_of self.old).session.setting }
+        ensures answers { IfOk result (λ v.
+            MakesSteps (world_of self.old) steps.items v.items (world_of self.new)) }
+        ensures front { OnErr result
+            (MakesFront (world_of self.old) steps.items (world_of self.new)) }
+        ensures setting { world_setting self.new ≡ world_setting self.old }
     {
         self.state.play(alloc, &*self.catalog, steps)
     }

@@ -8,7 +8,7 @@ use Rattle.pcef_model.specs.Journals.{counted, slots}
 use Rattle.pcef_model.specs.declared.answer.Accepted.{Accepted}
 use Rattle.pcef_model.specs.declared.answer.Refusal.{Refusal}
 use Rattle.pcef_session.specs.declared.batch.Item.{Item}
-use Rattle.pcef_share.specs.Amounts.{command_ledger, plus, row_ledger}
+use Rattle.pcef_share.specs.Amounts.{Account, command_ledger, plus, row_ledger}
 
 -- ---- what the books hold
 -- what the journal counts for the key of a slot, 0 where no key has it
@@ -56,3 +56,12 @@ with_taken (Err e) totals items = totals
 abbrev pub IsLow : Option Slot → Type 0
 IsLow None = Unit {0}
 IsLow (Some slot) = slot.0 < 8
+
+-- ---- books
+-- after a command that was answered so
+abbrev pub books_with_command : Result Accepted Refusal → Account → Account
+books_with_command result books = record books { totals = with_command result books.totals }
+
+-- after rows of which it was answered so whether they were taken over
+abbrev pub books_with_taken : {A E : Type 0} → Result A E → Account → List Item → Account
+books_with_taken result books items = record books { totals = with_taken result books.totals items }

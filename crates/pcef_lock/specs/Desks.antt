@@ -1,8 +1,10 @@
 -- What the one who gives commands has of a session.
-use Rattle.std.specs.Prelude.{ℕ, Bool, true, false, ◌++◌, ◌∷◌, [], List, Result, Ok, Err}
+use Rattle.std.specs.Prelude.{ℕ, Bool, true, false, ◌++◌, ◌∷◌, [], List, Result, Ok, Err, length}
 use Rattle.pcef_model.specs.declared.answer.Accepted.{Accepted}
 use Rattle.pcef_model.specs.declared.answer.Refusal.{Refusal}
 use Rattle.pcef_model.specs.declared.command.Command.{Command}
+use Rattle.pcef_model.specs.Entries.{Journal, commands}
+use Rattle.pcef_share.specs.Amounts.{Account, command_ledger, plus, zeros}
 
 -- the commands that were accepted, and how many reports were collected
 pub record DeskModel : Type 0 where
@@ -18,3 +20,11 @@ listed_by false c cs = cs ++ c ∷ []
 abbrev pub listed : Result Accepted Refusal → Command → List Command → List Command
 listed (Ok a) c cs = listed_by a.unchanged c cs
 listed (Err r) c cs = cs
+
+-- the shares of a desk whose commands are those of a journal
+abbrev pub desk_shares : Journal → List ℕ
+desk_shares j = plus zeros command_ledger (length (commands j))
+
+-- the books of a session to which no worker ever came: its commands, and the share of its desk
+abbrev pub first_books : Journal → Account
+first_books j = record { totals = desk_shares j; issued = 1 }

@@ -1,5 +1,6 @@
 -- What the value behind a session's lock answers, and the journal after it.
 use Rattle.std.specs.Prelude.{ℕ, ◌≡◌, ◌≢◌, ◌+◌, false, true, List, Result, Ok, Err, map}
+use Rattle.std.specs.Result.{result_map_both}
 use Rattle.pcef_model.specs.Setting.{Setting}
 use Rattle.pcef_model.specs.Entries.{Journal}
 use Rattle.pcef_model.specs.Outcomes.{AttachStep, FinishStep, FlushStep, Gives, FlushAnswer, judged_of}
@@ -8,10 +9,15 @@ use Rattle.pcef_model.specs.declared.answer.AttachFault.TheVariants.{NoPlace}
 use Rattle.pcef_model.specs.declared.answer.FlushRefusal.{FlushRefusal}
 use Rattle.pcef_model.specs.declared.answer.FlushRefusal.TheVariants.{NotAttached}
 use Rattle.pcef_model.specs.declared.answer.Judged.{Judged}
+use Rattle.pcef_model.specs.declared.answer.Verdicts.{Verdicts}
 use Rattle.pcef_session.specs.declared.batch.Item.{Item}
+use Rattle.pcef_session.specs.Answers.{finished_of, flushed_of}
 use Rattle.pcef_session.specs.Following.{row_of}
 use Rattle.pcef_share.specs.Amounts.{Account}
+use Rattle.pcef_lock.specs.declared.seat.Seat.{Seat}
 use Rattle.pcef_lock.specs.Lanes.{continues_lane}
+use Rattle.pcef_lock.specs.Locked.{Locked}
+use Rattle.pcef_lock.specs.Seats.{seat_number}
 
 -- a worker comes as to any session; where all places were taken, there is none
 abbrev pub SeatStep : ℕ → ℕ → Journal → Result ℕ AttachFault → Journal → Type 0
@@ -38,3 +44,19 @@ abbrev pub LeaveStep : Setting → ℕ → List Item → Journal → Result (Flu
 LeaveStep p worker items before result after =
     (continues_lane before worker items ≡ false → Gives (Err NotAttached, before) result after)
     × (continues_lane before worker items ≡ true → FinishStep p worker (map row_of items) before result after)
+
+-- ---- the value behind the lock, before and after
+-- a worker that comes is answered as due
+abbrev pub AnswersSeat : {l : _} → Locked → Result (Seat l) AttachFault → Locked → Type 0
+AnswersSeat before result after =
+    SeatStep before.books.issued before.places before.session.journal (result_map_both seat_number (λ e. e) result) after.session.journal
+
+-- rows that a worker hands over are answered as due
+abbrev pub AnswersHandOver : Setting → ℕ → List Item → Locked → Result Verdicts FlushRefusal → Locked → Type 0
+AnswersHandOver p worker items before result after =
+    HandOverStep p worker items before.session.journal (flushed_of result) after.session.journal
+
+-- a worker that leaves is answered as due
+abbrev pub AnswersLeave : Setting → ℕ → List Item → Locked → Result (Verdicts × ℕ) FlushRefusal → Locked → Type 0
+AnswersLeave p worker items before result after =
+    LeaveStep p worker items before.session.journal (finished_of result) after.session.journal

@@ -34,7 +34,8 @@ fn count_octets<N: Naming>(
 )
     requires low { IsLow slot }
     requires fits { (n : ℕ) → n < 8 → slice_index books.old.totals n + octets < 2 ^ 64 }
-    ensures books { books.new ≡ record books.old { totals = with_slot books.old.totals slot octets } }
+    ensures books { books.new
+        ≡ record books.old { totals = with_slot books.old.totals slot octets } }
     ensures shares { shares.new ≡ with_slot shares.old slot octets }
 {
     match slot {
@@ -47,7 +48,8 @@ fn count_octets<N: Naming>(
 #[tactic(auto, using(crate::proofs::Counted::slot_keeps))]
 fn count_item<N: Naming>(books: &mut Books<N>, shares: &mut Shares<N>, item: &Item)
     requires low { IsLow item.now.slot }
-    requires fits { (n : ℕ) → n < 8 → slice_index books.old.totals n + item.now.row.header.octets < 2 ^ 64 }
+    requires fits { (n : ℕ) → n < 8 →
+        slice_index books.old.totals n + item.now.row.header.octets < 2 ^ 64 }
     requires row { slice_index books.old.totals row_ledger + 1 < 2 ^ 64 }
     ensures books { books.new ≡ record books.old { totals = with_item books.old.totals item.now } }
     ensures shares { shares.new ≡ with_item shares.old item.now }
@@ -61,9 +63,11 @@ pub(crate) fn count_items<N: Naming>(books: &mut Books<N>, shares: &mut Shares<N
     requires low { All (λ i. IsLow i.slot) items.now }
     requires octets { HasSmallRows items.now }
     requires ten { length books.old.totals ≡ 10 }
-    requires fits { (n : ℕ) → n < 8 → slice_index books.old.totals n + 4294967295 * length items.now < 2 ^ 64 }
+    requires fits { (n : ℕ) → n < 8 →
+        slice_index books.old.totals n + 4294967295 * length items.now < 2 ^ 64 }
     requires rows { slice_index books.old.totals row_ledger + length items.now < 2 ^ 64 }
-    ensures books { books.new ≡ record books.old { totals = with_items books.old.totals items.now } }
+    ensures books { books.new
+        ≡ record books.old { totals = with_items books.old.totals items.now } }
     ensures shares { shares.new ≡ with_items shares.old items.now }
 {
     for item in items {

@@ -119,7 +119,8 @@ impl<N: Naming> Desk<N> {
         shared: &Shared<C, N, W>,
     ) -> Result<Vec<Report>, AllocError>
         ensures numbered { IfOk result (λ v. AreNumbered self.old.collected v.items) }
-        ensures collected { IfOk result (λ v. self.new.collected ≡ self.old.collected + length v.items) }
+        ensures collected { IfOk result (λ v.
+            self.new.collected ≡ self.old.collected + length v.items) }
         ensures refused { OnErr result (self.new ≡ self.old) }
         ensures commands { self.new.commands ≡ self.old.commands }
     {

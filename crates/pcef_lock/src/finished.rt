@@ -25,7 +25,11 @@ impl<N: Naming> Model for Finished<N> {
 
     ghost Value = { HandedIn };
 
-    ghost view = { λ f. record { worker = f.worker; items = f.items.items; abandoned = f.abandoned } };
+    ghost view = { λ f. record {
+      worker = f.worker;
+      items = f.items.items;
+      abandoned = f.abandoned;
+    } };
 
     ghost invariant = { λ f. f.shares ≡ with_items zeros f.items.items };
 }

@@ -93,8 +93,10 @@ pub(crate) fn differing<N: Naming>(
     finished: &[Finished<N>],
     workers: u8,
 ) -> Option<u8>
-    ensures none { result ≡ None → (w : ℕ) → w < workers → HasLane journal.now.entries finished.now w }
-    ensures some { IfSome result (λ w. (w < workers) × (HasLane journal.now.entries finished.now w → ⊥)) }
+    ensures none { result ≡ None → (w : ℕ) → w < workers →
+        HasLane journal.now.entries finished.now w }
+    ensures some { IfSome result (λ w. (w < workers)
+        × (HasLane journal.now.entries finished.now w → ⊥)) }
 {
     for worker in 0..workers {
         if !has_lane(journal, finished, worker) {

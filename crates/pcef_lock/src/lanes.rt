@@ -13,7 +13,8 @@ use pcef_session::{Item, SessionState};
 /// Where the lane of a worker ends. A worker that never came has no rows.
 pub(crate) fn end_of(session: &SessionState, worker: u8) -> LaneEnd
     ensures rows { result.rows ≡ lane_len session.now.journal worker }
-    ensures generation { result.newest_generation ≡ newest_generation (lane session.now.journal worker) }
+    ensures generation { result.newest_generation
+        ≡ newest_generation (lane session.now.journal worker) }
 {
     let _lawful = session.journal();
     match session.lane_end(worker) {

@@ -1,12 +1,11 @@
 //! Sessions that come behind a lock.
 
 ghost use Rattle.std.specs.Prelude.{◌≡◌, ◌≤◌, ◌<◌, ◌⊎◌, ◌↔◌, [], ◌∷◌, All, IfErr, IfOk, length};
-ghost use Rattle.pcef_model.specs.Entries.{commands};
 ghost use Rattle.pcef_model.specs.Journals.{attach_count, gen};
-ghost use Rattle.pcef_session.specs.Shown.{Shows};
-ghost use Rattle.pcef_share.specs.Amounts.{command_ledger, plus, zeros};
+ghost use Rattle.pcef_session.specs.Answers.{ShowsNewest};
 ghost use Rattle.pcef_share.specs.Names.{name_at};
 ghost use Rattle.pcef_table.specs.Tables.{IsTable};
+ghost use Rattle.pcef_lock.specs.Desks.{desk_shares};
 ghost use Rattle.pcef_lock.specs.Opening.{IsPlacesFault};
 ghost use Rattle.pcef_lock.specs.declared.opening.SharedFault.TheVariants.{Places};
 
@@ -36,7 +35,7 @@ pub enum SharedFault {
 /// A history that begins with the table of a session's newest generation. It takes its name where the session does.
 /// Fails where a further owner of the table is refused.
 pub fn opened(session: &SessionState) -> Result<Opened, AllocError>
-    ensures { IfOk result (λ o. Shows session.now.setting session.now.journal (gen session.now.journal) o.table) }
+    ensures { IfOk result (λ o. ShowsNewest session.now o.table) }
 {
     Ok(Opened::new(Arc::try_clone(session.indexed())?))
 }
@@ -81,12 +80,12 @@ impl<N: Naming, R: Wait + Drop> State<N, Writer<N, R>> {
         requires setting { session.setting ≡ N.setting }
         requires first { N.first ≡ gen session.journal }
         requires fresh { attach_count session.journal ≡ 0 }
-        requires table { Shows session.setting session.journal (gen session.journal) opened.table }
+        requires table { ShowsNewest session opened.table }
         requires book { (opened.book ≡ N.book) × (opened.root ≡ N.root) }
         ensures session { IfOk result (λ r. r.0.session ≡ session) }
         ensures tables { IfOk result (λ r. r.0.tables ≡ opened.table ∷ []) }
         ensures places { IfOk result (λ r. (r.0.places ≡ places) × (r.0.books.issued ≡ 1)) }
-        ensures shares { IfOk result (λ r. r.1 ≡ plus zeros command_ledger (length (commands session.journal))) }
+        ensures shares { IfOk result (λ r. r.1 ≡ desk_shares session.journal) }
         ensures fault { IsPlacesFault result ↔ ((places ≡ 0) ⊎ (16 < places)) }
         ensures back { IfErr result (λ e. e.0 ≡ session) }
     {

@@ -1,9 +1,9 @@
 //! The publisher of a session, and the subscribers that no worker has yet.
 
-ghost use Rattle.std.specs.Prelude.{◌≡◌, ◌<◌, ◌+◌, ◌-◌, ◌++◌, ◌∷◌, [], IfSome, OnErr, OnOk, length, slice_set};
+ghost use Rattle.std.specs.Prelude.{◌≡◌, ◌<◌, ◌++◌, ◌∷◌, [], IfSome, OnErr, OnOk, length};
 ghost use Rattle.std.specs.Option.{option_to_list};
 ghost use Rattle.pcef_session.specs.Preparing.{table_made};
-ghost use Rattle.pcef_table.specs.Tables.{IsTable};
+ghost use Rattle.pcef_lock.specs.Published.{MayBeNext, with_last};
 
 use pcef_publish::{Board, Publisher, Slot, Subscriber};
 use pcef_session::Prepared;
@@ -16,8 +16,9 @@ pub(crate) fn publish<N: Naming, W: Board<Slot<N>> + Drop>(
     publisher: &mut Publisher<N, W>,
     prepared: &Prepared,
 ) -> Result<(), AllocError>
-    requires { IfSome (table_made prepared.now) (λ t. (t.number ≡ N.first + length publisher.old) × IsTable N.setting.catalog t.entries) }
-    ensures published { OnOk result (publisher.new ≡ publisher.old ++ option_to_list (table_made prepared.now)) }
+    requires { IfSome (table_made prepared.now) (MayBeNext N.setting N.first publisher.old) }
+    ensures published { OnOk result (publisher.new
+        ≡ publisher.old ++ option_to_list (table_made prepared.now)) }
     ensures refused { OnErr result (publisher.new ≡ publisher.old) }
 {
     match prepared.indexed() {
@@ -33,7 +34,8 @@ pub(crate) fn make_ready<N: Naming, W: Board<Slot<N>> + Drop>(
 ) -> Result<(), AllocError>
     requires { 0 < length subscribers.old.items }
     ensures many { length subscribers.new.items ≡ length subscribers.old.items }
-    ensures ready { OnOk result (subscribers.new.items ≡ slice_set subscribers.old.items (length subscribers.old.items - 1) publisher.old) }
+    ensures ready { OnOk result (subscribers.new.items
+        ≡ with_last subscribers.old.items publisher.old) }
     ensures publisher { publisher.new ≡ publisher.old }
 {
     let last = subscribers.len() - 1;

@@ -29,7 +29,8 @@ impl<N: Naming> Seat<N> {
     pub fn judge<C: Detects>(&self, catalog: &C, seq: u64, header: &Header) -> Item
         requires offers { C.offers catalog.now ≡ N.setting.catalog }
         requires ue { self.now.ue ≡ N.setting.ue }
-        ensures { IsTaken N.setting N.first self.now.worker seq self.now.subscriber header.now result }
+        ensures { IsTaken N.setting N.first self.now.worker seq
+            self.now.subscriber header.now result }
     {
         let (generation, held) = self.subscriber.current();
         let verdict = held.classify(catalog, self.ue, header);

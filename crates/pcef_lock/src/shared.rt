@@ -10,6 +10,7 @@ ghost use Rattle.pcef_lock.specs.Gathering.{AreGathered, HaveLanes, key_totals, 
 ghost use Rattle.pcef_lock.specs.Judging.{AllJudged};
 ghost use Rattle.pcef_lock.specs.Outcomes.{judged_rows};
 ghost use Rattle.pcef_lock.specs.Reports.{AreNumbered};
+ghost use Rattle.pcef_lock.specs.Seats.{ChangesOnlyShares, ChangesOnlySubscriber};
 ghost use mathlib.Core.List.{IsPrefix};
 
 use crate::desk::Desk;
@@ -102,7 +103,7 @@ impl<C: Offers + Drop, N: Naming, W: Board<Slot<N>> + Drop> Shared<C, N, W> {
         ensures grows { IsPrefix seat.old.subscriber seat.new.subscriber }
         ensures number { IfOk result (λ g. g + 1 ≡ N.first + length seat.new.subscriber) }
         ensures refused { IfErr result (λ _. seat.new.subscriber ≡ seat.old.subscriber) }
-        ensures seat { (seat.new.worker ≡ seat.old.worker) × (seat.new.shares ≡ seat.old.shares) × (seat.new.ue ≡ seat.old.ue) }
+        ensures seat { ChangesOnlySubscriber seat.old seat.new }
     {
         self.state.lock(rt).meet(seat)
     }
@@ -117,7 +118,7 @@ impl<C: Offers + Drop, N: Naming, W: Board<Slot<N>> + Drop> Shared<C, N, W> {
         requires { AllJudged N.setting N.first seat.old.subscriber batch.now }
         ensures told { IfOk result (λ v. v.rows.items ≡ judged_rows batch.now) }
         ensures shares { seat.new.shares ≡ with_taken result seat.old.shares batch.now }
-        ensures seat { (seat.new.worker ≡ seat.old.worker) × (seat.new.subscriber ≡ seat.old.subscriber) × (seat.new.ue ≡ seat.old.ue) }
+        ensures seat { ChangesOnlyShares seat.old seat.new }
     {
         self.state.lock(rt).flush(seat, batch)
     }
@@ -132,7 +133,7 @@ impl<C: Offers + Drop, N: Naming, W: Board<Slot<N>> + Drop> Shared<C, N, W> {
         requires { AllJudged N.setting N.first seat.old.subscriber batch.now }
         ensures told { IfOk result (λ v. v.0.rows.items ≡ judged_rows batch.now) }
         ensures shares { seat.new.shares ≡ with_taken result seat.old.shares batch.now }
-        ensures seat { (seat.new.worker ≡ seat.old.worker) × (seat.new.subscriber ≡ seat.old.subscriber) × (seat.new.ue ≡ seat.old.ue) }
+        ensures seat { ChangesOnlyShares seat.old seat.new }
     {
         self.state.lock(rt).finish(seat, batch)
     }
@@ -161,7 +162,8 @@ impl<C: Offers + Drop, N: Naming, W: Board<Slot<N>> + Drop> Shared<C, N, W> {
     ) -> Result<Totals, Ungathered<C, N, W>>
         requires { length finished.items ≤ 16 }
         ensures setting { IfOk result (λ t. t.session.setting ≡ N.setting) }
-        ensures workers { IfOk result (λ t. length finished.items ≡ attach_count t.session.journal) }
+        ensures workers { IfOk result (λ t.
+            length finished.items ≡ attach_count t.session.journal) }
         ensures lanes { IfOk result (λ t. HaveLanes t.session.journal finished.items) }
         ensures desk { IfOk result (λ t. desk.commands ≡ reverse (commands t.session.journal)) }
         ensures keys { IfOk result (λ t. t.keys ≡ key_totals N.setting t.session.journal) }

@@ -1,18 +1,17 @@
 //! The value behind the lock of a session.
 
 ghost use Rattle.std.specs.Prelude.{◌≡◌, ◌≤◌, ◌+◌, IfErr, IfOk, length};
-ghost use Rattle.std.specs.Result.{result_map_both};
 ghost use Rattle.pcef_model.specs.Outcomes.{CommandStep};
 ghost use Rattle.pcef_model.specs.Entries.{commands};
-ghost use Rattle.pcef_model.specs.Journals.{attach_count, gen};
+ghost use Rattle.pcef_model.specs.Journals.{attach_count};
 ghost use Rattle.pcef_model.specs.Lawful.{Lawful};
-ghost use Rattle.pcef_share.specs.Amounts.{command_ledger, plus, zeros};
 ghost use Rattle.pcef_share.specs.Names.{name_at};
-ghost use Rattle.pcef_lock.specs.Outcomes.{SeatStep, with_share};
-ghost use Rattle.pcef_lock.specs.Counting.{with_command};
+ghost use Rattle.pcef_lock.specs.Outcomes.{AnswersSeat, with_share};
+ghost use Rattle.pcef_lock.specs.Counting.{books_with_command, with_command};
+ghost use Rattle.pcef_lock.specs.Desks.{desk_shares, first_books};
 ghost use Rattle.pcef_lock.specs.Kept.{Kept};
 ghost use Rattle.pcef_lock.specs.Published.{ArePublished};
-ghost use Rattle.pcef_lock.specs.Seats.{seat_number};
+ghost use Rattle.pcef_lock.specs.Seats.{ChangesOnlySubscriber, HasSeenAll, IsNewSeat};
 ghost use mathlib.Core.List.{IsPrefix};
 
 use crate::counting::count_command;
@@ -51,9 +50,19 @@ impl<N: Naming, W: Board<Slot<N>> + Drop> Model for State<N, W> {
 
     ghost Value = { Locked };
 
-    ghost view = { λ s. record { session = s.session; tables = s.publisher; books = s.books; places = s.places } };
+    ghost view = { λ s. record {
+      session = s.session;
+      tables = s.publisher;
+      books = s.books;
+      places = s.places;
+    } };
 
-    ghost invariant = { λ s. IsSound N.setting N.first (record { session = s.session; tables = s.publisher; books = s.books; places = s.places }) (length s.subscribers.items) };
+    ghost invariant = { λ s. IsSound N.setting N.first (record {
+      session = s.session;
+      tables = s.publisher;
+      books = s.books;
+      places = s.places;
+    }) (length s.subscribers.items) };
 }
 
 /// How many commands a session took, and that its journal is lawful.
@@ -99,8 +108,8 @@ impl<N: Naming, W: Board<Slot<N>> + Drop> State<N, W> {
         ensures session { result.0.session ≡ session }
         ensures tables { result.0.tables ≡ publisher }
         ensures places { result.0.places ≡ places }
-        ensures books { result.0.books ≡ record { totals = plus zeros command_ledger (length (commands session.journal)); issued = 1 } }
-        ensures shares { result.1 ≡ plus zeros command_ledger (length (commands session.journal)) }
+        ensures books { result.0.books ≡ first_books session.journal }
+        ensures shares { result.1 ≡ desk_shares session.journal }
     {
         let commands = commands_of(&session);
         let _rows = rows_of(&session);
@@ -137,10 +146,11 @@ impl<N: Naming, W: Board<Slot<N>> + Drop> State<N, W> {
     /// who gives it, unless it changed nothing; or answers the first refusal in the order of [`Refusal`], which
     /// changes nothing. Takes memory. May wait for readers of the publication.
     pub fn command(&mut self, shares: &mut Shares<N>, command: Command) -> Result<Accepted, Refusal>
-        ensures answer { CommandStep N.setting command self.old.session.journal result self.new.session.journal }
+        ensures answer { CommandStep N.setting command
+            self.old.session.journal result self.new.session.journal }
         ensures tables { IsPrefix self.old.tables self.new.tables }
         ensures refused { IfErr result (λ _. self.new.tables ≡ self.old.tables) }
-        ensures books { self.new.books ≡ record self.old.books { totals = with_command result self.old.books.totals } }
+        ensures books { self.new.books ≡ books_with_command result self.old.books }
         ensures places { self.new.places ≡ self.old.places }
         ensures shares { shares.new ≡ with_command result shares.old }
     {
@@ -162,11 +172,11 @@ impl<N: Naming, W: Board<Slot<N>> + Drop> State<N, W> {
     /// [`AttachFault`], which changes nothing. There is no place too where as many workers came as the lock was made
     /// for. Takes memory.
     pub fn attach(&mut self) -> Result<Seat<N>, AttachFault>
-        ensures answer { SeatStep self.old.books.issued self.old.places self.old.session.journal (result_map_both seat_number (λ e. e) result) self.new.session.journal }
+        ensures answer { AnswersSeat self.old result self.new }
         ensures tables { self.new.tables ≡ self.old.tables }
         ensures books { self.new.books ≡ with_share result self.old.books }
         ensures places { self.new.places ≡ self.old.places }
-        ensures seat { IfOk result (λ s. (s.shares ≡ zeros) × (s.subscriber ≡ self.old.tables) × (s.ue ≡ N.setting.ue)) }
+        ensures seat { IfOk result (IsNewSeat N.setting self.old.tables) }
     {
         if self.books.issued() > self.places {
             return Err(AttachFault::NoPlace);
@@ -196,10 +206,10 @@ impl<N: Naming, W: Board<Slot<N>> + Drop> State<N, W> {
         ensures same { self.new ≡ self.old }
         ensures seen { IsPrefix seat.new.subscriber self.old.tables }
         ensures grows { IsPrefix seat.old.subscriber seat.new.subscriber }
-        ensures newest { IfOk result (λ g. (seat.new.subscriber ≡ self.old.tables) × (g ≡ gen self.old.session.journal)) }
+        ensures newest { IfOk result (HasSeenAll self.old seat.new) }
         ensures number { IfOk result (λ g. g + 1 ≡ N.first + length seat.new.subscriber) }
         ensures refused { IfErr result (λ _. seat.new.subscriber ≡ seat.old.subscriber) }
-        ensures seat { (seat.new.worker ≡ seat.old.worker) × (seat.new.shares ≡ seat.old.shares) × (seat.new.ue ≡ seat.old.ue) }
+        ensures seat { ChangesOnlySubscriber seat.old seat.new }
     {
         seat.subscriber.compare(&mut self.publisher);
         seat.subscriber.meet(&mut self.publisher)?;

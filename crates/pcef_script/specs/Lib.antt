@@ -1,3 +1,4 @@
+pub mod LineAnswers
 pub mod Running
 pub mod Runs
 pub mod ScriptAnswers

@@ -1,13 +1,15 @@
 -- How a script stands while it runs: for private clauses.
-use Rattle.std.specs.Prelude.{◌≡◌, ◌≤◌, ◌+◌, ℕ, List, [], ◌∷◌, ◌++◌, length, Option}
+use Rattle.std.specs.Prelude.{◌≡◌, ◌≤◌, ◌<◌, ◌+◌, ◌^◌, ℕ, List, [], ◌∷◌, ◌++◌, length, take, Option, Result, IfErr, IfOk, OnOk}
 use Rattle.std.specs.Io.KnownBytes.{Appends}
+use Rattle.pcef_catalog.specs.declared.listing.Offer.{Offer}
 use Rattle.pcef_model.specs.Setting.{Setting}
 use Rattle.pcef_world.specs.Worlds.{World}
 use Rattle.pcef_script.specs.declared.fault.ScriptFault.{ScriptFault}
 use Rattle.pcef_script.specs.declared.fault.ScriptFault.TheVariants as fault
+use Rattle.pcef_script.specs.declared.running.Running.{Running}
 use Rattle.pcef_script.specs.ScriptAnswers.{Answers, answered}
 use Rattle.pcef_world.specs.Steps.{Standing, at_start, standing_of}
-use Rattle.pcef_script.specs.ScriptLines.{AppendsFront, Kept, kept_of, script_most}
+use Rattle.pcef_script.specs.ScriptLines.{AppendsFront, ForLine, Kept, kept_of, script_most}
 use Rattle.pcef_script.specs.Scripts.{Wrote, WroteFront, all_lines, ended_lines, last_line}
 
 -- a session that can't be opened
@@ -50,3 +52,48 @@ Stopped p other b start now input = ⊥
 abbrev pub StoppedIn : Setting → ScriptFault → Option (List ℕ) → Option (List ℕ) → List ℕ → List ℕ → Type 0
 StoppedIn p e start now input block =
     (front : List ℕ) × (b : ℕ) × (rest : List ℕ) × (block ≡ front ++ b ∷ rest) × Stopped p e b start now (input ++ front)
+
+-- ---- a script that runs, before and after
+-- the rules that its session is offered
+abbrev pub script_offers : Running → List Offer
+script_offers script = script.world.session.setting.catalog
+
+-- so it stands after some input, whose answers were written from `start` on
+abbrev pub StandsAfter : Setting → Option (List ℕ) → Option (List ℕ) → Running → List ℕ → Type 0
+StandsAfter p start now script input = IsAfter p start now script.line script.faults script.world input
+
+-- whatever it had read, it has read these bytes too
+abbrev pub ReadsAll : {A E : Type 0} → Result A E → Option (List ℕ) → Running → Option (List ℕ) → Running → List ℕ → Type 0
+ReadsAll result old before new after bytes =
+    (p : Setting) (start : Option (List ℕ)) (input : List ℕ) → StandsAfter p start old before input →
+    OnOk result (StandsAfter p start new after (input ++ bytes))
+
+-- whatever it had read, it has read so many of these bytes too
+abbrev pub ReadsSome : {E : Type 0} → Result ℕ E → Option (List ℕ) → Running → Option (List ℕ) → Running → List ℕ → Type 0
+ReadsSome result old before new after bytes =
+    (p : Setting) (start : Option (List ℕ)) (input : List ℕ) → StandsAfter p start old before input →
+    IfOk result (λ n. StandsAfter p start new after (input ++ take n bytes))
+
+-- whatever it had read, this byte ended it
+abbrev pub StopsAt : {A : Type 0} → Result A ScriptFault → Option (List ℕ) → Running → Option (List ℕ) → ℕ → Type 0
+StopsAt result old before new byte =
+    (p : Setting) (start : Option (List ℕ)) (input : List ℕ) → StandsAfter p start old before input →
+    IfErr result (λ e. Stopped p e byte start new input)
+
+-- whatever it had read, one of these bytes ended it
+abbrev pub StopsIn : {A : Type 0} → Result A ScriptFault → Option (List ℕ) → Running → Option (List ℕ) → List ℕ → Type 0
+StopsIn result old before new bytes =
+    (p : Setting) (start : Option (List ℕ)) (input : List ℕ) → StandsAfter p start old before input →
+    IfErr result (λ e. StoppedIn p e start new input bytes)
+
+-- ---- the end of a line
+-- the line that this is kept of was answered, or is blank
+abbrev pub EndsKept : Kept → ℕ → World → Result ℕ ScriptFault → World → Option (List ℕ) → Option (List ℕ) → Type 0
+EndsKept kept faults before result after old new =
+    ForLine kept (λ line. faults < 2 ^ 63 →
+    IfOk result (λ n. EndsLine before.session.setting before after line faults n old new))
+
+-- its answer wasn't written whole
+abbrev pub FailsKept : Kept → World → Result ℕ ScriptFault → Option (List ℕ) → Option (List ℕ) → Type 0
+FailsKept kept before result old new =
+    ForLine kept (λ line. IfErr result (λ e. EndFails before.session.setting before line e old new))

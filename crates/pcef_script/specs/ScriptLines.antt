@@ -1,5 +1,5 @@
 -- The lines of a script while their bytes come, and answers that are written (own choice).
-use Rattle.std.specs.Prelude.{◌≡◌, ◌≢◌, ◌+◌, ◌==◌, ◌||◌, ◌&&◌, ℕ, nat_lt, Bool, true, false, not, List, [], ◌∷◌, ◌++◌, length, take, Option, Some, None, Result, Ok, Err, if◌then◌else◌}
+use Rattle.std.specs.Prelude.{◌≡◌, ◌≢◌, ◌+◌, ◌==◌, ◌||◌, ◌&&◌, ℕ, nat_lt, Bool, true, false, not, List, [], ◌∷◌, ◌++◌, length, take, Option, Some, None, Result, Ok, Err, OnOk, if◌then◌else◌}
 use Rattle.std.specs.List.{list_all, list_any}
 use Rattle.std.specs.Io.KnownBytes.{Appends}
 use Rattle.pcef_script.specs.declared.fault.ScriptFault.{ScriptFault}
@@ -49,6 +49,10 @@ Takes byte line old (Err other) new = ⊥
 abbrev pub AppendsFront : Option (List ℕ) → Option (List ℕ) → List ℕ → Type 0
 AppendsFront old new bytes = (front rest : List ℕ) × (bytes ≡ front ++ rest) × Appends old new front
 
+-- the writer failed, and some of the bytes, from the first on, stand after what was written before
+abbrev pub WritesFront : Option (List ℕ) → Option (List ℕ) → List ℕ → ScriptFault → Type 0
+WritesFront old new bytes e = (e ≡ fault.Write) × AppendsFront old new bytes
+
 -- ---- for private clauses
 -- a line feed is among the bytes
 abbrev pub has_feed : List ℕ → Bool
@@ -56,3 +60,12 @@ has_feed bytes = list_any (λ b. b == 10) bytes
 
 abbrev pub IsKept : List ℕ → Bool → List ℕ → Type 0
 IsKept bytes flag line = (bytes ≡ take line_most line) × (flag ≡ is_too_long line)
+
+-- one byte more is kept of whatever line these bytes are kept of
+abbrev pub KeepsByte : {A E : Type 0} → ℕ → List ℕ → Bool → Result A E → List ℕ → Bool → Type 0
+KeepsByte byte old old_flag result new new_flag =
+    (line : List ℕ) → IsKept old old_flag line → OnOk result (IsKept new new_flag (line ++ byte ∷ []))
+
+-- it is so of whatever line this is kept of
+abbrev pub ForLine : Kept → (List ℕ → Type 0) → Type 0
+ForLine kept P = (line : List ℕ) → kept ≡ kept_of line kept.read → P line

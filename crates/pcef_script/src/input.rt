@@ -1,9 +1,9 @@
 //! What is read of a script, line by line.
 
-ghost use Rattle.std.specs.Prelude.{◌≡◌, ◌≤◌, ◌+◌, ◌-◌, ◌↔◌, ◌++◌, ◌∷◌, ℕ, List, [], Err, IfErr, OnOk, false, length, option_map, take};
+ghost use Rattle.std.specs.Prelude.{◌≡◌, ◌≤◌, ◌+◌, ◌-◌, ◌↔◌, ◌++◌, [], Err, IfErr, false, length, option_map, take};
 ghost use Rattle.std.specs.List.{list_all};
 ghost use Rattle.pcef_script.specs.declared.fault.ScriptFault.TheVariants.{NoMemory, TooMuch};
-ghost use Rattle.pcef_script.specs.ScriptLines.{script_most, kept_of, IsKept, Takes, has_feed, is_blank, is_space, within_limit};
+ghost use Rattle.pcef_script.specs.ScriptLines.{ForLine, KeepsByte, script_most, kept_of, Takes, has_feed, is_blank, is_space, within_limit};
 
 use crate::fault::ScriptFault;
 use memchr::memchr;
@@ -29,13 +29,19 @@ impl Model for Pending {
 
     ghost Value = { Kept };
 
-    ghost view = { λ p. record { bytes = p.bytes.items; is_too_long = p.is_too_long; read = p.read } };
+    ghost view = { λ p. record {
+      bytes = p.bytes.items;
+      is_too_long = p.is_too_long;
+      read = p.read;
+    } };
 }
 
 /// Keeps one more byte of a line, or only that the line is too long.
 fn keep(bytes: &mut Vec<u8>, is_too_long: &mut bool, byte: u8) -> Result<(), ScriptFault>
-    ensures ok { (line : List ℕ) → IsKept bytes.old.items is_too_long.old line → OnOk result (IsKept bytes.new.items is_too_long.new (line ++ byte ∷ [])) }
-    ensures err { IfErr result (λ e. (e ≡ NoMemory) × (bytes.new.items ≡ bytes.old.items) × (is_too_long.new ≡ is_too_long.old)) }
+    ensures ok { KeepsByte byte bytes.old.items is_too_long.old result
+        bytes.new.items is_too_long.new }
+    ensures err { IfErr result (λ e. (e ≡ NoMemory)
+        × (bytes.new.items ≡ bytes.old.items) × (is_too_long.new ≡ is_too_long.old)) }
 {
     if bytes.len() >= MAX_LINE {
         *is_too_long = true;
@@ -87,7 +93,8 @@ impl Pending {
         ensures within { result ≤ length bytes.now }
         ensures plain { has_feed (take result bytes.now) ≡ false }
         ensures most { self.old.read ≤ script_most → self.old.read + result ≤ script_most }
-        ensures line { (line : List ℕ) → self.old ≡ kept_of line self.old.read → self.new ≡ kept_of (line ++ take result bytes.now) (self.old.read + result) }
+        ensures line { ForLine self.old (λ line.
+            self.new ≡ kept_of (line ++ take result bytes.now) (self.old.read + result)) }
     {
         let script_left = MAX_SCRIPT.saturating_sub(self.read) as usize;
         if self.is_too_long {
@@ -109,7 +116,7 @@ impl Pending {
     /// Takes one byte, and tells whether it ends the line.
     pub(crate) fn take(&mut self, byte: u8) -> Result<bool, ScriptFault>
         ensures much { (result ≡ Err TooMuch) ↔ (script_most ≤ self.old.read) }
-        ensures line { (line : List ℕ) → self.old ≡ kept_of line self.old.read → Takes byte line self.old result self.new }
+        ensures line { ForLine self.old (λ line. Takes byte line self.old result self.new) }
     {
         if self.read >= MAX_SCRIPT {
             return Err(ScriptFault::TooMuch);
@@ -140,14 +147,14 @@ impl Pending {
 
     /// Whether the line gets no answer: it is within the limit and holds only spaces, tabs and CR.
     pub(crate) fn is_blank(&self) -> bool
-        ensures { (line : List ℕ) → self.now ≡ kept_of line self.now.read → result ≡ is_blank line }
+        ensures { ForLine self.now (λ line. result ≡ is_blank line) }
     {
         !self.is_too_long && is_space(&self.bytes)
     }
 
     /// The bytes of the line, unless it is too long.
     pub(crate) fn bytes(&self) -> Option<&[u8]>
-        ensures { (line : List ℕ) → self.now ≡ kept_of line self.now.read → option_map (λ b. b.now) result ≡ within_limit line }
+        ensures { ForLine self.now (λ line. option_map (λ b. b.now) result ≡ within_limit line) }
     {
         if self.is_too_long {
             None

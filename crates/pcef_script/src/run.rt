@@ -8,6 +8,7 @@ ghost use Rattle.pcef_model.specs.Setting.{Setting};
 ghost use Rattle.pcef_model.specs.Refusals.{first_of, open_faults};
 ghost use Rattle.pcef_model.specs.Terms.{setting_of};
 ghost use Rattle.pcef_catalog.specs.Catalogs.{offers_of};
+ghost use Rattle.pcef_world.specs.Worlds.{IsOpenedWorld};
 ghost use Rattle.pcef_script.specs.Running.{OpenFails};
 ghost use Rattle.pcef_script.specs.Runs.{Runs};
 ghost use Rattle.pcef_script.specs.Scripts.{Opened};
@@ -23,7 +24,7 @@ use std::io::{Read, Write};
 use std::sync::Arc;
 
 fn open(alloc: Global, profile: Profile, catalog: &Catalog) -> Result<WorldState, ScriptFault>
-    ensures made { IfOk result (λ w. (w.session.setting ≡ setting_of profile (offers_of catalog.now)) × (w.session.journal ≡ []) × (w.workers ≡ [])) }
+    ensures made { IfOk result (IsOpenedWorld (setting_of profile (offers_of catalog.now))) }
     ensures opened { Opened (setting_of profile (offers_of catalog.now)) result }
     ensures fault { IfErr result OpenFails }
 {
@@ -43,7 +44,8 @@ fn read_some<R: Read>(reader: &mut R, block: &mut [u8], most: usize) -> io::Resu
     ensures most { IfOk result (λ n. n ≤ most) }
     ensures bound { ReadsAtMost result block.new }
     ensures room { length block.new ≡ length block.old }
-    ensures bytes { ReadConsumes (R.remaining reader.old) (R.remaining reader.new) result block.new }
+    ensures bytes { ReadConsumes (R.remaining reader.old) (R.remaining reader.new)
+        result block.new }
 {
     let room = most.min(block.len());
     reader.read(&mut block[..room])
@@ -60,7 +62,8 @@ fn run<C: Detects, R: Read, W: Write>(
     requires journal { world.session.journal ≡ [] }
     requires workers { world.workers ≡ [] }
     ensures opened { (p : Setting) → first_of (open_faults p) ≡ None → Opened p result }
-    ensures answers { Runs world.session.setting result (R.remaining reader.old) (R.remaining reader.new)
+    ensures answers { Runs world.session.setting result
+        (R.remaining reader.old) (R.remaining reader.new)
         (W.contents writer.old) (W.contents writer.new) }
 {
     let mut script = Running::new(alloc, world);
@@ -105,7 +108,8 @@ pub fn run_script<R: Read, W: Write>(
 ) -> Result<u64, ScriptFault>
     ensures opened { Opened (setting_of profile (offers_of (arc_value catalog))) result }
     ensures answers { Runs (setting_of profile (offers_of (arc_value catalog))) result
-        (R.remaining reader.old) (R.remaining reader.new) (W.contents writer.old) (W.contents writer.new) }
+        (R.remaining reader.old) (R.remaining reader.new)
+        (W.contents writer.old) (W.contents writer.new) }
 {
     let world = open(alloc, profile, &catalog)?;
     run(alloc, &*catalog, world, reader, writer)

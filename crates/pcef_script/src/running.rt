@@ -1,13 +1,11 @@
 //! A script that runs, line by line.
 
-ghost use Rattle.std.specs.Prelude.{◌≡◌, ◌<◌, ◌≤◌, ◌+◌, ◌++◌, ◌∷◌, ◌^◌, [], IfErr, IfOk, List, OnOk, Option, length, string_bytes, take, ℕ};
+ghost use Rattle.std.specs.Prelude.{◌≡◌, ◌<◌, ◌≤◌, ◌+◌, ◌∷◌, ◌^◌, [], IfErr, IfOk, OnOk, length};
 ghost use Rattle.std.specs.Io.KnownBytes.{Appends};
-ghost use Rattle.pcef_model.specs.Setting.{Setting};
-ghost use Rattle.pcef_script.specs.declared.fault.ScriptFault.TheVariants.{Write as WriteFault};
-ghost use Rattle.pcef_script.specs.ScriptAnswers.{AnswersLine, number_of};
-ghost use Rattle.pcef_world.specs.Steps.{standing_of};
-ghost use Rattle.pcef_script.specs.ScriptLines.{AppendsFront, has_feed, kept_of};
-ghost use Rattle.pcef_script.specs.Running.{EndFails, EndsLine, IsAfter, StoppedIn, Stopped};
+ghost use Rattle.pcef_script.specs.LineAnswers.{AnswersKept, answer_bytes};
+ghost use Rattle.pcef_script.specs.ScriptAnswers.{number_of};
+ghost use Rattle.pcef_script.specs.ScriptLines.{WritesFront, has_feed, kept_of};
+ghost use Rattle.pcef_script.specs.Running.{EndsKept, FailsKept, ReadsAll, ReadsSome, StopsAt, StopsIn, script_offers};
 
 use crate::fault::ScriptFault;
 use crate::input::Pending;
@@ -34,8 +32,10 @@ pub(crate) struct Running {
 }
 
 fn write_answer<W: Write>(writer: &mut W, answer: &Answer) -> Result<(), ScriptFault>
-    ensures all { OnOk result (Appends (W.contents writer.old) (W.contents writer.new) (string_bytes answer.now.text ++ 10 ∷ [])) }
-    ensures front { IfErr result (λ e. (e ≡ WriteFault) × AppendsFront (W.contents writer.old) (W.contents writer.new) (string_bytes answer.now.text ++ 10 ∷ [])) }
+    ensures all { OnOk result (Appends (W.contents writer.old) (W.contents writer.new)
+        (answer_bytes answer.now)) }
+    ensures front { IfErr result (WritesFront (W.contents writer.old) (W.contents writer.new)
+        (answer_bytes answer.now)) }
 {
     put_all(writer, answer.text.as_bytes())?;
     put_all(writer, b"\n")
@@ -49,7 +49,7 @@ fn answer_of<C: Detects>(
     line: &Pending,
 ) -> Result<Answer, AllocError>
     requires { C.offers catalog.now ≡ world.old.session.setting.catalog }
-    ensures answer { (whole : List ℕ) → line.now ≡ kept_of whole line.now.read → IfOk result (λ a. AnswersLine world.old.session.setting (standing_of world.old) whole (string_bytes a.text) a.is_fault (standing_of world.new)) }
+    ensures answer { AnswersKept line.now world.old result world.new }
     ensures setting { world.new.session.setting ≡ world.old.session.setting }
 {
     match line.bytes() {
@@ -60,9 +60,12 @@ fn answer_of<C: Detects>(
 
 /// Writes an answer, and gives how many lines are at fault then.
 fn tell<W: Write>(writer: &mut W, answer: &Answer, faults: u64) -> Result<u64, ScriptFault>
-    ensures count { faults < 2 ^ 63 → IfOk result (λ n. n ≡ faults + number_of answer.now.is_fault) }
-    ensures all { OnOk result (Appends (W.contents writer.old) (W.contents writer.new) (string_bytes answer.now.text ++ 10 ∷ [])) }
-    ensures front { IfErr result (λ e. (e ≡ WriteFault) × AppendsFront (W.contents writer.old) (W.contents writer.new) (string_bytes answer.now.text ++ 10 ∷ [])) }
+    ensures count { faults < 2 ^ 63 →
+        IfOk result (λ n. n ≡ faults + number_of answer.now.is_fault) }
+    ensures all { OnOk result (Appends (W.contents writer.old) (W.contents writer.new)
+        (answer_bytes answer.now)) }
+    ensures front { IfErr result (WritesFront (W.contents writer.old) (W.contents writer.new)
+        (answer_bytes answer.now)) }
 {
     write_answer(writer, answer)?;
     if answer.is_fault {
@@ -83,8 +86,10 @@ pub(crate) fn end_line<C: Detects, W: Write>(
     writer: &mut W,
 ) -> Result<u64, ScriptFault>
     requires { C.offers catalog.now ≡ world.old.session.setting.catalog }
-    ensures ok { (whole : List ℕ) → line.now ≡ kept_of whole line.now.read → faults < 2 ^ 63 → IfOk result (λ n. EndsLine world.old.session.setting world.old world.new whole faults n (W.contents writer.old) (W.contents writer.new)) }
-    ensures err { (whole : List ℕ) → line.now ≡ kept_of whole line.now.read → IfErr result (λ e. EndFails world.old.session.setting world.old whole e (W.contents writer.old) (W.contents writer.new)) }
+    ensures ok { EndsKept line.now faults world.old result world.new
+        (W.contents writer.old) (W.contents writer.new) }
+    ensures err { FailsKept line.now world.old result
+        (W.contents writer.old) (W.contents writer.new) }
     ensures setting { world.new.session.setting ≡ world.old.session.setting }
 {
     if line.is_blank() {
@@ -104,10 +109,12 @@ fn take_byte<C: Detects, W: Write>(
     writer: &mut W,
     byte: u8,
 ) -> Result<(), ScriptFault>
-    requires { C.offers catalog.now ≡ script.old.world.session.setting.catalog }
-    ensures ok { (p : Setting) (start : Option (List ℕ)) (input : List ℕ) → IsAfter p start (W.contents writer.old) script.old.line script.old.faults script.old.world input → OnOk result (IsAfter p start (W.contents writer.new) script.new.line script.new.faults script.new.world (input ++ byte ∷ [])) }
-    ensures err { (p : Setting) (start : Option (List ℕ)) (input : List ℕ) → IsAfter p start (W.contents writer.old) script.old.line script.old.faults script.old.world input → IfErr result (λ e. Stopped p e byte start (W.contents writer.new) input) }
-    ensures offers { script.new.world.session.setting.catalog ≡ script.old.world.session.setting.catalog }
+    requires { C.offers catalog.now ≡ script_offers script.old }
+    ensures ok { ReadsAll result (W.contents writer.old) script.old
+        (W.contents writer.new) script.new (byte ∷ []) }
+    ensures err { StopsAt result (W.contents writer.old) script.old
+        (W.contents writer.new) byte }
+    ensures offers { script_offers script.new ≡ script_offers script.old }
 {
     if !script.line.take(byte)? {
         return Ok(());
@@ -134,12 +141,14 @@ fn take_some<C: Detects, W: Write>(
     writer: &mut W,
     bytes: &[u8],
 ) -> Result<usize, ScriptFault>
-    requires offered { C.offers catalog.now ≡ script.old.world.session.setting.catalog }
+    requires offered { C.offers catalog.now ≡ script_offers script.old }
     requires some { 0 < length bytes.now }
-    ensures ok { (p : Setting) (start : Option (List ℕ)) (input : List ℕ) → IsAfter p start (W.contents writer.old) script.old.line script.old.faults script.old.world input → IfOk result (λ n. IsAfter p start (W.contents writer.new) script.new.line script.new.faults script.new.world (input ++ take n bytes.now)) }
+    ensures ok { ReadsSome result (W.contents writer.old) script.old
+        (W.contents writer.new) script.new bytes.now }
     ensures goes_on { IfOk result (λ n. (0 < n) × (n ≤ length bytes.now)) }
-    ensures err { (p : Setting) (start : Option (List ℕ)) (input : List ℕ) → IsAfter p start (W.contents writer.old) script.old.line script.old.faults script.old.world input → IfErr result (λ e. StoppedIn p e start (W.contents writer.new) input bytes.now) }
-    ensures offers { script.new.world.session.setting.catalog ≡ script.old.world.session.setting.catalog }
+    ensures err { StopsIn result (W.contents writer.old) script.old
+        (W.contents writer.new) bytes.now }
+    ensures offers { script_offers script.new ≡ script_offers script.old }
 {
     let taken = script.line.take_plain(bytes);
     if taken == bytes.len() {
@@ -157,10 +166,12 @@ fn take_block<C: Detects, W: Write>(
     writer: &mut W,
     block: &[u8],
 ) -> Result<(), ScriptFault>
-    requires { C.offers catalog.now ≡ script.old.world.session.setting.catalog }
-    ensures ok { (p : Setting) (start : Option (List ℕ)) (input : List ℕ) → IsAfter p start (W.contents writer.old) script.old.line script.old.faults script.old.world input → OnOk result (IsAfter p start (W.contents writer.new) script.new.line script.new.faults script.new.world (input ++ block.now)) }
-    ensures err { (p : Setting) (start : Option (List ℕ)) (input : List ℕ) → IsAfter p start (W.contents writer.old) script.old.line script.old.faults script.old.world input → IfErr result (λ e. StoppedIn p e start (W.contents writer.new) input block.now) }
-    ensures offers { script.new.world.session.setting.catalog ≡ script.old.world.session.setting.catalog }
+    requires { C.offers catalog.now ≡ script_offers script.old }
+    ensures ok { ReadsAll result (W.contents writer.old) script.old
+        (W.contents writer.new) script.new block.now }
+    ensures err { StopsIn result (W.contents writer.old) script.old
+        (W.contents writer.new) block.now }
+    ensures offers { script_offers script.new ≡ script_offers script.old }
 {
     let mut rest = block;
     while !rest.is_empty() {
@@ -186,10 +197,12 @@ pub(crate) fn answer_block<C: Detects, W: Write>(
     writer: &mut W,
     block: &[u8],
 ) -> Result<(), ScriptFault>
-    requires { C.offers catalog.now ≡ script.old.world.session.setting.catalog }
-    ensures ok { (p : Setting) (start : Option (List ℕ)) (input : List ℕ) → IsAfter p start (W.contents writer.old) script.old.line script.old.faults script.old.world input → OnOk result (IsAfter p start (W.contents writer.new) script.new.line script.new.faults script.new.world (input ++ block.now)) }
-    ensures err { (p : Setting) (start : Option (List ℕ)) (input : List ℕ) → IsAfter p start (W.contents writer.old) script.old.line script.old.faults script.old.world input → IfErr result (λ e. StoppedIn p e start (W.contents writer.new) input block.now) }
-    ensures offers { script.new.world.session.setting.catalog ≡ script.old.world.session.setting.catalog }
+    requires { C.offers catalog.now ≡ script_offers script.old }
+    ensures ok { ReadsAll result (W.contents writer.old) script.old
+        (W.contents writer.new) script.new block.now }
+    ensures err { StopsIn result (W.contents writer.old) script.old
+        (W.contents writer.new) block.now }
+    ensures offers { script_offers script.new ≡ script_offers script.old }
 {
     take_block(alloc, catalog, script, writer, block)?;
     if !has_feed(block) {

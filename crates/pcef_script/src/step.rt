@@ -1,12 +1,11 @@
 //! What a line does.
 
-ghost use Rattle.std.specs.Prelude.{◌≡◌, ◌≢◌, Err, IfOk, Some, false, string_bytes};
-ghost use Rattle.pcef_model.specs.Setting.{Setting};
+ghost use Rattle.std.specs.Prelude.{◌≡◌, IfOk, Some, false, string_bytes};
 ghost use Rattle.pcef_line.specs.LineOf.{LineOf};
-ghost use Rattle.pcef_script.specs.ScriptAnswers.{AnswersAs, AnswersDue, DoesLine, DueWithin, IsDue};
-ghost use Rattle.pcef_world.specs.Steps.{Standing, standing_of, step_outcome};
-ghost use Rattle.pcef_line.specs.declared.fault.LineFault.TheVariants.{LineTooLong, NoMemory};
+ghost use Rattle.pcef_line.specs.declared.fault.LineFault.TheVariants.{LineTooLong};
 ghost use Rattle.pcef_line.specs.declared.line.Line.TheVariants.{Show};
+ghost use Rattle.pcef_script.specs.LineAnswers.{AnswersBy, AnswersFault, AnswersReadFault, TellsLine, TellsStep};
+ghost use Rattle.pcef_script.specs.ScriptAnswers.{DueWithin};
 
 use pcef_answer::{fault_text, show_answer, step_answer};
 use pcef_catalog::Detects;
@@ -26,7 +25,7 @@ pub struct Answer {
 }
 
 fn fault(alloc: Global, fault: LineFault) -> Result<Answer, AllocError>
-    ensures { (p : Setting) (before : Standing) → IfOk result (λ a. AnswersAs p before (Err fault) (string_bytes a.text) a.is_fault before) }
+    ensures { AnswersFault fault result }
 {
     Ok(Answer {
         text: fault_text(alloc, fault)?,
@@ -35,7 +34,7 @@ fn fault(alloc: Global, fault: LineFault) -> Result<Answer, AllocError>
 }
 
 fn show(alloc: Global, world: &WorldState) -> Result<String, AllocError>
-    ensures { IfOk result (λ text. DoesLine world.now.session.setting (standing_of world.now) Show (string_bytes text) (standing_of world.now)) }
+    ensures { IfOk result (λ text. TellsLine world.now Show (string_bytes text) world.now) }
 {
     show_answer(alloc, world.session())
 }
@@ -47,7 +46,7 @@ fn step<C: Detects>(
     step: Step,
 ) -> Result<String, AllocError>
     requires { C.offers catalog.now ≡ world.old.session.setting.catalog }
-    ensures answer { IfOk result (λ text. IsDue (step_outcome world.old.session.setting (standing_of world.old) step) (string_bytes text) (standing_of world.new)) }
+    ensures answer { IfOk result (λ text. TellsStep world.old step (string_bytes text) world.new) }
     ensures setting { world.new.session.setting ≡ world.old.session.setting }
 {
     let answer = world.step(catalog, step)?;
@@ -62,7 +61,7 @@ fn line_text<C: Detects>(
     line: Line,
 ) -> Result<String, AllocError>
     requires { C.offers catalog.now ≡ world.old.session.setting.catalog }
-    ensures answer { IfOk result (λ text. DoesLine world.old.session.setting (standing_of world.old) line (string_bytes text) (standing_of world.new)) }
+    ensures answer { IfOk result (λ text. TellsLine world.old line (string_bytes text) world.new) }
     ensures setting { world.new.session.setting ≡ world.old.session.setting }
 {
     match line {
@@ -78,7 +77,7 @@ fn done<C: Detects>(
     line: Line,
 ) -> Result<Answer, AllocError>
     requires { C.offers catalog.now ≡ world.old.session.setting.catalog }
-    ensures text { IfOk result (λ a. DoesLine world.old.session.setting (standing_of world.old) line (string_bytes a.text) (standing_of world.new)) }
+    ensures text { IfOk result (λ a. TellsLine world.old line (string_bytes a.text) world.new) }
     ensures counts { IfOk result (λ a. a.is_fault ≡ false) }
     ensures setting { world.new.session.setting ≡ world.old.session.setting }
 {
@@ -90,7 +89,7 @@ fn done<C: Detects>(
 
 /// The answer to a line with the fault that its reader met, or want of memory where it met that.
 fn read_fault(alloc: Global, at_fault: LineFault) -> Result<Answer, AllocError>
-    ensures { (p : Setting) (before : Standing) → IfOk result (λ a. (at_fault ≢ NoMemory) × AnswersAs p before (Err at_fault) (string_bytes a.text) a.is_fault before) }
+    ensures { AnswersReadFault at_fault result }
 {
     match at_fault {
         LineFault::NoMemory => Err(AllocError),
@@ -106,7 +105,7 @@ fn answer_text<C: Detects>(
     text: &str,
 ) -> Result<Answer, AllocError>
     requires { C.offers catalog.now ≡ world.old.session.setting.catalog }
-    ensures answer { IfOk result (λ a. AnswersDue (LineOf text.now) world.old.session.setting (standing_of world.old) (string_bytes a.text) a.is_fault (standing_of world.new)) }
+    ensures answer { IfOk result (λ a. AnswersBy (LineOf text.now) world.old a world.new) }
     ensures setting { world.new.session.setting ≡ world.old.session.setting }
 {
     match lines.read(alloc, text) {
@@ -124,7 +123,8 @@ pub(crate) fn answer_line<C: Detects>(
     line: &[u8],
 ) -> Result<Answer, AllocError>
     requires { C.offers catalog.now ≡ world.old.session.setting.catalog }
-    ensures answer { IfOk result (λ a. AnswersDue (DueWithin (Some line.now)) world.old.session.setting (standing_of world.old) (string_bytes a.text) a.is_fault (standing_of world.new)) }
+    ensures answer { IfOk result (λ a.
+        AnswersBy (DueWithin (Some line.now)) world.old a world.new) }
     ensures setting { world.new.session.setting ≡ world.old.session.setting }
 {
     match str::from_utf8(line) {
@@ -135,7 +135,7 @@ pub(crate) fn answer_line<C: Detects>(
 
 /// The answer to a line that is too long.
 pub(crate) fn answer_too_long(alloc: Global) -> Result<Answer, AllocError>
-    ensures { (p : Setting) (before : Standing) → IfOk result (λ a. AnswersAs p before (Err LineTooLong) (string_bytes a.text) a.is_fault before) }
+    ensures { AnswersFault LineTooLong result }
 {
     fault(alloc, LineFault::LineTooLong)
 }

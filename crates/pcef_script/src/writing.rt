@@ -1,9 +1,8 @@
 //! Writes answers.
 
-ghost use Rattle.std.specs.Prelude.{◌≡◌, OnOk, IfErr};
+ghost use Rattle.std.specs.Prelude.{OnOk, IfErr};
 ghost use Rattle.std.specs.Io.KnownBytes.{Appends};
-ghost use Rattle.pcef_script.specs.declared.fault.ScriptFault.TheVariants.{Write as WriteFault};
-ghost use Rattle.pcef_script.specs.ScriptLines.{AppendsFront};
+ghost use Rattle.pcef_script.specs.ScriptLines.{WritesFront};
 
 use crate::fault::ScriptFault;
 use std::io::Write;
@@ -12,7 +11,8 @@ use std::io::Write;
 /// interruption too, and so does a write that takes no byte. It doesn't flush, and takes no memory.
 pub fn put_all<W: Write>(writer: &mut W, bytes: &[u8]) -> Result<(), ScriptFault>
     ensures all { OnOk result (Appends (W.contents writer.old) (W.contents writer.new) bytes.now) }
-    ensures front { IfErr result (λ e. (e ≡ WriteFault) × AppendsFront (W.contents writer.old) (W.contents writer.new) bytes.now) }
+    ensures front { IfErr result
+        (WritesFront (W.contents writer.old) (W.contents writer.new) bytes.now) }
 {
     let mut rest = bytes;
     while !rest.is_empty() {

@@ -1,4 +1,5 @@
 pub mod Agreement
+pub mod Answers
 pub mod Following
 pub mod Laws
 pub mod Preparing

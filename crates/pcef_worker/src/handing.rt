@@ -74,7 +74,8 @@ impl<C: Detects + Drop, N: Naming, G: Gate + Drop> Worker<C, N, G> {
 
     /// What it hands in that left with so many rows waiting.
     fn into_finished(self, abandoned: u8) -> Finished<N>
-        ensures { result ≡ record { worker = self.worker; items = self.rows; abandoned = abandoned } }
+        ensures { result
+            ≡ record { worker = self.worker; items = self.rows; abandoned = abandoned } }
     {
         let Worker {
             seat,

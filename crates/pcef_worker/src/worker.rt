@@ -38,10 +38,17 @@ impl<C: Offers + Drop, N: Naming, G: Gate + Drop> Model for Worker<C, N, G> {
 
     ghost Value = { WorkerModel };
 
-    ghost view = { λ w. record { worker = w.seat.worker; seen = w.seat.subscriber; waiting = w.waiting; rows = w.rows.items } };
+    ghost view = { λ w. record {
+      worker = w.seat.worker;
+      seen = w.seat.subscriber;
+      waiting = w.waiting;
+      rows = w.rows.items;
+    } };
 
-    ghost invariant = { λ w. (w.seat.shares ≡ with_items zeros w.rows.items) × (w.seat.ue ≡ N.setting.ue)
-        × (C.offers (arc_value w.catalog) ≡ N.setting.catalog) × AllJudged N.setting N.first w.seat.subscriber w.waiting };
+    ghost invariant = { λ w. (w.seat.shares ≡ with_items zeros w.rows.items)
+        × (w.seat.ue ≡ N.setting.ue)
+        × (C.offers (arc_value w.catalog) ≡ N.setting.catalog)
+        × AllJudged N.setting N.first w.seat.subscriber w.waiting };
 }
 
 impl<C: Detects + Drop, N: Naming, G: Gate + Drop> Worker<C, N, G> {

@@ -6,7 +6,6 @@ use Rattle.pcef_model.specs.declared.answer.Accepted.{Accepted}
 use Rattle.pcef_model.specs.declared.answer.AttachFault.{AttachFault}
 use Rattle.pcef_model.specs.declared.answer.FlushRefusal.{FlushRefusal}
 use Rattle.pcef_model.specs.declared.answer.Refusal.{Refusal}
-use Rattle.pcef_model.specs.declared.command.Command.{Command}
 use Rattle.pcef_model.specs.declared.row.Row.{Row}
 use Rattle.pcef_model.specs.declared.step.Step.{Step}
 use Rattle.pcef_model.specs.declared.step.Step.TheVariants as of
@@ -196,3 +195,21 @@ Played p before steps answers after = (map reply_of answers ≡ (play p before s
 abbrev pub PlaysFront : Setting → Standing → List Step → Standing → Type 0
 PlaysFront p before steps after =
     (front rest : List Step) × (steps ≡ front ++ rest) × (after ≡ (play p before front).1)
+
+-- ---- a world and its steps
+-- a world makes a step, with the answer that is due
+abbrev pub MakesStep : World → Step → StepAnswer → World → Type 0
+MakesStep before step a after = Plays before.session.setting (standing_of before) step a (standing_of after)
+
+-- a world lacks memory for a step that nothing refuses, and stays as it is
+abbrev pub LacksForStep : World → Step → World → Type 0
+LacksForStep before step after = Lacks before.session.setting (standing_of before) step (standing_of after)
+
+-- a world makes steps, one after the other, with the answers that are due
+abbrev pub MakesSteps : World → List Step → List StepAnswer → World → Type 0
+MakesSteps before steps answers after =
+    Played before.session.setting (standing_of before) steps answers (standing_of after)
+
+-- a world makes some of the steps, from the first on, and nothing else changes
+abbrev pub MakesFront : World → List Step → World → Type 0
+MakesFront before steps after = PlaysFront before.session.setting (standing_of before) steps (standing_of after)

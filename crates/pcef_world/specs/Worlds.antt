@@ -1,5 +1,5 @@
 -- What callers see of a world: a session, and its workers (own choice).
-use Rattle.std.specs.Prelude.{ℕ, ◌≡◌, ◌≤◌, List, Option, Some, None, slice_get, true}
+use Rattle.std.specs.Prelude.{ℕ, ◌≡◌, ◌≤◌, List, [], Option, Some, None, slice_get, true}
 use Rattle.pcef_model.specs.declared.row.Row.{Row}
 use Rattle.pcef_model.specs.Setting.{Setting}
 use Rattle.pcef_model.specs.Entries.{Journal}
@@ -35,3 +35,11 @@ pub record IsInTurn (p : Setting) (j : Journal) (number : ℕ) (w : Waiting) : T
 
 abbrev pub AreInTurn : Setting → Journal → List (Option Waiting) → Type 0
 AreInTurn p j workers = (number : ℕ) (w : Waiting) → worker_at workers number ≡ Some w → IsInTurn p j number w
+
+-- the workers of a world are so attached, and their rows may come next
+abbrev pub HasWorkersInTurn : World → Type 0
+HasWorkersInTurn w = AreInTurn w.session.setting w.session.journal w.workers
+
+-- a world that was just opened: this is fixed for its session, its journal is empty, and no worker ever came
+abbrev pub IsOpenedWorld : Setting → World → Type 0
+IsOpenedWorld p w = (w.session.setting ≡ p) × (w.session.journal ≡ []) × (w.workers ≡ [])

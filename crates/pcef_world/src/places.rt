@@ -3,7 +3,7 @@
 ghost use Rattle.std.specs.Prelude.{◌≡◌, ◌≤◌, IfSome, true};
 ghost use Rattle.pcef_model.specs.Refusals.{is_attached};
 ghost use Rattle.pcef_table.specs.Tables.{IsTable};
-ghost use Rattle.pcef_world.specs.private.Places.{AbandonsAt, FinishesAt, FlushesAt, RefreshesAt, TakesAt};
+ghost use Rattle.pcef_world.specs.private.Places.{AbandonsAt, HandsOverAt, LeavesAt, RefreshesAt, TakesAt};
 ghost use Rattle.pcef_world.specs.private.Workers.{MayHandOver, held_by};
 
 use crate::answer::{Abandoned, StepAnswer, finish_told, flush_told};
@@ -57,7 +57,7 @@ pub(crate) fn flush_at(
     session: &mut SessionState,
 ) -> Result<StepAnswer, AllocError>
     requires { IfSome place.old (MayHandOver session.old.setting session.old.journal) }
-    ensures answer { FlushesAt session.old.setting session.old.journal place.old result session.new.journal place.new }
+    ensures answer { HandsOverAt session.old place.old result session.new place.new }
     ensures setting { session.new.setting ≡ session.old.setting }
 {
     match place {
@@ -72,7 +72,7 @@ pub(crate) fn finish_at(
     session: &mut SessionState,
 ) -> Result<StepAnswer, AllocError>
     requires { IfSome place.old (MayHandOver session.old.setting session.old.journal) }
-    ensures answer { FinishesAt session.old.setting session.old.journal place.old result session.new.journal place.new }
+    ensures answer { LeavesAt session.old place.old result session.new place.new }
     ensures setting { session.new.setting ≡ session.old.setting }
 {
     let answer = match &*place {

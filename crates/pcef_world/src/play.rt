@@ -1,7 +1,7 @@
 //! Steps, one after the other.
 
 ghost use Rattle.std.specs.Prelude.{◌≡◌, IfOk, OnErr};
-ghost use Rattle.pcef_world.specs.Steps.{Played, PlaysFront, standing_of};
+ghost use Rattle.pcef_world.specs.Steps.{MakesFront, MakesSteps};
 
 use crate::answer::StepAnswer;
 use crate::world::WorldState;
@@ -20,8 +20,8 @@ impl WorldState {
         steps: Vec<Step>,
     ) -> Result<Vec<StepAnswer>, AllocError>
         requires { C.offers catalog.now ≡ self.old.session.setting.catalog }
-        ensures answers { IfOk result (λ answers. Played self.old.session.setting (standing_of self.old) steps.items answers.items (standing_of self.new)) }
-        ensures front { OnErr result (PlaysFront self.old.session.setting (standing_of self.old) steps.items (standing_of self.new)) }
+        ensures answers { IfOk result (λ v. MakesSteps self.old steps.items v.items self.new) }
+        ensures front { OnErr result (MakesFront self.old steps.items self.new) }
         ensures setting { self.new.session.setting ≡ self.old.session.setting }
     {
         let mut answers = Vec::with_capacity(alloc, steps.len())?;

@@ -1,13 +1,9 @@
 //! A worker.
 
-ghost use Rattle.std.specs.Prelude.{◌≡◌, ◌≤◌, Err, IfSome, MatchOption, None, Some, map};
-ghost use Rattle.std.specs.Arc.{arc_value};
-ghost use Rattle.std.specs.Result.{result_map_both};
+ghost use Rattle.std.specs.Prelude.{◌≡◌, ◌≤◌, Err};
 ghost use Rattle.pcef_table.specs.Tables.{IsTable};
-ghost use Rattle.pcef_model.specs.Outcomes.{FinishStep, FlushStep, finish_answer_of, flush_answer_of};
-ghost use Rattle.pcef_model.specs.Journals.{lane_len};
-ghost use Rattle.pcef_session.specs.Following.{HasItsSlots, row_of};
-ghost use Rattle.pcef_model.specs.Lawful.{BatchFollows};
+ghost use Rattle.pcef_session.specs.Answers.{AnswersFinish, AnswersFlush, MayFollow};
+ghost use Rattle.pcef_session.specs.Following.{HasItsSlots};
 ghost use Rattle.pcef_world.specs.private.Workers.{IsJudged, TakesItem, after_flushing, held_by};
 
 use pcef_catalog::Detects;
@@ -59,7 +55,8 @@ impl Worker {
     ) -> Result<u8, BatchFull>
         requires table { IsTable (C.offers catalog.now) (held_by self.old).entries }
         requires few { handed_over ≤ 4294967295 }
-        ensures { TakesItem (C.offers catalog.now) ue header.now handed_over self.old result self.new }
+        ensures { TakesItem (C.offers catalog.now) ue header.now handed_over
+            self.old result self.new }
     {
         if self.waiting.len() >= MAX_WAITING {
             return Err(BatchFull);
@@ -71,9 +68,10 @@ impl Worker {
 
     /// Hands the waiting rows over to the session. A refusal keeps them.
     pub(crate) fn flush(&mut self, session: &mut SessionState) -> Result<Verdicts, FlushRefusal>
-        requires follow { BatchFollows session.old.setting session.old.journal self.old.number (map row_of self.old.waiting) }
+        requires follow { MayFollow session.old self.old.number self.old.waiting }
         requires slots { HasItsSlots session.old.setting session.old.journal self.old.waiting }
-        ensures answer { FlushStep session.old.setting self.old.number (map row_of self.old.waiting) session.old.journal (result_map_both flush_answer_of (λ e. e) result) session.new.journal }
+        ensures answer { AnswersFlush session.old self.old.number self.old.waiting
+            result session.new }
         ensures worker { self.new ≡ after_flushing result self.old }
         ensures setting { session.new.setting ≡ session.old.setting }
     {
@@ -84,9 +82,10 @@ impl Worker {
 
     /// Hands the waiting rows over to the session, which the worker leaves. A refusal keeps it there.
     pub(crate) fn finish(&self, session: &mut SessionState) -> Result<(Verdicts, u64), FlushRefusal>
-        requires follow { BatchFollows session.old.setting session.old.journal self.now.number (map row_of self.now.waiting) }
+        requires follow { MayFollow session.old self.now.number self.now.waiting }
         requires slots { HasItsSlots session.old.setting session.old.journal self.now.waiting }
-        ensures answer { FinishStep session.old.setting self.now.number (map row_of self.now.waiting) session.old.journal (result_map_both finish_answer_of (λ e. e) result) session.new.journal }
+        ensures answer { AnswersFinish session.old self.now.number self.now.waiting
+            result session.new }
         ensures setting { session.new.setting ≡ session.old.setting }
     {
         session.finish(self.number, &self.waiting)

@@ -4,13 +4,13 @@ ghost use Rattle.std.specs.Prelude.{◌≡◌, ◌≤◌, [], IfErr, IfOk, lengt
 ghost use Rattle.std.specs.Arc.{arc_value};
 ghost use Rattle.std.specs.Result.{result_err};
 ghost use Rattle.pcef_model.specs.Outcomes.{AttachStep, Opens};
-ghost use Rattle.pcef_model.specs.Journals.{attach_count, gen};
+ghost use Rattle.pcef_model.specs.Journals.{attach_count};
 ghost use Rattle.pcef_model.specs.Terms.{setting_of};
 ghost use Rattle.pcef_model.specs.declared.step.Step.{Step};
 ghost use Rattle.pcef_model.specs.declared.step.Step.TheVariants as of;
-ghost use Rattle.pcef_session.specs.Shown.{Shows};
-ghost use Rattle.pcef_world.specs.Steps.{Lacks, Plays, standing_of};
-ghost use Rattle.pcef_world.specs.Worlds.{AreInTurn};
+ghost use Rattle.pcef_session.specs.Answers.{ShowsNewest};
+ghost use Rattle.pcef_world.specs.Steps.{LacksForStep, MakesStep};
+ghost use Rattle.pcef_world.specs.Worlds.{HasWorkersInTurn, IsOpenedWorld};
 ghost use Rattle.pcef_world.specs.private.Places.{after_coming};
 
 use crate::answer::{StepAnswer, attach_told, command_told};
@@ -48,7 +48,7 @@ impl Model for WorldState {
 
 /// The table of a session's newest generation, with its index, for one more worker to hold.
 fn newest(session: &SessionState) -> Result<Arc<Indexed>, AllocError>
-    ensures { IfOk result (λ t. Shows session.now.setting session.now.journal (gen session.now.journal) (arc_value t)) }
+    ensures { IfOk result (λ t. ShowsNewest session.now (arc_value t)) }
 {
     Arc::try_clone(session.indexed())
 }
@@ -57,7 +57,7 @@ impl WorldState {
     /// A session with an empty journal and no workers, or the first fault in the order of [`OpenFault`].
     pub fn open(alloc: Global, profile: Profile, listing: Listing) -> Result<WorldState, OpenFault>
         ensures answer { Opens (setting_of profile listing) (result_err result) }
-        ensures made { IfOk result (λ w. (w.session.setting ≡ setting_of profile listing) × (w.session.journal ≡ []) × (w.workers ≡ [])) }
+        ensures made { IfOk result (λ w. IsOpenedWorld (setting_of profile listing) w) }
     {
         let session = SessionState::open(alloc, profile, listing)?;
         Ok(WorldState {
@@ -72,7 +72,7 @@ impl WorldState {
     pub fn session(&self) -> &SessionState
         ensures session { result.now ≡ self.now.session }
         ensures places { attach_count self.now.session.journal ≡ length self.now.workers }
-        ensures in_turn { AreInTurn self.now.session.setting self.now.session.journal self.now.workers }
+        ensures in_turn { HasWorkersInTurn self.now }
     {
         &self.session
     }
@@ -86,8 +86,8 @@ impl WorldState {
     /// and `Abandon`. Want of memory comes only where the step isn't refused, and changes nothing.
     pub fn step<C: Detects>(&mut self, catalog: &C, step: Step) -> Result<StepAnswer, AllocError>
         requires { C.offers catalog.now ≡ self.old.session.setting.catalog }
-        ensures answer { IfOk result (λ a. Plays self.old.session.setting (standing_of self.old) step a (standing_of self.new)) }
-        ensures lacks { IfErr result (λ _. Lacks self.old.session.setting (standing_of self.old) step (standing_of self.new)) }
+        ensures answer { IfOk result (λ a. MakesStep self.old step a self.new) }
+        ensures lacks { IfErr result (λ _. LacksForStep self.old step self.new) }
         ensures setting { self.new.session.setting ≡ self.old.session.setting }
     {
         match step {
@@ -102,8 +102,8 @@ impl WorldState {
     }
 
     fn command(&mut self, command: Command) -> Result<StepAnswer, AllocError>
-        ensures answer { IfOk result (λ a. Plays self.old.session.setting (standing_of self.old) (of.Command command) a (standing_of self.new)) }
-        ensures lacks { IfErr result (λ _. Lacks self.old.session.setting (standing_of self.old) (of.Command command) (standing_of self.new)) }
+        ensures answer { IfOk result (λ a. MakesStep self.old (of.Command command) a self.new) }
+        ensures lacks { IfErr result (λ _. LacksForStep self.old (of.Command command) self.new) }
         ensures setting { self.new.session.setting ≡ self.old.session.setting }
     {
         command_told(self.session.command(command))
@@ -112,7 +112,8 @@ impl WorldState {
     // A worker that comes holds the newest generation, and no row waits.
     fn come(&mut self) -> Result<u8, AttachFault>
         ensures answer { AttachStep self.old.session.journal result self.new.session.journal }
-        ensures workers { self.new.workers ≡ after_coming self.old.session.journal result self.old.workers }
+        ensures workers { self.new.workers
+            ≡ after_coming self.old.session.journal result self.old.workers }
         ensures setting { self.new.session.setting ≡ self.old.session.setting }
     {
         if let Some(fault) = self.session.attach_fault() {
@@ -137,8 +138,8 @@ impl WorldState {
     }
 
     fn attach(&mut self) -> Result<StepAnswer, AllocError>
-        ensures answer { IfOk result (λ a. Plays self.old.session.setting (standing_of self.old) of.Attach a (standing_of self.new)) }
-        ensures lacks { IfErr result (λ _. Lacks self.old.session.setting (standing_of self.old) of.Attach (standing_of self.new)) }
+        ensures answer { IfOk result (λ a. MakesStep self.old of.Attach a self.new) }
+        ensures lacks { IfErr result (λ _. LacksForStep self.old of.Attach self.new) }
         ensures setting { self.new.session.setting ≡ self.old.session.setting }
     {
         attach_told(self.come())
@@ -146,7 +147,7 @@ impl WorldState {
 
     fn take<C: Detects>(&mut self, catalog: &C, worker: u8, header: &Header) -> StepAnswer
         requires { C.offers catalog.now ≡ self.old.session.setting.catalog }
-        ensures answer { Plays self.old.session.setting (standing_of self.old) (of.Take worker header.now) result (standing_of self.new) }
+        ensures answer { MakesStep self.old (of.Take worker header.now) result self.new }
         ensures setting { self.new.session.setting ≡ self.old.session.setting }
     {
         let ue = self.session.profile().ue;
@@ -158,8 +159,8 @@ impl WorldState {
     }
 
     fn refresh(&mut self, worker: u8) -> Result<StepAnswer, AllocError>
-        ensures answer { IfOk result (λ a. Plays self.old.session.setting (standing_of self.old) (of.Refresh worker) a (standing_of self.new)) }
-        ensures lacks { IfErr result (λ _. Lacks self.old.session.setting (standing_of self.old) (of.Refresh worker) (standing_of self.new)) }
+        ensures answer { IfOk result (λ a. MakesStep self.old (of.Refresh worker) a self.new) }
+        ensures lacks { IfErr result (λ _. LacksForStep self.old (of.Refresh worker) self.new) }
         ensures setting { self.new.session.setting ≡ self.old.session.setting }
     {
         let Some(place) = self.workers.get_mut(usize::from(worker)) else {
@@ -169,8 +170,8 @@ impl WorldState {
     }
 
     fn flush(&mut self, worker: u8) -> Result<StepAnswer, AllocError>
-        ensures answer { IfOk result (λ a. Plays self.old.session.setting (standing_of self.old) (of.Flush worker) a (standing_of self.new)) }
-        ensures lacks { IfErr result (λ _. Lacks self.old.session.setting (standing_of self.old) (of.Flush worker) (standing_of self.new)) }
+        ensures answer { IfOk result (λ a. MakesStep self.old (of.Flush worker) a self.new) }
+        ensures lacks { IfErr result (λ _. LacksForStep self.old (of.Flush worker) self.new) }
         ensures setting { self.new.session.setting ≡ self.old.session.setting }
     {
         match self.workers.get_mut(usize::from(worker)) {
@@ -180,8 +181,8 @@ impl WorldState {
     }
 
     fn finish(&mut self, worker: u8) -> Result<StepAnswer, AllocError>
-        ensures answer { IfOk result (λ a. Plays self.old.session.setting (standing_of self.old) (of.Finish worker) a (standing_of self.new)) }
-        ensures lacks { IfErr result (λ _. Lacks self.old.session.setting (standing_of self.old) (of.Finish worker) (standing_of self.new)) }
+        ensures answer { IfOk result (λ a. MakesStep self.old (of.Finish worker) a self.new) }
+        ensures lacks { IfErr result (λ _. LacksForStep self.old (of.Finish worker) self.new) }
         ensures setting { self.new.session.setting ≡ self.old.session.setting }
     {
         match self.workers.get_mut(usize::from(worker)) {
@@ -191,7 +192,7 @@ impl WorldState {
     }
 
     fn abandon(&mut self, worker: u8) -> StepAnswer
-        ensures answer { Plays self.old.session.setting (standing_of self.old) (of.Abandon worker) result (standing_of self.new) }
+        ensures answer { MakesStep self.old (of.Abandon worker) result self.new }
         ensures setting { self.new.session.setting ≡ self.old.session.setting }
     {
         match self.workers.get_mut(usize::from(worker)) {

@@ -25,7 +25,8 @@ fn copies(alloc: Global, reports: Reports<'_>) -> Result<Vec<Report>, AllocError
 impl<N: Naming, W: Board<Slot<N>> + Drop> State<N, W> {
     /// The reports from a number on, in order. Takes memory for them.
     pub fn collect(&self, from: u64) -> Result<Vec<Report>, AllocError>
-        ensures reports { IfOk result (λ v. v.items ≡ drop from (reverse (reports self.now.session.journal))) }
+        ensures reports { IfOk result (λ v. v.items
+            ≡ drop from (reverse (reports self.now.session.journal))) }
         ensures numbered { IfOk result (λ v. AreNumbered from v.items) }
         ensures fits { IfOk result (λ v. from + length v.items < 2 ^ 64) }
     {

@@ -37,7 +37,8 @@ fn all_shares<N: Naming>(
     finished: Vec<Finished<N>>,
 ) -> ArrayVec<Option<Shares<N>>, 17>
     requires { length finished.items ≤ 16 }
-    ensures { result.items ≡ Some shares ∷ map (λ h. Some (with_items zeros h.items)) finished.items }
+    ensures { result.items
+        ≡ Some shares ∷ map (λ h. Some (with_items zeros h.items)) finished.items }
 {
     let mut all = ArrayVec::new();
     all.push(Some(shares));
@@ -49,7 +50,8 @@ fn all_shares<N: Naming>(
 
 /// The totals of the keys of a session, whose books hold these amounts.
 fn totals_of(session: &SessionState, amounts: &[u64; 10]) -> KeyTotals
-    requires { (n : ℕ) → n < 8 → slice_index amounts.now n ≡ slot_total session.now.setting session.now.journal n }
+    requires { (n : ℕ) → n < 8 →
+        slice_index amounts.now n ≡ slot_total session.now.setting session.now.journal n }
     ensures keys { result ≡ key_totals session.now.setting session.now.journal }
     ensures few { length result ≤ 8 }
 {
@@ -77,8 +79,10 @@ impl<N: Naming, W: Board<Slot<N>> + Drop> State<N, W> {
     /// Why no totals can be had, if they can't.
     fn gather_fault(&self, desk: &Desk<N>, finished: &[Finished<N>]) -> Option<GatherFault>
         requires { length finished.now ≤ 16 }
-        ensures none { result ≡ None → CanGather self.now.session.journal desk.now.commands finished.now }
-        ensures some { IfSome result (IsAtFault self.now.session.journal desk.now.commands finished.now) }
+        ensures none { result ≡ None →
+            CanGather self.now.session.journal desk.now.commands finished.now }
+        ensures some { IfSome result
+            (IsAtFault self.now.session.journal desk.now.commands finished.now) }
         ensures lawful { Lawful self.now.session.setting self.now.session.journal }
     {
         let journal = self.session.journal();
@@ -109,7 +113,8 @@ impl<N: Naming, W: Board<Slot<N>> + Drop> State<N, W> {
         requires { length finished.items ≤ 16 }
         ensures session { IfOk result (λ t. t.session ≡ self.session) }
         ensures setting { IfOk result (λ t. t.session.setting ≡ N.setting) }
-        ensures workers { IfOk result (λ _. length finished.items ≡ attach_count self.session.journal) }
+        ensures workers { IfOk result (λ _.
+            length finished.items ≡ attach_count self.session.journal) }
         ensures lanes { IfOk result (λ _. HaveLanes self.session.journal finished.items) }
         ensures desk { IfOk result (λ _. desk.commands ≡ reverse (commands self.session.journal)) }
         ensures keys { IfOk result (λ t. t.keys ≡ key_totals N.setting self.session.journal) }
@@ -117,8 +122,10 @@ impl<N: Naming, W: Board<Slot<N>> + Drop> State<N, W> {
         ensures sums { IfOk result (λ t. All (λ k. k.counted ≡ k.reported + k.unreported) t.keys) }
         ensures rows { IfOk result (λ t. t.rows ≡ length (rows self.session.journal)) }
         ensures abandoned { IfOk result (λ t. t.abandoned ≡ rows_abandoned finished.items) }
-        ensures fault { IfErr result (λ e. IsAtFault self.session.journal desk.commands finished.items e.fault) }
-        ensures back { IfErr result (λ e. (e.state ≡ self) × (e.desk ≡ desk) × (e.finished.items ≡ finished.items)) }
+        ensures fault { IfErr result (λ e.
+            IsAtFault self.session.journal desk.commands finished.items e.fault) }
+        ensures back { IfErr result (λ e. (e.state ≡ self)
+            × (e.desk ≡ desk) × (e.finished.items ≡ finished.items)) }
     {
         if let Some(fault) = self.gather_fault(&desk, finished.as_slice()) {
             return Err(StateUngathered {

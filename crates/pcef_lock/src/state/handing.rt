@@ -1,13 +1,13 @@
 //! Rows that workers hand over, and workers that leave.
 
-ghost use Rattle.std.specs.Prelude.{◌≡◌, ◌≤◌, IfOk, length, map, true};
-ghost use Rattle.std.specs.Result.{result_map_both};
-ghost use Rattle.pcef_model.specs.Outcomes.{abandon_outcome, finish_answer_of, flush_answer_of};
+ghost use Rattle.std.specs.Prelude.{◌≡◌, ◌≤◌, IfOk, length};
+ghost use Rattle.pcef_model.specs.Outcomes.{abandon_outcome};
 ghost use Rattle.pcef_model.specs.Journals.{slots};
-ghost use Rattle.pcef_lock.specs.Outcomes.{LeaveStep, HandOverStep, judged_rows};
-ghost use Rattle.pcef_lock.specs.Counting.{with_taken};
+ghost use Rattle.pcef_lock.specs.Outcomes.{AnswersHandOver, AnswersLeave, judged_rows};
+ghost use Rattle.pcef_lock.specs.Counting.{books_with_taken, with_taken};
 ghost use Rattle.pcef_lock.specs.Judging.{AllJudged};
 ghost use Rattle.pcef_lock.specs.Lanes.{continues_lane};
+ghost use Rattle.pcef_lock.specs.Seats.{ChangesOnlyShares};
 ghost use mathlib.Core.List.{IsPrefix};
 
 use super::State;
@@ -43,13 +43,14 @@ impl<N: Naming, W: Board<Slot<N>> + Drop> State<N, W> {
     pub fn flush(&mut self, seat: &mut Seat<N>, batch: &Batch) -> Result<Verdicts, FlushRefusal>
         requires { AllJudged N.setting N.first seat.old.subscriber batch.now }
         ensures told { IfOk result (λ v. v.rows.items ≡ judged_rows batch.now) }
-        ensures answer { HandOverStep N.setting seat.old.worker batch.now self.old.session.journal (result_map_both flush_answer_of (λ e. e) result) self.new.session.journal }
+        ensures answer { AnswersHandOver N.setting seat.old.worker batch.now
+            self.old result self.new }
         ensures tables { self.new.tables ≡ self.old.tables }
         ensures seen { IsPrefix seat.old.subscriber self.old.tables }
-        ensures books { self.new.books ≡ record self.old.books { totals = with_taken result self.old.books.totals batch.now } }
+        ensures books { self.new.books ≡ books_with_taken result self.old.books batch.now }
         ensures places { self.new.places ≡ self.old.places }
         ensures shares { seat.new.shares ≡ with_taken result seat.old.shares batch.now }
-        ensures seat { (seat.new.worker ≡ seat.old.worker) × (seat.new.subscriber ≡ seat.old.subscriber) × (seat.new.ue ≡ seat.old.ue) }
+        ensures seat { ChangesOnlyShares seat.old seat.new }
     {
         seat.subscriber.compare(&mut self.publisher);
         if !self.continues_lane(seat.worker, batch) {
@@ -73,13 +74,14 @@ impl<N: Naming, W: Board<Slot<N>> + Drop> State<N, W> {
     ) -> Result<(Verdicts, u64), FlushRefusal>
         requires { AllJudged N.setting N.first seat.old.subscriber batch.now }
         ensures told { IfOk result (λ v. v.0.rows.items ≡ judged_rows batch.now) }
-        ensures answer { LeaveStep N.setting seat.old.worker batch.now self.old.session.journal (result_map_both finish_answer_of (λ e. e) result) self.new.session.journal }
+        ensures answer { AnswersLeave N.setting seat.old.worker batch.now
+            self.old result self.new }
         ensures tables { self.new.tables ≡ self.old.tables }
         ensures seen { IsPrefix seat.old.subscriber self.old.tables }
-        ensures books { self.new.books ≡ record self.old.books { totals = with_taken result self.old.books.totals batch.now } }
+        ensures books { self.new.books ≡ books_with_taken result self.old.books batch.now }
         ensures places { self.new.places ≡ self.old.places }
         ensures shares { seat.new.shares ≡ with_taken result seat.old.shares batch.now }
-        ensures seat { (seat.new.worker ≡ seat.old.worker) × (seat.new.subscriber ≡ seat.old.subscriber) × (seat.new.ue ≡ seat.old.ue) }
+        ensures seat { ChangesOnlyShares seat.old seat.new }
     {
         seat.subscriber.compare(&mut self.publisher);
         if !self.continues_lane(seat.worker, batch) {
@@ -97,7 +99,8 @@ impl<N: Naming, W: Board<Slot<N>> + Drop> State<N, W> {
     /// Lets the worker of a seat leave. Rows that wait with it never reach the journal. Where it isn't attached,
     /// nothing changes. Takes no memory.
     pub fn abandon(&mut self, seat: &Seat<N>)
-        ensures journal { self.new.session.journal ≡ (abandon_outcome self.old.session.journal seat.now.worker).1 }
+        ensures journal { self.new.session.journal
+            ≡ (abandon_outcome self.old.session.journal seat.now.worker).1 }
         ensures tables { self.new.tables ≡ self.old.tables }
         ensures books { self.new.books ≡ self.old.books }
         ensures places { self.new.places ≡ self.old.places }

@@ -2,7 +2,6 @@
 use Rattle.std.specs.Prelude.{ℕ, ◌≡◌, List, [], ◌∷◌, ◌++◌, Option, Some, None, Result, Ok, Err, length, map}
 use Rattle.std.specs.Allocator.{alloc_error}
 use Rattle.std.specs.declared.alloc.AllocError.{AllocError}
-use Rattle.std.specs.Arc.{arc_value}
 use Rattle.std.specs.Result.{result_map_both}
 use Rattle.pcef_packet.specs.declared.header.Addr.{Addr}
 use Rattle.pcef_packet.specs.declared.header.Header.{Header}
@@ -19,6 +18,7 @@ use Rattle.pcef_model.specs.Journals.{gen, lane_len}
 use Rattle.pcef_model.specs.Reports.{after_leave}
 use Rattle.pcef_session.specs.declared.batch.BatchFull.{BatchFull}
 use Rattle.pcef_session.specs.Following.{row_of}
+use Rattle.pcef_session.specs.SessionModel.{SessionModel}
 use Rattle.pcef_session.specs.Shown.{Shows}
 use Rattle.pcef_world.specs.declared.answer.StepAnswer.{StepAnswer}
 use Rattle.pcef_world.specs.declared.answer.StepAnswer.TheVariants as answer
@@ -84,3 +84,12 @@ abbrev pub AbandonsAt : Journal → Option Worker → StepAnswer → Journal →
 AbandonsAt j None out k new = (out ≡ answer.NoWorker) × (k ≡ j) × (new ≡ None)
 AbandonsAt j (Some w) out k new =
     (out ≡ answer.Abandon (record { waiting = length w.waiting; rows = lane_len j w.number })) × (k ≡ after_leave w.number j) × (new ≡ None)
+
+-- ---- what a session and a place come to
+-- a worker hands its rows over at its place
+abbrev pub HandsOverAt : SessionModel → Option Worker → Result StepAnswer AllocError → SessionModel → Option Worker → Type 0
+HandsOverAt before place out after new = FlushesAt before.setting before.journal place out after.journal new
+
+-- a worker hands its last rows over, and leaves its place
+abbrev pub LeavesAt : SessionModel → Option Worker → Result StepAnswer AllocError → SessionModel → Option Worker → Type 0
+LeavesAt before place out after new = FinishesAt before.setting before.journal place out after.journal new

@@ -1,0 +1,48 @@
+-- The answer to a line, and the world after it: for private clauses.
+use Rattle.std.specs.Prelude.{ℕ, ◌≢◌, ◌∷◌, ◌++◌, [], List, Result, Err, IfOk, string_bytes}
+use Rattle.std.specs.declared.alloc.AllocError.{AllocError}
+use Rattle.pcef_model.specs.Setting.{Setting}
+use Rattle.pcef_model.specs.declared.step.Step.{Step}
+use Rattle.pcef_world.specs.Steps.{Standing, standing_of, step_outcome}
+use Rattle.pcef_world.specs.Worlds.{World}
+use Rattle.pcef_line.specs.declared.line.Line.{Line}
+use Rattle.pcef_line.specs.declared.fault.LineFault.{LineFault}
+use Rattle.pcef_line.specs.declared.fault.LineFault.TheVariants.{NoMemory}
+use Rattle.pcef_script.specs.declared.step.Answer.{Answer}
+use Rattle.pcef_script.specs.ScriptAnswers.{AnswersAs, AnswersDue, AnswersLine, DoesLine, IsDue}
+use Rattle.pcef_script.specs.ScriptLines.{ForLine, Kept}
+
+-- the bytes that are written for an answer: its text and a line feed
+abbrev pub answer_bytes : Answer → List ℕ
+answer_bytes a = string_bytes a.text ++ 10 ∷ []
+
+-- a world makes a step, and this text tells what is due to it
+abbrev pub TellsStep : World → Step → List ℕ → World → Type 0
+TellsStep before step text after =
+    IsDue (step_outcome before.session.setting (standing_of before) step) text (standing_of after)
+
+-- a world does what a line asks for, and this text tells it
+abbrev pub TellsLine : World → Line → List ℕ → World → Type 0
+TellsLine before line text after = DoesLine before.session.setting (standing_of before) line text (standing_of after)
+
+-- a fault is answered, whatever world it is told to
+abbrev pub AnswersFault : LineFault → Result Answer AllocError → Type 0
+AnswersFault fault result =
+    (p : Setting) (before : Standing) → IfOk result (λ a. AnswersAs p before (Err fault) (string_bytes a.text) a.is_fault before)
+
+-- so is one that is not want of memory
+abbrev pub AnswersReadFault : LineFault → Result Answer AllocError → Type 0
+AnswersReadFault fault result =
+    (p : Setting) (before : Standing) →
+    IfOk result (λ a. (fault ≢ NoMemory) × AnswersAs p before (Err fault) (string_bytes a.text) a.is_fault before)
+
+-- the answer to a line to which this is due, and the world after it
+abbrev pub AnswersBy : (Result Line LineFault → Type 0) → World → Answer → World → Type 0
+AnswersBy Due before a after =
+    AnswersDue Due before.session.setting (standing_of before) (string_bytes a.text) a.is_fault (standing_of after)
+
+-- the answer to the line that this is kept of, and the world after it
+abbrev pub AnswersKept : Kept → World → Result Answer AllocError → World → Type 0
+AnswersKept kept before result after =
+    ForLine kept (λ line. IfOk result (λ a.
+    AnswersLine before.session.setting (standing_of before) line (string_bytes a.text) a.is_fault (standing_of after)))

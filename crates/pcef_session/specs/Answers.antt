@@ -1,0 +1,90 @@
+-- What a session answers to an event, and the session after it, each in one fact.
+use Rattle.std.specs.Prelude.{ℕ, ◌≡◌, ◌≤◌, ◌<◌, List, [], Option, Result, Ok, MatchOption, map}
+use Rattle.std.specs.Result.{result_map_both}
+use Rattle.pcef_bearer.specs.Bindings.{Binding}
+use Rattle.pcef_bearer.specs.Standing.{binding_of}
+use Rattle.pcef_lane.specs.declared.lanes.LaneEnd.{LaneEnd}
+use Rattle.pcef_lane.specs.Lanes.{lane_end}
+use Rattle.pcef_model.specs.declared.answer.Accepted.{Accepted}
+use Rattle.pcef_model.specs.declared.answer.FlushRefusal.{FlushRefusal}
+use Rattle.pcef_model.specs.declared.answer.Refusal.{Refusal}
+use Rattle.pcef_model.specs.declared.answer.Verdicts.{Verdicts}
+use Rattle.pcef_model.specs.declared.command.Command.{Command}
+use Rattle.pcef_model.specs.Entries.{Journal}
+use Rattle.pcef_model.specs.Journals.{attach_count, gen, now}
+use Rattle.pcef_model.specs.Lawful.{BatchFollows}
+use Rattle.pcef_model.specs.Outcomes.{CommandStep, FinishStep, FlushAnswer, FlushStep, Gives, IsRefused, command_outcome, finish_answer_of, flush_answer_of}
+use Rattle.pcef_model.specs.Setting.{Setting}
+use Rattle.pcef_table.specs.declared.entry.Source.{Source}
+use Rattle.pcef_table.specs.Tables.{TableValue}
+use Rattle.pcef_session.specs.declared.batch.Item.{Item}
+use Rattle.pcef_session.specs.declared.prepared.Prepared.{Prepared}
+use Rattle.pcef_session.specs.Agreement.{AreKept}
+use Rattle.pcef_session.specs.Following.{row_of}
+use Rattle.pcef_session.specs.Preparing.{IsPreparedFor, command_of}
+use Rattle.pcef_session.specs.SessionModel.{SessionModel}
+use Rattle.pcef_session.specs.Shown.{Shows}
+
+-- ---- opening
+-- a session that was just opened: this is fixed for it, and its journal is empty
+abbrev pub IsOpened : Setting → SessionModel → Type 0
+IsOpened p s = (s.setting ≡ p) × (s.journal ≡ [])
+
+-- ---- commands
+-- the session refuses a command, for this reason
+abbrev pub Refuses : SessionModel → Command → Refusal → Type 0
+Refuses s command refusal = IsRefused s.setting s.journal command refusal
+
+-- what was prepared for the session before is prepared for the session after, too
+abbrev pub KeepsPrepared : SessionModel → SessionModel → Type 0
+KeepsPrepared before after = (d : Prepared) → IsPreparedFor before d → IsPreparedFor after d
+
+-- a prepared command is accepted: what is told of it and the journal after it are as due
+abbrev pub Settles : SessionModel → Prepared → Accepted → SessionModel → Type 0
+Settles before prepared told after =
+    Gives (command_outcome before.setting before.journal (command_of prepared)) (Ok told) after.journal
+
+-- a command is answered as due, or for want of memory refused
+abbrev pub AnswersCommand : SessionModel → Command → Result Accepted Refusal → SessionModel → Type 0
+AnswersCommand before command result after = CommandStep before.setting command before.journal result after.journal
+
+-- ---- rows that are handed over
+-- the rows of these items may come next from a worker
+abbrev pub MayFollow : SessionModel → ℕ → List Item → Type 0
+MayFollow s worker items = BatchFollows s.setting s.journal worker (map row_of items)
+
+-- what a flush is told, with the verdicts as a list
+abbrev pub flushed_of : Result Verdicts FlushRefusal → Result FlushAnswer FlushRefusal
+flushed_of result = result_map_both flush_answer_of (λ e. e) result
+
+-- what a last flush is told, with the verdicts as a list
+abbrev pub finished_of : Result (Verdicts × ℕ) FlushRefusal → Result (FlushAnswer × ℕ) FlushRefusal
+finished_of result = result_map_both finish_answer_of (λ e. e) result
+
+-- a worker's rows are answered as due, or for want of memory refused
+abbrev pub AnswersFlush : SessionModel → ℕ → List Item → Result Verdicts FlushRefusal → SessionModel → Type 0
+AnswersFlush before worker items result after =
+    FlushStep before.setting worker (map row_of items) before.journal (flushed_of result) after.journal
+
+-- a worker's last rows are answered as due, or for want of memory refused
+abbrev pub AnswersFinish : SessionModel → ℕ → List Item → Result (Verdicts × ℕ) FlushRefusal → SessionModel → Type 0
+AnswersFinish before worker items result after =
+    FinishStep before.setting worker (map row_of items) before.journal (finished_of result) after.journal
+
+-- ---- what is shown
+-- the end of the lane of a worker that ever came, and none of another
+abbrev pub IsLaneEnd : Journal → ℕ → Option LaneEnd → Type 0
+IsLaneEnd j worker end =
+    MatchOption end (attach_count j ≤ worker) (λ e. (worker < attach_count j) × (e ≡ lane_end j worker))
+
+-- the table of the newest generation
+abbrev pub ShowsNewest : SessionModel → TableValue → Type 0
+ShowsNewest s t = Shows s.setting s.journal (gen s.journal) t
+
+-- the rules that are active now, by name, in the order in which they became active
+abbrev pub AreActive : SessionModel → List (List ℕ × Source) → Type 0
+AreActive s kept = AreKept s.setting.catalog kept (now s.setting s.journal).rules
+
+-- what stands on the bearers now
+abbrev pub binding_now : SessionModel → Binding
+binding_now s = binding_of s.setting (now s.setting s.journal)
