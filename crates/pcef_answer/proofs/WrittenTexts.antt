@@ -1,7 +1,8 @@
 -- Answers that are written piece by piece.
-use Rattle.std.proofs.Common.{◌≡◌, ◌∙◌, ◌≤◌, ◌<◌, ◌+◌, ◌||◌, ◌==◌, if◌then◌else◌, ℕ, List, [], ◌∷◌, ◌++◌, true, false, Result, Ok, Err, OnOk, arith, ap, append_assoc, drop, get_or, length, nat_lt, refl, sym}
+use Rattle.std.proofs.Common.{◌≡◌, ◌∙◌, ◌≤◌, ◌<◌, ◌+◌, ◌||◌, ◌==◌, if◌then◌else◌, ℕ, List, [], ◌∷◌, ◌++◌, true, false, Result, Ok, Err, OnOk, arith, ap, append_assoc, drop, decimal, get_or, length, nat_lt, refl, subst, sym}
 use Rattle.std.specs.Result.{is_ok}
 use Rattle.std.proofs.lemmas.Bool.Decides.{nat_tests}
+use Rattle.std.proofs.lemmas.Fmt.{decimal_digit}
 use Rattle.std.proofs.lemmas.List.{at_drop_more}
 use Rattle.std.proofs.lemmas.List.Elements.{All-get_or}
 use Rattle.json.specs.Print.{escape, escape_byte}
@@ -22,6 +23,18 @@ last_three (Err e) s t u v a b c p q r = tt
 pub pushed_three : {A E : Type 0} (result : Result A E) (s t u v a b c : List ℕ) → t ≡ s ++ a → u ≡ t ++ b → v ≡ (if is_ok result then u ++ c else u) → OnOk result (v ≡ s ++ (a ++ (b ++ c)))
 pushed_three (Ok x) s t u v a b c p q r = three s t u v a b c p q r
 pushed_three (Err e) s t u v a b c p q r = tt
+
+-- a name between its quotation marks
+pub name_quoted : {A E : Type 0} (result : Result A E) (s v a b front name end : List ℕ) → OnOk result (v ≡ s ++ (a ++ (b ++ (front ++ (name ++ 34 ∷ end)))))
+    → OnOk result (v ≡ s ++ (a ++ (b ++ (front ++ ((name ++ 34 ∷ []) ++ end)))))
+name_quoted result s v a b front name end r = subst (λ x. OnOk result (v ≡ s ++ (a ++ (b ++ (front ++ x))))) (sym (append_assoc name (34 ∷ []) end)) r
+
+-- ---- numbers
+pub digit_pushed : {A E : Type 0} (r : Result A E) (old new utf8 : List ℕ) (digit ch : ℕ) → digit < 10 → ch ≡ 48 + digit
+    → (ch < 128 → utf8 ≡ ch ∷ []) → new ≡ (if is_ok r then old ++ utf8 else old) → OnOk r (new ≡ old ++ decimal digit)
+digit_pushed (Ok x) old new utf8 digit ch low is ascii wrote =
+    wrote ∙ ap (λ x. old ++ x) (ascii (omega (arith, low, is)) ∙ ap (λ x. x ∷ []) is ∙ sym (decimal_digit digit low))
+digit_pushed (Err e) old new utf8 digit ch low is ascii wrote = tt
 
 -- ---- names
 above : (b n : ℕ) → n < b → (b == n) ≡ false

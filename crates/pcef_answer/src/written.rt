@@ -1,9 +1,9 @@
 //! The answers to workers' steps, written piece by piece: they are the most common ones, and no JSON
 //! value stands between.
 
-ghost use Rattle.std.specs.Prelude.{◌≡◌, ◌++◌, ◌||◌, ◌==◌, IfOk, OnOk, codes, decimal, string_bytes};
+ghost use Rattle.std.specs.Prelude.{◌≡◌, ◌++◌, ◌<◌, ◌||◌, ◌==◌, IfOk, OnOk, codes, decimal, string_bytes};
 ghost use Rattle.std.specs.Bool.{OnTrue};
-ghost use Rattle.json.specs.Print.{escape, escape_byte, quoted};
+ghost use Rattle.json.specs.Print.{escape, escape_byte};
 ghost use Rattle.serde_json.specs.Written.{comma_if, compact_text};
 ghost use Rattle.pcef_answer.specs.ReportAnswers.{reports_text};
 ghost use Rattle.pcef_rule.specs.Name.{IsVisible};
@@ -161,7 +161,7 @@ fn push_gated(text: &mut String, generation: u32, rule: &RuleName) -> Result<(),
 {
     text.push_str("{\"generation\":")?;
     push_number(text, u64::from(generation))?;
-    push_rule(text, rule, ",\"verdict\":\"Gated\"}")
+    push_rule(text, rule, "\",\"verdict\":\"Gated\"}")
 }
 
 fn push_passed(
@@ -177,24 +177,17 @@ fn push_passed(
     push_number(text, u64::from(bearer.0))?;
     text.push_str(",\"generation\":")?;
     push_number(text, u64::from(generation))?;
-    push_rule(text, rule, ",\"verdict\":\"Passed\"}")
+    push_rule(text, rule, "\",\"verdict\":\"Passed\"}")
 }
 
+// the end begins with the quotation mark behind the name
 fn push_rule(text: &mut String, rule: &RuleName, end: &str) -> Result<(), AllocError>
     ensures { OnOk result (GoesOn text.old text.new
-        (codes ",\"rule\":" ++ (quoted rule.now ++ end.now))) }
+        (codes ",\"rule\":\"" ++ (escape rule.now ++ end.now))) }
 {
-    text.push_str(",\"rule\":")?;
-    push_quoted(text, rule)?;
+    text.push_str(",\"rule\":\"")?;
+    push_escaped(text, rule)?;
     text.push_str(end)
-}
-
-fn push_quoted(text: &mut String, name: &RuleName) -> Result<(), AllocError>
-    ensures { OnOk result (GoesOn text.old text.new (quoted name.now)) }
-{
-    text.push_str("\"")?;
-    push_escaped(text, name)?;
-    text.push_str("\"")
 }
 
 fn push_escaped(text: &mut String, name: &RuleName) -> Result<(), AllocError>
@@ -249,5 +242,17 @@ fn push_byte(text: &mut String, byte: u8) -> Result<(), AllocError>
 fn push_number(text: &mut String, number: u64) -> Result<(), AllocError>
     ensures { OnOk result (GoesOn text.old text.new (decimal number)) }
 {
-    text.push_str(Buffer::new().format(number))
+    if number < 10 {
+        push_digit(text, number as u8)
+    } else {
+        text.push_str(Buffer::new().format(number))
+    }
+}
+
+// most numbers of an answer have one digit
+fn push_digit(text: &mut String, digit: u8) -> Result<(), AllocError>
+    requires { digit < 10 }
+    ensures { OnOk result (GoesOn text.old text.new (decimal digit)) }
+{
+    text.push(char::from(b'0' + digit))
 }

@@ -1,9 +1,13 @@
-use Rattle.json.specs.Print.{escape_byte}
-use Rattle.pcef_answer.proofs.WrittenTexts.{last_three}
+use Rattle.std.proofs.Common.{decimal, string_bytes}
+use Rattle.std.specs.Prelude.{codes}
+use Rattle.json.specs.Print.{escape, escape_byte}
+use Rattle.pcef_answer.proofs.WrittenTexts.{last_three, name_quoted}
 use Rattle.pcef_answer.proofs.written.push_gated.Goals as goal
 
 pub returns : goal.returns
 unfolding escape_byte
 returns c =
     let number = rw c.from.ensures at c.in_ok-push_number.ensures in
-    last_three c.push_rule.result _ _ _ _ _ _ _ c.in_ok-push_str.ensures.bytes number c.push_rule.ensures
+    let pushed = last_three c.push_rule.result _ _ _ _ _ _ _ c.in_ok-push_str.ensures.bytes number c.push_rule.ensures in
+    name_quoted c.push_rule.result (string_bytes c.args.text.now) (string_bytes c.push_rule.new.text) (codes "{\"generation\":") (decimal c.args.generation)
+    (codes ",\"rule\":\"") (escape c.args.rule.now) (codes ",\"verdict\":\"Gated\"}") pushed
