@@ -1,12 +1,11 @@
 -- What single tokens of a filter text spell (RFC 6733, clause 4.3.1). Addresses are of version 4 for
 -- now. How many digits a number may have, and how many ranges a port list, are own choices.
 use Rattle.std.specs.Prelude.{ℕ, ◌≡◌, ◌≤◌, List, [], ◌∷◌, length, Option, Some, None, codes, ⊤}
-use Rattle.std.specs.Int.{w32, from_be_bytes}
 use Rattle.pcef_packet.specs.declared.header.Addr.{Addr}
-use Rattle.pcef_packet.specs.declared.header.Addr.TheVariants.{V4}
+use Rattle.pcef_packet.specs.DottedDecimal.{address_of}
 use Rattle.pcef_filter.specs.Tokens.{Token}
 use Rattle.pcef_filter.specs.Numbers.{IsNumber}
-use Rattle.pcef_filter.specs.Pieces.{pieces, dot, slash, comma, dash}
+use Rattle.pcef_filter.specs.Pieces.{pieces, slash, comma, dash}
 use Rattle.pcef_filter.specs.declared.filter.Direction.{Direction}
 use Rattle.pcef_filter.specs.declared.filter.Direction.TheVariants.{In, Out}
 use Rattle.pcef_filter.specs.declared.filter.Flow.{Flow}
@@ -26,18 +25,9 @@ IsProto token None = token ≡ codes "ip"
 IsProto token (Some number) = IsNumber 5 token number × (number ≤ 255)
 
 -- ---- src and dst
--- a number of an address
-abbrev pub IsByte : Token → ℕ → Type 0
-IsByte piece number = IsNumber 3 piece number × (number ≤ 255)
-
--- four numbers make an address, the first of them its highest octet
-abbrev pub AreBytes : List Token → ℕ → Type 0
-AreBytes (p ∷ q ∷ r ∷ s ∷ []) addr =
-    (a : ℕ) × (b : ℕ) × (c : ℕ) × (d : ℕ) × IsByte p a × IsByte q b × IsByte r c × IsByte s d × (addr ≡ from_be_bytes w32 (a ∷ b ∷ c ∷ d ∷ []))
-AreBytes other addr = ⊥
-
+-- an address in dotted decimal form
 abbrev pub IsAddress : Token → Addr → Type 0
-IsAddress token (V4 addr) = AreBytes (pieces dot token) addr
+IsAddress token addr = address_of token ≡ Some addr
 
 -- an address alone counts whole; behind a slash stands how many of its bits count
 abbrev pub AreNet : List Token → Net → Type 0

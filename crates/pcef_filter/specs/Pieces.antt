@@ -3,10 +3,7 @@ use Rattle.std.specs.Prelude.{ℕ, ◌==◌, List}
 use Rattle.std.specs.List.{slice_split}
 use Rattle.pcef_filter.specs.Tokens.{Token}
 
--- the octets `.`, `/`, `,` and `-`, which join pieces
-abbrev pub dot : ℕ
-dot = 46
-
+-- the octets `/`, `,` and `-`, which join pieces
 abbrev pub slash : ℕ
 slash = 47
 

@@ -2,14 +2,13 @@
 -- of the reader: each is proved equal to its class, and no one need believe them.
 use Rattle.std.specs.Prelude.{ℕ, Bool, true, false, ◌&&◌, List, [], ◌∷◌, length, nat_lt, nat_le, Option, Some, None, codes, if◌then◌else◌}
 use denote.Ref.{Bor}
-use Rattle.std.specs.Int.{w32, from_be_bytes}
 use Rattle.std.specs.Str.{all_ascii_digits, bytes_eq}
 use Rattle.std.specs.Str.Parse.{digits_value}
 use Rattle.arrayvec.specs.ArrayVec.{ArrayVec}
 use Rattle.pcef_packet.specs.declared.header.Addr.{Addr}
-use Rattle.pcef_packet.specs.declared.header.Addr.TheVariants.{V4}
+use Rattle.pcef_packet.specs.DottedDecimal.{address_of}
 use Rattle.pcef_filter.specs.Tokens.{Token}
-use Rattle.pcef_filter.specs.Pieces.{pieces, dot, slash, comma, dash}
+use Rattle.pcef_filter.specs.Pieces.{pieces, slash, comma, dash}
 use Rattle.pcef_filter.specs.declared.filter.Direction.{Direction}
 use Rattle.pcef_filter.specs.declared.filter.Direction.TheVariants as direction
 use Rattle.pcef_filter.specs.declared.filter.Flow.{Flow}
@@ -56,26 +55,6 @@ pieces_left separator None = []
 pieces_left separator (Some left) = pieces separator left.now
 
 -- ---- places
-unfoldable pub byte_in : Token → Option ℕ
-byte_in piece = up_to 255 (number_in 3 piece)
-
--- the number in the first piece, and the pieces behind it
-abbrev pub byte_at : List Token → Option (ℕ × List Token)
-byte_at [] = None
-byte_at (piece ∷ rest) = and_then (byte_in piece) (λ number. Some (number, rest))
-
-abbrev pub if_last : {X : Type 0} → X → List Token → Option X
-if_last x [] = Some x
-if_last x (piece ∷ rest) = None
-
-abbrev pub address_from : List Token → Option Addr
-address_from all =
-    and_then (byte_at all) (λ a. and_then (byte_at a.1) (λ b. and_then (byte_at b.1) (λ c. and_then (byte_at c.1) (λ d.
-    if_last (V4 (from_be_bytes w32 (a.0 ∷ b.0 ∷ c.0 ∷ d.0 ∷ []))) d.1))))
-
-unfoldable pub address_in : Token → Option Addr
-address_in token = address_from (pieces dot token)
-
 unfoldable pub bits_in : Token → Option ℕ
 bits_in piece = up_to 32 (number_in 5 piece)
 
@@ -84,8 +63,8 @@ net_of addr bits = record { addr = addr; bits = bits }
 
 abbrev pub net_from : List Token → Option Net
 net_from [] = None
-net_from (addr ∷ []) = and_then (address_in addr) (λ a. Some (net_of a 32))
-net_from (addr ∷ bits ∷ []) = and_then (address_in addr) (λ a. and_then (bits_in bits) (λ b. Some (net_of a b)))
+net_from (addr ∷ []) = and_then (address_of addr) (λ a. Some (net_of a 32))
+net_from (addr ∷ bits ∷ []) = and_then (address_of addr) (λ a. and_then (bits_in bits) (λ b. Some (net_of a b)))
 net_from (addr ∷ bits ∷ more ∷ rest) = None
 
 unfoldable pub net_in : Token → Option Net

@@ -4,7 +4,6 @@ ghost use Rattle.std.specs.Prelude.{◌≡◌, IfOk};
 ghost use Rattle.pcef_model.specs.Lawful.{Lawful};
 ghost use Rattle.pcef_gateway.specs.InOrder.{reports_of};
 
-use pcef_journal::Reports;
 use pcef_lock::Totals;
 use pcef_model::{Accepted, Refusal, Report};
 use pcef_session::SessionState;
@@ -26,20 +25,10 @@ pub struct Ended {
     pub reports: Vec<Report>,
 }
 
-fn copies(alloc: Global, reports: Reports<'_>) -> Result<Vec<Report>, AllocError>
-    ensures { IfOk result (λ v. v.items ≡ reports.entry) }
-{
-    let mut list = Vec::new(alloc);
-    for report in reports {
-        list.push(report.copy())?;
-    }
-    Ok(list)
-}
-
 /// The reports of a session, in order. Takes memory for them. The session's journal is lawful.
 pub(crate) fn all_reports(alloc: Global, session: &SessionState) -> Result<Vec<Report>, AllocError>
     ensures reports { IfOk result (λ v. v.items ≡ reports_of session.now.journal) }
     ensures lawful { Lawful session.now.setting session.now.journal }
 {
-    copies(alloc, session.journal().reports_from(0))
+    session.journal().reports_from(0).to_vec(alloc)
 }

@@ -208,6 +208,22 @@ fn reports_from_a_number_on(rt: HostRuntime) -> Result<(), Fail> {
     Ok(())
 }
 
+#[test]
+fn copies_of_the_reports_that_are_left(rt: HostRuntime) -> Result<(), Fail> {
+    let journal = small_journal(rt.alloc())?;
+    let mut reports = journal.reports_from(0);
+    let all = reports.to_vec(rt.alloc())?;
+    assert_eq!(rt;
+        all.as_slice(),
+        [report(0)?, report(1)?, report(2)?].as_slice()
+    );
+    let _ = reports.next();
+    let rest = reports.to_vec(rt.alloc())?;
+    assert_eq!(rt; rest.as_slice(), [report(1)?, report(2)?].as_slice());
+    assert!(rt; journal.reports_from(3).to_vec(rt.alloc())?.is_empty());
+    Ok(())
+}
+
 /// Whether two commands are the same, where rules of the same name and filters are.
 fn is_same(a: &Command, b: &Command) -> bool {
     match (a, b) {

@@ -1,12 +1,13 @@
 //! Walks over what a journal keeps, from the oldest on.
 
-ghost use Rattle.std.specs.Prelude.{◌≡◌, length};
+ghost use Rattle.std.specs.Prelude.{◌≡◌, IfOk, length};
 ghost use Rattle.std.specs.Iterator.{YieldsFirst, YieldsFirstRef, item_count};
 ghost use Rattle.pcef_journal.specs.KeptRows.{ArePlaced, lane_in};
 
 use crate::kept_row::KeptRow;
 use pcef_model::{Command, Report, Row};
 use pcef_rule::RuleName;
+use std::alloc::{AllocError, Global};
 use std::marker::Model;
 
 /// The rows of a worker. A row is made anew, with the name of its rule.
@@ -117,6 +118,17 @@ impl<'a> Reports<'a> {
         ensures { result ≡ rest.now }
     {
         Reports { rest }
+    }
+
+    /// Copies of the reports that are left, in order. Takes memory for them.
+    pub fn to_vec(&self, alloc: Global) -> Result<Vec<Report>, AllocError>
+        ensures { IfOk result (λ v. v.items ≡ self.now) }
+    {
+        let mut list = Vec::with_capacity(alloc, self.rest.len())?;
+        for report in self.rest {
+            list.push(report.copy())?;
+        }
+        Ok(list)
     }
 }
 

@@ -19,7 +19,7 @@ use Rattle.pcef_model.specs.Setting.{Setting}
 use Rattle.pcef_model.specs.Entries.{Journal, reports}
 use Rattle.pcef_model.specs.Generations.{made_by, oldest, slots_of}
 use Rattle.pcef_model.specs.Journals.{attach_count, attached, grant, octets_of, reported, subscribed}
-use Rattle.pcef_model.specs.Reports.{after_command, after_flush, tell, thresholds, with_rows}
+use Rattle.pcef_model.specs.Reports.{after_attach, after_command, after_flush, after_leave, tell, thresholds, with_rows}
 
 abbrev pub vid : List ℕ
 vid = codes "vid"
@@ -80,14 +80,19 @@ on_default = Passed web (record { 0 = 5 })
 abbrev pub row_of : ℕ → Row
 row_of octets = record { worker = 0; seq = 0; generation = 2; header = packet_of octets; verdict = on_default }
 
--- what happens: a command is accepted, or worker 0 flushes packets of so many octets each
+-- what happens: a command is accepted, worker 0 flushes packets of so many octets each, the next worker comes, or one
+-- leaves
 pub data Event : Type 0 where
   accept : Command → Event
   flush : List ℕ → Event
+  attach : Event
+  leave : ℕ → Event
 
 abbrev pub after : Setting → Event → Journal → Journal
 after p (accept c) j = after_command p j c
 after p (flush octets) j = after_flush p j (map row_of octets)
+after p attach j = after_attach j
+after p (leave worker) j = after_leave worker j
 
 abbrev pub after_all : Setting → List Event → Journal → Journal
 after_all p [] j = j

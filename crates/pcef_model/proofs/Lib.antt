@@ -10,6 +10,7 @@ pub mod Ending
 pub mod Exactness
 pub mod ExampleSession
 pub mod Examples
+pub mod ExampleAnswers
 pub mod Growth
 pub mod Lanes
 pub mod LawfulRows

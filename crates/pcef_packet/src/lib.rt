@@ -1,6 +1,7 @@
 //! The IP header of a user packet, as far as rules, verdicts and volumes look at it.
 #![tactic(auto)]
 
+mod dotted_decimal;
 mod header;
 mod ipv4;
 mod reading;

@@ -179,3 +179,34 @@ fn side_of_the_user_equipment(rt: HostRuntime) {
     assert_eq!(rt; uplink.ue_side(), Addr::V4(0xc633_6407));
     assert_eq!(rt; DNS_HEADER.ue_side(), Addr::V4(0x0a00_0002));
 }
+
+#[test]
+fn addresses_in_text(rt: HostRuntime) {
+    for (text, addr) in [
+        ("198.51.100.7", 0xc633_6407u32),
+        ("0.0.0.0", 0),
+        ("255.255.255.255", 0xffff_ffff),
+        // Leading zeros are no octal numbers.
+        ("010.000.00.002", 0x0a00_0002),
+    ] {
+        assert_eq!(rt;
+            Addr::from_text(text.as_bytes()),
+            Some(Addr::V4(addr)),
+            "{text}"
+        );
+    }
+    for text in [
+        "",
+        "10.0.0",
+        "10.0.0.2.",
+        "10.0.0.2.1",
+        "10..0.2",
+        "10.0.0.256",
+        "10.0.0.0002",
+        "10.0.0.+2",
+        " 10.0.0.2",
+        "0x0a.0.0.2",
+    ] {
+        assert_eq!(rt; Addr::from_text(text.as_bytes()), None, "{text}");
+    }
+}

@@ -1,4 +1,3 @@
 pub mod Declarations
 pub mod DeclaredKinds
-pub mod Digits
 pub mod Tables

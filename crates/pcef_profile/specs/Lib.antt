@@ -1,4 +1,3 @@
-pub mod DottedDecimal
 pub mod Explanations
 pub mod ProfileKeys
 pub mod ProfileOf

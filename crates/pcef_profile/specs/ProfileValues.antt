@@ -3,6 +3,7 @@ use Rattle.std.specs.Prelude.{ℕ, ℤ, pos, negsuc, List, [], ◌∷◌, codes,
 use Rattle.std.specs.Str.{bytes_eq}
 use Rattle.toml.specs.Data.{Data, Items, no_items, item, Members, get_member, as_str, as_integer, as_bool, as_array, as_table}
 use Rattle.pcef_packet.specs.declared.header.Addr.{Addr}
+use Rattle.pcef_packet.specs.DottedDecimal.{address_of}
 use Rattle.pcef_rule.specs.declared.qci.Kind.{Kind}
 use Rattle.pcef_rule.specs.declared.qci.Kind.TheVariants.{Gbr, NonGbr}
 use Rattle.pcef_rule.specs.declared.quantity.Qos.{Qos}
@@ -11,7 +12,6 @@ use Rattle.pcef_profile.specs.declared.fault.ReadProfileFault.{ReadProfileFault}
 use Rattle.pcef_profile.specs.declared.fault.ReadProfileFault.TheVariants.{BadValue, NoMemory}
 use Rattle.pcef_profile.specs.declared.key.Key.{Key}
 use Rattle.pcef_profile.specs.declared.key.Key.TheVariants as key
-use Rattle.pcef_profile.specs.DottedDecimal.{address_of}
 use Rattle.pcef_profile.specs.ProfileKeys.{key_text}
 use Rattle.pcef_decoding.specs.Readings.{◌>>=◌, or_fault, passing, is_from_to, GivesUnless}
 

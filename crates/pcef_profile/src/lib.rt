@@ -1,7 +1,6 @@
 //! The profile of a session: a TOML document (v1.0.0).
 #![tactic(auto)]
 
-mod address;
 mod explaining;
 mod fault;
 mod key;

@@ -4,7 +4,6 @@ ghost use Rattle.std.specs.Prelude.{◌≡◌, ◌≤◌, IfOk};
 ghost use Rattle.toml.specs.View.{view, table_view, items_view};
 ghost use Rattle.pcef_profile.specs.ProfileValues.{Gives, value_at, number_at, flag_at, table_at, text_at, address_at, qos_at, capacity_at, kind_of, kind_at, declaration_of, declarations_of, declarations_at};
 
-use crate::address::address;
 use crate::fault::ReadProfileFault;
 use crate::key::Key;
 use crate::shape::entry;
@@ -84,7 +83,7 @@ fn text_at(table: &Table, key: Key) -> Result<&str, ReadProfileFault>
 pub(crate) fn address_at(table: &Table, key: Key) -> Result<Addr, ReadProfileFault>
     ensures { Gives (λ a. a) result (address_at key (table_view table.now)) }
 {
-    match address(text_at(table, key)?) {
+    match Addr::from_text(text_at(table, key)?.as_bytes()) {
         Some(addr) => Ok(addr),
         None => Err(ReadProfileFault::BadValue),
     }

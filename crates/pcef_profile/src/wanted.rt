@@ -1,9 +1,9 @@
 //! What may stand at a key of a profile, and how it is told.
 
-use crate::address::address;
 use crate::key::Key;
 use crate::shape::Level;
 use pcef_model::{MAX_CAPACITY, MAX_COMMANDS};
+use pcef_packet::Addr;
 use std::fmt::{self, Display, Formatter, Write};
 use toml::Value;
 
@@ -51,7 +51,9 @@ impl Wanted {
     /// Whether a value is what may stand there.
     pub(crate) fn is(self, value: &Value) -> bool {
         match self {
-            Wanted::Address => value.as_str().is_some_and(|text| address(text).is_some()),
+            Wanted::Address => value
+                .as_str()
+                .is_some_and(|text| Addr::from_text(text.as_bytes()).is_some()),
             Wanted::Number(least, most) => is_within(value, least, most),
             Wanted::Flag => value.is_bool(),
             Wanted::Kind => value

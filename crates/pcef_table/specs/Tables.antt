@@ -26,6 +26,10 @@ pub record IsTable (offers : List Offer) (entries : List Entry) : Type 0 where
   pub known : All (λ e. IsKnown offers e.source) entries
   pub ordered : AllPairs (GoesBefore offers) entries
 
+-- what is a table over some offers stays one
+abbrev pub StaysTable : List Entry → List Entry → Type 0
+StaysTable before after = (offers : List Offer) → IsTable offers before → IsTable offers after
+
 abbrev pub has_other_name : List Offer → List ℕ → Entry → Bool
 has_other_name offers name e = not (is_named offers name e.source)
 

@@ -3,7 +3,7 @@
 ghost use Rattle.std.specs.Prelude.{◌≡◌, ◌≤◌, ◌<◌, ◌+◌, ◌^◌, [], IfOk, length, map, slice_get};
 ghost use Rattle.std.specs.Option.{option_copied};
 ghost use Rattle.pcef_table.specs.Sources.{IsKnown};
-ghost use Rattle.pcef_table.specs.Tables.{IsTable, most_entries, placed, with_counting, without, without_bearer, without_taken};
+ghost use Rattle.pcef_table.specs.Tables.{IsTable, StaysTable, most_entries, placed, with_counting, without, without_bearer, without_taken};
 ghost use Rattle.pcef_table.specs.Verdicts.{IsVerdict, slot_for};
 
 use crate::change::{copy_counting, copy_with, copy_without_taken};
@@ -148,17 +148,11 @@ impl Table {
     }
 
     /// The next generation, where this slot is counted or not, or want of memory.
-    pub fn counting<C: Offers>(
-        &self,
-        _catalog: &C,
-        slot: Slot,
-        on: bool,
-    ) -> Result<Table, AllocError>
-        requires number { self.now.number + 1 < 2 ^ 32 }
-        requires table { IsTable (C.offers _catalog.now) self.now.entries }
+    pub fn counting(&self, slot: Slot, on: bool) -> Result<Table, AllocError>
+        requires { self.now.number + 1 < 2 ^ 32 }
         ensures number { IfOk result (λ t. t.number ≡ self.now.number + 1) }
         ensures entries { IfOk result (λ t. t.entries ≡ map (with_counting slot on) self.now.entries) }
-        ensures table { IfOk result (λ t. IsTable (C.offers _catalog.now) t.entries) }
+        ensures table { IfOk result (λ t. StaysTable self.now.entries t.entries) }
     {
         let entries = copy_counting(self.alloc, self.entries(), slot, on)?;
         Ok(Table {

@@ -251,12 +251,12 @@ fn counting_of_a_slot(rt: HostRuntime) -> Result<(), Fail> {
     let verdict = passed("web", 5)?;
     assert_eq!(rt; table.counts(&catalog, &verdict), None);
     assert!(rt; table.generation() < 100);
-    let other = table.counting(&catalog, Slot(2), true)?;
+    let other = table.counting(Slot(2), true)?;
     assert_eq!(rt; other.counts(&catalog, &verdict), None);
-    let counted = table.counting(&catalog, Slot(3), true)?;
+    let counted = table.counting(Slot(3), true)?;
     assert_eq!(rt; counted.counts(&catalog, &verdict), Some(Slot(3)));
     assert_eq!(rt; counted.counts(&catalog, &Verdict::Unmatched), None);
-    let no_more = counted.counting(&catalog, Slot(3), false)?;
+    let no_more = counted.counting(Slot(3), false)?;
     assert_eq!(rt; no_more.counts(&catalog, &verdict), None);
     Ok(())
 }

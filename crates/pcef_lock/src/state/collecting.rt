@@ -5,22 +5,10 @@ ghost use Rattle.pcef_model.specs.Entries.{reports};
 ghost use Rattle.pcef_lock.specs.Reports.{AreNumbered};
 
 use super::State;
-use pcef_journal::Reports;
 use pcef_model::Report;
 use pcef_publish::{Board, Slot};
 use pcef_share::Naming;
-use std::alloc::{AllocError, Global};
-
-/// Copies of reports.
-fn copies(alloc: Global, reports: Reports<'_>) -> Result<Vec<Report>, AllocError>
-    ensures { IfOk result (λ v. v.items ≡ reports.entry) }
-{
-    let mut list = Vec::new(alloc);
-    for report in reports {
-        list.push(report.copy())?;
-    }
-    Ok(list)
-}
+use std::alloc::AllocError;
 
 impl<N: Naming, W: Board<Slot<N>> + Drop> State<N, W> {
     /// The reports from a number on, in order. Takes memory for them.
@@ -31,7 +19,11 @@ impl<N: Naming, W: Board<Slot<N>> + Drop> State<N, W> {
         ensures fits { IfOk result (λ v. from + length v.items < 2 ^ 64) }
     {
         let _many = self.session.journal().reports_len();
-        let collected = copies(self.alloc, self.session.journal().reports_from(from))?;
+        let collected = self
+            .session
+            .journal()
+            .reports_from(from)
+            .to_vec(self.alloc)?;
         Ok(collected)
     }
 }

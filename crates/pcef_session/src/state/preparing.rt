@@ -111,9 +111,7 @@ impl SessionState {
         ensures { IfOk result (λ t. ShowsNext self.now.setting self.now.journal command.now t) }
     {
         let slot = place_of(self.counted.usage(), key);
-        self.newest
-            .table()
-            .counting(&self.listing, slot, switches_on(command))
+        self.newest.table().counting(slot, switches_on(command))
     }
 
     /// The table without the rules that a command takes away.

@@ -8,8 +8,8 @@ use Rattle.pcef_session.proofs.NextTables.{if_ok, number_fits, table_switched}
 use Rattle.pcef_session.proofs.state.SessionState.table_switched.Goals as goal
 use Rattle.std.specs.Prelude.{IfOk}
 
-pub counting-requires-clause-number : goal.counting-requires-clause-number
-counting-requires-clause-number c = let fits = number_fits (held_of c.self.inside) (held_sound c.self.inside c.self.invariant) in rw (c.table.ensures ∙ c.deref.ensures) fits
+pub counting-requires : goal.counting-requires
+counting-requires c = let fits = number_fits (held_of c.self.inside) (held_sound c.self.inside c.self.invariant) in rw (c.table.ensures ∙ c.deref.ensures) fits
 
 pub returns : goal.returns
 returns c =
