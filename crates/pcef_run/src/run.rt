@@ -1,9 +1,10 @@
 //! Runs a plan.
 
-ghost use Rattle.std.specs.Prelude.{◌≡◌, [], IfErr, IfOk};
+ghost use Rattle.std.specs.Prelude.{◌≡◌, IfErr, IfOk};
 ghost use Rattle.std.specs.Arc.{arc_value};
 ghost use Rattle.pcef_model.specs.Setting.{Setting};
 ghost use Rattle.pcef_model.specs.Terms.{setting_of};
+ghost use Rattle.pcef_session.specs.Answers.{IsOpened};
 ghost use Rattle.pcef_run.specs.Runs.{EndsPlan, RunsPlan, accepted_of, commands_of};
 
 use crate::fault::RunEnd;
@@ -44,7 +45,7 @@ impl Ran {
 }
 
 fn open<C: Offers>(alloc: Global, profile: Profile, catalog: &C) -> Result<SessionState, RunEnd>
-    ensures made { IfOk result (λ s. (s.setting ≡ setting_of profile (C.offers catalog.now)) × (s.journal ≡ [])) }
+    ensures made { IfOk result (IsOpened (setting_of profile (C.offers catalog.now))) }
     ensures fault { IfErr result (EndsPlan (setting_of profile (C.offers catalog.now))) }
 {
     let Ok(listing) = catalog.listing().share() else {
@@ -78,7 +79,8 @@ pub fn run_plan<C: Detects + Drop + Send + Sync, R: Threads + Wait + Sync>(
     plan: Plan,
     workers: u8,
 ) -> Result<Ran, RunEnd>
-    ensures ran { IfOk result (RunsPlan (setting_of profile (C.offers (arc_value catalog))) plan workers) }
+    ensures ran { IfOk result
+        (RunsPlan (setting_of profile (C.offers (arc_value catalog))) plan workers) }
     ensures fault { IfErr result (EndsPlan (setting_of profile (C.offers (arc_value catalog)))) }
 {
     let Plan {
