@@ -1,5 +1,5 @@
 -- Which bearers rules are bound to, and what may be bound (TS 23.203, clauses 6.1.1.4 and 6.2.2.2).
-use Rattle.std.specs.Prelude.{ℕ, ◌≡◌, ◌≤◌, ◌<◌, ◌==◌, Bool, true, false, ◌&&◌, ◌||◌, not, List, Option, Some, None, Result, Ok, Err, All, AllPairs, filter, find, is_none, length, if◌then◌else◌}
+use Rattle.std.specs.Prelude.{ℕ, ◌≡◌, ◌≤◌, ◌<◌, ◌==◌, Bool, true, false, ◌&&◌, ◌||◌, not, List, [], Option, Some, None, Result, Ok, Err, All, AllPairs, filter, find, is_none, length, if◌then◌else◌}
 use Rattle.std.specs.List.{list_any}
 use Rattle.pcef_rule.specs.declared.qci.Kind.{Kind}
 use Rattle.pcef_rule.specs.declared.qci.Kind.TheVariants.{NonGbr}
@@ -11,6 +11,8 @@ use Rattle.pcef_model.specs.Setting.{same_name, same_qos}
 use Rattle.pcef_model.specs.Bearers.{default_id, has_pair, least_free as free, sum_down, sum_up}
 use Rattle.pcef_model.specs.Refusals.{Conditions, bind_refusals, first_of}
 use Rattle.pcef_model.specs.declared.answer.Refusal.{Refusal}
+use Rattle.pcef_model.specs.declared.command.Command.{Command}
+use Rattle.pcef_model.specs.Commands.{takes_away}
 use Rattle.pcef_rule.specs.declared.quantity.BearerId.{BearerId}
 use Rattle.pcef_bearer.specs.declared.bearers.Bound.{Bound}
 use Rattle.pcef_bearer.specs.declared.bearers.Released.{Released}
@@ -121,6 +123,27 @@ IsAccepted v name q rates = first_of (refusals v (without name v.bound) q rates)
 abbrev pub GetsId : Binding → List ℕ → Qos → ℕ → Type 0
 GetsId v name q id = id_excluding v.default_qos v.bound (without name v.bound) q ≡ Some id
 
+-- the id that a rule of this name gets by this pair
+abbrev pub id_for : Binding → List ℕ → Qos → Option ℕ
+id_for v name q = id_excluding v.default_qos v.bound (without name v.bound) q
+
+-- the first refusal of a rule of this name with this pair and these rates
+abbrev pub first_refusal : Binding → List ℕ → Qos → Option Rates → Option Refusal
+first_refusal v name q rates = first_of (refusals v (without name v.bound) q rates)
+
+-- a binding of which nothing is bound yet
+abbrev pub empty_binding : Qos → Sums → List (Option Kind) → Binding
+empty_binding default_qos capacity qcis =
+    record { default_qos = default_qos; capacity = capacity; qcis = qcis; bound = [] }
+
+-- what the rule of a name leaves, where one is bound
+abbrev pub left_by : List ℕ → List Bound → Option Released
+left_by name bound = released (find (is_named name) bound) (without name bound)
+
+-- the rules that a command doesn't take away
+abbrev pub kept_by : Command → List Bound → List Bound
+kept_by command bound = filter (λ b. not (takes_away command b.name b.bearer.0)) bound
+
 -- why a binding was refused, where it was
 abbrev pub refusal_in : Result BearerId Refusal → Option Refusal
 refusal_in (Ok _) = None
@@ -152,3 +175,8 @@ pub record IsBinding (v : Binding) : Type 0 where
   pub pairs : AllPairs Agree v.bound
   pub within_up : total_up v.bound ≤ v.capacity.up
   pub within_down : total_down v.bound ≤ v.capacity.down
+
+-- ---- for private clauses
+-- the first of these ids that none of these rules is on
+abbrev pub first_unused : List ℕ → List Bound → Option ℕ
+first_unused ids others = find (λ id. not (list_any (λ b. id == b.bearer.0) others)) ids

@@ -1,13 +1,11 @@
 //! The bearers of a session, and the rules that are bound to them.
 
-ghost use Rattle.std.specs.Prelude.{not, ◌≡◌, ◌≤◌, ◌<◌, ◌↔◌, ◌&&◌, is_none, is_some, [], ◌∷◌, ◌++◌, IfOk, IsOk, OnErr, Err, Some, None, filter, find, length, true, false};
+ghost use Rattle.std.specs.Prelude.{◌≡◌, ◌≤◌, ◌<◌, ◌↔◌, ◌&&◌, is_none, is_some, [], ◌∷◌, ◌++◌, IfOk, IsOk, OnErr, Err, Some, None, length, true, false};
 ghost use Rattle.std.specs.List.{list_any};
 ghost use Rattle.pcef_rule.specs.declared.qci.Kind.TheVariants as kind;
 ghost use Rattle.pcef_rule.specs.QciKinds.{kind_of};
 ghost use Rattle.pcef_model.specs.declared.answer.OpenFault.TheVariants as fault;
-ghost use Rattle.pcef_bearer.specs.Bindings.{bearer_of, bound_at, bound_with, guaranteed, id_excluding, is_named, number_of, put, refusal_in, refusals, released, rules_on, with_rules, without, GetsId, HasRoom, IsAccepted, IsBinding};
-ghost use Rattle.pcef_model.specs.Commands.{takes_away};
-ghost use Rattle.pcef_model.specs.Refusals.{first_of};
+ghost use Rattle.pcef_bearer.specs.Bindings.{bearer_of, bound_at, bound_with, empty_binding, first_refusal, guaranteed, id_for, is_named, kept_by, left_by, number_of, refusal_in, rules_on, with_rules, without, GetsId, HasRoom, IsAccepted, IsBinding};
 ghost use Rattle.pcef_model.specs.Bearers.{is_gbr, is_non_gbr};
 
 use crate::ids::{count_on, finds_no_bearer, id_excluding, is_present};
@@ -62,9 +60,20 @@ impl Model for Bearers {
 
     ghost Value = { Binding };
 
-    ghost view = { λ b. record { default_qos = b.default_qos; capacity = b.capacity; qcis = b.qcis; bound = b.bound.items } };
+    ghost view = { λ b. record {
+      default_qos = b.default_qos;
+      capacity = b.capacity;
+      qcis = b.qcis;
+      bound = b.bound.items;
+    } };
 
-    ghost invariant = { λ b. IsBinding (record { default_qos = b.default_qos; capacity = b.capacity; qcis = b.qcis; bound = b.bound.items }) × (b.capacity.up < 2 ^ 64) × (b.capacity.down < 2 ^ 64) };
+    ghost invariant = { λ b. IsBinding (record {
+      default_qos = b.default_qos;
+      capacity = b.capacity;
+      qcis = b.qcis;
+      bound = b.bound.items;
+    })
+        × (b.capacity.up < 2 ^ 64) × (b.capacity.down < 2 ^ 64) };
 }
 
 /// Whether a rule of a GBR QCI has no rates.
@@ -99,10 +108,12 @@ impl Bearers {
     /// The default bearer for this pair of QCI and ARP, up to this capacity, or the first fault in the
     /// order of [`OpenFault`]. Takes no memory, so it never answers want of it.
     pub fn new(default_qos: Qos, capacity: Sums, qcis: QciTable) -> Result<Bearers, OpenFault>
-        ensures unknown { (result ≡ Err fault.UnknownQci) ↔ (kind_of qcis default_qos.qci.0 ≡ None) }
-        ensures gbr { (result ≡ Err fault.DefaultIsGbr) ↔ (kind_of qcis default_qos.qci.0 ≡ Some kind.Gbr) }
+        ensures unknown { (result ≡ Err fault.UnknownQci)
+            ↔ (kind_of qcis default_qos.qci.0 ≡ None) }
+        ensures gbr { (result ≡ Err fault.DefaultIsGbr)
+            ↔ (kind_of qcis default_qos.qci.0 ≡ Some kind.Gbr) }
         ensures accepted { IsOk result ↔ (kind_of qcis default_qos.qci.0 ≡ Some kind.NonGbr) }
-        ensures made { IfOk result (λ b. b ≡ record { default_qos = default_qos; capacity = capacity; qcis = qcis; bound = [] }) }
+        ensures made { IfOk result (λ b. b ≡ empty_binding default_qos capacity qcis) }
     {
         match qcis.kind_of(default_qos.qci) {
             None => Err(OpenFault::UnknownQci),
@@ -136,7 +147,7 @@ impl Bearers {
     /// Why a rule of this name can't be bound with this pair and these rates, if it can't. What is bound
     /// under its name doesn't count.
     pub fn refusal(&self, name: &RuleName, qos: Qos, rates: Option<Rates>) -> Option<Refusal>
-        ensures { result ≡ first_of (refusals self.now (without name.now self.now.bound) qos rates) }
+        ensures { result ≡ first_refusal self.now name.now qos rates }
     {
         self.refusal_excluding(name, &qos, rates)
     }
@@ -144,13 +155,13 @@ impl Bearers {
     /// The bearer that a rule of this name gets by this pair: the one of the pair, or else the least id
     /// that no other rule is on.
     pub fn bearer_for(&self, name: &RuleName, qos: Qos) -> Option<BearerId>
-        ensures { number_of result ≡ id_excluding self.now.default_qos self.now.bound (without name.now self.now.bound) qos }
+        ensures { number_of result ≡ id_for self.now name.now qos }
     {
         self.bearer_excluding(name, &qos)
     }
 
     fn refusal_excluding(&self, name: &RuleName, qos: &Qos, rates: Option<Rates>) -> Option<Refusal>
-        ensures { result ≡ first_of (refusals self.now (without name.now self.now.bound) qos.now rates) }
+        ensures { result ≡ first_refusal self.now name.now qos.now rates }
     {
         let kind = self.qcis.kind_of(qos.qci);
         if kind.is_none() {
@@ -177,17 +188,17 @@ impl Bearers {
     }
 
     fn bearer_excluding(&self, name: &RuleName, qos: &Qos) -> Option<BearerId>
-        ensures { number_of result ≡ id_excluding self.now.default_qos self.now.bound (without name.now self.now.bound) qos.now }
+        ensures { number_of result ≡ id_for self.now name.now qos.now }
     {
         id_excluding(&self.default_qos, name, &self.bound, qos)
     }
 
     fn set(&mut self, name: RuleName, qos: &Qos, rates: Option<Rates>) -> Result<BearerId, Refusal>
         requires { HasRoom name 64 self.old.bound }
-        ensures refused { refusal_in result ≡ first_of (refusals self.old (without name self.old.bound) qos.now rates) }
+        ensures refused { refusal_in result ≡ first_refusal self.old name qos.now rates }
         ensures unchanged { OnErr result (self.new ≡ self.old) }
-        ensures bearer { IfOk result (λ id. id_excluding self.old.default_qos self.old.bound (without name self.old.bound) qos.now ≡ Some id.0) }
-        ensures bound { IfOk result (λ id. self.new ≡ with_rules self.old (put (bound_at name qos.now rates id.0) self.old.bound)) }
+        ensures bearer { IfOk result (λ id. GetsId self.old name qos.now id.0) }
+        ensures bound { IfOk result (λ id. self.new ≡ bound_with self.old name qos.now rates id.0) }
     {
         if let Some(refusal) = self.refusal_excluding(&name, qos, rates) {
             return Err(refusal);
@@ -209,11 +220,12 @@ impl Bearers {
     ) -> Result<BearerId, Refusal>
         requires new { list_any (is_named name) self.old.bound ≡ false }
         requires room { length self.old.bound < 64 }
-        ensures refused { refusal_in result ≡ first_of (refusals self.old (without name self.old.bound) qos rates) }
+        ensures refused { refusal_in result ≡ first_refusal self.old name qos rates }
         ensures unchanged { OnErr result (self.new ≡ self.old) }
-        ensures bearer { IfOk result (λ id. id_excluding self.old.default_qos self.old.bound (without name self.old.bound) qos ≡ Some id.0) }
-        ensures bound { IfOk result (λ id. self.new ≡ with_rules self.old (put (bound_at name qos rates id.0) self.old.bound)) }
-        ensures last { IfOk result (λ id. self.new.bound ≡ self.old.bound ++ bound_at name qos rates id.0 ∷ []) }
+        ensures bearer { IfOk result (λ id. GetsId self.old name qos id.0) }
+        ensures bound { IfOk result (λ id. self.new ≡ bound_with self.old name qos rates id.0) }
+        ensures last { IfOk result (λ id. self.new.bound
+            ≡ self.old.bound ++ bound_at name qos rates id.0 ∷ []) }
     {
         self.set(name, &qos, rates)
     }
@@ -228,10 +240,10 @@ impl Bearers {
         rates: Option<Rates>,
     ) -> Result<BearerId, Refusal>
         requires { list_any (is_named name) self.old.bound ≡ true }
-        ensures refused { refusal_in result ≡ first_of (refusals self.old (without name self.old.bound) qos rates) }
+        ensures refused { refusal_in result ≡ first_refusal self.old name qos rates }
         ensures unchanged { OnErr result (self.new ≡ self.old) }
-        ensures bearer { IfOk result (λ id. id_excluding self.old.default_qos self.old.bound (without name self.old.bound) qos ≡ Some id.0) }
-        ensures bound { IfOk result (λ id. self.new ≡ with_rules self.old (put (bound_at name qos rates id.0) self.old.bound)) }
+        ensures bearer { IfOk result (λ id. GetsId self.old name qos id.0) }
+        ensures bound { IfOk result (λ id. self.new ≡ bound_with self.old name qos rates id.0) }
     {
         self.set(name, &qos, rates)
     }
@@ -256,7 +268,7 @@ impl Bearers {
     /// Drops the rule of this name, and tells what it leaves, or `None` where no rule of this name is
     /// bound.
     pub fn unbind(&mut self, name: &RuleName) -> Option<Released>
-        ensures released { result ≡ released (find (is_named name.now) self.old.bound) (without name.now self.old.bound) }
+        ensures released { result ≡ left_by name.now self.old.bound }
         ensures bound { self.new ≡ with_rules self.old (without name.now self.old.bound) }
     {
         let Some(bearer) = self.bearer_of(name) else {
@@ -269,7 +281,7 @@ impl Bearers {
 
     /// Drops the rules that a command takes away. Takes no memory.
     pub fn take_away(&mut self, command: &Command)
-        ensures { self.new ≡ with_rules self.old (filter (λ b. not (takes_away command.now b.name b.bearer.0)) self.old.bound) }
+        ensures { self.new ≡ with_rules self.old (kept_by command.now self.old.bound) }
     {
         drop_taken(&mut self.bound, command);
     }

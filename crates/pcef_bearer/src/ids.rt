@@ -1,8 +1,8 @@
 //! The ids of bearers.
 
-ghost use Rattle.std.specs.Prelude.{◌≡◌, ◌==◌, ◌≤◌, find, length, not};
+ghost use Rattle.std.specs.Prelude.{◌≡◌, ◌==◌, ◌≤◌, length};
 ghost use Rattle.std.specs.List.{list_any};
-ghost use Rattle.pcef_bearer.specs.Bindings.{finds_no_bearer, id_excluding, is_present, least_free, number_of, rules_on, without};
+ghost use Rattle.pcef_bearer.specs.Bindings.{finds_no_bearer, first_unused, id_excluding, is_present, least_free, number_of, rules_on, without};
 
 use crate::bearers::Bound;
 use crate::lookup::{has_pair_excluding, is_named, of_pair, same_qos};
@@ -25,7 +25,7 @@ fn is_used_excluding(name: &RuleName, bound: &[Bound], id: u8) -> bool
 
 /// The first of these ids that no rule other than the one of this name is on.
 fn first_free(ids: &[u8], name: &RuleName, bound: &[Bound]) -> Option<BearerId>
-    ensures { number_of result ≡ find (λ id. not (list_any (λ b. id == b.bearer.0) (without name.now bound.now))) ids.now }
+    ensures { number_of result ≡ first_unused ids.now (without name.now bound.now) }
 {
     for id in ids {
         if !is_used_excluding(name, bound, *id) {
@@ -49,7 +49,8 @@ pub(crate) fn id_excluding(
     bound: &[Bound],
     qos: &Qos,
 ) -> Option<BearerId>
-    ensures { number_of result ≡ id_excluding default.now bound.now (without name.now bound.now) qos.now }
+    ensures { number_of result
+        ≡ id_excluding default.now bound.now (without name.now bound.now) qos.now }
 {
     if same_qos(qos, default) {
         return Some(DEFAULT_BEARER);

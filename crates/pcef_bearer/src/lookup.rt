@@ -1,11 +1,11 @@
 //! Rules that are bound, by their names and by their pairs of QCI and ARP.
 
-ghost use Rattle.std.specs.Prelude.{◌≡◌, filter, find, length, not, position, true};
+ghost use Rattle.std.specs.Prelude.{◌≡◌, find, length, not, position, true};
 ghost use Rattle.std.specs.List.{list_any};
 ghost use Rattle.std.specs.Option.{option_copied};
 ghost use Rattle.pcef_model.specs.Commands.{takes_away};
 ghost use Rattle.pcef_model.specs.Setting.{same_flag, same_qos};
-ghost use Rattle.pcef_bearer.specs.Bindings.{is_named, put, without, HasRoom};
+ghost use Rattle.pcef_bearer.specs.Bindings.{is_named, kept_by, put, without, HasRoom};
 
 use crate::bearers::Bound;
 use crate::vacant::BoundRules;
@@ -98,11 +98,12 @@ pub(crate) fn drop_named(bound: &mut BoundRules, name: &RuleName)
 
 /// Drops the rules that a command takes away.
 pub(crate) fn drop_taken(bound: &mut BoundRules, command: &Command)
-    ensures { bound.new.items ≡ filter (λ b. not (takes_away command.now b.name b.bearer.0)) bound.old.items }
+    ensures { bound.new.items ≡ kept_by command.now bound.old.items }
 {
     bound.retain(
         |b: &mut Bound| -> bool
-            ensures { (result ≡ not (takes_away command.entry.now b.old.name b.old.bearer.0)) × (b.new ≡ b.old) }
+            ensures { (result ≡ not (takes_away command.entry.now b.old.name b.old.bearer.0))
+                × (b.new ≡ b.old) }
         { !command.takes_away(&b.name, b.bearer) },
     );
 }

@@ -1,5 +1,5 @@
 -- What an input asks of a run (own choice).
-use Rattle.std.specs.Prelude.{ℕ, ◌≡◌, ◌≤◌, ◌+◌, Bool, true, false, nat_lt, List, [], ◌∷◌, ◌++◌, length, Option, Some, None, Result, Ok, Err, if◌then◌else◌}
+use Rattle.std.specs.Prelude.{ℕ, ◌≡◌, ◌≤◌, ◌+◌, Bool, true, false, nat_lt, List, [], ◌∷◌, ◌++◌, length, Option, Some, None, Result, Ok, Err, OnOk, if◌then◌else◌}
 use Rattle.pcef_model.specs.declared.command.Command.{Command}
 use Rattle.pcef_model.specs.declared.step.Step.TheVariants as step
 use Rattle.pcef_line.specs.declared.fault.LineFault.{LineFault}
@@ -108,3 +108,13 @@ FailsIn workers lines other = ⊥
 abbrev pub IsFirstLine : List ℕ → List ℕ → Option (List ℕ) → Type 0
 IsFirstLine input first None = all_lines input ≡ first ∷ []
 IsFirstLine input first (Some rest) = (all_lines input ≡ first ∷ all_lines rest) × (length rest + 1 ≤ length input)
+
+-- a line more is planned, whatever lines were planned before
+abbrev pub AddsLine : {A E : Type 0} → Line → Plan → Result A E → Plan → Type 0
+AddsLine line before result after =
+    (asked : List Line) → IsPlanOf asked before → OnOk result (IsPlanOf (asked ++ line ∷ []) after)
+
+-- the bytes of a line more are planned, whatever lines were planned before
+abbrev pub AddsBytes : {A E : Type 0} → ℕ → List ℕ → Plan → Result A E → Plan → Type 0
+AddsBytes workers bytes before result after =
+    (lines : List (List ℕ)) → ArePlanned workers lines before → OnOk result (ArePlanned workers (lines ++ bytes ∷ []) after)

@@ -8,6 +8,7 @@ use Rattle.pcef_model.specs.Entries.{Journal}
 use Rattle.pcef_model.specs.Outcomes.{CommandStep}
 use Rattle.pcef_model.specs.Refusals.{first_of, open_faults}
 use Rattle.pcef_model.specs.Setting.{Setting}
+use Rattle.pcef_session.specs.SessionModel.{SessionModel}
 use Rattle.pcef_gateway.specs.Commanding.{FoundMemory}
 use Rattle.pcef_gateway.specs.Ending.{RunsTo}
 use Rattle.pcef_gateway.specs.declared.fault.RunFault.{RunFault}
@@ -61,3 +62,7 @@ abbrev pub OpensNot : Setting → RunEnd → Type 0
 OpensNot p (run.Open opening) = first_of (open_faults p) ≡ Some opening
 OpensNot p (run.Run fault) = ⊥
 OpensNot p run.NoMemory = Unit {0}
+
+-- a session was given commands, one after the other, and answered them so
+abbrev pub ObeyedBy : SessionModel → List Command → List (Result Accepted Refusal) → SessionModel → Type 0
+ObeyedBy before commands answers after = Obeyed before.setting before.journal commands answers after.journal

@@ -18,7 +18,8 @@ fn read_some<R: Read>(reader: &mut R, block: &mut [u8], most: usize) -> io::Resu
     ensures most { IfOk result (λ n. n ≤ most) }
     ensures bound { ReadsAtMost result block.new }
     ensures room { length block.new ≡ length block.old }
-    ensures bytes { ReadConsumes (R.remaining reader.old) (R.remaining reader.new) result block.new }
+    ensures bytes { ReadConsumes (R.remaining reader.old) (R.remaining reader.new)
+        result block.new }
 {
     let room = most.min(block.len());
     reader.read(&mut block[..room])
@@ -26,8 +27,10 @@ fn read_some<R: Read>(reader: &mut R, block: &mut [u8], most: usize) -> io::Resu
 
 /// All bytes up to the end of the input, of which there may be [`MAX_INPUT`]. Reads at most a byte more.
 pub(crate) fn read_all<R: Read>(alloc: Global, reader: &mut R) -> Result<Vec<u8>, PlanFault>
-    ensures all { IfOk result (λ bytes. IsRead bytes.items (R.remaining reader.old) (R.remaining reader.new)) }
-    ensures fault { IfErr result (λ e. IsUnread e (R.remaining reader.old) (R.remaining reader.new)) }
+    ensures all { IfOk result (λ bytes.
+        IsRead bytes.items (R.remaining reader.old) (R.remaining reader.new)) }
+    ensures fault { IfErr result (λ e.
+        IsUnread e (R.remaining reader.old) (R.remaining reader.new)) }
 {
     let mut bytes = Vec::new(alloc);
     let mut block = [0u8; 8192];

@@ -3,7 +3,7 @@
 ghost use Rattle.std.specs.Prelude.{◌≡◌, All, IfOk};
 ghost use Rattle.std.specs.List.{count_by};
 ghost use Rattle.pcef_gateway.specs.Commanding.{FoundMemory};
-ghost use Rattle.pcef_run.specs.Runs.{Obeyed, is_accepted};
+ghost use Rattle.pcef_run.specs.Runs.{ObeyedBy, is_accepted};
 
 use pcef_gateway::Answer;
 use pcef_model::{Command, Refusal};
@@ -16,7 +16,7 @@ pub(crate) fn obey(
     session: &mut SessionState,
     commands: Vec<Command>,
 ) -> Result<Vec<Answer>, AllocError>
-    ensures answers { IfOk result (λ v. Obeyed session.old.setting session.old.journal commands.items v.items session.new.journal) }
+    ensures answers { IfOk result (λ v. ObeyedBy session.old commands.items v.items session.new) }
     ensures memory { IfOk result (λ v. All FoundMemory v.items) }
     ensures setting { session.new.setting ≡ session.old.setting }
 {

@@ -1,8 +1,7 @@
 //! What an input asks of a run.
 
-ghost use Rattle.std.specs.Prelude.{◌≡◌, ◌++◌, ◌∷◌, [], IfErr, List, OnOk, false, true};
-ghost use Rattle.pcef_line.specs.declared.line.Line.{Line};
-ghost use Rattle.pcef_run.specs.Plans.{IsPlanOf, command_line, fits, packet_line};
+ghost use Rattle.std.specs.Prelude.{◌≡◌, [], IfErr, OnOk, false, true};
+ghost use Rattle.pcef_run.specs.Plans.{AddsLine, IsPlanOf, command_line, fits, packet_line};
 ghost use Rattle.pcef_run.specs.declared.fault.Unfit.TheVariants.{AtFault};
 
 use crate::fault::Unfit;
@@ -35,7 +34,7 @@ impl Plan {
     }
 
     fn add_command(&mut self, command: Command) -> Result<(), AllocError>
-        ensures { (asked : List Line) → IsPlanOf asked self.old → OnOk result (IsPlanOf (asked ++ command_line command ∷ []) self.new) }
+        ensures { AddsLine (command_line command) self.old result self.new }
     {
         if self.arrivals.is_empty() {
             self.first.push(command)?;
@@ -46,7 +45,7 @@ impl Plan {
     }
 
     fn add_packet(&mut self, arrival: Arrival) -> Result<(), AllocError>
-        ensures { (asked : List Line) → IsPlanOf asked self.old → OnOk result (IsPlanOf (asked ++ packet_line arrival ∷ []) self.new) }
+        ensures { AddsLine (packet_line arrival) self.old result self.new }
     {
         self.arrivals.push(arrival)?;
         Ok(())
@@ -55,7 +54,7 @@ impl Plan {
     /// Adds what a line asks for, if it is a command or a packet for one of so many workers.
     pub(crate) fn add(&mut self, line: Line, workers: u8) -> Result<(), Unfit>
         ensures fits { OnOk result (fits workers line ≡ true) }
-        ensures plan { (asked : List Line) → IsPlanOf asked self.old → OnOk result (IsPlanOf (asked ++ line ∷ []) self.new) }
+        ensures plan { AddsLine line self.old result self.new }
         ensures unfit { IfErr result (λ e. e ≡ AtFault → fits workers line ≡ false) }
     {
         let added = match line {

@@ -1,6 +1,6 @@
 //! Reads the plan of a run.
 
-ghost use Rattle.std.specs.Prelude.{◌≡◌, ◌++◌, ◌∷◌, [], IfErr, IfOk, List, OnOk, Result, option_map, ℕ};
+ghost use Rattle.std.specs.Prelude.{◌≡◌, [], IfErr, IfOk, OnOk, Result, option_map};
 ghost use Rattle.std.specs.List.{list_all};
 ghost use Rattle.pcef_line.specs.LineValues.{Gives};
 ghost use Rattle.pcef_line.specs.declared.line.Line.{Line};
@@ -8,7 +8,7 @@ ghost use Rattle.pcef_line.specs.declared.fault.LineFault.{LineFault};
 ghost use Rattle.pcef_script.specs.ScriptAnswers.{LineDue};
 ghost use Rattle.pcef_script.specs.ScriptLines.{is_blank, is_space};
 ghost use Rattle.pcef_script.specs.Scripts.{all_lines};
-ghost use Rattle.pcef_run.specs.Plans.{ArePlanned, Asks, FailsIn, IsFirstLine, IsUnfit, Plans};
+ghost use Rattle.pcef_run.specs.Plans.{AddsBytes, ArePlanned, Asks, FailsIn, IsFirstLine, IsUnfit, Plans};
 ghost use Rattle.pcef_run.specs.declared.fault.Unfit.TheVariants.{AtFault};
 
 use crate::fault::{PlanFault, Unfit, unread};
@@ -70,7 +70,7 @@ fn plan_line(
     bytes: &[u8],
     workers: u8,
 ) -> Result<(), Unfit>
-    ensures planned { (lines : List (List ℕ)) → ArePlanned workers lines plan.old → OnOk result (ArePlanned workers (lines ++ bytes.now ∷ []) plan.new) }
+    ensures planned { AddsBytes workers bytes.now plan.old result plan.new }
     ensures unfit { IfErr result (λ e. e ≡ AtFault → IsUnfit workers bytes.now) }
 {
     if is_blank(bytes) {

@@ -1,10 +1,11 @@
 //! Runs a plan.
 
-ghost use Rattle.std.specs.Prelude.{◌≡◌, ◌≢◌, ℕ, [], IfErr, IfOk};
+ghost use Rattle.std.specs.Prelude.{◌≡◌, ◌≢◌, ℕ, IfErr, IfOk};
 ghost use Rattle.std.specs.Arc.{arc_value};
 ghost use Rattle.pcef_model.specs.Setting.{Setting};
 ghost use Rattle.pcef_model.specs.Terms.{setting_of};
 ghost use Rattle.pcef_gateway.specs.declared.fault.RunFault.TheVariants.{NoMemory as WantOfMemory};
+ghost use Rattle.pcef_session.specs.Answers.{IsOpened};
 ghost use Rattle.pcef_run.specs.declared.plan.Plan.{Plan};
 ghost use Rattle.pcef_run.specs.Runs.{EndsPlan, FailsRun, OpensNot, RunsPlan, accepted_of, commands_of};
 
@@ -46,7 +47,7 @@ impl Ran {
 }
 
 fn open<C: Offers>(alloc: Global, profile: Profile, catalog: &C) -> Result<SessionState, RunEnd>
-    ensures made { IfOk result (λ s. (s.setting ≡ setting_of profile (C.offers catalog.now)) × (s.journal ≡ [])) }
+    ensures made { IfOk result (IsOpened (setting_of profile (C.offers catalog.now))) }
     ensures fault { IfErr result (OpensNot (setting_of profile (C.offers catalog.now))) }
 {
     let Ok(listing) = catalog.listing().share() else {
@@ -60,7 +61,8 @@ fn open<C: Offers>(alloc: Global, profile: Profile, catalog: &C) -> Result<Sessi
 }
 
 fn run_fault(fault: RunFault) -> RunEnd
-    ensures { (p : Setting) (plan : Plan) (n : ℕ) → (fault ≢ WantOfMemory → FailsRun plan n fault) → EndsPlan p plan n result }
+    ensures { (p : Setting) (plan : Plan) (n : ℕ) → (fault ≢ WantOfMemory → FailsRun plan n fault)
+        → EndsPlan p plan n result }
 {
     match fault {
         RunFault::NoMemory => RunEnd::NoMemory,
@@ -80,8 +82,10 @@ pub fn run_plan<C: Detects + Drop + Send + Sync, R: Threads + Wait + Sync>(
     plan: Plan,
     workers: u8,
 ) -> Result<Ran, RunEnd>
-    ensures ran { IfOk result (RunsPlan (setting_of profile (C.offers (arc_value catalog))) plan workers) }
-    ensures fault { IfErr result (EndsPlan (setting_of profile (C.offers (arc_value catalog))) plan workers) }
+    ensures ran { IfOk result
+        (RunsPlan (setting_of profile (C.offers (arc_value catalog))) plan workers) }
+    ensures fault { IfErr result
+        (EndsPlan (setting_of profile (C.offers (arc_value catalog))) plan workers) }
 {
     let Plan {
         first,

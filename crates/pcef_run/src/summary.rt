@@ -10,7 +10,8 @@ use std::alloc::{AllocError, Global};
 
 /// Adds a word and a number.
 fn push_number(text: &mut String, word: &str, number: u64) -> Result<(), AllocError>
-    ensures { OnOk result (string_bytes text.new ≡ with_number (string_bytes text.old) word.now number) }
+    ensures { OnOk result (string_bytes text.new
+        ≡ with_number (string_bytes text.old) word.now number) }
 {
     text.push_str(word)?;
     write!(text, "{number}")

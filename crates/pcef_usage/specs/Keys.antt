@@ -1,5 +1,5 @@
 -- The counters of monitoring keys, in slot order.
-use Rattle.std.specs.Prelude.{ℕ, ◌+◌, ◌<◌, ◌^◌, Bool, false, true, List, [], ◌∷◌, ◌++◌, Option, Some, None, if◌then◌else◌, map, not, ◌&&◌, nat_le, length, zero, suc}
+use Rattle.std.specs.Prelude.{ℕ, ◌≡◌, ◌+◌, ◌<◌, ◌^◌, Bool, false, true, List, [], ◌∷◌, ◌++◌, Option, Some, None, MatchOption, if◌then◌else◌, map, not, ◌&&◌, nat_le, length, zero, suc}
 use Rattle.std.specs.List.{list_any, AllByRecursion}
 use Rattle.pcef_rule.specs.declared.quantity.Slot.{Slot}
 use Rattle.pcef_model.specs.Setting.{most_keys, same_name}
@@ -84,3 +84,24 @@ abbrev pub CanCount : Option Slot → ℕ → List KeyState → Type 0
 CanCount None octets states = Unit {0}
 CanCount (Some slot) octets states =
     (slot.0 < length states) × ((state_at slot.0 states).reported + (state_at slot.0 states).unreported + octets < 2 ^ 64)
+
+-- the key at a place can count so many octets more
+abbrev pub FitsMore : ℕ → ℕ → List KeyState → Type 0
+FitsMore n octets states = (state_at n states).reported + (state_at n states).unreported + octets < 2 ^ 64
+
+-- the states with this key on, and with this grant
+abbrev pub with_started : List ℕ → ℕ → List KeyState → List KeyState
+with_started key amount states = at_place (place_of key states) (started amount) states
+
+-- the slot of a key that has one, and none of another
+abbrev pub IsSlotOf : List ℕ → List KeyState → Option Slot → Type 0
+IsSlotOf key states slot =
+    MatchOption slot (has_slot key states ≡ false) (λ s. (has_slot key states ≡ true) × (s.0 ≡ place_of key states))
+
+-- the places of slots
+abbrev pub places_of : List Slot → List ℕ
+places_of slots = map (λ s. s.0) slots
+
+-- a place, where it is reached
+abbrev pub place_if : Bool → ℕ → List ℕ
+place_if is_reached place = if is_reached then place ∷ [] else []

@@ -1,6 +1,7 @@
 -- Reports that are told one after another, by what the counters say.
 use Rattle.std.specs.Prelude.{◌≡◌, ℕ, ◌+◌, Bool, true, false, List, [], ◌∷◌, map, None, if◌then◌else◌, ◌&&◌, filter}
 use Rattle.std.specs.List.{list_any, AllByRecursion}
+use Rattle.pcef_rule.specs.declared.quantity.Slot.{Slot}
 use Rattle.pcef_model.specs.declared.report.Body.{Body}
 use Rattle.pcef_model.specs.declared.report.Body.TheVariants as body
 use Rattle.pcef_model.specs.declared.report.Cause.TheVariants.{Threshold}
@@ -65,6 +66,22 @@ threshold_reports subscribed states = if subscribed then reached_reports states 
 
 abbrev pub settled_states : Bool → List KeyState → List KeyState
 settled_states subscribed states = if subscribed then map ungranted_if_reached states else states
+
+-- the journal, and the counters, after the thresholds that are reached are told
+abbrev pub with_thresholds : Bool → List KeyState → Journal → Journal
+with_thresholds subscribed states j = appended (threshold_reports subscribed states) (settled_states subscribed states) j
+
+abbrev pub thresholds_told : Bool → List KeyState → List KeyState
+thresholds_told subscribed states = states_told (threshold_reports subscribed states) (settled_states subscribed states)
+
+-- ---- for private clauses
+-- the reports of the keys of these slots
+abbrev pub thresholds_at : List Slot → List KeyState → List PendingReport
+thresholds_at slots states = map (λ s. threshold (state_at s.0 states).key) slots
+
+-- a journal with one report more
+abbrev pub with_report : PendingReport → List KeyState → Journal → Journal
+with_report t states j = entry.Report (record { number = report_count j; body = body_by states t }) ∷ j
 
 -- ---- agreement with the journal
 -- these take the grant of a key

@@ -1,12 +1,12 @@
 //! The journal, and the counters that go with it.
 
-ghost use Rattle.std.specs.Prelude.{◌≡◌, ◌<◌, ◌≤◌, ◌+◌, [], ◌∷◌, map, length, false, true, OnOk, Some, All};
+ghost use Rattle.std.specs.Prelude.{◌≡◌, ◌<◌, ◌≤◌, ◌+◌, [], ◌∷◌, length, false, true, OnOk, Some, All};
 ghost use Rattle.std.specs.Option.{option_copied};
 ghost use Rattle.pcef_model.specs.Commands.{is_among};
-ghost use Rattle.pcef_model.specs.Journals.{ends_grant, report_count};
+ghost use Rattle.pcef_model.specs.Journals.{ends_grant};
 ghost use Rattle.pcef_usage.specs.Counted.{IsEvent};
-ghost use Rattle.pcef_usage.specs.Keys.{CanCount, at_place, finds_no_slot, keys_of, place_of, reported_on, started, state_at, stopped, with_octets, with_slot};
-ghost use Rattle.pcef_usage.specs.PendingReports.{Knows, KnowsAll, after_stop, after_report, body_by, settled_states, threshold_reports, states_stopped, states_told, threshold, appended};
+ghost use Rattle.pcef_usage.specs.Keys.{CanCount, at_place, finds_no_slot, keys_of, place_of, reported_on, started, state_at, stopped, with_octets, with_slot, with_started};
+ghost use Rattle.pcef_usage.specs.PendingReports.{Knows, KnowsAll, after_stop, after_report, body_by, states_stopped, states_told, thresholds_at, thresholds_told, with_report, with_thresholds, appended};
 
 use crate::usage::{KeyState, Usage};
 use pcef_journal::Journal;
@@ -93,7 +93,7 @@ impl CountedJournal {
     pub fn start(&mut self, key: &KeyName, amount: u64)
         requires { is_among key.now (keys_of self.old.states) ≡ true }
         ensures journal { self.new.journal ≡ self.old.journal }
-        ensures states { self.new.states ≡ at_place (place_of key.now self.old.states) (started amount) self.old.states }
+        ensures states { self.new.states ≡ with_started key.now amount self.old.states }
         ensures room { self.new.room ≡ self.old.room }
     {
         start_key(&mut self.usage, key, amount);
@@ -115,7 +115,8 @@ impl CountedJournal {
     pub fn append_reports(&mut self, all_pending: &[PendingReport])
         requires known { KnowsAll (keys_of self.old.states) all_pending.now }
         requires room { length all_pending.now ≤ self.old.room }
-        ensures journal { self.new.journal ≡ appended all_pending.now self.old.states self.old.journal }
+        ensures journal { self.new.journal
+            ≡ appended all_pending.now self.old.states self.old.journal }
         ensures states { self.new.states ≡ states_told all_pending.now self.old.states }
         ensures room { self.old.room ≤ self.new.room + length all_pending.now }
     {
@@ -128,8 +129,9 @@ impl CountedJournal {
     /// are reached, and takes those grants. Takes no memory.
     pub fn report_thresholds(&mut self, subscribed: bool)
         requires { length self.old.states ≤ self.old.room }
-        ensures journal { self.new.journal ≡ appended (threshold_reports subscribed self.old.states) (settled_states subscribed self.old.states) self.old.journal }
-        ensures states { self.new.states ≡ states_told (threshold_reports subscribed self.old.states) (settled_states subscribed self.old.states) }
+        ensures journal { self.new.journal
+            ≡ with_thresholds subscribed self.old.states self.old.journal }
+        ensures states { self.new.states ≡ thresholds_told subscribed self.old.states }
         ensures room { self.old.room ≤ self.new.room + length self.old.states }
     {
         let reached = self.usage.settle(subscribed);
@@ -153,7 +155,8 @@ impl CountedJournal {
     fn tell(&mut self, pending: &PendingReport)
         requires known { Knows (keys_of self.old.states) pending.now }
         requires room { 0 < self.old.room }
-        ensures journal { self.new.journal ≡ Entry.Report (record { number = report_count self.old.journal; body = body_by self.old.states pending.now }) ∷ self.old.journal }
+        ensures journal { self.new.journal
+            ≡ with_report pending.now self.old.states self.old.journal }
         ensures states { self.new.states ≡ after_report pending.now self.old.states }
         ensures room { self.old.room ≤ self.new.room + 1 }
     {
@@ -165,8 +168,10 @@ impl CountedJournal {
     fn tell_reached(&mut self, reached: &[Slot])
         requires known { All (λ s. s.0 < length self.old.states) reached.now }
         requires room { length reached.now ≤ self.old.room }
-        ensures journal { self.new.journal ≡ appended (map (λ s. threshold (state_at s.0 self.old.states).key) reached.now) self.old.states self.old.journal }
-        ensures states { self.new.states ≡ states_told (map (λ s. threshold (state_at s.0 self.old.states).key) reached.now) self.old.states }
+        ensures journal { self.new.journal ≡ appended
+            (thresholds_at reached.now self.old.states) self.old.states self.old.journal }
+        ensures states { self.new.states
+            ≡ states_told (thresholds_at reached.now self.old.states) self.old.states }
         ensures room { self.old.room ≤ self.new.room + length reached.now }
     {
         for slot in reached {

@@ -1,7 +1,7 @@
 //! The counters of monitoring keys.
 
-ghost use Rattle.std.specs.Prelude.{◌≡◌, ◌<◌, ◌≤◌, ◌+◌, ◌^◌, ◌↔◌, [], ◌++◌, ◌∷◌, map, length, true, false, IfOk, IsErr, MatchOption, OnErr, OnOk, Some, if◌then◌else◌};
-ghost use Rattle.pcef_usage.specs.Keys.{added, at_place, finds_no_slot, fresh, has_slot, is_reached, place_of, reached_places, reported_on, started, state_at, stopped, ungranted_if_reached, with_slot};
+ghost use Rattle.std.specs.Prelude.{◌≡◌, ◌<◌, ◌≤◌, ◌+◌, ◌^◌, ◌↔◌, [], ◌++◌, ◌∷◌, map, length, true, false, IfOk, IsErr, OnErr, OnOk, Some, if◌then◌else◌};
+ghost use Rattle.pcef_usage.specs.Keys.{FitsMore, IsSlotOf, added, at_place, finds_no_slot, fresh, has_slot, is_reached, place_if, place_of, places_of, reached_places, reported_on, started, state_at, stopped, ungranted_if_reached, with_slot};
 
 use crate::vacant::{KeyStates, Vacant};
 use arrayvec::ArrayVec;
@@ -107,7 +107,8 @@ impl Model for Usage {
 
 fn note(reached: &mut ArrayVec<Slot, 8>, is_reached: bool, place: u8)
     requires { length reached.old.items < 8 }
-    ensures slots { map (λ s. s.0) reached.new.items ≡ map (λ s. s.0) reached.old.items ++ (if is_reached then place ∷ [] else []) }
+    ensures slots { places_of reached.new.items
+        ≡ places_of reached.old.items ++ place_if is_reached place }
     ensures few { length reached.new.items ≤ length reached.old.items + 1 }
 {
     if is_reached {
@@ -135,7 +136,7 @@ impl Usage {
 
     /// The slot of a key, if it has one.
     pub fn find(&self, key: &KeyName) -> Option<Slot>
-        ensures { MatchOption result (has_slot key.now self.now ≡ false) (λ s. (has_slot key.now self.now ≡ true) × (s.0 ≡ place_of key.now self.now)) }
+        ensures { IsSlotOf key.now self.now result }
     {
         for (place, state) in self.states().iter().enumerate() {
             if *key == state.key {
@@ -201,7 +202,7 @@ impl Usage {
     /// Counts octets for the key of a slot.
     pub fn count(&mut self, slot: Slot, octets: u32)
         requires known { slot.0 < length self.old }
-        requires fits { (state_at slot.0 self.old).reported + (state_at slot.0 self.old).unreported + octets < 2 ^ 64 }
+        requires fits { FitsMore slot.0 octets self.old }
         ensures { self.new ≡ at_place slot.0 (added octets) self.old }
     {
         let states = self.states.as_mut_slice();
@@ -222,8 +223,10 @@ impl Usage {
     /// While usage reports are subscribed, the slots whose grants are reached, in order: their grants are
     /// taken.
     pub fn settle(&mut self, subscribed: bool) -> ArrayVec<Slot, 8>
-        ensures slots { map (λ s. s.0) result.items ≡ (if subscribed then reached_places 0 self.old else []) }
-        ensures states { self.new ≡ (if subscribed then map ungranted_if_reached self.old else self.old) }
+        ensures slots { places_of result.items
+            ≡ (if subscribed then reached_places 0 self.old else []) }
+        ensures states { self.new
+            ≡ (if subscribed then map ungranted_if_reached self.old else self.old) }
     {
         let mut reached = ArrayVec::new();
         if !subscribed {
