@@ -6,7 +6,8 @@ ghost use Rattle.pcef_model.specs.Setting.{Setting};
 ghost use Rattle.pcef_script.specs.declared.fault.ScriptFault.TheVariants.{Write as WriteFault};
 ghost use Rattle.pcef_script.specs.ScriptAnswers.{AnswersLine, number_of};
 ghost use Rattle.pcef_world.specs.Steps.{standing_of};
-ghost use Rattle.pcef_script.specs.ScriptLines.{AppendsFront, has_feed, kept_of};
+ghost use Rattle.pcef_script.specs.ScriptLines.{has_feed, kept_of};
+ghost use Rattle.pcef_writing.specs.Writing.{AppendsFront};
 ghost use Rattle.pcef_script.specs.Running.{EndFails, EndsLine, IsAfter, StoppedIn, Stopped};
 
 use crate::fault::ScriptFault;

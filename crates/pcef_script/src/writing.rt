@@ -3,7 +3,7 @@
 ghost use Rattle.std.specs.Prelude.{◌≡◌, OnOk, IfErr};
 ghost use Rattle.std.specs.Io.KnownBytes.{Appends};
 ghost use Rattle.pcef_script.specs.declared.fault.ScriptFault.TheVariants.{Write as WriteFault};
-ghost use Rattle.pcef_script.specs.ScriptLines.{AppendsFront};
+ghost use Rattle.pcef_writing.specs.Writing.{AppendsFront};
 
 use crate::fault::ScriptFault;
 use std::io::Write;
@@ -14,13 +14,8 @@ pub fn put_all<W: Write>(writer: &mut W, bytes: &[u8]) -> Result<(), ScriptFault
     ensures all { OnOk result (Appends (W.contents writer.old) (W.contents writer.new) bytes.now) }
     ensures front { IfErr result (λ e. (e ≡ WriteFault) × AppendsFront (W.contents writer.old) (W.contents writer.new) bytes.now) }
 {
-    let mut rest = bytes;
-    while !rest.is_empty() {
-        match writer.write(rest) {
-            Ok(0) => return Err(ScriptFault::Write),
-            Ok(n) => rest = rest.split_at(n).1,
-            Err(_) => return Err(ScriptFault::Write),
-        }
+    match pcef_writing::put_all(writer, bytes) {
+        Ok(()) => Ok(()),
+        Err(_) => Err(ScriptFault::Write),
     }
-    Ok(())
 }
