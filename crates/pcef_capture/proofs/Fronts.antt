@@ -8,22 +8,13 @@ use Rattle.pcef_capture_file.specs.Captured.{Captured}
 use Rattle.pcef_capture.specs.Fates.{AreFates, Fate, items_of}
 use Rattle.pcef_capture.specs.Scripts.{last_flush, script_of}
 use Rattle.pcef_capture.specs.Turns.{WroteFrameFront, lines_if, rest_flush, turn_past}
-use Rattle.pcef_capture.specs.Writing.{AppendsFront, WritesFront}
+use Rattle.pcef_capture.specs.Writing.{WritesFront}
 use Rattle.pcef_capture.specs.declared.counts.Counts.{Counts}
 use Rattle.pcef_capture.specs.declared.turn.Turn.{Turn}
+use Rattle.pcef_writing.specs.Writing.{AppendsFront}
+use Rattle.pcef_writing.proofs.Fronts.{front_after, front_more}
 use Rattle.pcef_capture.proofs.Fates.{fates_both, fates_there}
 use Rattle.pcef_capture.proofs.Writings.{WroteSoFar, frame_there, items_more, lines_both, lines_from}
-
--- ---- some bytes
-pub front_none : (a : Option (List ℕ)) (xs : List ℕ) → AppendsFront a a xs
-front_none a xs = ([], xs, refl, Appends-nil a)
-
-front_more : (a b : Option (List ℕ)) (xs ys : List ℕ) → AppendsFront a b xs → AppendsFront a b (xs ++ ys)
-front_more a b xs ys h = (h.0, h.1 ++ ys, ap (λ t. t ++ ys) h.2 ∙ append_assoc h.0 h.1 ys, h.3)
-
-front_after : (a b c : Option (List ℕ)) (xs ys : List ℕ) → Appends a b xs → AppendsFront b c ys → AppendsFront a c (xs ++ ys)
-front_after a b c xs ys w h =
-    (xs ++ h.0, h.1, ap (λ t. xs ++ t) h.2 ∙ sym (append_assoc xs h.0 h.1), Appends-trans a b c xs h.0 w h.3)
 
 -- ---- the script begins with the lines for the first packets
 script_front : (workers : ℕ) (fates others : List Fate) → (rest : List ℕ) × (lines_from workers 0 (items_of fates) ++ rest ≡ script_of workers (items_of (fates ++ others)))

@@ -6,7 +6,7 @@ use Rattle.pcef_capture_file.specs.Captured.{Captured}
 use Rattle.pcef_capture.specs.Fates.{Fate, IsFate}
 use Rattle.pcef_capture.specs.Lines.{Item, flush_line, take_line}
 use Rattle.pcef_capture.specs.Scripts.{worker_of}
-use Rattle.pcef_capture.specs.Writing.{AppendsFront}
+use Rattle.pcef_writing.specs.Writing.{AppendsFront}
 use Rattle.pcef_capture.specs.declared.counts.Outcome.{Outcome}
 use Rattle.pcef_capture.specs.declared.turn.Turn.{Turn}
 

@@ -1,5 +1,5 @@
 -- What is written for the frames of a file.
-use Rattle.std.specs.Prelude.{◌≡◌, ◌++◌, ℕ, Bool, List, Option}
+use Rattle.std.specs.Prelude.{◌≡◌, ℕ, Bool, List, Option}
 use Rattle.std.specs.Io.KnownBytes.{Appends}
 use Rattle.pcef_packet.specs.declared.header.Addr.{Addr}
 use Rattle.pcef_capture_file.specs.Captured.{Captured}
@@ -7,15 +7,12 @@ use Rattle.pcef_capture.specs.Counting.{counts_of}
 use Rattle.pcef_capture.specs.Fates.{AreFates, Fate, items_of, outcomes_of}
 use Rattle.pcef_capture.specs.Scripts.{script_of}
 use Rattle.pcef_capture.specs.declared.counts.Counts.{Counts}
+use Rattle.pcef_writing.specs.Writing.{AppendsFront}
 
 -- the script for the packets that have a line, in the order of the frames; and every frame is counted
 abbrev pub WritesTakes : Addr → Bool → ℕ → List Captured → Option (List ℕ) → Option (List ℕ) → Counts → Type 0
 WritesTakes ue pads workers frames old new counts =
     (fates : List Fate) × AreFates ue pads frames fates × Appends old new (script_of workers (items_of fates)) × (counts ≡ counts_of (outcomes_of fates))
-
--- some of the bytes, from the first on, stand after what was written before
-abbrev pub AppendsFront : Option (List ℕ) → Option (List ℕ) → List ℕ → Type 0
-AppendsFront old new bytes = (front rest : List ℕ) × (bytes ≡ front ++ rest) × Appends old new front
 
 -- a front of the script for the packets that have a line
 abbrev pub WritesFront : Addr → Bool → ℕ → List Captured → Option (List ℕ) → Option (List ℕ) → Type 0

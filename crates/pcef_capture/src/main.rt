@@ -10,7 +10,6 @@ mod end;
 mod options;
 mod takes;
 mod turn;
-mod writing;
 
 use clap::{Error, error};
 use counts::Counts;

@@ -9,14 +9,15 @@ ghost use Rattle.pcef_capture_file.specs.Padding.{padded};
 ghost use Rattle.pcef_capture.specs.Fates.{filled_fate};
 ghost use Rattle.pcef_capture.specs.Lines.{dir_word, flush_line, take_line};
 ghost use Rattle.pcef_capture.specs.Turns.{flush_if, lines_at, rest_flush, taken_after, WroteFate, WroteFrame, WroteFrameFront};
-ghost use Rattle.pcef_capture.specs.Writing.{AppendsFront, WritesFront, WritesTakes};
+ghost use Rattle.pcef_capture.specs.Writing.{WritesFront, WritesTakes};
+ghost use Rattle.pcef_writing.specs.Writing.{AppendsFront};
 
 use crate::counts::{Counts, Outcome};
 use crate::options::Options;
 use crate::turn::Turn;
-use crate::writing::put_all;
 use pcef_capture_file::{Content, Packet, content_of, direction_of, padded};
 use pcef_packet::{Addr, Dir};
+use pcef_writing::put_all;
 use std::alloc::Global;
 use std::io::{self, Write};
 

@@ -10,18 +10,9 @@ use Rattle.pcef_script.specs.declared.fault.ScriptFault.{ScriptFault}
 use Rattle.pcef_script.specs.declared.fault.ScriptFault.TheVariants as fault
 use Rattle.pcef_script.specs.ScriptAnswers.{Answers, AnswersLine, answered, number_of}
 use Rattle.pcef_world.specs.Steps.{Standing, standing_of}
-use Rattle.pcef_script.specs.ScriptLines.{AppendsFront, is_blank}
+use Rattle.pcef_script.specs.ScriptLines.{is_blank}
+use Rattle.pcef_writing.specs.Writing.{AppendsFront}
 use Rattle.pcef_script.specs.Running.{EndFails, EndsLine}
-
--- ---- some bytes of a text
--- some bytes of a text are some of a longer one
-pub front_more : (a b : Option (List ℕ)) (xs ys : List ℕ) → AppendsFront a b xs → AppendsFront a b (xs ++ ys)
-front_more a b xs ys h = (h.0, h.1 ++ ys, ap (λ t. t ++ ys) h.2 ∙ append_assoc h.0 h.1 ys, h.3)
-
--- a text, and then some bytes of another one
-pub front_after : (a b c : Option (List ℕ)) (xs ys : List ℕ) → Appends a b xs → AppendsFront b c ys → AppendsFront a c (xs ++ ys)
-front_after a b c xs ys w h =
-    (xs ++ h.0, h.1, ap (λ t. xs ++ t) h.2 ∙ sym (append_assoc xs h.0 h.1), Appends-trans a b c xs h.0 w h.3)
 
 -- ---- lines
 pub answered_more : (lines more : List (List ℕ)) → answered (lines ++ more) ≡ answered lines ++ answered more

@@ -1,7 +1,7 @@
 -- The lines of a script while their bytes come, and answers that are written (own choice).
 use Rattle.std.specs.Prelude.{◌≡◌, ◌≢◌, ◌+◌, ◌==◌, ◌||◌, ◌&&◌, ℕ, nat_lt, Bool, true, false, not, List, [], ◌∷◌, ◌++◌, length, take, Option, Some, None, Result, Ok, Err, OnOk, if◌then◌else◌}
 use Rattle.std.specs.List.{list_all, list_any}
-use Rattle.std.specs.Io.KnownBytes.{Appends}
+pub use Rattle.pcef_writing.specs.Writing.{AppendsFront}
 use Rattle.pcef_script.specs.declared.fault.ScriptFault.{ScriptFault}
 use Rattle.pcef_script.specs.declared.fault.ScriptFault.TheVariants as fault
 
@@ -44,10 +44,6 @@ Takes byte line old (Ok false) new = (byte ≢ 10) × (new ≡ kept_of (line ++ 
 Takes byte line old (Err fault.TooMuch) new = new ≡ old
 Takes byte line old (Err fault.NoMemory) new = new ≡ old
 Takes byte line old (Err other) new = ⊥
-
--- some of the bytes, from the first on, stand after what was written before
-abbrev pub AppendsFront : Option (List ℕ) → Option (List ℕ) → List ℕ → Type 0
-AppendsFront old new bytes = (front rest : List ℕ) × (bytes ≡ front ++ rest) × Appends old new front
 
 -- the writer failed, and some of the bytes, from the first on, stand after what was written before
 abbrev pub WritesFront : Option (List ℕ) → Option (List ℕ) → List ℕ → ScriptFault → Type 0

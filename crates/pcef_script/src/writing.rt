@@ -14,13 +14,8 @@ pub fn put_all<W: Write>(writer: &mut W, bytes: &[u8]) -> Result<(), ScriptFault
     ensures front { IfErr result
         (WritesFront (W.contents writer.old) (W.contents writer.new) bytes.now) }
 {
-    let mut rest = bytes;
-    while !rest.is_empty() {
-        match writer.write(rest) {
-            Ok(0) => return Err(ScriptFault::Write),
-            Ok(n) => rest = rest.split_at(n).1,
-            Err(_) => return Err(ScriptFault::Write),
-        }
+    match pcef_writing::put_all(writer, bytes) {
+        Ok(()) => Ok(()),
+        Err(_) => Err(ScriptFault::Write),
     }
-    Ok(())
 }

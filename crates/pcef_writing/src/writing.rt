@@ -1,8 +1,8 @@
-//! Writes octets.
+//! Bytes that are written.
 
 ghost use Rattle.std.specs.Prelude.{OnErr, OnOk};
 ghost use Rattle.std.specs.Io.KnownBytes.{Appends};
-ghost use Rattle.pcef_capture.specs.Writing.{AppendsFront};
+ghost use Rattle.pcef_writing.specs.Writing.{AppendsFront};
 
 use std::io::{self, ErrorKind, Write};
 
