@@ -39,10 +39,14 @@ Refuses s command refusal = IsRefused s.setting s.journal command refusal
 abbrev pub KeepsPrepared : SessionModel → SessionModel → Type 0
 KeepsPrepared before after = (d : Prepared) → IsPreparedFor before d → IsPreparedFor after d
 
--- a prepared command is accepted: what is told of it and the journal after it are as due
+-- a command is accepted: what is told of it and the journal after it are as due
+abbrev pub DoesCommand : SessionModel → Command → Accepted → SessionModel → Type 0
+DoesCommand before command told after =
+    Gives (command_outcome before.setting before.journal command) (Ok told) after.journal
+
+-- so is a command that was prepared
 abbrev pub Settles : SessionModel → Prepared → Accepted → SessionModel → Type 0
-Settles before prepared told after =
-    Gives (command_outcome before.setting before.journal (command_of prepared)) (Ok told) after.journal
+Settles before prepared told after = DoesCommand before (command_of prepared) told after
 
 -- a command is answered as due, or for want of memory refused
 abbrev pub AnswersCommand : SessionModel → Command → Result Accepted Refusal → SessionModel → Type 0

@@ -3,5 +3,6 @@ pub mod Changes
 pub mod Entries
 pub mod Keys
 pub mod Parts
+pub mod Sessions
 pub mod Soundness
 pub mod TakenRows

@@ -1,19 +1,18 @@
 //! What an accepted command does to what a session keeps. Nothing here takes memory.
 
-ghost use Rattle.std.specs.Prelude.{◌≡◌, ◌||◌, ◌<◌, ◌≤◌, ◌+◌, ◌∷◌, filter, length, not, false, unwrap_or, Some};
+ghost use Rattle.std.specs.Prelude.{◌≡◌, ◌||◌, ◌<◌, ◌≤◌, ◌+◌, ◌∷◌, filter, length, false, unwrap_or, Some};
 ghost use Rattle.std.specs.Arc.{arc_value};
 ghost use Rattle.std.specs.List.{list_any};
 ghost use Rattle.std.specs.Option.{option_copied, option_map};
 ghost use Rattle.indexmap.specs.IndexMap.{insert_entry, spare};
-ghost use Rattle.pcef_model.specs.Commands.{takes_away};
 ghost use Rattle.pcef_model.specs.Setting.{same_name};
 ghost use Rattle.pcef_model.specs.Refusals.{is_close, is_terminate};
 ghost use Rattle.pcef_session.specs.Preparing.{IsBearerFor, IsBearerOf};
 ghost use Rattle.pcef_bearer.specs.Bindings as binding;
 ghost use Rattle.pcef_usage.specs.Commands.{subscribed_by};
 ghost use Rattle.pcef_usage.specs.Keys.{finds_no_slot, keys_of};
-ghost use Rattle.pcef_usage.specs.PendingReports.{KnowsAll, settled_states, threshold_reports, states_stopped, states_told, appended};
-ghost use Rattle.pcef_session.specs.private.Changes.{Binds, CanBind, IsBoundTo, IsRebound, active_after, entered_by, is_still_bound, key_of, rule_key};
+ghost use Rattle.pcef_usage.specs.PendingReports.{KnowsAll};
+ghost use Rattle.pcef_session.specs.private.Changes.{Binds, CanBind, IsBoundTo, IsRebound, active_after, counters_told, entered_by, is_still_bound, journal_told, key_of, rule_key};
 
 use crate::prepared::Activation;
 use indexmap::IndexMap;
@@ -37,9 +36,11 @@ pub(crate) fn rule_key(rule: Option<&Activation>) -> Option<KeyName>
 
 /// Gives the key that a command names a slot, and switches on that of a Monitor.
 fn enter_key(counted: &mut CountedJournal, command: &Command, of_rule: Option<&KeyName>)
-    requires { finds_no_slot (key_of (option_copied of_rule) command.now) counted.old.states ≡ false }
+    requires { finds_no_slot (key_of (option_copied of_rule) command.now)
+        counted.old.states ≡ false }
     ensures journal { counted.new.journal ≡ counted.old.journal }
-    ensures states { counted.new.states ≡ entered_by (option_copied of_rule.entry) command.now counted.old.states }
+    ensures states { counted.new.states
+        ≡ entered_by (option_copied of_rule.entry) command.now counted.old.states }
     ensures room { counted.new.room ≡ counted.old.room }
 {
     match command {
@@ -67,9 +68,11 @@ pub(crate) fn enter(counted: &mut CountedJournal, command: Command, of_rule: Opt
 pub(crate) fn tell(counted: &mut CountedJournal, all_pending: &[PendingReport], subscribed: bool)
     requires known { KnowsAll (keys_of counted.old.states) all_pending.now }
     requires room { length all_pending.now + length counted.old.states ≤ counted.old.room }
-    ensures journal { counted.new.journal ≡ appended (threshold_reports subscribed (states_told all_pending.now (states_stopped all_pending.now counted.old.states))) (settled_states subscribed (states_told all_pending.now (states_stopped all_pending.now counted.old.states))) (appended all_pending.now (states_stopped all_pending.now counted.old.states) counted.old.journal) }
-    ensures states { counted.new.states ≡ states_told (threshold_reports subscribed (states_told all_pending.now (states_stopped all_pending.now counted.old.states))) (settled_states subscribed (states_told all_pending.now (states_stopped all_pending.now counted.old.states))) }
-    ensures room { counted.old.room ≤ counted.new.room + length all_pending.now + length counted.old.states }
+    ensures journal { counted.new.journal ≡ journal_told subscribed all_pending.now counted.old }
+    ensures states { counted.new.states
+        ≡ counters_told subscribed all_pending.now counted.old.states }
+    ensures room { counted.old.room
+        ≤ counted.new.room + length all_pending.now + length counted.old.states }
 {
     counted.switch_off_reported(all_pending);
     counted.append_reports(all_pending);
@@ -102,7 +105,8 @@ pub(crate) fn terminated_by(command: &Command, old: bool) -> bool
 
 /// Holds the table that a command makes, or goes on holding the old one.
 pub(crate) fn keep_table(held: &mut Arc<Indexed>, made: Option<Arc<Indexed>>)
-    ensures { arc_value held.new ≡ unwrap_or (option_map (λ t. arc_value t) made) (arc_value held.old) }
+    ensures { arc_value held.new
+        ≡ unwrap_or (option_map (λ t. arc_value t) made) (arc_value held.old) }
 {
     if let Some(table) = made {
         *held = table;
@@ -126,7 +130,8 @@ fn keep_bound(active: &mut IndexMap<RuleName, Source>, bearers: &Bearers)
 {
     active.retain(
         |name: &RuleName, source: &mut Source| -> bool
-            ensures { (result ≡ list_any (binding.is_named name.now) bearers.entry.now.bound) × (source.new ≡ source.old) }
+            ensures { (result ≡ list_any (binding.is_named name.now) bearers.entry.now.bound)
+                × (source.new ≡ source.old) }
         { bearers.is_bound(name) },
     );
 }
@@ -134,7 +139,8 @@ fn keep_bound(active: &mut IndexMap<RuleName, Source>, bearers: &Bearers)
 /// Takes the rules away that a command takes away, and their bindings.
 fn take_away(active: &mut IndexMap<RuleName, Source>, bearers: &mut Bearers, command: &Command)
     ensures active { active.new.entries ≡ filter (is_still_bound bearers.new) active.old.entries }
-    ensures bearers { bearers.new ≡ binding.with_rules bearers.old (filter (λ b. not (takes_away command.now b.name b.bearer.0)) bearers.old.bound) }
+    ensures bearers { bearers.new
+        ≡ binding.with_rules bearers.old (binding.kept_by command.now bearers.old.bound) }
 {
     bearers.take_away(command);
     keep_bound(active, bearers);

@@ -40,7 +40,8 @@ impl Model for Batch {
 
     ghost use Rattle.pcef_session.specs.Following.{HasSmallRows};
 
-    ghost invariant = { λ b. (length b.items.items ≤ 32) × (32 ≤ vec_capacity b.items) × HasSmallRows b.items.items };
+    ghost invariant = { λ b. (length b.items.items ≤ 32) × (32 ≤ vec_capacity b.items)
+        × HasSmallRows b.items.items };
 }
 
 impl Batch {

@@ -1,12 +1,11 @@
 //! The keys that a command ends.
 
-ghost use Rattle.std.specs.Prelude.{◌≡◌, ◌&&◌, ◌++◌, ◌∷◌, [], All, OnOk, if◌then◌else◌, not};
+ghost use Rattle.std.specs.Prelude.{◌≡◌, ◌&&◌, ◌++◌, All, OnOk, not};
 ghost use Rattle.std.specs.List.{list_any};
 ghost use Rattle.std.specs.Option.{option_copied};
 ghost use Rattle.pcef_model.specs.ActiveRules.{is_key};
 ghost use Rattle.pcef_table.specs.Sources.{IsKnown};
-ghost use Rattle.pcef_usage.specs.Commands.{usage_of};
-ghost use Rattle.pcef_session.specs.private.Keys.{comes_named, comes_with, end_cause, entry_stays, has_key, is_ended, is_lost, some_entry, stays_with};
+ghost use Rattle.pcef_session.specs.private.Keys.{comes_named, comes_with, end_cause, ended_usage, usage_if, entry_stays, has_key, is_ended, is_lost, some_entry, stays_with};
 
 use crate::prepared::Activation;
 use pcef_catalog::Listing;
@@ -77,7 +76,8 @@ fn stays_with(
     key: &KeyName,
 ) -> bool
     requires { IsKnown listing.now entry.now.source }
-    ensures { result ≡ stays_with listing.now command.now (option_copied rule.entry) key.now entry.now }
+    ensures { result
+        ≡ stays_with listing.now command.now (option_copied rule.entry) key.now entry.now }
 {
     stays(entry, listing, command, rule)
         && is_key(key, entry.source.properties(listing).key.as_ref())
@@ -92,7 +92,8 @@ fn keeps_one(
     key: &KeyName,
 ) -> bool
     requires { All (λ e. IsKnown listing.now e.source) entries.now }
-    ensures { result ≡ list_any (stays_with listing.now command.now (option_copied rule.entry) key.now) entries.now }
+    ensures { result ≡ list_any
+        (stays_with listing.now command.now (option_copied rule.entry) key.now) entries.now }
 {
     for entry in entries {
         if stays_with(entry, listing, command, rule, key) {
@@ -111,7 +112,8 @@ fn is_lost(
     rule: Option<&Activation>,
 ) -> bool
     requires { All (λ e. IsKnown listing.now e.source) entries.now }
-    ensures { result ≡ is_lost listing.now entries.now command.now (option_copied rule.entry) state.now }
+    ensures { result
+        ≡ is_lost listing.now entries.now command.now (option_copied rule.entry) state.now }
 {
     state.on
         && has_key(entries, listing, &state.key)
@@ -128,7 +130,8 @@ fn is_ended(
     rule: Option<&Activation>,
 ) -> bool
     requires { All (λ e. IsKnown listing.now e.source) entries.now }
-    ensures { result ≡ is_ended listing.now entries.now command.now (option_copied rule.entry) state.now }
+    ensures { result
+        ≡ is_ended listing.now entries.now command.now (option_copied rule.entry) state.now }
 {
     match command {
         Command::Terminate => state.on || state.unreported > 0,
@@ -153,7 +156,8 @@ fn note(
     cause: Cause,
     is_ended: bool,
 ) -> Result<(), AllocError>
-    ensures { OnOk result (reports.new.items ≡ reports.old.items ++ (if is_ended then PendingReport.Usage state.now.key cause ∷ [] else [])) }
+    ensures { OnOk result (reports.new.items
+        ≡ reports.old.items ++ usage_if is_ended state.now cause) }
 {
     if is_ended {
         reports.push(PendingReport::Usage(state.key.copy(), cause))?;
@@ -171,7 +175,8 @@ pub(crate) fn add_ended_keys(
     rule: Option<&Activation>,
 ) -> Result<(), AllocError>
     requires { All (λ e. IsKnown listing.now e.source) entries.now }
-    ensures { OnOk result (reports.new.items ≡ reports.old.items ++ usage_of (end_cause command.now) (is_ended listing.now entries.now command.now (option_copied rule.entry)) states.now) }
+    ensures { OnOk result (reports.new.items ≡ reports.old.items
+        ++ ended_usage listing.now entries.now command.now (option_copied rule.entry) states.now) }
 {
     let cause = end_cause(command);
     for state in states {

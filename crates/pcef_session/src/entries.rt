@@ -1,8 +1,7 @@
 //! Entries of tables for rules that become active.
 
-ghost use Rattle.std.specs.Prelude.{◌≡◌, IfOk, None, Some};
+ghost use Rattle.std.specs.Prelude.{IfOk, None, Some};
 ghost use Rattle.pcef_bearer.specs.Bindings as binding;
-ghost use Rattle.pcef_model.specs.Refusals.{first_of};
 ghost use Rattle.pcef_session.specs.private.Entries.{IsEntryOn};
 
 use crate::keys::{is_on, slot_of};
@@ -15,8 +14,8 @@ use std::alloc::AllocError;
 
 /// The bearer of a rule that can be bound.
 pub(crate) fn bearer_for(bearers: &Bearers, rule: &Properties) -> BearerId
-    requires { first_of (binding.refusals bearers.now (binding.without rule.now.name bearers.now.bound) rule.now.qos rule.now.rates) ≡ None }
-    ensures { binding.id_excluding bearers.now.default_qos bearers.now.bound (binding.without rule.now.name bearers.now.bound) rule.now.qos ≡ Some result.0 }
+    requires { binding.IsAccepted bearers.now rule.now.name rule.now.qos rule.now.rates }
+    ensures { binding.GetsId bearers.now rule.now.name rule.now.qos result.0 }
 {
     match bearers.bearer_for(&rule.name, rule.qos) {
         Some(bearer) => bearer,

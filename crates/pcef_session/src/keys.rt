@@ -22,7 +22,8 @@ pub(crate) fn place_of(usage: &Usage, key: &KeyName) -> Slot
 
 /// The slot of a key, if there is one.
 pub(crate) fn slot_of(usage: &Usage, key: Option<&KeyName>) -> Option<Slot>
-    ensures { option_map (λ s. s.0) result ≡ option_map (λ k. place_of k usage.now) (option_copied key.entry) }
+    ensures { option_map (λ s. s.0) result
+        ≡ option_map (λ k. place_of k usage.now) (option_copied key.entry) }
 {
     match key {
         Some(key) => Some(place_of(usage, key)),

@@ -44,7 +44,8 @@ pub(crate) fn add_noticed(
     command: &Command,
     subscribed: TriggerSet,
 ) -> Result<(), AllocError>
-    ensures { OnOk result (reports.new.items ≡ reports.old.items ++ noticed_by subscribed command.now) }
+    ensures { OnOk result (reports.new.items
+        ≡ reports.old.items ++ noticed_by subscribed command.now) }
 {
     if let Command::Notice { kind, value } = command {
         if is_subscribed(subscribed, *kind) {

@@ -7,13 +7,13 @@ ghost use Rattle.pcef_bearer.specs.Standing.{binding_of};
 ghost use Rattle.pcef_model.specs.Outcomes.{AttachStep, Opens};
 ghost use Rattle.pcef_model.specs.Entries.{lane};
 ghost use Rattle.pcef_model.specs.Generations.{at_first};
-ghost use Rattle.pcef_model.specs.Journals.{gen, now};
+ghost use Rattle.pcef_model.specs.Journals.{gen};
 ghost use Rattle.pcef_model.specs.Lawful.{Lawful};
 ghost use Rattle.pcef_model.specs.Refusals.{attach_faults, first_of, open_faults, was_closed, was_terminated};
 ghost use Rattle.pcef_model.specs.Terms.{setting_of};
-ghost use Rattle.pcef_session.specs.Agreement.{AreKept, KeysAgree};
+ghost use Rattle.pcef_session.specs.Agreement.{KeysAgree};
+ghost use Rattle.pcef_session.specs.Answers.{AreActive, IsOpened, ShowsNewest, binding_now};
 ghost use Rattle.pcef_session.specs.SessionModel.{HasAtLeast};
-ghost use Rattle.pcef_session.specs.Shown.{Shows};
 
 use indexmap::IndexMap;
 use pcef_bearer::Bearers;
@@ -102,7 +102,7 @@ impl SessionState {
         listing: Listing,
     ) -> Result<SessionState, OpenFault>
         ensures answer { Opens (setting_of profile listing) (result_err result) }
-        ensures made { IfOk result (λ s. (s.setting ≡ setting_of profile listing) × (s.journal ≡ [])) }
+        ensures made { IfOk result (IsOpened (setting_of profile listing)) }
         ensures few_rows { IfOk result (λ s. s.setting.rows ≤ 4294967295) }
     {
         let bearers = match open_bearers(&profile) {
@@ -175,7 +175,7 @@ impl SessionState {
 
     /// The active rules by their names, in the order in which they became active.
     pub fn active(&self) -> &IndexMap<RuleName, Source>
-        ensures { AreKept self.now.setting.catalog result.now.entries (now self.now.setting self.now.journal).rules }
+        ensures { AreActive self.now result.now.entries }
     {
         &self.active
     }
@@ -183,7 +183,7 @@ impl SessionState {
     /// The bearers, and the rules that are bound to them: each active rule to the bearer of its QCI and
     /// ARP (TS 23.203, clause 6.1.1.4).
     pub fn bearers(&self) -> &Bearers
-        ensures { result.now ≡ binding_of self.now.setting (now self.now.setting self.now.journal) }
+        ensures { result.now ≡ binding_now self.now }
     {
         &self.bearers
     }
@@ -227,7 +227,7 @@ impl SessionState {
 
     /// The table of the newest generation, with its index.
     pub fn indexed(&self) -> &Arc<Indexed>
-        ensures { Shows self.now.setting self.now.journal (gen self.now.journal) (arc_value result.now) }
+        ensures { ShowsNewest self.now (arc_value result.now) }
     {
         &self.newest
     }

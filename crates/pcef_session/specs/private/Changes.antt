@@ -18,7 +18,10 @@ use Rattle.pcef_model.specs.declared.command.Command.TheVariants.{Monitor}
 use Rattle.pcef_model.specs.Setting.{same_name}
 use Rattle.pcef_table.specs.declared.entry.Source.{Source}
 use Rattle.pcef_usage.specs.declared.usage.KeyState.{KeyState}
+use Rattle.pcef_model.specs.Entries.{Journal}
+use Rattle.pcef_usage.specs.Counted.{Counted}
 use Rattle.pcef_usage.specs.Commands.{started_by}
+use Rattle.pcef_usage.specs.PendingReports.{appended, states_stopped, states_told, thresholds_told, with_thresholds}
 use Rattle.pcef_usage.specs.Keys.{with_slot}
 use Rattle.pcef_session.specs.declared.prepared.Activation.{Activation}
 use Rattle.std.specs.List.{list_any}
@@ -74,3 +77,16 @@ IsRebound None c old new bearer =
 abbrev pub inactive_by : List Bound → Command → List PendingReport
 inactive_by bound (LoseBearer id) = map Inactive (in_order (map (λ b. b.name) (rules_on id.0 bound)))
 inactive_by bound _ = []
+
+-- ---- what is told of a command
+-- the counters after what a command reports by itself
+abbrev pub states_reported : List PendingReport → List KeyState → List KeyState
+states_reported all_pending states = states_told all_pending (states_stopped all_pending states)
+
+-- the journal after that, and then the thresholds; and the counters
+abbrev pub journal_told : Bool → List PendingReport → Counted → Journal
+journal_told subscribed all_pending c =
+    with_thresholds subscribed (states_reported all_pending c.states) (appended all_pending (states_stopped all_pending c.states) c.journal)
+
+abbrev pub counters_told : Bool → List PendingReport → List KeyState → List KeyState
+counters_told subscribed all_pending states = thresholds_told subscribed (states_reported all_pending states)

@@ -1,5 +1,8 @@
 -- Keys that are on, keys that commands switch, and keys that lose their last rule.
-use Rattle.std.specs.Prelude.{nat_lt}
+use Rattle.std.specs.Prelude.{[], ◌∷◌, if◌then◌else◌, nat_lt}
+use Rattle.pcef_model.specs.declared.pending_report.PendingReport.{PendingReport}
+use Rattle.pcef_model.specs.declared.pending_report.PendingReport.TheVariants.{Usage}
+use Rattle.pcef_usage.specs.Commands.{usage_of}
 use Rattle.pcef_model.specs.declared.report.Cause.{Cause}
 use Rattle.pcef_model.specs.declared.report.Cause.TheVariants.{RulesGone, Terminated}
 use Rattle.pcef_model.specs.declared.command.Command.TheVariants.{Terminate}
@@ -67,6 +70,14 @@ end_cause _ = RulesGone
 abbrev pub is_ended : List Offer → List Entry → Command → Option Activation → KeyState → Bool
 is_ended offers entries Terminate x s = s.on || nat_lt 0 s.unreported
 is_ended offers entries c x s = is_lost offers entries c x s
+
+-- the reports of the keys that a command ends, slot by slot
+abbrev pub ended_usage : List Offer → List Entry → Command → Option Activation → List KeyState → List PendingReport
+ended_usage offers entries c x states = usage_of (end_cause c) (is_ended offers entries c x) states
+
+-- the report of a key, where it ends
+abbrev pub usage_if : Bool → KeyState → Cause → List PendingReport
+usage_if is_ended s cause = if is_ended then Usage s.key cause ∷ [] else []
 
 -- ---- the key that a command switches
 abbrev pub key_switched : Command → Option (List ℕ)

@@ -1,9 +1,10 @@
 //! Commands.
 
-ghost use Rattle.std.specs.Prelude.{◌≡◌, Ok, OnErr};
+ghost use Rattle.std.specs.Prelude.{◌≡◌, OnErr};
 ghost use Rattle.pcef_model.specs.declared.command.Command.TheVariants as of;
-ghost use Rattle.pcef_model.specs.Outcomes.{CommandStep, Gives, command_outcome};
-ghost use Rattle.pcef_session.specs.Preparing.{IsIdle, IsPreparedFor, IsReady, command_of};
+ghost use Rattle.pcef_model.specs.Outcomes.{CommandStep};
+ghost use Rattle.pcef_session.specs.Answers.{DoesCommand, Settles};
+ghost use Rattle.pcef_session.specs.Preparing.{IsIdle, IsPreparedFor, IsReady};
 ghost use Rattle.pcef_session.specs.SessionModel.{HasAtLeast};
 
 use super::SessionState;
@@ -18,7 +19,7 @@ impl SessionState {
     /// Does a command that changes something.
     fn change(&mut self, change: PreparedChange) -> Accepted
         requires { IsReady self.old change }
-        ensures answer { Gives (command_outcome self.old.setting self.old.journal change.command) (Ok result) self.new.journal }
+        ensures answer { DoesCommand self.old change.command result self.new }
         ensures setting { self.new.setting ≡ self.old.setting }
     {
         let PreparedChange {
@@ -49,7 +50,7 @@ impl SessionState {
     /// What is answered to an Activate of an active rule.
     fn unchanged(&self, name: &RuleName) -> Accepted
         requires { IsIdle self.now name.now }
-        ensures { Gives (command_outcome self.now.setting self.now.journal (of.Activate name.now)) (Ok result) self.now.journal }
+        ensures { DoesCommand self.now (of.Activate name.now) result self.now }
     {
         let reports = self.counted.journal().reports_len();
         Accepted {
@@ -64,7 +65,7 @@ impl SessionState {
     /// Does what was prepared since the session last changed. Takes no memory.
     pub fn settle(&mut self, prepared: Prepared) -> Accepted
         requires { IsPreparedFor self.old prepared }
-        ensures answer { Gives (command_outcome self.old.setting self.old.journal (command_of prepared)) (Ok result) self.new.journal }
+        ensures answer { Settles self.old prepared result self.new }
         ensures setting { self.new.setting ≡ self.old.setting }
     {
         match prepared {
@@ -76,7 +77,8 @@ impl SessionState {
     /// Does a command, or answers the first refusal in the order of [`Refusal`], which changes nothing, and
     /// leaves no less room.
     pub fn command(&mut self, command: Command) -> Result<Accepted, Refusal>
-        ensures answer { CommandStep self.old.setting command self.old.journal result self.new.journal }
+        ensures answer { CommandStep self.old.setting command
+            self.old.journal result self.new.journal }
         ensures setting { self.new.setting ≡ self.old.setting }
         ensures room { OnErr result (HasAtLeast self.old.room self.new.room) }
     {

@@ -1,13 +1,13 @@
 //! Rows that are taken over.
 
 ghost use Rattle.std.specs.Prelude.{◌≡◌, ◌≤◌, ◌+◌, IfOk, OnErr, OnOk, length, map};
-ghost use Rattle.std.specs.Result.{result_map_both};
 ghost use Rattle.pcef_model.specs.Entries.{rows};
 ghost use Rattle.pcef_model.specs.Reports.{after_flush};
-ghost use Rattle.pcef_model.specs.Outcomes.{FlushStep, flush_answer, flush_answer_of};
+ghost use Rattle.pcef_model.specs.Outcomes.{flush_answer, flush_answer_of};
+ghost use Rattle.pcef_session.specs.Answers.{AnswersFlush, MayFollow};
 ghost use Rattle.pcef_session.specs.Following.{HasItsSlots, HasSmallRows, row_of};
 ghost use Rattle.pcef_session.specs.SessionModel.{HasAtLeast};
-ghost use Rattle.pcef_model.specs.Lawful.{BatchFollows};
+ghost use Rattle.pcef_session.specs.private.Sessions.{AcceptsRows};
 ghost use Rattle.pcef_model.specs.Refusals.{first_of, flush_refusals};
 
 use super::SessionState;
@@ -27,7 +27,8 @@ fn rows_of(profile: &Profile) -> u64
 impl SessionState {
     /// Why rows of a worker aren't taken over, want of memory aside.
     fn flush_refusal(&self, worker: u8, count: usize) -> Option<FlushRefusal>
-        ensures { result ≡ first_of (flush_refusals self.now.setting self.now.journal worker count) }
+        ensures { result
+            ≡ first_of (flush_refusals self.now.setting self.now.journal worker count) }
     {
         if !self.is_attached(worker) {
             return Some(FlushRefusal::NotAttached);
@@ -47,12 +48,14 @@ impl SessionState {
     /// Adds rows to the journal, counts their octets and tells the thresholds, or changes nothing that can
     /// be seen but room where there is no memory for them.
     fn take_over(&mut self, worker: u8, items: &[Item]) -> Result<Verdicts, AllocError>
-        requires accepted { first_of (flush_refusals self.old.setting self.old.journal worker (length items.now)) ≡ None }
-        requires follow { BatchFollows self.old.setting self.old.journal worker (map row_of items.now) }
+        requires accepted { AcceptsRows self.old worker (length items.now) }
+        requires follow { MayFollow self.old worker items.now }
         requires slots { HasItsSlots self.old.setting self.old.journal items.now }
         requires octets { HasSmallRows items.now }
-        ensures flush_answer { IfOk result (λ v. flush_answer_of v ≡ flush_answer (map row_of items.now) self.old.journal self.new.journal) }
-        ensures taken { OnOk result (self.new.journal ≡ after_flush self.old.setting self.old.journal (map row_of items.now)) }
+        ensures flush_answer { IfOk result (λ v. flush_answer_of v
+            ≡ flush_answer (map row_of items.now) self.old.journal self.new.journal) }
+        ensures taken { OnOk result (self.new.journal
+            ≡ after_flush self.old.setting self.old.journal (map row_of items.now)) }
         ensures kept { OnErr result (self.new.journal ≡ self.old.journal) }
         ensures setting { self.new.setting ≡ self.old.setting }
         ensures room { OnErr result (HasAtLeast self.old.room self.new.room) }
@@ -75,9 +78,9 @@ impl SessionState {
     /// rows, their verdicts and the reports. Refused, in this order, where the worker isn't attached, where the
     /// journal would hold more rows than the profile allows, and for want of memory; a refusal leaves no less room.
     pub fn flush(&mut self, worker: u8, batch: &Batch) -> Result<Verdicts, FlushRefusal>
-        requires follow { BatchFollows self.old.setting self.old.journal worker (map row_of batch.now) }
+        requires follow { MayFollow self.old worker batch.now }
         requires slots { HasItsSlots self.old.setting self.old.journal batch.now }
-        ensures answer { FlushStep self.old.setting worker (map row_of batch.now) self.old.journal (result_map_both flush_answer_of (λ e. e) result) self.new.journal }
+        ensures answer { AnswersFlush self.old worker batch.now result self.new }
         ensures setting { self.new.setting ≡ self.old.setting }
         ensures room { OnErr result (HasAtLeast self.old.room self.new.room) }
     {

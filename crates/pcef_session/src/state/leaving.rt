@@ -1,14 +1,12 @@
 //! Workers that leave.
 
-ghost use Rattle.std.specs.Prelude.{◌≡◌, ◌≤◌, ◌<◌, MatchOption, OnErr, map, true};
-ghost use Rattle.std.specs.Result.{result_map_both};
-ghost use Rattle.pcef_lane.specs.Lanes.{lane_end};
-ghost use Rattle.pcef_model.specs.Outcomes.{FinishStep, abandon_outcome, finish_answer_of};
-ghost use Rattle.pcef_model.specs.Journals.{attach_count, lane_len};
-ghost use Rattle.pcef_model.specs.Lawful.{BatchFollows};
+ghost use Rattle.std.specs.Prelude.{◌≡◌, OnErr, true};
+ghost use Rattle.pcef_model.specs.Outcomes.{abandon_outcome};
+ghost use Rattle.pcef_model.specs.Journals.{lane_len};
 ghost use Rattle.pcef_model.specs.Refusals.{is_attached};
 ghost use Rattle.pcef_model.specs.Reports.{after_leave};
-ghost use Rattle.pcef_session.specs.Following.{HasItsSlots, row_of};
+ghost use Rattle.pcef_session.specs.Answers.{AnswersFinish, IsLaneEnd, MayFollow};
+ghost use Rattle.pcef_session.specs.Following.{HasItsSlots};
 ghost use Rattle.pcef_session.specs.SessionModel.{HasAtLeast};
 
 use super::SessionState;
@@ -19,7 +17,7 @@ use pcef_model::{Entry, FlushRefusal, Verdicts};
 impl SessionState {
     /// Where a worker's lane ends, and whether the worker is attached; or `None` of a worker that never came.
     pub fn lane_end(&self, worker: u8) -> Option<LaneEnd>
-        ensures { MatchOption result (attach_count self.now.journal ≤ worker) (λ end. (worker < attach_count self.now.journal) × (end ≡ lane_end self.now.journal worker)) }
+        ensures { IsLaneEnd self.now.journal worker result }
     {
         self.lanes.get(worker).copied()
     }
@@ -51,9 +49,9 @@ impl SessionState {
     /// Takes over a worker's last rows and lets it leave. Gives the length of its lane too. Takes memory, and is
     /// refused, as [`SessionState::flush`]; a refusal changes nothing, and the worker stays attached.
     pub fn finish(&mut self, worker: u8, batch: &Batch) -> Result<(Verdicts, u64), FlushRefusal>
-        requires follow { BatchFollows self.old.setting self.old.journal worker (map row_of batch.now) }
+        requires follow { MayFollow self.old worker batch.now }
         requires slots { HasItsSlots self.old.setting self.old.journal batch.now }
-        ensures answer { FinishStep self.old.setting worker (map row_of batch.now) self.old.journal (result_map_both finish_answer_of (λ e. e) result) self.new.journal }
+        ensures answer { AnswersFinish self.old worker batch.now result self.new }
         ensures setting { self.new.setting ≡ self.old.setting }
         ensures room { OnErr result (HasAtLeast self.old.room self.new.room) }
     {

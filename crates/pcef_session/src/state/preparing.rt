@@ -3,18 +3,15 @@
 ghost use Rattle.std.specs.Prelude.{◌≡◌, ◌++◌, ◌+◌, ◌≤◌, ◌<◌, IfErr, IfNone, IfOk, IfSome, None, OnOk, Some, length, true};
 ghost use Rattle.std.specs.Arc.{arc_value};
 ghost use Rattle.std.specs.Option.{option_copied, option_map};
-ghost use Rattle.pcef_model.specs.ActiveRules.{predefined};
-ghost use Rattle.pcef_model.specs.Outcomes.{IsRefused, changes};
+ghost use Rattle.pcef_model.specs.Outcomes.{changes};
 ghost use Rattle.pcef_model.specs.Commands.{activated, is_table};
-ghost use Rattle.pcef_model.specs.declared.command.Command.TheVariants as of;
 ghost use Rattle.pcef_model.specs.Journals.{attached, now};
-ghost use Rattle.pcef_model.specs.Refusals.{first_of, is_active, refusals};
-ghost use Rattle.pcef_model.specs.Reports.{after_command, ended, inactive, plan};
-ghost use Rattle.pcef_model.specs.Setting.{offer_named};
-ghost use Rattle.pcef_session.specs.declared.prepared.Prepared.{Prepared};
-ghost use Rattle.pcef_session.specs.Preparing.{Activates, GetsBearer, IsPreparedFor, IsReady, IsTableAfter, command_of};
+ghost use Rattle.pcef_model.specs.Reports.{ended, inactive, plan};
+ghost use Rattle.pcef_session.specs.Answers.{KeepsPrepared, Refuses};
+ghost use Rattle.pcef_session.specs.Preparing.{GetsBearer, IsPreparedFor, IsReady, command_of};
 ghost use Rattle.pcef_session.specs.private.Entries.{ShowsNext};
 ghost use Rattle.pcef_session.specs.private.Keys.{key_switched};
+ghost use Rattle.pcef_session.specs.private.Sessions.{Accepts, ActivatesAgain, IsNextTable, MakesActive, Offers};
 ghost use Rattle.pcef_session.specs.SessionModel.{HasAtLeast};
 
 use super::SessionState;
@@ -49,7 +46,7 @@ fn share(
 impl SessionState {
     /// The predefined rule of a name, if there is one.
     pub(super) fn offered(&self, name: &RuleName) -> Option<Activation>
-        ensures { Activates self.now.setting (option_map predefined (offer_named self.now.setting name.now)) result }
+        ensures { Offers self.now name.now result }
     {
         match self.listing.index_of(name) {
             Some(index) => Some(Activation {
@@ -62,7 +59,7 @@ impl SessionState {
 
     /// The rule that a command makes active.
     fn activation(&self, command: &Command) -> Result<Option<Activation>, AllocError>
-        ensures { IfOk result (λ x. Activates self.now.setting (activated self.now.setting command.now) x) }
+        ensures { IfOk result (λ x. MakesActive self.now command.now x) }
     {
         match command {
             Command::Install(rule) => Ok(Some(Activation {
@@ -76,9 +73,9 @@ impl SessionState {
 
     /// The bearer that the rule gets which a command makes active.
     fn bearer_for_rule(&self, command: &Command, rule: Option<&Activation>) -> Option<BearerId>
-        requires accepted { first_of (refusals self.now.setting self.now.journal command.now) ≡ None }
+        requires accepted { Accepts self.now command.now }
         requires changing { changes self.now.setting self.now.journal command.now ≡ true }
-        requires rule { Activates self.now.setting (activated self.now.setting command.now) (option_copied rule) }
+        requires rule { MakesActive self.now command.now (option_copied rule) }
         ensures { GetsBearer self.now.setting self.now.journal (option_copied rule.entry) result }
     {
         match rule {
@@ -94,10 +91,11 @@ impl SessionState {
         rule: &Activation,
         bearer: BearerId,
     ) -> Result<Table, AllocError>
-        requires accepted { first_of (refusals self.now.setting self.now.journal command.now) ≡ None }
+        requires accepted { Accepts self.now command.now }
         requires changing { changes self.now.setting self.now.journal command.now ≡ true }
-        requires rule { Activates self.now.setting (activated self.now.setting command.now) (Some rule.now) }
-        requires bearer { GetsBearer self.now.setting self.now.journal (Some rule.now) (Some bearer) }
+        requires rule { MakesActive self.now command.now (Some rule.now) }
+        requires bearer { GetsBearer self.now.setting self.now.journal
+            (Some rule.now) (Some bearer) }
         ensures { IfOk result (λ t. ShowsNext self.now.setting self.now.journal command.now t) }
     {
         let entry = entry_of(self.counted.usage(), rule, bearer)?;
@@ -106,7 +104,7 @@ impl SessionState {
 
     /// The table where the key that a command switches counts, or doesn't.
     fn table_switched(&self, command: &Command, key: &KeyName) -> Result<Table, AllocError>
-        requires accepted { first_of (refusals self.now.setting self.now.journal command.now) ≡ None }
+        requires accepted { Accepts self.now command.now }
         requires switched { key_switched command.now ≡ Some key.now }
         ensures { IfOk result (λ t. ShowsNext self.now.setting self.now.journal command.now t) }
     {
@@ -131,9 +129,9 @@ impl SessionState {
         rule: Option<&Activation>,
         bearer: Option<BearerId>,
     ) -> Result<Table, AllocError>
-        requires accepted { first_of (refusals self.now.setting self.now.journal command.now) ≡ None }
+        requires accepted { Accepts self.now command.now }
         requires changing { changes self.now.setting self.now.journal command.now ≡ true }
-        requires rule { Activates self.now.setting (activated self.now.setting command.now) (option_copied rule) }
+        requires rule { MakesActive self.now command.now (option_copied rule) }
         requires bearer { GetsBearer self.now.setting self.now.journal (option_copied rule) bearer }
         requires table { is_table command.now ≡ true }
         ensures { IfOk result (λ t. ShowsNext self.now.setting self.now.journal command.now t) }
@@ -157,11 +155,11 @@ impl SessionState {
         rule: Option<&Activation>,
         bearer: Option<BearerId>,
     ) -> Result<Option<Table>, AllocError>
-        requires accepted { first_of (refusals self.now.setting self.now.journal command.now) ≡ None }
+        requires accepted { Accepts self.now command.now }
         requires changing { changes self.now.setting self.now.journal command.now ≡ true }
-        requires rule { Activates self.now.setting (activated self.now.setting command.now) (option_copied rule) }
+        requires rule { MakesActive self.now command.now (option_copied rule) }
         requires bearer { GetsBearer self.now.setting self.now.journal (option_copied rule) bearer }
-        ensures { IfOk result (λ t. IsTableAfter self.now.setting (after_command self.now.setting self.now.journal command.now) command.now t) }
+        ensures { IfOk result (λ t. IsNextTable self.now command.now t) }
     {
         if command.is_table() {
             Ok(Some(self.table_made(command, rule, bearer)?))
@@ -172,7 +170,8 @@ impl SessionState {
 
     /// The reports of the rules that a command takes away with their bearer.
     fn inactive(&self, command: &Command) -> Result<Vec<PendingReport>, AllocError>
-        ensures { IfOk result (λ v. v.items ≡ inactive (now self.now.setting self.now.journal) command.now) }
+        ensures { IfOk result (λ v. v.items
+            ≡ inactive (now self.now.setting self.now.journal) command.now) }
     {
         inactive(self.alloc, self.bearers.bound(), command)
     }
@@ -184,8 +183,9 @@ impl SessionState {
         command: &Command,
         rule: Option<&Activation>,
     ) -> Result<(), AllocError>
-        requires rule { Activates self.now.setting (activated self.now.setting command.now) (option_copied rule) }
-        ensures { OnOk result (reports.new.items ≡ reports.old.items ++ ended self.now.setting self.now.journal command.now) }
+        requires rule { MakesActive self.now command.now (option_copied rule) }
+        ensures { OnOk result (reports.new.items
+            ≡ reports.old.items ++ ended self.now.setting self.now.journal command.now) }
     {
         add_ended_keys(
             reports,
@@ -203,7 +203,7 @@ impl SessionState {
         command: &Command,
         rule: Option<&Activation>,
     ) -> Result<Vec<PendingReport>, AllocError>
-        requires rule { Activates self.now.setting (activated self.now.setting command.now) (option_copied rule) }
+        requires rule { MakesActive self.now command.now (option_copied rule) }
         ensures { IfOk result (λ v. v.items ≡ plan self.now.setting self.now.journal command.now) }
     {
         let mut reports = self.inactive(command)?;
@@ -215,8 +215,9 @@ impl SessionState {
 
     /// The name of the active rule that a command activates again.
     fn active_already(&self, command: &Command) -> Option<RuleName>
-        ensures changing { IfNone result (changes self.now.setting self.now.journal command.now ≡ true) }
-        ensures active { IfSome result (λ name. (command.now ≡ of.Activate name) × (is_active self.now.setting self.now.journal name ≡ true)) }
+        ensures changing { IfNone result
+            (changes self.now.setting self.now.journal command.now ≡ true) }
+        ensures active { IfSome result (λ name. ActivatesAgain self.now command.now name) }
     {
         match command {
             Command::Activate(name) => {
@@ -236,7 +237,8 @@ impl SessionState {
         ensures setting { self.new.setting ≡ self.old.setting }
         ensures journal { self.new.journal ≡ self.old.journal }
         ensures room { HasAtLeast self.old.room self.new.room }
-        ensures entries { OnOk result (length reports.now + 9 + length (attached self.old.journal) ≤ self.new.room.entries) }
+        ensures entries { OnOk result (length reports.now + 9 + length (attached self.old.journal)
+            ≤ self.new.room.entries) }
         ensures rules { OnOk result (0 < self.new.room.rules) }
     {
         self.active.reserve(1)?;
@@ -246,7 +248,7 @@ impl SessionState {
 
     /// Takes all memory that an accepted command needs, and changes nothing that can be seen but room.
     fn ready(&mut self, command: Command) -> Result<PreparedChange, AllocError>
-        requires accepted { first_of (refusals self.old.setting self.old.journal command) ≡ None }
+        requires accepted { Accepts self.old command }
         requires changing { changes self.old.setting self.old.journal command ≡ true }
         ensures setting { self.new.setting ≡ self.old.setting }
         ensures journal { self.new.journal ≡ self.old.journal }
@@ -279,10 +281,10 @@ impl SessionState {
         ensures setting { self.new.setting ≡ self.old.setting }
         ensures journal { self.new.journal ≡ self.old.journal }
         ensures room { HasAtLeast self.old.room self.new.room }
-        ensures refused { IfErr result (IsRefused self.old.setting self.old.journal command) }
+        ensures refused { IfErr result (Refuses self.old command) }
         ensures ready { IfOk result (λ d. IsPreparedFor self.new d) }
         ensures command { IfOk result (λ d. command_of d ≡ command) }
-        ensures others { (d : Prepared) → IsPreparedFor self.old d → IsPreparedFor self.new d }
+        ensures others { KeepsPrepared self.old self.new }
     {
         if let Some(refusal) = self.refusal(&command) {
             return Err(refusal);

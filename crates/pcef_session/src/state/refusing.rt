@@ -1,16 +1,14 @@
 //! Why commands are refused.
 
-ghost use Rattle.std.specs.Prelude.{◌≡◌, ◌==◌, ◌&&◌, ◌∷◌, [], Some, if◌then◌else◌, false, is_none, is_some, length, nat_le, not};
+ghost use Rattle.std.specs.Prelude.{◌≡◌, ◌==◌};
 ghost use Rattle.std.specs.List.{list_any};
 ghost use Rattle.std.specs.Option.{option_copied};
-ghost use Rattle.pcef_model.specs.ActiveRules.{without};
 ghost use Rattle.pcef_model.specs.Journals.{now, slots};
-ghost use Rattle.pcef_model.specs.Setting.{most_rules, offer_named};
 ghost use Rattle.pcef_usage.specs.Keys.{finds_no_slot as slotless, has_slot};
-ghost use Rattle.pcef_model.specs.declared.answer.Refusal.TheVariants as refusal;
 ghost use Rattle.pcef_model.specs.Commands.{is_among};
 ghost use Rattle.pcef_model.specs.declared.command.Command.TheVariants as of;
-ghost use Rattle.pcef_model.specs.Refusals.{becoming_active, becoming_active_if, bindings, common_refusals, ended, finds_no_slot, first_of, first_refusals, is_active, is_bearer, limited_count, own_refusals, refusals, was_closed, was_terminated};
+ghost use Rattle.pcef_model.specs.Refusals.{becoming_active, common_refusals, ended, finds_no_slot, first_of, first_refusals, is_active, is_bearer, refusals};
+ghost use Rattle.pcef_session.specs.private.Sessions.{TellsFull, binding_refusal, finds_no_place, install_refusal, own_refusal};
 
 use super::{MAX_RULES, SessionState};
 use crate::keys::is_on;
@@ -53,7 +51,7 @@ fn has_slot(usage: &Usage, key: &KeyName) -> bool
 impl SessionState {
     /// Whether the journal holds as many commands as the profile allows.
     fn is_full(&self) -> bool
-        ensures { was_closed self.now.journal ≡ false → was_terminated self.now.journal ≡ false → result ≡ nat_le self.now.setting.commands (limited_count self.now.journal) }
+        ensures { TellsFull self.now result }
     {
         self.counted.journal().commands_len() >= commands_of(&self.profile)
     }
@@ -105,7 +103,8 @@ impl SessionState {
     }
 
     fn finds_no_slot(&self, key: Option<&KeyName>) -> bool
-        ensures { result ≡ finds_no_slot self.now.setting self.now.journal (option_copied key.entry) }
+        ensures { result
+            ≡ finds_no_slot self.now.setting self.now.journal (option_copied key.entry) }
     {
         finds_no_slot(self.counted.usage(), key)
     }
@@ -118,14 +117,14 @@ impl SessionState {
 
     /// Whether a rule is new, and there is no place for one more.
     fn finds_no_place(&self, name: &RuleName) -> bool
-        ensures { result ≡ (not (is_active self.now.setting self.now.journal name.now) && nat_le most_rules (length (now self.now.setting self.now.journal).rules)) }
+        ensures { result ≡ finds_no_place self.now name.now }
     {
         !self.is_active(name) && self.active.len() >= MAX_RULES
     }
 
     /// Why a rule can't be bound.
     fn bind_refusal(&self, rule: &Properties) -> Option<Refusal>
-        ensures { result ≡ first_of (bindings self.now.setting (now self.now.setting self.now.journal) rule.now (without rule.now.name (now self.now.setting self.now.journal).rules)) }
+        ensures { result ≡ binding_refusal self.now rule.now }
     {
         self.bearers.refusal(&rule.name, rule.qos, rule.rates)
     }
@@ -144,7 +143,7 @@ impl SessionState {
     }
 
     fn install_refusal(&self, rule: &Properties) -> Option<Refusal>
-        ensures { result ≡ first_of ((is_some (offer_named self.now.setting rule.now.name), refusal.NameIsPredefined) ∷ becoming_active self.now.setting self.now.journal rule.now) }
+        ensures { result ≡ install_refusal self.now rule.now }
     {
         if let Some(_rule) = self.offered(&rule.name) {
             return Some(Refusal::NameIsPredefined);
@@ -153,7 +152,7 @@ impl SessionState {
     }
 
     fn activate_refusal(&self, name: &RuleName) -> Option<Refusal>
-        ensures { result ≡ first_of ((is_none (offer_named self.now.setting name.now), refusal.UnknownRule) ∷ (if is_active self.now.setting self.now.journal name.now then [] else becoming_active_if self.now.setting self.now.journal (offer_named self.now.setting name.now))) }
+        ensures { result ≡ own_refusal self.now (of.Activate name.now) }
     {
         let Some(rule) = self.offered(name) else {
             return Some(Refusal::UnknownRule);
@@ -165,7 +164,7 @@ impl SessionState {
     }
 
     fn remove_refusal(&self, name: &RuleName) -> Option<Refusal>
-        ensures { result ≡ first_of ((not (is_active self.now.setting self.now.journal name.now), refusal.UnknownRule) ∷ []) }
+        ensures { result ≡ own_refusal self.now (of.Remove name.now) }
     {
         if self.is_active(name) {
             None
@@ -175,7 +174,7 @@ impl SessionState {
     }
 
     fn monitor_refusal(&self, key: &KeyName, grant: u64) -> Option<Refusal>
-        ensures { result ≡ first_of ((grant == 0, refusal.ZeroGrant) ∷ (finds_no_slot self.now.setting self.now.journal (Some key.now), refusal.KeysFull) ∷ []) }
+        ensures { result ≡ own_refusal self.now (of.Monitor key.now grant) }
     {
         if grant == 0 {
             return Some(Refusal::ZeroGrant);
@@ -194,7 +193,7 @@ impl SessionState {
     }
 
     fn stop_refusal(&self, key: &KeyName) -> Option<Refusal>
-        ensures { result ≡ first_of ((not (is_among key.now (now self.now.setting self.now.journal).on), refusal.UnknownKey) ∷ []) }
+        ensures { result ≡ own_refusal self.now (of.Stop key.now) }
     {
         if self.is_on(key) {
             None
@@ -211,7 +210,7 @@ impl SessionState {
     }
 
     fn report_refusal(&self, key: &KeyName) -> Option<Refusal>
-        ensures { result ≡ first_of ((not (is_among key.now (slots self.now.setting self.now.journal)), refusal.UnknownKey) ∷ []) }
+        ensures { result ≡ own_refusal self.now (of.ReportNow key.now) }
     {
         if self.has_slot(key) {
             None
@@ -228,7 +227,7 @@ impl SessionState {
     }
 
     fn lose_refusal(&self, bearer: BearerId) -> Option<Refusal>
-        ensures { result ≡ first_of (own_refusals self.now.setting self.now.journal (of.LoseBearer bearer)) }
+        ensures { result ≡ own_refusal self.now (of.LoseBearer bearer) }
     {
         if bearer == DEFAULT_BEARER {
             return Some(Refusal::DefaultBearer);
@@ -241,7 +240,7 @@ impl SessionState {
     }
 
     fn terminate_refusal(&self) -> Option<Refusal>
-        ensures { result ≡ first_of (own_refusals self.now.setting self.now.journal of.Terminate) }
+        ensures { result ≡ own_refusal self.now of.Terminate }
     {
         let attached = self.lanes.attached() as u8;
         if attached > 0 {
@@ -253,7 +252,7 @@ impl SessionState {
 
     /// Why a command is refused for what it asks for.
     fn own_refusal(&self, command: &Command) -> Option<Refusal>
-        ensures { result ≡ first_of (own_refusals self.now.setting self.now.journal command.now) }
+        ensures { result ≡ own_refusal self.now command.now }
     {
         match command {
             Command::Install(rule) => self.install_refusal(rule.properties()),
