@@ -1,9 +1,10 @@
 -- What workers hand in, one after the other.
 use Rattle.std.proofs.Common.{◌≡◌, ◌≢◌, ◌∙◌, ◌⊎◌, ◌<◌, ◌+◌, ℕ, ◌==◌, List, [], ◌∷◌, ◌++◌, All, length, drop, filter, map, get_or, sum_by, refl, ap, sym, subst, arith, inl, inr}
+use Rattle.std.specs.Prelude.{OnOk, Result, Ok, Err}
 use mathlib.Core.List.{IsPrefix}
 use Rattle.std.proofs.lemmas.Bool.Decides.{eqb_tells}
 use Rattle.std.proofs.lemmas.List.{get_or_append_left, length-map, take-append-drop}
-use Rattle.std.proofs.lemmas.List.Elements.{All-get_or}
+use Rattle.std.proofs.lemmas.List.Elements.{All-get_or, All-push}
 use Rattle.std.proofs.lemmas.List.Sums.{sum_by_push}
 use Rattle.std.proofs.Math.Seq.{get_or-append_seam}
 use Rattle.pcef_packet.specs.declared.header.Header.{Header}
@@ -17,6 +18,11 @@ use Rattle.pcef_gateway.proofs.Splitting.{sums_up}
 pub length_more : {X : Type 0} (xs : List X) (x : X) → length (xs ++ x ∷ []) ≡ length xs + 1
 length_more [] x = refl
 length_more (y ∷ xs) x = omega (arith, length_more xs x)
+
+-- what holds of each and of one more holds of each where it was kept
+pub all_kept : {X : Type 0} {E : Type 0} (P : X → Type 0) (r : Result (Unit {0}) E) (old new : List X) (one : X) → OnOk r (new ≡ old ++ one ∷ []) → P one → All P old → OnOk r (All P new)
+all_kept P (Ok done) old new one put holds all = subst (All P) (sym put) (All-push P old one all holds)
+all_kept P (Err e) old new one put holds all = tt
 
 last_or_before : {X : Type 0} (xs : List X) (x d : X) (w : ℕ) → w < length (xs ++ x ∷ [])
     → ((w < length xs) × (get_or (xs ++ x ∷ []) w d ≡ get_or xs w d)) ⊎ ((w ≡ length xs) × (get_or (xs ++ x ∷ []) w d ≡ x))
@@ -59,6 +65,15 @@ one_more sent dropped handed s more h so_far own is = record {
   ];
   whole = omega (arith, sum_by_push length sent s, sum_by_push rows_of handed h, so_far.whole, is.whole);
 }
+
+-- where it was added
+pub one_added : {E : Type 0} (r : Result (Unit {0}) E) (sent : List (List Header)) (dropped new_dropped : ℕ) (handed new : List HandedIn) (s : List Header) (more : ℕ) (h : HandedIn)
+    → OnOk r (new ≡ handed ++ h ∷ []) → OnOk r (new_dropped ≡ dropped + more) → HandInTheirs sent dropped handed → h.worker ≡ length sent → HandsIn s more h
+    → OnOk r (HandInTheirs (sent ++ s ∷ []) new_dropped new)
+one_added (Ok done) sent dropped new_dropped handed new s more h put counted so_far own is =
+    subst (λ (xs : List HandedIn). HandInTheirs (sent ++ s ∷ []) new_dropped xs) (sym put)
+    (subst (λ n. HandInTheirs (sent ++ s ∷ []) n (handed ++ h ∷ [])) (sym counted) (one_more sent dropped handed s more h so_far own is))
+one_added (Err e) sent dropped new_dropped handed new s more h put counted so_far own is = tt
 
 -- the packets that a worker was sent are those that arrived for it
 pub of_arrivals : (first sent : List (List Header)) (arrivals : List Arrival) (dropped : ℕ) (handed : List HandedIn) → All (λ s. s ≡ []) first → length sent ≡ length first

@@ -1,6 +1,7 @@
 //! What the calling thread does: it starts the workers, leads packets to them and gives commands, and ends it all.
 
-ghost use Rattle.std.specs.Prelude.{◌≡◌, ◌++◌, ◌<◌, ◌≤◌, ℕ, All, IfOk, [], length, slice_index_or, vec_len};
+ghost use Rattle.std.specs.Prelude.{◌≡◌, ◌+◌, ◌++◌, ◌∷◌, ◌<◌, ◌≤◌, ℕ, All, IfOk, List, OnOk, [], length, slice_index_or, vec_len};
+ghost use Rattle.pcef_packet.specs.declared.header.Header.{Header};
 ghost use Rattle.pcef_gateway.specs.Arriving.{headers_for};
 ghost use Rattle.pcef_gateway.specs.Commanding.{FoundMemory, changing};
 ghost use Rattle.pcef_lock.specs.Desks.{listed};
@@ -30,6 +31,65 @@ pub(crate) struct Handed<N: Naming> {
     pub(crate) dropped: u64,
 }
 
+/// Puts one more at the end. Fails for want of memory.
+fn keep<T: Drop>(all: &mut Vec<T>, one: T) -> Result<(), Failure>
+    ensures { OnOk result (all.new.items ≡ all.old.items ++ one ∷ []) }
+{
+    match all.push(one) {
+        Ok(()) => Ok(()),
+        Err(_) => Err(Failure::NoMemory),
+    }
+}
+
+/// A worker, if it is of this number.
+fn numbered<C: Detects + Drop, N: Naming, G: Gate + Drop>(
+    worker: Worker<C, N, G>,
+    number: u8,
+) -> Result<Worker<C, N, G>, Failure>
+    ensures { IfOk result (λ w. w ≡ worker) }
+{
+    if worker.worker() == number {
+        Ok(worker)
+    } else {
+        Err(Failure::Attach)
+    }
+}
+
+/// Attaches the worker of this number, to which the gate is lent.
+fn attached<'g, C: Detects + Drop, N: Naming, W: Board<Slot<N>> + Drop, G: Gate, R: Wait>(
+    rt: &R,
+    alloc: Global,
+    shared: &Shared<C, N, W>,
+    gate: &'g G,
+    number: u8,
+) -> Result<Worker<C, N, Lent<'g, G>>, Failure>
+    ensures { IfOk result (λ w. taken w ≡ []) }
+{
+    match Worker::attach(rt, alloc, shared, Lent::new(gate)) {
+        Ok(worker) => numbered(worker, number),
+        Err(AttachFault::NoMemory) => Err(Failure::NoMemory),
+        Err(_) => Err(Failure::Attach),
+    }
+}
+
+/// Attaches the worker of this number, and puts it at the end.
+fn attach_next<'g, C: Detects + Drop, N: Naming, W: Board<Slot<N>> + Drop, G: Gate, R: Wait>(
+    rt: &R,
+    alloc: Global,
+    shared: &Shared<C, N, W>,
+    gate: &'g G,
+    number: u8,
+    all: &mut Vec<Worker<C, N, Lent<'g, G>>>,
+) -> Result<(), Failure>
+    ensures many { OnOk result (vec_len all.new ≡ vec_len all.old + 1) }
+    ensures new { All (λ w. taken w ≡ []) all.old.items → OnOk result (All (λ w. taken w ≡ []) all.new.items) }
+{
+    match attached(rt, alloc, shared, gate, number) {
+        Ok(worker) => keep(all, worker),
+        Err(failure) => Err(failure),
+    }
+}
+
 /// Attaches so many workers, to which the gate is lent.
 pub(crate) fn attach_all<
     'g,
@@ -50,17 +110,7 @@ pub(crate) fn attach_all<
 {
     let mut all = Vec::new(alloc);
     for number in 0..workers {
-        let worker = match Worker::attach(rt, alloc, shared, Lent::new(gate)) {
-            Ok(worker) => worker,
-            Err(AttachFault::NoMemory) => return Err(Failure::NoMemory),
-            Err(_) => return Err(Failure::Attach),
-        };
-        if worker.worker() != number {
-            return Err(Failure::Attach);
-        }
-        if all.push(worker).is_err() {
-            return Err(Failure::NoMemory);
-        }
+        attach_next(rt, alloc, shared, gate, number, &mut all)?;
     }
     Ok(all)
 }
@@ -177,6 +227,33 @@ fn closed<N: Naming + Send + Sync, R: Threads>(
     Ok(closed)
 }
 
+/// Adds what one more worker handed in.
+fn add<N: Naming>(handed: &mut Handed<N>, closed: Closed<N>) -> Result<(), Failure>
+    ensures finished { OnOk result (handed.new.finished.items ≡ handed.old.finished.items ++ closed.finished ∷ []) }
+    ensures dropped { OnOk result (handed.new.dropped ≡ handed.old.dropped + closed.dropped) }
+{
+    let Some(dropped) = handed.dropped.checked_add(closed.dropped) else {
+        return Err(Failure::Ring);
+    };
+    handed.dropped = dropped;
+    keep(&mut handed.finished, closed.finished)
+}
+
+/// Ends the next worker's ring, waits for it, and adds what it handed in.
+fn close_next<N: Naming + Send + Sync, R: Threads>(
+    rt: &R,
+    line: Line<N>,
+    worker: u8,
+    handed: &mut Handed<N>,
+) -> Result<(), Failure>
+    ensures { (sent : List (List Header)) → HandInTheirs sent handed.old.dropped handed.old.finished.items → worker ≡ length sent → OnOk result (HandInTheirs (sent ++ line ∷ []) handed.new.dropped handed.new.finished.items) }
+{
+    match closed(rt, line, worker) {
+        Ok(closed) => add(handed, closed),
+        Err(failure) => Err(failure),
+    }
+}
+
 /// Ends each ring, and waits for each worker.
 pub(crate) fn close_all<N: Naming + Send + Sync, R: Threads>(
     rt: &R,
@@ -186,19 +263,14 @@ pub(crate) fn close_all<N: Naming + Send + Sync, R: Threads>(
     requires { vec_len lines ≤ 16 }
     ensures { IfOk result (λ h. HandInTheirs lines.items h.dropped h.finished.items) }
 {
-    let mut finished = Vec::new(alloc);
-    let mut dropped = 0u64;
+    let mut handed = Handed {
+        finished: Vec::new(alloc),
+        dropped: 0,
+    };
     let mut worker = 0u8;
     for line in lines {
-        let closed = closed(rt, line, worker)?;
-        let Some(more) = dropped.checked_add(closed.dropped) else {
-            return Err(Failure::Ring);
-        };
-        dropped = more;
-        if finished.push(closed.finished).is_err() {
-            return Err(Failure::NoMemory);
-        }
+        close_next(rt, line, worker, &mut handed)?;
         worker += 1;
     }
-    Ok(Handed { finished, dropped })
+    Ok(handed)
 }

@@ -3,4 +3,4 @@ use Rattle.pcef_gateway.specs.Sending.{HandInTheirs}
 use Rattle.pcef_gateway.proofs.intake.close_all.Given as goal
 
 abbrev pub invariant-loop-line : goal.invariant-loop-line
-invariant-loop-line g l = HandInTheirs l.yielded l.dropped l.finished.items × (l.worker ≡ length l.yielded)
+invariant-loop-line g l = HandInTheirs l.yielded l.handed.dropped l.handed.finished.items × (l.worker ≡ length l.yielded)
