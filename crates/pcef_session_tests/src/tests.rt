@@ -2,6 +2,7 @@
 
 mod catalog_session;
 mod closures;
+mod finishing;
 mod saturated;
 mod session;
 mod session_ends;

@@ -8,6 +8,7 @@ ghost use Rattle.pcef_share.specs.Names.{name_at};
 mod batches;
 mod beginnings;
 mod closing;
+mod crowded;
 mod gathering;
 mod generations;
 mod last_flush;
@@ -42,6 +43,7 @@ enum Story {
     RuleGone,
     HeldUp,
     NoMemory,
+    Crowded,
     Begins(Beginning),
 }
 
@@ -50,6 +52,7 @@ fn places(story: Story) -> u8 {
     match story {
         Story::Begins(Beginning::OnePlace) => 1,
         Story::Begins(Beginning::LastLeaves) => 3,
+        Story::Crowded => 16,
         _ => 2,
     }
 }
@@ -128,6 +131,7 @@ fn told_by<
         Story::RuleGone => generations::rule_gone(rt, alloc, shared, desk),
         Story::HeldUp => threads::held_up(rt, alloc, shared, desk),
         Story::NoMemory => memory::no_memory(rt, alloc, shared),
+        Story::Crowded => crowded::crowded(rt, alloc, shared, desk),
         Story::Begins(_) => Err("it has begun")?,
     }
 }
