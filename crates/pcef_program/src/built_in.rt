@@ -46,7 +46,14 @@ fn qos(qci: u8, level: u8, vulnerability: bool) -> Qos
 
 fn properties(name: &str, precedence: u32, qos: Qos, key: Option<KeyName>) -> Properties
     requires { IsName name.now }
-    ensures { result ≡ record { name = name.now; precedence = precedence; qos = qos; rates = None; gate = gate.Enabled; key = key } }
+    ensures { result ≡ record {
+      name = name.now;
+      precedence = precedence;
+      qos = qos;
+      rates = None;
+      gate = gate.Enabled;
+      key = key;
+    } }
 {
     Properties {
         name: rule_name(name),

@@ -58,7 +58,8 @@ fn tell_run<W: Write>(
     taken: &Taken,
     writer: &mut W,
 ) -> End
-    ensures { (taken : Counts) × IsWritten ran.now taken result (W.contents writer.old) (W.contents writer.new) }
+    ensures { (taken : Counts) × IsWritten ran.now taken result
+        (W.contents writer.old) (W.contents writer.new) }
 {
     let all_taken = report(outlet, &ran.ended.reports);
     let counts = taken.counts();
@@ -103,7 +104,8 @@ pub(crate) fn run_input<T: Threads + Wait + Sync, R: Read, W: Write>(
     writer: &mut W,
 ) -> End
     ensures { RanPlan (setting_of profile (offers_of (arc_value catalog))) workers result
-        (R.remaining reader.old) (R.remaining reader.new) (W.contents writer.old) (W.contents writer.new) }
+        (R.remaining reader.old) (R.remaining reader.new)
+        (W.contents writer.old) (W.contents writer.new) }
 {
     match read_plan(alloc, reader, workers) {
         Ok(plan) => run_one(

@@ -34,7 +34,8 @@ fn run_on<R: Read, W: Write>(
     writer: &mut W,
 ) -> End
     ensures { RanScript (setting_of profile (offers_of (arc_value catalog))) result
-        (R.remaining reader.old) (R.remaining reader.new) (W.contents writer.old) (W.contents writer.new) }
+        (R.remaining reader.old) (R.remaining reader.new)
+        (W.contents writer.old) (W.contents writer.new) }
 {
     let ended = run_script(alloc, reader, writer, profile, catalog);
     match writer.flush() {
@@ -56,7 +57,8 @@ fn run_as_asked<T: Threads + Wait + Sync, R: Read, W: Write>(
     writer: &mut W,
 ) -> End
     ensures { Ran workers (setting_of profile (offers_of (arc_value catalog))) result
-        (R.remaining reader.old) (R.remaining reader.new) (W.contents writer.old) (W.contents writer.new) }
+        (R.remaining reader.old) (R.remaining reader.new)
+        (W.contents writer.old) (W.contents writer.new) }
 {
     match workers {
         None => run_on(alloc, profile, catalog, reader, writer),
@@ -78,7 +80,8 @@ fn with_profile<T: Threads + Wait + Sync, R: Read, W: Write>(
     writer: &mut W,
 ) -> End
     ensures { Ends (offers_of (arc_value catalog)) workers (Some profile.now) result
-        (R.remaining reader.old) (R.remaining reader.new) (W.contents writer.old) (W.contents writer.new) }
+        (R.remaining reader.old) (R.remaining reader.new)
+        (W.contents writer.old) (W.contents writer.new) }
 {
     let text = match profile {
         Ok(text) => text,
@@ -119,8 +122,10 @@ fn end_of<T: Threads + Wait + Sync, R: Read, W: Write>(
     reader: &mut R,
     writer: &mut W,
 ) -> End
-    ensures { Ends (offers_of (arc_value catalog)) workers (option_map (λ p. p.now) asked.entry) result
-        (R.remaining reader.old) (R.remaining reader.new) (W.contents writer.old) (W.contents writer.new) }
+    ensures { Ends (offers_of (arc_value catalog)) workers
+        (option_map (λ p. p.now) asked.entry) result
+        (R.remaining reader.old) (R.remaining reader.new)
+        (W.contents writer.old) (W.contents writer.new) }
 {
     match asked {
         Some(profile) => with_profile(
@@ -154,12 +159,16 @@ pub fn program<T: Threads + Wait + Sync, R: Read, W: Write, E: Write>(
     // The status and what is said are those of the end to which the words, the profile and the input come.
     ensures ends { (end : End) × (result ≡ end_status end)
         × IsTold end (E.contents faults.old) (E.contents faults.new)
-        × Ends (offers_of (arc_value catalog)) (workers_of words.now) (asked words.now profile.now) end
-        (R.remaining reader.old) (R.remaining reader.new) (W.contents writer.old) (W.contents writer.new) }
+        × Ends (offers_of (arc_value catalog)) (workers_of words.now)
+        (asked words.now profile.now) end
+        (R.remaining reader.old) (R.remaining reader.new)
+        (W.contents writer.old) (W.contents writer.new) }
     ensures most { result ≤ 4 }
     // Status 0 comes only where the whole input was read and all that is due is written.
-    ensures whole { result ≡ 0 → IsWhole (offers_of (arc_value catalog)) (workers_of words.now) (asked words.now profile.now)
-        (R.remaining reader.old) (R.remaining reader.new) (W.contents writer.old) (W.contents writer.new) }
+    ensures whole { result ≡ 0 →
+        IsWhole (offers_of (arc_value catalog)) (workers_of words.now) (asked words.now profile.now)
+        (R.remaining reader.old) (R.remaining reader.new)
+        (W.contents writer.old) (W.contents writer.new) }
 {
     let workers = workers_of(words);
     let asked = asked(words, profile);
