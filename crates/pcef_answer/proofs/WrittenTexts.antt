@@ -1,8 +1,8 @@
 -- Answers that are written piece by piece.
-use Rattle.std.proofs.Common.{◌≡◌, ◌∙◌, ◌≤◌, ◌<◌, ◌+◌, ◌||◌, ◌==◌, if◌then◌else◌, ℕ, List, [], ◌∷◌, ◌++◌, true, false, Result, Ok, Err, OnOk, arith, ap, append_assoc, drop, decimal, get_or, length, nat_lt, refl, subst, sym}
+use Rattle.std.proofs.Common.{◌≡◌, ◌∙◌, ◌≤◌, ◌<◌, ◌+◌, ◌/◌, ◌%◌, ◌||◌, ◌==◌, if◌then◌else◌, ℕ, List, [], ◌∷◌, ◌++◌, true, false, Result, Ok, Err, OnOk, arith, ap, append_assoc, drop, decimal, get_or, length, nat_lt, refl, subst, sym}
 use Rattle.std.specs.Result.{is_ok}
 use Rattle.std.proofs.lemmas.Bool.Decides.{nat_tests}
-use Rattle.std.proofs.lemmas.Fmt.{decimal_digit}
+use Rattle.std.proofs.lemmas.Fmt.{decimal_digit, decimal_step}
 use Rattle.std.proofs.lemmas.List.{at_drop_more}
 use Rattle.std.proofs.lemmas.List.Elements.{All-get_or}
 use Rattle.json.specs.Print.{escape, escape_byte}
@@ -35,6 +35,14 @@ pub digit_pushed : {A E : Type 0} (r : Result A E) (old new utf8 : List ℕ) (di
 digit_pushed (Ok x) old new utf8 digit ch low is ascii wrote =
     wrote ∙ ap (λ x. old ++ x) (ascii (omega (arith, low, is)) ∙ ap (λ x. x ∷ []) is ∙ sym (decimal_digit digit low))
 digit_pushed (Err e) old new utf8 digit ch low is ascii wrote = tt
+
+pub two_digits_pushed : {A E : Type 0} (r : Result A E) (old mid new : List ℕ) (n : ℕ) → 10 ≤ n → n < 100 → mid ≡ old ++ decimal (n / 10)
+    → OnOk r (new ≡ mid ++ decimal (n % 10)) → OnOk r (new ≡ old ++ decimal n)
+two_digits_pushed (Ok x) old mid new n some few first last =
+    let low : n % 10 < 10 = omega arith in
+    last ∙ ap (λ xs. mid ++ xs) (decimal_digit (n % 10) low) ∙ ap (λ xs. xs ++ (48 + n % 10) ∷ []) first ∙ append_assoc old (decimal (n / 10)) ((48 + n % 10) ∷ [])
+    ∙ ap (λ xs. old ++ xs) (sym (decimal_step n some (omega (arith, few))))
+two_digits_pushed (Err e) old mid new n some few first last = tt
 
 -- ---- names
 above : (b n : ℕ) → n < b → (b == n) ≡ false

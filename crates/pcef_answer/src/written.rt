@@ -1,7 +1,7 @@
 //! The answers to workers' steps, written piece by piece: they are the most common ones, and no JSON
 //! value stands between.
 
-ghost use Rattle.std.specs.Prelude.{◌≡◌, ◌++◌, ◌<◌, ◌||◌, ◌==◌, IfOk, OnOk, codes, decimal, string_bytes};
+ghost use Rattle.std.specs.Prelude.{◌≡◌, ◌++◌, ◌<◌, ◌≤◌, ◌||◌, ◌==◌, IfOk, OnOk, codes, decimal, string_bytes};
 ghost use Rattle.std.specs.Bool.{OnTrue};
 ghost use Rattle.json.specs.Print.{escape, escape_byte};
 ghost use Rattle.serde_json.specs.Written.{comma_if, compact_text};
@@ -244,12 +244,22 @@ fn push_number(text: &mut String, number: u64) -> Result<(), AllocError>
 {
     if number < 10 {
         push_digit(text, number as u8)
+    } else if number < 100 {
+        push_two_digits(text, number as u8)
     } else {
         text.push_str(Buffer::new().format(number))
     }
 }
 
-// most numbers of an answer have one digit
+// most numbers of an answer have one digit or two, and need no buffer
+fn push_two_digits(text: &mut String, number: u8) -> Result<(), AllocError>
+    requires { (10 ≤ number) × (number < 100) }
+    ensures { OnOk result (GoesOn text.old text.new (decimal number)) }
+{
+    push_digit(text, number / 10)?;
+    push_digit(text, number % 10)
+}
+
 fn push_digit(text: &mut String, digit: u8) -> Result<(), AllocError>
     requires { digit < 10 }
     ensures { OnOk result (GoesOn text.old text.new (decimal digit)) }
