@@ -70,12 +70,45 @@ fn books_around_rows<C: Detects, N: Naming, W: Board<Slot<N>> + Drop>(
     requires offers { C.offers catalog.now ≡ N.setting.catalog }
 {
     state.command(desk, Command::Install(web(alloc)?))?;
-    let mut late = state.attach()?;
+    match state.attach() {
+        Ok(mut late) => books_around_late(alloc, catalog, state, desk, &mut late),
+        Err(fault) => Err(fault)?,
+    }
+}
+
+// The key comes, and the worker after it.
+fn books_around_late<C: Detects, N: Naming, W: Board<Slot<N>> + Drop>(
+    alloc: Global,
+    catalog: &C,
+    state: &mut State<N, W>,
+    desk: &mut Shares<N>,
+    late: &mut Seat<N>,
+) -> Result<([u64; 10], [u64; 10]), Fail>
+    requires offers { C.offers catalog.now ≡ N.setting.catalog }
+    requires late { late.old.ue ≡ N.setting.ue }
+{
     state.command(desk, monitor(1000)?)?;
-    let mut quick = state.attach()?;
+    match state.attach() {
+        Ok(mut quick) => books_of_both(alloc, catalog, state, late, &mut quick),
+        Err(fault) => Err(fault)?,
+    }
+}
+
+// Both hand their rows over.
+fn books_of_both<C: Detects, N: Naming, W: Board<Slot<N>> + Drop>(
+    alloc: Global,
+    catalog: &C,
+    state: &mut State<N, W>,
+    late: &mut Seat<N>,
+    quick: &mut Seat<N>,
+) -> Result<([u64; 10], [u64; 10]), Fail>
+    requires offers { C.offers catalog.now ≡ N.setting.catalog }
+    requires late { late.old.ue ≡ N.setting.ue }
+    requires quick { quick.old.ue ≡ N.setting.ue }
+{
     let before = state.totals();
-    hand_over(alloc, catalog, state, &mut quick)?;
-    leave(alloc, catalog, state, &mut late)?;
+    hand_over(alloc, catalog, state, quick)?;
+    leave(alloc, catalog, state, late)?;
     Ok((before, state.totals()))
 }
 
