@@ -82,7 +82,8 @@ fn attach_next<'g, C: Detects + Drop, N: Naming, W: Board<Slot<N>> + Drop, G: Ga
     all: &mut Vec<Worker<C, N, Lent<'g, G>>>,
 ) -> Result<(), Failure>
     ensures many { OnOk result (vec_len all.new ≡ vec_len all.old + 1) }
-    ensures new { All (λ w. taken w ≡ []) all.old.items → OnOk result (All (λ w. taken w ≡ []) all.new.items) }
+    ensures new { All (λ w. taken w ≡ []) all.old.items
+        → OnOk result (All (λ w. taken w ≡ []) all.new.items) }
 {
     match attached(rt, alloc, shared, gate, number) {
         Ok(worker) => keep(all, worker),
@@ -152,7 +153,8 @@ pub(crate) fn feed<N: Naming + Send + Sync, R: Wait>(
     arrivals: &[Arrival],
 )
     requires known { All (λ a. a.worker < length lines.old) arrivals.now }
-    ensures { (w : ℕ) → w < length lines.old → slice_index_or lines.new w [] ≡ slice_index_or lines.old w [] ++ headers_for w arrivals.now }
+    ensures { (w : ℕ) → w < length lines.old → slice_index_or lines.new w []
+        ≡ slice_index_or lines.old w [] ++ headers_for w arrivals.now }
 {
     for arrival in arrivals {
         lines[usize::from(arrival.worker)].send(rt, arrival.header);
@@ -187,10 +189,13 @@ pub(crate) fn take_in<C: Offers + Drop, N: Naming + Send + Sync, W: Board<Slot<N
     commands: Vec<Command>,
 ) -> Result<Vec<Answer>, Failure>
     requires known { All (λ a. a.worker < length lines.old) arrivals.now }
-    ensures packets { IfOk result (λ _. (w : ℕ) → w < length lines.old → slice_index_or lines.new w [] ≡ slice_index_or lines.old w [] ++ headers_for w arrivals.now) }
+    ensures packets { IfOk result (λ _. (w : ℕ) → w < length lines.old
+        → slice_index_or lines.new w []
+        ≡ slice_index_or lines.old w [] ++ headers_for w arrivals.now) }
     ensures answers { IfOk result (λ v. length v.items ≡ length commands.items) }
     ensures memory { IfOk result (λ v. All FoundMemory v.items) }
-    ensures listed { IfOk result (λ v. desk.new.commands ≡ desk.old.commands ++ changing commands.items v.items) }
+    ensures listed { IfOk result (λ v. desk.new.commands
+        ≡ desk.old.commands ++ changing commands.items v.items) }
 {
     let between = arrivals.len() / (commands.len() + 1);
     let mut left = arrivals;
@@ -229,7 +234,8 @@ fn closed<N: Naming + Send + Sync, R: Threads>(
 
 /// Adds what one more worker handed in.
 fn add<N: Naming>(handed: &mut Handed<N>, closed: Closed<N>) -> Result<(), Failure>
-    ensures finished { OnOk result (handed.new.finished.items ≡ handed.old.finished.items ++ closed.finished ∷ []) }
+    ensures finished { OnOk result (handed.new.finished.items
+        ≡ handed.old.finished.items ++ closed.finished ∷ []) }
     ensures dropped { OnOk result (handed.new.dropped ≡ handed.old.dropped + closed.dropped) }
 {
     let Some(dropped) = handed.dropped.checked_add(closed.dropped) else {
@@ -246,7 +252,10 @@ fn close_next<N: Naming + Send + Sync, R: Threads>(
     worker: u8,
     handed: &mut Handed<N>,
 ) -> Result<(), Failure>
-    ensures { (sent : List (List Header)) → HandInTheirs sent handed.old.dropped handed.old.finished.items → worker ≡ length sent → OnOk result (HandInTheirs (sent ++ line ∷ []) handed.new.dropped handed.new.finished.items) }
+    ensures { (sent : List (List Header))
+        → HandInTheirs sent handed.old.dropped handed.old.finished.items → worker ≡ length sent
+        → OnOk result (HandInTheirs (sent ++ line ∷ [])
+        handed.new.dropped handed.new.finished.items) }
 {
     match closed(rt, line, worker) {
         Ok(closed) => add(handed, closed),

@@ -62,18 +62,24 @@ pub fn run_session<C: Detects + Drop + Send + Sync, G: Gate + Sync, R: Threads +
     requires offers { C.offers (arc_value catalog) ≡ session.setting.catalog }
     ensures setting { IfOk result (λ e. e.totals.session.setting ≡ session.setting) }
     ensures attached { IfOk result (λ e. attach_count e.totals.session.journal ≡ workers) }
-    ensures keys { IfOk result (λ e. e.totals.keys ≡ key_totals session.setting e.totals.session.journal) }
-    ensures sums { IfOk result (λ e. All (λ k. k.counted ≡ k.reported + k.unreported) e.totals.keys) }
+    ensures keys { IfOk result (λ e. e.totals.keys
+        ≡ key_totals session.setting e.totals.session.journal) }
+    ensures sums { IfOk result (λ e.
+        All (λ k. k.counted ≡ k.reported + k.unreported) e.totals.keys) }
     ensures gathered { IfOk result (λ e. AreGatheredFrom e.totals) }
     ensures rows { IfOk result (λ e. e.totals.rows ≡ length (rows e.totals.session.journal)) }
-    ensures lanes { IfOk result (λ e. (w : ℕ) → w < workers → IsPrefix (lane_headers e.totals.session.journal w) (headers_for w arrivals.items)) }
-    ensures whole { IfOk result (λ e. e.totals.rows + e.totals.abandoned + e.dropped ≡ length arrivals.items) }
+    ensures lanes { IfOk result (λ e. (w : ℕ) → w < workers
+        → IsPrefix (lane_headers e.totals.session.journal w) (headers_for w arrivals.items)) }
+    ensures whole { IfOk result (λ e. e.totals.rows + e.totals.abandoned + e.dropped
+        ≡ length arrivals.items) }
     ensures answers { IfOk result (λ e. length e.answers.items ≡ length commands.items) }
     ensures memory { IfOk result (λ e. All FoundMemory e.answers.items) }
-    ensures commands { IfOk result (λ e. commands_of e.totals.session.journal ≡ commands_of session.journal ++ changing commands.items e.answers.items) }
+    ensures commands { IfOk result (λ e. commands_of e.totals.session.journal
+        ≡ commands_of session.journal ++ changing commands.items e.answers.items) }
     ensures reports { IfOk result (λ e. e.reports.items ≡ reports_of e.totals.session.journal) }
     ensures workers { FailsBy Workers result ↔ ((workers ≡ 0) ⊎ (16 < workers)) }
-    ensures strange { FailsBy StrangeWorker result ↔ ((0 < workers) × (workers ≤ 16) × (All (λ a. a.worker < workers) arrivals.items → ⊥)) }
+    ensures strange { FailsBy StrangeWorker result
+        ↔ ((0 < workers) × (workers ≤ 16) × (All (λ a. a.worker < workers) arrivals.items → ⊥)) }
 {
     if workers == 0 || usize::from(workers) > MAX_WORKERS {
         return Err(RunFault::Workers);
@@ -104,7 +110,8 @@ fn run_known<C: Detects + Drop + Send + Sync, G: Gate + Sync, R: Threads + Wait 
     requires known { All (λ a. a.worker < workers) arrivals.now }
     requires fresh { attach_count session.journal ≡ 0 }
     requires offers { C.offers (arc_value catalog) ≡ session.setting.catalog }
-    ensures { IfOk result (λ e. RunsTo session.setting session.journal arrivals.now commands.items workers e) }
+    ensures { IfOk result (λ e.
+        RunsTo session.setting session.journal arrivals.now commands.items workers e) }
 {
     let Ok(opened) = opened(&session) else {
         return Err(Failure::NoMemory);
@@ -150,7 +157,8 @@ fn run_named<
     requires offers { C.offers (arc_value catalog) ≡ session.setting.catalog }
     requires table { Shows session.setting session.journal (gen session.journal) opened.table }
     requires book { (opened.book ≡ N.book) × (opened.root ≡ N.root) }
-    ensures { IfOk result (λ e. RunsTo session.setting session.journal arrivals.now commands.items workers e) }
+    ensures { IfOk result (λ e.
+        RunsTo session.setting session.journal arrivals.now commands.items workers e) }
 {
     let (shared, desk) = lock::<C, N, _>(rt, alloc, catalog, session, opened, blanks, workers)?;
     let worked = work_all(rt, alloc, &shared, desk, gate, workers, arrivals, commands)?;
@@ -216,8 +224,10 @@ fn work_all<
     requires known { All (λ a. a.worker < workers) arrivals.now }
     ensures answers { IfOk result (λ w. length w.answers.items ≡ length commands.items) }
     ensures memory { IfOk result (λ w. All FoundMemory w.answers.items) }
-    ensures desk { IfOk result (λ w. w.desk.commands ≡ desk.commands ++ changing commands.items w.answers.items) }
-    ensures handed { IfOk result (λ w. HandInArrivals workers arrivals.now w.handed.dropped w.handed.finished.items) }
+    ensures desk { IfOk result (λ w. w.desk.commands
+        ≡ desk.commands ++ changing commands.items w.answers.items) }
+    ensures handed { IfOk result (λ w.
+        HandInArrivals workers arrivals.now w.handed.dropped w.handed.finished.items) }
 {
     let attached = attach_all(rt, alloc, shared, gate, workers)?;
     run_workers(rt, alloc, shared, desk, attached, arrivals, commands)
@@ -244,8 +254,10 @@ fn run_workers<
     requires known { All (λ a. a.worker < vec_len attached) arrivals.now }
     ensures answers { IfOk result (λ w. length w.answers.items ≡ length commands.items) }
     ensures memory { IfOk result (λ w. All FoundMemory w.answers.items) }
-    ensures desk { IfOk result (λ w. w.desk.commands ≡ desk.commands ++ changing commands.items w.answers.items) }
-    ensures handed { IfOk result (λ w. HandInArrivals (vec_len attached.entry) arrivals.now w.handed.dropped w.handed.finished.items) }
+    ensures desk { IfOk result (λ w. w.desk.commands
+        ≡ desk.commands ++ changing commands.items w.answers.items) }
+    ensures handed { IfOk result (λ w. HandInArrivals (vec_len attached.entry) arrivals.now
+        w.handed.dropped w.handed.finished.items) }
 {
     thread::scope(
         thread::scope_env(),
@@ -256,8 +268,11 @@ fn run_workers<
             requires known { All (λ a. a.worker < vec_len attached) arrivals.now }
             ensures answers { IfOk result (λ w. length w.answers.items ≡ length commands.items) }
             ensures memory { IfOk result (λ w. All FoundMemory w.answers.items) }
-            ensures desk { IfOk result (λ w. w.desk.commands ≡ desk.commands ++ changing commands.items w.answers.items) }
-            ensures handed { IfOk result (λ w. HandInArrivals (vec_len attached.entry) arrivals.entry.now w.handed.dropped w.handed.finished.items) }
+            ensures desk { IfOk result (λ w. w.desk.commands
+                ≡ desk.commands ++ changing commands.items w.answers.items) }
+            ensures handed { IfOk result (λ w.
+                HandInArrivals (vec_len attached.entry) arrivals.entry.now
+                w.handed.dropped w.handed.finished.items) }
         {
             let lines = start_all(rt, scope, alloc, shared, attached)?;
             lead(rt, alloc, shared, desk, lines, arrivals, commands)
@@ -280,8 +295,10 @@ fn lead<C: Offers + Drop, N: Naming + Send + Sync, W: Board<Slot<N>> + Drop, R: 
     requires known { All (λ a. a.worker < vec_len lines) arrivals.now }
     ensures answers { IfOk result (λ w. length w.answers.items ≡ length commands.items) }
     ensures memory { IfOk result (λ w. All FoundMemory w.answers.items) }
-    ensures desk { IfOk result (λ w. w.desk.commands ≡ desk.commands ++ changing commands.items w.answers.items) }
-    ensures handed { IfOk result (λ w. HandInArrivals (vec_len lines) arrivals.now w.handed.dropped w.handed.finished.items) }
+    ensures desk { IfOk result (λ w. w.desk.commands
+        ≡ desk.commands ++ changing commands.items w.answers.items) }
+    ensures handed { IfOk result (λ w.
+        HandInArrivals (vec_len lines) arrivals.now w.handed.dropped w.handed.finished.items) }
 {
     let mut desk = desk;
     let mut lines = lines;
@@ -318,8 +335,10 @@ fn end<C: Offers + Drop, N: Naming, W: Board<Slot<N>> + Drop, R: Wait>(
     worked: Worked<N>,
 ) -> Result<Ended, Failure>
     requires { length worked.handed.finished.items ≤ 16 }
-    ensures add_up { IfOk result (λ e. AddUpTo N.setting worked.desk.commands worked.handed.finished.items e.totals) }
-    ensures rest { IfOk result (λ e. (e.dropped ≡ worked.handed.dropped) × (e.answers ≡ worked.answers)) }
+    ensures add_up { IfOk result (λ e.
+        AddUpTo N.setting worked.desk.commands worked.handed.finished.items e.totals) }
+    ensures rest { IfOk result (λ e. (e.dropped ≡ worked.handed.dropped)
+        × (e.answers ≡ worked.answers)) }
     ensures reports { IfOk result (λ e. e.reports.items ≡ reports_of e.totals.session.journal) }
     ensures lawful { IfOk result (λ e. Lawful e.totals.session.setting e.totals.session.journal) }
 {
