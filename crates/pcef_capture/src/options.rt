@@ -83,7 +83,8 @@ pub fn command<'a>(alloc: Global) -> Result<Command<'a>, AllocError>
 
 /// The options of a command line that clap took, or none where the address isn't one.
 fn found<'a>(matches: &ArgMatches<'a>) -> Option<Options<'a>>
-    ensures { (words : List (List ℕ)) → rows_of (found_of matches.now) ≡ matches_of command_line words
+    ensures { (words : List (List ℕ)) →
+        rows_of (found_of matches.now) ≡ matches_of command_line words
         → IfSome result (Asks words) }
 {
     let ue = matches.get_one::<Ipv4Addr>("ue")?;
@@ -100,9 +101,11 @@ fn found<'a>(matches: &ArgMatches<'a>) -> Option<Options<'a>>
 /// What the words ask for, of which the first is the program's name; or none where the address isn't one. Other wrong
 /// words are clap's error, and so are the questions for help and for the version; want of memory too. Takes memory.
 pub fn asked<'a>(alloc: Global, words: &'a [String]) -> Result<Option<Options<'a>>, Error>
-    ensures asks { IfOk result (λ options. IfSome options (Asks (map string_bytes words.entry.now))) }
+    ensures asks { IfOk result
+        (λ options. IfSome options (Asks (map string_bytes words.entry.now))) }
     ensures takes { IfErr result (λ error.
-        takes command_line (map string_bytes words.entry.now) ≡ true → kind_of error ≡ OutOfMemory) }
+        takes command_line (map string_bytes words.entry.now) ≡ true →
+        kind_of error ≡ OutOfMemory) }
 {
     let command = command(alloc)?;
     let matches = command.try_get_matches_from(words)?;

@@ -60,8 +60,8 @@ fn write_line<W: Write>(
     dir: Dir,
     octets: &[u8],
 ) -> io::Result<()>
-    ensures { OnOk result (
-        Appends (W.contents writer.old) (W.contents writer.new) (take_line worker (dir, octets.now))) }
+    ensures { OnOk result (Appends (W.contents writer.old) (W.contents writer.new)
+        (take_line worker (dir, octets.now))) }
 {
     let packet = hex::encode(alloc, octets)?;
     let dir = word(dir);

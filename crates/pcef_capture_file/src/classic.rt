@@ -147,7 +147,8 @@ fn records<'a>(
     header: FileHeader,
     octets: &'a [u8],
 ) -> Result<Capture<'a>, AllocError>
-    ensures { IfOk result (λ capture. Reads (record_of header) octets.now (map captured capture.packets.items) capture.fault) }
+    ensures { IfOk result (λ capture. Reads (record_of header) octets.now
+        (map captured capture.packets.items) capture.fault) }
 {
     let mut packets = Vec::new(alloc);
     let mut rest = octets;
@@ -178,7 +179,8 @@ fn behind_header<'a>(
     octets: &'a [u8],
 ) -> Result<Capture<'a>, CaptureFault>
     requires { 24 ≤ length octets.now }
-    ensures packets { IfOk result (λ capture. Reads (record_of header) (drop 24 octets.now) (map captured capture.packets.items) capture.fault) }
+    ensures packets { IfOk result (λ capture. Reads (record_of header) (drop 24 octets.now)
+        (map captured capture.packets.items) capture.fault) }
     ensures fault { IfErr result (λ fault. fault ≡ NoMemory) }
 {
     match records(alloc, header, octets.split_at(FILE_HEADER_LEN).1) {

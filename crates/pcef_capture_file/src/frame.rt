@@ -91,7 +91,8 @@ fn behind_family(endianness: Endianness, octets: &[u8]) -> Option<&[u8]>
 /// may stand. Takes no memory.
 #[tactic(auto, unfolding(crate::specs::Frames::ipv4_in))]
 pub fn ipv4_of<'a>(packet: &Packet<'a>) -> Option<&'a [u8]>
-    ensures { option_map (λ o. o.now) result ≡ ipv4_in packet.now.link packet.now.endianness packet.now.octets.now }
+    ensures { option_map (λ o. o.now) result
+        ≡ ipv4_in packet.now.link packet.now.endianness packet.now.octets.now }
 {
     let octets = packet.octets;
     match packet.link {

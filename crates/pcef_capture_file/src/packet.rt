@@ -40,7 +40,8 @@ pub(crate) fn packet_at_front<'a>(
     octets: &'a [u8],
 ) -> Result<(Packet<'a>, &'a [u8]), CaptureFault>
     ensures packet { IfOk result (λ found.
-        packet_front link endianness recorded line octets.now ≡ DueOk (captured found.0, found.1.now)) }
+        packet_front link endianness recorded line octets.now
+        ≡ DueOk (captured found.0, found.1.now)) }
     ensures fault { IfErr result (λ fault.
         packet_front link endianness recorded line octets.now ≡ DueErr fault) }
     ensures within { IfOk result (λ found. length found.1.now ≤ length octets.now) }

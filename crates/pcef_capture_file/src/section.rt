@@ -81,7 +81,10 @@ impl Section {
     /// Notes the interface of a description: `BlockLength`, `LinkType`, or `NoMemory`.
     fn describe(&mut self, block: &Block<'_>) -> Result<(), CaptureFault>
         ensures ok { OnOk result (IsOkAnd (interface_in (framed block.now)) (λ interface.
-            standing self.new ≡ record { endianness = self.old.endianness; interfaces = self.old.interfaces.items ++ interface ∷ [] })) }
+            standing self.new ≡ record {
+              endianness = self.old.endianness;
+              interfaces = self.old.interfaces.items ++ interface ∷ [];
+            })) }
         ensures fault { IfErr result (λ fault.
             (fault ≡ NoMemory) ⊎ (interface_in (framed block.now) ≡ DueErr fault)) }
     {

@@ -79,7 +79,8 @@ impl Catalog {
 
     /// The place of the rule of a name.
     pub fn index_of(&self, name: &RuleName) -> Option<u8>
-        ensures offer { option_and_then (λ index. slice_get (offers_of self.now) index) result ≡ find (is_offer_of name.now) (offers_of self.now) }
+        ensures offer { option_and_then (λ index. slice_get (offers_of self.now) index) result
+            ≡ find (is_offer_of name.now) (offers_of self.now) }
         ensures within { IfSome result (λ index. index < length (offers_of self.now)) }
     {
         self.listing.index_of(name)

@@ -72,7 +72,8 @@ impl Listing {
 
     /// The place of the rule of a name.
     pub fn index_of(&self, name: &RuleName) -> Option<u8>
-        ensures offer { option_and_then (λ index. slice_get self.now index) result ≡ find (is_offer_of name.now) self.now }
+        ensures offer { option_and_then (λ index. slice_get self.now index) result
+            ≡ find (is_offer_of name.now) self.now }
         ensures within { IfSome result (λ index. index < length self.now) }
     {
         match place_of(&self.offers, name) {
@@ -90,7 +91,8 @@ fn has_name(offer: &Offer, name: &RuleName) -> bool
 
 /// The first place of a name among rules.
 fn place_of(offers: &[Offer], name: &RuleName) -> Option<usize>
-    ensures offer { option_and_then (λ place. slice_get offers.now place) result ≡ find (is_offer_of name.now) offers.now }
+    ensures offer { option_and_then (λ place. slice_get offers.now place) result
+        ≡ find (is_offer_of name.now) offers.now }
     ensures within { IfSome result (λ place. place < length offers.now) }
 {
     for (place, offer) in offers.iter().enumerate() {

@@ -21,8 +21,10 @@ fn has_name(rule: &Predefined, name: &RuleName) -> bool
 fn place_before(rules: &[Predefined], end: usize, name: &RuleName) -> Option<usize>
     requires { end ≤ length rules.now }
     ensures within { IfSome result (λ place. place < end) }
-    ensures found { IfSome result (λ place. slice_get (names_of (offers_in rules.now)) place ≡ Some name.now) }
-    ensures none { IfNone result ((place : ℕ) → place < end → slice_get (names_of (offers_in rules.now)) place ≢ Some name.now) }
+    ensures found { IfSome result
+        (λ place. slice_get (names_of (offers_in rules.now)) place ≡ Some name.now) }
+    ensures none { IfNone result ((place : ℕ) → place < end →
+        slice_get (names_of (offers_in rules.now)) place ≢ Some name.now) }
 {
     for place in 0..end {
         if has_name(&rules[place], name) {

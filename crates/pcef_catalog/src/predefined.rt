@@ -27,7 +27,8 @@ impl Predefined {
     /// handed to it, and its answer is the shape's. Takes no memory.
     pub fn new(properties: Properties, shape: Shape, detect: Detect) -> Predefined
         requires callable { Detect.IsAlwaysCallable detect }
-        requires exact { (at : _) (r : Bool) → Detect.post detect at r → r ≡ shape_holds shape at.now }
+        requires exact { (at : _) (r : Bool) → Detect.post detect at r →
+            r ≡ shape_holds shape at.now }
         ensures { offer_of result ≡ record { properties = properties; shape = shape } }
     {
         Predefined {

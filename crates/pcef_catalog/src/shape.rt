@@ -120,7 +120,8 @@ fn copy_alternatives(alternatives: &[Alternative]) -> ArrayVec<Alternative, 8>
 }
 
 fn any_holds(alternatives: &[Alternative], header: &Header) -> bool
-    ensures { result ≡ list_any (λ a. list_all (test_holds header.now) a.tests.items) alternatives.now }
+    ensures { result
+        ≡ list_any (λ a. list_all (test_holds header.now) a.tests.items) alternatives.now }
 {
     alternatives.iter().any(|a| all_hold(&a.tests, header))
 }

@@ -17,7 +17,8 @@ use arrayvec::ArrayVec;
 
 /// Reads a word that has to stand here.
 fn expect_word(left: &mut Tokens<'_>, word: &[u8], fault: FilterFault) -> Result<(), FilterFault>
-    ensures { MatchResult result (λ _. word_at word.now fault left.old ≡ Ok left.new) (λ e. word_at word.now fault left.old ≡ Err e) }
+    ensures { MatchResult result (λ _. word_at word.now fault left.old ≡ Ok left.new)
+        (λ e. word_at word.now fault left.old ≡ Err e) }
 {
     match left.next() {
         Some(token) if token == word => Ok(()),

@@ -36,7 +36,8 @@ fn filled_len(text: &[u8]) -> usize
 /// The first token of a text, and the text behind it.
 #[tactic(auto, using(crate::proofs::TokenLaws::no_token, crate::proofs::TokenLaws::first_token))]
 fn split_token(text: &[u8]) -> Option<(&[u8], &[u8])>
-    ensures { MatchOption result (tokens text.now ≡ []) (λ split. tokens text.now ≡ split.0.now ∷ tokens split.1.now) }
+    ensures { MatchOption result (tokens text.now ≡ [])
+        (λ split. tokens text.now ≡ split.0.now ∷ tokens split.1.now) }
 {
     let Some(start) = blanks_before(text) else {
         return None;
@@ -69,7 +70,8 @@ impl<'a> Tokens<'a> {
 
     /// Takes the next token.
     pub(crate) fn next(&mut self) -> Option<&'a [u8]>
-        ensures { MatchOption result ((self.old ≡ []) × (self.new ≡ [])) (λ token. self.old ≡ token.now ∷ self.new) }
+        ensures { MatchOption result ((self.old ≡ []) × (self.new ≡ []))
+            (λ token. self.old ≡ token.now ∷ self.new) }
     {
         let Some((token, rest)) = split_token(self.text) else {
             return None;

@@ -97,7 +97,8 @@ impl Index {
         requires table { IsTable (C.offers catalog.now) table.now.entries }
         requires index { self.now ≡ map (λ e. e.source) table.now.entries }
         ensures known { IfSome result (λ e. IsKnown (C.offers catalog.now) e.now.source) }
-        ensures first { option_copied result ≡ find (λ e. fits (C.offers catalog.now) ue header.now e.source) table.now.entries }
+        ensures first { option_copied result
+            ≡ find (λ e. fits (C.offers catalog.now) ue header.now e.source) table.now.entries }
     {
         let Some(place) = first_place(&self.lines, &self.words, catalog, ue, header) else {
             return None;

@@ -46,7 +46,8 @@ fn mark_lines(words: &mut [u64], lines: &[Line])
 /// The lines, from the 64 whose words begin at a place, that let all these cells pass.
 fn word_of(words: &[u64], at: usize, cells: &[u16; 10]) -> u64
     requires within { All (λ k. at + k < length words.now) cells.now }
-    ensures { (i : ℕ) → i < 64 → All (λ k. Has words.now (at + k) i) cells.now → bit_at result i ≡ 1 }
+    ensures { (i : ℕ) → i < 64 → All (λ k. Has words.now (at + k) i) cells.now →
+        bit_at result i ≡ 1 }
 {
     let mut word = u64::MAX;
     for cell in cells {
@@ -65,7 +66,8 @@ fn first_in<C: Detects>(
     header: &Header,
 ) -> Option<u8>
     requires few { from + 64 < 2 ^ 64 }
-    requires sieved { AreSieved (line_fits (C.offers catalog.now) ue header.now) lines.now from word }
+    requires sieved { AreSieved (line_fits (C.offers catalog.now) ue header.now)
+        lines.now from word }
     ensures { IsFirstIn (line_fits (C.offers catalog.now) ue header.now) lines.now from result }
 {
     let mut left = word;
@@ -90,7 +92,8 @@ pub(crate) fn first_place<C: Detects>(
     header: &Header,
 ) -> Option<u8>
     requires { IsSieve lines.now words.now }
-    ensures { result ≡ option_map (λ (l : Line). l.place) (find (line_fits (C.offers catalog.now) ue header.now) lines.now) }
+    ensures { result ≡ option_map (λ (l : Line). l.place)
+        (find (line_fits (C.offers catalog.now) ue header.now) lines.now) }
 {
     let cells = header_cells(header);
     for block in 0..lines.len().div_ceil(64) {

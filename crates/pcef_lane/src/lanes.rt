@@ -117,7 +117,8 @@ impl Lanes {
     pub fn lengthen(&mut self, worker: u8, rows: u64, generation: u32)
         requires came { worker < length self.old }
         requires fits { (get_or self.old worker at_start).rows + rows < 2 ^ 64 }
-        ensures { self.new ≡ set self.old worker (lengthened rows generation (get_or self.old worker at_start)) }
+        ensures { self.new
+            ≡ set self.old worker (lengthened rows generation (get_or self.old worker at_start)) }
     {
         let ends = self.ends.as_mut_slice();
         let end = &mut ends[usize::from(worker)];

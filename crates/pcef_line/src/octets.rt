@@ -33,7 +33,8 @@ fn digit(code: u8) -> Option<u8>
 }
 
 fn pair(high: u8, low: u8) -> Option<u8>
-    ensures { (i : ℕ) → MatchOption result ((e : FromHexError) × (pair_value high low i ≡ Err e)) (λ v. pair_value high low i ≡ Ok v) }
+    ensures { (i : ℕ) → MatchOption result ((e : FromHexError) × (pair_value high low i ≡ Err e))
+        (λ v. pair_value high low i ≡ Ok v) }
 {
     Some(digit(high)? * 16 + digit(low)?)
 }
@@ -41,7 +42,8 @@ fn pair(high: u8, low: u8) -> Option<u8>
 /// Whether a text is in hexadecimal, of which two digits stand for each of these octets: these are what it spells.
 pub(crate) fn decode(text: &[u8], octets: &mut [u8]) -> bool
     requires { length text.now ≡ 2 * length octets.old }
-    ensures { MatchBool result (decode_of text.now ≡ Ok octets.new) ((e : FromHexError) × (decode_of text.now ≡ Err e)) }
+    ensures { MatchBool result (decode_of text.now ≡ Ok octets.new)
+        ((e : FromHexError) × (decode_of text.now ≡ Err e)) }
 {
     for i in 0..octets.len() {
         match pair(text[2 * i], text[2 * i + 1]) {

@@ -53,7 +53,9 @@ fn worker_of(text: &str) -> Option<u8>
 
 /// The fields with a member more, if it's one of them and of the usual kind.
 fn keep<'a>(fields: Fields<'a>, key: &str, token: Token<'a>) -> Option<Fields<'a>>
-    ensures { IfSome result (λ f. option_map (λ d. put key.now d (found_in fields.entry)) (plain_of (token_of token.entry)) ≡ Some (found_in f)) }
+    ensures { IfSome result (λ f.
+        option_map (λ d. put key.now d (found_in fields.entry)) (plain_of (token_of token.entry))
+        ≡ Some (found_in f)) }
 {
     match (key, token) {
         ("do", Token::String(text)) => Some(Fields {
@@ -111,7 +113,8 @@ fn take(octets: &mut Vec<u8>, worker: u8, dir: &str, packet: &str) -> Result<Lin
 }
 
 fn line_of(octets: &mut Vec<u8>, fields: Fields<'_>) -> Option<Result<Line, LineFault>>
-    ensures { IfSome result (λ r. Gives (λ l. l) r (line_at reading_of (object (found_in fields.entry)))) }
+    ensures { IfSome result
+        (λ r. Gives (λ l. l) r (line_at reading_of (object (found_in fields.entry)))) }
 {
     let worker = fields.worker?;
     if worker > 15 {

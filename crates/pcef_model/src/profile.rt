@@ -33,7 +33,14 @@ impl Model for Profile {
 
     ghost Value = { Terms };
 
-    ghost view = { λ p. record { ue = p.ue; default_qos = p.default_qos; capacity = p.capacity; qcis = p.qcis; rows = p.rows; commands = p.commands } };
+    ghost view = { λ p. record {
+      ue = p.ue;
+      default_qos = p.default_qos;
+      capacity = p.capacity;
+      qcis = p.qcis;
+      rows = p.rows;
+      commands = p.commands;
+    } };
 
     ghost invariant = { λ p. IsWithinLimits p.capacity p.rows p.commands };
 }

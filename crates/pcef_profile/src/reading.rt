@@ -19,7 +19,8 @@ use toml::Table;
 
 /// The kinds of the QCIs with those that a profile declares.
 fn declared_qcis(declared: &[(u8, Kind)]) -> Result<QciTable, ReadProfileFault>
-    ensures exact { Gives (λ _. declared.now) result (passing may_be_declared BadValue declared.now) }
+    ensures exact { Gives (λ _. declared.now) result
+        (passing may_be_declared BadValue declared.now) }
     ensures kinds { IfOk result (λ t. Declares t declared.now) }
 {
     match QciTable::new(declared) {
@@ -39,7 +40,8 @@ fn kind_with(declared: &[(u8, Kind)], qcis: &QciTable, qci: Qci) -> Option<Kind>
 
 #[tactic(auto, unfolding(crate::specs::ProfileOf::values_of))]
 fn values(table: &Table, declared: &[(u8, Kind)]) -> Result<Profile, ReadProfileFault>
-    ensures exact { Gives (said declared.now) result (values_of declared.now (table_view table.now)) }
+    ensures exact { Gives (said declared.now) result
+        (values_of declared.now (table_view table.now)) }
     ensures kinds { IfOk result (λ p. Declares p.qcis declared.now) }
 {
     let ue = address_at(table, Key::Ue)?;

@@ -36,7 +36,8 @@ const OF_DECLARED: &[Key] = &[Key::Qci, Key::Kind];
 
 /// The value of a key.
 pub(crate) fn entry(table: &Table, key: Key) -> Option<&Value>
-    ensures { option_map (λ v. view v.now) result ≡ get_member (key_text key) (table_view table.now) }
+    ensures { option_map (λ v. view v.now) result
+        ≡ get_member (key_text key) (table_view table.now) }
 {
     table.get(key.text())
 }

@@ -26,7 +26,11 @@ impl Model for Arp {
 
     ghost Value = { Priority };
 
-    ghost view = { λ a. record { level = a.level; capability = a.capability; vulnerability = a.vulnerability } };
+    ghost view = { λ a. record {
+      level = a.level;
+      capability = a.capability;
+      vulnerability = a.vulnerability;
+    } };
 
     ghost invariant = { λ a. IsLevel a.level };
 
@@ -38,7 +42,8 @@ impl Arp {
     /// where the level isn't 1 to 15.
     pub fn new(level: u8, capability: bool, vulnerability: bool) -> Result<Arp, ArpFault>
         ensures variant { IsOk result ↔ IsLevel level }
-        ensures ok { IfOk result (λ a. a ≡ record { level = level; capability = capability; vulnerability = vulnerability }) }
+        ensures ok { IfOk result (λ a. a
+            ≡ record { level = level; capability = capability; vulnerability = vulnerability }) }
     {
         if level < 1 || 15 < level {
             return Err(ArpFault);

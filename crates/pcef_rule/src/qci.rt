@@ -91,9 +91,13 @@ fn kind_among(qci: u8, declared: &[(u8, Kind)]) -> Option<Kind>
 impl QciTable {
     /// The standard QCIs with these, or the first fault in the order of [`QciFault`]. Takes no memory.
     pub fn new(declared: &[(u8, Kind)]) -> Result<QciTable, QciFault>
-        ensures out_of_range { (result ≡ Err QciFault.OutOfRange) ↔ IsTrue (declares_out_of_range declared.now) }
-        ensures twice { (result ≡ Err QciFault.Twice) ↔ ((declares_out_of_range declared.now ≡ false) × IsTrue (declares_twice declared.now)) }
-        ensures kinds { IfOk result (λ t. (n : ℕ) → n < 256 → declared_at t n ≡ declared_kind declared.now n) }
+        ensures out_of_range { (result ≡ Err QciFault.OutOfRange)
+            ↔ IsTrue (declares_out_of_range declared.now) }
+        ensures twice { (result ≡ Err QciFault.Twice)
+            ↔ ((declares_out_of_range declared.now ≡ false)
+            × IsTrue (declares_twice declared.now)) }
+        ensures kinds { IfOk result
+            (λ t. (n : ℕ) → n < 256 → declared_at t n ≡ declared_kind declared.now n) }
     {
         if any_outside(declared) {
             return Err(QciFault::OutOfRange);

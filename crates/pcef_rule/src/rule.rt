@@ -89,7 +89,8 @@ pub fn compare_rules(a: &Properties, a_origin: Origin, b: &Properties, b_origin:
 
 /// Whether a rule goes before another one, in the order of [`compare_rules`].
 pub fn comes_before(a: (&Properties, Origin), b: (&Properties, Origin)) -> bool
-    ensures { result ≡ goes_before (rank_by a.entry.1 a.entry.0.now) (rank_by b.entry.1 b.entry.0.now) }
+    ensures { result
+        ≡ goes_before (rank_by a.entry.1 a.entry.0.now) (rank_by b.entry.1 b.entry.0.now) }
 {
     compare_rules(a.0, a.1, b.0, b.1).is_lt()
 }
@@ -128,7 +129,10 @@ impl Model for Rule {
 
     ghost Value = { Definition };
 
-    ghost view = { λ r. record { properties = (arc_value r.shared).properties; filters = (arc_value r.shared).filters.items } };
+    ghost view = { λ r. record {
+      properties = (arc_value r.shared).properties;
+      filters = (arc_value r.shared).filters.items;
+    } };
 
     ghost invariant = { λ r. HasRightCount (arc_value r.shared).filters.items };
 }
@@ -148,8 +152,10 @@ impl Rule {
     /// [`RuleFault`]. Takes memory for the filters and for what copies share.
     pub fn new(alloc: Global, properties: Properties, filters: &[Filter]) -> Result<Rule, RuleFault>
         ensures no_filter { (result ≡ Err RuleFault.NoFilter) ↔ (filters.now ≡ []) }
-        ensures too_many { (result ≡ Err RuleFault.TooManyFilters) ↔ (most_filters < length filters.now) }
-        ensures ok { IfOk result (λ r. r ≡ record { properties = properties; filters = filters.now }) }
+        ensures too_many { (result ≡ Err RuleFault.TooManyFilters)
+            ↔ (most_filters < length filters.now) }
+        ensures ok { IfOk result
+            (λ r. r ≡ record { properties = properties; filters = filters.now }) }
     {
         if filters.is_empty() {
             return Err(RuleFault::NoFilter);

@@ -114,7 +114,8 @@ impl<N: Naming> Books<N> {
     pub fn add_commands(&mut self, shares: &mut Shares<N>, count: u64)
         requires { slice_index self.old.totals command_ledger + count < 2 ^ 64 }
         ensures shares { shares.new ≡ plus shares.old command_ledger count }
-        ensures books { self.new ≡ record self.old { totals = plus self.old.totals command_ledger count } }
+        ensures books { self.new
+            ≡ record self.old { totals = plus self.old.totals command_ledger count } }
     {
         self.tallies.add(shares, COMMANDS, count)
     }

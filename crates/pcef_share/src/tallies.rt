@@ -118,7 +118,8 @@ impl<N: Naming> Tallies<N> {
         requires ledger { ledger < 10 }
         requires fits { slice_index self.old.totals ledger + amount < 2 ^ 64 }
         ensures shares { shares.new ≡ plus shares.old ledger amount }
-        ensures totals { self.new ≡ record self.old { totals = plus self.old.totals ledger amount } }
+        ensures totals { self.new
+            ≡ record self.old { totals = plus self.old.totals ledger amount } }
     {
         match ledger {
             0 => self.slot0.add(&mut shares.slot0, amount),

@@ -34,7 +34,8 @@ fn stays<C: Offers>(catalog: &C, x: &Entry, side: Side, entry: &Entry) -> bool
 
 /// Appends a copy of an entry that stays.
 fn keep(kept: &mut Vec<Entry>, entry: &Entry, stays: bool) -> Result<(), AllocError>
-    ensures { OnOk result (kept.new.items ≡ kept.old.items ++ (if stays then entry.now ∷ [] else [])) }
+    ensures { OnOk result
+        (kept.new.items ≡ kept.old.items ++ (if stays then entry.now ∷ [] else [])) }
 {
     if stays {
         kept.push(entry.copy()?)?;
@@ -58,7 +59,8 @@ pub(crate) fn copy_without_taken<C: Offers>(
     command: &Command,
 ) -> Result<Vec<Entry>, AllocError>
     requires { All (λ e. IsKnown (C.offers catalog.now) e.source) entries.now }
-    ensures { IfOk result (λ v. v.items ≡ without_taken (C.offers catalog.now) command.now entries.now) }
+    ensures { IfOk result
+        (λ v. v.items ≡ without_taken (C.offers catalog.now) command.now entries.now) }
 {
     let mut kept = Vec::with_capacity(alloc, entries.len())?;
     for entry in entries {
@@ -78,7 +80,8 @@ fn copy_side<C: Offers>(
 ) -> Result<(), AllocError>
     requires known { All (λ e. IsKnown (C.offers catalog.now) e.source) entries.now }
     requires x_known { IsKnown (C.offers catalog.now) x.now.source }
-    ensures { OnOk result (kept.new.items ≡ kept.old.items ++ filter (stays (C.offers catalog.now) x.now side) entries.now) }
+    ensures { OnOk result (kept.new.items
+        ≡ kept.old.items ++ filter (stays (C.offers catalog.now) x.now side) entries.now) }
 {
     for entry in entries {
         let stays = stays(catalog, x, side, entry);

@@ -28,7 +28,8 @@ pub(crate) fn first_fitting<'a, C: Detects>(
 ) -> Option<&'a Entry>
     requires { All (λ e. IsKnown (C.offers catalog.now) e.source) entries.now }
     ensures known { IfSome result (λ e. IsKnown (C.offers catalog.now) e.now.source) }
-    ensures first { option_copied result ≡ find (λ e. fits (C.offers catalog.now) ue header.now e.source) entries.now }
+    ensures first { option_copied result
+        ≡ find (λ e. fits (C.offers catalog.now) ue header.now e.source) entries.now }
 {
     for entry in entries {
         if entry.source.fits(catalog, ue, header) {
@@ -60,7 +61,8 @@ fn counted_slot(entry: &Entry) -> Option<Slot>
 /// The slot of the entry of a name, where it is counted.
 pub(crate) fn slot_of<C: Offers>(catalog: &C, entries: &[Entry], name: &RuleName) -> Option<Slot>
     requires { All (λ e. IsKnown (C.offers catalog.now) e.source) entries.now }
-    ensures { result ≡ option_map_or counted_slot (find (λ e. is_named (C.offers catalog.now) name.now e.source) entries.now) None }
+    ensures { result ≡ option_map_or counted_slot
+        (find (λ e. is_named (C.offers catalog.now) name.now e.source) entries.now) None }
 {
     for entry in entries {
         if entry.source.is_named(catalog, name) {

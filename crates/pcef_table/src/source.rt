@@ -57,7 +57,8 @@ impl Source {
     pub(crate) fn compare<C: Offers>(&self, catalog: &C, other: &Source) -> Ordering
         requires known { IsKnown (C.offers catalog.now) self.now }
         requires other_known { IsKnown (C.offers catalog.now) other.now }
-        ensures { result ≡ rank_cmp (rank_of (C.offers catalog.now) self.now) (rank_of (C.offers catalog.now) other.now) }
+        ensures { result ≡ rank_cmp
+            (rank_of (C.offers catalog.now) self.now) (rank_of (C.offers catalog.now) other.now) }
     {
         compare_rules(
             self.properties(catalog),

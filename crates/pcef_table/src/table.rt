@@ -88,9 +88,11 @@ impl Table {
         requires number { self.now.number + 1 < 2 ^ 32 }
         requires table { IsTable (C.offers catalog.now) self.now.entries }
         requires known { IsKnown (C.offers catalog.now) entry.source }
-        requires room { length (placed (C.offers catalog.now) entry self.now.entries) ≤ most_entries }
+        requires room { length (placed (C.offers catalog.now) entry self.now.entries)
+            ≤ most_entries }
         ensures number { IfOk result (λ t. t.number ≡ self.now.number + 1) }
-        ensures entries { IfOk result (λ t. t.entries ≡ placed (C.offers catalog.now) entry self.now.entries) }
+        ensures entries { IfOk result
+            (λ t. t.entries ≡ placed (C.offers catalog.now) entry self.now.entries) }
         ensures table { IfOk result (λ t. IsTable (C.offers catalog.now) t.entries) }
     {
         let entries = copy_with(self.alloc, catalog, self.entries(), entry)?;
@@ -106,7 +108,8 @@ impl Table {
         requires number { self.now.number + 1 < 2 ^ 32 }
         requires table { IsTable (C.offers catalog.now) self.now.entries }
         ensures number { IfOk result (λ t. t.number ≡ self.now.number + 1) }
-        ensures entries { IfOk result (λ t. t.entries ≡ without (C.offers catalog.now) name.now self.now.entries) }
+        ensures entries { IfOk result
+            (λ t. t.entries ≡ without (C.offers catalog.now) name.now self.now.entries) }
         ensures table { IfOk result (λ t. IsTable (C.offers catalog.now) t.entries) }
     {
         self.without_taken(catalog, &Command::Remove(name.copy()))
@@ -136,7 +139,8 @@ impl Table {
         requires number { self.now.number + 1 < 2 ^ 32 }
         requires table { IsTable (C.offers catalog.now) self.now.entries }
         ensures number { IfOk result (λ t. t.number ≡ self.now.number + 1) }
-        ensures entries { IfOk result (λ t. t.entries ≡ without_taken (C.offers catalog.now) command.now self.now.entries) }
+        ensures entries { IfOk result
+            (λ t. t.entries ≡ without_taken (C.offers catalog.now) command.now self.now.entries) }
         ensures table { IfOk result (λ t. IsTable (C.offers catalog.now) t.entries) }
     {
         let entries = copy_without_taken(self.alloc, catalog, self.entries(), command)?;
@@ -151,7 +155,8 @@ impl Table {
     pub fn counting(&self, slot: Slot, on: bool) -> Result<Table, AllocError>
         requires { self.now.number + 1 < 2 ^ 32 }
         ensures number { IfOk result (λ t. t.number ≡ self.now.number + 1) }
-        ensures entries { IfOk result (λ t. t.entries ≡ map (with_counting slot on) self.now.entries) }
+        ensures entries { IfOk result
+            (λ t. t.entries ≡ map (with_counting slot on) self.now.entries) }
         ensures table { IfOk result (λ t. StaysTable self.now.entries t.entries) }
     {
         let entries = copy_counting(self.alloc, self.entries(), slot, on)?;
