@@ -1,6 +1,6 @@
 //! A session with its catalog.
 
-ghost use Rattle.std.specs.Prelude.{◌≡◌, [], IfErr, IfOk, OnErr, true};
+ghost use Rattle.std.specs.Prelude.{◌≡◌, ◌≤◌, [], IfErr, IfNone, IfOk, OnErr, OnOk, true};
 ghost use Rattle.std.specs.Arc.{arc_value};
 ghost use Rattle.std.specs.Result.{result_err};
 ghost use Rattle.pcef_catalog.specs.Catalogs.{offers_of};
@@ -40,7 +40,7 @@ impl Session {
     ghost use Rattle.pcef_model.specs.Terms.{setting_of};
     ghost use Rattle.pcef_session.specs.Agreement.{KeysAgree};
     ghost use Rattle.pcef_session.specs.Answers.{AnswersCommand, AnswersFinish, AnswersFlush, AreActive, IsLaneEnd, IsOpened, KeepsPrepared, MayFollow, Refuses, Settles, ShowsNewest, binding_now};
-    ghost use Rattle.pcef_session.specs.Following.{HasItsSlots};
+    ghost use Rattle.pcef_session.specs.Following.{HasFewKeys, HasItsSlots};
     ghost use Rattle.pcef_session.specs.Preparing.{IsPreparedFor, command_of};
     ghost use Rattle.pcef_session.specs.SessionModel.{HasAtLeast};
 
@@ -112,6 +112,7 @@ impl Session {
         requires slots { HasItsSlots (setting_in self.old) (journal_in self.old) batch.now }
         ensures answer { AnswersFlush (state_of self.old) worker batch.now
             result (state_of self.new) }
+        ensures few_keys { OnOk result (HasFewKeys (setting_in self.old) (journal_in self.old)) }
         ensures setting { setting_in self.new ≡ setting_in self.old }
         ensures room { OnErr result (HasAtLeast (state_of self.old).room (state_of self.new).room) }
     {
@@ -120,7 +121,8 @@ impl Session {
 
     /// As [`SessionState::lane_end`].
     pub fn lane_end(&self, worker: u8) -> Option<LaneEnd>
-        ensures { IsLaneEnd (journal_in self.now) worker result }
+        ensures end { IsLaneEnd (journal_in self.now) worker result }
+        ensures none { IfNone result (lane (journal_in self.now) worker ≡ []) }
     {
         self.state.lane_end(worker)
     }
@@ -140,6 +142,7 @@ impl Session {
         requires slots { HasItsSlots (setting_in self.old) (journal_in self.old) batch.now }
         ensures answer { AnswersFinish (state_of self.old) worker batch.now
             result (state_of self.new) }
+        ensures few_keys { OnOk result (HasFewKeys (setting_in self.old) (journal_in self.old)) }
         ensures setting { setting_in self.new ≡ setting_in self.old }
         ensures room { OnErr result (HasAtLeast (state_of self.old).room (state_of self.new).room) }
     {
@@ -197,10 +200,11 @@ impl Session {
         self.state.generation()
     }
 
-    /// The journal, which is lawful.
+    /// The journal, which is lawful, and takes 4,294,967,295 rows at most.
     pub fn journal(&self) -> &Journal
         ensures journal { result.now.entries ≡ journal_in self.now }
         ensures lawful { Lawful (setting_in self.now) (journal_in self.now) }
+        ensures few_rows { (setting_in self.now).rows ≤ 4294967295 }
     {
         self.state.journal()
     }

@@ -81,7 +81,6 @@ impl Index {
     pub fn build<C: Offers>(alloc: Global, table: &Table, _catalog: &C) -> Result<Index, AllocError>
         ensures { IfOk result (λ i. i ≡ map (λ e. e.source) table.now.entries) }
     {
-        let _few = table.len();
         let sources = copies(alloc, table.entries())?;
         index_of(alloc, sources)
     }

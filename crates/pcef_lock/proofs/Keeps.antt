@@ -1,5 +1,5 @@
 -- What always holds of the value behind the lock stays so as its session goes on.
-use Rattle.std.proofs.Common.{◌≡◌, ◌∙◌, ◌≤◌, ◌<◌, ◌+◌, ◌^◌, ℕ, suc, true, false, List, ◌++◌, length, refl, sym, ap, subst, arith, None, Ok, append-nil}
+use Rattle.std.proofs.Common.{◌≡◌, ◌∙◌, ◌≤◌, ◌<◌, ◌+◌, ◌-◌, ℕ, suc, true, false, List, ◌++◌, length, refl, sym, ap, subst, arith, None, Ok, append-nil}
 use Rattle.std.specs.Prelude.{IfSome, Result, slice_index}
 use Rattle.std.specs.Arc.{arc_value}
 use Rattle.std.specs.Option.{option_map, option_to_list}
@@ -28,6 +28,7 @@ use Rattle.pcef_lock.specs.Locked.{Locked}
 use Rattle.pcef_lock.specs.Published.{ArePublished}
 use Rattle.pcef_lock.specs.private.Soundness.{IsSound}
 use Rattle.pcef_lock.proofs.Counted.{counted_command, counted_kept}
+use Rattle.pcef_lock.proofs.Ledgers.{plus_none}
 use Rattle.pcef_lock.proofs.Publications.{next_table, published_command, published_same}
 
 abbrev pub locked : SessionModel → List TableValue → Account → ℕ → Locked
@@ -110,17 +111,19 @@ next_published p first s ts b places free (Changing change) is ready =
     (next_table s.setting s.journal change.command first ts (option_map (λ x. arc_value x) change.table) ready.table own.kept.published)
 next_published p first s ts b places free (Unchanged name) is idle = tt
 
--- one more fits the book of commands, as it fits the journal
-pub commands_fit : (p : Setting) (first : ℕ) (s t : SessionModel) (ts : List TableValue) (b : Account) (places free : ℕ) (d : Prepared) (a : Accepted) (n : ℕ) → IsSound p first (locked s ts b places) free → IsPreparedFor s d →
-    Gives (command_outcome s.setting s.journal (command_of d)) (Ok a) t.journal → n ≡ length (commands t.journal) → n < 2 ^ 64 → a.unchanged ≡ false → slice_index b.totals command_ledger + 1 < 2 ^ 64
-commands_fit p first s t ts b places free (Changing change) a n is ready gives n_is fits changed =
+-- the commands that the journal gained by one that was settled: one, or none where it changed nothing
+pub settled_gains : (s t : SessionModel) (d : Prepared) (a : Accepted) (m n : ℕ) → IsPreparedFor s d → Gives (command_outcome s.setting s.journal (command_of d)) (Ok a) t.journal →
+    m ≡ length (commands s.journal) → n ≡ length (commands t.journal) → (m ≤ n) × ((xs : List ℕ) → plus xs command_ledger (n - m) ≡ one_more a.unchanged xs)
+settled_gains s t (Changing change) a m n ready gives m_is n_is =
     let done = settled_changing s.setting s.journal change.command a t.journal ready.accepted ready.changing gives in
     let more : length (commands t.journal) ≡ suc (length (commands s.journal)) = ap (λ k. length (commands k)) done.1 ∙ ap length (commands_after s.setting s.journal change.command) in
-    omega (arith, more, n_is, fits, is.kept.counted.commands_are)
-commands_fit p first s t ts b places free (Unchanged name) a n is idle gives n_is fits changed =
+    let one : n - m ≡ 1 = omega (arith, more, m_is, n_is) in
+    (omega (arith, more, m_is, n_is), λ xs. rw done.0 (ap (plus xs command_ledger) one))
+settled_gains s t (Unchanged name) a m n idle gives m_is n_is =
     let done = settled_idle s.setting s.journal name a t.journal idle.accepted idle.active gives in
-    let other : a.unchanged ≡ true = done.0 in
-    absurd cc
+    let same : length (commands t.journal) ≡ length (commands s.journal) = ap (λ k. length (commands k)) done.1 in
+    let none : n - m ≡ 0 = omega (arith, same, m_is, n_is) in
+    (omega (arith, same, m_is, n_is), λ xs. rw done.0 (ap (plus xs command_ledger) none ∙ plus_none xs command_ledger))
 
 -- ---- a worker comes
 pub sound_attached : (p : Setting) (first : ℕ) (s t : SessionModel) (ts : List TableValue) (b c : Account) (places free left number : ℕ) → AttachStep s.journal (Ok number) t.journal → t.setting ≡ s.setting →

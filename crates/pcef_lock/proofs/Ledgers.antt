@@ -2,6 +2,8 @@
 use Rattle.std.proofs.Common.{◌≡◌, ◌≢◌, ◌∙◌, ◌≤◌, ◌<◌, ◌+◌, ◌==◌, ℕ, zero, suc, true, false, List, [], ◌∷◌, ◌++◌, length, refl, sym, ap, arith, inl, inr, Some, None, get_or, get_or-set_same, get_or-set_other, length-set, if◌then◌else◌, add-zero}
 use Rattle.std.specs.Prelude.{slice_get}
 use Rattle.std.specs.Option.{option_map}
+use Rattle.std.proofs.lemmas.List.{set-get_or}
+use Rattle.std.proofs.Math.ListN.{set}
 use Rattle.std.proofs.lemmas.Bool.{cases_Bool, cases_lt}
 use Rattle.std.proofs.lemmas.Bool.Decides.{eqb_tells}
 use Rattle.pcef_model.specs.Setting.{same_name}
@@ -34,6 +36,12 @@ plus_other t i n k differ = get_or-set_other t i k _ 0 differ
 
 pub plus_same : (t : List ℕ) (i n : ℕ) → i < length t → get_or (plus t i n) i 0 ≡ get_or t i 0 + n
 plus_same t i n inside = get_or-set_same t i _ 0 inside
+
+-- nothing more
+pub plus_none : (t : List ℕ) (i : ℕ) → plus t i 0 ≡ t
+plus_none t i =
+    let same : get_or t i 0 + 0 ≡ get_or t i 0 = omega arith in
+    ap (λ x. set t i x) same ∙ set-get_or t i 0
 
 -- ---- what stands at a place
 pub get_left : {X : Type 0} (xs ys : List X) (n : ℕ) → n < length xs → slice_get (xs ++ ys) n ≡ slice_get xs n

@@ -1,29 +1,13 @@
 //! Commands and rows in the books and in shares.
 
-ghost use Rattle.std.specs.Prelude.{◌≡◌, ◌+◌, ◌*◌, ◌<◌, ◌≤◌, ◌^◌, ℕ, All, false, length, slice_index};
+ghost use Rattle.std.specs.Prelude.{◌≡◌, ◌+◌, ◌*◌, ◌<◌, ◌≤◌, ◌^◌, ℕ, All, length, slice_index};
 ghost use Rattle.pcef_session.specs.Following.{HasSmallRows};
-ghost use Rattle.pcef_share.specs.Amounts.{command_ledger, row_ledger};
-ghost use Rattle.pcef_lock.specs.Counting.{IsLow, one_more, with_item, with_items, with_slot};
+ghost use Rattle.pcef_share.specs.Amounts.{row_ledger};
+ghost use Rattle.pcef_lock.specs.Counting.{IsLow, with_item, with_items, with_slot};
 
 use pcef_rule::Slot;
 use pcef_session::Item;
 use pcef_share::{Books, Naming, Shares};
-
-/// Counts a command, unless it changed nothing.
-pub(crate) fn count_command<N: Naming>(
-    books: &mut Books<N>,
-    shares: &mut Shares<N>,
-    unchanged: bool,
-)
-    requires { unchanged ≡ false → slice_index books.old.totals command_ledger + 1 < 2 ^ 64 }
-    ensures books { books.new ≡ record books.old { totals = one_more unchanged books.old.totals } }
-    ensures shares { shares.new ≡ one_more unchanged shares.old }
-{
-    if unchanged {
-        return;
-    }
-    books.add_commands(shares, 1);
-}
 
 /// Adds octets to the book of a slot, if there is one.
 fn count_octets<N: Naming>(

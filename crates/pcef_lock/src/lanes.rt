@@ -16,7 +16,6 @@ pub(crate) fn end_of(session: &SessionState, worker: u8) -> LaneEnd
     ensures generation { result.newest_generation
         ≡ newest_generation (lane session.now.journal worker) }
 {
-    let _lawful = session.journal();
     match session.lane_end(worker) {
         Some(end) => end,
         None => LaneEnd {

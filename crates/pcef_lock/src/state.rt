@@ -14,7 +14,6 @@ ghost use Rattle.pcef_lock.specs.Published.{ArePublished};
 ghost use Rattle.pcef_lock.specs.Seats.{ChangesOnlySubscriber, HasSeenAll, IsNewSeat};
 ghost use mathlib.Core.List.{IsPrefix};
 
-use crate::counting::count_command;
 use crate::publishing::{make_ready, next_subscriber, publish};
 use crate::seat::Seat;
 use pcef_model::{Accepted, AttachFault, Command, Refusal};
@@ -65,20 +64,13 @@ impl<N: Naming, W: Board<Slot<N>> + Drop> Model for State<N, W> {
     }) (length s.subscribers.items) };
 }
 
-/// How many commands a session took, and that its journal is lawful.
+/// How many commands a session took. Its journal is lawful, and takes 4,294,967,295 rows at most.
 fn commands_of(session: &SessionState) -> u64
     ensures commands { result ≡ length (commands session.now.journal) }
     ensures lawful { Lawful session.now.setting session.now.journal }
+    ensures few_rows { session.now.setting.rows ≤ 4294967295 }
 {
     session.journal().commands_len()
-}
-
-/// How many rows the journal of a session takes.
-fn rows_of(session: &SessionState) -> u32
-    ensures rows { result ≡ session.now.setting.rows }
-    ensures most { session.now.setting.rows ≤ 4294967295 }
-{
-    session.profile().rows
 }
 
 /// The address of the user equipment of a session.
@@ -112,7 +104,6 @@ impl<N: Naming, W: Board<Slot<N>> + Drop> State<N, W> {
         ensures shares { result.1 ≡ desk_shares session.journal }
     {
         let commands = commands_of(&session);
-        let _rows = rows_of(&session);
         let mut books = Books::new(blanks);
         let mut shares = books.issue();
         books.add_commands(&mut shares, commands);
@@ -158,13 +149,13 @@ impl<N: Naming, W: Board<Slot<N>> + Drop> State<N, W> {
             Ok(prepared) => prepared,
             Err(refusal) => return Err(refusal),
         };
-        let _before = commands_of(&self.session);
+        let before = commands_of(&self.session);
         if publish(&mut self.publisher, &prepared).is_err() {
             return Err(Refusal::NoMemory);
         }
         let accepted = self.session.settle(prepared);
-        let _after = commands_of(&self.session);
-        count_command(&mut self.books, shares, accepted.unchanged);
+        let gained = commands_of(&self.session) - before;
+        self.books.add_commands(shares, gained);
         Ok(accepted)
     }
 
@@ -187,7 +178,6 @@ impl<N: Naming, W: Board<Slot<N>> + Drop> State<N, W> {
         if make_ready(&mut self.subscribers, &mut self.publisher).is_err() {
             return Err(AttachFault::NoMemory);
         }
-        let _lawful = commands_of(&self.session);
         let worker = match self.session.attach() {
             Ok(worker) => worker,
             Err(fault) => return Err(fault),

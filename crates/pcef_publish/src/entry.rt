@@ -67,6 +67,7 @@ impl<N: Naming> Entry<N> {
         ensures seen { IsSeen N.first self.now result.0 (arc_value result.1.now) }
         ensures table { IsTable N.setting.catalog (arc_value result.1.now).entries }
     {
+        // Its contract says that the tables follow each other.
         let _len = self.front.len();
         (self.table.generation(), &self.table)
     }

@@ -157,6 +157,7 @@ impl<N: Naming> Author<N> {
         requires table { IsTable N.setting.catalog table.now.entries }
         ensures { self.new ≡ self.old ++ table.now ∷ [] }
     {
+        // A generation fits 32 bits, so the number of tables fits 64.
         let _generation = table.generation();
         let next = draw(&self.word, &self.seen, table);
         let ask = Ask {

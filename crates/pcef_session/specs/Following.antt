@@ -1,8 +1,8 @@
 -- The slots that rows count for.
-use Rattle.std.specs.Prelude.{◌<◌, List, Option, All, ◌^◌}
+use Rattle.std.specs.Prelude.{◌<◌, ◌≤◌, List, Option, All, length, ◌^◌}
 use Rattle.pcef_rule.specs.declared.quantity.Slot.{Slot}
 use Rattle.pcef_model.specs.declared.row.Row.{Row}
-use Rattle.pcef_model.specs.Setting.{Setting}
+use Rattle.pcef_model.specs.Setting.{Setting, most_keys}
 use Rattle.pcef_model.specs.Entries.{Journal}
 use Rattle.pcef_model.specs.Journals.{slots}
 use Rattle.pcef_session.specs.declared.batch.Item.{Item}
@@ -17,6 +17,10 @@ slot_of i = i.slot
 -- each row counts for the key of its slot
 abbrev pub HasItsSlots : Setting → Journal → List Item → Type 0
 HasItsSlots p j items = All (λ i. IsWithin (slots p j) i.slot × CountsFor p j i.row i.slot) items
+
+-- as many keys as may have a slot, or fewer
+abbrev pub HasFewKeys : Setting → Journal → Type 0
+HasFewKeys p j = length (slots p j) ≤ most_keys
 
 -- the octets of each row fit 32 bits
 abbrev pub HasSmallRows : List Item → Type 0

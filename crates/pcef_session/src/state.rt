@@ -203,10 +203,11 @@ impl SessionState {
         self.newest.generation()
     }
 
-    /// The journal, which is lawful.
+    /// The journal, which is lawful, and takes 4,294,967,295 rows at most.
     pub fn journal(&self) -> &Journal
         ensures journal { result.now.entries ≡ self.now.journal }
         ensures lawful { Lawful self.now.setting self.now.journal }
+        ensures few_rows { self.now.setting.rows ≤ 4294967295 }
     {
         self.counted.journal()
     }

@@ -18,12 +18,11 @@ impl<N: Naming, W: Board<Slot<N>> + Drop> State<N, W> {
         ensures numbered { IfOk result (λ v. AreNumbered from v.items) }
         ensures fits { IfOk result (λ v. from + length v.items < 2 ^ 64) }
     {
-        let _many = self.session.journal().reports_len();
-        let collected = self
-            .session
-            .journal()
-            .reports_from(from)
-            .to_vec(self.alloc)?;
+        let journal = self.session.journal();
+        if journal.reports_len() <= from {
+            return Ok(Vec::new(self.alloc));
+        }
+        let collected = journal.reports_from(from).to_vec(self.alloc)?;
         Ok(collected)
     }
 }

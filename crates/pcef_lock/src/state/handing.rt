@@ -1,8 +1,7 @@
 //! Rows that workers hand over, and workers that leave.
 
-ghost use Rattle.std.specs.Prelude.{◌≡◌, ◌≤◌, IfOk, length};
+ghost use Rattle.std.specs.Prelude.{◌≡◌, IfOk};
 ghost use Rattle.pcef_model.specs.Outcomes.{abandon_outcome};
-ghost use Rattle.pcef_model.specs.Journals.{slots};
 ghost use Rattle.pcef_lock.specs.Outcomes.{AnswersHandOver, AnswersLeave, judged_rows};
 ghost use Rattle.pcef_lock.specs.Counting.{books_with_taken, with_taken};
 ghost use Rattle.pcef_lock.specs.Judging.{AllJudged};
@@ -16,16 +15,8 @@ use crate::lanes::{continues, end_of};
 use crate::seat::Seat;
 use pcef_model::{FlushRefusal, Verdicts};
 use pcef_publish::{Board, Slot};
-use pcef_session::{Batch, SessionState};
+use pcef_session::Batch;
 use pcef_share::Naming;
-
-/// How many keys of a session have a slot.
-fn slot_count(session: &SessionState) -> usize
-    ensures number { result ≡ length (slots session.now.setting session.now.journal) }
-    ensures few { result ≤ 8 }
-{
-    session.usage().states().len()
-}
 
 impl<N: Naming, W: Board<Slot<N>> + Drop> State<N, W> {
     /// Whether rows of a worker continue its lane.
@@ -56,7 +47,6 @@ impl<N: Naming, W: Board<Slot<N>> + Drop> State<N, W> {
         if !self.continues_lane(seat.worker, batch) {
             return Err(FlushRefusal::NotAttached);
         }
-        let _slots = slot_count(&self.session);
         let verdicts = match self.session.flush(seat.worker, batch) {
             Ok(verdicts) => verdicts,
             Err(refusal) => return Err(refusal),
@@ -87,7 +77,6 @@ impl<N: Naming, W: Board<Slot<N>> + Drop> State<N, W> {
         if !self.continues_lane(seat.worker, batch) {
             return Err(FlushRefusal::NotAttached);
         }
-        let _slots = slot_count(&self.session);
         let last = match self.session.finish(seat.worker, batch) {
             Ok(last) => last,
             Err(refusal) => return Err(refusal),

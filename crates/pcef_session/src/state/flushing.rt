@@ -5,7 +5,7 @@ ghost use Rattle.pcef_model.specs.Entries.{rows};
 ghost use Rattle.pcef_model.specs.Reports.{after_flush};
 ghost use Rattle.pcef_model.specs.Outcomes.{flush_answer, flush_answer_of};
 ghost use Rattle.pcef_session.specs.Answers.{AnswersFlush, MayFollow};
-ghost use Rattle.pcef_session.specs.Following.{HasItsSlots, HasSmallRows, row_of};
+ghost use Rattle.pcef_session.specs.Following.{HasFewKeys, HasItsSlots, HasSmallRows, row_of};
 ghost use Rattle.pcef_session.specs.SessionModel.{HasAtLeast};
 ghost use Rattle.pcef_session.specs.private.Sessions.{AcceptsRows};
 ghost use Rattle.pcef_model.specs.Refusals.{first_of, flush_refusals};
@@ -56,6 +56,7 @@ impl SessionState {
             ≡ flush_answer (map row_of items.now) self.old.journal self.new.journal) }
         ensures taken { OnOk result (self.new.journal
             ≡ after_flush self.old.setting self.old.journal (map row_of items.now)) }
+        ensures few_keys { OnOk result (HasFewKeys self.old.setting self.old.journal) }
         ensures kept { OnErr result (self.new.journal ≡ self.old.journal) }
         ensures setting { self.new.setting ≡ self.old.setting }
         ensures room { OnErr result (HasAtLeast self.old.room self.new.room) }
@@ -81,6 +82,7 @@ impl SessionState {
         requires follow { MayFollow self.old worker batch.now }
         requires slots { HasItsSlots self.old.setting self.old.journal batch.now }
         ensures answer { AnswersFlush self.old worker batch.now result self.new }
+        ensures few_keys { OnOk result (HasFewKeys self.old.setting self.old.journal) }
         ensures setting { self.new.setting ≡ self.old.setting }
         ensures room { OnErr result (HasAtLeast self.old.room self.new.room) }
     {

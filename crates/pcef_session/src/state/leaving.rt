@@ -1,12 +1,13 @@
 //! Workers that leave.
 
-ghost use Rattle.std.specs.Prelude.{◌≡◌, OnErr, true};
+ghost use Rattle.std.specs.Prelude.{◌≡◌, [], IfNone, OnErr, OnOk, true};
+ghost use Rattle.pcef_model.specs.Entries.{lane};
 ghost use Rattle.pcef_model.specs.Outcomes.{abandon_outcome};
 ghost use Rattle.pcef_model.specs.Journals.{lane_len};
 ghost use Rattle.pcef_model.specs.Refusals.{is_attached};
 ghost use Rattle.pcef_model.specs.Reports.{after_leave};
 ghost use Rattle.pcef_session.specs.Answers.{AnswersFinish, IsLaneEnd, MayFollow};
-ghost use Rattle.pcef_session.specs.Following.{HasItsSlots};
+ghost use Rattle.pcef_session.specs.Following.{HasFewKeys, HasItsSlots};
 ghost use Rattle.pcef_session.specs.SessionModel.{HasAtLeast};
 
 use super::SessionState;
@@ -15,9 +16,11 @@ use pcef_lane::LaneEnd;
 use pcef_model::{Entry, FlushRefusal, Verdicts};
 
 impl SessionState {
-    /// Where a worker's lane ends, and whether the worker is attached; or `None` of a worker that never came.
+    /// Where a worker's lane ends, and whether the worker is attached; or `None` of a worker that never came, which has
+    /// no rows.
     pub fn lane_end(&self, worker: u8) -> Option<LaneEnd>
-        ensures { IsLaneEnd self.now.journal worker result }
+        ensures end { IsLaneEnd self.now.journal worker result }
+        ensures none { IfNone result (lane self.now.journal worker ≡ []) }
     {
         self.lanes.get(worker).copied()
     }
@@ -52,6 +55,7 @@ impl SessionState {
         requires follow { MayFollow self.old worker batch.now }
         requires slots { HasItsSlots self.old.setting self.old.journal batch.now }
         ensures answer { AnswersFinish self.old worker batch.now result self.new }
+        ensures few_keys { OnOk result (HasFewKeys self.old.setting self.old.journal) }
         ensures setting { self.new.setting ≡ self.old.setting }
         ensures room { OnErr result (HasAtLeast self.old.room self.new.room) }
     {

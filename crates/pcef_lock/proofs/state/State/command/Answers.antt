@@ -1,9 +1,9 @@
-use Rattle.std.proofs.Common.{rules, ◌≡◌, ◌++◌, ap, length}
+use Rattle.std.proofs.Common.{rules, ◌≡◌, ◌++◌, ◌∙◌, ap, length}
 use Rattle.std.specs.Option.{option_to_list}
 use Rattle.pcef_session.specs.Preparing.{table_made}
 use Rattle.pcef_publish.proofs.Runs.{prefix_self}
 use Rattle.pcef_lock.proofs.Commanded.{does_not, grown_by}
-use Rattle.pcef_lock.proofs.Keeps.{commands_fit, next_published, sound_same, sound_settled}
+use Rattle.pcef_lock.proofs.Keeps.{next_published, settled_gains, sound_same, sound_settled}
 use Rattle.pcef_lock.proofs.state.State.command.Goals as goal
 
 pub invariant_of-self : goal.invariant_of-self
@@ -28,19 +28,32 @@ publish-requires g c =
     c.prepare.ensures.setting c.prepare.ensures.journal c.self.invariant in
     next_published g.N.Naming.setting g.N.Naming.first c.prepare.new.self c.self.inside.publisher c.self.inside.books c.self.inside.places (length c.self.inside.subscribers.items) c.in-Ok.prepared kept c.in-Ok.ensures.ready
 
-pub count_command-requires : goal.count_command-requires
-count_command-requires g c =
-    let kept = sound_same g.N.Naming.setting g.N.Naming.first c.self.inside.session c.prepare.new.self c.self.inside.publisher c.self.inside.books c.self.inside.places (length c.self.inside.subscribers.items)
-    c.prepare.ensures.setting c.prepare.ensures.journal c.self.invariant in
-    commands_fit g.N.Naming.setting g.N.Naming.first c.prepare.new.self c.settle-accepted.new.self c.self.inside.publisher c.self.inside.books c.self.inside.places (length c.self.inside.subscribers.items)
-    c.in-Ok.prepared c.settle-accepted.result c.commands_of-after.result kept c.in-Ok.ensures.ready c.settle-accepted.ensures.answer c.commands_of-after.ensures.commands c.commands_of-after.type_inv
+pub overflow_sub-gained : goal.overflow_sub-gained
+overflow_sub-gained g c =
+    (settled_gains c.prepare.new.self c.settle-accepted.new.self c.in-Ok.prepared c.settle-accepted.result c.commands_of-before.result c.commands_of.result
+    c.in-Ok.ensures.ready c.settle-accepted.ensures.answer c.commands_of-before.ensures.commands c.commands_of.ensures.commands).0
+
+pub returns-clause-books : goal.returns-clause-books
+returns-clause-books g c =
+    let gains = settled_gains c.prepare.new.self c.settle-accepted.new.self c.in-Ok.prepared c.settle-accepted.result c.commands_of-before.result c.commands_of.result
+    c.in-Ok.ensures.ready c.settle-accepted.ensures.answer c.commands_of-before.ensures.commands c.commands_of.ensures.commands in
+    rw (← ap (λ v. v.books) c.self.view_is)
+    (c.add_commands.ensures.books ∙ ap (λ xs. record { totals = xs; issued = c.self.inside.books.issued }) (gains.1 c.self.inside.books.totals))
+
+pub returns-clause-shares : goal.returns-clause-shares
+returns-clause-shares g c =
+    let gains = settled_gains c.prepare.new.self c.settle-accepted.new.self c.in-Ok.prepared c.settle-accepted.result c.commands_of-before.result c.commands_of.result
+    c.in-Ok.ensures.ready c.settle-accepted.ensures.answer c.commands_of-before.ensures.commands c.commands_of.ensures.commands in
+    c.add_commands.ensures.shares ∙ gains.1 c.args.shares.now
 
 pub invariant_of-self-2 : goal.invariant_of-self-2
 invariant_of-self-2 g c =
     let grown : c.publish.new.publisher ≡ c.self.inside.publisher ++ option_to_list (table_made c.in-Ok.prepared) = search rules in
     let kept = sound_same g.N.Naming.setting g.N.Naming.first c.self.inside.session c.prepare.new.self c.self.inside.publisher c.self.inside.books c.self.inside.places (length c.self.inside.subscribers.items)
     c.prepare.ensures.setting c.prepare.ensures.journal c.self.invariant in
-    rw (grown, c.count_command.ensures.books)
+    let gains = settled_gains c.prepare.new.self c.settle-accepted.new.self c.in-Ok.prepared c.settle-accepted.result c.commands_of-before.result c.commands_of.result
+    c.in-Ok.ensures.ready c.settle-accepted.ensures.answer c.commands_of-before.ensures.commands c.commands_of.ensures.commands in
+    rw (grown, c.add_commands.ensures.books, gains.1 c.self.inside.books.totals)
     (sound_settled g.N.Naming.setting g.N.Naming.first c.prepare.new.self c.settle-accepted.new.self c.self.inside.publisher c.self.inside.books c.self.inside.places (length c.self.inside.subscribers.items)
     c.in-Ok.prepared c.settle-accepted.result c.commands_of-before.ensures.lawful c.in-Ok.ensures.ready c.settle-accepted.ensures.answer c.settle-accepted.ensures.setting kept)
 

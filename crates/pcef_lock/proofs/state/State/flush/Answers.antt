@@ -36,7 +36,7 @@ count_items-requires-clause-low g c =
     let goes_on : continues_lane c.self.inside.session.journal c.args.seat.now.worker c.args.batch.now ≡ true = search rules in
     let well = handed_well g.N.Naming.setting g.N.Naming.first c.self.inside.session c.self.inside.publisher c.args.seat.now.subscriber c.self.inside.books c.self.inside.places (length c.self.inside.subscribers.items)
     c.args.seat.now.worker c.args.batch.now c.self.invariant goes_on c.compare.ensures.begins c.requires in
-    let few : length (slots c.self.inside.session.setting c.self.inside.session.journal) ≤ 8 = omega (arith, c.slot_count-slots.ensures.number, c.slot_count-slots.ensures.few) in
+    let few : length (slots c.self.inside.session.setting c.self.inside.session.journal) ≤ 8 = c.in-Ok.ensures.few_keys in
     subst (λ (xs : List Item). All (λ (i : Item). IsLow i.slot) xs) (sym c.items.ensures.items) (all_low c.self.inside.session.setting c.self.inside.session.journal c.args.batch.now few well.has)
 
 pub count_items-requires-clause-fits : goal.count_items-requires-clause-fits
@@ -52,7 +52,7 @@ invariant_of-self-2 g c =
     let goes_on : continues_lane c.self.inside.session.journal c.args.seat.now.worker c.args.batch.now ≡ true = search rules in
     let well = handed_well g.N.Naming.setting g.N.Naming.first c.self.inside.session c.self.inside.publisher c.args.seat.now.subscriber c.self.inside.books c.self.inside.places (length c.self.inside.subscribers.items)
     c.args.seat.now.worker c.args.batch.now c.self.invariant goes_on c.compare.ensures.begins c.requires in
-    let few : length (slots c.self.inside.session.setting c.self.inside.session.journal) ≤ 8 = omega (arith, c.slot_count-slots.ensures.number, c.slot_count-slots.ensures.few) in
+    let few : length (slots c.self.inside.session.setting c.self.inside.session.journal) ≤ 8 = c.in-Ok.ensures.few_keys in
     let small : HasSmallRows c.args.batch.now = subst HasSmallRows c.items.ensures.items c.items.ensures.octets in
     let once = flushed_once c.self.inside.session.setting c.args.seat.now.worker (map row_of c.args.batch.now) c.self.inside.session.journal c.flush.new.self.journal (flush_answer_of c.in-Ok.verdicts) c.in-Ok.ensures.answer in
     let books : c.count_items.new.books ≡ record { totals = with_items c.self.inside.books.totals c.args.batch.now; issued = c.self.inside.books.issued } =
