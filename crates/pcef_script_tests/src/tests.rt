@@ -7,4 +7,3 @@ mod ends;
 mod fronts;
 mod memory;
 mod refused_profiles;
-mod script;

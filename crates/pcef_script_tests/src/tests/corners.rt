@@ -1,9 +1,9 @@
-//! Ends that fail once and would then work again, and lines at fault over several blocks.
+//! Ends that fail once and would then work again, and the longest line.
 
 use pcef_catalog::Catalog;
 use pcef_profile::read_profile;
 use pcef_script::{ScriptFault, run_script};
-use pcef_test_scripts::PROFILE;
+use pcef_test_scripts::{PROFILE, run};
 use std::alloc::Global;
 use std::io;
 use std::io::{Read, Write};
@@ -156,19 +156,25 @@ fn a_writer_that_fails_once_is_not_written_again(rt: HostRuntime) -> Result<(), 
 }
 
 #[test]
-fn two_hundred_lines_at_fault_over_several_blocks(rt: HostRuntime) -> Result<(), Fail> {
+fn a_line_has_262_144_bytes_at_most(rt: HostRuntime) -> Result<(), Fail> {
     let alloc = rt.alloc();
     let mut script = String::new(alloc);
-    let mut answers = String::new(alloc);
-    for _ in 0..200 {
-        for _ in 0..150 {
-            script.push('x')?;
-        }
-        script.push('\n')?;
-        answers.push_str("{\"fault\":3,\"name\":\"NotJson\"}\n")?;
+    for _ in 0..262_144 {
+        script.push(' ')?;
     }
-    let (text, faults) = pcef_test_scripts::run(alloc, PROFILE, script.as_str())?;
-    assert_eq!(rt; text.as_str(), answers.as_str());
-    assert_eq!(rt; faults, 200);
+    script.push('\n')?;
+    let (text, faults) = run(alloc, PROFILE, script.as_str())?;
+    assert_eq!(rt; text.as_str(), "");
+    assert_eq!(rt; faults, 0);
+    let mut longer = String::new(alloc);
+    longer.push(' ')?;
+    longer.push_str(script.as_str())?;
+    longer.push_str("{\"do\":\"show\"}\n")?;
+    let (text, faults) = run(alloc, PROFILE, longer.as_str())?;
+    assert_eq!(rt;
+        text.as_str(),
+        "{\"fault\":1,\"name\":\"LineTooLong\"}\n{\"active\":[],\"bearers\":[{\"down\":0,\"id\":5,\"rules\":0,\"up\":0}],\"generation\":0,\"keys\":[]}\n"
+    );
+    assert_eq!(rt; faults, 1);
     Ok(())
 }

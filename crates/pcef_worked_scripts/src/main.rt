@@ -1,0 +1,96 @@
+//! Runs the worked scripts that its words name, and compares what they answer with what was worked out by hand.
+//!
+//! `NAME.jsonl` has the lines of a script, and `NAME.answers.jsonl` their answers. The session's profile is `NAME.toml`
+//! where there is such a file, else `profile.toml`. For each script a line is written: how many answers it has and how
+//! many of its lines are at fault, or the first answer that isn't as worked out. The exit status is 1 where there is such
+//! an answer, and 3 where a file can't be read, a profile is at fault or a script ends early.
+#![tactic(auto)]
+
+mod comparing;
+
+use comparing::{Difference, first_difference};
+use pcef_catalog::Catalog;
+use pcef_profile::read_profile;
+use pcef_script::run_script;
+use std::io::{self, ErrorKind, Write};
+use std::process::ExitCode;
+use std::sync::Arc;
+use std::{env, fs};
+
+/// The text of the profile of a script.
+fn profile_of(rt: &HostRuntime, name: &str) -> io::Result<String> {
+    let own = format!(in rt.alloc(); "{name}.toml")?;
+    match fs::read_to_string(rt, own.as_str()) {
+        Ok(text) => Ok(text),
+        Err(error) if error.kind() == ErrorKind::NotFound => fs::read_to_string(rt, "profile.toml"),
+        Err(error) => Err(error),
+    }
+}
+
+/// What a script answers, and how many of its lines are at fault.
+fn answered(rt: &HostRuntime, catalog: Arc<Catalog>, name: &str) -> io::Result<(String, u64)> {
+    let alloc = rt.alloc();
+    let text = profile_of(rt, name)?;
+    let Ok(profile) = read_profile(alloc, text.as_str()) else {
+        return Err(ErrorKind::InvalidData.into());
+    };
+    let path = format!(in alloc; "{name}.jsonl")?;
+    let script = fs::read_to_string(rt, path.as_str())?;
+    let mut written = Vec::new(alloc);
+    let Ok(faults) = run_script(
+        alloc,
+        &mut script.as_bytes(),
+        &mut written,
+        profile,
+        catalog,
+    ) else {
+        return Err(ErrorKind::InvalidData.into());
+    };
+    match String::from_utf8(written) {
+        Ok(answers) => Ok((answers, faults)),
+        Err(_) => Err(ErrorKind::InvalidData.into()),
+    }
+}
+
+/// Tells what a script came to, and gives whether each answer is as worked out.
+fn compare(rt: &HostRuntime, catalog: Arc<Catalog>, name: &str) -> io::Result<bool> {
+    let (answers, faults) = answered(rt, catalog, name)?;
+    let path = format!(in rt.alloc(); "{name}.answers.jsonl")?;
+    let wanted = fs::read_to_string(rt, path.as_str())?;
+    let mut writer = io::writer(rt);
+    match first_difference(answers.as_str(), wanted.as_str()) {
+        None => {
+            let count = answers.as_str().lines().count();
+            writeln!(writer, "{name}: {count} answers, {faults} lines at fault")?;
+            Ok(true)
+        }
+        Some(Difference { line, is, due }) => {
+            writeln!(writer, "{name}: answer {line} is {is} where {due} is due")?;
+            Ok(false)
+        }
+    }
+}
+
+/// Runs all scripts that the words name, and gives whether each answer of each is as worked out.
+fn compare_all(rt: &HostRuntime, catalog: Arc<Catalog>) -> io::Result<bool> {
+    let mut are_all = true;
+    for name in env::args(rt)?.skip(1) {
+        are_all &= compare(rt, Arc::try_clone(&catalog)?, name.as_str())?;
+    }
+    Ok(are_all)
+}
+
+fn main(rt: HostRuntime) -> ExitCode {
+    let alloc = rt.alloc();
+    let Ok(catalog) = Catalog::new(alloc, Vec::new(alloc)) else {
+        return ExitCode::from(3);
+    };
+    let Ok(catalog) = Arc::new(alloc, catalog) else {
+        return ExitCode::from(3);
+    };
+    match compare_all(&rt, catalog) {
+        Ok(true) => ExitCode::from(0),
+        Ok(false) => ExitCode::from(1),
+        Err(_) => ExitCode::from(3),
+    }
+}
