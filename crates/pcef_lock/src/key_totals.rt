@@ -1,7 +1,6 @@
 //! The totals of monitoring keys.
 
 ghost use Rattle.std.specs.Prelude.{◌≡◌, ◌<◌, ◌++◌, ◌∷◌, [], length};
-ghost use Rattle.pcef_rule.specs.Name.{IsName};
 
 use arrayvec::ArrayVec;
 use pcef_rule::KeyName;
@@ -25,19 +24,10 @@ pub struct KeyTotal {
 #[derive(Clone, Copy)]
 pub(crate) struct Vacant;
 
-fn name_of(text: &str) -> KeyName
-    requires { IsName text.now }
-{
-    match KeyName::new(text) {
-        Ok(name) => name,
-        Err(_) => unreachable!(),
-    }
-}
-
 impl MadeWith<Vacant> for KeyTotal {
     fn made_with(_vacant: Vacant) -> KeyTotal {
         KeyTotal {
-            key: name_of("-"),
+            key: KeyName::known("-"),
             counted: 0,
             reported: 0,
             unreported: 0,

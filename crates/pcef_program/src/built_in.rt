@@ -13,34 +13,14 @@ use pcef_catalog::{Alternative, Shape, Test};
 use pcef_packet::{Dir, Header};
 use pcef_rule::{Arp, Gate, KeyName, Properties, Qci, Qos, RuleName};
 
-fn rule_name(text: &str) -> RuleName
-    requires { IsName text.now }
-    ensures { result ≡ text.now }
-{
-    match RuleName::new(text) {
-        Ok(name) => name,
-        Err(_) => unreachable!(),
-    }
-}
-
-fn key_name(text: &str) -> KeyName
-    requires { IsName text.now }
-    ensures { result ≡ text.now }
-{
-    match KeyName::new(text) {
-        Ok(name) => name,
-        Err(_) => unreachable!(),
-    }
-}
-
 /// The pair of a QCI and of an ARP that can't pre-empt.
 fn qos(qci: u8, level: u8, vulnerability: bool) -> Qos
     requires { IsLevel level }
     ensures { result ≡ qos_of qci level vulnerability }
 {
-    match Arp::new(level, false, vulnerability) {
-        Ok(arp) => Qos { qci: Qci(qci), arp },
-        Err(_) => unreachable!(),
+    Qos {
+        qci: Qci(qci),
+        arp: Arp::known(level, false, vulnerability),
     }
 }
 
@@ -56,7 +36,7 @@ fn properties(name: &str, precedence: u32, qos: Qos, key: Option<KeyName>) -> Pr
     } }
 {
     Properties {
-        name: rule_name(name),
+        name: RuleName::known(name),
         precedence,
         qos,
         rates: None,
@@ -69,7 +49,7 @@ fn properties(name: &str, precedence: u32, qos: Qos, key: Option<KeyName>) -> Pr
 pub fn dns_properties() -> Properties
     ensures { result ≡ dns_properties }
 {
-    properties("pre-dns", 50, qos(9, 8, true), Some(key_name("dns")))
+    properties("pre-dns", 50, qos(9, 8, true), Some(KeyName::known("dns")))
 }
 
 /// The properties of the rule for expedited forwarding.

@@ -88,6 +88,17 @@ impl<K> Name<K> {
         })
     }
 
+    /// The name that a text is which is known to be one. Takes no memory.
+    pub fn known(text: &str) -> Name<K>
+        requires { IsName text.now }
+        ensures { result ≡ text.now }
+    {
+        match Name::new(text) {
+            Ok(name) => name,
+            Err(_) => unreachable!(),
+        }
+    }
+
     /// The text of the name.
     pub fn as_str(&self) -> &str
         ensures text { result.now ≡ self.now }

@@ -55,6 +55,18 @@ impl Arp {
         })
     }
 
+    /// The priority of a level that is known to be 1 to 15.
+    pub fn known(level: u8, capability: bool, vulnerability: bool) -> Arp
+        requires { IsLevel level }
+        ensures { result
+            ≡ record { level = level; capability = capability; vulnerability = vulnerability } }
+    {
+        match Arp::new(level, capability, vulnerability) {
+            Ok(arp) => arp,
+            Err(_) => unreachable!(),
+        }
+    }
+
     /// The priority level, 1 to 15.
     pub fn level(self) -> u8
         ensures { result ≡ self.level }

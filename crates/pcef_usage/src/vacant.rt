@@ -1,8 +1,5 @@
 //! What lies in the slots that no key has.
 
-ghost use Rattle.std.specs.Prelude.{◌≡◌};
-ghost use Rattle.pcef_rule.specs.Name.{IsName};
-
 use crate::usage::KeyState;
 use arrayvec::ArrayVec;
 use pcef_rule::KeyName;
@@ -15,19 +12,10 @@ pub(crate) type KeyStates = ArrayVec<KeyState, 8, Vacant>;
 #[derive(Clone, Copy)]
 pub(crate) struct Vacant;
 
-fn name_of(text: &str) -> KeyName
-    requires { IsName text.now }
-{
-    match KeyName::new(text) {
-        Ok(name) => name,
-        Err(_) => unreachable!(),
-    }
-}
-
 impl MadeWith<Vacant> for KeyState {
     fn made_with(_vacant: Vacant) -> KeyState {
         KeyState {
-            key: name_of("-"),
+            key: KeyName::known("-"),
             on: false,
             grant: None,
             reported: 0,
