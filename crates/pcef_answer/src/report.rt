@@ -2,10 +2,12 @@
 
 ghost use Rattle.std.specs.Prelude.{◌≡◌, IfOk};
 ghost use Rattle.serde_json.specs.View.{view};
-ghost use Rattle.pcef_answer.specs.ReportAnswers.{cause_text, kind_text, inactive_text, report_data, reports_data, told_reports};
+ghost use Rattle.pcef_model.specs.declared.report.Body.TheVariants.{Access, Inactive, Usage};
+ghost use Rattle.pcef_answer.specs.ReportAnswers.{body_data, cause_text, kind_text, inactive_text, report_data, reports_data, told_reports};
 
 use pcef_journal::{Journal, Reports};
-use pcef_model::{AccessKind, Body, Cause, InactiveCause, Report};
+use pcef_model::{AccessKind, Body, Cause, InactiveCause, NoticeValue, Report};
+use pcef_rule::{KeyName, RuleName};
 use serde_json::{Value, json};
 use std::alloc::{AllocError, Global};
 
@@ -45,16 +47,44 @@ fn report_value(alloc: Global, report: &Report) -> Result<Value, AllocError>
 {
     let number = report.number;
     match &report.body {
-        Body::Usage { key, octets, cause } => {
-            json!(in alloc; { "cause": cause_text(*cause), "key": key.as_str(), "number": number, "octets": *octets })
-        }
-        Body::Access { kind, value } => {
-            json!(in alloc; { "event": kind_text(*kind), "number": number, "value": value.as_str() })
-        }
-        Body::Inactive { rule, cause } => {
-            json!(in alloc; { "cause": inactive_text(*cause), "number": number, "rule": rule.as_str() })
-        }
+        Body::Usage { key, octets, cause } => usage_value(alloc, number, key, *octets, *cause),
+        Body::Access { kind, value } => access_value(alloc, number, *kind, value),
+        Body::Inactive { rule, cause } => inactive_value(alloc, number, rule, *cause),
     }
+}
+
+fn usage_value(
+    alloc: Global,
+    number: u64,
+    key: &KeyName,
+    octets: u64,
+    cause: Cause,
+) -> Result<Value, AllocError>
+    ensures { IfOk result (λ v. view v ≡ body_data number (Usage key.now octets cause)) }
+{
+    json!(in alloc; { "cause": cause_text(cause), "key": key.as_str(), "number": number, "octets": octets })
+}
+
+fn access_value(
+    alloc: Global,
+    number: u64,
+    kind: AccessKind,
+    value: &NoticeValue,
+) -> Result<Value, AllocError>
+    ensures { IfOk result (λ v. view v ≡ body_data number (Access kind value.now)) }
+{
+    json!(in alloc; { "event": kind_text(kind), "number": number, "value": value.as_str() })
+}
+
+fn inactive_value(
+    alloc: Global,
+    number: u64,
+    rule: &RuleName,
+    cause: InactiveCause,
+) -> Result<Value, AllocError>
+    ensures { IfOk result (λ v. view v ≡ body_data number (Inactive rule.now cause)) }
+{
+    json!(in alloc; { "cause": inactive_text(cause), "number": number, "rule": rule.as_str() })
 }
 
 fn report_values(alloc: Global, reports: Reports<'_>) -> Result<Value, AllocError>

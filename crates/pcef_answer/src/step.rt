@@ -1,11 +1,12 @@
 //! The answers to commands and to the steps of workers.
 
-ghost use Rattle.std.specs.Prelude.{◌≡◌, IfOk, string_bytes};
+ghost use Rattle.std.specs.Prelude.{◌≡◌, IfOk, None, Some, false, true, string_bytes};
+ghost use Rattle.serde_json.specs.Data.{object};
 ghost use Rattle.serde_json.specs.View.{view};
 ghost use Rattle.serde_json.specs.Written.{compact_text};
 ghost use Rattle.pcef_session.specs.Answers.{finished_of, flushed_of};
 ghost use Rattle.pcef_world.specs.Steps.{reply_of};
-ghost use Rattle.pcef_answer.specs.StepAnswers.{abandoned_data, accepted_data, command_text, attached_data, attached_text, taken_text, refreshed_data, finished_text, flushed_text, step_text};
+ghost use Rattle.pcef_answer.specs.StepAnswers.{abandoned_data, accepted_data, command_text, attached_data, attached_text, taken_text, refreshed_data, finished_text, flushed_text, members_told, step_text};
 
 use crate::refusal::{
     attach_fault_answer, flush_refusal_answer, no_worker_answer, refusal_answer, refused_answer,
@@ -14,6 +15,7 @@ use crate::report::report_list;
 use crate::written;
 use pcef_journal::Journal;
 use pcef_model::{Accepted, AttachFault, FlushRefusal, Refusal, Verdicts};
+use pcef_rule::BearerId;
 use pcef_session::BatchFull;
 use pcef_world::{Abandoned, StepAnswer};
 use serde_json::{Value, json};
@@ -68,18 +70,49 @@ fn accepted_value(alloc: Global, journal: &Journal, accepted: Accepted) -> Resul
     )?;
     let generation = accepted.generation;
     match (accepted.bearer, accepted.unchanged) {
-        (None, false) =>
-            json!(in alloc; { "generation": generation, "ok": true, "reports": reports }),
-        (None, true) => {
-            json!(in alloc; { "generation": generation, "ok": true, "reports": reports, "unchanged": true })
-        }
-        (Some(bearer), false) => {
-            json!(in alloc; { "bearer": bearer.0, "generation": generation, "ok": true, "reports": reports })
-        }
-        (Some(bearer), true) => {
-            json!(in alloc; { "bearer": bearer.0, "generation": generation, "ok": true, "reports": reports, "unchanged": true })
-        }
+        (None, false) => changed(alloc, generation, reports),
+        (None, true) => unchanged(alloc, generation, reports),
+        (Some(bearer), false) => changed_on(alloc, bearer, generation, reports),
+        (Some(bearer), true) => unchanged_on(alloc, bearer, generation, reports),
     }
+}
+
+fn changed(alloc: Global, generation: u32, reports: Value) -> Result<Value, AllocError>
+    ensures { IfOk result (λ v. view v
+        ≡ object (members_told (view reports) None generation false)) }
+{
+    json!(in alloc; { "generation": generation, "ok": true, "reports": reports })
+}
+
+fn unchanged(alloc: Global, generation: u32, reports: Value) -> Result<Value, AllocError>
+    ensures { IfOk result (λ v. view v
+        ≡ object (members_told (view reports) None generation true)) }
+{
+    json!(in alloc; { "generation": generation, "ok": true, "reports": reports, "unchanged": true })
+}
+
+fn changed_on(
+    alloc: Global,
+    bearer: BearerId,
+    generation: u32,
+    reports: Value,
+) -> Result<Value, AllocError>
+    ensures { IfOk result (λ v. view v
+        ≡ object (members_told (view reports) (Some bearer) generation false)) }
+{
+    json!(in alloc; { "bearer": bearer.0, "generation": generation, "ok": true, "reports": reports })
+}
+
+fn unchanged_on(
+    alloc: Global,
+    bearer: BearerId,
+    generation: u32,
+    reports: Value,
+) -> Result<Value, AllocError>
+    ensures { IfOk result (λ v. view v
+        ≡ object (members_told (view reports) (Some bearer) generation true)) }
+{
+    json!(in alloc; { "bearer": bearer.0, "generation": generation, "ok": true, "reports": reports, "unchanged": true })
 }
 
 // A worker comes in this generation.
