@@ -33,7 +33,8 @@ pub(crate) fn take_rows(counted: &mut CountedJournal, items: &[Item])
     requires room { length items.now ≤ counted.old.room }
     requires fits { CanCountAll items.now counted.old.states }
     ensures journal { counted.new.journal ≡ with_rows (map row_of items.now) counted.old.journal }
-    ensures states { counted.new.states ≡ rows_counted row_of row_slots items.now counted.old.states }
+    ensures states { counted.new.states
+        ≡ rows_counted row_of row_slots items.now counted.old.states }
     ensures room { counted.old.room ≤ counted.new.room + length items.now }
 {
     for item in items {
