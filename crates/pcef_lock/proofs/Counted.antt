@@ -1,8 +1,10 @@
 -- The books of a session stay right as its journal grows.
-use Rattle.std.proofs.Common.{◌≡◌, ◌≢◌, ◌∙◌, ◌≤◌, ◌<◌, ◌+◌, ◌*◌, ◌^◌, ◌==◌, ℕ, suc, Bool, false, List, [], ◌∷◌, ◌++◌, length, map, refl, sym, ap, subst, arith, inl, inr, Some, None, if◌then◌else◌}
+use Rattle.std.proofs.Common.{◌≡◌, ◌≢◌, ◌∙◌, ◌≤◌, ◌<◌, ◌+◌, ◌*◌, ◌^◌, ◌==◌, ℕ, suc, Bool, true, false, List, [], ◌∷◌, ◌++◌, length, map, refl, sym, ap, subst, arith, inl, inr, Some, None, if◌then◌else◌, add-zero}
 use Rattle.std.specs.Prelude.{Option, slice_get, slice_index}
 use Rattle.std.specs.Option.{option_map_or}
-use Rattle.std.proofs.lemmas.Bool.{cases_Bool, cases_lt}
+use Rattle.std.specs.List.{list_any}
+use Rattle.std.proofs.lemmas.Bool.{cases_lt}
+use Rattle.std.proofs.lemmas.Bool.Decides.{eqb_tells}
 use Rattle.std.proofs.lemmas.List.Elements.{All-head, All-tail}
 use Rattle.pcef_rule.specs.declared.quantity.Slot.{Slot}
 use Rattle.pcef_model.specs.declared.command.Command.{Command}
@@ -17,16 +19,17 @@ use Rattle.pcef_model.proofs.Growth.{counted_after_command, counted_after_row}
 use Rattle.pcef_model.proofs.AfterEvents.{tables_after, tables_after_rows}
 use Rattle.pcef_usage.proofs.Slots.{distinct_slots, stranger_counted}
 use Rattle.pcef_session.specs.declared.batch.Item.{Item}
-use Rattle.pcef_model.specs.Slots.{CountsFor, IsWithin, is_at, place_of}
+use Rattle.pcef_model.specs.Slots.{AreSlotsBelow, CountsFor, IsWithin, is_at, is_one_of, place_of}
 use Rattle.pcef_session.specs.Following.{HasItsSlots, HasSmallRows, row_of}
 use Rattle.pcef_model.specs.Lawful.{Lawful}
 use Rattle.pcef_session.proofs.CommandAgrees.{commands_after, commands_told}
 use Rattle.pcef_model.proofs.Exactness.{lawful_exact}
 use Rattle.pcef_model.proofs.JournalExtends.{rows_after_command, rows_after_flush, tables_after_flush}
 use Rattle.pcef_model.proofs.SlotPlaces.{Grows}
+use Rattle.pcef_model.proofs.SlotsLater.{below_more}
 use Rattle.pcef_share.specs.Amounts.{plus}
-use Rattle.pcef_lock.specs.Counting.{AreCounted, IsLow, slot_total, with_item, with_items, with_slot}
-use Rattle.pcef_lock.proofs.Ledgers.{get_left, get_past, get_plus, get_there, length_plus, past_among, place_at, plus_other, plus_same}
+use Rattle.pcef_lock.specs.Counting.{AreCounted, slot_total, with_item, with_items, with_slots}
+use Rattle.pcef_lock.proofs.Ledgers.{get_left, get_past, get_plus, length_plus, past_among, past_none, place_at, plus_other, plus_same}
 
 -- ---- what the definitions look at
 pub counted_same : (p : Setting) (j k : Journal) (key : List ℕ) → tables k ≡ tables j → rows k ≡ rows j → counted p k key ≡ counted p j key
@@ -96,91 +99,109 @@ counted_command p j c t lawful grows is =
     counted_same p (entry.Command c ∷ j) k key (tables_after p j c) (rows_after_command p j c) ∙ counted_after_command p j key c (lawful_exact p j lawful).known in
     counted_more p j k t (ap length (commands_after p j c)) (λ n low. total_grown p j k n grows same) (rows_after_command p j c) is
 
--- ---- a row
--- what a row adds to the key of a slot
-row_adds : (p : Setting) (j : Journal) (i : Item) (n : ℕ) → IsWithin (slots p j) i.slot → CountsFor p j i.row i.slot → (t : List ℕ) → n < length t → slice_index t n ≡ slot_total p j n →
-    slice_index (with_slot t i.slot i.row.header.octets) n ≡ slot_total p (entry.Row i.row ∷ j) n
-row_adds p j i n within counts_for t inside is = from i.slot within counts_for (slice_get (slots p j) n) refl
-  where
-    step : (key : List ℕ) → slot_total p j n ≡ counted p j key → slice_get (slots p j) n ≡ Some key → (b : Bool) → counts p j key i.row ≡ b → (m : ℕ) → m ≡ slice_index t n + (if b then i.row.header.octets else 0) →
-        m ≡ counted p (entry.Row i.row ∷ j) key
-    step key total at b b_is m m_is =
-        let more : counted p (entry.Row i.row ∷ j) key ≡ (if b then i.row.header.octets else 0) + counted p j key =
-        counted_after_row p j key i.row ∙ ap (λ (x : Bool). (if x then i.row.header.octets else 0) + counted p j key) b_is in
-        omega (arith, m_is, is, total, more)
-
-    from : (slot : Option Slot) → IsWithin (slots p j) slot → CountsFor p j i.row slot → (o : Option (List ℕ)) → slice_get (slots p j) n ≡ o →
-        slice_index (with_slot t slot i.row.header.octets) n ≡ option_map_or (counted p (entry.Row i.row ∷ j)) o 0
-    from None inside_slots for None at = is ∙ ap (λ o. option_map_or (counted p j) o 0) at
-    from None inside_slots for (Some key) at = step key (ap (λ o. option_map_or (counted p j) o 0) at) at false (for key) (slice_index t n) (omega arith)
-    from (Some slot) inside_slots for None at =
-        let gone : length (slots p j) ≤ n = past_of at in
-        let differ : n ≢ slot.0 = λ (e : n ≡ slot.0). absurd (omega (arith, e, inside_slots, gone)) in
-        plus_other t slot.0 i.row.header.octets n differ ∙ is ∙ ap (λ o. option_map_or (counted p j) o 0) at
-      where
-        past_of : slice_get (slots p j) n ≡ None → length (slots p j) ≤ n
-        past_of none = elim (cases_lt n (length (slots p j))) [
-          | inl less ↦ let there = get_there (slots p j) n less in absurd (let e = there.1 in cc)
-          | inr past ↦ past
-        ]
-    from (Some slot) inside_slots for (Some key) at =
-        let place : place_of key (slots p j) ≡ Some n = place_at (slots p j) n key (distinct_slots p (tables j)) at in
-        let counting : counts p j key i.row ≡ (n == slot.0) = for key ∙ ap (λ o. is_at o slot.0) place in
-        step key (ap (λ o. option_map_or (counted p j) o 0) at) at (n == slot.0) counting (slice_index (plus t slot.0 i.row.header.octets) n) (get_plus t slot.0 i.row.header.octets n inside)
-
--- a slot that is raised by no more than a row's octets
-pub slot_within : (t : List ℕ) (slot : Option Slot) (o n : ℕ) → n < length t → o < 2 ^ 32 → slice_index (with_slot t slot o) n ≤ slice_index t n + 4294967295
-slot_within t None o n inside small = omega arith
-slot_within t (Some slot) o n inside small =
-    elim (cases_Bool (n == slot.0)) [
-      | inl same ↦ let at : slice_index (plus t slot.0 o) n ≡ slice_index t n + o = get_plus t slot.0 o n inside ∙ ap (λ (b : Bool). slice_index t n + (if b then o else 0)) same in omega (arith, at, small)
-      | inr other ↦ let at : slice_index (plus t slot.0 o) n ≡ slice_index t n + 0 = get_plus t slot.0 o n inside ∙ ap (λ (b : Bool). slice_index t n + (if b then o else 0)) other in omega (arith, at)
+-- ---- the slots of a row
+-- a number that is too great is not that of a slot
+past_slots : (m n : ℕ) (own : List Slot) → AreSlotsBelow m own → m ≤ n → is_one_of n own ≡ false
+past_slots m n [] below past = refl
+past_slots m n (slot ∷ own) below past =
+    elim (eqb_tells n slot.0) [
+      | inl is ↦ absurd (omega (arith, is.1, below.0, past))
+      | inr isnt ↦ rw isnt.0 (past_slots m n own below.2 past)
     ]
 
-pub slot_keeps : (t : List ℕ) (slot : Option Slot) (o n : ℕ) → IsLow slot → 8 ≤ n → slice_index (with_slot t slot o) n ≡ slice_index t n
-slot_keeps t None o n low high = refl
-slot_keeps t (Some slot) o n low high = plus_other t slot.0 o n (λ (e : n ≡ slot.0). absurd (omega (arith, e, low, high)))
+pub length_slots : (t : List ℕ) (own : List Slot) (o : ℕ) → length (with_slots t own o) ≡ length t
+length_slots t [] o = refl
+length_slots t (slot ∷ own) o = length_slots (plus t slot.0 o) own o ∙ length_plus t slot.0 o
 
-pub length_slot : (t : List ℕ) (slot : Option Slot) (o : ℕ) → length (with_slot t slot o) ≡ length t
-length_slot t None o = refl
-length_slot t (Some slot) o = length_plus t slot.0 o
+-- each slot is raised once, and no other total is
+slots_raised : (m : ℕ) (t : List ℕ) (own : List Slot) (o n : ℕ) → AreSlotsBelow m own → n < length t →
+    slice_index (with_slots t own o) n ≡ slice_index t n + (if is_one_of n own then o else 0)
+slots_raised m t [] o n below inside = sym (add-zero _)
+slots_raised m t (slot ∷ own) o n below inside =
+    let u : List ℕ = plus t slot.0 o in
+    let rest = slots_raised m u own o n below.2 (omega (arith, inside, length_plus t slot.0 o)) in
+    let here : slice_index u n ≡ slice_index t n + (if n == slot.0 then o else 0) = get_plus t slot.0 o n inside in
+    elim (eqb_tells n slot.0) [
+      | inl is ↦
+          let once : is_one_of n own ≡ false = ap (λ k. is_one_of k own) is.1 ∙ below.1 in
+          let none : (if is_one_of n own then o else 0) ≡ 0 = ap (λ (b : Bool). if b then o else 0) once in
+          let raised : (if n == slot.0 then o else 0) ≡ o = ap (λ (b : Bool). if b then o else 0) is.0 in
+          rw is.0 (omega (arith, rest, here, none, raised))
+      | inr isnt ↦
+          let none : (if n == slot.0 then o else 0) ≡ 0 = ap (λ (b : Bool). if b then o else 0) isnt.0 in
+          rw isnt.0 (omega (arith, rest, here, none))
+    ]
 
-pub item_within : (t : List ℕ) (i : Item) (n : ℕ) → n < 8 → length t ≡ 10 → i.row.header.octets < 2 ^ 32 → slice_index (with_item t i) n ≤ slice_index t n + 4294967295
-item_within t i n low ten small =
-    let u : List ℕ = with_slot t i.slot i.row.header.octets in
-    let same : slice_index (plus u 8 1) n ≡ slice_index u n = plus_other u 8 1 n (λ (e : n ≡ 8). absurd (omega (arith, low, e))) in
-    let more : slice_index u n ≤ slice_index t n + 4294967295 = slot_within t i.slot i.row.header.octets n (omega (arith, low, ten)) small in
+pub slots_keep : (t : List ℕ) (own : List Slot) (o n : ℕ) → AreSlotsBelow 8 own → 8 ≤ n → slice_index (with_slots t own o) n ≡ slice_index t n
+slots_keep t [] o n low high = refl
+slots_keep t (slot ∷ own) o n low high =
+    slots_keep (plus t slot.0 o) own o n low.2 high ∙ plus_other t slot.0 o n (λ (e : n ≡ slot.0). absurd (omega (arith, e, low.0, high)))
+
+-- a slot is raised by no more than a row's octets
+pub slots_within : (m : ℕ) (t : List ℕ) (own : List Slot) (o n : ℕ) → AreSlotsBelow m own → n < length t → o < 2 ^ 32 → slice_index (with_slots t own o) n ≤ slice_index t n + 4294967295
+slots_within m t own o n below inside small = from (is_one_of n own) (slots_raised m t own o n below inside)
+  where
+    from : (b : Bool) → slice_index (with_slots t own o) n ≡ slice_index t n + (if b then o else 0) → slice_index (with_slots t own o) n ≤ slice_index t n + 4294967295
+    from true is = omega (arith, is, small)
+    from false is = omega (arith, is)
+
+-- ---- a row
+-- what a row adds to the key of a slot
+row_adds : (p : Setting) (j : Journal) (r : Row) (own : List Slot) (n : ℕ) → IsWithin (slots p j) own → CountsFor p j r own → (t : List ℕ) → n < length t → slice_index t n ≡ slot_total p j n →
+    slice_index (with_slots t own r.header.octets) n ≡ slot_total p (entry.Row r ∷ j) n
+row_adds p j r own n within counts_for t inside is = from (slice_get (slots p j) n) refl
+  where
+    raised : slice_index (with_slots t own r.header.octets) n ≡ slice_index t n + (if is_one_of n own then r.header.octets else 0)
+    raised = slots_raised (length (slots p j)) t own r.header.octets n within inside
+
+    from : (o : Option (List ℕ)) → slice_get (slots p j) n ≡ o → slice_index (with_slots t own r.header.octets) n ≡ option_map_or (counted p (entry.Row r ∷ j)) o 0
+    from None at =
+        let none : (if is_one_of n own then r.header.octets else 0) ≡ 0 =
+        ap (λ (b : Bool). if b then r.header.octets else 0) (past_slots (length (slots p j)) n own within (past_none (slots p j) n at)) in
+        let total : slot_total p j n ≡ 0 = ap (λ o. option_map_or (counted p j) o 0) at in
+        omega (arith, raised, none, is, total)
+    from (Some key) at =
+        let place : place_of key (slots p j) ≡ Some n = place_at (slots p j) n key (distinct_slots p (tables j)) at in
+        let counting : counts p j key r ≡ is_one_of n own = counts_for key ∙ ap (λ o. list_any (λ (s : Slot). is_at o s.0) own) place in
+        let total : slot_total p j n ≡ counted p j key = ap (λ o. option_map_or (counted p j) o 0) at in
+        let more : counted p (entry.Row r ∷ j) key ≡ (if is_one_of n own then r.header.octets else 0) + counted p j key =
+        counted_after_row p j key r ∙ ap (λ (x : Bool). (if x then r.header.octets else 0) + counted p j key) counting in
+        omega (arith, raised, is, total, more)
+
+pub item_within : (t : List ℕ) (i : Item) (n : ℕ) → AreSlotsBelow 8 i.slots.items → n < 8 → length t ≡ 10 → i.row.header.octets < 2 ^ 32 → slice_index (with_item t i) n ≤ slice_index t n + 4294967295
+item_within t i n low less ten small =
+    let u : List ℕ = with_slots t i.slots.items i.row.header.octets in
+    let same : slice_index (plus u 8 1) n ≡ slice_index u n = plus_other u 8 1 n (λ (e : n ≡ 8). absurd (omega (arith, less, e))) in
+    let more : slice_index u n ≤ slice_index t n + 4294967295 = slots_within 8 t i.slots.items i.row.header.octets n low (omega (arith, less, ten)) small in
     omega (arith, same, more)
 
 pub item_length : (t : List ℕ) (i : Item) → length (with_item t i) ≡ length t
-item_length t i = length_plus (with_slot t i.slot i.row.header.octets) 8 1 ∙ length_slot t i.slot i.row.header.octets
+item_length t i = length_plus (with_slots t i.slots.items i.row.header.octets) 8 1 ∙ length_slots t i.slots.items i.row.header.octets
 
-pub item_row : (t : List ℕ) (i : Item) → IsLow i.slot → length t ≡ 10 → slice_index (with_item t i) 8 ≡ slice_index t 8 + 1
+pub item_row : (t : List ℕ) (i : Item) → AreSlotsBelow 8 i.slots.items → length t ≡ 10 → slice_index (with_item t i) 8 ≡ slice_index t 8 + 1
 item_row t i low ten =
-    let u : List ℕ = with_slot t i.slot i.row.header.octets in
-    let eight : slice_index (plus u 8 1) 8 ≡ slice_index u 8 + 1 = plus_same u 8 1 (omega (arith, length_slot t i.slot i.row.header.octets, ten)) in
-    omega (arith, eight, slot_keeps t i.slot i.row.header.octets 8 low (omega arith))
+    let u : List ℕ = with_slots t i.slots.items i.row.header.octets in
+    let eight : slice_index (plus u 8 1) 8 ≡ slice_index u 8 + 1 = plus_same u 8 1 (omega (arith, length_slots t i.slots.items i.row.header.octets, ten)) in
+    omega (arith, eight, slots_keep t i.slots.items i.row.header.octets 8 low (omega arith))
 
-pub low_within : (keys : List (List ℕ)) (slot : Option Slot) → length keys ≤ 8 → IsWithin keys slot → IsLow slot
-low_within keys None few within = tt
-low_within keys (Some slot) few within = omega (arith, few, within)
-
-pub counted_row : (p : Setting) (j : Journal) (i : Item) (t : List ℕ) → length (slots p j) ≤ 8 → IsWithin (slots p j) i.slot → CountsFor p j i.row i.slot → i.row.header.octets < 2 ^ 32 → AreCounted p j t →
+pub counted_row : (p : Setting) (j : Journal) (i : Item) (t : List ℕ) → length (slots p j) ≤ 8 → IsWithin (slots p j) i.slots.items → CountsFor p j i.row i.slots.items → i.row.header.octets < 2 ^ 32 → AreCounted p j t →
     AreCounted p (entry.Row i.row ∷ j) (with_item t i)
 counted_row p j i t few within counts_for small is =
-    let u : List ℕ = with_slot t i.slot i.row.header.octets in
-    let low_slot : IsLow i.slot = low_within (slots p j) i.slot few within in
-    let many : length u ≡ 10 = length_slot t i.slot i.row.header.octets ∙ is.ten in
+    let own : List Slot = i.slots.items in
+    let o : ℕ = i.row.header.octets in
+    let u : List ℕ = with_slots t own o in
+    let low_slots : AreSlotsBelow 8 own = below_more (length (slots p j)) 8 own few within in
+    let many : length u ≡ 10 = length_slots t own o ∙ is.ten in
     let at : (n : ℕ) → n ≢ 8 → slice_index (plus u 8 1) n ≡ slice_index u n = λ n differ. plus_other u 8 1 n differ in
     let eight : slice_index (plus u 8 1) 8 ≡ slice_index u 8 + 1 = plus_same u 8 1 (omega (arith, many)) in
     record {
       ten = length_plus u 8 1 ∙ many;
-      slots_are = λ n low. at n (λ (e : n ≡ 8). absurd (omega (arith, low, e))) ∙ row_adds p j i n within counts_for t (omega (arith, low, is.ten)) (is.slots_are n low);
-      rows_are = omega (arith, eight, slot_keeps t i.slot i.row.header.octets 8 low_slot (omega arith), is.rows_are);
-      commands_are = at 9 (λ (e : 9 ≡ 8). absurd (omega (arith, e))) ∙ slot_keeps t i.slot i.row.header.octets 9 low_slot (omega arith) ∙ is.commands_are;
+      slots_are = λ n low. at n (λ (e : n ≡ 8). absurd (omega (arith, low, e))) ∙ row_adds p j i.row own n within counts_for t (omega (arith, low, is.ten)) (is.slots_are n low);
+      rows_are = omega (arith, eight, slots_keep t own o 8 low_slots (omega arith), is.rows_are);
+      commands_are = at 9 (λ (e : 9 ≡ 8). absurd (omega (arith, e))) ∙ slots_keep t own o 9 low_slots (omega arith) ∙ is.commands_are;
       within = λ n low.
           let same : slice_index (plus u 8 1) n ≡ slice_index u n = at n (λ (e : n ≡ 8). absurd (omega (arith, low, e))) in
-          let more : slice_index u n ≤ slice_index t n + 4294967295 = slot_within t i.slot i.row.header.octets n (omega (arith, low, is.ten)) small in
+          let more : slice_index u n ≤ slice_index t n + 4294967295 = slots_within 8 t own o n low_slots (omega (arith, low, is.ten)) small in
           omega (arith, same, more, is.within n low);
     }
 
@@ -189,7 +210,7 @@ pub counted_rows : (p : Setting) (items : List Item) (j : Journal) (t : List ℕ
 unfolding with_rows with_items
 counted_rows p [] j t few has small is = is
 counted_rows p (i ∷ items) j t few has small is =
-    let P : Item → Type 0 = λ x. IsWithin (slots p j) x.slot × CountsFor p j x.row x.slot in
+    let P : Item → Type 0 = λ x. IsWithin (slots p j) x.slots.items × CountsFor p j x.row x.slots.items in
     let Q : Item → Type 0 = λ x. x.row.header.octets < 2 ^ 32 in
     let here : P i = All-head P i items has in
     counted_rows p items (entry.Row i.row ∷ j) (with_item t i) few (All-tail P i items has) (All-tail Q i items small)

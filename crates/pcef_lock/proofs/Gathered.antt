@@ -1,12 +1,11 @@
 -- What all shares add up to, slot by slot.
-use Rattle.std.proofs.Common.{◌≡◌, ◌∙◌, ◌+◌, ◌<◌, ◌==◌, ℕ, zero, suc, if◌then◌else◌, false, List, [], ◌∷◌, Option, None, Some, refl, sym, arith, rules, length, map, get_or, sum_by, count_by, is_some, cond, add-zero}
+use Rattle.std.proofs.Common.{◌≡◌, ◌∙◌, ◌+◌, ◌<◌, ◌==◌, ℕ, zero, suc, if◌then◌else◌, List, [], ◌∷◌, Option, None, Some, refl, sym, arith, rules, length, map, get_or, sum_by, count_by, is_some, cond, add-zero}
 use Rattle.std.proofs.lemmas.List.Sums.{sum_by-cons}
-use Rattle.std.specs.Option.{option_map_or}
 use Rattle.pcef_rule.specs.declared.quantity.Slot.{Slot}
 use Rattle.pcef_share.specs.Amounts.{added, command_ledger, plus, row_ledger, sums, zeros}
 use Rattle.pcef_session.specs.declared.batch.Item.{Item}
-use Rattle.pcef_lock.specs.Counting.{with_item, with_items, with_slot}
-use Rattle.pcef_lock.specs.Gathering.{gathered, is_for, octets_for}
+use Rattle.pcef_lock.specs.Counting.{with_item, with_items, with_slots}
+use Rattle.pcef_lock.specs.Gathering.{gathered, octets_at, octets_for}
 use Rattle.pcef_lock.specs.HandedIn.{HandedIn}
 use Rattle.pcef_lock.proofs.Ledgers.{get_plus, length_plus, plus_other}
 
@@ -37,28 +36,31 @@ get_sums at (Some s ∷ xs) k within =
     omega (arith, more, get_sums (added at s) xs k (omega (arith, within, length_added at s)), get_added at s k within)
 
 -- ---- rows, one after the other
-length_slot : (t : List ℕ) (slot : Option Slot) (octets : ℕ) → length (with_slot t slot octets) ≡ length t
-length_slot t None octets = refl
-length_slot t (Some s) octets = length_plus t s.0 octets
+length_slots : (t : List ℕ) (own : List Slot) (octets : ℕ) → length (with_slots t own octets) ≡ length t
+length_slots t [] octets = refl
+length_slots t (slot ∷ own) octets = length_slots (plus t slot.0 octets) own octets ∙ length_plus t slot.0 octets
 
-get_slot : (t : List ℕ) (slot : Option Slot) (octets k : ℕ) → k < length t
-    → get_or (with_slot t slot octets) k 0 ≡ get_or t k 0 + (if option_map_or (λ s. k == s.0) slot false then octets else 0)
-get_slot t None octets k within = sym (add-zero _)
-get_slot t (Some s) octets k within = get_plus t s.0 octets k within
+get_slots : (t : List ℕ) (own : List Slot) (octets k : ℕ) → k < length t
+    → get_or (with_slots t own octets) k 0 ≡ get_or t k 0 + sum_by (λ (s : Slot). if k == s.0 then octets else 0) own
+get_slots t [] octets k within = sym (add-zero _)
+get_slots t (slot ∷ own) octets k within =
+    let more : sum_by (λ (s : Slot). if k == s.0 then octets else 0) (slot ∷ own) ≡ (if k == slot.0 then octets else 0) + sum_by (λ (s : Slot). if k == s.0 then octets else 0) own =
+    sum_by-cons (λ (s : Slot). if k == s.0 then octets else 0) slot own in
+    omega (arith, more, get_slots (plus t slot.0 octets) own octets k (omega (arith, within, length_plus t slot.0 octets)), get_plus t slot.0 octets k within)
 
-get_item : (t : List ℕ) (i : Item) (k : ℕ) → k < 8 → length t ≡ 10 → get_or (with_item t i) k 0 ≡ get_or t k 0 + (if is_for k i then i.row.header.octets else 0)
+get_item : (t : List ℕ) (i : Item) (k : ℕ) → k < 8 → length t ≡ 10 → get_or (with_item t i) k 0 ≡ get_or t k 0 + octets_at k i
 get_item t i k below ten =
-    plus_other (with_slot t i.slot i.row.header.octets) row_ledger 1 k (λ (e : k ≡ 8). absurd (omega (arith, below, e))) ∙ get_slot t i.slot i.row.header.octets k (omega (arith, below, ten))
+    plus_other (with_slots t i.slots.items i.row.header.octets) row_ledger 1 k (λ (e : k ≡ 8). absurd (omega (arith, below, e)))
+    ∙ get_slots t i.slots.items i.row.header.octets k (omega (arith, below, ten))
 
 length_item : (t : List ℕ) (i : Item) → length (with_item t i) ≡ length t
-length_item t i = length_plus (with_slot t i.slot i.row.header.octets) row_ledger 1 ∙ length_slot t i.slot i.row.header.octets
+length_item t i = length_plus (with_slots t i.slots.items i.row.header.octets) row_ledger 1 ∙ length_slots t i.slots.items i.row.header.octets
 
 get_items : (t : List ℕ) (items : List Item) (k : ℕ) → k < 8 → length t ≡ 10 → get_or (with_items t items) k 0 ≡ get_or t k 0 + octets_for k items
 unfolding with_items
 get_items t [] k below ten = sym (add-zero _)
 get_items t (i ∷ items) k below ten =
-    let more : octets_for k (i ∷ items) ≡ (if is_for k i then i.row.header.octets else 0) + octets_for k items =
-    sum_by-cons (λ (i : Item). if is_for k i then i.row.header.octets else 0) i items in
+    let more : octets_for k (i ∷ items) ≡ octets_at k i + octets_for k items = sum_by-cons (octets_at k) i items in
     omega (arith, more, get_items (with_item t i) items k below (length_item t i ∙ ten), get_item t i k below ten)
 
 get_zeros : (k : ℕ) → get_or zeros k 0 ≡ 0

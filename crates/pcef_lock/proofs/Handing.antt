@@ -13,20 +13,21 @@ use Rattle.pcef_model.specs.Lawful.{BatchFollows}
 use Rattle.pcef_model.specs.Refusals.{first_of, flush_refusals}
 use Rattle.pcef_model.specs.Reports.{after_flush, after_leave, with_rows}
 use Rattle.pcef_model.specs.Setting.{Setting}
-use Rattle.pcef_model.specs.Slots.{CountsFor, IsWithin}
+use Rattle.pcef_model.specs.Slots.{AreSlotsBelow, CountsFor, IsWithin}
+use Rattle.pcef_model.proofs.SlotsLater.{below_more}
 use Rattle.pcef_model.proofs.Lanes.{lane_few}
 use Rattle.pcef_model.proofs.JournalExtends.{attach_count_after_flush, flushed_fits, rows_after_flush, tables_after_flush}
 use Rattle.pcef_session.specs.declared.batch.Item.{Item}
 use Rattle.pcef_session.specs.Following.{HasItsSlots, HasSmallRows, row_of}
 use Rattle.pcef_session.specs.SessionModel.{SessionModel}
 use Rattle.pcef_share.specs.Amounts.{Account}
-use Rattle.pcef_lock.specs.Counting.{AreCounted, IsLow, with_items}
+use Rattle.pcef_lock.specs.Counting.{AreCounted, with_items}
 use Rattle.pcef_lock.specs.Judging.{AllJudged}
 use Rattle.pcef_lock.specs.Lanes.{continues_lane}
 use Rattle.pcef_lock.specs.Published.{ArePublished}
 use Rattle.pcef_lock.specs.private.Soundness.{IsSound}
 use Rattle.pcef_lock.proofs.Continued.{batch_follows}
-use Rattle.pcef_lock.proofs.Counted.{counted_flush, counted_kept, low_within}
+use Rattle.pcef_lock.proofs.Counted.{counted_flush, counted_kept}
 use Rattle.pcef_lock.proofs.Judged.{all_right, right_slots}
 use Rattle.pcef_lock.proofs.Keeps.{locked, own_sound, sound_after}
 use Rattle.pcef_lock.proofs.Publications.{published_same}
@@ -50,9 +51,9 @@ handed_well p first s ts seen b places free worker items is goes_on begins all =
     let right = all_right q j first ts seen items published begins own in
     record { has = right_slots q j items right; follows = batch_follows q j worker items right goes_on }
 
-pub all_low : (p : Setting) (j : Journal) (items : List Item) → length (slots p j) ≤ 8 → HasItsSlots p j items → All (λ (i : Item). IsLow i.slot) items
+pub all_low : (p : Setting) (j : Journal) (items : List Item) → length (slots p j) ≤ 8 → HasItsSlots p j items → All (λ (i : Item). AreSlotsBelow 8 i.slots.items) items
 all_low p j items few has =
-    All-weaker (λ (i : Item). IsWithin (slots p j) i.slot × CountsFor p j i.row i.slot) (λ (i : Item). IsLow i.slot) (λ i own. low_within (slots p j) i.slot few own.0) items has
+    All-weaker (λ (i : Item). IsWithin (slots p j) i.slots.items × CountsFor p j i.row i.slots.items) (λ (i : Item). AreSlotsBelow 8 i.slots.items) (λ i own. below_more (length (slots p j)) 8 i.slots.items few own.0) items has
 
 -- what is added to the books fits them
 rows_fit : (p : Setting) (first : ℕ) (s : SessionModel) (ts : List TableValue) (b : Account) (places free worker : ℕ) (items : List Item) → IsSound p first (locked s ts b places) free →

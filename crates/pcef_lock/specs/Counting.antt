@@ -1,5 +1,5 @@
 -- What the books of a session hold, and what is counted into books and shares (TS 29.212, clause 4.5.16).
-use Rattle.std.specs.Prelude.{ℕ, ◌≡◌, ◌≤◌, ◌<◌, ◌*◌, Bool, true, false, List, [], ◌∷◌, Option, Some, None, Result, Ok, Err, length, slice_get, slice_index}
+use Rattle.std.specs.Prelude.{ℕ, ◌≡◌, ◌≤◌, ◌<◌, ◌*◌, Bool, true, false, List, [], ◌∷◌, Result, Ok, Err, length, slice_get, slice_index}
 use Rattle.std.specs.Option.{option_map_or}
 use Rattle.pcef_rule.specs.declared.quantity.Slot.{Slot}
 use Rattle.pcef_model.specs.Setting.{Setting}
@@ -35,13 +35,14 @@ with_command (Ok a) totals = one_more a.unchanged totals
 with_command (Err r) totals = totals
 
 -- ---- what rows count
-abbrev pub with_slot : List ℕ → Option Slot → ℕ → List ℕ
-with_slot totals None octets = totals
-with_slot totals (Some slot) octets = plus totals slot.0 octets
+-- octets for each of these slots
+abbrev pub with_slots : List ℕ → List Slot → ℕ → List ℕ
+with_slots totals [] octets = totals
+with_slots totals (slot ∷ own) octets = with_slots (plus totals slot.0 octets) own octets
 
--- a row: its octets for its slot, and one row
+-- a row: its octets for each of its slots, and one row
 abbrev pub with_item : List ℕ → Item → List ℕ
-with_item totals i = plus (with_slot totals i.slot i.row.header.octets) row_ledger 1
+with_item totals i = plus (with_slots totals i.slots.items i.row.header.octets) row_ledger 1
 
 unfoldable pub with_items : List ℕ → List Item → List ℕ
 with_items totals [] = totals
@@ -51,11 +52,6 @@ with_items totals (i ∷ items) = with_items (with_item totals i) items
 abbrev pub with_taken : {A E : Type 0} → Result A E → List ℕ → List Item → List ℕ
 with_taken (Ok a) totals items = with_items totals items
 with_taken (Err e) totals items = totals
-
--- one of the eight slots, or none
-abbrev pub IsLow : Option Slot → Type 0
-IsLow None = Unit {0}
-IsLow (Some slot) = slot.0 < 8
 
 -- ---- books
 -- after a command that was answered so

@@ -1,6 +1,6 @@
 -- What is handed in when all workers have left, and what it adds up to (TS 29.212, clause 4.5.16).
-use Rattle.std.specs.Prelude.{ℕ, ◌≡◌, ◌+◌, ◌≤◌, ◌<◌, ◌==◌, Bool, false, List, Option, Some, find, length, map, reverse, slice_get, sum_by, if◌then◌else◌}
-use Rattle.std.specs.Option.{option_map, option_map_or}
+use Rattle.std.specs.Prelude.{ℕ, ◌≡◌, ◌+◌, ◌≤◌, ◌<◌, ◌==◌, List, Option, Some, find, length, map, reverse, slice_get, sum_by, if◌then◌else◌}
+use Rattle.std.specs.Option.{option_map}
 use Rattle.pcef_model.specs.declared.command.Command.{Command}
 use Rattle.pcef_model.specs.declared.row.Row.{Row}
 use Rattle.pcef_model.specs.Setting.{Setting}
@@ -26,12 +26,13 @@ HasLane j handed worker = own_list worker handed ≡ Some (reverse (lane j worke
 abbrev pub HaveLanes : Journal → List HandedIn → Type 0
 HaveLanes j handed = (worker : ℕ) → worker < attach_count j → HasLane j handed worker
 
-abbrev pub is_for : ℕ → Item → Bool
-is_for slot i = option_map_or (λ s. slot == s.0) i.slot false
+-- the octets of a row, for each of its slots that is this one
+abbrev pub octets_at : ℕ → Item → ℕ
+octets_at slot i = sum_by (λ s. if slot == s.0 then i.row.header.octets else 0) i.slots.items
 
 -- the octets of rows that count for a slot
 abbrev pub octets_for : ℕ → List Item → ℕ
-octets_for slot items = sum_by (λ i. if is_for slot i then i.row.header.octets else 0) items
+octets_for slot items = sum_by (octets_at slot) items
 
 -- over all that is handed in: the octets that count for a slot, and the rows that were abandoned
 abbrev pub gathered : ℕ → List HandedIn → ℕ

@@ -1,50 +1,55 @@
 //! Commands and rows in the books and in shares.
 
 ghost use Rattle.std.specs.Prelude.{◌≡◌, ◌+◌, ◌*◌, ◌<◌, ◌≤◌, ◌^◌, ℕ, All, length, slice_index};
+ghost use Rattle.pcef_model.specs.Slots.{AreSlotsBelow};
 ghost use Rattle.pcef_session.specs.Following.{HasSmallRows};
 ghost use Rattle.pcef_share.specs.Amounts.{row_ledger};
-ghost use Rattle.pcef_lock.specs.Counting.{IsLow, with_item, with_items, with_slot};
+ghost use Rattle.pcef_lock.specs.Counting.{with_item, with_items, with_slots};
 
 use pcef_rule::Slot;
 use pcef_session::Item;
 use pcef_share::{Books, Naming, Shares};
 
-/// Adds octets to the book of a slot, if there is one.
+/// Adds octets to the book of each of these slots.
 fn count_octets<N: Naming>(
     books: &mut Books<N>,
     shares: &mut Shares<N>,
-    slot: Option<Slot>,
+    slots: &[Slot],
     octets: u64,
 )
-    requires low { IsLow slot }
+    requires low { AreSlotsBelow 8 slots.now }
     requires fits { (n : ℕ) → n < 8 → slice_index books.old.totals n + octets < 2 ^ 64 }
     ensures books { books.new
-        ≡ record books.old { totals = with_slot books.old.totals slot octets } }
-    ensures shares { shares.new ≡ with_slot shares.old slot octets }
+        ≡ record books.old { totals = with_slots books.old.totals slots.now octets } }
+    ensures shares { shares.new ≡ with_slots shares.old slots.now octets }
 {
-    match slot {
-        Some(slot) => books.add(shares, slot, octets),
-        None => {}
+    for slot in slots {
+        books.add(shares, *slot, octets);
     }
 }
 
 /// Counts a row.
-#[tactic(auto, using(crate::proofs::Counted::slot_keeps))]
+#[tactic(auto, using(crate::proofs::Counted::slots_keep))]
 fn count_item<N: Naming>(books: &mut Books<N>, shares: &mut Shares<N>, item: &Item)
-    requires low { IsLow item.now.slot }
+    requires low { AreSlotsBelow 8 item.now.slots.items }
     requires fits { (n : ℕ) → n < 8 →
         slice_index books.old.totals n + item.now.row.header.octets < 2 ^ 64 }
     requires row { slice_index books.old.totals row_ledger + 1 < 2 ^ 64 }
     ensures books { books.new ≡ record books.old { totals = with_item books.old.totals item.now } }
     ensures shares { shares.new ≡ with_item shares.old item.now }
 {
-    count_octets(books, shares, item.slot, u64::from(item.row.header.octets));
+    count_octets(
+        books,
+        shares,
+        item.slots.as_slice(),
+        u64::from(item.row.header.octets),
+    );
     books.add_row(shares);
 }
 
 /// Counts rows.
 pub(crate) fn count_items<N: Naming>(books: &mut Books<N>, shares: &mut Shares<N>, items: &[Item])
-    requires low { All (λ i. IsLow i.slot) items.now }
+    requires low { All (λ i. AreSlotsBelow 8 i.slots.items) items.now }
     requires octets { HasSmallRows items.now }
     requires ten { length books.old.totals ≡ 10 }
     requires fits { (n : ℕ) → n < 8 →

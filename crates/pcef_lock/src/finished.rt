@@ -55,7 +55,7 @@ impl<N: Naming> Finished<N> {
         self.worker
     }
 
-    /// The rows that it handed over, in order, each with the slot that it counts for.
+    /// The rows that it handed over, in order, each with the slots that it counts for.
     pub fn items(&self) -> &[Item]
         ensures { result.now ≡ self.now.items }
     {

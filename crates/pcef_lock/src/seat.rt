@@ -7,7 +7,7 @@ use pcef_catalog::Detects;
 use pcef_model::Row;
 use pcef_packet::{Addr, Header};
 use pcef_publish::Subscriber;
-use pcef_session::Item;
+use pcef_session::{Item, slots_for};
 use pcef_share::{Naming, Shares};
 
 /// What a worker has of a session.
@@ -43,7 +43,7 @@ impl<N: Naming> Seat<N> {
                 header: *header,
                 verdict,
             },
-            slot,
+            slots: slots_for(slot),
         }
     }
 }

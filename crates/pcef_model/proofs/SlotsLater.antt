@@ -1,6 +1,6 @@
--- A row goes on counting for the key of its slot as the journal grows.
-use Rattle.std.proofs.Common.{◌≡◌, ◌∙◌, ◌≤◌, ◌<◌, ℕ, suc, true, false, List, [], ◌∷◌, ◌++◌, length, refl, sym, ap, arith, inl, inr, Some, None, ◌==◌}
-use Rattle.std.specs.Prelude.{Option}
+-- A row goes on counting for the keys of its slots as the journal grows.
+use Rattle.std.proofs.Common.{◌≡◌, ◌∙◌, ◌≤◌, ◌<◌, ℕ, suc, true, false, List, [], ◌∷◌, ◌++◌, length, refl, sym, ap, ap₂, arith, inl, inr, Some, None, ◌==◌, length-append}
+use Rattle.std.specs.Prelude.{Option, ◌||◌}
 use Rattle.std.specs.Option.{option_map}
 use Rattle.std.proofs.lemmas.Bool.{cases_Bool, eqb-true, false_from_ne_true}
 use Rattle.pcef_rule.specs.declared.quantity.Slot.{Slot}
@@ -9,7 +9,7 @@ use Rattle.pcef_model.specs.Setting.{Setting, same_name}
 use Rattle.pcef_model.specs.Commands.{is_among}
 use Rattle.pcef_model.specs.Entries.{Journal}
 use Rattle.pcef_model.specs.Journals.{at, counts_in, slots}
-use Rattle.pcef_model.specs.Slots.{CountsFor, IsWithin, has_this_slot, is_at, place_of}
+use Rattle.pcef_model.specs.Slots.{AreSlotsBelow, CountsFor, IsWithin, has_one_of, is_at, place_of}
 use Rattle.pcef_model.proofs.SlotPlaces.{Grows, place_grown}
 
 -- a key that isn't there has no place
@@ -67,11 +67,21 @@ slot_grown keys more n key within =
         let past = place_past key keys more m absent some in
         let is = eqb-true m n same in absurd (omega (arith, past, within, is)))
 
-pub this_slot_grown : (keys all : List (List ℕ)) (slot : Option Slot) (key : List ℕ) → Grows keys all → IsWithin keys slot → has_this_slot all slot key ≡ has_this_slot keys slot key
-this_slot_grown keys all None key grows within = refl
-this_slot_grown keys all (Some slot) key grows within = ap (λ ks. is_at (place_of key ks) slot.0) grows.1 ∙ slot_grown keys grows.0 slot.0 key within
+-- slots that are less than a number are less than a greater one
+pub below_more : (m n : ℕ) (own : List Slot) → m ≤ n → AreSlotsBelow m own → AreSlotsBelow n own
+below_more m n [] more below = tt
+below_more m n (slot ∷ own) more below = (omega (arith, more, below.0), below.1, below_more m n own more below.2)
 
-pub counts_later : (p : Setting) (j k : Journal) (r : Row) (slot : Option Slot) → at p k r.generation ≡ at p j r.generation → Grows (slots p j) (slots p k) → IsWithin (slots p j) slot →
-    CountsFor p j r slot → CountsFor p k r slot
-counts_later p j k r slot same grows within counts key =
-    ap (λ g. counts_in p g key r.header) same ∙ counts key ∙ sym (this_slot_grown (slots p j) (slots p k) slot key grows within)
+-- slots of keys stay such as keys come
+pub within_grown : (keys all : List (List ℕ)) (own : List Slot) → Grows keys all → IsWithin keys own → IsWithin all own
+within_grown keys all own grows within = below_more (length keys) (length all) own (omega (arith, ap length grows.1, length-append keys grows.0)) within
+
+pub slots_grown : (keys all : List (List ℕ)) (own : List Slot) (key : List ℕ) → Grows keys all → IsWithin keys own → has_one_of all own key ≡ has_one_of keys own key
+slots_grown keys all [] key grows within = refl
+slots_grown keys all (slot ∷ own) key grows within =
+    ap₂ (λ a b. a || b) (ap (λ ks. is_at (place_of key ks) slot.0) grows.1 ∙ slot_grown keys grows.0 slot.0 key within.0) (slots_grown keys all own key grows within.2)
+
+pub counts_later : (p : Setting) (j k : Journal) (r : Row) (own : List Slot) → at p k r.generation ≡ at p j r.generation → Grows (slots p j) (slots p k) → IsWithin (slots p j) own →
+    CountsFor p j r own → CountsFor p k r own
+counts_later p j k r own same grows within counts key =
+    ap (λ g. counts_in p g key r.header) same ∙ counts key ∙ sym (slots_grown (slots p j) (slots p k) own key grows within)

@@ -12,7 +12,7 @@ use Rattle.pcef_model.specs.Commands.{is_among}
 use Rattle.pcef_model.specs.Journals.{slots}
 use Rattle.pcef_model.specs.Refusals.{attach_faults, first_of, flush_refusals, limited_count, refusals}
 use Rattle.pcef_model.specs.Reports.{after_command}
-use Rattle.std.specs.Prelude.{ℕ, ◌≡◌, ◌≤◌, ◌+◌, true, List, ◌∷◌, if◌then◌else◌, ◌==◌, false, Option}
+use Rattle.std.specs.Prelude.{ℕ, ◌≡◌, ◌≤◌, ◌+◌, true, List, ◌∷◌, if◌then◌else◌, ◌==◌, false}
 use Rattle.pcef_model.specs.declared.command.Command.{Command}
 use Rattle.pcef_model.specs.declared.entry.Entry.TheVariants as entry
 use Rattle.pcef_model.specs.declared.report.Report.{Report}
@@ -68,7 +68,7 @@ IdsAreInRange = (p : Setting) (j : Journal) → Lawful p j → (q : Qos) → has
     (5 ≤ (now p j).id_of q) × ((now p j).id_of q ≤ 15)
 
 -- rows that wait may still come next after a command, and after a row of another worker; and a row goes on
--- counting for the key of its slot
+-- counting for the keys of its slots
 abbrev pub WaitingRowsStay : Type 0
 WaitingRowsStay = (p : Setting) (j : Journal) (c : Command) (worker : ℕ) (rs : List Row) → BatchFollows p j worker rs →
     BatchFollows p (entry.Command c ∷ j) worker rs
@@ -78,8 +78,8 @@ WaitingRowsStayBesideOthers = (p : Setting) (j : Journal) (other : Row) (worker 
     BatchFollows p (entry.Row other ∷ j) worker rs
 
 abbrev pub SlotsStay : Type 0
-SlotsStay = (p : Setting) (j : Journal) (c : Command) (row : Row) (slot : Option Slot) → row.generation ≤ gen j → IsWithin (slots p j) slot →
-    CountsFor p j row slot → CountsFor p (entry.Command c ∷ j) row slot
+SlotsStay = (p : Setting) (j : Journal) (c : Command) (row : Row) (own : List Slot) → row.generation ≤ gen j → IsWithin (slots p j) own →
+    CountsFor p j row own → CountsFor p (entry.Command c ∷ j) row own
 
 -- all guaranteed rates together are within the capacity (own choice)
 abbrev pub RatesAreWithinCapacity : Type 0

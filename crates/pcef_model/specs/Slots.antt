@@ -1,6 +1,7 @@
 -- The slots of keys, and the slots that rows count for.
 use Rattle.std.specs.Prelude.{ℕ, Bool, false, List, [], ◌∷◌, Option, Some, None, suc, if◌then◌else◌, ◌≡◌, ◌<◌, ◌==◌, length}
 use Rattle.std.specs.Option.{option_map}
+use Rattle.std.specs.List.{list_any}
 use Rattle.pcef_model.specs.Setting.{same_name, Setting}
 use Rattle.pcef_model.specs.Commands.{is_among}
 use Rattle.pcef_rule.specs.declared.quantity.Slot.{Slot}
@@ -26,15 +27,23 @@ abbrev pub is_at : Option ℕ → ℕ → Bool
 is_at None n = false
 is_at (Some place) n = place == n
 
-abbrev pub has_this_slot : List (List ℕ) → Option Slot → List ℕ → Bool
-has_this_slot keys None key = false
-has_this_slot keys (Some slot) key = is_at (place_of key keys) slot.0
+-- one of these slots has this number
+abbrev pub is_one_of : ℕ → List Slot → Bool
+is_one_of n own = list_any (λ slot. n == slot.0) own
 
--- a row counts for the key of its slot, and for no other
-abbrev pub CountsFor : Setting → Journal → Row → Option Slot → Type 0
-CountsFor p j row slot = (key : List ℕ) → counts p j key row ≡ has_this_slot (slots p j) slot key
+-- the key has one of these slots
+abbrev pub has_one_of : List (List ℕ) → List Slot → List ℕ → Bool
+has_one_of keys own key = list_any (λ slot. is_at (place_of key keys) slot.0) own
 
--- the slot of a key that has one
-abbrev pub IsWithin : List (List ℕ) → Option Slot → Type 0
-IsWithin keys None = Unit {0}
-IsWithin keys (Some slot) = slot.0 < length keys
+-- a row counts for the keys of its slots, and for no other
+abbrev pub CountsFor : Setting → Journal → Row → List Slot → Type 0
+CountsFor p j row own = (key : List ℕ) → counts p j key row ≡ has_one_of (slots p j) own key
+
+-- each of these slots is less than n, and none stands twice
+abbrev pub AreSlotsBelow : ℕ → List Slot → Type 0
+AreSlotsBelow n [] = Unit {0}
+AreSlotsBelow n (slot ∷ own) = (slot.0 < n) × (is_one_of slot.0 own ≡ false) × AreSlotsBelow n own
+
+-- each of these slots is that of a key, and none stands twice
+abbrev pub IsWithin : List (List ℕ) → List Slot → Type 0
+IsWithin keys own = AreSlotsBelow (length keys) own

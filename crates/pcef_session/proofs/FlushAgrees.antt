@@ -1,9 +1,8 @@
 -- A session that has taken rows over agrees with the journal after them.
-use Rattle.std.proofs.Common.{◌≡◌, ◌∙◌, ◌≤◌, ◌<◌, ◌+◌, ◌*◌, ◌^◌, ◌==◌, ℕ, suc, zero, Bool, false, List, [], ◌∷◌, length, refl, sym, ap, subst, arith, inl, inr, map, Some, None, All, not, nat_lt, get_or}
-use Rattle.std.specs.Prelude.{Option}
-use Rattle.std.specs.List.{AllByRecursion}
+use Rattle.std.proofs.Common.{◌≡◌, ◌∙◌, ◌≤◌, ◌<◌, ◌+◌, ◌*◌, ◌^◌, ℕ, suc, zero, Bool, List, [], ◌∷◌, length, refl, sym, ap, subst, arith, inl, inr, map, Some, None, All, not, nat_lt, get_or}
+use Rattle.std.specs.List.{AllByRecursion, list_any}
 use Rattle.std.specs.Option.{option_map}
-use Rattle.std.proofs.lemmas.Bool.{cases_Bool, eq-eqb, eqb-true, ltb-false, false_from_ne_true}
+use Rattle.std.proofs.lemmas.Bool.{cases_Bool, ltb-false}
 use Rattle.std.proofs.lemmas.List.{length-map}
 use Rattle.std.proofs.lemmas.List.Elements.{All-cons, All-head, All-nil, All-tail, recursion_from_All}
 use Rattle.pcef_rule.specs.declared.quantity.Slot.{Slot}
@@ -30,13 +29,13 @@ use Rattle.pcef_session.specs.declared.batch.Item.{Item}
 use Rattle.pcef_session.specs.private.Parts.{Agrees, Parts}
 use Rattle.pcef_session.specs.Agreement.{KeyAgrees}
 use Rattle.pcef_session.specs.private.TakenRows.{CanCountAll, IsTaken}
-use Rattle.pcef_session.specs.Following.{HasItsSlots, HasSmallRows, row_of, slot_of}
-use Rattle.pcef_model.specs.Slots.{CountsFor, IsWithin, is_at, place_of}
+use Rattle.pcef_session.specs.Following.{HasItsSlots, HasSmallRows, row_of, row_slots}
+use Rattle.pcef_model.specs.Slots.{AreSlotsBelow, CountsFor, IsWithin, has_one_of, is_at, place_of}
 use Rattle.pcef_bearer.specs.Standing.{binding_of}
 use Rattle.pcef_model.specs.Lawful.{BatchFollows, Lawful, by_flush}
 use Rattle.pcef_model.specs.declared.trigger.TriggerSet.{TriggerSet}
 use Rattle.pcef_lists.proofs.Tests.{contrary}
-use Rattle.pcef_model.proofs.Sameness.{same_name_is}
+use Rattle.pcef_model.proofs.Sameness.{same_name_is, same_name_self}
 use Rattle.pcef_model.specs.declared.answer.FlushRefusal.TheVariants as flush
 use Rattle.pcef_session.specs.declared.state.SessionState.TheInside.{Inside}
 use Rattle.pcef_model.specs.Refusals.{first_of, flush_refusals, is_attached}
@@ -57,54 +56,28 @@ use Rattle.pcef_session.proofs.ShownLater.{shows_same}
 use Rattle.pcef_model.proofs.JournalExtends.{rows_after_flush, tables_after_flush}
 
 -- ---- slots and the keys that have them
-eq_later : (m n : ℕ) → (suc m == suc n) ≡ (m == n)
-eq_later m n =
-    elim (cases_Bool (m == n)) [
-      | inl same ↦ let is = eqb-true m n same in eq-eqb (suc m) (suc n) (omega (arith, is)) ∙ sym same
-      | inr differs ↦
-          false_from_ne_true (suc m == suc n) (λ same.
-          let is = eqb-true (suc m) (suc n) same in contrary {A = ⊥} (m == n) (eq-eqb m n (omega (arith, is))) differs) ∙ sym differs
-    ]
-
-not_first : (m : ℕ) → (suc m == 0) ≡ false
-not_first m = false_from_ne_true (suc m == 0) (λ same. let is = eqb-true (suc m) 0 same in absurd (omega (arith, is)))
-
-not_later : (n : ℕ) → (0 == suc n) ≡ false
-not_later n = false_from_ne_true (0 == suc n) (λ same. let is = eqb-true 0 (suc n) same in absurd (omega (arith, is)))
-
-at_later : (o : Option ℕ) (n : ℕ) → is_at (option_map (λ m. suc m) o) (suc n) ≡ is_at o n
-at_later None n = refl
-at_later (Some m) n = eq_later m n
-
-at_first : (o : Option ℕ) → is_at (option_map (λ m. suc m) o) 0 ≡ false
-at_first None = refl
-at_first (Some m) = not_first m
-
-slot_is_key : (key : List ℕ) (states : List KeyState) (n : ℕ) → n < length states → Distinct (keys_of states) → is_at (place_of key (keys_of states)) n ≡ same_name key (state_at n states).key
-slot_is_key key [] n within distinct = absurd (omega arith)
-slot_is_key key (s ∷ states) zero within distinct =
-    elim (cases_Bool (same_name key s.key)) [
-      | inl same ↦ rw same refl
-      | inr differs ↦ rw differs (at_first (place_of key (keys_of states)))
-    ]
-slot_is_key key (s ∷ states) (suc n) within distinct =
-    elim (cases_Bool (same_name key s.key)) [
+-- a key stands at its place
+place_here : (states : List KeyState) (n : ℕ) → n < length states → Distinct (keys_of states) → place_of (state_at n states).key (keys_of states) ≡ Some n
+place_here [] n within distinct = absurd (omega arith)
+place_here (s ∷ states) zero within distinct = rw (same_name_self s.key) refl
+place_here (s ∷ states) (suc n) within distinct =
+    elim (cases_Bool (same_name (state_at n states).key s.key)) [
       | inl same ↦
-          rw same (not_later n ∙ sym (false_from_ne_true (same_name key (state_at n states).key) (λ there.
-          let one : (state_at n states).key ≡ s.key = sym (same_name_is key (state_at n states).key there) ∙ same_name_is key s.key same in
-          contrary (is_among s.key (keys_of states)) (ap (λ k. is_among k (keys_of states)) (sym one) ∙ key_among n states (omega (arith, within))) distinct.0)))
-      | inr differs ↦ rw differs (at_later (place_of key (keys_of states)) n ∙ slot_is_key key states n (omega (arith, within)) distinct.1)
+          let one : (state_at n states).key ≡ s.key = same_name_is (state_at n states).key s.key same in
+          contrary (is_among s.key (keys_of states)) (ap (λ k. is_among k (keys_of states)) (sym one) ∙ key_among n states (omega (arith, within))) distinct.0
+      | inr differs ↦ rw differs (ap (option_map (λ m. suc m)) (place_here states n (omega (arith, within)) distinct.1))
     ]
 
--- a row counts for the key of its slot, by the counters
-counts_here : (p : Setting) (j : Journal) (r : Row) (slot : Option Slot) (states : List KeyState) → keys_of states ≡ slots p j → IsWithin (slots p j) slot → CountsFor p j r slot →
-    usage.CountsFor p j r states slot
-counts_here p j r None states keys within counts = counts
-counts_here p j r (Some slot) states keys within counts =
+-- a row counts for the keys of its slots, by the counters
+counts_here : (p : Setting) (j : Journal) (r : Row) (own : List Slot) (states : List KeyState) → keys_of states ≡ slots p j → IsWithin (slots p j) own → CountsFor p j r own →
+    usage.CountsFor p j r states own
+counts_here p j r own states keys within counts =
     let many : length (slots p j) ≡ length states = sym (ap length keys) ∙ length-map states (λ s. s.key) in
-    let inside : slot.0 < length states = omega (arith, within, many) in
-    let distinct : Distinct (keys_of states) = subst Distinct (sym keys) (distinct_slots p (tables j)) in
-    (inside, λ key. counts key ∙ ap (λ ks. is_at (place_of key ks) slot.0) (sym keys) ∙ slot_is_key key states slot.0 inside distinct)
+    let distinct : Distinct (keys_of states) = subst Distinct (sym keys) (distinct_slots p (tables j)) in (
+      subst (λ n. AreSlotsBelow n own) many within,
+      λ n inside. counts (state_at n states).key ∙ ap (λ ks. has_one_of ks own (state_at n states).key) (sym keys)
+          ∙ ap (λ o. list_any (λ (slot : Slot). is_at o slot.0) own) (place_here states n inside distinct),
+    )
 
 -- ---- octets that fit
 bounded : (test : Row → Bool) (rs : List Row) → All (λ (r : Row). r.header.octets < 2 ^ 32) rs → octets_of test rs ≤ length rs * 4294967295
@@ -119,13 +92,13 @@ pub can_count_all : (p : Setting) (j : Journal) (items : List Item) (states : Li
     All (λ (r : Row). r.header.octets < 2 ^ 32) (rows j) → length (rows j) + length items ≤ 4294967295 → CanCountAll items states
 can_count_all p j [] states agrees its small old few = tt
 can_count_all p j (i ∷ items) states agrees its small old few =
-    let here = All-head (λ (x : Item). IsWithin (slots p j) x.slot × CountsFor p j x.row x.slot) i items its in
+    let here = All-head (λ (x : Item). IsWithin (slots p j) x.slots.items × CountsFor p j x.row x.slots.items) i items its in
     let fits : i.row.header.octets < 4294967296 = All-head (λ (x : Item). x.row.header.octets < 2 ^ 32) i items small in
-    let which = counts_here p j i.row i.slot states agrees.keys_are here.0 here.1 in (
-      can_count p j i.row i.slot states which agrees.counts (λ key.
+    let which = counts_here p j i.row i.slots.items states agrees.keys_are here.0 here.1 in (
+      can_count p j i.row i.slots.items states which agrees.counts (λ key.
           let most = bounded (counts p j key) (rows j) old in omega (arith, most, fits, few)),
-      can_count_all p (entry.Row i.row ∷ j) items (with_octets i.slot i.row.header.octets states) (row_agrees p j i.row i.slot states which agrees)
-          (All-tail (λ (x : Item). IsWithin (slots p j) x.slot × CountsFor p j x.row x.slot) i items its) (All-tail (λ (x : Item). x.row.header.octets < 2 ^ 32) i items small)
+      can_count_all p (entry.Row i.row ∷ j) items (with_octets i.slots.items i.row.header.octets states) (row_agrees p j i.row i.slots.items states which agrees)
+          (All-tail (λ (x : Item). IsWithin (slots p j) x.slots.items × CountsFor p j x.row x.slots.items) i items its) (All-tail (λ (x : Item). x.row.header.octets < 2 ^ 32) i items small)
           (All-cons (λ (x : Row). x.header.octets < 2 ^ 32) i.row (rows j) fits old) (omega (arith, few)),
     )
 
@@ -168,19 +141,19 @@ are_counted p j [] b old new agrees is subscribes its taken =
           (subst (AllByRecursion (KeyAgrees p j)) (sym taken.1) (all_agree p j old.states agrees.counts agrees.on));
     }
 are_counted p j (i ∷ items) b old new agrees is subscribes its taken =
-    let which : AllByRecursion (λ (x : Item). usage.CountsFor p j x.row old.states x.slot) (i ∷ items) =
-    recursion_from_All (λ (x : Item). usage.CountsFor p j x.row old.states x.slot) (i ∷ items)
-    (λ n x within. let its_n = its n x within in counts_here p j (get_or (i ∷ items) n x).row (get_or (i ∷ items) n x).slot old.states agrees.keys_are its_n.0 its_n.1) in
-    let ended = rows_ended row_of slot_of p j (i ∷ items) old.states b agrees.keys_are agrees.counts agrees.on which subscribes in
-    let left : List KeyState = states_told (threshold_reports b (rows_counted row_of slot_of (i ∷ items) old.states)) (settled_states b (rows_counted row_of slot_of (i ∷ items) old.states)) in
-    let end : Journal = appended (threshold_reports b (rows_counted row_of slot_of (i ∷ items) old.states)) (settled_states b (rows_counted row_of slot_of (i ∷ items) old.states))
+    let which : AllByRecursion (λ (x : Item). usage.CountsFor p j x.row old.states x.slots.items) (i ∷ items) =
+    recursion_from_All (λ (x : Item). usage.CountsFor p j x.row old.states x.slots.items) (i ∷ items)
+    (λ n x within. let its_n = its n x within in counts_here p j (get_or (i ∷ items) n x).row (get_or (i ∷ items) n x).slots.items old.states agrees.keys_are its_n.0 its_n.1) in
+    let ended = rows_ended row_of row_slots p j (i ∷ items) old.states b agrees.keys_are agrees.counts agrees.on which subscribes in
+    let left : List KeyState = states_told (threshold_reports b (rows_counted row_of row_slots (i ∷ items) old.states)) (settled_states b (rows_counted row_of row_slots (i ∷ items) old.states)) in
+    let end : Journal = appended (threshold_reports b (rows_counted row_of row_slots (i ∷ items) old.states)) (settled_states b (rows_counted row_of row_slots (i ∷ items) old.states))
     (with_rows (map row_of (i ∷ items)) j) in
     let same : new.journal ≡ end = taken.journal ∙
-    ap (λ (k : Journal). appended (threshold_reports b (rows_counted row_of slot_of (i ∷ items) old.states)) (settled_states b (rows_counted row_of slot_of (i ∷ items) old.states))
+    ap (λ (k : Journal). appended (threshold_reports b (rows_counted row_of row_slots (i ∷ items) old.states)) (settled_states b (rows_counted row_of row_slots (i ∷ items) old.states))
     (with_rows (map row_of (i ∷ items)) k)) is in
     record {
-      journal_is = flush_is p j new.journal i.row (map row_of items) (rows_counted row_of slot_of (i ∷ items) old.states) left
-          (subst (λ (k : Journal). Ended p (with_rows (map row_of (i ∷ items)) j) [] (rows_counted row_of slot_of (i ∷ items) old.states) k left) (sym same) ended);
+      journal_is = flush_is p j new.journal i.row (map row_of items) (rows_counted row_of row_slots (i ∷ items) old.states) left
+          (subst (λ (k : Journal). Ended p (with_rows (map row_of (i ∷ items)) j) [] (rows_counted row_of row_slots (i ∷ items) old.states) k left) (sym same) ended);
       keys_are = ap keys_of taken.states ∙ ended.keys_are ∙ ap (slots p) (sym same);
       agree = subst (λ (k : Journal). AllByRecursion (KeyAgrees p k) new.states) (sym same)
           (subst (AllByRecursion (KeyAgrees p end)) (sym taken.states) (all_agree p end left ended.counts ended.on));

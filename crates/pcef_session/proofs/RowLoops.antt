@@ -12,43 +12,50 @@ use Rattle.pcef_model.specs.declared.entry.Entry.TheVariants as entry
 use Rattle.pcef_model.specs.Entries.{Journal}
 use Rattle.pcef_model.specs.Reports.{with_rows}
 use Rattle.pcef_model.specs.declared.row.Row.{Row}
+use Rattle.pcef_rule.specs.declared.quantity.Slot.{Slot}
 use Rattle.pcef_usage.specs.declared.usage.KeyState.{KeyState}
 use Rattle.pcef_usage.specs.Flushes.{rows_counted}
 use Rattle.pcef_usage.specs.Keys.{CanCount, with_octets}
 use Rattle.pcef_session.specs.declared.batch.Item.{Item}
 use Rattle.pcef_session.specs.private.TakenRows.{CanCountAll}
-use Rattle.pcef_session.specs.Following.{row_of, slot_of}
+use Rattle.pcef_session.specs.Following.{row_of, row_slots}
 
 -- what is left begins with the item at hand
 split_here : (items : List Item) (i : ℕ) (item : Item) → i < length items → item ≡ get_or items i item → drop i items ≡ item ∷ drop (i + 1) items
 split_here items i item within is = drop_more items i item within ∙ ap (λ (x : Item). x ∷ drop (i + 1) items) (sym is)
 
 -- the octets of the item at hand can be counted
-pub fits_here : (items : List Item) (i : ℕ) (item : Item) (states : List KeyState) (row : Row) → i < length items → item ≡ get_or items i item → row ≡ item.row →
-    CanCountAll (drop i items) states → CanCount item.slot row.header.octets states
-fits_here items i item states row within is row_is fits =
-    subst (λ (r : Row). CanCount item.slot r.header.octets states) (sym row_is) (subst (λ (xs : List Item). CanCountAll xs states) (split_here items i item within is) fits).0
+pub fits_here : (items : List Item) (i : ℕ) (item : Item) (states : List KeyState) (row : Row) (own : List Slot) → i < length items → item ≡ get_or items i item → row ≡ item.row → own ≡ item.slots.items →
+    CanCountAll (drop i items) states → CanCount own row.header.octets states
+fits_here items i item states row own within is row_is own_is fits =
+    subst (λ ss. CanCount ss row.header.octets states) (sym own_is)
+    (subst (λ (r : Row). CanCount item.slots.items r.header.octets states) (sym row_is) (subst (λ (xs : List Item). CanCountAll xs states) (split_here items i item within is) fits).0)
+
+counted_one : (item : Item) (states : List KeyState) (row : Row) (own : List Slot) → row ≡ item.row → own ≡ item.slots.items →
+    with_octets own row.header.octets states ≡ with_octets item.slots.items item.row.header.octets states
+counted_one item states row own row_is own_is =
+    ap (λ ss. with_octets ss row.header.octets states) own_is ∙ ap (λ (r : Row). with_octets item.slots.items r.header.octets states) row_is
 
 -- and then those of the others
-pub fits_later : (items : List Item) (i : ℕ) (item : Item) (states new : List KeyState) (row : Row) → i < length items → item ≡ get_or items i item → row ≡ item.row →
-    new ≡ with_octets item.slot row.header.octets states → CanCountAll (drop i items) states → CanCountAll (drop (i + 1) items) new
-fits_later items i item states new row within is row_is new_is fits =
-    subst (CanCountAll (drop (i + 1) items)) (sym (new_is ∙ ap (λ (r : Row). with_octets item.slot r.header.octets states) row_is))
+pub fits_later : (items : List Item) (i : ℕ) (item : Item) (states new : List KeyState) (row : Row) (own : List Slot) → i < length items → item ≡ get_or items i item → row ≡ item.row → own ≡ item.slots.items →
+    new ≡ with_octets own row.header.octets states → CanCountAll (drop i items) states → CanCountAll (drop (i + 1) items) new
+fits_later items i item states new row own within is row_is own_is new_is fits =
+    subst (CanCountAll (drop (i + 1) items)) (sym (new_is ∙ counted_one item states row own row_is own_is))
     (subst (λ (xs : List Item). CanCountAll xs states) (split_here items i item within is) fits).1
 
 -- what all rows count is what is left to count, one row on
-pub counted_step : (items : List Item) (i : ℕ) (item : Item) (states new all : List KeyState) (row : Row) → i < length items → item ≡ get_or items i item → row ≡ item.row →
-    new ≡ with_octets item.slot row.header.octets states → rows_counted row_of slot_of (drop i items) states ≡ all →
-    rows_counted row_of slot_of (drop (i + 1) items) new ≡ all
+pub counted_step : (items : List Item) (i : ℕ) (item : Item) (states new all : List KeyState) (row : Row) (own : List Slot) → i < length items → item ≡ get_or items i item → row ≡ item.row → own ≡ item.slots.items →
+    new ≡ with_octets own row.header.octets states → rows_counted row_of row_slots (drop i items) states ≡ all →
+    rows_counted row_of row_slots (drop (i + 1) items) new ≡ all
 unfolding rows_counted
-counted_step items i item states new all row within is row_is new_is before =
-    ap (rows_counted row_of slot_of (drop (i + 1) items)) (new_is ∙ ap (λ (r : Row). with_octets item.slot r.header.octets states) row_is)
-    ∙ sym (ap (λ (xs : List Item). rows_counted row_of slot_of xs states) (split_here items i item within is)) ∙ before
+counted_step items i item states new all row own within is row_is own_is new_is before =
+    ap (rows_counted row_of row_slots (drop (i + 1) items)) (new_is ∙ counted_one item states row own row_is own_is)
+    ∙ sym (ap (λ (xs : List Item). rows_counted row_of row_slots xs states) (split_here items i item within is)) ∙ before
 
 -- and nothing is left at the end
-pub counted_end : (items : List Item) (i : ℕ) (states all : List KeyState) → length items ≤ i → rows_counted row_of slot_of (drop i items) states ≡ all → states ≡ all
+pub counted_end : (items : List Item) (i : ℕ) (states all : List KeyState) → length items ≤ i → rows_counted row_of row_slots (drop i items) states ≡ all → states ≡ all
 unfolding rows_counted
-counted_end items i states all past before = sym (ap (λ (xs : List Item). rows_counted row_of slot_of xs states) (drop_all i items past)) ∙ before
+counted_end items i states all past before = sym (ap (λ (xs : List Item). rows_counted row_of row_slots xs states) (drop_all i items past)) ∙ before
 
 -- ---- the journal in that loop
 pub taken_step : (items : List Item) (i : ℕ) (item : Item) (j new all : Journal) (row : Row) → i < length items → item ≡ get_or items i item → row ≡ item.row →

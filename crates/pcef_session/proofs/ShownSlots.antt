@@ -1,7 +1,7 @@
 -- A table that shows a generation counts each packet for the key that the generation says.
-use Rattle.std.proofs.Common.{◌≡◌, ◌∙◌, ℕ, Bool, true, false, ◌&&◌, ◌==◌, List, [], refl, sym, ap, subst, inl, inr, find, Contains, Some, None, if◌then◌else◌}
-use Rattle.std.specs.Prelude.{Option}
-use Rattle.std.specs.Option.{option_map, option_map_or}
+use Rattle.std.proofs.Common.{◌≡◌, ◌<◌, ◌∙◌, ℕ, length, Bool, true, false, ◌&&◌, ◌==◌, List, [], refl, sym, ap, subst, inl, inr, find, Contains, Some, None, if◌then◌else◌}
+use Rattle.std.specs.Prelude.{Option, ◌||◌}
+use Rattle.std.specs.Option.{option_map, option_map_or, option_to_list}
 use Rattle.std.proofs.lemmas.Bool.{cases_Bool, eqb-true, eq-eqb, false_from_ne_true, and_left, and_right}
 use Rattle.pcef_packet.specs.declared.header.Header.{Header}
 use Rattle.pcef_packet.specs.Addresses.{same_addr, ue_side}
@@ -9,9 +9,10 @@ use Rattle.pcef_rule.specs.declared.quantity.Slot.{Slot}
 use Rattle.pcef_rule.specs.Gate.{opens}
 use Rattle.pcef_table.specs.declared.entry.Entry.{Entry}
 use Rattle.pcef_model.specs.declared.verdict.Verdict.{Verdict}
+use Rattle.pcef_model.specs.declared.verdict.Verdict.TheVariants.{Stray, Unmatched, Gated, Passed}
 use Rattle.pcef_table.specs.Sources.{is_named}
 use Rattle.pcef_table.specs.Tables.{TableValue}
-use Rattle.pcef_table.specs.Verdicts.{slot_for}
+use Rattle.pcef_table.specs.Verdicts.{counted_slot, slot_for}
 use Rattle.pcef_lists.proofs.Foremost.{found_is_foremost}
 use Rattle.pcef_model.specs.Setting.{Setting, same_name}
 use Rattle.pcef_model.specs.ActiveRules.{Active, decisive, is_decisive, is_key}
@@ -21,13 +22,14 @@ use Rattle.pcef_model.specs.Entries.{Journal}
 use Rattle.pcef_model.specs.Journals.{Decision, at, counts_in, decided_by, decision, gated, verdict_at, passed, slots, stray, unmatched, verdict_of, passed_for}
 use Rattle.pcef_lists.proofs.Tests.{contrary}
 use Rattle.pcef_model.proofs.Sameness.{same_name_is, same_name_of}
-use Rattle.pcef_model.specs.Slots.{has_this_slot, is_at, counts_now, place_of, slot_of}
+use Rattle.pcef_model.specs.Slots.{IsWithin, has_one_of, is_at, counts_now, place_of, slot_of}
 use Rattle.pcef_session.specs.Shown.{Shows, StandsFor}
 use Rattle.pcef_model.proofs.BoundRules.{NamesOnce}
 use Rattle.pcef_model.proofs.SlotsGrow.{HasSlot, shown_slots}
 use Rattle.pcef_model.proofs.Decisive.{once_is}
 use Rattle.pcef_session.proofs.ShownVerdicts.{rule_is}
 use Rattle.pcef_model.proofs.SlotPlaces.{place_once, place_there}
+use Rattle.pcef_model.proofs.SlotsLater.{place_within}
 use Rattle.pcef_lists.proofs.Found.{find_some}
 
 -- ---- the slot of an entry
@@ -40,7 +42,7 @@ place_at key k keys n is differs = from (place_of key keys) refl
         (same_name_of key k (place_once key k keys n (some ∙ ap (λ (i : ℕ). Some i) (eqb-true m n same)) is)) differs)
 
 keyed_counts : (keys on : List (List ℕ)) (k key : List ℕ) (slot : Option Slot) → is_among k on ≡ true → option_map (λ (s : Slot). s.0) slot ≡ place_of k keys → is_among k keys ≡ true →
-    (same_name key k && is_among key on) ≡ has_this_slot keys slot key
+    (same_name key k && is_among key on) ≡ has_one_of keys (option_to_list slot) key
 keyed_counts keys on k key None counted slot_is has =
     let w = place_there k keys has in absurd (let e : None ≡ Some w.0 = slot_is ∙ w.1 in cc)
 keyed_counts keys on k key (Some s) counted slot_is has =
@@ -49,12 +51,12 @@ keyed_counts keys on k key (Some s) counted slot_is has =
           let is = same_name_is key k same in
           let left : (same_name key k && is_among key on) ≡ true = rw same (ap (λ n. is_among n on) is ∙ counted) in
           let right : is_at (place_of key keys) s.0 ≡ true = ap (λ n. is_at (place_of n keys) s.0) is ∙ ap (λ o. is_at o s.0) (sym slot_is) ∙ eq-eqb s.0 s.0 refl in
-          left ∙ sym right
-      | inr differs ↦ and_left (same_name key k) (is_among key on) differs ∙ sym (place_at key k keys s.0 (sym slot_is) differs)
+          left ∙ sym (ap (λ b. b || false) right)
+      | inr differs ↦ and_left (same_name key k) (is_among key on) differs ∙ sym (ap (λ b. b || false) (place_at key k keys s.0 (sym slot_is) differs))
     ]
 
 slot_counts : (keys on : List (List ℕ)) (key_of : Option (List ℕ)) (counted : Bool) (slot : Option Slot) (key : List ℕ) → counted ≡ counts_now on key_of →
-    option_map (λ (s : Slot). s.0) slot ≡ slot_of keys key_of → HasSlot keys key_of → (is_key key key_of && is_among key on) ≡ has_this_slot keys (if counted then slot else None) key
+    option_map (λ (s : Slot). s.0) slot ≡ slot_of keys key_of → HasSlot keys key_of → (is_key key key_of && is_among key on) ≡ has_one_of keys (option_to_list (if counted then slot else None)) key
 slot_counts keys on None counted slot key counted_is slot_is has = rw counted_is refl
 slot_counts keys on (Some k) counted slot key counted_is slot_is has =
     elim (cases_Bool (is_among k on)) [
@@ -107,11 +109,11 @@ entry_named p j g t r shows once there =
 -- ---- counting
 -- the slot that a table gives to a verdict is that of the key that the packet counts for
 pub shown_counts : (p : Setting) (j : Journal) (g : ℕ) (t : TableValue) (header : Header) (v : Verdict) (key : List ℕ) → Shows p j g t → NamesOnce (at p j g).rules →
-    v ≡ verdict_at p (at p j g) header → counts_in p (at p j g) key header ≡ has_this_slot (slots p j) (slot_for p.catalog t.entries v) key
+    v ≡ verdict_at p (at p j g) header → counts_in p (at p j g) key header ≡ has_one_of (slots p j) (option_to_list (slot_for p.catalog t.entries v)) key
 shown_counts p j g t header v key shows once is = rw is (from (decision p (at p j g) header) refl)
   where
     from : (d : Decision) → decision p (at p j g) header ≡ d →
-        (passed_for key d && is_among key (at p j g).on) ≡ has_this_slot (slots p j) (slot_for p.catalog t.entries (verdict_of (at p j g) d)) key
+        (passed_for key d && is_among key (at p j g).on) ≡ has_one_of (slots p j) (option_to_list (slot_for p.catalog t.entries (verdict_of (at p j g) d))) key
     from stray decided = refl
     from unmatched decided = refl
     from (gated r) decided = refl
@@ -119,3 +121,29 @@ shown_counts p j g t header v key shows once is = rw is (from (decision p (at p 
         let there = passed_is p (at p j g) header r decided in
         let w = entry_named p j g t r shows once there in
         rw w.1 (slot_counts (slots p j) (at p j g).on r.properties.key w.0.counted w.0.slot key w.2.counted_is w.2.slot_is (shown_slots p j g r there))
+
+-- and it is the slot of a key
+pub shown_within : (p : Setting) (j : Journal) (g : ℕ) (t : TableValue) (v : Verdict) → Shows p j g t → IsWithin (slots p j) (option_to_list (slot_for p.catalog t.entries v))
+shown_within p j g t Stray shows = tt
+shown_within p j g t Unmatched shows = tt
+shown_within p j g t (Gated rule) shows = tt
+shown_within p j g t (Passed rule bearer) shows = from (find (λ e. is_named p.catalog rule e.source) t.entries) refl
+  where
+    keyed : (key : Option (List ℕ)) (s : Slot) → Some s.0 ≡ slot_of (slots p j) key → s.0 < length (slots p j)
+    keyed None s is = absurd cc
+    keyed (Some key) s is = place_within key (slots p j) s.0 (sym is)
+
+    slotted : (slot : Option Slot) (key : Option (List ℕ)) → option_map (λ s. s.0) slot ≡ slot_of (slots p j) key → IsWithin (slots p j) (option_to_list slot)
+    slotted None key is = tt
+    slotted (Some s) key is = (keyed key s is, refl, tt)
+
+    counted : (b : Bool) (slot : Option Slot) → IsWithin (slots p j) (option_to_list slot) → IsWithin (slots p j) (option_to_list (if b then slot else None))
+    counted true slot within = within
+    counted false slot within = tt
+
+    from : (o : Option Entry) → find (λ e. is_named p.catalog rule e.source) t.entries ≡ o → IsWithin (slots p j) (option_to_list (option_map_or counted_slot o None))
+    from None is = tt
+    from (Some e) is =
+        let f = found_is_foremost (λ _ _. Unit {0}) (λ (x : Entry). is_named p.catalog rule x.source) t.entries e (λ i k d below within. tt) is in
+        let r = shows.only e f.there in
+        counted e.counted e.slot (slotted e.slot r.0.properties.key r.2.slot_is)

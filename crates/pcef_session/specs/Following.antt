@@ -1,5 +1,5 @@
 -- The slots that rows count for.
-use Rattle.std.specs.Prelude.{◌<◌, ◌≤◌, List, Option, All, length, ◌^◌}
+use Rattle.std.specs.Prelude.{◌<◌, ◌≤◌, List, All, length, ◌^◌}
 use Rattle.pcef_rule.specs.declared.quantity.Slot.{Slot}
 use Rattle.pcef_model.specs.declared.row.Row.{Row}
 use Rattle.pcef_model.specs.Setting.{Setting, most_keys}
@@ -11,12 +11,12 @@ use Rattle.pcef_model.specs.Slots.{CountsFor, IsWithin}
 abbrev pub row_of : Item → Row
 row_of i = i.row
 
-abbrev pub slot_of : Item → Option Slot
-slot_of i = i.slot
+abbrev pub row_slots : Item → List Slot
+row_slots i = i.slots.items
 
--- each row counts for the key of its slot
+-- each row counts for the keys of its slots
 abbrev pub HasItsSlots : Setting → Journal → List Item → Type 0
-HasItsSlots p j items = All (λ i. IsWithin (slots p j) i.slot × CountsFor p j i.row i.slot) items
+HasItsSlots p j items = All (λ i. IsWithin (slots p j) i.slots.items × CountsFor p j i.row i.slots.items) items
 
 -- as many keys as may have a slot, or fewer
 abbrev pub HasFewKeys : Setting → Journal → Type 0

@@ -1,5 +1,6 @@
 -- Laws of lawful journals, for whoever reads the definitions.
 use Rattle.std.specs.Prelude.{ℕ, ◌≡◌, ◌≤◌, true, List, ◌∷◌, Some, Contains}
+use Rattle.std.specs.Option.{option_to_list}
 use Rattle.pcef_packet.specs.declared.header.Header.{Header}
 use Rattle.pcef_bearer.specs.Bindings.{bearer_of, guaranteed}
 use Rattle.pcef_model.specs.declared.verdict.Verdict.{Verdict}
@@ -12,7 +13,7 @@ use Rattle.pcef_model.specs.Setting.{Setting}
 use Rattle.pcef_model.specs.Entries.{Journal}
 use Rattle.pcef_model.specs.Journals.{at, counts_in, gen, verdict_at, now, slots}
 use Rattle.pcef_model.specs.Refusals.{rate_of}
-use Rattle.pcef_model.specs.Slots.{has_this_slot}
+use Rattle.pcef_model.specs.Slots.{has_one_of}
 use Rattle.pcef_model.specs.Lawful.{Lawful}
 use Rattle.pcef_session.specs.Shown.{Shows}
 use Rattle.pcef_bearer.specs.Standing.{binding_of}
@@ -33,7 +34,7 @@ ShownTablesStay = (p : Setting) (j : Journal) (c : Command) (g : ℕ) (t : Table
 abbrev pub ShownTablesCount : Type 0
 ShownTablesCount = (p : Setting) (j : Journal) (g : ℕ) (t : TableValue) (header : Header) (v : Verdict) (key : List ℕ) → Shows p j g t →
     IsVerdict p.catalog t.entries p.ue header v →
-    counts_in p (at p j g) key header ≡ has_this_slot (slots p j) (slot_for p.catalog t.entries v) key
+    counts_in p (at p j g) key header ≡ has_one_of (slots p j) (option_to_list (slot_for p.catalog t.entries v)) key
 
 -- ---- bearers (TS 23.203, clause 6.1.1.4)
 -- each active rule stands on one bearer, that of its pair of QCI and ARP

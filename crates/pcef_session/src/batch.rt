@@ -1,8 +1,10 @@
 //! The rows of a worker that wait.
 
 ghost use Rattle.std.specs.Prelude.{◌≡◌, ◌≤◌, ◌<◌, ◌++◌, ◌∷◌, [], ◌↔◌, IfOk, IsTrue, length};
+ghost use Rattle.std.specs.Option.{option_to_list};
 ghost use Rattle.pcef_session.specs.Following.{HasSmallRows};
 
+use arrayvec::ArrayVec;
 use pcef_model::Row;
 use pcef_rule::Slot;
 use std::alloc::{AllocError, Global};
@@ -15,13 +17,46 @@ pub const MAX_WAITING: usize = 32;
 #[derive(Clone, Copy, Debug, PartialEq, Eq)]
 pub struct BatchFull;
 
-/// A row that waits, with the slot that it counts for.
+/// A row that waits, with the slots that it counts for.
 #[derive(Debug, PartialEq, Eq, Drop)]
 pub struct Item {
     /// The row.
     pub row: Row,
-    /// The slot that it counts for, if there is one.
-    pub slot: Option<Slot>,
+    /// The slots that it counts for.
+    pub slots: ArrayVec<Slot, 8>,
+}
+
+impl Item {
+    /// Another one that is equal. Takes no memory.
+    pub fn copy(&self) -> Item
+        ensures { result ≡ self.now }
+    {
+        Item {
+            row: self.row.copy(),
+            slots: copy_slots(&self.slots),
+        }
+    }
+}
+
+fn copy_slots(slots: &ArrayVec<Slot, 8>) -> ArrayVec<Slot, 8>
+    ensures { result ≡ slots.now }
+{
+    let mut copy = ArrayVec::new();
+    let Ok(()) = copy.try_extend_from_slice(slots.as_slice()) else {
+        unreachable!()
+    };
+    copy
+}
+
+/// The slots of a row that counts for this one alone, or for none.
+pub fn slots_for(slot: Option<Slot>) -> ArrayVec<Slot, 8>
+    ensures { result.items ≡ option_to_list slot }
+{
+    let mut slots = ArrayVec::new();
+    if let Some(slot) = slot {
+        slots.push(slot);
+    }
+    slots
 }
 
 /// At most 32 rows of one worker that wait, with memory for all of them.

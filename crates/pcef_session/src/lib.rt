@@ -13,7 +13,7 @@ mod prepared;
 mod rows;
 mod state;
 
-pub use batch::{Batch, BatchFull, Item, MAX_WAITING};
+pub use batch::{Batch, BatchFull, Item, MAX_WAITING, slots_for};
 pub use laws::{rules_have_their_bearers, shown_tables_judge};
 pub use prepared::{Activation, Prepared, PreparedChange};
 pub use state::{MAX_RULES, SessionState, open_fault};

@@ -5,7 +5,7 @@ ghost use Rattle.pcef_lane.specs.Lanes.{at_start};
 ghost use Rattle.pcef_model.specs.Reports.{with_rows};
 ghost use Rattle.pcef_model.specs.Outcomes.{judged_of};
 ghost use Rattle.pcef_session.specs.private.TakenRows.{CanCountAll, IsTaken, with_lane};
-ghost use Rattle.pcef_session.specs.Following.{row_of, slot_of};
+ghost use Rattle.pcef_session.specs.Following.{row_of, row_slots};
 ghost use Rattle.pcef_usage.specs.Flushes.{rows_counted};
 
 use crate::batch::Item;
@@ -33,11 +33,12 @@ pub(crate) fn take_rows(counted: &mut CountedJournal, items: &[Item])
     requires room { length items.now ≤ counted.old.room }
     requires fits { CanCountAll items.now counted.old.states }
     ensures journal { counted.new.journal ≡ with_rows (map row_of items.now) counted.old.journal }
-    ensures states { counted.new.states ≡ rows_counted row_of slot_of items.now counted.old.states }
+    ensures states { counted.new.states
+        ≡ rows_counted row_of row_slots items.now counted.old.states }
     ensures room { counted.old.room ≤ counted.new.room + length items.now }
 {
     for item in items {
-        counted.take_row(item.row.copy(), item.slot);
+        counted.take_row(item.row.copy(), item.slots.as_slice());
     }
 }
 

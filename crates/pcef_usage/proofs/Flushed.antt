@@ -1,19 +1,19 @@
 -- What a flush leaves of the counters agrees with the journal.
 use Rattle.std.proofs.Common.{◌≡◌, ◌<◌, ◌+◌, ◌^◌, ◌∙◌, ℕ, Bool, List, [], ◌∷◌, length, refl, sym, ap, map, subst, arith}
-use Rattle.std.specs.Prelude.{Option, Some, None}
 use Rattle.std.specs.List.{AllByRecursion}
 use Rattle.pcef_rule.specs.declared.quantity.Slot.{Slot}
 use Rattle.pcef_model.specs.declared.entry.Entry.TheVariants as entry
 use Rattle.pcef_model.specs.declared.row.Row.{Row}
 use Rattle.pcef_model.specs.declared.trigger.TriggerSet.{TriggerSet}
-use Rattle.pcef_model.specs.Setting.{Setting, same_name}
+use Rattle.pcef_model.specs.Setting.{Setting}
 use Rattle.pcef_model.specs.Entries.{Journal}
 use Rattle.pcef_model.specs.Journals.{counted, counts, slots, subscribed, tables}
+use Rattle.pcef_model.specs.Slots.{AreSlotsBelow}
 use Rattle.pcef_model.specs.Reports.{after_flush, tell, with_rows}
 use Rattle.pcef_usage.specs.declared.usage.KeyState.{KeyState}
 use Rattle.pcef_usage.specs.Flushes.{rows_counted}
-use Rattle.pcef_usage.specs.Keys.{CanCount, keys_of, state_at, with_octets}
-use Rattle.pcef_usage.specs.PendingReports.{AllCount, AllOn, Counts, Distinct, KnowsAll, settled_states, threshold_reports, states_told, appended}
+use Rattle.pcef_usage.specs.Keys.{CanCount, FitsMore, keys_of, state_at, with_octets}
+use Rattle.pcef_usage.specs.PendingReports.{AllCount, AllOn, Counts, KnowsAll, settled_states, threshold_reports, states_told, appended}
 use Rattle.pcef_usage.proofs.Endings.{Ended, ending}
 use Rattle.pcef_usage.proofs.Loops.{many, same_key_at}
 use Rattle.pcef_usage.proofs.Places.{all_state_at}
@@ -28,53 +28,56 @@ pub record StatesAgree (p : Setting) (j : Journal) (states : List KeyState) : Ty
   pub on : AllOn p j states
 
 -- ---- one row
--- which slot a row counts for stays as rows are counted
-pub counts_for_later : (p : Setting) (j : Journal) (r before : Row) (slot : Option Slot) (states left : List KeyState) → keys_of left ≡ keys_of states →
-    CountsFor p j r states slot → CountsFor p (entry.Row before ∷ j) r left slot
-counts_for_later p j r before None states left keys which = which
-counts_for_later p j r before (Some slot) states left keys which = (
-  subst (λ n. slot.0 < n) (sym (many left states keys)) which.0,
-  λ key. which.1 key ∙ ap (same_name key) (sym (same_key_at slot.0 left states keys)),
-)
+-- which slots a row counts for stays as rows are counted
+pub counts_for_later : (p : Setting) (j : Journal) (r before : Row) (own : List Slot) (states left : List KeyState) → keys_of left ≡ keys_of states →
+    CountsFor p j r states own → CountsFor p (entry.Row before ∷ j) r left own
+counts_for_later p j r before own states left keys which =
+    let same : length left ≡ length states = many left states keys in (
+      subst (λ n. AreSlotsBelow n own) (sym same) which.0,
+      λ n within. ap (λ k. counts p j k r) (same_key_at n left states keys) ∙ which.1 n (omega (arith, within, same)),
+    )
 
-pub row_agrees : (p : Setting) (j : Journal) (r : Row) (slot : Option Slot) (states : List KeyState) → CountsFor p j r states slot → StatesAgree p j states →
-    StatesAgree p (entry.Row r ∷ j) (with_octets slot r.header.octets states)
-row_agrees p j r slot states which agrees = record {
-  keys_are = keys_row_counted slot r.header.octets states ∙ agrees.keys_are;
-  counts = row_counted p j r slot states (subst Distinct (sym agrees.keys_are) (distinct_slots p (tables j))) which agrees.counts;
-  on = all_on_row_counted p j r slot r.header.octets states agrees.on;
+pub row_agrees : (p : Setting) (j : Journal) (r : Row) (own : List Slot) (states : List KeyState) → CountsFor p j r states own → StatesAgree p j states →
+    StatesAgree p (entry.Row r ∷ j) (with_octets own r.header.octets states)
+row_agrees p j r own states which agrees = record {
+  keys_are = keys_row_counted own r.header.octets states ∙ agrees.keys_are;
+  counts = row_counted p j r own states which agrees.counts;
+  on = all_on_row_counted p j r own r.header.octets states agrees.on;
 }
 
--- its octets can be counted where the key's octets fit
-pub can_count : (p : Setting) (j : Journal) (r : Row) (slot : Option Slot) (states : List KeyState) → CountsFor p j r states slot → AllCount p j [] states →
-    ((key : List ℕ) → counted p j key + r.header.octets < 2 ^ 64) → CanCount slot r.header.octets states
+-- its octets can be counted where the keys' octets fit
+pub can_count : (p : Setting) (j : Journal) (r : Row) (own : List Slot) (states : List KeyState) → CountsFor p j r states own → AllCount p j [] states →
+    ((key : List ℕ) → counted p j key + r.header.octets < 2 ^ 64) → CanCount own r.header.octets states
 unfolding AllCount
-can_count p j r None states which all fits = tt
-can_count p j r (Some slot) states which all fits =
-    let here : Counts p j [] (state_at slot.0 states) = all_state_at (Counts p j []) states slot.0 which.0 all in
-    let fits_here : counted p j (state_at slot.0 states).key + r.header.octets < 2 ^ 64 = fits (state_at slot.0 states).key in
-    (which.0, omega (arith, here.counted_is, fits_here))
+can_count p j r own states which all fits = (which.0, each own which.0)
+  where
+    each : (more : List Slot) → AreSlotsBelow (length states) more → AllByRecursion (λ (s : Slot). FitsMore s.0 r.header.octets states) more
+    each [] below = tt
+    each (slot ∷ more) below =
+        let here : Counts p j [] (state_at slot.0 states) = all_state_at (Counts p j []) states slot.0 below.0 all in
+        let fits_here : counted p j (state_at slot.0 states).key + r.header.octets < 2 ^ 64 = fits (state_at slot.0 states).key in
+        (omega (arith, here.counted_is, fits_here), each more below.2)
 
 -- ---- all rows
-pub keys_rows_counted : {I : Type 0} (row : I → Row) (slot : I → Option Slot) (items : List I) (states : List KeyState) → keys_of (rows_counted row slot items states) ≡ keys_of states
+pub keys_rows_counted : {I : Type 0} (row : I → Row) (own : I → List Slot) (items : List I) (states : List KeyState) → keys_of (rows_counted row own items states) ≡ keys_of states
 unfolding rows_counted
-keys_rows_counted row slot [] states = refl
-keys_rows_counted row slot (i ∷ items) states =
-    keys_rows_counted row slot items (with_octets (slot i) (row i).header.octets states) ∙ keys_row_counted (slot i) (row i).header.octets states
+keys_rows_counted row own [] states = refl
+keys_rows_counted row own (i ∷ items) states =
+    keys_rows_counted row own items (with_octets (own i) (row i).header.octets states) ∙ keys_row_counted (own i) (row i).header.octets states
 
-pub length-rows_counted : {I : Type 0} (row : I → Row) (slot : I → Option Slot) (items : List I) (states : List KeyState) → length (rows_counted row slot items states) ≡ length states
-length-rows_counted row slot items states = many (rows_counted row slot items states) states (keys_rows_counted row slot items states)
+pub length-rows_counted : {I : Type 0} (row : I → Row) (own : I → List Slot) (items : List I) (states : List KeyState) → length (rows_counted row own items states) ≡ length states
+length-rows_counted row own items states = many (rows_counted row own items states) states (keys_rows_counted row own items states)
 
-pub rows_agree : {I : Type 0} (row : I → Row) (slot : I → Option Slot) (p : Setting) (j : Journal) (items : List I) (states : List KeyState) →
-    AllByRecursion (λ i. CountsFor p j (row i) states (slot i)) items → StatesAgree p j states → StatesAgree p (with_rows (map row items) j) (rows_counted row slot items states)
+pub rows_agree : {I : Type 0} (row : I → Row) (own : I → List Slot) (p : Setting) (j : Journal) (items : List I) (states : List KeyState) →
+    AllByRecursion (λ i. CountsFor p j (row i) states (own i)) items → StatesAgree p j states → StatesAgree p (with_rows (map row items) j) (rows_counted row own items states)
 unfolding with_rows rows_counted
-rows_agree row slot p j [] states which agrees = agrees
-rows_agree row slot p j (i ∷ items) states which agrees =
-    let left : List KeyState = with_octets (slot i) (row i).header.octets states in
-    rows_agree row slot p (entry.Row (row i) ∷ j) items left
-    (all_same (λ k. CountsFor p j (row k) states (slot k)) (λ k. CountsFor p (entry.Row (row i) ∷ j) (row k) left (slot k)) items
-    (λ k h. counts_for_later p j (row k) (row i) (slot k) states left (keys_row_counted (slot i) (row i).header.octets states) h) which.1)
-    (row_agrees p j (row i) (slot i) states which.0 agrees)
+rows_agree row own p j [] states which agrees = agrees
+rows_agree row own p j (i ∷ items) states which agrees =
+    let left : List KeyState = with_octets (own i) (row i).header.octets states in
+    rows_agree row own p (entry.Row (row i) ∷ j) items left
+    (all_same (λ k. CountsFor p j (row k) states (own k)) (λ k. CountsFor p (entry.Row (row i) ∷ j) (row k) left (own k)) items
+    (λ k h. counts_for_later p j (row k) (row i) (own k) states left (keys_row_counted (own i) (row i).header.octets states) h) which.1)
+    (row_agrees p j (row i) (own i) states which.0 agrees)
 
 pub subscribed_after_rows : (rs : List Row) (j : Journal) → subscribed (with_rows rs j) ≡ subscribed j
 unfolding with_rows subscribed
@@ -88,15 +91,15 @@ unfolding appended states_told KnowsAll
 agreement_ended p j states b agrees subscribes = ending p j [] states b (distinct_slots p (tables j)) agrees.keys_are tt agrees.counts agrees.on subscribes
 
 -- rows are counted one by one, and then the thresholds are told
-pub rows_ended : {I : Type 0} (row : I → Row) (slot : I → Option Slot) (p : Setting) (j : Journal) (items : List I) (states : List KeyState) (b : Bool) →
-    keys_of states ≡ slots p j → AllCount p j [] states → AllOn p j states → AllByRecursion (λ i. CountsFor p j (row i) states (slot i)) items →
+pub rows_ended : {I : Type 0} (row : I → Row) (own : I → List Slot) (p : Setting) (j : Journal) (items : List I) (states : List KeyState) (b : Bool) →
+    keys_of states ≡ slots p j → AllCount p j [] states → AllOn p j states → AllByRecursion (λ i. CountsFor p j (row i) states (own i)) items →
     b ≡ (subscribed j).usage_report →
-    Ended p (with_rows (map row items) j) [] (rows_counted row slot items states)
-    (appended (threshold_reports b (rows_counted row slot items states)) (settled_states b (rows_counted row slot items states)) (with_rows (map row items) j))
-    (states_told (threshold_reports b (rows_counted row slot items states)) (settled_states b (rows_counted row slot items states)))
-rows_ended row slot p j items states b keys counts on which subscribes =
-    agreement_ended p (with_rows (map row items) j) (rows_counted row slot items states) b
-    (rows_agree row slot p j items states which (record { keys_are = keys; counts = counts; on = on }))
+    Ended p (with_rows (map row items) j) [] (rows_counted row own items states)
+    (appended (threshold_reports b (rows_counted row own items states)) (settled_states b (rows_counted row own items states)) (with_rows (map row items) j))
+    (states_told (threshold_reports b (rows_counted row own items states)) (settled_states b (rows_counted row own items states)))
+rows_ended row own p j items states b keys counts on which subscribes =
+    agreement_ended p (with_rows (map row items) j) (rows_counted row own items states) b
+    (rows_agree row own p j items states which (record { keys_are = keys; counts = counts; on = on }))
     (subscribes ∙ ap (λ (t : TriggerSet). t.usage_report) (sym (subscribed_after_rows (map row items) j)))
 
 -- that is the journal after a flush of some rows

@@ -4,6 +4,7 @@ use Rattle.std.specs.List.{list_any, AllByRecursion}
 use Rattle.pcef_rule.specs.declared.quantity.Slot.{Slot}
 use Rattle.pcef_model.specs.Setting.{most_keys, same_name}
 use Rattle.pcef_model.specs.Reports.{is_reached_by}
+use Rattle.pcef_model.specs.Slots.{AreSlotsBelow}
 use Rattle.pcef_usage.specs.declared.usage.KeyState.{KeyState}
 
 abbrev pub keys_of : List KeyState → List (List ℕ)
@@ -70,24 +71,22 @@ abbrev pub finds_no_slot : Option (List ℕ) → List KeyState → Bool
 finds_no_slot None states = false
 finds_no_slot (Some key) states = not (has_slot key states) && nat_le most_keys (length states)
 
--- the states after a packet's octets are counted for the key of a slot, if there is one
-abbrev pub with_octets : Option Slot → ℕ → List KeyState → List KeyState
-with_octets None octets states = states
-with_octets (Some slot) octets states = at_place slot.0 (added octets) states
+-- the states after a packet's octets are counted for the keys of its slots
+abbrev pub with_octets : List Slot → ℕ → List KeyState → List KeyState
+with_octets [] octets states = states
+with_octets (slot ∷ own) octets states = with_octets own octets (at_place slot.0 (added octets) states)
 
 -- what is counted of each key fits 64 bits
 abbrev pub AllFit : List KeyState → Type 0
 AllFit states = AllByRecursion (λ s. s.reported + s.unreported < 2 ^ 64) states
 
--- a slot that has a key, which can count so many octets more
-abbrev pub CanCount : Option Slot → ℕ → List KeyState → Type 0
-CanCount None octets states = Unit {0}
-CanCount (Some slot) octets states =
-    (slot.0 < length states) × ((state_at slot.0 states).reported + (state_at slot.0 states).unreported + octets < 2 ^ 64)
-
 -- the key at a place can count so many octets more
 abbrev pub FitsMore : ℕ → ℕ → List KeyState → Type 0
 FitsMore n octets states = (state_at n states).reported + (state_at n states).unreported + octets < 2 ^ 64
+
+-- slots that have keys, none of them twice, each of which can count so many octets more
+abbrev pub CanCount : List Slot → ℕ → List KeyState → Type 0
+CanCount own octets states = AreSlotsBelow (length states) own × AllByRecursion (λ slot. FitsMore slot.0 octets states) own
 
 -- the states with this key on, and with this grant
 abbrev pub with_started : List ℕ → ℕ → List KeyState → List KeyState

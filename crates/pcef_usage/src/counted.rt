@@ -65,15 +65,16 @@ impl CountedJournal {
         self.journal.append(entry);
     }
 
-    /// Appends a packet row and counts its octets for the key of a slot. Takes no memory.
-    pub fn take_row(&mut self, row: Row, slot: Option<Slot>)
-        requires fits { CanCount slot row.header.octets self.old.states }
+    /// Appends a packet row and counts its octets once for the key of each of these slots. Takes no memory.
+    pub fn take_row(&mut self, row: Row, slots: &[Slot])
+        requires fits { CanCount slots.now row.header.octets self.old.states }
         requires room { 0 < self.old.room }
         ensures journal { self.new.journal ≡ Entry.Row row ∷ self.old.journal }
-        ensures states { self.new.states ≡ with_octets slot row.header.octets self.old.states }
+        ensures states { self.new.states
+            ≡ with_octets slots.now row.header.octets self.old.states }
         ensures room { self.old.room ≤ self.new.room + 1 }
     {
-        count_for(&mut self.usage, slot, row.header.octets);
+        count_for(&mut self.usage, slots, row.header.octets);
         self.journal.append(Entry::Row(row));
     }
 
@@ -204,12 +205,12 @@ fn keep_slot(usage: &mut Usage, key: &KeyName)
     }
 }
 
-fn count_for(usage: &mut Usage, slot: Option<Slot>, octets: u32)
-    requires { CanCount slot octets usage.old }
-    ensures { usage.new ≡ with_octets slot octets usage.old }
+fn count_for(usage: &mut Usage, slots: &[Slot], octets: u32)
+    requires { CanCount slots.now octets usage.old }
+    ensures { usage.new ≡ with_octets slots.now octets usage.old }
 {
-    if let Some(slot) = slot {
-        usage.count(slot, octets);
+    for slot in slots {
+        usage.count(*slot, octets);
     }
 }
 

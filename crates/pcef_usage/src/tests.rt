@@ -1,6 +1,7 @@
 //! Small journals, whose counters and reports were worked out by hand from TS 29.212, clauses 4.5.16 and 4.5.17.
 
-ghost use Rattle.std.specs.Prelude.{◌≡◌, ◌<◌, ◌≤◌, ◌+◌, length};
+ghost use Rattle.std.specs.Prelude.{◌≡◌, ◌<◌, ◌≤◌, ◌+◌, ◌^◌, ◌==◌, ℕ, false, length};
+ghost use Rattle.pcef_usage.specs.Keys.{FitsMore};
 
 use super::*;
 use pcef_model::{Body, Cause, Command, Entry, PendingReport, Report, Row, Verdict};
@@ -48,17 +49,36 @@ fn monitor(rt: &impl Abort, counted: &mut CountedJournal, key: &KeyName, grant: 
     counted.start(key, grant);
 }
 
-/// A row that counts for the key of a slot.
-fn take(rt: &impl Abort, counted: &mut CountedJournal, slot: Slot, octets: u32)
-    requires { 1 ≤ counted.old.room }
-    ensures { counted.old.room ≤ counted.new.room + 1 }
+/// A slot whose key can count some octets more.
+fn has_room(rt: &impl Abort, counted: &CountedJournal, slot: Slot)
+    ensures known { slot.0 < length counted.now.states }
+    ensures fits { (octets : ℕ) → octets < 2 ^ 32 → FitsMore slot.0 octets counted.now.states }
 {
     let states = counted.usage().states();
     assert!(rt; (slot.0 as usize) < states.len());
     let state = &states[slot.0 as usize];
     assert!(rt; state.reported < 1000);
     assert!(rt; state.unreported < 1000);
-    counted.take_row(row_of(octets), Some(slot));
+}
+
+/// A row that counts for the key of a slot.
+fn take(rt: &impl Abort, counted: &mut CountedJournal, slot: Slot, octets: u32)
+    requires { 1 ≤ counted.old.room }
+    ensures { counted.old.room ≤ counted.new.room + 1 }
+{
+    has_room(rt, counted, slot);
+    counted.take_row(row_of(octets), &[slot]);
+}
+
+/// A row that counts for the keys of two slots.
+fn take_both(rt: &impl Abort, counted: &mut CountedJournal, one: Slot, other: Slot, octets: u32)
+    requires room { 1 ≤ counted.old.room }
+    requires differ { (one.0 == other.0) ≡ false }
+    ensures { counted.old.room ≤ counted.new.room + 1 }
+{
+    has_room(rt, counted, one);
+    has_room(rt, counted, other);
+    counted.take_row(row_of(octets), &[one, other]);
 }
 
 /// The report of a key that lost its last rule.
@@ -159,6 +179,23 @@ fn a_key_loses_its_rules(rt: HostRuntime) -> Result<(), Fail> {
     assert_eq!(rt; state(&counted, 1), Some((false, None, 28, 0)));
     report_thresholds(&mut counted, true);
     assert_eq!(rt; counted.journal().reports_len(), 1);
+    Ok(())
+}
+
+#[test]
+fn a_row_counts_for_two_keys(rt: HostRuntime) -> Result<(), Fail> {
+    let mut counted = CountedJournal::new(rt.alloc());
+    counted.reserve(64)?;
+    monitor(&rt, &mut counted, &KeyName::new("video")?, 1000);
+    monitor(&rt, &mut counted, &KeyName::new("audio")?, 1000);
+    monitor(&rt, &mut counted, &KeyName::new("text")?, 1000);
+    take_both(&rt, &mut counted, Slot(0), Slot(2), 60);
+    take(&rt, &mut counted, Slot(1), 7);
+    take_both(&rt, &mut counted, Slot(2), Slot(1), 20);
+    assert_eq!(rt; state(&counted, 0), Some((true, Some(1000), 0, 60)));
+    assert_eq!(rt; state(&counted, 1), Some((true, Some(1000), 0, 27)));
+    assert_eq!(rt; state(&counted, 2), Some((true, Some(1000), 0, 80)));
+    assert_eq!(rt; counted.journal().rows_len(), 3);
     Ok(())
 }
 

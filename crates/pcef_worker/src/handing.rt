@@ -20,10 +20,7 @@ fn keep_all(rows: &mut Vec<Item>, items: &[Item])
     ensures { rows.new.items ≡ rows.old.items ++ items.now }
 {
     for item in items {
-        rows.push_reserved(Item {
-            row: item.row.copy(),
-            slot: item.slot,
-        });
+        rows.push_reserved(item.copy());
     }
 }
 

@@ -97,7 +97,7 @@ impl<C: Detects + Drop, N: Naming, G: Gate + Drop> Worker<C, N, G> {
         self.seat.subscriber.current().0
     }
 
-    /// The rows that wait, in order, each with the slot that it counts for: at most 32.
+    /// The rows that wait, in order, each with the slots that it counts for: at most 32.
     pub fn waiting(&self) -> &[Item]
         ensures rows { result.now ≡ self.now.waiting }
         ensures most { length result.now ≤ 32 }

@@ -1,21 +1,13 @@
 -- What always holds of a worker stays as the journal grows, and as the worker works.
 use Rattle.pcef_lane.proofs.LaneEnds.{leave_other}
-use Rattle.std.proofs.Common.{◌≡◌, ◌∙◌, ◌≤◌, ◌<◌, ◌+◌, ℕ, Bool, true, false, ◌==◌, List, [], ◌∷◌, ◌++◌, All, length, filter, map, refl, sym, ap, subst, arith, Some, None, find, length-append}
-use Rattle.std.specs.Prelude.{Option, ◌||◌, if◌then◌else◌, slice_index_or}
+use Rattle.std.proofs.Common.{◌≡◌, ◌∙◌, ◌≤◌, ◌+◌, ℕ, true, false, ◌==◌, List, [], ◌∷◌, ◌++◌, All, length, filter, map, refl, sym, ap, subst, arith, None}
+use Rattle.std.specs.Prelude.{◌||◌, slice_index_or}
 use Rattle.std.specs.List.{list_any}
-use Rattle.std.specs.Option.{option_map, option_map_or}
 use Rattle.std.proofs.lemmas.Bool.{eq-eqb}
 use Rattle.std.proofs.lemmas.List.{length-map, map-append}
 use Rattle.std.proofs.lemmas.List.Elements.{All-cons, All-nil, All-push}
 use Rattle.pcef_packet.specs.declared.header.Header.{Header}
-use Rattle.pcef_rule.specs.declared.quantity.Slot.{Slot}
-use Rattle.pcef_table.specs.declared.entry.Entry.{Entry}
 use Rattle.pcef_model.specs.declared.verdict.Verdict.{Verdict}
-use Rattle.pcef_model.specs.declared.verdict.Verdict.TheVariants.{Stray, Unmatched, Gated, Passed}
-use Rattle.pcef_table.specs.Sources.{is_named}
-use Rattle.pcef_table.specs.Tables.{TableValue}
-use Rattle.pcef_table.specs.Verdicts.{counted_slot, slot_for}
-use Rattle.pcef_lists.proofs.Foremost.{found_is_foremost}
 use Rattle.pcef_model.specs.declared.entry.Entry.TheVariants as entry
 use Rattle.pcef_model.specs.declared.row.Row.{Row}
 use Rattle.pcef_model.specs.Setting.{Setting}
@@ -26,7 +18,7 @@ use Rattle.pcef_model.specs.Reports.{after_attach, after_flush, after_leave, wit
 use Rattle.pcef_model.proofs.AfterEvents.{tables_after_rows}
 use Rattle.pcef_session.specs.declared.batch.Item.{Item}
 use Rattle.pcef_world.specs.declared.worker.Worker.{Worker}
-use Rattle.pcef_model.specs.Slots.{CountsFor, IsWithin, slot_of}
+use Rattle.pcef_model.specs.Slots.{CountsFor, IsWithin}
 use Rattle.pcef_session.specs.Following.{HasItsSlots, row_of}
 use Rattle.pcef_model.specs.Lawful.{BatchFollows, RowFollows, RowsFollow, newest_generation}
 use Rattle.pcef_model.specs.Refusals.{first_of, flush_refusals, is_attached}
@@ -36,11 +28,10 @@ use Rattle.pcef_model.proofs.Lanes.{lane_few, lane_len_with, lane_other, lane_wi
 use Rattle.pcef_model.proofs.JournalExtends.{JournalExtends, attached_after_flush, flushed_fits, extends_same, rows_after_flush, tables_after_flush}
 use Rattle.pcef_model.proofs.RowsLater.{batch_empty, batch_later, batch_push}
 use Rattle.pcef_session.proofs.ShownLater.{shows_later, shows_same}
-use Rattle.pcef_session.proofs.ShownSlots.{shown_counts}
+use Rattle.pcef_session.proofs.ShownSlots.{shown_counts, shown_within}
 use Rattle.pcef_model.proofs.Decisive.{made_once}
 use Rattle.pcef_session.proofs.ShownVerdicts.{shown_judges}
-use Rattle.pcef_model.proofs.SlotPlaces.{Grows}
-use Rattle.pcef_model.proofs.SlotsLater.{counts_later, place_within}
+use Rattle.pcef_model.proofs.SlotsLater.{counts_later, within_grown}
 
 -- ---- the slots of rows that wait
 -- rows that may come are of generations that were made
@@ -50,17 +41,12 @@ rows_known p j [] follow = All-nil (λ (i : Item). i.row.generation ≤ gen j)
 rows_known p j (i ∷ items) follow =
     All-cons (λ (i : Item). i.row.generation ≤ gen j) i items follow.0.known (rows_known p _ items follow.1)
 
--- a slot of a key stays one as keys come
-within_later : (keys all : List (List ℕ)) (slot : Option Slot) → Grows keys all → IsWithin keys slot → IsWithin all slot
-within_later keys all None grows within = tt
-within_later keys all (Some slot) grows within = omega (arith, within, ap length grows.1, length-append keys grows.0)
-
 -- items keep their slots
 slots_later : (p : Setting) (j k : Journal) (items : List Item) → JournalExtends p j k → All (λ i. i.row.generation ≤ gen j) items → HasItsSlots p j items → HasItsSlots p k items
 slots_later p j k items extends known has = λ m d inside.
     let i : Item = slice_index_or items m d in
-    let own : IsWithin (slots p j) i.slot × CountsFor p j i.row i.slot = has m d inside in
-    (within_later (slots p j) (slots p k) i.slot extends.grows own.0, counts_later p j k i.row i.slot (extends.at_is i.row.generation (known m d inside)) extends.grows own.0 own.1)
+    let own : IsWithin (slots p j) i.slots.items × CountsFor p j i.row i.slots.items = has m d inside in
+    (within_grown (slots p j) (slots p k) i.slots.items extends.grows own.0, counts_later p j k i.row i.slots.items (extends.at_is i.row.generation (known m d inside)) extends.grows own.0 own.1)
 
 -- ---- as the journal grows
 -- a worker whose lane is as it was
@@ -87,39 +73,13 @@ waits_new p j k w new is shows number_is none =
       known = omega (arith, shows.number_is);
       shows = subst (λ m. Shows p (after_attach j) m (held_by w)) (sym shows.number_is) (shows_same p j (after_attach j) (gen j) (held_by w) refl shows);
       follow = rw none (batch_empty p (attach_count j) (after_attach j));
-      slots = rw none (All-nil (λ (i : Item). IsWithin (slots p (after_attach j)) i.slot × CountsFor p (after_attach j) i.row i.slot));
+      slots = rw none (All-nil (λ (i : Item). IsWithin (slots p (after_attach j)) i.slots.items × CountsFor p (after_attach j) i.row i.slots.items));
       attached = ap (λ b. b || is_attached j (attach_count j)) (eq-eqb (attach_count j) (attach_count j) refl);
       few = omega (arith, ap length new);
       not_older = rw (none, new) (omega arith);
     })
 
 -- ---- a packet that is taken
--- the slot of a verdict is one of a key
-slot_within : (p : Setting) (j : Journal) (g : ℕ) (t : TableValue) (v : Verdict) → Shows p j g t → IsWithin (slots p j) (slot_for p.catalog t.entries v)
-slot_within p j g t Stray shows = tt
-slot_within p j g t Unmatched shows = tt
-slot_within p j g t (Gated rule) shows = tt
-slot_within p j g t (Passed rule bearer) shows = from (find (λ e. is_named p.catalog rule e.source) t.entries) refl
-  where
-    keyed : (key : Option (List ℕ)) (s : Slot) → Some s.0 ≡ slot_of (slots p j) key → s.0 < length (slots p j)
-    keyed None s is = absurd cc
-    keyed (Some key) s is = place_within key (slots p j) s.0 (sym is)
-
-    slotted : (slot : Option Slot) (key : Option (List ℕ)) → option_map (λ s. s.0) slot ≡ slot_of (slots p j) key → IsWithin (slots p j) slot
-    slotted None key is = tt
-    slotted (Some s) key is = keyed key s is
-
-    counted : (b : Bool) (slot : Option Slot) → IsWithin (slots p j) slot → IsWithin (slots p j) (if b then slot else None)
-    counted true slot within = within
-    counted false slot within = tt
-
-    from : (o : Option Entry) → find (λ e. is_named p.catalog rule e.source) t.entries ≡ o → IsWithin (slots p j) (option_map_or counted_slot o None)
-    from None is = tt
-    from (Some e) is =
-        let f = found_is_foremost (λ _ _. Unit {0}) (λ (x : Entry). is_named p.catalog rule x.source) t.entries e (λ i k d below within. tt) is in
-        let r = shows.only e f.there in
-        counted e.counted e.slot (slotted e.slot r.0.properties.key r.2.slot_is)
-
 -- a row is made of its fields
 row_of_fields : (r : Row) (worker seq generation : ℕ) (header : Header) (verdict : Verdict) → r.worker ≡ worker → r.seq ≡ seq → r.generation ≡ generation → r.header ≡ header → r.verdict ≡ verdict →
     r ≡ record { worker = worker; seq = seq; generation = generation; header = header; verdict = verdict }
@@ -161,16 +121,16 @@ waits_take p j n w header i waits made =
     let mine : (i.row.worker == n) ≡ true = eq-eqb i.row.worker n own in
     let longer : with_rows (map row_of (w.waiting ++ i ∷ [])) j ≡ entry.Row i.row ∷ with_rows rs j = ap (λ xs. with_rows xs j) all ∙ with_rows_push rs i.row j in
     let follows = taken_follows p j n w header i.row waits (row_made p j n w header i waits made) in
-    let within : IsWithin (slots p j) i.slot = rw made.slot_is (slot_within p j (held_by w).number (held_by w) i.row.verdict waits.shows) in
-    let counting : CountsFor p j i.row i.slot = λ key.
-    rw (made.generation_is, made.header_is, made.slot_is)
+    let within : IsWithin (slots p j) i.slots.items = rw made.slots_are (shown_within p j (held_by w).number (held_by w) i.row.verdict waits.shows) in
+    let counting : CountsFor p j i.row i.slots.items = λ key.
+    rw (made.generation_is, made.header_is, made.slots_are)
     (shown_counts p j (held_by w).number (held_by w) header i.row.verdict key waits.shows (made_once p (oldest (held_by w).number (tables j))) (verdict_taken p j n w header i waits made)) in
     record {
       number_is = waits.number_is;
       known = waits.known;
       shows = waits.shows;
       follow = subst (BatchFollows p j n) (sym all) (batch_push p n j rs i.row waits.follow own follows);
-      slots = All-push (λ (x : Item). IsWithin (slots p j) x.slot × CountsFor p j x.row x.slot) w.waiting i waits.slots (within, counting);
+      slots = All-push (λ (x : Item). IsWithin (slots p j) x.slots.items × CountsFor p j x.row x.slots.items) w.waiting i waits.slots (within, counting);
       attached = waits.attached;
       few = waits.few;
       not_older = rw (longer, mine) (omega (arith, made.generation_is));
@@ -206,7 +166,7 @@ waits_flushed p j k n w waits accepted is =
       known = omega (arith, waits.known, ap length same);
       shows = shows_same p j k (held_by w).number (held_by w) same waits.shows;
       follow = batch_empty p n k;
-      slots = All-nil (λ (i : Item). IsWithin (slots p k) i.slot × CountsFor p k i.row i.slot);
+      slots = All-nil (λ (i : Item). IsWithin (slots p k) i.slots.items × CountsFor p k i.row i.slots.items);
       attached = ap (λ ns. list_any (λ v. v == n) ns) (ap attached is ∙ attached_after_flush p j rs) ∙ waits.attached;
       few = omega (arith, longer, fits, lane_few n (rows j));
       not_older = subst (λ xs. newest_generation xs ≤ (held_by w).number) (sym lane_is) waits.not_older;

@@ -10,7 +10,7 @@ use pcef_catalog::Detects;
 use pcef_index::Indexed;
 use pcef_model::{FlushRefusal, Row, Verdicts};
 use pcef_packet::{Addr, Header};
-use pcef_session::{Batch, BatchFull, Item, MAX_WAITING, SessionState};
+use pcef_session::{Batch, BatchFull, Item, MAX_WAITING, SessionState, slots_for};
 use std::sync::Arc;
 
 /// A worker: the table of the generation that it holds, and its waiting rows.
@@ -41,7 +41,7 @@ impl Worker {
                 header: *header,
                 verdict,
             },
-            slot,
+            slots: slots_for(slot),
         }
     }
 

@@ -27,7 +27,7 @@ impl<N: Naming, W: Board<Slot<N>> + Drop> State<N, W> {
         continues(batch.items(), worker, end)
     }
 
-    /// Takes over the waiting rows of a worker, all or none, each with the verdict and the slot that the table gives
+    /// Takes over the waiting rows of a worker, all or none, each with the verdict and the slots that the table gives
     /// which the seat's subscriber saw of the row's generation, and counts them into the seat's shares; or answers the
     /// first refusal in the order of [`FlushRefusal`], which changes nothing. A batch that doesn't continue the lane of
     /// the worker is refused as of one that isn't attached. Takes memory.

@@ -2,7 +2,7 @@
 use Rattle.std.specs.Prelude.{ℕ, length, set, get_or}
 use Rattle.pcef_lane.specs.declared.lanes.LaneEnd.{LaneEnd}
 use Rattle.pcef_lane.specs.Lanes.{at_start, last_generation, lengthened}
-use Rattle.pcef_session.specs.Following.{row_of, slot_of}
+use Rattle.pcef_session.specs.Following.{row_of, row_slots}
 use Rattle.std.specs.Prelude.{◌≡◌, Bool, List, [], ◌∷◌, map}
 use Rattle.pcef_model.specs.declared.row.Row.{Row}
 use Rattle.pcef_usage.specs.declared.usage.KeyState.{KeyState}
@@ -18,14 +18,14 @@ use Rattle.pcef_session.specs.Following.{row_of}
 abbrev pub CanCountAll : List Item → List KeyState → Type 0
 CanCountAll [] states = Unit {0}
 CanCountAll (i ∷ items) states =
-    CanCount i.slot i.row.header.octets states × CanCountAll items (with_octets i.slot i.row.header.octets states)
+    CanCount i.slots.items i.row.header.octets states × CanCountAll items (with_octets i.slots.items i.row.header.octets states)
 
 -- rows are taken over: their octets are counted, and then the thresholds are told
 pub record IsTakenAll (subscribed : Bool) (items : List Item) (old new : Counted) : Type 0 where
-  pub journal : new.journal ≡ appended (threshold_reports subscribed (rows_counted row_of slot_of items old.states))
-      (settled_states subscribed (rows_counted row_of slot_of items old.states)) (with_rows (map row_of items) old.journal)
-  pub states : new.states ≡ states_told (threshold_reports subscribed (rows_counted row_of slot_of items old.states))
-      (settled_states subscribed (rows_counted row_of slot_of items old.states))
+  pub journal : new.journal ≡ appended (threshold_reports subscribed (rows_counted row_of row_slots items old.states))
+      (settled_states subscribed (rows_counted row_of row_slots items old.states)) (with_rows (map row_of items) old.journal)
+  pub states : new.states ≡ states_told (threshold_reports subscribed (rows_counted row_of row_slots items old.states))
+      (settled_states subscribed (rows_counted row_of row_slots items old.states))
 
 abbrev pub IsTaken : Bool → List Item → Counted → Counted → Type 0
 IsTaken subscribed [] old new = (new.journal ≡ old.journal) × (new.states ≡ old.states)

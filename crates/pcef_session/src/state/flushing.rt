@@ -75,7 +75,7 @@ impl SessionState {
     }
 
     /// Takes over a worker's waiting rows, all or none. The rows have to be the worker's next ones, each
-    /// with the verdict of its own generation and the slot of the key that it counts for. Takes memory for the
+    /// with the verdict of its own generation and the slots of the keys that it counts for. Takes memory for the
     /// rows, their verdicts and the reports. Refused, in this order, where the worker isn't attached, where the
     /// journal would hold more rows than the profile allows, and for want of memory; a refusal leaves no less room.
     pub fn flush(&mut self, worker: u8, batch: &Batch) -> Result<Verdicts, FlushRefusal>

@@ -4,7 +4,8 @@ use Rattle.pcef_model.specs.Journals.{slots}
 use Rattle.pcef_model.proofs.JournalExtends.{flushed_not, flushed_once}
 use Rattle.pcef_session.specs.declared.batch.Item.{Item}
 use Rattle.pcef_session.specs.Following.{HasSmallRows, row_of}
-use Rattle.pcef_lock.specs.Counting.{IsLow, with_items}
+use Rattle.pcef_model.specs.Slots.{AreSlotsBelow}
+use Rattle.pcef_lock.specs.Counting.{with_items}
 use Rattle.pcef_lock.specs.Lanes.{continues_lane}
 use Rattle.pcef_lock.proofs.Handing.{all_low, handed_well, octets_fit, sound_taken}
 use Rattle.pcef_lock.proofs.Keeps.{sound_same}
@@ -37,7 +38,7 @@ count_items-requires-clause-low g c =
     let well = handed_well g.N.Naming.setting g.N.Naming.first c.self.inside.session c.self.inside.publisher c.args.seat.now.subscriber c.self.inside.books c.self.inside.places (length c.self.inside.subscribers.items)
     c.args.seat.now.worker c.args.batch.now c.self.invariant goes_on c.compare.ensures.begins c.requires in
     let few : length (slots c.self.inside.session.setting c.self.inside.session.journal) ≤ 8 = c.in-Ok.ensures.few_keys in
-    subst (λ (xs : List Item). All (λ (i : Item). IsLow i.slot) xs) (sym c.items.ensures.items) (all_low c.self.inside.session.setting c.self.inside.session.journal c.args.batch.now few well.has)
+    subst (λ (xs : List Item). All (λ (i : Item). AreSlotsBelow 8 i.slots.items) xs) (sym c.items.ensures.items) (all_low c.self.inside.session.setting c.self.inside.session.journal c.args.batch.now few well.has)
 
 pub count_items-requires-clause-fits : goal.count_items-requires-clause-fits
 count_items-requires-clause-fits g c = λ n low.
