@@ -28,9 +28,9 @@ abbrev pub Front : Type 0 → Type 0
 Front X = Result (X × List Token) FilterFault
 
 -- what a reader answers and leaves behind is this front
-abbrev pub Gives : {X : Type 0} → Result X FilterFault → List Token → Front X → Type 0
-Gives (Ok x) rest front = front ≡ Ok (x, rest)
-Gives (Err e) rest front = front ≡ Err e
+abbrev pub IsFront : {X : Type 0} → Result X FilterFault → List Token → Front X → Type 0
+IsFront (Ok x) rest front = front ≡ Ok (x, rest)
+IsFront (Err e) rest front = front ≡ Err e
 
 -- the tokens behind a word
 abbrev pub word_at : Token → FilterFault → List Token → Result (List Token) FilterFault

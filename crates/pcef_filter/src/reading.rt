@@ -4,7 +4,7 @@ ghost use Rattle.std.specs.Prelude.{◌≡◌, IfErr, IfOk, MatchResult};
 ghost use Rattle.pcef_filter.specs.Tokens.{tokens};
 ghost use Rattle.pcef_filter.specs.Grammar.{Spells};
 ghost use Rattle.pcef_filter.specs.Faults.{FilterFaultOf};
-ghost use Rattle.pcef_filter.specs.Reading.{Gives, filter_in, parts_in, reading_of, source_at, target_at, token_at, word_at};
+ghost use Rattle.pcef_filter.specs.Reading.{IsFront, filter_in, parts_in, reading_of, source_at, target_at, token_at, word_at};
 ghost use Rattle.pcef_filter.specs.ReadingClasses.{direction_in, proto_in};
 ghost use Rattle.pcef_filter.specs.declared.filter.Filter.{Filter};
 
@@ -28,7 +28,7 @@ fn expect_word(left: &mut Tokens<'_>, word: &[u8], fault: FilterFault) -> Result
 
 /// Reads the direction.
 fn take_direction(left: &mut Tokens<'_>) -> Result<Direction, FilterFault>
-    ensures { Gives result left.new (token_at direction_in FilterFault.Direction left.old) }
+    ensures { IsFront result left.new (token_at direction_in FilterFault.Direction left.old) }
 {
     let token = left.next().ok_or(FilterFault::Direction)?;
     direction_of(token).ok_or(FilterFault::Direction)
@@ -36,7 +36,7 @@ fn take_direction(left: &mut Tokens<'_>) -> Result<Direction, FilterFault>
 
 /// Reads the protocol.
 fn take_proto(left: &mut Tokens<'_>) -> Result<Option<u8>, FilterFault>
-    ensures { Gives result left.new (token_at proto_in FilterFault.Proto left.old) }
+    ensures { IsFront result left.new (token_at proto_in FilterFault.Proto left.old) }
 {
     let token = left.next().ok_or(FilterFault::Proto)?;
     proto_of(token).ok_or(FilterFault::Proto)
@@ -45,7 +45,7 @@ fn take_proto(left: &mut Tokens<'_>) -> Result<Option<u8>, FilterFault>
 /// Reads the source, with its ports if it has some, and the word `to`.
 #[tactic(auto, unfolding(crate::specs::Reading::source_at, crate::specs::Reading::source_from))]
 fn take_source(left: &mut Tokens<'_>) -> Result<Endpoint, FilterFault>
-    ensures { Gives result left.new (source_at left.old) }
+    ensures { IsFront result left.new (source_at left.old) }
 {
     let Some(token) = left.next() else {
         return Err(FilterFault::Source);

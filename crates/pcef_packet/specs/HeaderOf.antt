@@ -19,9 +19,9 @@ abbrev pub ◌⇒◌ : Bool → PacketFault → FaultWhen
 holds ⇒ fault = record { holds = holds; fault = fault }
 
 -- the fault of the first condition that holds, else the header
-abbrev pub first_of : List FaultWhen → Header → Result Header PacketFault
-first_of [] header = Ok header
-first_of (w ∷ ws) header = if w.holds then Err w.fault else first_of ws header
+abbrev pub header_unless : List FaultWhen → Header → Result Header PacketFault
+header_unless [] header = Ok header
+header_unless (w ∷ ws) header = if w.holds then Err w.fault else header_unless ws header
 
 -- the number in so many octets from a place on, the highest octet first (RFC 791, appendix B)
 abbrev pub number : List ℕ → ℕ → ℕ → ℕ
@@ -85,5 +85,5 @@ faults_v4 octets =
 abbrev pub header_of : Dir → List ℕ → Result Header PacketFault
 header_of dir octets =
     if length octets == 0 then Err fault.Empty
-    else if version octets == 4 then first_of (faults_v4 octets) (header_v4 dir octets)
+    else if version octets == 4 then header_unless (faults_v4 octets) (header_v4 dir octets)
     else Err fault.Version

@@ -1,7 +1,7 @@
 //! Headers of version 4 (RFC 791, clause 3.1).
 
 ghost use Rattle.std.specs.Prelude.{◌≡◌, ◌<◌, ◌≤◌, length};
-ghost use Rattle.pcef_packet.specs.HeaderOf.{faults_v4, first_of, fragment_offset_v4, header_len_v4, header_v4, ports_in, total_len_v4};
+ghost use Rattle.pcef_packet.specs.HeaderOf.{faults_v4, header_unless, fragment_offset_v4, header_len_v4, header_v4, ports_in, total_len_v4};
 
 use crate::header::{Addr, Dir, Header, PacketFault, Ports};
 use byteorder::{BigEndian, ByteOrder};
@@ -80,7 +80,7 @@ fn fields(dir: Dir, octets: &[u8], header_len: usize) -> Header
 
 /// The header at the front of the octets, or its first fault after the version.
 pub(crate) fn read_v4(dir: Dir, octets: &[u8]) -> Result<Header, PacketFault>
-    ensures { result ≡ first_of (faults_v4 octets.now) (header_v4 dir octets.now) }
+    ensures { result ≡ header_unless (faults_v4 octets.now) (header_v4 dir octets.now) }
 {
     if octets.len() < LEAST_HEADER_LEN {
         return Err(PacketFault::ShortHeader);
