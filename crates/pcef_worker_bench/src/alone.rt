@@ -35,7 +35,7 @@ fn judge_each<C: Detects, N: Naming>(
 /// How many rows wait, where the last one counts for a key.
 fn counting(batch: &Batch) -> u64 {
     match batch.items().last() {
-        Some(item) if item.slot.is_some() => batch.len() as u64,
+        Some(item) if !item.slots.is_empty() => batch.len() as u64,
         _ => 0,
     }
 }
