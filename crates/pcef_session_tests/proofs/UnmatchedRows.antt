@@ -63,13 +63,13 @@ pub two_follow : (p : Setting) (j : Journal) (items : List Item) → p.ue ≡ ue
 two_follow p j items h alone is =
     subst (λ x. BatchFollows p x 0 (map row_of items)) (sym alone) (subst (λ xs. BatchFollows p attached 0 (map row_of xs)) (sym is) (both_follow p h))
 
-counts_for_none : (p : Setting) (n : ℕ) → p.ue ≡ ue → CountsFor p attached (unmatched_item n).row (unmatched_item n).slot
+counts_for_none : (p : Setting) (n : ℕ) → p.ue ≡ ue → CountsFor p attached (unmatched_item n).row (unmatched_item n).slots.items
 unfolding made_by oldest
 counts_for_none p n h key = ap (λ a. passed_for key (if same_addr ue a then unmatched else stray) && is_among key []) h
 
 both_slots : (p : Setting) → p.ue ≡ ue → HasItsSlots p attached two
 both_slots p h =
-    let its = λ (i : Item). IsWithin (slots p attached) i.slot × CountsFor p attached i.row i.slot in
+    let its = λ (i : Item). IsWithin (slots p attached) i.slots.items × CountsFor p attached i.row i.slots.items in
     All-push its (unmatched_item 0 ∷ []) (unmatched_item 1) (All-push its [] (unmatched_item 0) (All-nil its) (tt, counts_for_none p 0 h)) (tt, counts_for_none p 1 h)
 
 -- and count for no key

@@ -1,5 +1,5 @@
 -- Rows that no rule matches, as tests hand them over.
-use Rattle.std.specs.Prelude.{ℕ, None}
+use Rattle.std.specs.Prelude.{ℕ, None, []}
 use Rattle.pcef_packet.specs.declared.header.Addr.{Addr}
 use Rattle.pcef_packet.specs.declared.header.Addr.TheVariants.{V4}
 use Rattle.pcef_packet.specs.declared.header.Dir.TheVariants.{Up}
@@ -20,5 +20,5 @@ unmatched_item number = record {
     header = record { dir = Up; src = ue; dst = V4 3325256711; proto = 1; ports = None; octets = 100; dscp = 0 };
     verdict = Unmatched;
   };
-  slot = None;
+  slots = record { items = [] };
 }
