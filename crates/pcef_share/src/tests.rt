@@ -1,5 +1,5 @@
 //! Books to which few amounts are added, whose sums were worked out by hand.
-ghost use Rattle.std.specs.Prelude.{◌≡◌, ◌<◌, length, count_by, is_some};
+ghost use Rattle.std.specs.Prelude.{◌≡◌, ◌<◌, ◌+◌, IfSome, length, count_by, is_some};
 ghost use Rattle.arrayvec.specs.ArrayVec.{array_vec_len};
 ghost use Rattle.pcef_share.specs.Names.{name_at};
 
@@ -7,63 +7,107 @@ use super::*;
 use arrayvec::ArrayVec;
 use pcef_rule::Slot;
 use std::marker::Brand;
-use std::process::Abort;
 use std::sync::{Mutex, Wait};
 use std::test::*;
 use std::thread::{Threads, join};
 
+// What is handed in: places, each with a share or none.
+type Handed<N> = ArrayVec<Option<Shares<N>>, MAX_SHARES>;
+
 #[test]
-fn a_missing_share_is_told(rt: HostRuntime) -> Result<(), Fail> {
-    one_of_two_is_missing::<Brand, _>(&rt, Blanks::new())
+fn a_missing_share_is_told(rt: HostRuntime) {
+    let sums = [0, 0, 0, 628, 0, 0, 0, 40, 1, 5];
+    assert_eq!(rt;
+        one_of_two_is_missing::<Brand>(Blanks::new()),
+        Some((sums, SharesOut(1), sums))
+    );
 }
 
-fn one_of_two_is_missing<N: Naming, R: Abort>(rt: &R, blanks: Blanks) -> Result<(), Fail>
+// Of two shares one is handed in, and then the other beside it: the totals of the books, how many shares are missing
+// before, and the totals at the end.
+fn one_of_two_is_missing<N: Naming>(blanks: Blanks) -> Option<([u64; 10], SharesOut, [u64; 10])>
     requires { N.ledger ≡ name_at blanks }
 {
     let mut books = Books::<N>::new(blanks);
-    assert_eq!(rt; (books.issued(), books.totals()), (0, [0; 10]));
-    let mut one = books.issue();
-    let mut two = books.issue();
-    books.add(&mut one, Slot(3), 28);
-    books.add(&mut two, Slot(3), 600);
-    books.add(&mut two, Slot(7), 40);
-    books.add_row(&mut two);
-    books.add_commands(&mut one, 5);
-    assert_eq!(rt; books.totals(), [0, 0, 0, 628, 0, 0, 0, 40, 1, 5]);
+    let one = first_of_two(&mut books);
+    let two = second_of_two(&mut books);
+    let totals = books.totals();
+    let (books, handed, missing) = without_the_second(books, one)?;
+    let gathered = with_the_second(books, handed, two)?;
+    Some((totals, missing, gathered))
+}
+
+// A share of 28 octets in slot 3, and of five commands.
+fn first_of_two<N: Naming>(books: &mut Books<N>) -> Shares<N>
+    requires { books.old.issued < 17 }
+    ensures { books.new.issued ≡ books.old.issued + 1 }
+{
+    let mut share = books.issue();
+    add_octets(books, &mut share, Slot(3), 28);
+    if books.totals()[9] < 1_000_000 {
+        books.add_commands(&mut share, 5);
+    }
+    share
+}
+
+// A share of 600 octets in slot 3, of 40 in slot 7, and of a row.
+fn second_of_two<N: Naming>(books: &mut Books<N>) -> Shares<N>
+    requires { books.old.issued < 17 }
+    ensures { books.new.issued ≡ books.old.issued + 1 }
+{
+    let mut share = books.issue();
+    add_octets(books, &mut share, Slot(3), 600);
+    add_octets(books, &mut share, Slot(7), 40);
+    add_row(books, &mut share);
+    share
+}
+
+// What comes back where one share is handed in, and a place without a share.
+fn without_the_second<N: Naming>(
+    books: Books<N>,
+    one: Shares<N>,
+) -> Option<(Books<N>, Handed<N>, SharesOut)>
+    ensures { IfSome result (λ back. length back.1.items ≡ 2) }
+{
     let mut handed = ArrayVec::new();
     handed.push(Some(one));
     handed.push(None);
-    let Err((books, mut handed, missing)) = books.gather(handed) else {
-        return Err("a share is missing")?;
-    };
-    assert_eq!(rt; missing, SharesOut(1));
-    assert_eq!(rt; (books.issued(), handed.len()), (2, 2));
+    books.gather(handed).err()
+}
+
+// The totals where the second share is handed in too.
+fn with_the_second<N: Naming>(
+    books: Books<N>,
+    handed: Handed<N>,
+    two: Shares<N>,
+) -> Option<[u64; 10]>
+    requires { length handed.items < 17 }
+{
+    let mut handed = handed;
     handed.push(Some(two));
-    let Ok(totals) = books.gather(handed) else {
-        return Err("all shares are here")?;
-    };
-    assert_eq!(rt; totals, [0, 0, 0, 628, 0, 0, 0, 40, 1, 5]);
-    Ok(())
+    books.gather(handed).ok()
 }
 
 #[test]
-fn each_number_of_missing_shares_is_told(rt: HostRuntime) -> Result<(), Fail> {
-    as_many_as_there_can_be::<Brand, _>(&rt, Blanks::new())
+fn each_number_of_missing_shares_is_told(rt: HostRuntime) {
+    // 17 are missing, then 16, and so on: 153 in all.
+    assert_eq!(rt;
+        as_many_as_there_can_be::<Brand>(Blanks::new()),
+        Some((153, [0, 0, 0, 0, 0, 0, 0, 0, 0, 17]))
+    );
 }
 
-// Seventeen shares come back one by one, each with a command of its own.
-fn as_many_as_there_can_be<N: Naming, R: Abort>(rt: &R, blanks: Blanks) -> Result<(), Fail>
+// Seventeen shares come back one by one, each with a command of its own: the sum of how many are missing each time, and
+// the totals at the end.
+fn as_many_as_there_can_be<N: Naming>(blanks: Blanks) -> Option<(u64, [u64; 10])>
     requires { N.ledger ≡ name_at blanks }
 {
     let (books, shares) = all_issued::<N>(blanks);
-    assert_eq!(rt; usize::from(books.issued()), MAX_SHARES);
-    let totals = handed_in_one_by_one(rt, books, shares)?;
-    assert_eq!(rt; totals, [0, 0, 0, 0, 0, 0, 0, 0, 0, 17]);
-    Ok(())
+    handed_in_one_by_one(books, shares)
 }
 
 // Books of which no further share can be issued.
-fn all_issued<N: Naming>(blanks: Blanks) -> (Books<N>, ArrayVec<Option<Shares<N>>, MAX_SHARES>)
+fn all_issued<N: Naming>(blanks: Blanks) -> (Books<N>, Handed<N>)
     requires { N.ledger ≡ name_at blanks }
     ensures issued { result.0.issued ≡ 17 }
     ensures shares { count_by is_some result.1.items ≡ 17 }
@@ -81,29 +125,39 @@ fn all_issued<N: Naming>(blanks: Blanks) -> (Books<N>, ArrayVec<Option<Shares<N>
     (books, shares)
 }
 
-fn handed_in_one_by_one<N: Naming, R: Abort>(
-    rt: &R,
-    mut books: Books<N>,
-    shares: ArrayVec<Option<Shares<N>>, MAX_SHARES>,
-) -> Result<[u64; 10], Fail>
+fn handed_in_one_by_one<N: Naming>(books: Books<N>, shares: Handed<N>) -> Option<(u64, [u64; 10])>
     requires { (books.issued ≡ 17) × (length shares.items ≡ 17) }
 {
+    let mut books = books;
     let mut handed = ArrayVec::new();
-    let mut missing = 17;
+    let mut missing = 0u64;
     for share in shares {
-        let Err((same, mut front, told)) = books.gather(handed) else {
-            return Err("shares are missing")?;
-        };
-        assert_eq!(rt; told, SharesOut(missing));
-        front.push(share);
-        missing -= 1;
+        let (same, front, told) = one_more(books, handed, share)?;
+        missing = missing.saturating_add(u64::from(told.0));
         books = same;
         handed = front;
     }
-    let Ok(totals) = books.gather(handed) else {
-        return Err("all shares are here")?;
-    };
-    Ok(totals)
+    let totals = books.gather(handed).ok()?;
+    Some((missing, totals))
+}
+
+// What comes back where shares are missing, with one share more, and how many were missing.
+fn one_more<N: Naming>(
+    books: Books<N>,
+    handed: Handed<N>,
+    share: Option<Shares<N>>,
+) -> Option<(Books<N>, Handed<N>, SharesOut)>
+    requires { length handed.items < 17 }
+    ensures { IfSome result (λ back.
+        (back.0.issued ≡ books.issued) × (length back.1.items ≡ length handed.items + 1)) }
+{
+    match books.gather(handed).err() {
+        Some((books, mut front, missing)) => {
+            front.push(share);
+            Some((books, front, missing))
+        }
+        None => None,
+    }
 }
 
 #[test]
@@ -162,9 +216,18 @@ fn add_rows<N: Naming, R: Wait>(
 // Adds where the books have room, which is always so in these tests.
 fn add_octets<N: Naming>(books: &mut Books<N>, shares: &mut Shares<N>, slot: Slot, octets: u16)
     requires { slot.0 < 8 }
+    ensures { books.new.issued ≡ books.old.issued }
 {
     if books.totals()[usize::from(slot.0)] < 1_000_000 {
         books.add(shares, slot, u64::from(octets));
+    }
+}
+
+fn add_row<N: Naming>(books: &mut Books<N>, shares: &mut Shares<N>)
+    ensures { books.new.issued ≡ books.old.issued }
+{
+    if books.totals()[8] < 1_000_000 {
+        books.add_row(shares);
     }
 }
 
@@ -172,7 +235,5 @@ fn add_row_and_command<N: Naming>(books: &mut Books<N>, shares: &mut Shares<N>) 
     if books.totals()[9] < 1_000_000 {
         books.add_commands(shares, 1);
     }
-    if books.totals()[8] < 1_000_000 {
-        books.add_row(shares);
-    }
+    add_row(books, shares);
 }
