@@ -1,19 +1,17 @@
 -- What always holds of a binding holds after each change.
-use Rattle.std.proofs.Common.{◌≡◌, ◌∙◌, ◌≤◌, ◌<◌, ◌+◌, ℕ, Bool, true, false, ◌&&◌, not, List, [], ◌∷◌, ◌++◌, Option, Some, None, refl, ap, subst, arith, inl, inr, length, get_or, length-append}
-use Rattle.std.specs.Prelude.{All, AllPairs, Err, IfOk, Ok, Result, is_none, is_some, nat_lt, filter}
+use Rattle.std.proofs.Common.{◌≡◌, ◌∙◌, ◌≤◌, ◌<◌, ◌+◌, ℕ, Bool, true, false, ◌&&◌, not, List, [], ◌∷◌, Option, Some, None, refl, ap, subst, arith, inl, inr, length, get_or, length-append}
+use Rattle.std.specs.Prelude.{All, AllPairs, is_none, is_some, nat_lt, filter}
 use Rattle.std.specs.List.{list_any}
 use Rattle.std.proofs.lemmas.Bool.{cases_Bool, ltb-false}
 use Rattle.std.proofs.lemmas.List.Elements.{All-filter, All-nil}
 use Rattle.std.proofs.lemmas.List.Kept.{AllPairs-filter}
 use Rattle.pcef_rule.specs.declared.qci.Kind.{Kind}
 use Rattle.pcef_rule.specs.declared.qci.Kind.TheVariants.{NonGbr}
-use Rattle.pcef_rule.specs.declared.quantity.BearerId.{BearerId}
 use Rattle.pcef_rule.specs.declared.quantity.Qos.{Qos}
 use Rattle.pcef_rule.specs.declared.quantity.Rates.{Rates}
 use Rattle.pcef_rule.specs.declared.quantity.Sums.{Sums}
 use Rattle.pcef_rule.specs.QciKinds.{kind_of}
 use Rattle.pcef_bearer.specs.declared.bearers.Bound.{Bound}
-use Rattle.pcef_model.specs.declared.answer.Refusal.{Refusal}
 use Rattle.pcef_model.specs.declared.answer.Refusal.TheVariants.{UnknownQci, RatesMissing, RatesNotWanted, TooManyBearers, OverCapacityUp, OverCapacityDown}
 use Rattle.pcef_bearer.specs.Bindings.{Agree, Binding, DifferInName, HasItsId, HasRoom, IsBinding, bearer_of, bound_at, finds_no_bearer, id_excluding, is_named, put, refusals, total_down, total_up, with_rules, without}
 use Rattle.pcef_model.specs.Refusals.{first_of}
@@ -142,10 +140,3 @@ kept_put_at v w name q rates id is kept =
     (λ (x : Binding). HasRoom name 64 x.bound → first_of (refusals x (without name x.bound) q rates) ≡ None →
     id_excluding x.default_qos x.bound (without name x.bound) q ≡ Some id → IsBinding (with_rules v (put (bound_at name q rates id) v.bound)))
     is (kept_put v name q rates id kept)
-
--- a rule that isn't bound comes last
-pub last_put : (r : Result BearerId Refusal) (v w : Binding) (name : List ℕ) (q : Qos) (rates : Option Rates) →
-    list_any (is_named name) v.bound ≡ false → IfOk r (λ id. w ≡ with_rules v (put (bound_at name q rates id.0) v.bound)) →
-    IfOk r (λ id. w.bound ≡ v.bound ++ bound_at name q rates id.0 ∷ [])
-last_put (Ok id) v w name q rates none is = ap (λ (x : Binding). x.bound) is ∙ put_behind (bound_at name q rates id.0) v.bound none
-last_put (Err e) v w name q rates none is = tt

@@ -5,7 +5,7 @@ ghost use Rattle.std.specs.List.{list_any};
 ghost use Rattle.pcef_rule.specs.declared.qci.Kind.TheVariants as kind;
 ghost use Rattle.pcef_rule.specs.QciKinds.{kind_of};
 ghost use Rattle.pcef_model.specs.declared.answer.OpenFault.TheVariants as fault;
-ghost use Rattle.pcef_bearer.specs.Bindings.{bearer_of, bound_at, bound_with, empty_binding, first_refusal, guaranteed, id_for, is_named, kept_by, left_by, number_of, refusal_in, rules_on, with_rules, without, GetsId, HasRoom, IsAccepted, IsBinding};
+ghost use Rattle.pcef_bearer.specs.Bindings.{bearer_of, bound_with, empty_binding, first_refusal, guaranteed, id_for, is_named, kept_by, left_by, number_of, refusal_in, rules_on, with_rules, without, GetsId, HasRoom, IsAccepted, IsBinding};
 ghost use Rattle.pcef_model.specs.Bearers.{is_gbr, is_non_gbr};
 
 use crate::ids::{count_on, finds_no_bearer, id_excluding, is_present};
@@ -224,8 +224,6 @@ impl Bearers {
         ensures unchanged { OnErr result (self.new ≡ self.old) }
         ensures bearer { IfOk result (λ id. GetsId self.old name qos id.0) }
         ensures bound { IfOk result (λ id. self.new ≡ bound_with self.old name qos rates id.0) }
-        ensures last { IfOk result (λ id. self.new.bound
-            ≡ self.old.bound ++ bound_at name qos rates id.0 ∷ []) }
     {
         self.set(name, &qos, rates)
     }

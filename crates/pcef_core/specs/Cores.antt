@@ -3,7 +3,7 @@ use Rattle.std.specs.Prelude.{List}
 use Rattle.pcef_catalog.specs.declared.catalog.Catalog.{Catalog}
 use Rattle.pcef_model.specs.declared.step.Step.{Step}
 use Rattle.pcef_model.specs.Setting.{Setting}
-use Rattle.pcef_model.specs.Terms.{Terms}
+use Rattle.pcef_model.specs.ProfileModel.{ProfileModel}
 use Rattle.pcef_world.specs.declared.answer.StepAnswer.{StepAnswer}
 use Rattle.pcef_world.specs.Steps.{Played, Standing, at_start, standing_of}
 use Rattle.pcef_world.specs.Worlds.{World as WorldModel}
@@ -22,6 +22,6 @@ abbrev pub world_standing : {d h g : _} → World d h g → Standing
 world_standing w = standing_of (world_of w)
 
 -- a world that was opened with this profile and this catalog has made these steps, with the answers that are due
-abbrev pub HasRun : {d h g c k l : _} → Terms → Catalog c k l → List Step → List StepAnswer → World d h g → Type 0
+abbrev pub HasRun : {d h g c k l : _} → ProfileModel → Catalog c k l → List Step → List StepAnswer → World d h g → Type 0
 HasRun profile catalog steps answers w =
     Played (setting_with profile catalog) at_start steps answers (world_standing w)

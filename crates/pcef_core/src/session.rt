@@ -37,7 +37,7 @@ impl Session {
     ghost use Rattle.pcef_model.specs.Lawful.{Lawful};
     ghost use Rattle.pcef_model.specs.Refusals.{is_attached};
     ghost use Rattle.pcef_model.specs.Reports.{after_leave};
-    ghost use Rattle.pcef_model.specs.Terms.{setting_of};
+    ghost use Rattle.pcef_model.specs.ProfileModel.{setting_of};
     ghost use Rattle.pcef_session.specs.Agreement.{KeysAgree};
     ghost use Rattle.pcef_session.specs.Answers.{AnswersCommand, AnswersFinish, AnswersFlush, AreActive, IsLaneEnd, IsOpened, KeepsPrepared, MayFollow, Refuses, Settles, ShowsNewest, binding_now};
     ghost use Rattle.pcef_session.specs.Following.{HasFewKeys, HasItsSlots};

@@ -1,18 +1,14 @@
 -- What always holds of the value behind the lock stays so as its session goes on.
 use Rattle.std.proofs.Common.{◌≡◌, ◌∙◌, ◌≤◌, ◌<◌, ◌+◌, ◌-◌, ℕ, suc, true, false, List, ◌++◌, length, refl, sym, ap, subst, arith, None, Ok, append-nil}
-use Rattle.std.specs.Prelude.{IfSome, Result, slice_index}
+use Rattle.std.specs.Prelude.{IfSome, slice_index}
 use Rattle.std.specs.Arc.{arc_value}
 use Rattle.std.specs.Option.{option_map, option_to_list}
 use Rattle.pcef_table.specs.Tables.{IsTable, TableValue}
 use Rattle.pcef_model.specs.declared.answer.Accepted.{Accepted}
-use Rattle.pcef_model.specs.declared.answer.Refusal.{Refusal}
-use Rattle.pcef_model.specs.declared.command.Command.{Command}
-use Rattle.pcef_model.specs.declared.command.Command.TheVariants.{Activate}
-use Rattle.pcef_model.specs.Outcomes.{AttachStep, Gives, accepted, changes, command_outcome}
+use Rattle.pcef_model.specs.Outcomes.{AttachStep, Gives, command_outcome}
 use Rattle.pcef_model.specs.Entries.{Journal, commands, rows}
 use Rattle.pcef_model.specs.Journals.{attach_count}
 use Rattle.pcef_model.specs.Lawful.{Lawful}
-use Rattle.pcef_model.specs.Refusals.{first_of, is_active, refusals}
 use Rattle.pcef_model.specs.Reports.{after_attach, after_command}
 use Rattle.pcef_model.specs.Setting.{Setting}
 use Rattle.pcef_model.proofs.JournalExtends.{attach_count_after_command, attached_once, extends_by_command, rows_after_command}
@@ -21,6 +17,7 @@ use Rattle.pcef_session.specs.declared.prepared.Prepared.TheVariants.{Changing, 
 use Rattle.pcef_session.specs.declared.prepared.PreparedChange.{PreparedChange}
 use Rattle.pcef_session.specs.Preparing.{IsPreparedFor, IsReady, command_of, table_made}
 use Rattle.pcef_session.specs.SessionModel.{SessionModel}
+use Rattle.pcef_session.proofs.Acceptance.{changed_by, unchanged_by}
 use Rattle.pcef_session.proofs.CommandAgrees.{commands_after}
 use Rattle.pcef_share.specs.Amounts.{Account, command_ledger, plus}
 use Rattle.pcef_lock.specs.Counting.{AreCounted, one_more}
@@ -59,23 +56,6 @@ pub own_sound : (p : Setting) (first : ℕ) (s : SessionModel) (ts : List TableV
 own_sound p first s ts b places free is = subst (λ q. IsSound q first (locked s ts b places) free) (sym is.kept.setting_is) is
 
 -- ---- a command that is settled
-told_same : (a b : Accepted) (r s : Result Accepted Refusal) → r ≡ s → r ≡ Ok a → s ≡ Ok b → a ≡ b
-told_same a b r s same first second = cc
-
-settled_changing : (p : Setting) (j : Journal) (c : Command) (a : Accepted) (k : Journal) → first_of (refusals p j c) ≡ None → changes p j c ≡ true → Gives (command_outcome p j c) (Ok a) k →
-    (a.unchanged ≡ false) × (k ≡ after_command p j c)
-unfolding command_outcome
-settled_changing p j c a k unrefused changing gives =
-    let g = rw (unrefused, changing) at gives in
-    (ap (λ (x : Accepted). x.unchanged) (told_same a (accepted p c j (after_command p j c) false) (Ok a) (Ok (accepted p c j (after_command p j c) false)) g.0 refl refl), g.1)
-
-settled_idle : (p : Setting) (j : Journal) (name : List ℕ) (a : Accepted) (k : Journal) → first_of (refusals p j (Activate name)) ≡ None → is_active p j name ≡ true → Gives (command_outcome p j (Activate name)) (Ok a) k →
-    (a.unchanged ≡ true) × (k ≡ j)
-unfolding command_outcome
-settled_idle p j name a k unrefused active gives =
-    let g = rw (unrefused, active) at gives in
-    (ap (λ (x : Accepted). x.unchanged) (told_same a (accepted p (Activate name) j j true) (Ok a) (Ok (accepted p (Activate name) j j true)) g.0 refl refl), g.1)
-
 sound_changed : (first : ℕ) (s t : SessionModel) (ts : List TableValue) (b : Account) (places free : ℕ) (d : PreparedChange) → Lawful s.setting s.journal → IsReady s d →
     t.journal ≡ after_command s.setting s.journal d.command → t.setting ≡ s.setting → IsSound s.setting first (locked s ts b places) free →
     IsSound s.setting first (locked t (ts ++ option_to_list (option_map (λ x. arc_value x) d.table)) (record b { totals = plus b.totals command_ledger 1 }) places) free
@@ -95,11 +75,11 @@ pub sound_settled : (p : Setting) (first : ℕ) (s t : SessionModel) (ts : List 
     Gives (command_outcome s.setting s.journal (command_of d)) (Ok a) t.journal → t.setting ≡ s.setting → IsSound p first (locked s ts b places) free →
     IsSound p first (locked t (ts ++ option_to_list (table_made d)) (record b { totals = one_more a.unchanged b.totals }) places) free
 sound_settled p first s t ts b places free (Changing change) a lawful ready gives setting is =
-    let done = settled_changing s.setting s.journal change.command a t.journal ready.accepted ready.changing gives in
+    let done = changed_by s.setting s.journal change.command a t.journal ready.accepted ready.changing gives in
     let after = sound_changed first s t ts b places free change lawful ready done.1 setting (own_sound p first s ts b places free is) in
     rw done.0 (subst (λ q. IsSound q first (locked t (ts ++ option_to_list (option_map (λ x. arc_value x) change.table)) (record b { totals = plus b.totals command_ledger 1 }) places) free) is.kept.setting_is after)
 sound_settled p first s t ts b places free (Unchanged name) a lawful idle gives setting is =
-    let done = settled_idle s.setting s.journal name a t.journal idle.accepted idle.active gives in
+    let done = unchanged_by s.setting s.journal name a t.journal idle.accepted idle.active gives in
     rw (done.0, append-nil ts) (sound_same p first s t ts b places free setting done.1 is)
 
 -- the table of a prepared command, if it makes one, is of the next generation
@@ -115,12 +95,12 @@ next_published p first s ts b places free (Unchanged name) is idle = tt
 pub settled_gains : (s t : SessionModel) (d : Prepared) (a : Accepted) (m n : ℕ) → IsPreparedFor s d → Gives (command_outcome s.setting s.journal (command_of d)) (Ok a) t.journal →
     m ≡ length (commands s.journal) → n ≡ length (commands t.journal) → (m ≤ n) × ((xs : List ℕ) → plus xs command_ledger (n - m) ≡ one_more a.unchanged xs)
 settled_gains s t (Changing change) a m n ready gives m_is n_is =
-    let done = settled_changing s.setting s.journal change.command a t.journal ready.accepted ready.changing gives in
+    let done = changed_by s.setting s.journal change.command a t.journal ready.accepted ready.changing gives in
     let more : length (commands t.journal) ≡ suc (length (commands s.journal)) = ap (λ k. length (commands k)) done.1 ∙ ap length (commands_after s.setting s.journal change.command) in
     let one : n - m ≡ 1 = omega (arith, more, m_is, n_is) in
     (omega (arith, more, m_is, n_is), λ xs. rw done.0 (ap (plus xs command_ledger) one))
 settled_gains s t (Unchanged name) a m n idle gives m_is n_is =
-    let done = settled_idle s.setting s.journal name a t.journal idle.accepted idle.active gives in
+    let done = unchanged_by s.setting s.journal name a t.journal idle.accepted idle.active gives in
     let same : length (commands t.journal) ≡ length (commands s.journal) = ap (λ k. length (commands k)) done.1 in
     let none : n - m ≡ 0 = omega (arith, same, m_is, n_is) in
     (omega (arith, same, m_is, n_is), λ xs. rw done.0 (ap (plus xs command_ledger) none ∙ plus_none xs command_ledger))

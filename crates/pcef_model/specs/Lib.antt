@@ -13,4 +13,4 @@ pub mod Refusals
 pub mod Reports
 pub mod Setting
 pub mod Slots
-pub mod Terms
+pub mod ProfileModel

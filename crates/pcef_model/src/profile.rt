@@ -28,10 +28,10 @@ pub struct Profile {
 }
 
 impl Model for Profile {
-    ghost use Rattle.pcef_model.specs.Terms.{Terms};
-    ghost use Rattle.pcef_model.specs.Terms.{IsWithinLimits};
+    ghost use Rattle.pcef_model.specs.ProfileModel.{ProfileModel};
+    ghost use Rattle.pcef_model.specs.ProfileModel.{IsWithinLimits};
 
-    ghost Value = { Terms };
+    ghost Value = { ProfileModel };
 
     ghost view = { λ p. record {
       ue = p.ue;

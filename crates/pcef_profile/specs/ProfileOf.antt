@@ -9,7 +9,7 @@ use Rattle.pcef_rule.specs.declared.qci.Kind.{Kind}
 use Rattle.pcef_rule.specs.declared.qci.Kind.TheVariants.{Gbr, NonGbr}
 use Rattle.pcef_rule.specs.declared.quantity.Qos.{Qos}
 use Rattle.pcef_rule.specs.declared.quantity.Sums.{Sums}
-use Rattle.pcef_model.specs.Terms.{Terms}
+use Rattle.pcef_model.specs.ProfileModel.{ProfileModel}
 use Rattle.pcef_profile.specs.declared.fault.ReadProfileFault.{ReadProfileFault}
 use Rattle.pcef_profile.specs.declared.fault.ReadProfileFault.TheVariants.{NotToml, UnknownKey, Missing, BadValue, UnknownQci, DefaultIsGbr, NoMemory}
 use Rattle.pcef_profile.specs.declared.key.Key.TheVariants as key
@@ -27,7 +27,7 @@ pub record Said : Type 0 where
   pub declared : List (ℕ × Kind)
 
 -- the terms of a session, as a profile that declares these QCIs says them
-abbrev pub said : List (ℕ × Kind) → Terms → Said
+abbrev pub said : List (ℕ × Kind) → ProfileModel → Said
 said declared t = record { ue = t.ue; rows = t.rows; commands = t.commands; default_qos = t.default_qos; capacity = t.capacity; declared = declared }
 
 -- 10 to 254, and none twice
@@ -71,15 +71,15 @@ abbrev pub Declares : List (Option Kind) → List (ℕ × Kind) → Type 0
 Declares kinds declared = (qci : ℕ) → qci < 256 → declared_at kinds qci ≡ declared_kind declared qci
 
 -- the terms of a session are what a profile says
-pub record AreSaid (t : Terms) (s : Said) : Type 0 where
+pub record AreSaid (t : ProfileModel) (s : Said) : Type 0 where
   pub values : said s.declared t ≡ s
   pub kinds : Declares t.qcis s.declared
 
 -- What is answered is what is due. Where memory ran out, nothing is said.
-abbrev pub GivesTerms : Result Terms ReadProfileFault → Result Said ReadProfileFault → Type 0
-GivesTerms (Ok t) (Ok s) = AreSaid t s
-GivesTerms (Ok t) (Err e) = ⊥
-GivesTerms (Err e) due = (e ≡ NoMemory) ⊎ (due ≡ Err e)
+abbrev pub GivesProfile : Result ProfileModel ReadProfileFault → Result Said ReadProfileFault → Type 0
+GivesProfile (Ok t) (Ok s) = AreSaid t s
+GivesProfile (Ok t) (Err e) = ⊥
+GivesProfile (Err e) due = (e ≡ NoMemory) ⊎ (due ≡ Err e)
 
 abbrev pub fault_number : ReadProfileFault → ℕ
 fault_number NotToml = 1

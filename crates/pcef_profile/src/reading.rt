@@ -4,7 +4,7 @@ ghost use Rattle.std.specs.Prelude.{◌≡◌, IfOk};
 ghost use Rattle.toml.specs.View.{table_view};
 ghost use Rattle.pcef_decoding.specs.Readings.{passing};
 ghost use Rattle.pcef_profile.specs.ProfileValues.{Gives};
-ghost use Rattle.pcef_profile.specs.ProfileOf.{Declares, GivesTerms, kind_with, may_be_declared, said, values_of, profile_of, ProfileOf};
+ghost use Rattle.pcef_profile.specs.ProfileOf.{Declares, GivesProfile, kind_with, may_be_declared, said, values_of, profile_of, ProfileOf};
 ghost use Rattle.pcef_profile.specs.declared.fault.ReadProfileFault.TheVariants.{BadValue};
 
 use crate::fault::ReadProfileFault;
@@ -62,7 +62,7 @@ fn values(table: &Table, declared: &[(u8, Kind)]) -> Result<Profile, ReadProfile
 
 #[tactic(auto, unfolding(crate::specs::ProfileOf::profile_of))]
 fn profile(alloc: Global, table: &Table) -> Result<Profile, ReadProfileFault>
-    ensures { GivesTerms result (profile_of (table_view table.now)) }
+    ensures { GivesProfile result (profile_of (table_view table.now)) }
 {
     if !is_known(table) {
         return Err(ReadProfileFault::UnknownKey);
@@ -83,7 +83,7 @@ fn profile(alloc: Global, table: &Table) -> Result<Profile, ReadProfileFault>
 /// QCIs has the standard ones and those that the text declares.
 #[tactic(auto, unfolding(crate::specs::ProfileOf::ProfileOf))]
 pub fn read_profile(alloc: Global, text: &str) -> Result<Profile, ReadProfileFault>
-    ensures { GivesTerms result (ProfileOf text.now) }
+    ensures { GivesProfile result (ProfileOf text.now) }
 {
     match toml::table_from_str(alloc, text) {
         Ok(table) => profile(alloc, &table),

@@ -9,8 +9,8 @@ use Rattle.std.proofs.KnownBytes.{Appends-kept}
 use Rattle.std.proofs.lemmas.Bool.{eqb-true}
 use Rattle.pcef_catalog.specs.declared.listing.Offer.{Offer}
 use Rattle.pcef_model.specs.declared.answer.OpenFault.TheVariants as opening
-use Rattle.pcef_model.specs.Terms.{Terms, setting_of}
-use Rattle.pcef_profile.specs.ProfileOf.{GivesTerms, ProfileOf}
+use Rattle.pcef_model.specs.ProfileModel.{ProfileModel, setting_of}
+use Rattle.pcef_profile.specs.ProfileOf.{GivesProfile, ProfileOf}
 use Rattle.pcef_profile.specs.declared.fault.ReadProfileFault.{ReadProfileFault}
 use Rattle.pcef_profile.specs.declared.fault.ReadProfileFault.TheVariants as profile
 use Rattle.pcef_script.specs.declared.fault.ScriptFault.{ScriptFault}
@@ -69,7 +69,7 @@ unread_status : (kind : ErrorKind) → end_status (unread_end kind) ≡ 0 → �
 unread_status OutOfMemory is = not_zero 3 (omega arith) is
 unread_status kind is = not_zero 4 (omega arith) is
 
-ran_whole : (offers : List Offer) (text : String Global) (terms : Terms) (end : End) (before left old new : Option (List ℕ)) → GivesTerms (Ok terms) (ProfileOf (string_bytes text))
+ran_whole : (offers : List Offer) (text : String Global) (terms : ProfileModel) (end : End) (before left old new : Option (List ℕ)) → GivesProfile (Ok terms) (ProfileOf (string_bytes text))
     → RanScript (setting_of terms offers) end before left old new → end_status end ≡ 0 → IsWholeScript offers (Some (Ok text)) before left old new
 ran_whole offers text terms end before left old new gives (result, opened, written, runs, kept, inr is) zero = absurd (not_zero 4 (omega arith) (sym (ap end_status is) ∙ zero))
 ran_whole offers text terms end before left old new gives (Err fault, opened, written, runs, kept, inl is) zero = absurd (fault_status fault (sym (ap end_status is) ∙ zero))
@@ -78,7 +78,7 @@ ran_whole offers text terms end before left old new gives (Ok faults, opened, wr
     let wrote : Wrote (setting_of terms offers) (all_lines runs.0) 0 old written = subst (λ n. Wrote (setting_of terms offers) (all_lines runs.0) n old written) none runs.3.1 in
     (text, terms, runs.0, refl, gives, runs.1, runs.3.0, (wrote.0, wrote.1, wrote.2, Appends-kept old written new wrote.0 wrote.3 kept))
 
-run_whole : (offers : List Offer) (text : String Global) (terms : Terms) (workers : ℕ) (end : End) (before left old new : Option (List ℕ)) → GivesTerms (Ok terms) (ProfileOf (string_bytes text))
+run_whole : (offers : List Offer) (text : String Global) (terms : ProfileModel) (workers : ℕ) (end : End) (before left old new : Option (List ℕ)) → GivesProfile (Ok terms) (ProfileOf (string_bytes text))
     → RanPlan (setting_of terms offers) workers end before left old new → end_status end ≡ 0 → IsWholeRun offers workers (Some (Ok text)) before left old new
 run_whole offers text terms workers ending.Done before left old new gives ran zero = (text, terms, refl, gives, ran)
 run_whole offers text terms workers ending.LinesAtFault before left old new gives ran zero = absurd ran
@@ -92,7 +92,7 @@ run_whole offers text terms workers ending.Write before left old new gives ran z
 run_whole offers text terms workers (ending.Line said) before left old new gives ran zero = absurd (not_zero 1 (omega arith) zero)
 run_whole offers text terms workers (ending.Run fault) before left old new gives ran zero = absurd (not_zero 4 (omega arith) zero)
 
-as_asked : (offers : List Offer) (workers : Option ℕ) (text : String Global) (terms : Terms) (end : End) (before left old new : Option (List ℕ)) → GivesTerms (Ok terms) (ProfileOf (string_bytes text))
+as_asked : (offers : List Offer) (workers : Option ℕ) (text : String Global) (terms : ProfileModel) (end : End) (before left old new : Option (List ℕ)) → GivesProfile (Ok terms) (ProfileOf (string_bytes text))
     → Ran workers (setting_of terms offers) end before left old new → end_status end ≡ 0 → IsWhole offers workers (Some (Ok text)) before left old new
 as_asked offers None text terms end before left old new gives ran zero = ran_whole offers text terms end before left old new gives ran zero
 as_asked offers (Some workers) text terms end before left old new gives ran zero = run_whole offers text terms workers end before left old new gives ran zero

@@ -7,8 +7,8 @@ use Rattle.std.specs.IoError.{error_kind}
 use Rattle.std.specs.declared.io.Error.{Error}
 use Rattle.pcef_catalog.specs.declared.listing.Offer.{Offer}
 use Rattle.pcef_model.specs.Setting.{Setting}
-use Rattle.pcef_model.specs.Terms.{Terms, setting_of}
-use Rattle.pcef_profile.specs.ProfileOf.{GivesTerms, ProfileOf}
+use Rattle.pcef_model.specs.ProfileModel.{ProfileModel, setting_of}
+use Rattle.pcef_profile.specs.ProfileOf.{GivesProfile, ProfileOf}
 use Rattle.pcef_profile.specs.declared.fault.ReadProfileFault.{ReadProfileFault}
 use Rattle.pcef_script.specs.declared.fault.ScriptFault.{ScriptFault}
 use Rattle.pcef_script.specs.Runs.{Runs}
@@ -43,7 +43,7 @@ abbrev pub Ran : Option ℕ → Setting → End → Option (List ℕ) → Option
 Ran None p end before left old new = RanScript p end before left old new
 Ran (Some workers) p end before left old new = RanPlan p workers end before left old new
 
-abbrev pub EndsBy : List Offer → Option ℕ → Result Terms ReadProfileFault → End → Option (List ℕ) → Option (List ℕ) → Option (List ℕ) → Option (List ℕ) → Type 0
+abbrev pub EndsBy : List Offer → Option ℕ → Result ProfileModel ReadProfileFault → End → Option (List ℕ) → Option (List ℕ) → Option (List ℕ) → Option (List ℕ) → Type 0
 EndsBy offers workers (Ok terms) end before left old new = Ran workers (setting_of terms offers) end before left old new
 EndsBy offers workers (Err fault) end before left old new = (end ≡ profile_end fault) × IsUntouched before left old new
 
@@ -52,20 +52,20 @@ abbrev pub Ends : List Offer → Option ℕ → Option Text → End → Option (
 Ends offers workers None end before left old new = (end ≡ ending.Usage) × IsUntouched before left old new
 Ends offers workers (Some (Err error)) end before left old new = (end ≡ unread_end (error_kind error)) × IsUntouched before left old new
 Ends offers workers (Some (Ok text)) end before left old new =
-    (read : Result Terms ReadProfileFault) × GivesTerms read (ProfileOf (string_bytes text)) × EndsBy offers workers read end before left old new
+    (read : Result ProfileModel ReadProfileFault) × GivesProfile read (ProfileOf (string_bytes text)) × EndsBy offers workers read end before left old new
 
 -- ---- status 0
 -- a script was asked for whose profile has no fault; all its input was read, no line is at fault, and the
 -- answers to all lines are written
 abbrev pub IsWholeScript : List Offer → Option Text → Option (List ℕ) → Option (List ℕ) → Option (List ℕ) → Option (List ℕ) → Type 0
 IsWholeScript offers asked before left old new =
-    (text : String Global) × (terms : Terms) × (input : List ℕ) × (asked ≡ Some (Ok text)) × GivesTerms (Ok terms) (ProfileOf (string_bytes text))
+    (text : String Global) × (terms : ProfileModel) × (input : List ℕ) × (asked ≡ Some (Ok text)) × GivesProfile (Ok terms) (ProfileOf (string_bytes text))
     × Consumes before left input × IsAtEnd left × Wrote (setting_of terms offers) (all_lines input) 0 old new
 
 -- or a run: the session of its profile ran the plan that the input is, and what it came to is written
 abbrev pub IsWholeRun : List Offer → ℕ → Option Text → Option (List ℕ) → Option (List ℕ) → Option (List ℕ) → Option (List ℕ) → Type 0
 IsWholeRun offers workers asked before left old new =
-    (text : String Global) × (terms : Terms) × (asked ≡ Some (Ok text)) × GivesTerms (Ok terms) (ProfileOf (string_bytes text))
+    (text : String Global) × (terms : ProfileModel) × (asked ≡ Some (Ok text)) × GivesProfile (Ok terms) (ProfileOf (string_bytes text))
     × RanPlan (setting_of terms offers) workers ending.Done before left old new
 
 abbrev pub IsWhole : List Offer → Option ℕ → Option Text → Option (List ℕ) → Option (List ℕ) → Option (List ℕ) → Option (List ℕ) → Type 0

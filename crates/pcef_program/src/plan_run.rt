@@ -5,7 +5,7 @@ ghost use Rattle.std.specs.Io.KnownBytes.{Keeps};
 ghost use Rattle.pcef_program.specs.declared.end.End.TheVariants.{Done, Write as WriteEnd};
 ghost use Rattle.std.specs.Arc.{arc_value};
 ghost use Rattle.pcef_catalog.specs.Catalogs.{offers_of};
-ghost use Rattle.pcef_model.specs.Terms.{setting_of};
+ghost use Rattle.pcef_model.specs.ProfileModel.{setting_of};
 ghost use Rattle.pcef_run.specs.declared.taken.Counts.{Counts};
 ghost use Rattle.pcef_program.specs.PlanRuns.{IsWritten, RanOne, RanPlan};
 

@@ -3,7 +3,7 @@
 ghost use Rattle.std.specs.Prelude.{◌≡◌, ◌≤◌, Some, option_map};
 ghost use Rattle.std.specs.Arc.{arc_value};
 ghost use Rattle.pcef_catalog.specs.Catalogs.{offers_of};
-ghost use Rattle.pcef_model.specs.Terms.{setting_of};
+ghost use Rattle.pcef_model.specs.ProfileModel.{setting_of};
 ghost use Rattle.pcef_program.specs.declared.end.End.{End};
 ghost use Rattle.pcef_program.specs.Ends.{end_status};
 ghost use Rattle.pcef_program.specs.Programs.{Ends, IsWhole, Ran, RanScript, asked};

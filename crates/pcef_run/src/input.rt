@@ -1,29 +1,15 @@
 //! Reads an input to its end.
 
-ghost use Rattle.std.specs.Prelude.{◌<◌, ◌≤◌, ◌≡◌, IfErr, IfOk, length};
-ghost use Rattle.std.specs.Io.{ReadsAtMost};
-ghost use Rattle.std.specs.Io.KnownBytes.{ReadConsumes};
+ghost use Rattle.std.specs.Prelude.{IfErr, IfOk};
 ghost use Rattle.pcef_run.specs.Inputs.{IsRead, IsUnread};
 
 use crate::fault::PlanFault;
+use pcef_script::read_some;
 use std::alloc::Global;
-use std::io::{self, Read};
+use std::io::Read;
 
 /// The most bytes of an input.
 const MAX_INPUT: usize = 1_073_741_824;
-
-/// Reads some bytes to the front of a block, at most so many, and gives how many.
-fn read_some<R: Read>(reader: &mut R, block: &mut [u8], most: usize) -> io::Result<usize>
-    requires { 0 < most }
-    ensures most { IfOk result (λ n. n ≤ most) }
-    ensures bound { ReadsAtMost result block.new }
-    ensures room { length block.new ≡ length block.old }
-    ensures bytes { ReadConsumes (R.remaining reader.old) (R.remaining reader.new)
-        result block.new }
-{
-    let room = most.min(block.len());
-    reader.read(&mut block[..room])
-}
 
 /// All bytes up to the end of the input, of which there may be [`MAX_INPUT`]. Reads at most a byte more.
 pub(crate) fn read_all<R: Read>(alloc: Global, reader: &mut R) -> Result<Vec<u8>, PlanFault>

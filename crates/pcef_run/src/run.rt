@@ -3,7 +3,7 @@
 ghost use Rattle.std.specs.Prelude.{◌≡◌, ◌≢◌, ℕ, IfErr, IfOk};
 ghost use Rattle.std.specs.Arc.{arc_value};
 ghost use Rattle.pcef_model.specs.Setting.{Setting};
-ghost use Rattle.pcef_model.specs.Terms.{setting_of};
+ghost use Rattle.pcef_model.specs.ProfileModel.{setting_of};
 ghost use Rattle.pcef_gateway.specs.declared.fault.RunFault.TheVariants.{NoMemory as WantOfMemory};
 ghost use Rattle.pcef_session.specs.Answers.{IsOpened};
 ghost use Rattle.pcef_run.specs.declared.plan.Plan.{Plan};

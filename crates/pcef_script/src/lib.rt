@@ -3,11 +3,13 @@
 
 mod fault;
 mod input;
+mod reading;
 mod run;
 mod running;
 mod step;
 mod writing;
 
 pub use fault::ScriptFault;
+pub use reading::read_some;
 pub use run::run_script;
 pub use writing::put_all;

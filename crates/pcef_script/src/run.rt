@@ -1,12 +1,10 @@
 //! Runs a script from a reader to a writer.
 
-ghost use Rattle.std.specs.Prelude.{◌≡◌, ◌<◌, ◌≤◌, [], IfErr, IfOk, None, length};
+ghost use Rattle.std.specs.Prelude.{◌≡◌, [], IfErr, IfOk, None};
 ghost use Rattle.std.specs.Arc.{arc_value};
-ghost use Rattle.std.specs.Io.{ReadsAtMost};
-ghost use Rattle.std.specs.Io.KnownBytes.{ReadConsumes};
 ghost use Rattle.pcef_model.specs.Setting.{Setting};
 ghost use Rattle.pcef_model.specs.Refusals.{first_of, open_faults};
-ghost use Rattle.pcef_model.specs.Terms.{setting_of};
+ghost use Rattle.pcef_model.specs.ProfileModel.{setting_of};
 ghost use Rattle.pcef_catalog.specs.Catalogs.{offers_of};
 ghost use Rattle.pcef_world.specs.Worlds.{IsOpenedWorld};
 ghost use Rattle.pcef_script.specs.Running.{OpenFails};
@@ -14,6 +12,7 @@ ghost use Rattle.pcef_script.specs.Runs.{Runs};
 ghost use Rattle.pcef_script.specs.Scripts.{Opened};
 
 use crate::fault::ScriptFault;
+use crate::reading::read_some;
 use crate::running::{Running, answer_block, end_line};
 use pcef_catalog::{Catalog, Detects, Offers};
 use pcef_model::{OpenFault, Profile};
@@ -36,19 +35,6 @@ fn open(alloc: Global, profile: Profile, catalog: &Catalog) -> Result<WorldState
         Err(OpenFault::NoMemory) => Err(ScriptFault::NoMemory),
         Err(fault) => Err(ScriptFault::Profile(fault)),
     }
-}
-
-/// Reads some bytes to the front of a block, at most so many, and gives how many.
-fn read_some<R: Read>(reader: &mut R, block: &mut [u8], most: usize) -> io::Result<usize>
-    requires { 0 < most }
-    ensures most { IfOk result (λ n. n ≤ most) }
-    ensures bound { ReadsAtMost result block.new }
-    ensures room { length block.new ≡ length block.old }
-    ensures bytes { ReadConsumes (R.remaining reader.old) (R.remaining reader.new)
-        result block.new }
-{
-    let room = most.min(block.len());
-    reader.read(&mut block[..room])
 }
 
 fn run<C: Detects, R: Read, W: Write>(

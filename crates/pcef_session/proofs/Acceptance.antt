@@ -1,11 +1,13 @@
 -- What it takes that a command isn't refused.
-use Rattle.std.proofs.Common.{◌≡◌, ◌∙◌, true, false, List, length, refl, sym, subst, arith, Some, None, nat_le}
-use Rattle.std.specs.Prelude.{Option, is_none}
+use Rattle.std.proofs.Common.{◌≡◌, ◌∙◌, ℕ, true, false, List, length, refl, sym, ap, subst, arith, Some, None, Ok, nat_le}
+use Rattle.std.specs.Prelude.{Option, Result, is_none}
 use Rattle.std.specs.Option.{option_map}
 use Rattle.std.proofs.lemmas.Bool.{leb-false}
 use Rattle.pcef_rule.specs.declared.rule.Properties.{Properties}
 use Rattle.pcef_catalog.specs.declared.listing.Offer.{Offer}
 use Rattle.pcef_model.specs.Refusals.{becoming_active, first_of, is_active, refusals}
+use Rattle.pcef_model.specs.declared.answer.Accepted.{Accepted}
+use Rattle.pcef_model.specs.declared.answer.Refusal.{Refusal}
 use Rattle.pcef_model.specs.declared.command.Command.{Command}
 use Rattle.pcef_model.specs.declared.command.Command.TheVariants.{Install, Activate, Remove, Monitor, Stop, ReportNow, Triggers, Notice, LoseBearer, Close, Terminate}
 use Rattle.pcef_model.specs.Setting.{most_rules, Setting, offer_named}
@@ -18,7 +20,8 @@ use Rattle.pcef_usage.specs.Commands.{Asks}
 use Rattle.pcef_usage.specs.Keys.{finds_no_slot as slotless, keys_of}
 use Rattle.pcef_bearer.specs.Standing.{binding_of}
 use Rattle.pcef_session.specs.declared.prepared.Activation.{Activation}
-use Rattle.pcef_model.specs.Outcomes.{changes, bearer_named}
+use Rattle.pcef_model.specs.Outcomes.{Gives, accepted, bearer_named, changes, command_outcome}
+use Rattle.pcef_model.specs.Reports.{after_command}
 use Rattle.pcef_session.specs.private.Changes.{Binds, CanBind}
 use Rattle.pcef_session.specs.Preparing.{Activates}
 use Rattle.pcef_session.proofs.Activations.{brought}
@@ -99,3 +102,23 @@ can_bind p j c (Some x) accepted changing brings =
     let b = brought p c (Some x) x refl brings in
     binds_rule p j x.properties
     (subst (λ (q : Properties). first_of (becoming_active p j q) ≡ None) (sym b.is_of.properties_are) (activation_accepted p j c b.rule accepted changing b.becomes))
+
+-- ---- an accepted command
+told_same : (a b : Accepted) (r s : Result Accepted Refusal) → r ≡ s → r ≡ Ok a → s ≡ Ok b → a ≡ b
+told_same a b r s same first second = cc
+
+-- one that changes something
+pub changed_by : (p : Setting) (j : Journal) (c : Command) (a : Accepted) (k : Journal) → first_of (refusals p j c) ≡ None → changes p j c ≡ true → Gives (command_outcome p j c) (Ok a) k →
+    (a.unchanged ≡ false) × (k ≡ after_command p j c)
+unfolding command_outcome
+changed_by p j c a k unrefused changing gives =
+    let g = rw (unrefused, changing) at gives in
+    (ap (λ (x : Accepted). x.unchanged) (told_same a (accepted p c j (after_command p j c) false) (Ok a) (Ok (accepted p c j (after_command p j c) false)) g.0 refl refl), g.1)
+
+-- one that changes nothing
+pub unchanged_by : (p : Setting) (j : Journal) (name : List ℕ) (a : Accepted) (k : Journal) → first_of (refusals p j (Activate name)) ≡ None → is_active p j name ≡ true → Gives (command_outcome p j (Activate name)) (Ok a) k →
+    (a.unchanged ≡ true) × (k ≡ j)
+unfolding command_outcome
+unchanged_by p j name a k unrefused active gives =
+    let g = rw (unrefused, active) at gives in
+    (ap (λ (x : Accepted). x.unchanged) (told_same a (accepted p (Activate name) j j true) (Ok a) (Ok (accepted p (Activate name) j j true)) g.0 refl refl), g.1)

@@ -38,7 +38,7 @@ use Rattle.pcef_usage.specs.declared.usage.KeyState.{KeyState}
 use Rattle.pcef_session.specs.private.Parts.{Agrees}
 use Rattle.pcef_bearer.specs.Standing.{binding_of}
 use Rattle.pcef_session.specs.private.Soundness.{IsSound, parts_of}
-use Rattle.pcef_model.specs.Terms.{setting_of}
+use Rattle.pcef_model.specs.ProfileModel.{setting_of}
 use Rattle.pcef_session.specs.declared.state.SessionState.TheInside.{Inside}
 use Rattle.pcef_session.proofs.FirstSession.{agrees_attached, agrees_first, agrees_left}
 use Rattle.pcef_model.proofs.Acceptance.{activation_accepted, few_put}

@@ -10,7 +10,7 @@ ghost use Rattle.pcef_model.specs.Generations.{at_first};
 ghost use Rattle.pcef_model.specs.Journals.{gen};
 ghost use Rattle.pcef_model.specs.Lawful.{Lawful};
 ghost use Rattle.pcef_model.specs.Refusals.{attach_faults, first_of, open_faults, was_closed, was_terminated};
-ghost use Rattle.pcef_model.specs.Terms.{setting_of};
+ghost use Rattle.pcef_model.specs.ProfileModel.{setting_of};
 ghost use Rattle.pcef_session.specs.Agreement.{KeysAgree};
 ghost use Rattle.pcef_session.specs.Answers.{AreActive, IsOpened, ShowsNewest, binding_now};
 ghost use Rattle.pcef_session.specs.SessionModel.{HasAtLeast};

@@ -5,7 +5,7 @@ ghost use Rattle.std.specs.Arc.{arc_value};
 ghost use Rattle.std.specs.Result.{result_err};
 ghost use Rattle.pcef_model.specs.Outcomes.{AttachStep, Opens};
 ghost use Rattle.pcef_model.specs.Journals.{attach_count};
-ghost use Rattle.pcef_model.specs.Terms.{setting_of};
+ghost use Rattle.pcef_model.specs.ProfileModel.{setting_of};
 ghost use Rattle.pcef_model.specs.declared.step.Step.{Step};
 ghost use Rattle.pcef_model.specs.declared.step.Step.TheVariants as of;
 ghost use Rattle.pcef_session.specs.Answers.{ShowsNewest};

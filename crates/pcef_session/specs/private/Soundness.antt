@@ -9,7 +9,7 @@ use Rattle.pcef_model.specs.Entries.{Journal, commands, rows}
 use Rattle.pcef_model.specs.Journals.{attached}
 use Rattle.pcef_session.specs.private.Parts.{Agrees, Parts, Held}
 use Rattle.pcef_model.specs.Refusals.{was_closed, was_terminated}
-use Rattle.pcef_model.specs.Terms.{setting_of}
+use Rattle.pcef_model.specs.ProfileModel.{setting_of}
 use Rattle.pcef_session.specs.declared.state.SessionState.TheInside.{Inside}
 use Rattle.pcef_session.specs.SessionModel.{SessionModel}
 

@@ -1,7 +1,7 @@
 use Rattle.std.proofs.Common.{subst, sym}
 use Rattle.std.specs.Arc.{arc_value}
 use Rattle.pcef_catalog.specs.Catalogs.{offers_of}
-use Rattle.pcef_model.specs.Terms.{setting_of}
+use Rattle.pcef_model.specs.ProfileModel.{setting_of}
 use Rattle.pcef_program.specs.PlanRuns.{RanOne}
 use Rattle.pcef_program.proofs.RunEnds.{none_told, one_told}
 use Rattle.pcef_program.proofs.plan_run.run_one.Goals as goal

@@ -1,5 +1,5 @@
 use Rattle.std.specs.Arc.{arc_value}
-use Rattle.pcef_model.specs.Terms.{setting_of}
+use Rattle.pcef_model.specs.ProfileModel.{setting_of}
 use Rattle.pcef_run.proofs.Obeyings.{nobody_attached}
 use Rattle.pcef_run.proofs.RunFaults.{fails_run, opens_not}
 use Rattle.pcef_run.proofs.run.run_plan.Goals as goal

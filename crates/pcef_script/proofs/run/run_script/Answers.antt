@@ -2,7 +2,7 @@ use Rattle.std.proofs.Common.{[], arith}
 use Rattle.std.proofs.lemmas.Result.{err_from_is_err_and}
 use Rattle.std.specs.Arc.{arc_value}
 use Rattle.std.proofs.KnownBytes.{Consumes-nil}
-use Rattle.pcef_model.specs.Terms.{setting_of}
+use Rattle.pcef_model.specs.ProfileModel.{setting_of}
 use Rattle.pcef_catalog.specs.Catalogs.{offers_of}
 use Rattle.pcef_script.proofs.ReadBlocks.{open_within}
 use Rattle.pcef_script.proofs.ScriptSteps.{open_fails}

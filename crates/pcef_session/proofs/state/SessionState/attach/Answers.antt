@@ -2,7 +2,7 @@ use Rattle.std.proofs.Common.{◌≡◌, ◌∙◌, [], ◌∷◌, ap, arith, re
 use Rattle.pcef_model.specs.declared.entry.Entry.TheVariants as entry
 use Rattle.pcef_model.specs.Entries.{Journal, lane}
 use Rattle.pcef_model.specs.Refusals.{attach_faults, first_of}
-use Rattle.pcef_model.specs.Terms.{setting_of}
+use Rattle.pcef_model.specs.ProfileModel.{setting_of}
 use Rattle.pcef_model.proofs.NewLanes.{new_lane}
 use Rattle.std.specs.Prelude.{Err, None, Ok}
 use Rattle.pcef_model.specs.Outcomes.{AttachStep}

@@ -4,7 +4,7 @@ use Rattle.pcef_model.specs.ActiveRules.{without}
 use Rattle.pcef_model.specs.Journals.{now}
 use Rattle.pcef_session.specs.SessionModel.{SessionModel}
 use Rattle.pcef_model.specs.Refusals.{bindings, first_of}
-use Rattle.pcef_model.specs.Terms.{setting_of}
+use Rattle.pcef_model.specs.ProfileModel.{setting_of}
 use Rattle.pcef_bearer.proofs.BoundBearers.{refusals_bound}
 use Rattle.pcef_session.proofs.state.SessionState.bind_refusal.Goals as goal
 

@@ -23,7 +23,7 @@ use Rattle.pcef_session.specs.private.Changes.{CanBind, entered_by, key_of, rule
 use Rattle.pcef_session.specs.SessionModel.{SessionModel}
 use Rattle.pcef_session.specs.Shown.{Shows}
 use Rattle.pcef_session.specs.private.Soundness.{parts_of, model_of}
-use Rattle.pcef_model.specs.Terms.{setting_of}
+use Rattle.pcef_model.specs.ProfileModel.{setting_of}
 use Rattle.pcef_model.specs.Commands.{key_named}
 use Rattle.pcef_session.proofs.Activations.{served_key}
 use Rattle.pcef_session.proofs.Acceptance.{asks_known, can_bind, served_slot}

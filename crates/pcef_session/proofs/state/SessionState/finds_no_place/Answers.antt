@@ -1,7 +1,7 @@
 use Rattle.std.proofs.Common.{◌≡◌, ◌∙◌, subst, ap, nat_le, length}
 use Rattle.pcef_model.specs.Journals.{now}
 use Rattle.pcef_session.specs.SessionModel.{SessionModel}
-use Rattle.pcef_model.specs.Terms.{setting_of}
+use Rattle.pcef_model.specs.ProfileModel.{setting_of}
 use Rattle.pcef_session.proofs.KeptRules.{kept_length}
 use Rattle.pcef_session.proofs.state.SessionState.finds_no_place.Goals as goal
 

@@ -3,7 +3,7 @@ use Rattle.std.specs.Option.{option_copied}
 use Rattle.pcef_usage.specs.Keys.{finds_no_slot as slotless}
 use Rattle.pcef_session.specs.SessionModel.{SessionModel}
 use Rattle.pcef_model.specs.Refusals.{finds_no_slot}
-use Rattle.pcef_model.specs.Terms.{setting_of}
+use Rattle.pcef_model.specs.ProfileModel.{setting_of}
 use Rattle.pcef_session.proofs.Refused.{slotless_is}
 use Rattle.pcef_session.proofs.state.SessionState.finds_no_slot.Goals as goal
 

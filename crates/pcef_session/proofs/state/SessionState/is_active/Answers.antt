@@ -4,7 +4,7 @@ use Rattle.pcef_bearer.specs.Bindings.{Binding, is_named}
 use Rattle.pcef_model.specs.Journals.{now}
 use Rattle.pcef_session.specs.SessionModel.{SessionModel}
 use Rattle.pcef_model.specs.Refusals.{is_active}
-use Rattle.pcef_model.specs.Terms.{setting_of}
+use Rattle.pcef_model.specs.ProfileModel.{setting_of}
 use Rattle.pcef_bearer.proofs.BoundBearers.{named_bound}
 use Rattle.pcef_session.proofs.state.SessionState.is_active.Goals as goal
 

@@ -4,7 +4,7 @@ use Rattle.pcef_bearer.specs.Bindings.{Binding}
 use Rattle.pcef_bearer.specs.declared.bearers.Bound.{Bound}
 use Rattle.pcef_model.specs.Journals.{now}
 use Rattle.pcef_model.specs.Refusals.{is_bearer}
-use Rattle.pcef_model.specs.Terms.{setting_of}
+use Rattle.pcef_model.specs.ProfileModel.{setting_of}
 use Rattle.pcef_session.specs.SessionModel.{SessionModel}
 use Rattle.pcef_session.proofs.EndedKeys.{bearer_bound}
 use Rattle.pcef_session.proofs.state.SessionState.is_bearer.Goals as goal

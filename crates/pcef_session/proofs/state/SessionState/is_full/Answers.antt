@@ -1,7 +1,7 @@
 use Rattle.std.proofs.Common.{◌≡◌, ◌∙◌, ap, false, length, refl, subst, nat_le}
 use Rattle.pcef_model.specs.Entries.{Journal, commands}
 use Rattle.pcef_model.specs.Refusals.{limited_count, was_closed, was_terminated}
-use Rattle.pcef_model.specs.Terms.{setting_of}
+use Rattle.pcef_model.specs.ProfileModel.{setting_of}
 use Rattle.pcef_session.specs.SessionModel.{SessionModel}
 use Rattle.pcef_session.proofs.Refused.{full_is}
 use Rattle.pcef_session.proofs.state.SessionState.is_full.Goals as goal

@@ -3,7 +3,7 @@ use Rattle.pcef_model.specs.Commands.{is_among}
 use Rattle.pcef_model.specs.Journals.{now}
 use Rattle.pcef_session.specs.SessionModel.{SessionModel}
 use Rattle.pcef_session.specs.private.Keys.{is_on}
-use Rattle.pcef_model.specs.Terms.{setting_of}
+use Rattle.pcef_model.specs.ProfileModel.{setting_of}
 use Rattle.pcef_session.proofs.NextTables.{on_is}
 use Rattle.pcef_session.proofs.state.SessionState.is_on.Goals as goal
 

@@ -4,7 +4,7 @@ use Rattle.pcef_model.specs.Entries.{Journal, lane}
 use Rattle.pcef_model.specs.Journals.{attach_count}
 use Rattle.pcef_model.specs.Lawful.{Lawful}
 use Rattle.pcef_model.specs.Setting.{Setting}
-use Rattle.pcef_model.specs.Terms.{setting_of}
+use Rattle.pcef_model.specs.ProfileModel.{setting_of}
 use Rattle.pcef_model.proofs.NewLanes.{past_lane}
 use Rattle.pcef_lane.specs.declared.lanes.LaneEnd.{LaneEnd}
 use Rattle.pcef_lane.specs.Lanes.{LanesAgree, end_of, lane_end}

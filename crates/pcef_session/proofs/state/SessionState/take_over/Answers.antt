@@ -12,7 +12,7 @@ use Rattle.pcef_session.specs.Following.{HasItsSlots, row_of}
 use Rattle.pcef_model.specs.Lawful.{BatchFollows}
 use Rattle.pcef_model.specs.Refusals.{first_of, flush_refusals}
 use Rattle.pcef_session.specs.private.Soundness.{parts_of}
-use Rattle.pcef_model.specs.Terms.{setting_of}
+use Rattle.pcef_model.specs.ProfileModel.{setting_of}
 use Rattle.pcef_session.proofs.FlushAgrees.{can_count_all, flushed_journal, sound_flushed, states_agree, within_rows}
 use Rattle.pcef_session.proofs.state.SessionState.take_over.Goals as goal
 

@@ -2,7 +2,7 @@ use Rattle.std.proofs.Common.{◌≡◌, ◌∙◌, sym, subst, Some, None}
 use Rattle.pcef_model.specs.declared.command.Command.TheVariants.{Terminate}
 use Rattle.pcef_model.specs.declared.answer.Refusal.TheVariants.{WorkersAttached}
 use Rattle.pcef_model.specs.Refusals.{first_of, own_refusals}
-use Rattle.pcef_model.specs.Terms.{setting_of}
+use Rattle.pcef_model.specs.ProfileModel.{setting_of}
 use Rattle.pcef_lane.proofs.LaneEnds.{attached_len}
 use Rattle.pcef_session.specs.SessionModel.{SessionModel}
 use Rattle.pcef_session.proofs.Leaving.{terminate_free, terminate_refused}

@@ -9,7 +9,7 @@ use Rattle.pcef_model.specs.Setting.{Setting}
 
 -- the address of the user equipment, QCI and ARP of the default bearer, the capacity that guaranteed
 -- rates share, what is declared for each QCI, and how many rows and commands the journal takes
-pub record Terms : Type 0 where
+pub record ProfileModel : Type 0 where
   pub ue : Addr
   pub default_qos : Qos
   pub capacity : Sums
@@ -26,7 +26,7 @@ pub record IsWithinLimits (capacity : Sums) (rows commands : ℕ) : Type 0 where
   pub some_commands : 1 ≤ commands
   pub few_commands : commands ≤ 1000000
 
-abbrev pub setting_of : Terms → List Offer → Setting
+abbrev pub setting_of : ProfileModel → List Offer → Setting
 setting_of t offers = record {
   ue = t.ue;
   default_qos = t.default_qos;
