@@ -3,6 +3,7 @@
 ghost use Rattle.std.specs.Prelude.{◌≡◌, ◌<◌};
 ghost use Rattle.pcef_gateway.specs.Faults.{number_of};
 
+use pcef_lock::SharedFault;
 use thiserror::Error;
 
 /// Why a run of a session came to no end. The session is then given up.
@@ -75,6 +76,17 @@ impl Failure {
             Failure::Thread => RunFault::Thread,
             Failure::Gather => RunFault::Gather,
             Failure::NoMemory => RunFault::NoMemory,
+        }
+    }
+}
+
+impl From<SharedFault> for Failure {
+    ghost from_gives = { λ _ _. ⊤ };
+
+    fn from(fault: SharedFault) -> Failure {
+        match fault {
+            SharedFault::NoMemory => Failure::NoMemory,
+            SharedFault::Places | SharedFault::ReaderRefused => Failure::Shared,
         }
     }
 }

@@ -25,9 +25,9 @@ use crate::lent::Lent;
 use crate::line::Line;
 use pcef_catalog::{Detects, Offers};
 use pcef_lane::MAX_WORKERS;
-use pcef_lock::{Desk, Finished, Shared, SharedFault, State, Totals, commands_so_far, opened};
+use pcef_lock::{Desk, Finished, Shared, Totals, opened};
 use pcef_model::Command;
-use pcef_publish::{Board, Opened, Slot, Writer};
+use pcef_publish::{Board, Opened, Slot};
 use pcef_session::SessionState;
 use pcef_share::{Blanks, Naming};
 use pcef_worker::{Gate, Worker};
@@ -160,7 +160,8 @@ fn run_named<
     ensures { IfOk result (λ e.
         RunsTo session.setting session.journal arrivals.now commands.items workers e) }
 {
-    let (shared, desk) = lock::<C, N, _>(rt, alloc, catalog, session, opened, blanks, workers)?;
+    let (shared, desk) =
+        Shared::<C, N, _>::open(rt, alloc, catalog, session, opened, blanks, workers)?;
     let worked = work_all(rt, alloc, &shared, desk, gate, workers, arrivals, commands)?;
     let ended = end(rt, alloc, shared, worked)?;
     Ok(ended)
@@ -172,35 +173,6 @@ struct Worked<N: Naming> {
     desk: Desk<N>,
     answers: Vec<Answer>,
     handed: Handed<N>,
-}
-
-/// Puts a session behind its lock, with a desk.
-fn lock<C: Offers + Drop, N: Naming, R: Wait + Drop>(
-    rt: R,
-    alloc: Global,
-    catalog: Arc<C>,
-    session: SessionState,
-    opened: Opened,
-    blanks: Blanks,
-    workers: u8,
-) -> Result<(Shared<C, N, Writer<N, R>>, Desk<N>), Failure>
-    requires name { N.ledger ≡ name_at blanks }
-    requires setting { session.setting ≡ N.setting }
-    requires first { N.first ≡ gen session.journal }
-    requires fresh { attach_count session.journal ≡ 0 }
-    requires offers { C.offers (arc_value catalog) ≡ session.setting.catalog }
-    requires table { Shows session.setting session.journal (gen session.journal) opened.table }
-    requires book { (opened.book ≡ N.book) × (opened.root ≡ N.root) }
-    ensures { IfOk result (λ r. r.1.commands ≡ commands_of session.journal) }
-{
-    let Ok(commands) = commands_so_far(alloc, &session) else {
-        return Err(Failure::NoMemory);
-    };
-    match State::<N, _>::open(rt, alloc, session, opened, blanks, workers) {
-        Ok((state, shares)) => Ok((Shared::new(catalog, state), Desk::new(commands, shares))),
-        Err((_, SharedFault::NoMemory)) => Err(Failure::NoMemory),
-        Err(_) => Err(Failure::Shared),
-    }
 }
 
 /// Attaches so many workers, and runs them.

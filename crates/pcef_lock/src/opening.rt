@@ -1,15 +1,20 @@
 //! Sessions that come behind a lock.
 
-ghost use Rattle.std.specs.Prelude.{◌≡◌, ◌≤◌, ◌<◌, ◌⊎◌, ◌↔◌, [], ◌∷◌, All, IfErr, IfOk, length};
+ghost use Rattle.std.specs.Prelude.{◌≡◌, ◌≤◌, ◌<◌, ◌⊎◌, ◌↔◌, [], ◌∷◌, All, IfErr, IfOk, length, reverse};
+ghost use Rattle.std.specs.Arc.{arc_value};
+ghost use Rattle.pcef_model.specs.Entries.{commands};
 ghost use Rattle.pcef_model.specs.Journals.{attach_count, gen};
 ghost use Rattle.pcef_session.specs.Answers.{ShowsNewest};
 ghost use Rattle.pcef_share.specs.Names.{name_at};
 ghost use Rattle.pcef_table.specs.Tables.{IsTable};
 ghost use Rattle.pcef_lock.specs.Desks.{desk_shares};
-ghost use Rattle.pcef_lock.specs.Opening.{IsPlacesFault};
+ghost use Rattle.pcef_lock.specs.Opening.{IsPlacesFault, LacksPlaces};
 ghost use Rattle.pcef_lock.specs.declared.opening.SharedFault.TheVariants.{Places};
 
+use crate::desk::{Desk, commands_so_far};
+use crate::shared::Shared;
 use crate::state::State;
+use pcef_catalog::Offers;
 use pcef_lane::MAX_WORKERS;
 use pcef_publish::{Opened, PublishFault, Publisher, Subscriber, Writer};
 use pcef_session::SessionState;
@@ -97,5 +102,40 @@ impl<N: Naming, R: Wait + Drop> State<N, Writer<N, R>> {
             Err(fault) => return Err((session, fault)),
         };
         Ok(State::new(alloc, session, publisher, subscribers, blanks, places))
+    }
+}
+
+impl<C: Offers + Drop, N: Naming, R: Wait + Drop> Shared<C, N, Writer<N, R>> {
+    /// Puts a session behind its lock, with so many places for workers, beside a desk that has the session's commands so
+    /// far. The conditions of the caller are those of [`State::open`], and the catalog is that of the session. Session
+    /// and opened history are lost with a fault. Takes memory. May wait for readers.
+    pub fn open(
+        rt: R,
+        alloc: Global,
+        catalog: Arc<C>,
+        session: SessionState,
+        opened: Opened,
+        blanks: Blanks,
+        places: u8,
+    ) -> Result<(Shared<C, N, Writer<N, R>>, Desk<N>), SharedFault>
+        requires name { N.ledger ≡ name_at blanks }
+        requires setting { session.setting ≡ N.setting }
+        requires first { N.first ≡ gen session.journal }
+        requires fresh { attach_count session.journal ≡ 0 }
+        requires offers { C.offers (arc_value catalog) ≡ session.setting.catalog }
+        requires table { ShowsNewest session opened.table }
+        requires book { (opened.book ≡ N.book) × (opened.root ≡ N.root) }
+        ensures commands { IfOk result (λ r. r.1.commands ≡ reverse (commands session.journal)) }
+        ensures collected { IfOk result (λ r. r.1.collected ≡ 0) }
+        ensures fault { LacksPlaces result ↔ ((places ≡ 0) ⊎ (16 < places)) }
+    {
+        let commands = commands_so_far(alloc, &session);
+        match State::open(rt, alloc, session, opened, blanks, places) {
+            Ok((state, shares)) => match commands {
+                Ok(commands) => Ok((Shared::new(catalog, state), Desk::new(commands, shares))),
+                Err(_) => Err(SharedFault::NoMemory),
+            },
+            Err((_, fault)) => Err(fault),
+        }
     }
 }

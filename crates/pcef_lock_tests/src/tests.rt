@@ -8,10 +8,10 @@ ghost use Rattle.pcef_share.specs.Names.{name_at};
 mod opening;
 
 use pcef_catalog::{Catalog, Detects, Offers};
-use pcef_lock::{Desk, Seat, Shared, State, commands_so_far, opened};
+use pcef_lock::{Desk, Seat, Shared, State, opened};
 use pcef_model::{Body, Command};
 use pcef_packet::Header;
-use pcef_publish::{Board, Opened, Slot, Writer};
+use pcef_publish::{Board, Opened, Slot};
 use pcef_session::{Batch, SessionState};
 use pcef_share::{Blanks, Naming, Shares};
 use pcef_test_sessions::{monitor, packet, packet_from, session, vid, web};
@@ -180,32 +180,9 @@ fn told_to_the_desk<C: Detects + Drop, N: Naming, R: Wait + Drop>(
     requires table { Shows session.setting session.journal (gen session.journal) opened.table }
     requires book { (opened.book ≡ N.book) × (opened.root ≡ N.root) }
 {
-    let (shared, mut desk) = locked::<C, N, _>(rt, alloc, catalog, session, opened, blanks)?;
+    let (shared, mut desk) =
+        Shared::<C, N, _>::open(rt, alloc, catalog, session, opened, blanks, 2)?;
     told_by(rt, alloc, &shared, &mut desk)
-}
-
-// A session behind its lock, with places for two workers, and its desk.
-fn locked<C: Offers + Drop, N: Naming, R: Wait + Drop>(
-    rt: R,
-    alloc: Global,
-    catalog: Arc<C>,
-    session: SessionState,
-    opened: Opened,
-    blanks: Blanks,
-) -> Result<(Shared<C, N, Writer<N, R>>, Desk<N>), Fail>
-    requires name { N.ledger ≡ name_at blanks }
-    requires setting { session.setting ≡ N.setting }
-    requires fresh { session.journal ≡ [] }
-    requires offers { C.offers (arc_value catalog) ≡ session.setting.catalog }
-    requires first { N.first ≡ gen session.journal }
-    requires table { Shows session.setting session.journal (gen session.journal) opened.table }
-    requires book { (opened.book ≡ N.book) × (opened.root ≡ N.root) }
-{
-    let commands = commands_so_far(alloc, &session)?;
-    match State::<N, _>::open(rt, alloc, session, opened, blanks, 2) {
-        Ok((state, shares)) => Ok((Shared::new(catalog, state), Desk::new(commands, shares))),
-        Err(_) => Err("the session didn't come behind a lock")?,
-    }
 }
 
 fn told_by<C: Detects + Drop, N: Naming, W: Board<Slot<N>> + Drop, R: Wait>(

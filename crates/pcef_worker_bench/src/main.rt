@@ -25,9 +25,9 @@ ghost use Rattle.pcef_model.specs.Journals.{gen};
 ghost use Rattle.pcef_session.specs.Shown.{Shows};
 ghost use Rattle.pcef_share.specs.Names.{name_at};
 
-use opening::{give_commands, locked, packets, session};
+use opening::{give_commands, packets, session};
 use pcef_catalog::{Catalog, Detects};
-use pcef_lock::opened;
+use pcef_lock::{Shared, opened};
 use pcef_publish::Opened;
 use pcef_session::SessionState;
 use pcef_share::{Blanks, Naming};
@@ -158,15 +158,8 @@ fn behind_its_lock<
     requires book { (opened.book ≡ N.book) × (opened.root ≡ N.root) }
 {
     let packets = packets(alloc, load)?;
-    let (shared, mut desk) = locked::<C, N, _>(
-        rt,
-        alloc,
-        catalog,
-        session,
-        opened,
-        blanks,
-        load.workers,
-    )?;
+    let (shared, mut desk) =
+        Shared::<C, N, _>::open(rt, alloc, catalog, session, opened, blanks, load.workers).ok()?;
     give_commands(rt, alloc, &shared, &mut desk, load)?;
     outcome_of(rt, clock, alloc, shared, desk, packets.as_slice(), load)
 }

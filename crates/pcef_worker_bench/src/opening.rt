@@ -1,23 +1,19 @@
 //! A session with its rules, and the packets that its workers judge.
 
 ghost use Rattle.std.specs.Prelude.{◌≡◌, [], IfSome};
-ghost use Rattle.std.specs.Arc.{arc_value};
-ghost use Rattle.pcef_model.specs.Journals.{gen};
-ghost use Rattle.pcef_session.specs.Shown.{Shows};
-ghost use Rattle.pcef_share.specs.Names.{name_at};
 
 use crate::Load;
 use pcef_catalog::{Listing, Offers};
 use pcef_filter::read_filter;
-use pcef_lock::{Desk, Shared, State, commands_so_far};
+use pcef_lock::{Desk, Shared};
 use pcef_model::{Command, Profile};
 use pcef_packet::{Addr, Dir, Header, Ports};
-use pcef_publish::{Board, Opened, Slot, Writer};
+use pcef_publish::{Board, Slot};
 use pcef_rule::{Arp, Gate, KeyName, Properties, Qci, QciTable, Qos, Rule, RuleName, Sums};
 use pcef_session::{MAX_WAITING, SessionState};
-use pcef_share::{Blanks, Naming};
+use pcef_share::Naming;
 use std::alloc::Global;
-use std::sync::{Arc, Wait};
+use std::sync::Wait;
 
 /// How many packets there are: those of 32 batches.
 const PACKETS: u32 = 1024;
@@ -114,33 +110,6 @@ pub fn packets(alloc: Global, load: Load) -> Option<Vec<Header>> {
 pub fn packets_of(packets: &[Header], batch: u32) -> &[Header] {
     let from = (batch % 32) as usize * MAX_WAITING;
     packets.get(from..from + MAX_WAITING).unwrap_or(&[])
-}
-
-/// A session behind its lock, with so many places for workers, and its desk.
-pub fn locked<C: Offers + Drop, N: Naming, R: Wait + Drop>(
-    rt: R,
-    alloc: Global,
-    catalog: Arc<C>,
-    session: SessionState,
-    opened: Opened,
-    blanks: Blanks,
-    places: u8,
-) -> Option<(Shared<C, N, Writer<N, R>>, Desk<N>)>
-    requires name { N.ledger ≡ name_at blanks }
-    requires setting { session.setting ≡ N.setting }
-    requires fresh { session.journal ≡ [] }
-    requires offers { C.offers (arc_value catalog) ≡ session.setting.catalog }
-    requires first { N.first ≡ gen session.journal }
-    requires table { Shows session.setting session.journal (gen session.journal) opened.table }
-    requires book { (opened.book ≡ N.book) × (opened.root ≡ N.root) }
-{
-    let Ok(commands) = commands_so_far(alloc, &session) else {
-        return None;
-    };
-    match State::<N, _>::open(rt, alloc, session, opened, blanks, places) {
-        Ok((state, shares)) => Some((Shared::new(catalog, state), Desk::new(commands, shares))),
-        Err(_) => None,
-    }
 }
 
 /// The desk installs the rules and monitors their key.

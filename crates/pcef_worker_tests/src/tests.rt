@@ -17,9 +17,9 @@ mod threads;
 
 use beginnings::Beginning;
 use pcef_catalog::{Catalog, Detects, Offers};
-use pcef_lock::{Desk, Shared, State, commands_so_far, opened};
+use pcef_lock::{Desk, Shared, opened};
 use pcef_model::{Body, Command};
-use pcef_publish::{Board, Opened, Slot, Writer};
+use pcef_publish::{Board, Opened, Slot};
 use pcef_rule::RuleName;
 use pcef_session::{Item, SessionState};
 use pcef_share::{Blanks, Naming};
@@ -102,9 +102,9 @@ fn tell_behind_its_lock<
     requires book { (opened.book ≡ N.book) × (opened.root ≡ N.root) }
 {
     let places = places(story);
-    match locked::<C, N, _>(rt, alloc, catalog, session, opened, blanks, places) {
+    match Shared::<C, N, _>::open(rt, alloc, catalog, session, opened, blanks, places) {
         Ok((shared, mut desk)) => told_by(rt, alloc, &shared, &mut desk, story),
-        Err(fault) => Err(fault),
+        Err(fault) => Err(fault)?,
     }
 }
 
@@ -133,31 +133,6 @@ fn told_by<
         Story::NoMemory => memory::no_memory(rt, alloc, shared),
         Story::Crowded => crowded::crowded(rt, alloc, shared, desk),
         Story::Begins(_) => Err("it has begun")?,
-    }
-}
-
-// A session behind its lock, with places for so many workers, and its desk.
-fn locked<C: Offers + Drop, N: Naming, R: Wait + Drop>(
-    rt: R,
-    alloc: Global,
-    catalog: Arc<C>,
-    session: SessionState,
-    opened: Opened,
-    blanks: Blanks,
-    places: u8,
-) -> Result<(Shared<C, N, Writer<N, R>>, Desk<N>), Fail>
-    requires name { N.ledger ≡ name_at blanks }
-    requires setting { session.setting ≡ N.setting }
-    requires fresh { session.journal ≡ [] }
-    requires offers { C.offers (arc_value catalog) ≡ session.setting.catalog }
-    requires first { N.first ≡ gen session.journal }
-    requires table { Shows session.setting session.journal (gen session.journal) opened.table }
-    requires book { (opened.book ≡ N.book) × (opened.root ≡ N.root) }
-{
-    let commands = commands_so_far(alloc, &session)?;
-    match State::<N, _>::open(rt, alloc, session, opened, blanks, places) {
-        Ok((state, shares)) => Ok((Shared::new(catalog, state), Desk::new(commands, shares))),
-        Err(_) => Err("the session didn't come behind a lock")?,
     }
 }
 

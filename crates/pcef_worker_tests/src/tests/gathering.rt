@@ -54,7 +54,8 @@ fn tell_of<C: Detects + Drop + Send + Sync, N: Naming + Send + Sync, R: Threads 
     requires table { Shows session.setting session.journal (gen session.journal) opened.table }
     requires book { (opened.book ≡ N.book) × (opened.root ≡ N.root) }
 {
-    let (shared, mut desk) = locked::<C, N, _>(rt, alloc, catalog, session, opened, blanks, 2)?;
+    let (shared, mut desk) =
+        Shared::<C, N, _>::open(rt, alloc, catalog, session, opened, blanks, 2)?;
     give_commands(rt, alloc, &shared, &mut desk)?;
     match story {
         GatheredStory::TwoWorkers => gathered(rt, alloc, shared, desk),

@@ -23,5 +23,5 @@ returns g c =
     let hand_in : HandInArrivals c.args.workers c.args.arrivals.now worked.handed.dropped handed = c.in_ok-worked.ensures.handed in
     runs_to p before c.args.arrivals.now c.args.commands.items listed _ c.args.workers worked.handed.dropped handed ended
     add_up hand_in c.in_ok-ended.ensures.lawful c.in_ok-ended.ensures.rest.0 (search rules)
-    (subst (λ (v : Vec (Result Accepted Refusal) Global). All FoundMemory v.items) (sym c.in_ok-ended.ensures.rest.1) c.in_ok-worked.ensures.memory) c.in_ok-shared.ensures
+    (subst (λ (v : Vec (Result Accepted Refusal) Global). All FoundMemory v.items) (sym c.in_ok-ended.ensures.rest.1) c.in_ok-worked.ensures.memory) c.in_ok-shared.ensures.commands
     (rw (sym c.in_ok-ended.ensures.rest.1) at c.in_ok-worked.ensures.desk) c.in_ok-ended.ensures.reports
