@@ -46,7 +46,7 @@ fn judged_after<C: Detects>(
     judged(alloc, catalog, &table)
 }
 
-/// What is expected of both: the rule that passes the packet, with its bearer, if there is one.
+/// The two verdicts where both are that this rule passes the packet, on this bearer, or that none does.
 fn both(rule: Option<(&str, u8)>) -> Option<[Verdict; 2]> {
     match rule {
         Some((rule, bearer)) => {

@@ -60,6 +60,7 @@ fn are_decided<C: Detects>(rt: &impl Abort, alloc: Global, catalog: &C, rows: &[
     }
 }
 
+/// Without predefined rules.
 const DECIDED: [Row; 6] = [
     ("no rule", &[], Want::Unmatched),
     (
@@ -272,7 +273,7 @@ fn counting<C: Offers>(catalog: &C, table: &Table, slot: Slot, on: bool) -> Opti
     }
 }
 
-// By its name the predefined rule would go first.
+/// With a predefined rule `a`, which would go first by its name.
 const DECIDED_BESIDE_A: [Row; 3] = [
     ("it is alone", &[Step::Activate], Want::Passed("a", 6)),
     (
