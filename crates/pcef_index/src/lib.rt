@@ -13,6 +13,3 @@ mod sieve;
 
 pub use index::Index;
 pub use indexed::Indexed;
-
-#[cfg(test)]
-mod tests;

@@ -10,6 +10,3 @@ mod table;
 pub use deciding::{gate_verdict, is_own};
 pub use entry::{Entry, Source};
 pub use table::{MAX_ENTRIES, Table};
-
-#[cfg(test)]
-mod tests;

@@ -11,6 +11,3 @@ pub use kind::ReportKind;
 pub use laws::deliveries_join;
 pub use outlet::{Delivered, Outlet, SameKind};
 pub use reporter::{Answer, Reporter};
-
-#[cfg(test)]
-mod tests;

@@ -1,6 +1,6 @@
 use Rattle.std.proofs.Common.{arith}
 use Rattle.pcef_table.proofs.Ordered.{has_room}
-use Rattle.pcef_index.proofs.tests.with_entry.Goals as goal
+use Rattle.pcef_table_tests.proofs.tests.tables.with_entry.Goals as goal
 
 pub with-requires-clause-room : goal.with-requires-clause-room
 with-requires-clause-room g c =

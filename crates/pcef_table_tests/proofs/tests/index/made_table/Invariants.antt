@@ -1,5 +1,5 @@
 use Rattle.pcef_table.specs.Tables.{IsTable}
-use Rattle.pcef_index.proofs.tests.made_table.Given as goal
+use Rattle.pcef_table_tests.proofs.tests.index.made_table.Given as goal
 
 abbrev pub invariant-loop-number : goal.invariant-loop-number
 invariant-loop-number g l = IsTable (g.C.Offers.offers l.catalog) l.table.entries
