@@ -1,0 +1,5 @@
+//! Tests of each crate, in a module of its name.
+
+mod filter;
+mod packet;
+mod rule;
