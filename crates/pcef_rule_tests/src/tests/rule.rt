@@ -383,25 +383,35 @@ fn ranked(name: RuleName, precedence: u32) -> Properties {
 }
 
 #[test]
-fn precedence_goes_first(rt: HostRuntime) {
-    let early = ranked(RuleName::known("z"), 10);
-    let late = ranked(RuleName::known("a"), 11);
-    let answers = [
-        comes_before((&early, Origin::Predefined), (&late, Origin::Dynamic)),
-        comes_before((&late, Origin::Dynamic), (&early, Origin::Predefined)),
-    ];
-    assert_eq!(rt; answers, [true, false]);
+fn precedence_then_origin_then_name(rt: HostRuntime) {
+    assert_eq!(rt;
+        (by_precedence(), at_equal_precedence(), with_itself()),
+        ([true, false], [true, true, false], Ordering::Equal)
+    );
 }
 
-#[test]
-fn origin_and_name_break_a_tie(rt: HostRuntime) {
+/// Whether the lower value comes before the higher one, and the other way round.
+fn by_precedence() -> [bool; 2] {
+    let early = ranked(RuleName::known("z"), 10);
+    let late = ranked(RuleName::known("a"), 11);
+    [
+        comes_before((&early, Origin::Predefined), (&late, Origin::Dynamic)),
+        comes_before((&late, Origin::Dynamic), (&early, Origin::Predefined)),
+    ]
+}
+
+/// Whether a dynamic rule comes before a predefined one, the first name before the second, and a rule before itself.
+fn at_equal_precedence() -> [bool; 3] {
     let a = ranked(RuleName::known("a"), 10);
     let b = ranked(RuleName::known("b"), 10);
-    let answers = [
+    [
         comes_before((&b, Origin::Dynamic), (&a, Origin::Predefined)),
         comes_before((&a, Origin::Predefined), (&b, Origin::Predefined)),
         comes_before((&a, Origin::Dynamic), (&a, Origin::Dynamic)),
-    ];
-    let same = compare_rules(&a, Origin::Dynamic, &a, Origin::Dynamic);
-    assert_eq!(rt; (answers, same), ([true, true, false], Ordering::Equal));
+    ]
+}
+
+fn with_itself() -> Ordering {
+    let a = ranked(RuleName::known("a"), 10);
+    compare_rules(&a, Origin::Dynamic, &a, Origin::Dynamic)
 }
