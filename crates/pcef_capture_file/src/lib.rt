@@ -29,6 +29,3 @@ pub use link::Link;
 pub use packet::{Capture, Packet};
 pub use padding::padded;
 pub use pcapng::read_pcapng;
-
-#[cfg(test)]
-mod tests;

@@ -11,6 +11,3 @@ pub use catalog::{Catalog, CatalogFault, Detects, Offers};
 pub use listing::{Listing, MAX_OFFERS, Offer};
 pub use predefined::{Detect, Predefined};
 pub use shape::{Alternative, Shape, Test};
-
-#[cfg(test)]
-mod tests;

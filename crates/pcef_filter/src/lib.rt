@@ -17,6 +17,3 @@ pub use filter::{Direction, Endpoint, Filter, FilterFault, Flow, Net, Place, Por
 pub use laws::one_fault;
 pub use matching::any_matches;
 pub use reading::read_filter;
-
-#[cfg(test)]
-mod tests;

@@ -8,6 +8,3 @@ mod reading;
 
 pub use header::{Addr, Dir, Header, PacketFault, Ports};
 pub use reading::read_header;
-
-#[cfg(test)]
-mod tests;

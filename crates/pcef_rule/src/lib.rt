@@ -16,6 +16,3 @@ pub use priority::{Arp, ArpFault};
 pub use qci::{Kind, Qci, QciFault, QciTable};
 pub use quantity::{BearerId, Qos, Rates, Slot, Sums};
 pub use rule::{MAX_FILTERS, Origin, Properties, Rule, RuleFault, comes_before, compare_rules};
-
-#[cfg(test)]
-mod tests;

@@ -1,4 +1,5 @@
 //! Files made by hand from the published formats.
+
 mod classic;
 mod frames;
 mod packets;

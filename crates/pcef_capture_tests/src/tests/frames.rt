@@ -1,0 +1,112 @@
+//! Frames of every link, with and without IPv4 in them.
+use pcef_capture_file::{Endianness, Link, Packet, ipv4_of};
+
+/// How many octets stand behind the link header, and the first.
+type Inside = (usize, Option<u8>);
+
+/// What stands behind the link header, where this is IPv4.
+fn inside(link: Link, endianness: Endianness, octets: &[u8]) -> Option<Inside> {
+    let packet = Packet {
+        link,
+        endianness,
+        original: 0,
+        octets,
+    };
+    match ipv4_of(&packet) {
+        Some(ipv4) => Some((ipv4.len(), ipv4.first().copied())),
+        None => None,
+    }
+}
+
+const IPV4: [u8; 2] = [0x45, 0x01];
+
+/// What is told of [`IPV4`].
+const TOLD: Option<Inside> = Some((2, Some(0x45)));
+
+fn ethernet(octets: &[u8]) -> Option<Inside> {
+    inside(Link::Ethernet, Endianness::Little, octets)
+}
+
+const PLAIN: [u8; 16] = [1, 2, 3, 4, 5, 6, 7, 8, 9, 10, 11, 12, 8, 0, 0x45, 1];
+
+const ONE_TAG: [u8; 20] = [
+    1, 2, 3, 4, 5, 6, 7, 8, 9, 10, 11, 12, 0x81, 0, 0, 5, 8, 0, 0x45, 1,
+];
+
+const TWO_TAGS: [u8; 24] = [
+    1, 2, 3, 4, 5, 6, 7, 8, 9, 10, 11, 12, 0x88, 0xa8, 0, 7, 0x81, 0, 0, 5, 8, 0, 0x45, 1,
+];
+
+const OLD_TAG: [u8; 20] = [
+    1, 2, 3, 4, 5, 6, 7, 8, 9, 10, 11, 12, 0x91, 0, 0, 7, 8, 0, 0x45, 1,
+];
+
+const THREE_TAGS: [u8; 28] = [
+    1, 2, 3, 4, 5, 6, 7, 8, 9, 10, 11, 12, 0x81, 0, 0, 7, 0x81, 0, 0, 5, 0x81, 0, 0, 5, 8, 0, 0x45,
+    1,
+];
+
+const OTHER_TYPE: [u8; 16] = [1, 2, 3, 4, 5, 6, 7, 8, 9, 10, 11, 12, 8, 6, 0x45, 1];
+
+#[test]
+fn ethernet_with_and_without_tags(rt: HostRuntime) {
+    let told = [
+        ethernet(&PLAIN),
+        ethernet(&ONE_TAG),
+        ethernet(&TWO_TAGS),
+        ethernet(&OLD_TAG),
+        ethernet(&THREE_TAGS),
+        ethernet(&OTHER_TYPE),
+    ];
+    assert_eq!(rt; told, [TOLD, TOLD, TOLD, TOLD, None, None]);
+}
+
+#[test]
+fn cut_ethernet_headers(rt: HostRuntime) {
+    let told = [
+        ethernet(&PLAIN[..13]),
+        ethernet(&PLAIN[..14]),
+        ethernet(&ONE_TAG[..17]),
+    ];
+    assert_eq!(rt; told, [None, Some((0, None)), None]);
+}
+
+#[test]
+fn raw_and_loopback(rt: HostRuntime) {
+    let big = [0, 0, 0, 2, 0x45, 1];
+    let little = [2, 0, 0, 0, 0x45, 1];
+    let told = [
+        inside(Link::Raw, Endianness::Big, &IPV4),
+        inside(Link::Null, Endianness::Big, &big),
+        inside(Link::Null, Endianness::Big, &little),
+        inside(Link::Null, Endianness::Little, &little),
+        inside(Link::Loop, Endianness::Little, &big),
+        inside(Link::Loop, Endianness::Little, &little),
+        inside(Link::Null, Endianness::Big, &big[..3]),
+    ];
+    assert_eq!(rt; told, [TOLD, TOLD, None, TOLD, TOLD, None, None]);
+}
+
+const COOKED: [u8; 18] = [0, 0, 0, 1, 0, 6, 1, 2, 3, 4, 5, 6, 0, 0, 8, 0, 0x45, 1];
+
+const COOKED_AND_TAGGED: [u8; 22] = [
+    0, 0, 0, 1, 0, 6, 1, 2, 3, 4, 5, 6, 0, 0, 0x81, 0, 0, 5, 8, 0, 0x45, 1,
+];
+
+const COOKED_2: [u8; 22] = [
+    8, 0, 0, 0, 0, 0, 0, 3, 0, 1, 0, 6, 1, 2, 3, 4, 5, 6, 0, 0, 0x45, 1,
+];
+
+#[test]
+fn linux_cooked(rt: HostRuntime) {
+    let order = Endianness::Little;
+    let told = [
+        inside(Link::LinuxCooked, order, &COOKED),
+        inside(Link::LinuxCooked, order, &COOKED_AND_TAGGED),
+        inside(Link::LinuxCooked, order, &COOKED_2),
+        inside(Link::LinuxCooked2, order, &COOKED_2),
+        inside(Link::LinuxCooked2, order, &COOKED_2[..19]),
+        inside(Link::LinuxCooked2, order, &COOKED),
+    ];
+    assert_eq!(rt; told, [TOLD, TOLD, None, TOLD, None, None]);
+}

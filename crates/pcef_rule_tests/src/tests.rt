@@ -1,0 +1,6 @@
+//! Tests of each crate, in a module of its name.
+
+mod catalog;
+mod filter;
+mod packet;
+mod rule;

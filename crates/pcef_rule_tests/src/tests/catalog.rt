@@ -1,0 +1,410 @@
+//! Small catalogs and shapes, whose answers were worked out by hand.
+ghost use Rattle.std.specs.Prelude.{◌≡◌, [], ◌∷◌};
+ghost use Rattle.pcef_catalog.specs.Shapes.{test_holds};
+ghost use Rattle.pcef_catalog.specs.declared.shape.Test.TheVariants.{Dscp, Proto};
+
+use arrayvec::ArrayVec;
+use pcef_catalog::{
+    Alternative, Catalog, CatalogFault, Detect, Detects, Listing, Offer, Offers, Predefined, Shape,
+    Test,
+};
+use pcef_filter::Net;
+use pcef_packet::{Addr, Dir, Header, Ports};
+use pcef_rule::{Arp, Gate, Properties, Qci, Qos, RuleName};
+use std::alloc::Global;
+use std::sync::Arc;
+use std::sync::atomic::{AtomicU64, Ordering};
+
+/// A UDP packet of 28 octets from 198.51.100.7 port 53 to 10.0.0.2 port 5000.
+const DNS_ANSWER: Header = Header {
+    dir: Dir::Down,
+    src: Addr::V4(0xc633_6407),
+    dst: Addr::V4(0x0a00_0002),
+    proto: 17,
+    ports: Some(Ports { src: 53, dst: 5000 }),
+    octets: 28,
+    dscp: 46,
+};
+
+/// What the answer answers.
+const DNS_QUERY: Header = Header {
+    dir: Dir::Up,
+    src: Addr::V4(0x0a00_0002),
+    dst: Addr::V4(0xc633_6407),
+    ports: Some(Ports { src: 5000, dst: 53 }),
+    ..DNS_ANSWER
+};
+
+const PORTLESS_ANSWER: Header = Header {
+    ports: None,
+    ..DNS_ANSWER
+};
+
+const PLAIN_ANSWER: Header = Header {
+    dscp: 0,
+    ..DNS_ANSWER
+};
+
+const PLAIN_QUERY: Header = Header {
+    dscp: 0,
+    ..DNS_QUERY
+};
+
+/// The network 198.51.100.0/24.
+const REMOTE: Net = Net {
+    addr: Addr::V4(0xc633_6400),
+    bits: 24,
+};
+
+/// The network 10.0.0.0/8.
+const LOCAL: Net = Net {
+    addr: Addr::V4(0x0a00_0000),
+    bits: 8,
+};
+
+/// A shape of one test.
+fn one(test: Test) -> Shape
+    ensures { result ≡ (test ∷ []) ∷ [] }
+{
+    let mut tests = ArrayVec::new();
+    tests.push(test);
+    let mut alternatives = ArrayVec::new();
+    alternatives.push(Alternative { tests });
+    Shape::new(alternatives)
+}
+
+fn named(name: RuleName) -> Properties {
+    Properties {
+        name,
+        precedence: 50,
+        qos: Qos {
+            qci: Qci(9),
+            arp: Arp::known(8, false, true),
+        },
+        rates: None,
+        gate: Gate::Enabled,
+        key: None,
+    }
+}
+
+#[test]
+fn two_rules_of_one_name(rt: HostRuntime) {
+    assert_eq!(rt;
+        places_of_named(rt.alloc(), &["web", "mail", "web"]),
+        Some(Err(CatalogFault::SameName))
+    );
+}
+
+#[test]
+fn as_many_rules_as_may_be_and_one_more(rt: HostRuntime) {
+    let answers = [
+        places_of_numbered(rt.alloc(), 32),
+        places_of_numbered(rt.alloc(), 33),
+    ];
+    assert_eq!(rt;
+        answers,
+        [Some(Ok([NOWHERE; 5])), Some(Err(CatalogFault::TooMany))]
+    );
+}
+
+#[test]
+fn places_of_names(rt: HostRuntime) {
+    assert_eq!(rt;
+        places_of_named(rt.alloc(), &["web", "mail", "webmail"]),
+        Some(Ok([
+            (Some(0), Some(0)),
+            (Some(1), Some(1)),
+            (Some(2), Some(2)),
+            NOWHERE,
+            NOWHERE,
+        ]))
+    );
+}
+
+/// The place of a name in a catalog, and in the catalog's listing.
+type Place = (Option<u8>, Option<u8>);
+
+const NOWHERE: Place = (None, None);
+
+/// The places in a catalog of rules of these names.
+fn places_of_named(alloc: Global, names: &[&str]) -> Option<Result<[Place; 5], CatalogFault>> {
+    let mut rules = Vec::new(alloc);
+    for name in names {
+        rules.push(RuleName::new(name).ok()?).ok()?;
+    }
+    places_of(alloc, rules.as_slice())
+}
+
+/// The places in a catalog of so many rules.
+fn places_of_numbered(alloc: Global, count: u8) -> Option<Result<[Place; 5], CatalogFault>> {
+    let mut names = Vec::new(alloc);
+    for number in 0..count {
+        names.push(numbered(alloc, number)?).ok()?;
+    }
+    places_of(alloc, names.as_slice())
+}
+
+fn numbered(alloc: Global, number: u8) -> Option<RuleName> {
+    let text = format!(in alloc; "web{number}").ok()?;
+    RuleName::new(&text).ok()
+}
+
+fn places_of(alloc: Global, names: &[RuleName]) -> Option<Result<[Place; 5], CatalogFault>> {
+    let mut rules = Vec::new(alloc);
+    for name in names {
+        let detect: Detect = Box::new(
+            alloc,
+            |h: &Header| -> bool
+                ensures { result ≡ test_holds h.now (Proto 6) }
+            { h.proto == 6 },
+        )
+        .ok()?;
+        rules
+            .push(Predefined::new(named(name.copy()), one(Test::Proto(6)), detect))
+            .ok()?;
+    }
+    match Catalog::new(alloc, rules) {
+        Ok(catalog) => Some(Ok(places_in(&catalog))),
+        Err(fault) => Some(Err(fault)),
+    }
+}
+
+fn places_in(catalog: &Catalog) -> [Place; 5] {
+    [
+        place_in(catalog, &RuleName::known("web")),
+        place_in(catalog, &RuleName::known("mail")),
+        place_in(catalog, &RuleName::known("webmail")),
+        place_in(catalog, &RuleName::known("we")),
+        place_in(catalog, &RuleName::known("news")),
+    ]
+}
+
+fn place_in(catalog: &Catalog, name: &RuleName) -> Place {
+    (catalog.index_of(name), catalog.listing().index_of(name))
+}
+
+#[test]
+fn no_rules(rt: HostRuntime) {
+    assert_eq!(rt; told_of_no_rules(rt.alloc()), Some((0, 0, None)));
+}
+
+fn told_of_no_rules(alloc: Global) -> Option<(usize, usize, Option<u8>)> {
+    let catalog = Catalog::new(alloc, Vec::new(alloc)).ok()?;
+    told_of(&catalog)
+}
+
+/// How many offers a catalog has, how many a share of its listing has, and the place of a name.
+fn told_of(catalog: &Catalog) -> Option<(usize, usize, Option<u8>)> {
+    let shared = catalog.listing().share().ok()?;
+    Some((
+        catalog.listing().offers().len(),
+        shared.offers().len(),
+        catalog.index_of(&RuleName::known("web")),
+    ))
+}
+
+#[test]
+fn the_closure_is_called(rt: HostRuntime) {
+    assert_eq!(rt;
+        answers_and_calls(rt.alloc()),
+        Some((
+            (true, 1),
+            1,
+            [
+                (true, 2),
+                (false, 3),
+                // No rule stands at the next place.
+                (false, 3),
+            ],
+        ))
+    );
+}
+
+/// Whether a rule detects a packet, and how many calls of its closure there were then; how many when a catalog has the
+/// rule; and the answers of the catalog, each with how many calls there were then.
+fn answers_and_calls(alloc: Global) -> Option<((bool, u64), u64, [(bool, u64); 3])> {
+    let calls = Arc::new(alloc, AtomicU64::new(0)).ok()?;
+    let theirs = Arc::try_clone(&calls).ok()?;
+    let detect: Detect = Box::new(
+        alloc,
+        move |h: &Header| -> bool
+            ensures { result ≡ test_holds h.now (Dscp 46) }
+        {
+            theirs.fetch_add(1, Ordering::SeqCst);
+            h.dscp == 46
+        },
+    )
+    .ok()?;
+    let rule = Predefined::new(named(RuleName::known("voice")), one(Test::Dscp(46)), detect);
+    let by_rule = (rule.detects(&DNS_ANSWER), calls.load(Ordering::SeqCst));
+    let mut rules = Vec::new(alloc);
+    rules.push(rule).ok()?;
+    let catalog = Catalog::new(alloc, rules).ok()?;
+    Some((
+        by_rule,
+        calls.load(Ordering::SeqCst),
+        by_catalog(&catalog, &calls),
+    ))
+}
+
+fn by_catalog(catalog: &Catalog, calls: &AtomicU64) -> [(bool, u64); 3] {
+    [
+        asked(catalog, calls, 0, &DNS_ANSWER),
+        asked(catalog, calls, 0, &PLAIN_ANSWER),
+        asked(catalog, calls, 1, &DNS_ANSWER),
+    ]
+}
+
+fn asked(catalog: &Catalog, calls: &AtomicU64, index: u8, header: &Header) -> (bool, u64) {
+    (catalog.detects(index, header), calls.load(Ordering::SeqCst))
+}
+
+#[test]
+fn a_listing_has_the_shape_and_no_closure(rt: HostRuntime) {
+    assert_eq!(rt;
+        told_of_a_rule(rt.alloc()),
+        Some(([true, true, true, false], [Some([true, true, false]); 2]))
+    );
+}
+
+/// What is told of a rule, and by a listing of it.
+fn told_of_a_rule(alloc: Global) -> Option<([bool; 4], [Option<[bool; 3]>; 2])> {
+    let detect: Detect = Box::new(
+        alloc,
+        |h: &Header| -> bool
+            ensures { result ≡ test_holds h.now (Dscp 46) }
+        { h.dscp == 46 },
+    )
+    .ok()?;
+    let rule = Predefined::new(named(RuleName::known("voice")), one(Test::Dscp(46)), detect);
+    Some((told_by_rule(&rule), told_by_listing(alloc, &rule)?))
+}
+
+/// Whether a rule has its name, whether its shape holds, and whether its closure detects two packets.
+fn told_by_rule(rule: &Predefined) -> [bool; 4] {
+    [
+        rule.properties().name.as_str() == "voice",
+        rule.shape().holds(&DNS_ANSWER),
+        rule.detects(&DNS_ANSWER),
+        rule.detects(&PLAIN_ANSWER),
+    ]
+}
+
+/// What a listing of a rule tells of it, and what a share of the listing tells.
+fn told_by_listing(alloc: Global, rule: &Predefined) -> Option<[Option<[bool; 3]>; 2]> {
+    let listing = listing_of(alloc, rule)?;
+    let shared = listing.share().ok()?;
+    Some([only(listing.offers()), only(shared.listing().offers())])
+}
+
+fn listing_of(alloc: Global, rule: &Predefined) -> Option<Listing> {
+    let mut offers = Vec::new(alloc);
+    let offer = Offer {
+        properties: rule.properties().copy(),
+        shape: rule.shape().copy(),
+    };
+    offers.push(offer).ok()?;
+    Listing::new(alloc, offers).ok()
+}
+
+/// Whether the only offer has its name, and whether its shape holds for two packets.
+fn only(offers: &[Offer]) -> Option<[bool; 3]> {
+    match offers {
+        [offer] => Some([
+            offer.properties.name.as_str() == "voice",
+            offer.shape.holds(&DNS_ANSWER),
+            offer.shape.holds(&PLAIN_ANSWER),
+        ]),
+        _ => None,
+    }
+}
+
+/// Tests, and whether each is true of the answer, of the query, and of the answer without ports.
+const TESTS: [(Test, [bool; 3]); 16] = [
+    (Test::Proto(17), [true, true, true]),
+    (Test::Proto(6), [false, false, false]),
+    (Test::Dscp(46), [true, true, true]),
+    (Test::Dscp(0), [false, false, false]),
+    (Test::RemotePort(53, 53), [true, true, false]),
+    (Test::RemotePort(0, 52), [false, false, false]),
+    (Test::RemotePort(54, 65535), [false, false, false]),
+    (Test::LocalPort(5000, 5001), [true, true, false]),
+    (Test::LocalPort(4999, 5000), [true, true, false]),
+    (Test::LocalPort(53, 53), [false, false, false]),
+    (Test::RemoteIn(REMOTE), [true, true, true]),
+    (Test::RemoteIn(LOCAL), [false, false, false]),
+    (Test::OctetsAtMost(28), [true, true, true]),
+    (Test::OctetsAtMost(27), [false, false, false]),
+    (Test::Going(Dir::Down), [true, false, true]),
+    (Test::Going(Dir::Up), [false, true, false]),
+];
+
+#[test]
+fn tests_of_a_header(rt: HostRuntime) {
+    for (test, wanted) in &TESTS {
+        assert_eq!(rt; (test, answers(*test)), (test, [*wanted; 3]));
+    }
+}
+
+#[test]
+fn the_default_test(rt: HostRuntime) {
+    assert_eq!(rt; answers(Test::default()), [[false; 3]; 3]);
+}
+
+/// The answers of a test, of a shape of it and of the shape's copy, each to the three packets.
+fn answers(test: Test) -> [[bool; 3]; 3] {
+    [
+        [
+            test.holds(&DNS_ANSWER),
+            test.holds(&DNS_QUERY),
+            test.holds(&PORTLESS_ANSWER),
+        ],
+        answers_of(&one(test)),
+        answers_of(&one(test).copy()),
+    ]
+}
+
+fn answers_of(shape: &Shape) -> [bool; 3] {
+    [
+        shape.holds(&DNS_ANSWER),
+        shape.holds(&DNS_QUERY),
+        shape.holds(&PORTLESS_ANSWER),
+    ]
+}
+
+/// An alternative without tests is true of every packet, and a shape without alternatives of none.
+#[test]
+fn no_tests_and_no_alternatives(rt: HostRuntime) {
+    let mut alternatives = ArrayVec::new();
+    alternatives.push(Alternative::default());
+    let answers = [
+        Shape::new(alternatives).holds(&DNS_ANSWER),
+        Shape::new(ArrayVec::new()).holds(&DNS_ANSWER),
+    ];
+    assert_eq!(rt; answers, [true, false]);
+}
+
+/// All tests of an alternative are to be true, and one alternative is enough.
+#[test]
+fn alternatives_and_their_tests(rt: HostRuntime) {
+    let shape = downlink_or_plain();
+    let answers = [
+        shape.holds(&DNS_ANSWER),
+        shape.holds(&DNS_QUERY),
+        shape.holds(&PLAIN_QUERY),
+    ];
+    assert_eq!(rt; answers, [true, false, true]);
+}
+
+/// UDP that goes down, or a DSCP of 0.
+fn downlink_or_plain() -> Shape {
+    let mut downlink = Alternative::default();
+    downlink.tests.push(Test::Proto(17));
+    downlink.tests.push(Test::Going(Dir::Down));
+    let mut plain = Alternative::default();
+    plain.tests.push(Test::Dscp(0));
+    let mut alternatives = ArrayVec::new();
+    alternatives.push(downlink);
+    alternatives.push(plain);
+    Shape::new(alternatives)
+}
