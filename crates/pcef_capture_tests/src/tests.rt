@@ -1,0 +1,3 @@
+//! Tests of capture files and of the lines that are written for their packets.
+
+mod script;
