@@ -5,21 +5,12 @@
 //! standard error.
 #![tactic(auto)]
 
-mod counts;
-mod end;
-mod options;
-mod takes;
-mod turn;
-
 use clap::{Error, error};
-use counts::Counts;
-use end::End;
-use options::{Options, asked};
 use pcef_capture_file::{Capture, CaptureFault, read_capture};
+use pcef_capture_script::{Counts, End, Options, asked, write_takes};
 use std::io::{self, BufWriter, ErrorKind, Write};
 use std::process::ExitCode;
 use std::{env, fs};
-use takes::write_takes;
 
 /// Where an error of the system ends the program.
 fn end_of(error: io::Error, other: End) -> End {
@@ -157,6 +148,3 @@ fn status(rt: &HostRuntime) -> u8 {
 fn main(rt: HostRuntime) -> ExitCode {
     ExitCode::from(status(&rt))
 }
-
-#[cfg(test)]
-mod tests;

@@ -1,4 +1,5 @@
-//! Tests of capture files. They stand above the crate that reads these, so that no gate proves it once more for its tests.
+//! Tests of capture files, and of the lines that are written for their packets. They stand above the crates that these are
+//! of, so that no gate proves those once more for their tests.
 #![tactic(auto)]
 
 #[cfg(test)]

@@ -1,6 +1,0 @@
-use Rattle.pcef_capture.specs.Lines.{take_line}
-use Rattle.pcef_capture.proofs.takes.write_line.Goals as goal
-
-pub returns : goal.returns
-unfolding take_line
-returns g c = rw (← c.word-dir.ensures, ← c.in_ok-packet.ensures) c.writeln.ensures.bytes

@@ -1,0 +1,54 @@
+-- What the program is asked for. How words are matched with options is clap's (`matches_of`, `takes`), and so
+-- is which words are right; what the options mean is own choice.
+use Rattle.std.specs.Prelude.{◌≡◌, pos, true, false, List, [], ◌∷◌, Option, Some, codes}
+use Rattle.std.specs.Str.Parse.{digits_value, without_leading_plus}
+use Rattle.std.specs.Net.Addr.{ipv4_bits}
+use Rattle.std.specs.Net.Grammar.{IsIpv4Text}
+use Rattle.std.specs.declared.net.ipv4_addr.Ipv4Addr.{Ipv4Addr}
+use Rattle.clap.specs.Words.{App, Rule, Text, first_of, matches_of, new_app, new_rule, one_of, with_rule}
+use Rattle.clap.specs.declared.builder.action.ArgAction.TheVariants.{Set, SetTrue}
+use Rattle.clap.specs.declared.builder.value_parser.ValueParser.TheVariants.{Signed}
+use Rattle.pcef_packet.specs.declared.header.Addr.TheVariants.{V4}
+use Rattle.pcef_capture_script.specs.declared.options.Options.{Options}
+
+-- ---- the options: --ue ADDRESS, --workers N from 1 to 16, --pad; and FILE
+abbrev pub ue_rule : Rule
+ue_rule = record (new_rule (codes "ue")) { long = Some (codes "ue"); value_names = 1; required = true; action = Some Set }
+
+abbrev pub workers_rule : Rule
+workers_rule = record (new_rule (codes "workers")) {
+  long = Some (codes "workers");
+  value_names = 1;
+  action = Some Set;
+  parser = Some (Signed (pos 1) (pos 16));
+  defaults = codes "1" ∷ [];
+}
+
+abbrev pub pad_rule : Rule
+pad_rule = record (new_rule (codes "pad")) { long = Some (codes "pad"); action = Some SetTrue }
+
+abbrev pub file_rule : Rule
+file_rule = record (new_rule (codes "file")) { value_names = 1; required = true; action = Some Set }
+
+abbrev pub command_line : App
+command_line = with_rule (with_rule (with_rule (with_rule (new_app (codes "pcef_capture")) ue_rule) workers_rule) pad_rule) file_rule
+
+-- ---- what right words ask for
+-- the value of an option in the words
+abbrev pub given : List Text → Text → Option Text
+given words name = one_of name (matches_of command_line words)
+
+-- the address is the one that is written, and so is the number of workers; packets are padded where that is
+-- asked for; the file is the one that is named
+pub record Asks (words : List Text) (o : Options) : Type 0 where
+  pub address_text : Text
+  pub address : Ipv4Addr
+  pub ue_given : given words (codes "ue") ≡ Some address_text
+  pub ue_written : IsIpv4Text address_text address
+  pub ue : o.ue ≡ V4 (ipv4_bits address)
+  pub workers_text : Text
+  pub workers_given : given words (codes "workers") ≡ Some workers_text
+  pub workers : o.workers ≡ digits_value 10 (without_leading_plus workers_text)
+  pub pads : given words (codes "pad") ≡ Some (codes "true") → o.pads ≡ true
+  pub pads_not : given words (codes "pad") ≡ Some (codes "false") → o.pads ≡ false
+  pub file : first_of (codes "file") (matches_of command_line words) ≡ Some o.file.now

@@ -1,0 +1,20 @@
+-- What is written for the frames of a file.
+use Rattle.std.specs.Prelude.{◌≡◌, ℕ, Bool, List, Option}
+use Rattle.std.specs.Io.KnownBytes.{Appends}
+use Rattle.pcef_packet.specs.declared.header.Addr.{Addr}
+use Rattle.pcef_capture_file.specs.Captured.{Captured}
+use Rattle.pcef_capture_script.specs.Counting.{counts_of}
+use Rattle.pcef_capture_script.specs.Fates.{AreFates, Fate, items_of, outcomes_of}
+use Rattle.pcef_capture_script.specs.Scripts.{script_of}
+use Rattle.pcef_capture_script.specs.declared.counts.Counts.{Counts}
+use Rattle.pcef_writing.specs.Writing.{AppendsFront}
+
+-- the script for the packets that have a line, in the order of the frames; and every frame is counted
+abbrev pub WritesTakes : Addr → Bool → ℕ → List Captured → Option (List ℕ) → Option (List ℕ) → Counts → Type 0
+WritesTakes ue pads workers frames old new counts =
+    (fates : List Fate) × AreFates ue pads frames fates × Appends old new (script_of workers (items_of fates)) × (counts ≡ counts_of (outcomes_of fates))
+
+-- a front of the script for the packets that have a line
+abbrev pub WritesFront : Addr → Bool → ℕ → List Captured → Option (List ℕ) → Option (List ℕ) → Type 0
+WritesFront ue pads workers frames old new =
+    (fates : List Fate) × AreFates ue pads frames fates × AppendsFront old new (script_of workers (items_of fates))

@@ -1,0 +1,47 @@
+//! What became of packets.
+
+ghost use Rattle.std.specs.Prelude.{◌≡◌};
+ghost use Rattle.pcef_capture_script.specs.Counting.{counted};
+
+/// What became of a frame.
+#[derive(Clone, Copy, Debug, PartialEq, Eq)]
+pub enum Outcome {
+    /// Its packet has a line.
+    Taken,
+    /// It has no packet of version 4, or one whose header is wrong.
+    NotIpv4,
+    /// It was recorded in part, and its packet is left out.
+    Cut,
+    /// The session's address is on neither side of its packet.
+    Neither,
+}
+
+/// How many frames came to what. None of the numbers goes beyond 2 ^ 64 - 1.
+#[derive(Clone, Copy, Debug, Default, PartialEq, Eq)]
+pub struct Counts {
+    /// All that were read.
+    pub read: u64,
+    /// Those of [`Outcome::Taken`].
+    pub taken: u64,
+    /// Those of [`Outcome::NotIpv4`].
+    pub not_ipv4: u64,
+    /// Those of [`Outcome::Cut`].
+    pub cut: u64,
+    /// Those of [`Outcome::Neither`].
+    pub neither: u64,
+}
+
+impl Counts {
+    /// Counts one frame more.
+    pub fn count(&mut self, outcome: Outcome)
+        ensures { self.new ≡ counted outcome self.old }
+    {
+        self.read = self.read.saturating_add(1);
+        match outcome {
+            Outcome::Taken => self.taken = self.taken.saturating_add(1),
+            Outcome::NotIpv4 => self.not_ipv4 = self.not_ipv4.saturating_add(1),
+            Outcome::Cut => self.cut = self.cut.saturating_add(1),
+            Outcome::Neither => self.neither = self.neither.saturating_add(1),
+        }
+    }
+}

@@ -1,0 +1,206 @@
+//! Lines for packets.
+
+ghost use Rattle.std.specs.Prelude.{◌≡◌, IfOk, OnErr, OnOk, codes, map, string_bytes};
+ghost use Rattle.std.specs.Io.KnownBytes.{Appends};
+ghost use Rattle.pcef_capture_file.specs.Captured.{captured};
+ghost use Rattle.pcef_capture_script.specs.declared.counts.Outcome.TheVariants.{Taken};
+ghost use Rattle.pcef_capture_file.specs.Directions.{direction_in};
+ghost use Rattle.pcef_capture_file.specs.Padding.{padded};
+ghost use Rattle.pcef_capture_script.specs.Fates.{filled_fate};
+ghost use Rattle.pcef_capture_script.specs.Lines.{dir_word, flush_line, take_line};
+ghost use Rattle.pcef_capture_script.specs.Turns.{flush_if, lines_at, rest_flush, taken_after, WroteFate, WroteFrame, WroteFrameFront};
+ghost use Rattle.pcef_capture_script.specs.Writing.{WritesFront, WritesTakes};
+ghost use Rattle.pcef_writing.specs.Writing.{AppendsFront};
+
+use crate::counts::{Counts, Outcome};
+use crate::options::Options;
+use crate::turn::Turn;
+use pcef_capture_file::{Content, Packet, content_of, direction_of, padded};
+use pcef_packet::{Addr, Dir};
+use pcef_writing::put_all;
+use std::alloc::Global;
+use std::io::{self, Write};
+
+/// The word for a direction.
+fn word(dir: Dir) -> &'static str
+    ensures { result.now ≡ dir_word dir }
+{
+    match dir {
+        Dir::Up => "up",
+        Dir::Down => "down",
+    }
+}
+
+/// Writes the line of a flush.
+#[tactic(auto, unfolding(crate::specs::Lines::flush_line))]
+fn write_flush<W: Write>(writer: &mut W, worker: u8) -> io::Result<()>
+    ensures { OnOk result (
+        Appends (W.contents writer.old) (W.contents writer.new) (flush_line worker)) }
+{
+    writeln!(writer, "{{\"do\":\"flush\",\"worker\":{worker}}}")
+}
+
+/// Writes the line of a flush, if a worker is to flush.
+fn write_full<W: Write>(writer: &mut W, full: Option<u8>) -> io::Result<()>
+    ensures { OnOk result (
+        Appends (W.contents writer.old) (W.contents writer.new) (flush_if full)) }
+{
+    match full {
+        Some(worker) => write_flush(writer, worker),
+        None => Ok(()),
+    }
+}
+
+/// Writes the line of a packet.
+#[tactic(auto, unfolding(crate::specs::Lines::take_line))]
+fn write_line<W: Write>(
+    alloc: Global,
+    writer: &mut W,
+    worker: u8,
+    dir: Dir,
+    octets: &[u8],
+) -> io::Result<()>
+    ensures { OnOk result (Appends (W.contents writer.old) (W.contents writer.new)
+        (take_line worker (dir, octets.now))) }
+{
+    let packet = hex::encode(alloc, octets)?;
+    let dir = word(dir);
+    writeln!(
+        writer,
+        "{{\"do\":\"take\",\"worker\":{worker},\"dir\":\"{dir}\",\"packet\":\"{packet}\"}}"
+    )
+}
+
+/// Writes the line of a packet, and that of a flush where 32 wait.
+fn write_take<W: Write>(
+    alloc: Global,
+    writer: &mut W,
+    turn: &mut Turn,
+    dir: Dir,
+    octets: &[u8],
+) -> io::Result<Outcome>
+    ensures lines { OnOk result (Appends (W.contents writer.old) (W.contents writer.new)
+        (lines_at turn.old (dir, octets.now))) }
+    ensures turn { OnOk result (turn.new ≡ taken_after turn.old) }
+    ensures outcome { IfOk result (λ outcome. outcome ≡ Taken) }
+{
+    write_line(alloc, writer, turn.worker, dir, octets)?;
+    write_full(writer, turn.take())?;
+    Ok(Outcome::Taken)
+}
+
+/// Writes the line of a packet that was recorded in part, with zeros for the rest.
+fn write_padded<W: Write>(
+    alloc: Global,
+    writer: &mut W,
+    turn: &mut Turn,
+    ue: Addr,
+    octets: &[u8],
+) -> io::Result<Outcome>
+    ensures { IfOk result (λ outcome. WroteFate turn.old turn.new
+        (W.contents writer.old) (W.contents writer.new) outcome
+        (filled_fate (padded octets.now) (direction_in ue (padded octets.now)))) }
+{
+    let whole = padded(alloc, octets)?;
+    match direction_of(ue, &whole) {
+        Ok(Some(dir)) => write_take(alloc, writer, turn, dir, &whole),
+        Ok(None) => Ok(Outcome::Neither),
+        Err(_) => Ok(Outcome::Cut),
+    }
+}
+
+/// Writes the lines for a frame, if it has any.
+fn write_packet<W: Write>(
+    alloc: Global,
+    writer: &mut W,
+    turn: &mut Turn,
+    options: &Options<'_>,
+    packet: &Packet<'_>,
+) -> io::Result<Outcome>
+    ensures { IfOk result (λ outcome.
+        WroteFrame options.now.ue options.now.pads (captured packet.now) turn.old turn.new
+        (W.contents writer.old) (W.contents writer.new) outcome) }
+{
+    match content_of(options.ue, packet) {
+        Content::Packet(dir, octets) => write_take(alloc, writer, turn, dir, octets),
+        Content::Cut(octets) => {
+            if options.pads {
+                write_padded(alloc, writer, turn, options.ue, octets)
+            } else {
+                Ok(Outcome::Cut)
+            }
+        }
+        Content::Neither => Ok(Outcome::Neither),
+        Content::NotIpv4 => Ok(Outcome::NotIpv4),
+    }
+}
+
+/// Writes the line of a flush where packets wait.
+fn write_rest<W: Write>(writer: &mut W, turn: &Turn) -> io::Result<()>
+    ensures { OnOk result (
+        Appends (W.contents writer.old) (W.contents writer.new) (rest_flush turn.now)) }
+{
+    if turn.waiting == 0 {
+        Ok(())
+    } else {
+        write_flush(writer, turn.worker)
+    }
+}
+
+/// Puts the lines for a frame, if it has any, or a front of them.
+fn put_packet<W: Write>(
+    alloc: Global,
+    writer: &mut W,
+    turn: &mut Turn,
+    options: &Options<'_>,
+    packet: &Packet<'_>,
+) -> io::Result<Outcome>
+    ensures lines { IfOk result (λ outcome.
+        WroteFrame options.now.ue options.now.pads (captured packet.now) turn.old turn.new
+        (W.contents writer.old) (W.contents writer.new) outcome) }
+    ensures front { OnErr result (
+        WroteFrameFront options.now.ue options.now.pads (captured packet.now) turn.old
+        (W.contents writer.old) (W.contents writer.new)) }
+{
+    let mut lines = Vec::new(alloc);
+    let outcome = write_packet(alloc, &mut lines, turn, options, packet)?;
+    put_all(writer, lines.as_slice())?;
+    Ok(outcome)
+}
+
+/// Puts the line of a flush where packets wait, or a front of it.
+fn put_rest<W: Write>(alloc: Global, writer: &mut W, turn: &Turn) -> io::Result<()>
+    ensures lines { OnOk result (
+        Appends (W.contents writer.old) (W.contents writer.new) (rest_flush turn.now)) }
+    ensures front { OnErr result (
+        AppendsFront (W.contents writer.old) (W.contents writer.new) (rest_flush turn.now)) }
+{
+    let mut line = Vec::new(alloc);
+    write_rest(&mut line, turn)?;
+    put_all(writer, line.as_slice())
+}
+
+/// Puts a `take` line for each packet with the session's address on one side, workers in turn, a
+/// `flush` line after every 32, and one at the end where packets wait; or a front of these, and the
+/// writer's error or want of memory. What is put isn't flushed.
+pub fn write_takes<W: Write>(
+    alloc: Global,
+    options: &Options<'_>,
+    packets: &[Packet<'_>],
+    writer: &mut W,
+) -> io::Result<Counts>
+    ensures lines { IfOk result (λ counts.
+        WritesTakes options.now.ue options.now.pads options.now.workers (map captured packets.now)
+        (W.contents writer.old) (W.contents writer.new) counts) }
+    ensures front { OnErr result (
+        WritesFront options.now.ue options.now.pads options.now.workers (map captured packets.now)
+        (W.contents writer.old) (W.contents writer.new)) }
+{
+    let mut turn = Turn::first(options.workers);
+    let mut counts = Counts::default();
+    for packet in packets {
+        counts.count(put_packet(alloc, writer, &mut turn, options, packet)?);
+    }
+    put_rest(alloc, writer, &turn)?;
+    Ok(counts)
+}

@@ -1,0 +1,162 @@
+//! Lines for frames that were worked out by hand.
+use pcef_capture_file::{Endianness, Link, Packet};
+use pcef_capture_script::{Counts, Options, asked, write_takes};
+use pcef_packet::Addr;
+use std::alloc::Global;
+use std::process::Abort;
+use std::test::Fail;
+
+/// A UDP packet of 28 octets from 198.51.100.7 port 53 to 10.0.0.2 port 5000.
+const DOWN: [u8; 28] = [
+    0x45, 0x00, 0x00, 0x1c, 0x00, 0x00, 0x00, 0x00, 0x40, 0x11, 0x00, 0x00, 0xc6, 0x33, 0x64, 0x07,
+    0x0a, 0x00, 0x00, 0x02, 0x00, 0x35, 0x13, 0x88, 0x00, 0x08, 0x00, 0x00,
+];
+
+const ROUTER: Addr = Addr::V4(0x0a00_0001);
+
+const UE: Addr = Addr::V4(0x0a00_0002);
+
+fn raw(octets: &[u8]) -> Packet<'_> {
+    Packet {
+        link: Link::Raw,
+        endianness: Endianness::Big,
+        original: 28,
+        octets,
+    }
+}
+
+/// The lines for some packets, and the counts.
+fn written(
+    rt: &impl Abort,
+    alloc: Global,
+    ue: Addr,
+    workers: u8,
+    pads: bool,
+    packets: &[Packet<'_>],
+) -> (Vec<u8>, Counts) {
+    let options = Options {
+        ue,
+        workers,
+        pads,
+        file: "",
+    };
+    let mut lines = Vec::new(alloc);
+    match write_takes(alloc, &options, packets, &mut lines) {
+        Ok(counts) => (lines, counts),
+        Err(_) => rt.abort(),
+    }
+}
+
+#[test]
+fn the_line_of_a_packet(rt: HostRuntime) {
+    let (lines, counts) = written(&rt, rt.alloc(), UE, 1, false, [raw(&DOWN)].as_slice());
+    let due =
+        b"{\"do\":\"take\",\"worker\":0,\"dir\":\"down\",\"packet\":\"4500001c0000000040110000c63364070a0000020035138800080000\"}\n{\"do\":\"flush\",\"worker\":0}\n";
+    assert_eq!(rt; lines.as_slice(), due.as_slice());
+    assert_eq!(rt; (counts.read, counts.taken), (1, 1));
+}
+
+#[test]
+fn a_packet_in_part_is_left_out_or_padded(rt: HostRuntime) {
+    let packets = [raw(&DOWN[..26])];
+    let (lines, counts) = written(&rt, rt.alloc(), UE, 1, false, packets.as_slice());
+    assert!(rt; lines.is_empty());
+    assert_eq!(rt; (counts.read, counts.cut), (1, 1));
+    let (padded, counts) = written(&rt, rt.alloc(), UE, 1, true, packets.as_slice());
+    let (whole, _) = written(&rt, rt.alloc(), UE, 1, false, [raw(&DOWN)].as_slice());
+    assert_eq!(rt; padded.as_slice(), whole.as_slice());
+    assert_eq!(rt; (counts.taken, counts.cut), (1, 0));
+    let (_, counts) = written(&rt, rt.alloc(), UE, 1, true, [raw(&DOWN[..3])].as_slice());
+    assert_eq!(rt; (counts.taken, counts.cut), (0, 1));
+}
+
+#[test]
+fn frames_without_a_line(rt: HostRuntime) {
+    let six = [0x60u8; 28];
+    let packets = [raw(&DOWN), raw(&six)];
+    let (lines, counts) = written(&rt, rt.alloc(), ROUTER, 1, false, packets.as_slice());
+    assert!(rt; lines.is_empty());
+    assert_eq!(rt; (counts.read, counts.taken, counts.neither), (2, 0, 1));
+    assert_eq!(rt; (counts.not_ipv4, counts.cut), (1, 0));
+}
+
+/// The octet behind the text `"worker":` in a line, and whether the line is a flush.
+fn told(line: &[u8]) -> (bool, Option<u8>) {
+    if line.starts_with(b"{\"do\":\"flush\"") {
+        (true, line.get(23).copied())
+    } else {
+        (false, line.get(22).copied())
+    }
+}
+
+#[test]
+fn workers_in_turn(rt: HostRuntime) {
+    let packets = [raw(&DOWN); 70];
+    let (lines, counts) = written(&rt, rt.alloc(), UE, 2, false, packets.as_slice());
+    assert_eq!(rt; counts.taken, 70);
+    let mut place = 0usize;
+    for line in lines.as_slice().split(|octet| *octet == b'\n') {
+        let due = match place {
+            0..=31 => (false, Some(b'0')),
+            32 => (true, Some(b'0')),
+            33..=64 => (false, Some(b'1')),
+            65 => (true, Some(b'1')),
+            66..=71 => (false, Some(b'0')),
+            72 => (true, Some(b'0')),
+            _ => (false, None),
+        };
+        assert_eq!(rt; told(line), due);
+        place = place.saturating_add(1);
+    }
+    assert_eq!(rt; place, 74);
+}
+
+/// What some words ask for: the address, the number of workers, whether packets are padded, and the file.
+fn asked_by<'a>(alloc: Global, words: &'a [String]) -> Option<(Addr, u8, bool, &'a str)> {
+    match asked(alloc, words) {
+        Ok(Some(options)) => Some((options.ue, options.workers, options.pads, options.file)),
+        _ => None,
+    }
+}
+
+#[test]
+fn what_words_ask_for(rt: HostRuntime) -> Result<(), Fail> {
+    let whole: [&[&str]; 3] = [
+        &["--ue", "10.0.0.2", "a.pcap"],
+        &["a.pcap", "--workers=16", "--ue=10.0.0.1", "--pad"],
+        &["--ue", "10.0.0.2", "--workers", "3", "--", "--pad"],
+    ];
+    let due = [
+        (UE, 1u8, false, "a.pcap"),
+        (ROUTER, 16, true, "a.pcap"),
+        (UE, 3, false, "--pad"),
+    ];
+    for (line, due) in whole.iter().zip(due) {
+        let words = line_of(rt.alloc(), *line)?;
+        assert!(rt; asked_by(rt.alloc(), &words) == Some(due));
+    }
+    let wrong: [&[&str]; 7] = [
+        &[],
+        &["a.pcap"],
+        &["--ue", "10.0.0.2"],
+        &["--ue", "10.0.0", "a.pcap"],
+        &["--ue", "10.0.0.2", "--workers", "0", "a.pcap"],
+        &["--ue", "10.0.0.2", "--workers", "17", "a.pcap"],
+        &["--ue", "10.0.0.2", "a.pcap", "b.pcap"],
+    ];
+    for line in wrong {
+        let words = line_of(rt.alloc(), line)?;
+        assert!(rt; asked_by(rt.alloc(), &words).is_none());
+    }
+    Ok(())
+}
+
+/// A command line with the program's name.
+fn line_of(alloc: Global, words: &[&str]) -> Result<Vec<String>, Fail> {
+    let mut line = Vec::new(alloc);
+    line.push(String::from_str(alloc, "pcef_capture")?)?;
+    for word in words {
+        line.push(String::from_str(alloc, *word)?)?;
+    }
+    Ok(line)
+}
