@@ -1,0 +1,3 @@
+//! Small journals and bindings, whose lanes, counters, reports and bearers were worked out by hand.
+
+mod journal;
