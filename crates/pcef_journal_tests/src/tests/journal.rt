@@ -11,7 +11,6 @@ use pcef_model::{
 use pcef_packet::{Addr, Dir, Header, Ports};
 use pcef_rule::{Arp, BearerId, Gate, KeyName, Properties, Qci, Qos, Rule, RuleName};
 use std::alloc::{AllocError, Global};
-use std::process::Abort;
 use std::test::Fail;
 
 /// The row of a worker's packet from 198.51.100.7 port 53 to 10.0.0.2 port 5000.
@@ -129,10 +128,23 @@ fn counts(journal: &Journal) -> (u64, u64, u64) {
     )
 }
 
+/// The counts of a journal without entries.
+fn counts_of_none(alloc: Global) -> (u64, u64, u64) {
+    let journal = Journal::new(alloc);
+    counts(&journal)
+}
+
+/// The counts of the small journal.
+fn counts_of_small(alloc: Global) -> Result<(u64, u64, u64), Fail> {
+    let journal = small_journal(alloc)?;
+    Ok(counts(&journal))
+}
+
 #[test]
 fn counts_of_entries(rt: HostRuntime) -> Result<(), Fail> {
-    assert_eq!(rt; counts(&Journal::new(rt.alloc())), (0, 0, 0));
-    assert_eq!(rt; counts(&small_journal(rt.alloc())?), (3, 2, 3));
+    let none = counts_of_none(rt.alloc());
+    let small = counts_of_small(rt.alloc())?;
+    assert_eq!(rt; (none, small), ((0, 0, 0), (3, 2, 3)));
     Ok(())
 }
 
@@ -144,12 +156,19 @@ fn add_two(journal: &mut Journal) -> Result<(), AllocError> {
     Ok(())
 }
 
+/// How many rows there are then.
+fn rows_of_two(alloc: Global) -> Result<u64, AllocError> {
+    let mut journal = Journal::new(alloc);
+    match add_two(&mut journal) {
+        Ok(()) => Ok(journal.rows_len()),
+        Err(error) => Err(error),
+    }
+}
+
 #[test]
-fn entries_into_reserved_room(rt: HostRuntime) -> Result<(), Fail> {
-    let mut journal = Journal::new(rt.alloc());
-    let added = add_two(&mut journal);
-    assert_eq!(rt; (added, journal.rows_len()), (Ok(()), 1));
-    Ok(())
+fn entries_into_reserved_room(rt: HostRuntime) {
+    let rows = rows_of_two(rt.alloc());
+    assert_eq!(rt; rows, Ok(1));
 }
 
 fn next_octets(lane: &mut Lane<'_>) -> Option<u32> {
@@ -166,17 +185,22 @@ fn octets_of(journal: &Journal, worker: u8) -> [Option<u32>; 3] {
     ]
 }
 
+/// The octets of three workers in the small journal.
+fn octets_of_small(alloc: Global) -> Result<[[Option<u32>; 3]; 3], Fail> {
+    let journal = small_journal(alloc)?;
+    Ok([
+        octets_of(&journal, 0),
+        octets_of(&journal, 1),
+        octets_of(&journal, 2),
+    ])
+}
+
 #[test]
 fn lanes_of_workers(rt: HostRuntime) -> Result<(), Fail> {
-    let journal = small_journal(rt.alloc())?;
-    let lanes = [0, 1, 2].map(|worker| octets_of(&journal, worker));
+    let lanes = octets_of_small(rt.alloc())?;
     assert_eq!(rt;
         lanes,
-        [
-            [Some(28), Some(60), None],
-            [Some(40), None, None],
-            [None, None, None]
-        ]
+        [[Some(28), Some(60), None], [Some(40), None, None], [None; 3]]
     );
     Ok(())
 }
@@ -221,22 +245,38 @@ fn add_verdicts(journal: &mut Journal) -> Result<(), AllocError> {
     Ok(())
 }
 
-/// Expects the eight verdicts in a lane, and no row after them.
-fn expect_verdicts(rt: &impl Abort, mut lane: Lane<'_>) {
-    for place in 0..8u8 {
-        let found = lane.next().map(|row| row.verdict);
-        assert_eq!(rt; found, Some(verdict(place)), "row {place}");
+/// Whether the next row has the verdict of a place.
+fn is_next_verdict(lane: &mut Lane<'_>, place: u8) -> bool {
+    match lane.next() {
+        Some(row) => row.verdict == verdict(place),
+        None => false,
     }
-    assert!(rt; lane.next().is_none());
+}
+
+/// How many of the eight verdicts a lane has, and whether no row follows them.
+fn verdicts_in(mut lane: Lane<'_>) -> (u8, bool) {
+    let mut kept = 0u8;
+    for place in 0..8u8 {
+        if is_next_verdict(&mut lane, place) {
+            kept = kept.saturating_add(1);
+        }
+    }
+    (kept, lane.next().is_none())
+}
+
+/// What a journal keeps of the eight verdicts.
+fn kept_verdicts(alloc: Global) -> Result<(u8, bool), AllocError> {
+    let mut journal = Journal::new(alloc);
+    match add_verdicts(&mut journal) {
+        Ok(()) => Ok(verdicts_in(journal.lane(0))),
+        Err(error) => Err(error),
+    }
 }
 
 #[test]
-fn rows_of_several_rules(rt: HostRuntime) -> Result<(), Fail> {
-    let mut journal = Journal::new(rt.alloc());
-    let added = add_verdicts(&mut journal);
-    assert_eq!(rt; added, Ok(()));
-    expect_verdicts(&rt, journal.lane(0));
-    Ok(())
+fn rows_of_several_rules(rt: HostRuntime) {
+    let kept = kept_verdicts(rt.alloc());
+    assert_eq!(rt; kept, Ok((8, true)));
 }
 
 /// Whether the next command is the same as this one.
@@ -247,21 +287,26 @@ fn is_next(commands: &mut Commands<'_>, expected: &Command) -> bool {
     }
 }
 
-/// Whether the commands are those of the small journal, and no other after them.
-fn are_expected(mut commands: Commands<'_>, install: Rule) -> [bool; 3] {
+/// Whether the commands are those of the small journal, one by one, and no other follows them.
+fn are_expected(mut commands: Commands<'_>, install: &Command) -> [bool; 3] {
     [
-        is_next(&mut commands, &Command::Install(install)),
+        is_next(&mut commands, install),
         is_next(&mut commands, &Command::LoseBearer(BearerId(6))),
         commands.next().is_none(),
     ]
 }
 
+/// Whether the small journal has the commands that are expected.
+fn are_commands_of_small(alloc: Global, install: &Command) -> Result<[bool; 3], Fail> {
+    let journal = small_journal(alloc)?;
+    Ok(are_expected(journal.commands(), install))
+}
+
 #[test]
 fn commands_from_the_oldest_on(rt: HostRuntime) -> Result<(), Fail> {
-    let install = web(rt.alloc())?;
-    let journal = small_journal(rt.alloc())?;
-    let expected = are_expected(journal.commands(), install);
-    assert_eq!(rt; expected, [true; 3]);
+    let install = Command::Install(web(rt.alloc())?);
+    let found = are_commands_of_small(rt.alloc(), &install).ok();
+    assert_eq!(rt; found, Some([true; 3]));
     Ok(())
 }
 
@@ -280,55 +325,73 @@ fn numbers_from(journal: &Journal, first: u64) -> [Option<u64>; 4] {
     ]
 }
 
+/// The numbers of the small journal's reports from 0, 1, 2, 3 and 9 on.
+fn numbers_of_small(alloc: Global) -> Result<[[Option<u64>; 4]; 5], Fail> {
+    let journal = small_journal(alloc)?;
+    Ok([
+        numbers_from(&journal, 0),
+        numbers_from(&journal, 1),
+        numbers_from(&journal, 2),
+        numbers_from(&journal, 3),
+        numbers_from(&journal, 9),
+    ])
+}
+
 #[test]
 fn reports_from_a_number_on(rt: HostRuntime) -> Result<(), Fail> {
-    let journal = small_journal(rt.alloc())?;
-    let ends = [
-        (0, [Some(0), Some(1), Some(2), None]),
-        (1, [Some(1), Some(2), None, None]),
-        (2, [Some(2), None, None, None]),
-        (3, [None; 4]),
-        (9, [None; 4]),
-    ];
-    for (first, numbers) in ends {
-        assert_eq!(rt; numbers_from(&journal, first), numbers, "from {first}");
-    }
+    let numbers = numbers_of_small(rt.alloc())?;
+    assert_eq!(rt;
+        numbers,
+        [
+            [Some(0), Some(1), Some(2), None],
+            [Some(1), Some(2), None, None],
+            [Some(2), None, None, None],
+            [None; 4],
+            [None; 4]
+        ]
+    );
     Ok(())
 }
 
-/// Expects copies of the reports of these numbers.
-fn expect_copies(
-    rt: &impl Abort,
-    alloc: Global,
-    reports: &Reports<'_>,
-    numbers: &[u64],
-) -> Result<(), AllocError> {
-    let copies = reports.to_vec(alloc)?;
-    assert_eq!(rt; copies.len(), numbers.len());
-    for (found, number) in copies.iter().zip(numbers) {
-        assert_eq!(rt; *found, report(*number));
+/// Whether these are the reports of these numbers.
+fn are_reports(found: &[Report], numbers: &[u64]) -> bool {
+    if found.len() != numbers.len() {
+        return false;
     }
-    Ok(())
+    for (report_found, number) in found.iter().zip(numbers) {
+        if *report_found != report(*number) {
+            return false;
+        }
+    }
+    true
 }
 
-/// Expects copies of all reports, of those after the first one, and of those after the last one.
-fn expect_copies_of_the_rest(
-    rt: &impl Abort,
-    alloc: Global,
-    journal: &Journal,
-) -> Result<(), AllocError> {
+/// Whether the copies of the reports that are left are those of these numbers.
+fn are_copied(alloc: Global, reports: &Reports<'_>, numbers: &[u64]) -> Option<bool> {
+    let copies = reports.to_vec(alloc).ok()?;
+    Some(are_reports(copies.as_slice(), numbers))
+}
+
+/// Whether all reports are copied, then those after the first one, and then those after the last one.
+fn are_ends_copied(alloc: Global, journal: &Journal) -> [Option<bool>; 3] {
     let mut reports = journal.reports_from(0);
-    expect_copies(rt, alloc, &reports, &[0, 1, 2])?;
+    let all = are_copied(alloc, &reports, &[0, 1, 2]);
     let _ = reports.next();
-    expect_copies(rt, alloc, &reports, &[1, 2])?;
-    expect_copies(rt, alloc, &journal.reports_from(3), &[])
+    let rest = are_copied(alloc, &reports, &[1, 2]);
+    let none = are_copied(alloc, &journal.reports_from(3), &[]);
+    [all, rest, none]
+}
+
+/// Whether they are so in the small journal.
+fn are_ends_of_small_copied(alloc: Global) -> Result<[Option<bool>; 3], Fail> {
+    let journal = small_journal(alloc)?;
+    Ok(are_ends_copied(alloc, &journal))
 }
 
 #[test]
 fn copies_of_the_reports_that_are_left(rt: HostRuntime) -> Result<(), Fail> {
-    let journal = small_journal(rt.alloc())?;
-    let copied = expect_copies_of_the_rest(&rt, rt.alloc(), &journal);
-    assert_eq!(rt; copied, Ok(()));
+    let copied = are_ends_of_small_copied(rt.alloc())?;
+    assert_eq!(rt; copied, [Some(true); 3]);
     Ok(())
 }
 
@@ -386,22 +449,33 @@ fn is_copied(command: &Command) -> Option<bool> {
     Some(is_same(&copy, command))
 }
 
+/// Whether a copy of the command of a place is the same.
+fn is_kind_copied(alloc: Global, place: u8) -> Option<bool> {
+    let command = command(alloc, place).ok()?;
+    is_copied(&command)
+}
+
 #[test]
-fn copies_of_commands(rt: HostRuntime) -> Result<(), Fail> {
+fn copies_of_commands(rt: HostRuntime) {
     for place in 0..11u8 {
-        let copied = is_copied(&command(rt.alloc(), place)?);
+        let copied = is_kind_copied(rt.alloc(), place);
         assert_eq!(rt; copied, Some(true), "command {place}");
     }
-    Ok(())
+}
+
+fn is_row_copied(row: &Row) -> bool {
+    row.copy() == *row
+}
+
+fn is_report_copied(report: &Report) -> (bool, bool) {
+    (report.body.copy() == report.body, report.copy() == *report)
 }
 
 #[test]
 fn copies_of_rows_and_reports(rt: HostRuntime) {
-    let row = web_row(1, 7, 40);
-    assert_eq!(rt; row.copy(), row);
+    assert!(rt; is_row_copied(&web_row(1, 7, 40)));
     for number in 0..3u64 {
-        let report = report(number);
-        assert_eq!(rt; report.body.copy(), report.body);
-        assert_eq!(rt; report.copy(), report);
+        let copied = is_report_copied(&report(number));
+        assert_eq!(rt; copied, (true, true), "report {number}");
     }
 }
