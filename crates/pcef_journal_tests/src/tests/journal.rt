@@ -288,25 +288,25 @@ fn is_next(commands: &mut Commands<'_>, expected: &Command) -> bool {
 }
 
 /// Whether the commands are those of the small journal, one by one, and no other follows them.
-fn are_expected(mut commands: Commands<'_>, install: &Command) -> [bool; 3] {
-    [
-        is_next(&mut commands, install),
+fn are_expected(alloc: Global, mut commands: Commands<'_>) -> Result<[bool; 3], Fail> {
+    let install = Command::Install(web(alloc)?);
+    Ok([
+        is_next(&mut commands, &install),
         is_next(&mut commands, &Command::LoseBearer(BearerId(6))),
         commands.next().is_none(),
-    ]
+    ])
 }
 
 /// Whether the small journal has the commands that are expected.
-fn are_commands_of_small(alloc: Global, install: &Command) -> Result<[bool; 3], Fail> {
+fn are_commands_of_small(alloc: Global) -> Result<[bool; 3], Fail> {
     let journal = small_journal(alloc)?;
-    Ok(are_expected(journal.commands(), install))
+    are_expected(alloc, journal.commands())
 }
 
 #[test]
 fn commands_from_the_oldest_on(rt: HostRuntime) -> Result<(), Fail> {
-    let install = Command::Install(web(rt.alloc())?);
-    let found = are_commands_of_small(rt.alloc(), &install).ok();
-    assert_eq!(rt; found, Some([true; 3]));
+    let found = are_commands_of_small(rt.alloc())?;
+    assert_eq!(rt; found, [true; 3]);
     Ok(())
 }
 
@@ -450,17 +450,18 @@ fn is_copied(command: &Command) -> Option<bool> {
 }
 
 /// Whether a copy of the command of a place is the same.
-fn is_kind_copied(alloc: Global, place: u8) -> Option<bool> {
-    let command = command(alloc, place).ok()?;
-    is_copied(&command)
+fn is_kind_copied(alloc: Global, place: u8) -> Result<Option<bool>, Fail> {
+    let command = command(alloc, place)?;
+    Ok(is_copied(&command))
 }
 
 #[test]
-fn copies_of_commands(rt: HostRuntime) {
+fn copies_of_commands(rt: HostRuntime) -> Result<(), Fail> {
     for place in 0..11u8 {
-        let copied = is_kind_copied(rt.alloc(), place);
+        let copied = is_kind_copied(rt.alloc(), place)?;
         assert_eq!(rt; copied, Some(true), "command {place}");
     }
+    Ok(())
 }
 
 fn is_row_copied(row: &Row) -> bool {

@@ -8,7 +8,7 @@ use pcef_model::{Body, Cause, Command, Entry, PendingReport, Report, Row, Verdic
 use pcef_packet::{Addr, Dir, Header};
 use pcef_rule::{KeyName, Slot};
 use pcef_usage::{CountedJournal, KeysFull, MAX_KEYS, Usage};
-use std::alloc::AllocError;
+use std::alloc::{AllocError, Global};
 use std::process::Abort;
 use std::test::Fail;
 
@@ -139,10 +139,24 @@ fn report_thresholds(
     Ok(())
 }
 
-/// The state of a slot in the order of its fields.
-fn state(counted: &CountedJournal, place: usize) -> Option<(bool, Option<u64>, u64, u64)> {
+/// What is kept of a key that has a slot: whether it is on, its grant, and its reported and unreported octets.
+type State = (bool, Option<u64>, u64, u64);
+
+/// How many rows and reports there are, and what is kept of the keys of the first three slots.
+type Seen = (u64, u64, [Option<State>; 3]);
+
+fn state(counted: &CountedJournal, place: usize) -> Option<State> {
     let state = counted.usage().states().get(place)?;
     Some((state.on, state.grant, state.reported, state.unreported))
+}
+
+fn seen(counted: &CountedJournal) -> Seen {
+    let journal = counted.journal();
+    (
+        journal.rows_len(),
+        journal.reports_len(),
+        [state(counted, 0), state(counted, 1), state(counted, 2)],
+    )
 }
 
 /// Whether the journal's first report is one of usage with this key, these octets and this cause.
@@ -154,46 +168,29 @@ fn is_first_report(counted: &CountedJournal, key: KeyName, octets: u64, cause: C
     counted.journal().reports_from(0).next() == Some(&expected)
 }
 
-/// How many rows, reports and keys with a slot there are.
-fn counts(counted: &CountedJournal) -> (u64, u64, usize) {
-    (
-        counted.journal().rows_len(),
-        counted.journal().reports_len(),
-        counted.usage().states().len(),
-    )
+/// Whether memory is taken for three entries, what is then seen of a journal without entries, and the slot of a key that
+/// has none.
+fn seen_empty(alloc: Global) -> (Result<(), AllocError>, Seen, Option<Slot>) {
+    let mut counted = CountedJournal::new(alloc);
+    let reserved = counted.reserve(3);
+    (reserved, seen(&counted), counted.usage().find(&video()))
+}
+
+/// How many keys have a slot in new counters.
+fn new_len() -> usize {
+    let usage = Usage::new();
+    usage.states().len()
 }
 
 #[test]
 fn an_empty_journal(rt: HostRuntime) {
-    let mut counted = CountedJournal::new(rt.alloc());
-    let reserved = counted.reserve(3);
-    assert_eq!(rt; reserved, Ok(()));
-    assert_eq!(rt; counts(&counted), (0, 0, 0));
-    assert_eq!(rt; counted.usage().find(&video()), None);
-    assert_eq!(rt; Usage::new().states().len(), 0);
-}
-
-#[test]
-fn a_grant_is_reached(rt: HostRuntime) {
-    let mut counted = CountedJournal::new(rt.alloc());
-    let done = count_below_the_grants(&rt, &mut counted);
-    assert_eq!(rt; done, Ok(()));
-    assert_eq!(rt; counted.usage().find(&audio()), Some(Slot(1)));
-    assert_eq!(rt; counted.journal().reports_len(), 0);
-    assert_eq!(rt; state(&counted, 0), Some((true, Some(100), 0, 60)));
-    let done = reach_the_grant(&rt, &mut counted);
-    assert_eq!(rt; done, Ok(()));
-    assert!(rt; is_first_report(&counted, video(), 100, Cause::Threshold));
-    assert_eq!(rt; counted.journal().reports_len(), 1);
-    assert_eq!(rt; state(&counted, 0), Some((true, None, 100, 0)));
-    assert_eq!(rt; state(&counted, 1), Some((true, Some(1000), 0, 28)));
+    let empty = seen_empty(rt.alloc());
+    assert_eq!(rt; empty, (Ok(()), (0, 0, [None; 3]), None));
+    assert_eq!(rt; new_len(), 0);
 }
 
 /// Two keys, each with a packet that doesn't reach its grant.
-fn count_below_the_grants(
-    rt: &impl Abort,
-    counted: &mut CountedJournal,
-) -> Result<(), AllocError> {
+fn count_below_the_grants(rt: &impl Abort, counted: &mut CountedJournal) -> Result<(), AllocError> {
     monitor(rt, counted, &video(), 100)?;
     monitor(rt, counted, &audio(), 1000)?;
     take(rt, counted, Slot(0), 60)?;
@@ -207,20 +204,38 @@ fn reach_the_grant(rt: &impl Abort, counted: &mut CountedJournal) -> Result<(), 
     report_thresholds(counted, true)
 }
 
+/// What is seen before the grant is reached and afterwards, the slot of the second key, and whether the report is the one
+/// that is expected.
+fn seen_around_the_grant(
+    rt: &impl Abort,
+    counted: &mut CountedJournal,
+) -> Result<(Seen, Seen, Option<Slot>, bool), AllocError> {
+    count_below_the_grants(rt, counted)?;
+    let before = seen(counted);
+    reach_the_grant(rt, counted)?;
+    let after = seen(counted);
+    let slot = counted.usage().find(&audio());
+    let is_told = is_first_report(counted, video(), 100, Cause::Threshold);
+    Ok((before, after, slot, is_told))
+}
+
+/// The same of a new journal.
+fn around_the_grant(
+    rt: &impl Abort,
+    alloc: Global,
+) -> Result<(Seen, Seen, Option<Slot>, bool), AllocError> {
+    let mut counted = CountedJournal::new(alloc);
+    seen_around_the_grant(rt, &mut counted)
+}
+
 #[test]
-fn a_key_loses_its_rules(rt: HostRuntime) {
-    let mut counted = CountedJournal::new(rt.alloc());
-    let done = reach_a_grant_unsubscribed(&rt, &mut counted);
-    assert_eq!(rt; done, Ok(()));
-    assert_eq!(rt; counted.journal().reports_len(), 0);
-    let done = lose_rules(&rt, &mut counted, &audio());
-    assert_eq!(rt; done, Ok(()));
-    assert!(rt; is_first_report(&counted, audio(), 28, Cause::RulesGone));
-    assert_eq!(rt; state(&counted, 0), Some((true, Some(100), 0, 0)));
-    assert_eq!(rt; state(&counted, 1), Some((false, None, 28, 0)));
-    let done = report_thresholds(&mut counted, true);
-    assert_eq!(rt; done, Ok(()));
-    assert_eq!(rt; counted.journal().reports_len(), 1);
+fn a_grant_is_reached(rt: HostRuntime) -> Result<(), Fail> {
+    let (before, after, slot, is_told) = around_the_grant(&rt, rt.alloc())?;
+    let other = Some((true, Some(1000), 0, 28));
+    assert_eq!(rt; before, (2, 0, [Some((true, Some(100), 0, 60)), other, None]));
+    assert_eq!(rt; after, (3, 1, [Some((true, None, 100, 0)), other, None]));
+    assert_eq!(rt; (slot, is_told), (Some(Slot(1)), true));
+    Ok(())
 }
 
 /// Two keys, of which the second one reaches its grant while no usage reports are subscribed.
@@ -234,15 +249,41 @@ fn reach_a_grant_unsubscribed(
     report_thresholds(counted, false)
 }
 
+/// How many reports there are before the second key loses its rules, what is seen afterwards, whether the report is the one
+/// that is expected, and how many reports there are after one more event.
+fn seen_around_the_loss(
+    rt: &impl Abort,
+    counted: &mut CountedJournal,
+) -> Result<(u64, Seen, bool, u64), AllocError> {
+    reach_a_grant_unsubscribed(rt, counted)?;
+    let before = counted.journal().reports_len();
+    lose_rules(rt, counted, &audio())?;
+    let lost = seen(counted);
+    let is_told = is_first_report(counted, audio(), 28, Cause::RulesGone);
+    report_thresholds(counted, true)?;
+    Ok((before, lost, is_told, counted.journal().reports_len()))
+}
+
+/// The same of a new journal.
+fn around_the_loss(
+    rt: &impl Abort,
+    alloc: Global,
+) -> Result<(u64, Seen, bool, u64), AllocError> {
+    let mut counted = CountedJournal::new(alloc);
+    seen_around_the_loss(rt, &mut counted)
+}
+
 #[test]
-fn a_row_counts_for_two_keys(rt: HostRuntime) {
-    let mut counted = CountedJournal::new(rt.alloc());
-    let done = count_for_two_keys(&rt, &mut counted);
-    assert_eq!(rt; done, Ok(()));
-    assert_eq!(rt; state(&counted, 0), Some((true, Some(1000), 0, 60)));
-    assert_eq!(rt; state(&counted, 1), Some((true, Some(1000), 0, 27)));
-    assert_eq!(rt; state(&counted, 2), Some((true, Some(1000), 0, 80)));
-    assert_eq!(rt; counted.journal().rows_len(), 3);
+fn a_key_loses_its_rules(rt: HostRuntime) -> Result<(), Fail> {
+    let (before, lost, is_told, after) = around_the_loss(&rt, rt.alloc())?;
+    let states = [
+        Some((true, Some(100), 0, 0)),
+        Some((false, None, 28, 0)),
+        None,
+    ];
+    assert_eq!(rt; lost, (1, 1, states));
+    assert_eq!(rt; (before, is_told, after), (0, true, 1));
+    Ok(())
 }
 
 /// Three keys and three packets, of which the first and the last count for two keys each.
@@ -253,6 +294,26 @@ fn count_for_two_keys(rt: &impl Abort, counted: &mut CountedJournal) -> Result<(
     take_both(rt, counted, Slot(0), Slot(2), 60)?;
     take(rt, counted, Slot(1), 7)?;
     take_both(rt, counted, Slot(2), Slot(1), 20)
+}
+
+/// What is seen then.
+fn seen_of_two_keys(rt: &impl Abort, alloc: Global) -> Result<Seen, AllocError> {
+    let mut counted = CountedJournal::new(alloc);
+    match count_for_two_keys(rt, &mut counted) {
+        Ok(()) => Ok(seen(&counted)),
+        Err(error) => Err(error),
+    }
+}
+
+#[test]
+fn a_row_counts_for_two_keys(rt: HostRuntime) {
+    let states = [
+        Some((true, Some(1000), 0, 60)),
+        Some((true, Some(1000), 0, 27)),
+        Some((true, Some(1000), 0, 80)),
+    ];
+    let found = seen_of_two_keys(&rt, rt.alloc());
+    assert_eq!(rt; found, Ok((3, 0, states)));
 }
 
 /// Gives each of these keys a slot.
@@ -311,42 +372,79 @@ fn figures(rt: &impl Abort, usage: &Usage, slot: Slot) -> (bool, u64, u64) {
     )
 }
 
-/// The slot that a key gets, and the one that is then found.
-fn slots_of(usage: &mut Usage, key: &KeyName) -> (Result<Slot, KeysFull>, Option<Slot>) {
-    (usage.slot(key), usage.find(key))
+const EIGHT: [&str; 8] = ["k0", "k1", "k2", "k3", "k4", "k5", "k6", "k7"];
+
+/// The slot that a key gets, and the one that is then found, where the text is a name.
+fn slots_of(usage: &mut Usage, name: &str) -> Option<(Result<Slot, KeysFull>, Option<Slot>)> {
+    let key = KeyName::new(name).ok()?;
+    Some((usage.slot(&key), usage.find(&key)))
+}
+
+/// How many of the eight keys have the slot of their place.
+fn in_place(usage: &mut Usage) -> u8 {
+    let mut found = 0u8;
+    for place in 0..8u8 {
+        let slot = Slot(place);
+        if slots_of(usage, EIGHT[place as usize]) == Some((Ok(slot), Some(slot))) {
+            found = found.saturating_add(1);
+        }
+    }
+    found
 }
 
 #[test]
 fn eight_keys_have_slots(rt: HostRuntime) -> Result<(), Fail> {
-    let names = ["k0", "k1", "k2", "k3", "k4", "k5", "k6", "k7"];
-    let mut usage = usage_of(&names)?;
-    assert_eq!(rt; usage.states().len(), 8);
-    for (place, name) in names.iter().enumerate() {
-        let slot = Slot(place as u8);
-        let found = slots_of(&mut usage, &KeyName::new(name)?);
-        assert_eq!(rt; found, (Ok(slot), Some(slot)), "{name}");
-    }
-    let found = slots_of(&mut usage, &KeyName::known("k8"));
-    assert_eq!(rt; found, (Err(KeysFull), None));
-    assert_eq!(rt; usage.states().len(), 8);
+    let mut usage = usage_of(&EIGHT)?;
+    let before = usage.states().len();
+    let in_place = in_place(&mut usage);
+    let ninth = slots_of(&mut usage, "k8");
+    let after = usage.states().len();
+    assert_eq!(rt; (before, in_place, after), (8, 8, 8));
+    assert_eq!(rt; ninth, Some((Err(KeysFull), None)));
     Ok(())
+}
+
+/// The figures of the second key: when it is new, after it was switched on and counted, after a report and three octets
+/// more, and after it was switched off; then those of the first key, and the octets of the report.
+fn switched_and_counted(rt: &impl Abort, usage: &mut Usage) -> ([(bool, u64, u64); 5], u64) {
+    let new = figures(rt, usage, Slot(1));
+    start(rt, usage, Slot(1), 100);
+    count(rt, usage, Slot(1), 60);
+    count(rt, usage, Slot(1), 7);
+    let counted = figures(rt, usage, Slot(1));
+    let told = take_report(rt, usage, Slot(1));
+    count(rt, usage, Slot(1), 3);
+    let reported = figures(rt, usage, Slot(1));
+    stop(rt, usage, Slot(1));
+    let off = figures(rt, usage, Slot(1));
+    let other = figures(rt, usage, Slot(0));
+    ([new, counted, reported, off, other], told)
 }
 
 #[test]
 fn a_key_is_switched_and_counts(rt: HostRuntime) -> Result<(), Fail> {
     let mut usage = usage_of(&["video", "audio"])?;
-    assert_eq!(rt; figures(&rt, &usage, Slot(1)), (false, 0, 0));
-    start(&rt, &mut usage, Slot(1), 100);
-    count(&rt, &mut usage, Slot(1), 60);
-    count(&rt, &mut usage, Slot(1), 7);
-    assert_eq!(rt; figures(&rt, &usage, Slot(1)), (true, 0, 67));
-    assert_eq!(rt; take_report(&rt, &mut usage, Slot(1)), 67);
-    count(&rt, &mut usage, Slot(1), 3);
-    assert_eq!(rt; figures(&rt, &usage, Slot(1)), (true, 67, 3));
-    stop(&rt, &mut usage, Slot(1));
-    assert_eq!(rt; figures(&rt, &usage, Slot(1)), (false, 67, 3));
-    assert_eq!(rt; figures(&rt, &usage, Slot(0)), (false, 0, 0));
+    let (found, told) = switched_and_counted(&rt, &mut usage);
+    assert_eq!(rt;
+        found,
+        [
+            (false, 0, 0),
+            (true, 0, 67),
+            (true, 67, 3),
+            (false, 67, 3),
+            (false, 0, 0)
+        ]
+    );
+    assert_eq!(rt; told, 67);
     Ok(())
+}
+
+/// Starts three keys and counts for them, by which the first and the last reach their grants.
+fn start_three(rt: &impl Abort, usage: &mut Usage) {
+    for (slot, grant, octets) in [(0u8, 100u64, 100u32), (1, 100, 99), (2, 28, 60)] {
+        start(rt, usage, Slot(slot), grant);
+        count(rt, usage, Slot(slot), octets);
+    }
 }
 
 /// Whether these are the slots whose grants are reached, which are then taken.
@@ -354,18 +452,23 @@ fn are_settled(usage: &mut Usage, subscribed: bool, slots: &[Slot]) -> bool {
     usage.settle(subscribed).as_slice() == slots
 }
 
+/// Whether grants are settled as expected, while no reports are subscribed, while they are, once more, and after one octet
+/// more for the second key.
+fn settled(rt: &impl Abort, usage: &mut Usage) -> [bool; 4] {
+    let unsubscribed = are_settled(usage, false, &[]);
+    let subscribed = are_settled(usage, true, &[Slot(0), Slot(2)]);
+    let again = are_settled(usage, true, &[]);
+    count(rt, usage, Slot(1), 1);
+    let one_more = are_settled(usage, true, &[Slot(1)]);
+    [unsubscribed, subscribed, again, one_more]
+}
+
 #[test]
 fn reached_grants_are_taken_while_subscribed(rt: HostRuntime) -> Result<(), Fail> {
     let mut usage = usage_of(&["video", "audio", "text"])?;
-    for (slot, grant, octets) in [(0u8, 100u64, 100u32), (1, 100, 99), (2, 28, 60)] {
-        start(&rt, &mut usage, Slot(slot), grant);
-        count(&rt, &mut usage, Slot(slot), octets);
-    }
-    assert!(rt; are_settled(&mut usage, false, &[]));
-    assert!(rt; are_settled(&mut usage, true, &[Slot(0), Slot(2)]));
-    assert!(rt; are_settled(&mut usage, true, &[]));
-    count(&rt, &mut usage, Slot(1), 1);
-    assert!(rt; are_settled(&mut usage, true, &[Slot(1)]));
-    assert_eq!(rt; figures(&rt, &usage, Slot(0)), (true, 0, 100));
+    start_three(&rt, &mut usage);
+    let settled = settled(&rt, &mut usage);
+    let first = figures(&rt, &usage, Slot(0));
+    assert_eq!(rt; (settled, first), ([true; 4], (true, 0, 100)));
     Ok(())
 }
