@@ -1,5 +1,6 @@
 //! Bindings that were worked out by hand from TS 23.203, clauses 6.1.1.4 and 6.2.2.2.
 
+ghost use Rattle.std.specs.Prelude.{◌<◌};
 ghost use Rattle.pcef_rule.specs.Priority.{IsLevel};
 
 use pcef_bearer::{Bearers, DEFAULT_BEARER, MAX_BOUND, Released};
@@ -26,13 +27,11 @@ fn bearers(capacity: Sums) -> Result<Bearers, Fail> {
     Ok(Bearers::new(pair(9, 15), capacity, qcis)?)
 }
 
+/// The bearer of a rule that was to be bound, or why it wasn't; none where there is no place for a rule more.
+type Answer = Option<Result<BearerId, Refusal>>;
+
 /// Binds a rule, or binds it anew.
-fn set(
-    bearers: &mut Bearers,
-    name: RuleName,
-    qos: Qos,
-    rates: Option<Rates>,
-) -> Option<Result<BearerId, Refusal>> {
+fn set(bearers: &mut Bearers, name: RuleName, qos: Qos, rates: Option<Rates>) -> Answer {
     if bearers.is_bound(&name) {
         return Some(bearers.rebind(name, qos, rates));
     }
@@ -84,72 +83,97 @@ fn bearer_of(bearers: &Bearers, name: &RuleName) -> (bool, Option<BearerId>) {
     (bearers.is_bound(name), bearers.bearer_of(name))
 }
 
+/// Of one of the ten rules: whether it is bound, its bearer, and how many rules are on the bearer that is expected.
+fn bearer_of_ten(bearers: &Bearers, place: u8) -> Option<(bool, Option<BearerId>, u8)>
+    requires { place < 10 }
+{
+    let name = RuleName::new(NAMES[place as usize]).ok()?;
+    let (is_bound, bearer) = bearer_of(bearers, &name);
+    Some((is_bound, bearer, bearers.rules_on(BearerId(6 + place))))
+}
+
 #[test]
 fn each_pair_gets_a_bearer(rt: HostRuntime) -> Result<(), Fail> {
     let bearers = ten()?;
-    assert_eq!(rt; bearers.bound().len(), 10);
+    let eleventh = bearer_of(&bearers, &RuleName::known("r11"));
+    assert_eq!(rt; (bearers.bound().len(), eleventh), (10, (false, None)));
     for place in 0..10u8 {
         let id = BearerId(6 + place);
-        let name = RuleName::new(NAMES[place as usize])?;
-        assert_eq!(rt; bearer_of(&bearers, &name), (true, Some(id)));
-        assert_eq!(rt; bearers.rules_on(id), 1);
+        let found = bearer_of_ten(&bearers, place);
+        assert_eq!(rt; found, Some((true, Some(id), 1)));
     }
-    assert_eq!(rt; bearer_of(&bearers, &RuleName::known("r11")), (false, None));
     Ok(())
+}
+
+/// What is answered for an eleventh pair: the refusal, no bearer, the refusal to bind a rule, and how many rules are bound
+/// then.
+fn answers_to_an_eleventh(
+    bearers: &mut Bearers,
+) -> (Option<Refusal>, Option<BearerId>, Answer, usize) {
+    let name = RuleName::known("r11");
+    (
+        bearers.refusal(&name, pair(8, 11), None),
+        bearers.bearer_for(&name, pair(8, 11)),
+        set(bearers, name, pair(8, 11), None),
+        bearers.bound().len(),
+    )
+}
+
+/// The fourth rule leaves its bearer to its new pair, and a rule comes to it: their bearers and how many rules are on
+/// theirs. The old pair of the fourth rule finds no bearer then, and the rule stays where it is.
+fn answers_to_a_new_pair(bearers: &mut Bearers) -> ([Answer; 3], u8, Option<BearerId>) {
+    let fourth = set(bearers, RuleName::known("r4"), pair(8, 11), None);
+    let eleventh = set(bearers, RuleName::known("r11"), pair(8, 11), None);
+    let on_theirs = bearers.rules_on(BearerId(9));
+    let back = set(bearers, RuleName::known("r4"), pair(8, 4), None);
+    let bearer = bearers.bearer_of(&RuleName::known("r4"));
+    ([fourth, eleventh, back], on_theirs, bearer)
 }
 
 #[test]
 fn an_eleventh_pair_finds_no_bearer(rt: HostRuntime) -> Result<(), Fail> {
     let mut bearers = ten()?;
-    expect_no_eleventh(&rt, &mut bearers);
-    expect_a_change_of_pairs(&rt, &mut bearers);
+    let full = answers_to_an_eleventh(&mut bearers);
+    let changed = answers_to_a_new_pair(&mut bearers);
+    let refusal = Refusal::TooManyBearers;
+    assert_eq!(rt; full, (Some(refusal), None, Some(Err(refusal)), 10));
+    let ninth = BearerId(9);
+    let answers = [Some(Ok(ninth)), Some(Ok(ninth)), Some(Err(refusal))];
+    assert_eq!(rt; changed, (answers, 2, Some(ninth)));
     Ok(())
 }
 
-fn expect_no_eleventh(rt: &impl Abort, bearers: &mut Bearers) {
-    let name = RuleName::known("r11");
-    let refusal = bearers.refusal(&name, pair(8, 11), None);
-    assert_eq!(rt; refusal, Some(Refusal::TooManyBearers));
-    assert_eq!(rt; bearers.bearer_for(&name, pair(8, 11)), None);
-    let refused = set(bearers, name, pair(8, 11), None);
-    assert_eq!(rt; refused, Some(Err(Refusal::TooManyBearers)));
-    assert_eq!(rt; bearers.bound().len(), 10);
+/// The bearer that a rule of the default pair would get, the one that it gets, and how many rules are on the default
+/// bearer then.
+fn bound_to_the_default(bearers: &mut Bearers, plain: &RuleName) -> (Option<BearerId>, Answer, u8) {
+    (
+        bearers.bearer_for(plain, pair(9, 15)),
+        set(bearers, plain.copy(), pair(9, 15), None),
+        bearers.rules_on(DEFAULT_BEARER),
+    )
 }
 
-// The fourth rule leaves its bearer to its new pair.
-fn expect_a_change_of_pairs(rt: &impl Abort, bearers: &mut Bearers) {
-    let bound = set(bearers, RuleName::known("r4"), pair(8, 11), None);
-    assert_eq!(rt; bound, Some(Ok(BearerId(9))));
-    let bound = set(bearers, RuleName::known("r11"), pair(8, 11), None);
-    assert_eq!(rt; bound, Some(Ok(BearerId(9))));
-    assert_eq!(rt; bearers.rules_on(BearerId(9)), 2);
-    let refused = set(bearers, RuleName::known("r4"), pair(8, 4), None);
-    assert_eq!(rt; refused, Some(Err(Refusal::TooManyBearers)));
-    let bearer = bearers.bearer_of(&RuleName::known("r4"));
-    assert_eq!(rt; bearer, Some(BearerId(9)));
+/// What the rule leaves, what it leaves once more, and how many rules and which rates are on the default bearer then.
+fn unbound_from_the_default(
+    bearers: &mut Bearers,
+    plain: &RuleName,
+) -> ([Option<Released>; 2], u8, Option<Sums>) {
+    (
+        [bearers.unbind(plain), bearers.unbind(plain)],
+        bearers.rules_on(DEFAULT_BEARER),
+        bearers.guaranteed(DEFAULT_BEARER),
+    )
 }
 
 #[test]
 fn the_default_pair_is_on_the_default_bearer(rt: HostRuntime) -> Result<(), Fail> {
     let mut bearers = ten()?;
-    expect_on_the_default(&rt, &mut bearers, &RuleName::known("plain"));
-    expect_unbound_from_the_default(&rt, &mut bearers, &RuleName::known("plain"));
+    let plain = RuleName::known("plain");
+    let bound = bound_to_the_default(&mut bearers, &plain);
+    let unbound = unbound_from_the_default(&mut bearers, &plain);
+    assert_eq!(rt; bound, (Some(DEFAULT_BEARER), Some(Ok(BearerId(5))), 1));
+    assert_eq!(rt; unbound, ([released(5, false), None], 0, sums(0, 0)));
     Ok(())
-}
-
-fn expect_on_the_default(rt: &impl Abort, bearers: &mut Bearers, plain: &RuleName) {
-    let bearer = bearers.bearer_for(plain, pair(9, 15));
-    assert_eq!(rt; bearer, Some(DEFAULT_BEARER));
-    let bound = set(bearers, plain.copy(), pair(9, 15), None);
-    assert_eq!(rt; bound, Some(Ok(BearerId(5))));
-    assert_eq!(rt; bearers.rules_on(DEFAULT_BEARER), 1);
-}
-
-fn expect_unbound_from_the_default(rt: &impl Abort, bearers: &mut Bearers, plain: &RuleName) {
-    assert_eq!(rt; bearers.unbind(plain), released(5, false));
-    assert_eq!(rt; bearers.unbind(plain), None);
-    assert_eq!(rt; bearers.rules_on(DEFAULT_BEARER), 0);
-    assert_eq!(rt; bearers.guaranteed(DEFAULT_BEARER), sums(0, 0));
 }
 
 /// What a rule leaves: a bearer, which ended with it or not.
@@ -164,86 +188,132 @@ fn sums(up: u64, down: u64) -> Option<Sums> {
     Some(Sums { up, down })
 }
 
+/// Two rules are on one bearer, which ends with the second of them: the bearer of the second one, what each of them leaves,
+/// and the rates on the bearer after each.
+fn around_an_end(bearers: &mut Bearers) -> (Answer, [Option<Released>; 2], [Option<Sums>; 2]) {
+    let bound = set(bearers, RuleName::known("also"), pair(8, 4), None);
+    let first = bearers.unbind(&RuleName::known("r4"));
+    let rates = bearers.guaranteed(BearerId(9));
+    let last = bearers.unbind(&RuleName::known("also"));
+    let gone = bearers.guaranteed(BearerId(9));
+    (bound, [first, last], [rates, gone])
+}
+
+/// The bearers of two new pairs after one bearer more ended: the least free id is the next one.
+fn least_free_ids(bearers: &mut Bearers) -> [Answer; 2] {
+    let _ = bearers.unbind(&RuleName::known("r9"));
+    let one = set(bearers, RuleName::known("r11"), pair(8, 11), None);
+    let other = set(bearers, RuleName::known("r12"), pair(7, 11), None);
+    [one, other]
+}
+
 #[test]
 fn a_bearer_ends_with_its_last_rule(rt: HostRuntime) -> Result<(), Fail> {
     let mut bearers = ten()?;
-    expect_an_end(&rt, &mut bearers);
-    expect_the_least_free_ids(&rt, &mut bearers);
+    let (bound, left, rates) = around_an_end(&mut bearers);
+    let ids = least_free_ids(&mut bearers);
+    assert_eq!(rt; left, [released(9, false), released(9, true)]);
+    assert_eq!(rt; (bound, rates), (Some(Ok(BearerId(9))), [sums(0, 0), None]));
+    assert_eq!(rt; ids, [Some(Ok(BearerId(9))), Some(Ok(BearerId(14)))]);
     Ok(())
 }
 
-fn expect_an_end(rt: &impl Abort, bearers: &mut Bearers) {
-    let bound = set(bearers, RuleName::known("also"), pair(8, 4), None);
-    assert_eq!(rt; bound, Some(Ok(BearerId(9))));
-    let stays = bearers.unbind(&RuleName::known("r4"));
-    assert_eq!(rt; stays, released(9, false));
-    assert_eq!(rt; bearers.guaranteed(BearerId(9)), sums(0, 0));
-    let ends = bearers.unbind(&RuleName::known("also"));
-    assert_eq!(rt; ends, released(9, true));
-    assert_eq!(rt; bearers.guaranteed(BearerId(9)), None);
-}
-
-// The least free id is the next one.
-fn expect_the_least_free_ids(rt: &impl Abort, bearers: &mut Bearers) {
-    let _ = bearers.unbind(&RuleName::known("r9"));
-    let bound = set(bearers, RuleName::known("r11"), pair(8, 11), None);
-    assert_eq!(rt; bound, Some(Ok(BearerId(9))));
-    let bound = set(bearers, RuleName::known("r12"), pair(7, 11), None);
-    assert_eq!(rt; bound, Some(Ok(BearerId(14))));
+/// Binds rules to the bearers that were found: whether there was one for a rule of the fourth pair, for the fourth rule
+/// itself, which takes the fifth pair, and for an eleventh pair.
+fn are_found(bearers: &mut Bearers) -> [bool; 3] {
+    [
+        bind_to_found(bearers, RuleName::known("also"), &pair(8, 4)),
+        bind_to_found(bearers, RuleName::known("r4"), &pair(8, 5)),
+        bind_to_found(bearers, RuleName::known("r11"), &pair(8, 11)),
+    ]
 }
 
 #[test]
 fn a_rule_is_bound_to_the_bearer_that_was_found(rt: HostRuntime) -> Result<(), Fail> {
     let mut bearers = ten()?;
-    let also = RuleName::known("also");
-    assert!(rt; bind_to_found(&mut bearers, also.copy(), &pair(8, 4)));
-    assert_eq!(rt; bearers.bearer_of(&also), Some(BearerId(9)));
-    assert!(rt; bind_to_found(&mut bearers, RuleName::known("r4"), &pair(8, 5)));
-    assert_eq!(rt; bearers.rules_on(BearerId(9)), 1);
-    assert_eq!(rt; bearers.rules_on(BearerId(10)), 2);
-    assert!(rt; !bind_to_found(&mut bearers, RuleName::known("r11"), &pair(8, 11)));
-    assert_eq!(rt; bearers.bound().len(), 11);
+    let found = are_found(&mut bearers);
+    let also = bearers.bearer_of(&RuleName::known("also"));
+    let on_each = [
+        bearers.rules_on(BearerId(9)),
+        bearers.rules_on(BearerId(10)),
+    ];
+    let len = bearers.bound().len();
+    assert_eq!(rt; (found, also), ([true, true, false], Some(BearerId(9))));
+    assert_eq!(rt; (on_each, len), ([1, 2], 11));
     Ok(())
 }
 
-/// Binds a rule with rates and a pair of level 2.
+/// Binds a rule with rates and a pair of level 2: the answer, and the sums on bearer 6 afterwards.
 fn set_rated(
     bearers: &mut Bearers,
     name: &str,
     qci: u8,
-    rates: (u32, u32),
-) -> Option<Result<BearerId, Refusal>> {
+    rates: Rates,
+) -> Option<(Answer, Option<Sums>)> {
     let name = RuleName::new(name).ok()?;
-    let (up, down) = rates;
-    set(bearers, name, pair(qci, 2), Some(Rates { up, down }))
+    let answer = set(bearers, name, pair(qci, 2), Some(rates));
+    Some((answer, bearers.guaranteed(BearerId(6))))
 }
 
 #[test]
 fn rates_at_the_capacity(rt: HostRuntime) -> Result<(), Fail> {
     let mut bearers = bearers(Sums { up: 300, down: 500 })?;
     expect_rates_within(&rt, &mut bearers);
+    assert_eq!(rt; bearers.guaranteed(BearerId(7)), sums(1, 2));
     Ok(())
 }
 
 /// Each step binds a rule with a QCI and rates: expects its bearer or its refusal, and the sums on bearer 6 afterwards.
 fn expect_rates_within(rt: &impl Abort, bearers: &mut Bearers) {
-    for (name, qci, rates, answer, (up, down)) in [
-        ("v1", 128u8, (100u32, 200u32), Ok(BearerId(6)), (100u64, 200u64)),
-        ("v2", 128, (200, 300), Ok(BearerId(6)), (300, 500)),
-        ("v3", 128, (1, 0), Err(Refusal::OverCapacityUp), (300, 500)),
-        ("v3", 128, (0, 1), Err(Refusal::OverCapacityDown), (300, 500)),
-        ("v3", 128, (1, 1), Err(Refusal::OverCapacityUp), (300, 500)),
-        ("v3", 1, (0, 0), Ok(BearerId(7)), (300, 500)),
+    for (name, qci, (up, down), answer, on_six) in [
+        (
+            "v1",
+            128u8,
+            (100u32, 200u32),
+            Ok(BearerId(6)),
+            sums(100, 200),
+        ),
+        ("v2", 128, (200, 300), Ok(BearerId(6)), sums(300, 500)),
+        (
+            "v3",
+            128,
+            (1, 0),
+            Err(Refusal::OverCapacityUp),
+            sums(300, 500),
+        ),
+        (
+            "v3",
+            128,
+            (0, 1),
+            Err(Refusal::OverCapacityDown),
+            sums(300, 500),
+        ),
+        (
+            "v3",
+            128,
+            (1, 1),
+            Err(Refusal::OverCapacityUp),
+            sums(300, 500),
+        ),
+        ("v3", 1, (0, 0), Ok(BearerId(7)), sums(300, 500)),
         // The old rates of a rule don't count, and a refusal keeps them.
-        ("v2", 128, (200, 300), Ok(BearerId(6)), (300, 500)),
-        ("v2", 128, (200, 301), Err(Refusal::OverCapacityDown), (300, 500)),
-        ("v2", 1, (1, 2), Ok(BearerId(7)), (100, 200)),
+        ("v2", 128, (200, 300), Ok(BearerId(6)), sums(300, 500)),
+        (
+            "v2",
+            128,
+            (200, 301),
+            Err(Refusal::OverCapacityDown),
+            sums(300, 500),
+        ),
+        ("v2", 1, (1, 2), Ok(BearerId(7)), sums(100, 200)),
     ] {
-        let found = set_rated(bearers, name, qci, rates);
-        assert_eq!(rt; found, Some(answer), "{name} with {rates:?}");
-        assert_eq!(rt; bearers.guaranteed(BearerId(6)), sums(up, down));
+        let found = set_rated(bearers, name, qci, Rates { up, down });
+        assert_eq!(rt;
+            found,
+            Some((Some(answer), on_six)),
+            "{name} with {up} and {down}"
+        );
     }
-    assert_eq!(rt; bearers.guaranteed(BearerId(7)), sums(1, 2));
 }
 
 #[test]
@@ -298,37 +368,53 @@ fn is_fault_text(alloc: Global, fault: OpenFault, text: &str) -> Option<bool> {
     Some(written.as_str() == text)
 }
 
-#[test]
-fn texts(rt: HostRuntime) {
-    for (refusal, text) in [
-        (Refusal::UnknownQci, "the QCI is unknown"),
-        (Refusal::RatesMissing, "the rule has no guaranteed rates"),
-        (Refusal::RatesNotWanted, "the rule has guaranteed rates"),
-        (
+/// Whether each refusal that bearers give is written as it is to be.
+fn are_refusals_written(alloc: Global) -> [Option<bool>; 6] {
+    [
+        is_refusal_text(alloc, Refusal::UnknownQci, "the QCI is unknown"),
+        is_refusal_text(
+            alloc,
+            Refusal::RatesMissing,
+            "the rule has no guaranteed rates",
+        ),
+        is_refusal_text(
+            alloc,
+            Refusal::RatesNotWanted,
+            "the rule has guaranteed rates",
+        ),
+        is_refusal_text(
+            alloc,
             Refusal::TooManyBearers,
             "no more bearers can be established",
         ),
-        (
+        is_refusal_text(
+            alloc,
             Refusal::OverCapacityUp,
             "the uplink rates are over the capacity",
         ),
-        (
+        is_refusal_text(
+            alloc,
             Refusal::OverCapacityDown,
             "the downlink rates are over the capacity",
         ),
-    ] {
-        let is_text = is_refusal_text(rt.alloc(), refusal, text);
-        assert_eq!(rt; is_text, Some(true), "{text}");
-    }
-    for (fault, text) in [
-        (OpenFault::UnknownQci, "the default QCI is unknown"),
-        (
+    ]
+}
+
+/// Whether each fault of an opening is written as it is to be.
+fn are_faults_written(alloc: Global) -> [Option<bool>; 3] {
+    [
+        is_fault_text(alloc, OpenFault::UnknownQci, "the default QCI is unknown"),
+        is_fault_text(
+            alloc,
             OpenFault::DefaultIsGbr,
             "the default QCI has a guaranteed bit rate",
         ),
-        (OpenFault::NoMemory, "there is no memory left"),
-    ] {
-        let is_text = is_fault_text(rt.alloc(), fault, text);
-        assert_eq!(rt; is_text, Some(true), "{text}");
-    }
+        is_fault_text(alloc, OpenFault::NoMemory, "there is no memory left"),
+    ]
+}
+
+#[test]
+fn texts(rt: HostRuntime) {
+    assert_eq!(rt; are_refusals_written(rt.alloc()), [Some(true); 6]);
+    assert_eq!(rt; are_faults_written(rt.alloc()), [Some(true); 3]);
 }

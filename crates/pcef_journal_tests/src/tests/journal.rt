@@ -200,7 +200,11 @@ fn lanes_of_workers(rt: HostRuntime) -> Result<(), Fail> {
     let lanes = octets_of_small(rt.alloc())?;
     assert_eq!(rt;
         lanes,
-        [[Some(28), Some(60), None], [Some(40), None, None], [None; 3]]
+        [
+            [Some(28), Some(60), None],
+            [Some(40), None, None],
+            [None; 3]
+        ]
     );
     Ok(())
 }

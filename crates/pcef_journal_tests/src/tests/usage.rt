@@ -129,10 +129,7 @@ fn lose_rules(
 }
 
 /// The end of an event.
-fn report_thresholds(
-    counted: &mut CountedJournal,
-    subscribed: bool,
-) -> Result<(), AllocError> {
+fn report_thresholds(counted: &mut CountedJournal, subscribed: bool) -> Result<(), AllocError> {
     counted.reserve(MAX_KEYS)?;
     let _states = counted.usage().states();
     counted.report_thresholds(subscribed);
@@ -232,7 +229,10 @@ fn around_the_grant(
 fn a_grant_is_reached(rt: HostRuntime) -> Result<(), Fail> {
     let (before, after, slot, is_told) = around_the_grant(&rt, rt.alloc())?;
     let other = Some((true, Some(1000), 0, 28));
-    assert_eq!(rt; before, (2, 0, [Some((true, Some(100), 0, 60)), other, None]));
+    assert_eq!(rt;
+        before,
+        (2, 0, [Some((true, Some(100), 0, 60)), other, None])
+    );
     assert_eq!(rt; after, (3, 1, [Some((true, None, 100, 0)), other, None]));
     assert_eq!(rt; (slot, is_told), (Some(Slot(1)), true));
     Ok(())
@@ -265,10 +265,7 @@ fn seen_around_the_loss(
 }
 
 /// The same of a new journal.
-fn around_the_loss(
-    rt: &impl Abort,
-    alloc: Global,
-) -> Result<(u64, Seen, bool, u64), AllocError> {
+fn around_the_loss(rt: &impl Abort, alloc: Global) -> Result<(u64, Seen, bool, u64), AllocError> {
     let mut counted = CountedJournal::new(alloc);
     seen_around_the_loss(rt, &mut counted)
 }
