@@ -211,10 +211,14 @@ fn least_free_ids(bearers: &mut Bearers) -> [Answer; 2] {
 fn a_bearer_ends_with_its_last_rule(rt: HostRuntime) -> Result<(), Fail> {
     let mut bearers = ten()?;
     let (bound, left, rates) = around_an_end(&mut bearers);
-    let ids = least_free_ids(&mut bearers);
+    let [fourth, eleventh] = least_free_ids(&mut bearers);
+    let nine = Some(Ok(BearerId(9)));
     assert_eq!(rt; left, [released(9, false), released(9, true)]);
-    assert_eq!(rt; (bound, rates), (Some(Ok(BearerId(9))), [sums(0, 0), None]));
-    assert_eq!(rt; ids, [Some(Ok(BearerId(9))), Some(Ok(BearerId(14)))]);
+    assert_eq!(rt; rates, [sums(0, 0), None]);
+    assert_eq!(rt;
+        [bound, fourth, eleventh],
+        [nine, nine, Some(Ok(BearerId(14)))]
+    );
     Ok(())
 }
 
@@ -265,54 +269,25 @@ fn rates_at_the_capacity(rt: HostRuntime) -> Result<(), Fail> {
 
 /// Each step binds a rule with a QCI and rates: expects its bearer or its refusal, and the sums on bearer 6 afterwards.
 fn expect_rates_within(rt: &impl Abort, bearers: &mut Bearers) {
-    for (name, qci, (up, down), answer, on_six) in [
-        (
-            "v1",
-            128u8,
-            (100u32, 200u32),
-            Ok(BearerId(6)),
-            sums(100, 200),
-        ),
-        ("v2", 128, (200, 300), Ok(BearerId(6)), sums(300, 500)),
-        (
-            "v3",
-            128,
-            (1, 0),
-            Err(Refusal::OverCapacityUp),
-            sums(300, 500),
-        ),
-        (
-            "v3",
-            128,
-            (0, 1),
-            Err(Refusal::OverCapacityDown),
-            sums(300, 500),
-        ),
-        (
-            "v3",
-            128,
-            (1, 1),
-            Err(Refusal::OverCapacityUp),
-            sums(300, 500),
-        ),
-        ("v3", 1, (0, 0), Ok(BearerId(7)), sums(300, 500)),
+    let six = Ok(BearerId(6));
+    let seven = Ok(BearerId(7));
+    let over_up = Err(Refusal::OverCapacityUp);
+    let over_down = Err(Refusal::OverCapacityDown);
+    for (name, qci, (up, down), answer, (up_on_six, down_on_six)) in [
+        ("v1", 128u8, (100u32, 200u32), six, (100u64, 200u64)),
+        ("v2", 128, (200, 300), six, (300, 500)),
+        ("v3", 128, (1, 0), over_up, (300, 500)),
+        ("v3", 128, (0, 1), over_down, (300, 500)),
+        ("v3", 128, (1, 1), over_up, (300, 500)),
+        ("v3", 1, (0, 0), seven, (300, 500)),
         // The old rates of a rule don't count, and a refusal keeps them.
-        ("v2", 128, (200, 300), Ok(BearerId(6)), sums(300, 500)),
-        (
-            "v2",
-            128,
-            (200, 301),
-            Err(Refusal::OverCapacityDown),
-            sums(300, 500),
-        ),
-        ("v2", 1, (1, 2), Ok(BearerId(7)), sums(100, 200)),
+        ("v2", 128, (200, 300), six, (300, 500)),
+        ("v2", 128, (200, 301), over_down, (300, 500)),
+        ("v2", 1, (1, 2), seven, (100, 200)),
     ] {
         let found = set_rated(bearers, name, qci, Rates { up, down });
-        assert_eq!(rt;
-            found,
-            Some((Some(answer), on_six)),
-            "{name} with {up} and {down}"
-        );
+        let expected = (Some(answer), sums(up_on_six, down_on_six));
+        assert_eq!(rt; found, Some(expected), "{name}, {up} and {down}");
     }
 }
 

@@ -399,21 +399,32 @@ fn copies_of_the_reports_that_are_left(rt: HostRuntime) -> Result<(), Fail> {
     Ok(())
 }
 
+/// Whether two rules have the same name and the same filters.
+fn is_same_rule(a: &Rule, b: &Rule) -> bool {
+    a.properties().name == b.properties().name && a.filters() == b.filters()
+}
+
 /// Whether two commands are the same, where rules of the same name and filters are.
 fn is_same(a: &Command, b: &Command) -> bool {
     match (a, b) {
-        (Command::Install(a), Command::Install(b)) => a.properties().name == b.properties().name
-            && a.filters() == b.filters(),
-        (Command::Activate(a), Command::Activate(b)) => a == b,
-        (Command::Remove(a), Command::Remove(b)) => a == b,
+        (Command::Install(a), Command::Install(b)) => is_same_rule(a, b),
         (Command::Monitor { key: a, grant: c }, Command::Monitor { key: b, grant: d }) => a == b
             && c == d,
-        (Command::Stop(a), Command::Stop(b)) => a == b,
-        (Command::ReportNow(a), Command::ReportNow(b)) => a == b,
         (Command::Triggers(a), Command::Triggers(b)) => a == b,
         (Command::Notice { kind: a, value: c }, Command::Notice { kind: b, value: d }) => a == b
             && c == d,
         (Command::LoseBearer(a), Command::LoseBearer(b)) => a == b,
+        _ => is_same_by_name(a, b),
+    }
+}
+
+/// Whether two commands are the same that have no more than a name.
+fn is_same_by_name(a: &Command, b: &Command) -> bool {
+    match (a, b) {
+        (Command::Activate(a), Command::Activate(b)) => a == b,
+        (Command::Remove(a), Command::Remove(b)) => a == b,
+        (Command::Stop(a), Command::Stop(b)) => a == b,
+        (Command::ReportNow(a), Command::ReportNow(b)) => a == b,
         (Command::Close, Command::Close) => true,
         (Command::Terminate, Command::Terminate) => true,
         _ => false,
