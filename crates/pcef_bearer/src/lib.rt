@@ -9,6 +9,3 @@ mod vacant;
 
 pub use bearers::{Bearers, Bound, MAX_BOUND, Released};
 pub use ids::DEFAULT_BEARER;
-
-#[cfg(test)]
-mod tests;

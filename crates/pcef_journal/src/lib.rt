@@ -8,6 +8,3 @@ mod walk;
 
 pub use journal::Journal;
 pub use walk::{Commands, Lane, Reports};
-
-#[cfg(test)]
-mod tests;

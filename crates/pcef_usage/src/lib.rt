@@ -8,6 +8,3 @@ mod vacant;
 
 pub use counted::CountedJournal;
 pub use usage::{KeyState, KeysFull, MAX_KEYS, Usage};
-
-#[cfg(test)]
-mod tests;

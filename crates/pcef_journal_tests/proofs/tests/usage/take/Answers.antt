@@ -1,5 +1,5 @@
 use Rattle.std.proofs.Common.{arith, refl}
-use Rattle.pcef_usage.proofs.tests.take.Goals as goal
+use Rattle.pcef_journal_tests.proofs.tests.usage.take.Goals as goal
 
 pub take_row-requires-clause-fits : goal.take_row-requires-clause-fits
 take_row-requires-clause-fits g c =

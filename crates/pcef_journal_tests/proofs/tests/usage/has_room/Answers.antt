@@ -2,7 +2,7 @@ use Rattle.std.proofs.Common.{arith, ap, List, length, get_or, ◌≡◌, ◌<�
 use Rattle.pcef_usage.specs.declared.usage.KeyState.{KeyState}
 use Rattle.pcef_usage.specs.Keys.{state_at}
 use Rattle.pcef_usage.proofs.Places.{state_read}
-use Rattle.pcef_usage.proofs.tests.has_room.Goals as goal
+use Rattle.pcef_journal_tests.proofs.tests.usage.has_room.Goals as goal
 
 pub returns : goal.returns
 returns g c =

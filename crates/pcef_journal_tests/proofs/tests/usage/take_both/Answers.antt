@@ -1,6 +1,6 @@
 use Rattle.std.proofs.Common.{arith, refl, ap, ◌∙◌, false}
 use Rattle.std.specs.Prelude.{◌||◌}
-use Rattle.pcef_usage.proofs.tests.take_both.Goals as goal
+use Rattle.pcef_journal_tests.proofs.tests.usage.take_both.Goals as goal
 
 pub take_row-requires-clause-fits : goal.take_row-requires-clause-fits
 take_row-requires-clause-fits g c =

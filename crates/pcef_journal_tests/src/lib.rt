@@ -1,0 +1,6 @@
+//! Tests of journals, of the counters that go with them, and of bearers. They stand above the crates that they test, each
+//! of which is then proved once.
+#![tactic(auto)]
+
+#[cfg(test)]
+mod tests;

@@ -1,0 +1,395 @@
+//! Bindings that were worked out by hand from TS 23.203, clauses 6.1.1.4 and 6.2.2.2.
+
+ghost use Rattle.std.specs.Prelude.{◌<◌};
+ghost use Rattle.pcef_rule.specs.Priority.{IsLevel};
+
+use pcef_bearer::{Bearers, DEFAULT_BEARER, MAX_BOUND, Released};
+use pcef_model::{OpenFault, Refusal};
+use pcef_rule::{
+    Arp, BearerId, Kind, NameFault, Qci, QciFault, QciTable, Qos, Rates, RuleName, Sums,
+};
+use std::alloc::Global;
+use std::process::Abort;
+use std::test::Fail;
+
+fn pair(qci: u8, level: u8) -> Qos
+    requires { IsLevel level }
+{
+    Qos {
+        qci: Qci(qci),
+        arp: Arp::known(level, false, true),
+    }
+}
+
+/// Bearers whose default pair has QCI 9 and level 15.
+fn bearers(capacity: Sums) -> Result<Bearers, Fail> {
+    let qcis = QciTable::new(&[(128, Kind::Gbr)])?;
+    Ok(Bearers::new(pair(9, 15), capacity, qcis)?)
+}
+
+/// The bearer of a rule that was to be bound, or why it wasn't; none where there is no place for a rule more.
+type Answer = Option<Result<BearerId, Refusal>>;
+
+/// Binds a rule, or binds it anew.
+fn set(bearers: &mut Bearers, name: RuleName, qos: Qos, rates: Option<Rates>) -> Answer {
+    if bearers.is_bound(&name) {
+        return Some(bearers.rebind(name, qos, rates));
+    }
+    if bearers.bound().len() < MAX_BOUND {
+        return Some(bearers.bind(name, qos, rates));
+    }
+    None
+}
+
+/// Binds a rule to the bearer that is found for it, and tells whether there is one.
+fn bind_to_found(bearers: &mut Bearers, name: RuleName, qos: &Qos) -> bool {
+    if bearers.bound().len() >= MAX_BOUND {
+        return false;
+    }
+    if bearers.refusal(&name, *qos, None).is_some() {
+        return false;
+    }
+    match bearers.bearer_for(&name, *qos) {
+        Some(bearer) => {
+            bearers.bind_to(name, *qos, None, bearer);
+            true
+        }
+        None => false,
+    }
+}
+
+const NAMES: [&str; 10] = ["r1", "r2", "r3", "r4", "r5", "r6", "r7", "r8", "r9", "r10"];
+
+/// Ten rules on ten bearers beside the default one.
+fn ten() -> Result<Bearers, Fail> {
+    let mut bearers = bearers(Sums { up: 0, down: 0 })?;
+    match bind_ten(&mut bearers) {
+        Ok(()) => Ok(bearers),
+        Err(fault) => Err(fault)?,
+    }
+}
+
+/// Binds the ten rules, each with a pair of its own.
+fn bind_ten(bearers: &mut Bearers) -> Result<(), NameFault> {
+    for level in 1..11u8 {
+        let name = RuleName::new(NAMES[level as usize - 1])?;
+        let _ = set(bearers, name, pair(8, level), None);
+    }
+    Ok(())
+}
+
+/// Whether a rule is bound, and its bearer.
+fn bearer_of(bearers: &Bearers, name: &RuleName) -> (bool, Option<BearerId>) {
+    (bearers.is_bound(name), bearers.bearer_of(name))
+}
+
+/// Of one of the ten rules: whether it is bound, its bearer, and how many rules are on the bearer that is expected.
+fn bearer_of_ten(bearers: &Bearers, place: u8) -> Option<(bool, Option<BearerId>, u8)>
+    requires { place < 10 }
+{
+    let name = RuleName::new(NAMES[place as usize]).ok()?;
+    let (is_bound, bearer) = bearer_of(bearers, &name);
+    Some((is_bound, bearer, bearers.rules_on(BearerId(6 + place))))
+}
+
+#[test]
+fn each_pair_gets_a_bearer(rt: HostRuntime) -> Result<(), Fail> {
+    let bearers = ten()?;
+    let eleventh = bearer_of(&bearers, &RuleName::known("r11"));
+    assert_eq!(rt; (bearers.bound().len(), eleventh), (10, (false, None)));
+    for place in 0..10u8 {
+        let id = BearerId(6 + place);
+        let found = bearer_of_ten(&bearers, place);
+        assert_eq!(rt; found, Some((true, Some(id), 1)));
+    }
+    Ok(())
+}
+
+/// What is answered for an eleventh pair: the refusal, no bearer, the refusal to bind a rule, and how many rules are bound
+/// then.
+fn answers_to_an_eleventh(
+    bearers: &mut Bearers,
+) -> (Option<Refusal>, Option<BearerId>, Answer, usize) {
+    let name = RuleName::known("r11");
+    (
+        bearers.refusal(&name, pair(8, 11), None),
+        bearers.bearer_for(&name, pair(8, 11)),
+        set(bearers, name, pair(8, 11), None),
+        bearers.bound().len(),
+    )
+}
+
+/// The fourth rule leaves its bearer to its new pair, and a rule comes to it: their bearers and how many rules are on
+/// theirs. The old pair of the fourth rule finds no bearer then, and the rule stays where it is.
+fn answers_to_a_new_pair(bearers: &mut Bearers) -> ([Answer; 3], u8, Option<BearerId>) {
+    let fourth = set(bearers, RuleName::known("r4"), pair(8, 11), None);
+    let eleventh = set(bearers, RuleName::known("r11"), pair(8, 11), None);
+    let on_theirs = bearers.rules_on(BearerId(9));
+    let back = set(bearers, RuleName::known("r4"), pair(8, 4), None);
+    let bearer = bearers.bearer_of(&RuleName::known("r4"));
+    ([fourth, eleventh, back], on_theirs, bearer)
+}
+
+#[test]
+fn an_eleventh_pair_finds_no_bearer(rt: HostRuntime) -> Result<(), Fail> {
+    let mut bearers = ten()?;
+    let full = answers_to_an_eleventh(&mut bearers);
+    let changed = answers_to_a_new_pair(&mut bearers);
+    let refusal = Refusal::TooManyBearers;
+    assert_eq!(rt; full, (Some(refusal), None, Some(Err(refusal)), 10));
+    let ninth = BearerId(9);
+    let answers = [Some(Ok(ninth)), Some(Ok(ninth)), Some(Err(refusal))];
+    assert_eq!(rt; changed, (answers, 2, Some(ninth)));
+    Ok(())
+}
+
+/// The bearer that a rule of the default pair would get, the one that it gets, and how many rules are on the default
+/// bearer then.
+fn bound_to_the_default(bearers: &mut Bearers, plain: &RuleName) -> (Option<BearerId>, Answer, u8) {
+    (
+        bearers.bearer_for(plain, pair(9, 15)),
+        set(bearers, plain.copy(), pair(9, 15), None),
+        bearers.rules_on(DEFAULT_BEARER),
+    )
+}
+
+/// What the rule leaves, what it leaves once more, and how many rules and which rates are on the default bearer then.
+fn unbound_from_the_default(
+    bearers: &mut Bearers,
+    plain: &RuleName,
+) -> ([Option<Released>; 2], u8, Option<Sums>) {
+    (
+        [bearers.unbind(plain), bearers.unbind(plain)],
+        bearers.rules_on(DEFAULT_BEARER),
+        bearers.guaranteed(DEFAULT_BEARER),
+    )
+}
+
+#[test]
+fn the_default_pair_is_on_the_default_bearer(rt: HostRuntime) -> Result<(), Fail> {
+    let mut bearers = ten()?;
+    let plain = RuleName::known("plain");
+    let bound = bound_to_the_default(&mut bearers, &plain);
+    let unbound = unbound_from_the_default(&mut bearers, &plain);
+    assert_eq!(rt; bound, (Some(DEFAULT_BEARER), Some(Ok(BearerId(5))), 1));
+    assert_eq!(rt; unbound, ([released(5, false), None], 0, sums(0, 0)));
+    Ok(())
+}
+
+/// What a rule leaves: a bearer, which ended with it or not.
+fn released(bearer: u8, ended: bool) -> Option<Released> {
+    Some(Released {
+        bearer: BearerId(bearer),
+        ended,
+    })
+}
+
+fn sums(up: u64, down: u64) -> Option<Sums> {
+    Some(Sums { up, down })
+}
+
+/// Two rules are on one bearer, which ends with the second of them: the bearer of the second one, what each of them leaves,
+/// and the rates on the bearer after each.
+fn around_an_end(bearers: &mut Bearers) -> (Answer, [Option<Released>; 2], [Option<Sums>; 2]) {
+    let bound = set(bearers, RuleName::known("also"), pair(8, 4), None);
+    let first = bearers.unbind(&RuleName::known("r4"));
+    let rates = bearers.guaranteed(BearerId(9));
+    let last = bearers.unbind(&RuleName::known("also"));
+    let gone = bearers.guaranteed(BearerId(9));
+    (bound, [first, last], [rates, gone])
+}
+
+/// The bearers of two new pairs after one bearer more ended: the least free id is the next one.
+fn least_free_ids(bearers: &mut Bearers) -> [Answer; 2] {
+    let _ = bearers.unbind(&RuleName::known("r9"));
+    let one = set(bearers, RuleName::known("r11"), pair(8, 11), None);
+    let other = set(bearers, RuleName::known("r12"), pair(7, 11), None);
+    [one, other]
+}
+
+#[test]
+fn a_bearer_ends_with_its_last_rule(rt: HostRuntime) -> Result<(), Fail> {
+    let mut bearers = ten()?;
+    let (bound, left, rates) = around_an_end(&mut bearers);
+    let [fourth, eleventh] = least_free_ids(&mut bearers);
+    let nine = Some(Ok(BearerId(9)));
+    assert_eq!(rt; left, [released(9, false), released(9, true)]);
+    assert_eq!(rt; rates, [sums(0, 0), None]);
+    assert_eq!(rt;
+        [bound, fourth, eleventh],
+        [nine, nine, Some(Ok(BearerId(14)))]
+    );
+    Ok(())
+}
+
+/// Binds rules to the bearers that were found: whether there was one for a rule of the fourth pair, for the fourth rule
+/// itself, which takes the fifth pair, and for an eleventh pair.
+fn are_found(bearers: &mut Bearers) -> [bool; 3] {
+    [
+        bind_to_found(bearers, RuleName::known("also"), &pair(8, 4)),
+        bind_to_found(bearers, RuleName::known("r4"), &pair(8, 5)),
+        bind_to_found(bearers, RuleName::known("r11"), &pair(8, 11)),
+    ]
+}
+
+#[test]
+fn a_rule_is_bound_to_the_bearer_that_was_found(rt: HostRuntime) -> Result<(), Fail> {
+    let mut bearers = ten()?;
+    let found = are_found(&mut bearers);
+    let also = bearers.bearer_of(&RuleName::known("also"));
+    let on_each = [
+        bearers.rules_on(BearerId(9)),
+        bearers.rules_on(BearerId(10)),
+    ];
+    let len = bearers.bound().len();
+    assert_eq!(rt; (found, also), ([true, true, false], Some(BearerId(9))));
+    assert_eq!(rt; (on_each, len), ([1, 2], 11));
+    Ok(())
+}
+
+/// Binds a rule with rates and a pair of level 2: the answer, and the sums on bearer 6 afterwards.
+fn set_rated(
+    bearers: &mut Bearers,
+    name: &str,
+    qci: u8,
+    rates: Rates,
+) -> Option<(Answer, Option<Sums>)> {
+    let name = RuleName::new(name).ok()?;
+    let answer = set(bearers, name, pair(qci, 2), Some(rates));
+    Some((answer, bearers.guaranteed(BearerId(6))))
+}
+
+#[test]
+fn rates_at_the_capacity(rt: HostRuntime) -> Result<(), Fail> {
+    let mut bearers = bearers(Sums { up: 300, down: 500 })?;
+    expect_rates_within(&rt, &mut bearers);
+    assert_eq!(rt; bearers.guaranteed(BearerId(7)), sums(1, 2));
+    Ok(())
+}
+
+/// Each step binds a rule with a QCI and rates: expects its bearer or its refusal, and the sums on bearer 6 afterwards.
+fn expect_rates_within(rt: &impl Abort, bearers: &mut Bearers) {
+    let six = Ok(BearerId(6));
+    let seven = Ok(BearerId(7));
+    let over_up = Err(Refusal::OverCapacityUp);
+    let over_down = Err(Refusal::OverCapacityDown);
+    for (name, qci, (up, down), answer, (up_on_six, down_on_six)) in [
+        ("v1", 128u8, (100u32, 200u32), six, (100u64, 200u64)),
+        ("v2", 128, (200, 300), six, (300, 500)),
+        ("v3", 128, (1, 0), over_up, (300, 500)),
+        ("v3", 128, (0, 1), over_down, (300, 500)),
+        ("v3", 128, (1, 1), over_up, (300, 500)),
+        ("v3", 1, (0, 0), seven, (300, 500)),
+        // The old rates of a rule don't count, and a refusal keeps them.
+        ("v2", 128, (200, 300), six, (300, 500)),
+        ("v2", 128, (200, 301), over_down, (300, 500)),
+        ("v2", 1, (1, 2), seven, (100, 200)),
+    ] {
+        let found = set_rated(bearers, name, qci, Rates { up, down });
+        let expected = (Some(answer), sums(up_on_six, down_on_six));
+        assert_eq!(rt; found, Some(expected), "{name}, {up} and {down}");
+    }
+}
+
+#[test]
+fn refusals_of_kinds(rt: HostRuntime) -> Result<(), Fail> {
+    let bearers = ten()?;
+    expect_refusals(&rt, &bearers, &RuleName::known("new"));
+    Ok(())
+}
+
+fn expect_refusals(rt: &impl Abort, bearers: &Bearers, name: &RuleName) {
+    let rates = Some(Rates { up: 1, down: 1 });
+    for (qci, rates, refusal) in [
+        (10u8, rates, Some(Refusal::UnknownQci)),
+        (10, None, Some(Refusal::UnknownQci)),
+        (1, None, Some(Refusal::RatesMissing)),
+        (128, None, Some(Refusal::RatesMissing)),
+        (5, rates, Some(Refusal::RatesNotWanted)),
+        (1, rates, Some(Refusal::TooManyBearers)),
+        (8, None, None),
+    ] {
+        let found = bearers.refusal(name, pair(qci, 1), rates);
+        assert_eq!(rt; found, refusal, "QCI {qci}");
+    }
+}
+
+/// The fault of bearers whose default pair has this QCI and level 1.
+fn fault_of(qci: u8) -> Result<Option<OpenFault>, QciFault> {
+    let capacity = Sums { up: 0, down: 0 };
+    Ok(Bearers::new(pair(qci, 1), capacity, QciTable::new(&[])?).err())
+}
+
+#[test]
+fn faults(rt: HostRuntime) {
+    for (qci, fault) in [
+        (10u8, Some(OpenFault::UnknownQci)),
+        (1, Some(OpenFault::DefaultIsGbr)),
+        (9, None),
+    ] {
+        assert_eq!(rt; fault_of(qci), Ok(fault), "QCI {qci}");
+    }
+}
+
+/// Whether a refusal is written as this text, where there is memory for it.
+fn is_refusal_text(alloc: Global, refusal: Refusal, text: &str) -> Option<bool> {
+    let written = format!(in alloc; "{refusal}").ok()?;
+    Some(written.as_str() == text)
+}
+
+/// Whether a fault is written as this text, where there is memory for it.
+fn is_fault_text(alloc: Global, fault: OpenFault, text: &str) -> Option<bool> {
+    let written = format!(in alloc; "{fault}").ok()?;
+    Some(written.as_str() == text)
+}
+
+/// Whether each refusal that bearers give is written as it is to be.
+fn are_refusals_written(alloc: Global) -> [Option<bool>; 6] {
+    [
+        is_refusal_text(alloc, Refusal::UnknownQci, "the QCI is unknown"),
+        is_refusal_text(
+            alloc,
+            Refusal::RatesMissing,
+            "the rule has no guaranteed rates",
+        ),
+        is_refusal_text(
+            alloc,
+            Refusal::RatesNotWanted,
+            "the rule has guaranteed rates",
+        ),
+        is_refusal_text(
+            alloc,
+            Refusal::TooManyBearers,
+            "no more bearers can be established",
+        ),
+        is_refusal_text(
+            alloc,
+            Refusal::OverCapacityUp,
+            "the uplink rates are over the capacity",
+        ),
+        is_refusal_text(
+            alloc,
+            Refusal::OverCapacityDown,
+            "the downlink rates are over the capacity",
+        ),
+    ]
+}
+
+/// Whether each fault of an opening is written as it is to be.
+fn are_faults_written(alloc: Global) -> [Option<bool>; 3] {
+    [
+        is_fault_text(alloc, OpenFault::UnknownQci, "the default QCI is unknown"),
+        is_fault_text(
+            alloc,
+            OpenFault::DefaultIsGbr,
+            "the default QCI has a guaranteed bit rate",
+        ),
+        is_fault_text(alloc, OpenFault::NoMemory, "there is no memory left"),
+    ]
+}
+
+#[test]
+fn texts(rt: HostRuntime) {
+    assert_eq!(rt; are_refusals_written(rt.alloc()), [Some(true); 6]);
+    assert_eq!(rt; are_faults_written(rt.alloc()), [Some(true); 3]);
+}

@@ -1,0 +1,497 @@
+//! A small journal of two workers, whose lanes, commands and reports were written out by hand.
+
+ghost use Rattle.pcef_rule.specs.Name.{IsName};
+
+use pcef_filter::read_filter;
+use pcef_journal::{Commands, Journal, Lane, Reports};
+use pcef_model::{
+    AccessKind, Body, Cause, Command, Entry, InactiveCause, NoticeValue, Report, Row, TriggerSet,
+    Verdict,
+};
+use pcef_packet::{Addr, Dir, Header, Ports};
+use pcef_rule::{Arp, BearerId, Gate, KeyName, Properties, Qci, Qos, Rule, RuleName};
+use std::alloc::{AllocError, Global};
+use std::test::Fail;
+
+/// The row of a worker's packet from 198.51.100.7 port 53 to 10.0.0.2 port 5000.
+fn row(worker: u8, seq: u64, octets: u32, verdict: Verdict) -> Row {
+    Row {
+        worker,
+        seq,
+        generation: 1,
+        header: Header {
+            dir: Dir::Down,
+            src: Addr::V4(0xc633_6407),
+            dst: Addr::V4(0x0a00_0002),
+            proto: 17,
+            ports: Some(Ports { src: 53, dst: 5000 }),
+            octets,
+            dscp: 46,
+        },
+        verdict,
+    }
+}
+
+/// The row of a packet that passed by the rule `web`.
+fn web_row(worker: u8, seq: u64, octets: u32) -> Row {
+    row(worker, seq, octets, passed("web", 6))
+}
+
+/// The report of a number: of usage, of a rule that became inactive, or of an access event.
+fn report(number: u64) -> Report {
+    let body = match number {
+        0 => Body::Usage {
+            key: KeyName::known("minutes"),
+            octets: 128,
+            cause: Cause::Threshold,
+        },
+        1 => Body::Inactive {
+            rule: RuleName::known("web"),
+            cause: InactiveCause::BearerLost,
+        },
+        _ => Body::Access {
+            kind: AccessKind::RatChange,
+            value: NoticeValue::known("LTE"),
+        },
+    };
+    Report { number, body }
+}
+
+/// A rule of the name `web` with one filter.
+fn web(alloc: Global) -> Result<Rule, Fail> {
+    let filter = read_filter("permit out 17 from any 53 to assigned", None)?;
+    let properties = Properties {
+        name: RuleName::known("web"),
+        precedence: 100,
+        qos: Qos {
+            qci: Qci(9),
+            arp: Arp::known(8, false, true),
+        },
+        rates: None,
+        gate: Gate::Enabled,
+        key: Some(KeyName::known("minutes")),
+    };
+    Ok(Rule::new(alloc, properties, &[filter])?)
+}
+
+/// Takes memory for an entry and adds it.
+fn add(journal: &mut Journal, entry: Entry) -> Result<(), AllocError> {
+    match journal.reserve(1) {
+        Ok(()) => {
+            journal.append(entry);
+            Ok(())
+        }
+        Err(error) => Err(error),
+    }
+}
+
+/// An entry of the small journal by its place, from 0 to 10.
+fn entry(alloc: Global, place: u8) -> Result<Entry, Fail> {
+    Ok(match place {
+        0 => Entry::Attach(0),
+        1 => Entry::Command(Command::Install(web(alloc)?)),
+        2 => Entry::Row(web_row(0, 0, 28)),
+        3 => Entry::Attach(1),
+        4 => Entry::Row(web_row(1, 0, 40)),
+        5 => Entry::Row(web_row(0, 1, 60)),
+        6 => Entry::Report(report(0)),
+        7 => Entry::Command(Command::LoseBearer(BearerId(6))),
+        8 => Entry::Report(report(1)),
+        9 => Entry::Leave(1),
+        _ => Entry::Report(report(2)),
+    })
+}
+
+/// Adds the entries of the small journal.
+fn fill(alloc: Global, journal: &mut Journal) -> Result<(), Fail> {
+    for place in 0..11u8 {
+        add(journal, entry(alloc, place)?)?;
+    }
+    Ok(())
+}
+
+/// Two workers, of which worker 0 has two packets and worker 1 one, among two commands and three reports.
+fn small_journal(alloc: Global) -> Result<Journal, Fail> {
+    let mut journal = Journal::new(alloc);
+    match fill(alloc, &mut journal) {
+        Ok(()) => Ok(journal),
+        Err(fail) => Err(fail),
+    }
+}
+
+/// How many rows, commands and reports a journal has.
+fn counts(journal: &Journal) -> (u64, u64, u64) {
+    (
+        journal.rows_len(),
+        journal.commands_len(),
+        journal.reports_len(),
+    )
+}
+
+/// The counts of a journal without entries.
+fn counts_of_none(alloc: Global) -> (u64, u64, u64) {
+    let journal = Journal::new(alloc);
+    counts(&journal)
+}
+
+/// The counts of the small journal.
+fn counts_of_small(alloc: Global) -> Result<(u64, u64, u64), Fail> {
+    let journal = small_journal(alloc)?;
+    Ok(counts(&journal))
+}
+
+#[test]
+fn counts_of_entries(rt: HostRuntime) -> Result<(), Fail> {
+    let none = counts_of_none(rt.alloc());
+    let small = counts_of_small(rt.alloc())?;
+    assert_eq!(rt; (none, small), ((0, 0, 0), (3, 2, 3)));
+    Ok(())
+}
+
+/// Takes memory for two entries, and then adds them.
+fn add_two(journal: &mut Journal) -> Result<(), AllocError> {
+    journal.reserve(2)?;
+    journal.append(Entry::Attach(0));
+    journal.append(Entry::Row(web_row(0, 0, 28)));
+    Ok(())
+}
+
+/// How many rows there are then.
+fn rows_of_two(alloc: Global) -> Result<u64, AllocError> {
+    let mut journal = Journal::new(alloc);
+    match add_two(&mut journal) {
+        Ok(()) => Ok(journal.rows_len()),
+        Err(error) => Err(error),
+    }
+}
+
+#[test]
+fn entries_into_reserved_room(rt: HostRuntime) {
+    let rows = rows_of_two(rt.alloc());
+    assert_eq!(rt; rows, Ok(1));
+}
+
+fn next_octets(lane: &mut Lane<'_>) -> Option<u32> {
+    lane.next().map(|row| row.header.octets)
+}
+
+/// The octets of the first three rows of a worker.
+fn octets_of(journal: &Journal, worker: u8) -> [Option<u32>; 3] {
+    let mut lane = journal.lane(worker);
+    [
+        next_octets(&mut lane),
+        next_octets(&mut lane),
+        next_octets(&mut lane),
+    ]
+}
+
+/// The octets of three workers in the small journal.
+fn octets_of_small(alloc: Global) -> Result<[[Option<u32>; 3]; 3], Fail> {
+    let journal = small_journal(alloc)?;
+    Ok([
+        octets_of(&journal, 0),
+        octets_of(&journal, 1),
+        octets_of(&journal, 2),
+    ])
+}
+
+#[test]
+fn lanes_of_workers(rt: HostRuntime) -> Result<(), Fail> {
+    let lanes = octets_of_small(rt.alloc())?;
+    assert_eq!(rt;
+        lanes,
+        [
+            [Some(28), Some(60), None],
+            [Some(40), None, None],
+            [None; 3]
+        ]
+    );
+    Ok(())
+}
+
+fn passed(rule: &str, bearer: u8) -> Verdict
+    requires { IsName rule.now }
+{
+    Verdict::Passed {
+        rule: RuleName::known(rule),
+        bearer: BearerId(bearer),
+    }
+}
+
+fn gated(rule: &str) -> Verdict
+    requires { IsName rule.now }
+{
+    Verdict::Gated {
+        rule: RuleName::known(rule),
+    }
+}
+
+/// The verdict of a row by its place, from 0 to 7: of one rule, of a second one between, of the first one again, and of
+/// none.
+fn verdict(place: u8) -> Verdict {
+    match place {
+        0 => passed("web", 6),
+        1 => passed("web", 7),
+        2 => gated("mail"),
+        3 => Verdict::Stray,
+        4 => passed("web", 6),
+        5 => Verdict::Unmatched,
+        6 => gated("web"),
+        _ => passed("mail", 5),
+    }
+}
+
+/// Adds a row of each of the eight verdicts.
+fn add_verdicts(journal: &mut Journal) -> Result<(), AllocError> {
+    for place in 0..8u8 {
+        add(journal, Entry::Row(row(0, 0, 40, verdict(place))))?;
+    }
+    Ok(())
+}
+
+/// Whether the next row has the verdict of a place.
+fn is_next_verdict(lane: &mut Lane<'_>, place: u8) -> bool {
+    match lane.next() {
+        Some(row) => row.verdict == verdict(place),
+        None => false,
+    }
+}
+
+/// How many of the eight verdicts a lane has, and whether no row follows them.
+fn verdicts_in(mut lane: Lane<'_>) -> (u8, bool) {
+    let mut kept = 0u8;
+    for place in 0..8u8 {
+        if is_next_verdict(&mut lane, place) {
+            kept = kept.saturating_add(1);
+        }
+    }
+    (kept, lane.next().is_none())
+}
+
+/// What a journal keeps of the eight verdicts.
+fn kept_verdicts(alloc: Global) -> Result<(u8, bool), AllocError> {
+    let mut journal = Journal::new(alloc);
+    match add_verdicts(&mut journal) {
+        Ok(()) => Ok(verdicts_in(journal.lane(0))),
+        Err(error) => Err(error),
+    }
+}
+
+#[test]
+fn rows_of_several_rules(rt: HostRuntime) {
+    let kept = kept_verdicts(rt.alloc());
+    assert_eq!(rt; kept, Ok((8, true)));
+}
+
+/// Whether the next command is the same as this one.
+fn is_next(commands: &mut Commands<'_>, expected: &Command) -> bool {
+    match commands.next() {
+        Some(found) => is_same(found, expected),
+        None => false,
+    }
+}
+
+/// Whether the commands are those of the small journal, one by one, and no other follows them.
+fn are_expected(alloc: Global, mut commands: Commands<'_>) -> Result<[bool; 3], Fail> {
+    let install = Command::Install(web(alloc)?);
+    Ok([
+        is_next(&mut commands, &install),
+        is_next(&mut commands, &Command::LoseBearer(BearerId(6))),
+        commands.next().is_none(),
+    ])
+}
+
+/// Whether the small journal has the commands that are expected.
+fn are_commands_of_small(alloc: Global) -> Result<[bool; 3], Fail> {
+    let journal = small_journal(alloc)?;
+    are_expected(alloc, journal.commands())
+}
+
+#[test]
+fn commands_from_the_oldest_on(rt: HostRuntime) -> Result<(), Fail> {
+    let found = are_commands_of_small(rt.alloc())?;
+    assert_eq!(rt; found, [true; 3]);
+    Ok(())
+}
+
+fn next_number(reports: &mut Reports<'_>) -> Option<u64> {
+    reports.next().map(|report| report.number)
+}
+
+/// The numbers of the first four reports from a number on.
+fn numbers_from(journal: &Journal, first: u64) -> [Option<u64>; 4] {
+    let mut reports = journal.reports_from(first);
+    [
+        next_number(&mut reports),
+        next_number(&mut reports),
+        next_number(&mut reports),
+        next_number(&mut reports),
+    ]
+}
+
+/// The numbers of the small journal's reports from 0, 1, 2, 3 and 9 on.
+fn numbers_of_small(alloc: Global) -> Result<[[Option<u64>; 4]; 5], Fail> {
+    let journal = small_journal(alloc)?;
+    Ok([
+        numbers_from(&journal, 0),
+        numbers_from(&journal, 1),
+        numbers_from(&journal, 2),
+        numbers_from(&journal, 3),
+        numbers_from(&journal, 9),
+    ])
+}
+
+#[test]
+fn reports_from_a_number_on(rt: HostRuntime) -> Result<(), Fail> {
+    let numbers = numbers_of_small(rt.alloc())?;
+    assert_eq!(rt;
+        numbers,
+        [
+            [Some(0), Some(1), Some(2), None],
+            [Some(1), Some(2), None, None],
+            [Some(2), None, None, None],
+            [None; 4],
+            [None; 4]
+        ]
+    );
+    Ok(())
+}
+
+/// Whether these are the reports of these numbers.
+fn are_reports(found: &[Report], numbers: &[u64]) -> bool {
+    if found.len() != numbers.len() {
+        return false;
+    }
+    for (report_found, number) in found.iter().zip(numbers) {
+        if *report_found != report(*number) {
+            return false;
+        }
+    }
+    true
+}
+
+/// Whether the copies of the reports that are left are those of these numbers.
+fn are_copied(alloc: Global, reports: &Reports<'_>, numbers: &[u64]) -> Option<bool> {
+    let copies = reports.to_vec(alloc).ok()?;
+    Some(are_reports(copies.as_slice(), numbers))
+}
+
+/// Whether all reports are copied, then those after the first one, and then those after the last one.
+fn are_ends_copied(alloc: Global, journal: &Journal) -> [Option<bool>; 3] {
+    let mut reports = journal.reports_from(0);
+    let all = are_copied(alloc, &reports, &[0, 1, 2]);
+    let _ = reports.next();
+    let rest = are_copied(alloc, &reports, &[1, 2]);
+    let none = are_copied(alloc, &journal.reports_from(3), &[]);
+    [all, rest, none]
+}
+
+/// Whether they are so in the small journal.
+fn are_ends_of_small_copied(alloc: Global) -> Result<[Option<bool>; 3], Fail> {
+    let journal = small_journal(alloc)?;
+    Ok(are_ends_copied(alloc, &journal))
+}
+
+#[test]
+fn copies_of_the_reports_that_are_left(rt: HostRuntime) -> Result<(), Fail> {
+    let copied = are_ends_of_small_copied(rt.alloc())?;
+    assert_eq!(rt; copied, [Some(true); 3]);
+    Ok(())
+}
+
+/// Whether two rules have the same name and the same filters.
+fn is_same_rule(a: &Rule, b: &Rule) -> bool {
+    a.properties().name == b.properties().name && a.filters() == b.filters()
+}
+
+/// Whether two commands are the same, where rules of the same name and filters are.
+fn is_same(a: &Command, b: &Command) -> bool {
+    match (a, b) {
+        (Command::Install(a), Command::Install(b)) => is_same_rule(a, b),
+        (Command::Monitor { key: a, grant: c }, Command::Monitor { key: b, grant: d }) => a == b
+            && c == d,
+        (Command::Triggers(a), Command::Triggers(b)) => a == b,
+        (Command::Notice { kind: a, value: c }, Command::Notice { kind: b, value: d }) => a == b
+            && c == d,
+        (Command::LoseBearer(a), Command::LoseBearer(b)) => a == b,
+        _ => is_same_by_name(a, b),
+    }
+}
+
+/// Whether two commands are the same that have no more than a name.
+fn is_same_by_name(a: &Command, b: &Command) -> bool {
+    match (a, b) {
+        (Command::Activate(a), Command::Activate(b)) => a == b,
+        (Command::Remove(a), Command::Remove(b)) => a == b,
+        (Command::Stop(a), Command::Stop(b)) => a == b,
+        (Command::ReportNow(a), Command::ReportNow(b)) => a == b,
+        (Command::Close, Command::Close) => true,
+        (Command::Terminate, Command::Terminate) => true,
+        _ => false,
+    }
+}
+
+/// A command of each kind by its place, from 0 to 10.
+fn command(alloc: Global, place: u8) -> Result<Command, Fail> {
+    Ok(match place {
+        0 => Command::Install(web(alloc)?),
+        1 => Command::Activate(RuleName::known("web")),
+        2 => Command::Remove(RuleName::known("web")),
+        3 => Command::Monitor {
+            key: KeyName::known("minutes"),
+            grant: 1000,
+        },
+        4 => Command::Stop(KeyName::known("minutes")),
+        5 => Command::ReportNow(KeyName::known("minutes")),
+        6 => Command::Triggers(TriggerSet {
+            usage_report: true,
+            user_location_change: true,
+            ..TriggerSet::default()
+        }),
+        7 => Command::Notice {
+            kind: AccessKind::PlmnChange,
+            value: NoticeValue::known("26201"),
+        },
+        8 => Command::LoseBearer(BearerId(6)),
+        9 => Command::Close,
+        _ => Command::Terminate,
+    })
+}
+
+/// Whether a copy of a command is the same, where there is memory for it.
+fn is_copied(command: &Command) -> Option<bool> {
+    let copy = command.copy().ok()?;
+    Some(is_same(&copy, command))
+}
+
+/// Whether a copy of the command of a place is the same.
+fn is_kind_copied(alloc: Global, place: u8) -> Result<Option<bool>, Fail> {
+    let command = command(alloc, place)?;
+    Ok(is_copied(&command))
+}
+
+#[test]
+fn copies_of_commands(rt: HostRuntime) -> Result<(), Fail> {
+    for place in 0..11u8 {
+        let copied = is_kind_copied(rt.alloc(), place)?;
+        assert_eq!(rt; copied, Some(true), "command {place}");
+    }
+    Ok(())
+}
+
+fn is_row_copied(row: &Row) -> bool {
+    row.copy() == *row
+}
+
+fn is_report_copied(report: &Report) -> (bool, bool) {
+    (report.body.copy() == report.body, report.copy() == *report)
+}
+
+#[test]
+fn copies_of_rows_and_reports(rt: HostRuntime) {
+    assert!(rt; is_row_copied(&web_row(1, 7, 40)));
+    for number in 0..3u64 {
+        let copied = is_report_copied(&report(number));
+        assert_eq!(rt; copied, (true, true), "report {number}");
+    }
+}
