@@ -13,6 +13,3 @@ pub use blanks::Blanks;
 pub use books::{Books, MAX_SHARES, SharesOut};
 pub use naming::Naming;
 pub use shares::Shares;
-
-#[cfg(test)]
-mod tests;

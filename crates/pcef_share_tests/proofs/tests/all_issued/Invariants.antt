@@ -1,5 +1,5 @@
 use Rattle.std.specs.Prelude.{◌≡◌, count_by, is_some, length}
-use Rattle.pcef_share.proofs.tests.all_issued.Given as goal
+use Rattle.pcef_share_tests.proofs.tests.all_issued.Given as goal
 
 -- as many shares stand ready as were issued
 abbrev pub invariant-loop-place : goal.invariant-loop-place

@@ -1,8 +1,0 @@
-use Rattle.std.specs.Prelude.{◌≡◌, ◌+◌, length}
-use Rattle.pcef_share.proofs.tests.handed_in_one_by_one.Given as goal
-
--- so many are missing as were not handed in yet
-abbrev pub invariant-loop-share : goal.invariant-loop-share
-invariant-loop-share g l =
-    (l.books.issued ≡ 17) × (length l.handed.items + length l.share-iterator ≡ 17)
-    × (l.missing ≡ length l.share-iterator)
