@@ -81,8 +81,6 @@ impl Failure {
 }
 
 impl From<SharedFault> for Failure {
-    ghost from_gives = { λ _ _. ⊤ };
-
     fn from(fault: SharedFault) -> Failure {
         match fault {
             SharedFault::NoMemory => Failure::NoMemory,
