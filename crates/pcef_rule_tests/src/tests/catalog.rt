@@ -87,23 +87,21 @@ fn named(name: RuleName) -> Properties {
     }
 }
 
+/// Two rules of one name, as many rules as may be, and one more.
 #[test]
-fn two_rules_of_one_name(rt: HostRuntime) {
-    assert_eq!(rt;
-        places_of_named(rt.alloc(), &["web", "mail", "web"]),
-        Some(Err(CatalogFault::SameName))
-    );
-}
-
-#[test]
-fn as_many_rules_as_may_be_and_one_more(rt: HostRuntime) {
+fn rules_that_make_a_catalog_or_none(rt: HostRuntime) {
     let answers = [
+        places_of_named(rt.alloc(), &["web", "mail", "web"]),
         places_of_numbered(rt.alloc(), 32),
         places_of_numbered(rt.alloc(), 33),
     ];
     assert_eq!(rt;
         answers,
-        [Some(Ok([NOWHERE; 5])), Some(Err(CatalogFault::TooMany))]
+        [
+            Some(Err(CatalogFault::SameName)),
+            Some(Ok([NOWHERE; 5])),
+            Some(Err(CatalogFault::TooMany)),
+        ]
     );
 }
 

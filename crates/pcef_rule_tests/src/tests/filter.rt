@@ -91,6 +91,19 @@ fn fault_of(text: &str) -> Option<FilterFault> {
     read_filter(text, None).err()
 }
 
+#[test]
+fn faults_of_texts(rt: HostRuntime) {
+    let wrong = [
+        first_wrong(&CUTS),
+        first_wrong(&TOKENS),
+        first_wrong(&BLANKS_AND_ZEROS),
+        first_wrong(&PLACES),
+        first_wrong(&PORT_LISTS),
+    ];
+    assert_eq!(rt; wrong, [None; 5]);
+}
+
+/// Texts that end early.
 const CUTS: [Text; 9] = [
     ("", Some(FilterFault::Action)),
     ("permit", Some(FilterFault::Direction)),
@@ -103,11 +116,7 @@ const CUTS: [Text; 9] = [
     ("permit out 17 from any 53 to assigned", None),
 ];
 
-#[test]
-fn cuts_of_a_text(rt: HostRuntime) {
-    assert_eq!(rt; first_wrong(&CUTS), None);
-}
-
+/// Tokens that do not fit.
 const TOKENS: [Text; 11] = [
     ("deny out ip from any to any", Some(FilterFault::Action)),
     (
@@ -135,11 +144,6 @@ const TOKENS: [Text; 11] = [
 ];
 
 #[test]
-fn tokens_that_do_not_fit(rt: HostRuntime) {
-    assert_eq!(rt; first_wrong(&TOKENS), None);
-}
-
-#[test]
 fn flow_words_are_judged_last(rt: HostRuntime) {
     let uplink = "permit in ip from any to any";
     let faults = [
@@ -163,6 +167,7 @@ fn fault_for_downlink(text: &str) -> Option<FilterFault> {
     read_filter(text, Some(Flow::Downlink)).err()
 }
 
+/// Too many leading zeros, and a line break that is no blank.
 const BLANKS_AND_ZEROS: [Text; 3] = [
     (
         "permit out 000017 from any to any",
@@ -175,16 +180,7 @@ const BLANKS_AND_ZEROS: [Text; 3] = [
     ("permit\nout ip from any to any", Some(FilterFault::Action)),
 ];
 
-#[test]
-fn blanks_and_leading_zeros(rt: HostRuntime) {
-    let spread = "\t permit  out\t017 from 198.051.100.007/00024 \t00053 to assigned 05000 ";
-    let matched = matches(spread, None, &DNS_ANSWER);
-    assert_eq!(rt;
-        (first_wrong(&BLANKS_AND_ZEROS), matched),
-        (None, Some(true))
-    );
-}
-
+/// Places that are none.
 const PLACES: [Text; 9] = [
     (
         "permit out ip from 198.51.100 to any",
@@ -224,11 +220,7 @@ const PLACES: [Text; 9] = [
     ),
 ];
 
-#[test]
-fn places_that_are_none(rt: HostRuntime) {
-    assert_eq!(rt; first_wrong(&PLACES), None);
-}
-
+/// Port lists: at most eight ranges, each with its lower port first, and none cut off.
 const PORT_LISTS: [Text; 7] = [
     ("permit out 17 from any 1,2,3-4,5,6,7,8,53 to any", None),
     (
@@ -254,11 +246,6 @@ const PORT_LISTS: [Text; 7] = [
     ),
 ];
 
-#[test]
-fn port_lists(rt: HostRuntime) {
-    assert_eq!(rt; first_wrong(&PORT_LISTS), None);
-}
-
 /// A text with a flow word or none, a header, and whether the filter matches packets of this header.
 type Match = (&'static str, Option<Flow>, Header, bool);
 
@@ -278,9 +265,27 @@ fn matches(text: &str, flow: Option<Flow>, header: &Header) -> Option<bool> {
     Some(filter.matches(UE, header))
 }
 
+#[test]
+fn packets_and_filters(rt: HostRuntime) {
+    let wrong = [
+        first_wrong_match(&PACKETS),
+        first_wrong_match(&NETWORKS),
+        first_wrong_match(&FLOW_WORDS),
+    ];
+    assert_eq!(rt; wrong, [None; 3]);
+}
+
 const DNS: &str = "permit out 17 from any 53 to assigned";
 
-const PACKETS: [Match; 8] = [
+/// Protocols, ports and sides.
+const PACKETS: [Match; 9] = [
+    // Blanks and leading zeros.
+    (
+        "\t permit  out\t017 from 198.051.100.007/00024 \t00053 to assigned 05000 ",
+        None,
+        DNS_ANSWER,
+        true,
+    ),
     (DNS, None, DNS_ANSWER, true),
     (DNS, None, DNS_QUESTION, false),
     (DNS, None, NO_PORTS, false),
@@ -311,11 +316,7 @@ const PACKETS: [Match; 8] = [
     ),
 ];
 
-#[test]
-fn packets(rt: HostRuntime) {
-    assert_eq!(rt; first_wrong_match(&PACKETS), None);
-}
-
+/// Addresses and networks.
 const NETWORKS: [Match; 5] = [
     (
         "permit out ip from 198.51.100.7 to 10.0.0.2/32",
@@ -350,11 +351,7 @@ const NETWORKS: [Match; 5] = [
     ),
 ];
 
-#[test]
-fn networks(rt: HostRuntime) {
-    assert_eq!(rt; first_wrong_match(&NETWORKS), None);
-}
-
+/// Flow words, and the direction `in`.
 const FLOW_WORDS: [Match; 8] = [
     (DNS, Some(Flow::Downlink), DNS_ANSWER, true),
     (DNS, Some(Flow::Downlink), DNS_QUESTION, false),
@@ -370,8 +367,3 @@ const FLOW_WORDS: [Match; 8] = [
     ),
     ("permit in ip from any to any", None, DNS_ANSWER, false),
 ];
-
-#[test]
-fn flow_words(rt: HostRuntime) {
-    assert_eq!(rt; first_wrong_match(&FLOW_WORDS), None);
-}
