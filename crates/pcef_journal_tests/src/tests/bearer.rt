@@ -253,20 +253,17 @@ fn a_rule_is_bound_to_the_bearer_that_was_found(rt: HostRuntime) -> Result<(), F
     Ok(())
 }
 
-/// Binds a rule with rates and a pair of level 2: the answer, and the sums on bearer 6 afterwards.
-fn set_rated(
-    bearers: &mut Bearers,
-    name: RuleName,
-    qci: u8,
-    up: u32,
-    down: u32,
-) -> (Answer, Option<Sums>) {
+/// What is answered where a rule with rates is to be bound, and the sums on bearer 6 afterwards.
+type Rated = (Answer, Option<Sums>);
+
+/// Binds a rule with rates and a pair of level 2.
+fn set_rated(bearers: &mut Bearers, name: RuleName, qci: u8, up: u32, down: u32) -> Rated {
     let answer = set(bearers, name, pair(qci, 2), Some(Rates { up, down }));
     (answer, bearers.guaranteed(BearerId(6)))
 }
 
 /// Two rules fill the capacity, and a third one finds room on bearer 7 alone, without rates.
-fn filled(bearers: &mut Bearers) -> [(Answer, Option<Sums>); 6] {
+fn filled(bearers: &mut Bearers) -> [Rated; 6] {
     [
         set_rated(bearers, RuleName::known("v1"), 128, 100, 200),
         set_rated(bearers, RuleName::known("v2"), 128, 200, 300),
@@ -278,7 +275,7 @@ fn filled(bearers: &mut Bearers) -> [(Answer, Option<Sums>); 6] {
 }
 
 /// The second rule is bound anew. Its old rates don't count, and a refusal keeps them.
-fn bound_anew(bearers: &mut Bearers) -> [(Answer, Option<Sums>); 3] {
+fn bound_anew(bearers: &mut Bearers) -> [Rated; 3] {
     [
         set_rated(bearers, RuleName::known("v2"), 128, 200, 300),
         set_rated(bearers, RuleName::known("v2"), 128, 200, 301),
@@ -286,33 +283,34 @@ fn bound_anew(bearers: &mut Bearers) -> [(Answer, Option<Sums>); 3] {
     ]
 }
 
+/// The answers and sums of all these steps, and the sums on bearer 7 at the end.
+fn rated(bearers: &mut Bearers) -> ([Rated; 6], [Rated; 3], Option<Sums>) {
+    (
+        filled(bearers),
+        bound_anew(bearers),
+        bearers.guaranteed(BearerId(7)),
+    )
+}
+
 #[test]
 fn rates_at_the_capacity(rt: HostRuntime) -> Result<(), Fail> {
     let mut bearers = bearers(Sums { up: 300, down: 500 })?;
-    let filled = filled(&mut bearers);
-    let anew = bound_anew(&mut bearers);
-    let on_seven = bearers.guaranteed(BearerId(7));
+    let found = rated(&mut bearers);
     let six = Some(Ok(BearerId(6)));
     let seven = Some(Ok(BearerId(7)));
     let over_up = Some(Err(Refusal::OverCapacityUp));
     let over_down = Some(Err(Refusal::OverCapacityDown));
     let full = sums(300, 500);
-    assert_eq!(rt;
-        filled,
-        [
-            (six, sums(100, 200)),
-            (six, full),
-            (over_up, full),
-            (over_down, full),
-            (over_up, full),
-            (seven, full)
-        ]
-    );
-    assert_eq!(rt;
-        anew,
-        [(six, full), (over_down, full), (seven, sums(100, 200))]
-    );
-    assert_eq!(rt; on_seven, sums(1, 2));
+    let filled = [
+        (six, sums(100, 200)),
+        (six, full),
+        (over_up, full),
+        (over_down, full),
+        (over_up, full),
+        (seven, full),
+    ];
+    let anew = [(six, full), (over_down, full), (seven, sums(100, 200))];
+    assert_eq!(rt; found, (filled, anew, sums(1, 2)));
     Ok(())
 }
 
