@@ -9,7 +9,7 @@ use pcef_rule::{
     Arp, BearerId, Kind, NameFault, Qci, QciFault, QciTable, Qos, Rates, RuleName, Sums,
 };
 use std::alloc::Global;
-use std::process::Abort;
+use std::fmt::Display;
 use std::test::Fail;
 
 fn pair(qci: u8, level: u8) -> Qos
@@ -92,16 +92,24 @@ fn bearer_of_ten(bearers: &Bearers, place: u8) -> Option<(bool, Option<BearerId>
     Some((is_bound, bearer, bearers.rules_on(BearerId(6 + place))))
 }
 
+/// How many of the ten rules are alone on the bearer of their place.
+fn in_place(bearers: &Bearers) -> u8 {
+    let mut found = 0u8;
+    for place in 0..10u8 {
+        let id = BearerId(6 + place);
+        if bearer_of_ten(bearers, place) == Some((true, Some(id), 1)) {
+            found = found.saturating_add(1);
+        }
+    }
+    found
+}
+
 #[test]
 fn each_pair_gets_a_bearer(rt: HostRuntime) -> Result<(), Fail> {
     let bearers = ten()?;
+    let bound = (bearers.bound().len(), in_place(&bearers));
     let eleventh = bearer_of(&bearers, &RuleName::known("r11"));
-    assert_eq!(rt; (bearers.bound().len(), eleventh), (10, (false, None)));
-    for place in 0..10u8 {
-        let id = BearerId(6 + place);
-        let found = bearer_of_ten(&bearers, place);
-        assert_eq!(rt; found, Some((true, Some(id), 1)));
-    }
+    assert_eq!(rt; (bound, eleventh), ((10, 10), (false, None)));
     Ok(())
 }
 
@@ -135,11 +143,11 @@ fn an_eleventh_pair_finds_no_bearer(rt: HostRuntime) -> Result<(), Fail> {
     let mut bearers = ten()?;
     let full = answers_to_an_eleventh(&mut bearers);
     let changed = answers_to_a_new_pair(&mut bearers);
-    let refusal = Refusal::TooManyBearers;
-    assert_eq!(rt; full, (Some(refusal), None, Some(Err(refusal)), 10));
-    let ninth = BearerId(9);
-    let answers = [Some(Ok(ninth)), Some(Ok(ninth)), Some(Err(refusal))];
-    assert_eq!(rt; changed, (answers, 2, Some(ninth)));
+    let no_bearer = Refusal::TooManyBearers;
+    let nine = BearerId(9);
+    let refused = (Some(no_bearer), None, Some(Err(no_bearer)), 10);
+    let answers = [Some(Ok(nine)), Some(Ok(nine)), Some(Err(no_bearer))];
+    assert_eq!(rt; (full, changed), (refused, (answers, 2, Some(nine))));
     Ok(())
 }
 
@@ -171,8 +179,9 @@ fn the_default_pair_is_on_the_default_bearer(rt: HostRuntime) -> Result<(), Fail
     let plain = RuleName::known("plain");
     let bound = bound_to_the_default(&mut bearers, &plain);
     let unbound = unbound_from_the_default(&mut bearers, &plain);
-    assert_eq!(rt; bound, (Some(DEFAULT_BEARER), Some(Ok(BearerId(5))), 1));
-    assert_eq!(rt; unbound, ([released(5, false), None], 0, sums(0, 0)));
+    let on_default = (Some(DEFAULT_BEARER), Some(Ok(BearerId(5))), 1);
+    let left = ([released(5, false), None], 0, sums(0, 0));
+    assert_eq!(rt; (bound, unbound), (on_default, left));
     Ok(())
 }
 
@@ -210,15 +219,12 @@ fn least_free_ids(bearers: &mut Bearers) -> [Answer; 2] {
 #[test]
 fn a_bearer_ends_with_its_last_rule(rt: HostRuntime) -> Result<(), Fail> {
     let mut bearers = ten()?;
-    let (bound, left, rates) = around_an_end(&mut bearers);
-    let [fourth, eleventh] = least_free_ids(&mut bearers);
+    let around = around_an_end(&mut bearers);
+    let ids = least_free_ids(&mut bearers);
     let nine = Some(Ok(BearerId(9)));
-    assert_eq!(rt; left, [released(9, false), released(9, true)]);
-    assert_eq!(rt; rates, [sums(0, 0), None]);
-    assert_eq!(rt;
-        [bound, fourth, eleventh],
-        [nine, nine, Some(Ok(BearerId(14)))]
-    );
+    let left = [released(9, false), released(9, true)];
+    let expected = (nine, left, [sums(0, 0), None]);
+    assert_eq!(rt; (around, ids), (expected, [nine, Some(Ok(BearerId(14)))]));
     Ok(())
 }
 
@@ -237,81 +243,109 @@ fn a_rule_is_bound_to_the_bearer_that_was_found(rt: HostRuntime) -> Result<(), F
     let mut bearers = ten()?;
     let found = are_found(&mut bearers);
     let also = bearers.bearer_of(&RuleName::known("also"));
-    let on_each = [
-        bearers.rules_on(BearerId(9)),
-        bearers.rules_on(BearerId(10)),
-    ];
+    let on_nine = bearers.rules_on(BearerId(9));
+    let on_ten = bearers.rules_on(BearerId(10));
     let len = bearers.bound().len();
-    assert_eq!(rt; (found, also), ([true, true, false], Some(BearerId(9))));
-    assert_eq!(rt; (on_each, len), ([1, 2], 11));
+    assert_eq!(rt;
+        (found, also, on_nine, on_ten, len),
+        ([true, true, false], Some(BearerId(9)), 1, 2, 11)
+    );
     Ok(())
 }
 
-/// Binds a rule with rates and a pair of level 2: the answer, and the sums on bearer 6 afterwards.
-fn set_rated(
-    bearers: &mut Bearers,
-    name: &str,
-    qci: u8,
-    rates: Rates,
-) -> Option<(Answer, Option<Sums>)> {
-    let name = RuleName::new(name).ok()?;
-    let answer = set(bearers, name, pair(qci, 2), Some(rates));
-    Some((answer, bearers.guaranteed(BearerId(6))))
+/// What is answered where a rule with rates is to be bound, and the sums on bearer 6 afterwards.
+type Rated = (Answer, Option<Sums>);
+
+/// Binds a rule with rates and a pair of level 2.
+fn set_rated(bearers: &mut Bearers, name: RuleName, qci: u8, up: u32, down: u32) -> Rated {
+    let answer = set(bearers, name, pair(qci, 2), Some(Rates { up, down }));
+    (answer, bearers.guaranteed(BearerId(6)))
+}
+
+/// Two rules fill the capacity, and a third one finds room on bearer 7 alone, without rates.
+fn filled(bearers: &mut Bearers) -> [Rated; 6] {
+    [
+        set_rated(bearers, RuleName::known("v1"), 128, 100, 200),
+        set_rated(bearers, RuleName::known("v2"), 128, 200, 300),
+        set_rated(bearers, RuleName::known("v3"), 128, 1, 0),
+        set_rated(bearers, RuleName::known("v3"), 128, 0, 1),
+        set_rated(bearers, RuleName::known("v3"), 128, 1, 1),
+        set_rated(bearers, RuleName::known("v3"), 1, 0, 0),
+    ]
+}
+
+/// The second rule is bound anew. Its old rates don't count, and a refusal keeps them.
+fn bound_anew(bearers: &mut Bearers) -> [Rated; 3] {
+    [
+        set_rated(bearers, RuleName::known("v2"), 128, 200, 300),
+        set_rated(bearers, RuleName::known("v2"), 128, 200, 301),
+        set_rated(bearers, RuleName::known("v2"), 1, 1, 2),
+    ]
+}
+
+/// The answers and sums of all these steps, and the sums on bearer 7 at the end.
+fn rated(bearers: &mut Bearers) -> ([Rated; 6], [Rated; 3], Option<Sums>) {
+    (
+        filled(bearers),
+        bound_anew(bearers),
+        bearers.guaranteed(BearerId(7)),
+    )
 }
 
 #[test]
 fn rates_at_the_capacity(rt: HostRuntime) -> Result<(), Fail> {
     let mut bearers = bearers(Sums { up: 300, down: 500 })?;
-    expect_rates_within(&rt, &mut bearers);
-    assert_eq!(rt; bearers.guaranteed(BearerId(7)), sums(1, 2));
+    let found = rated(&mut bearers);
+    let six = Some(Ok(BearerId(6)));
+    let seven = Some(Ok(BearerId(7)));
+    let over_up = Some(Err(Refusal::OverCapacityUp));
+    let over_down = Some(Err(Refusal::OverCapacityDown));
+    let full = sums(300, 500);
+    let filled = [
+        (six, sums(100, 200)),
+        (six, full),
+        (over_up, full),
+        (over_down, full),
+        (over_up, full),
+        (seven, full),
+    ];
+    let anew = [(six, full), (over_down, full), (seven, sums(100, 200))];
+    assert_eq!(rt; found, (filled, anew, sums(1, 2)));
     Ok(())
 }
 
-/// Each step binds a rule with a QCI and rates: expects its bearer or its refusal, and the sums on bearer 6 afterwards.
-fn expect_rates_within(rt: &impl Abort, bearers: &mut Bearers) {
-    let six = Ok(BearerId(6));
-    let seven = Ok(BearerId(7));
-    let over_up = Err(Refusal::OverCapacityUp);
-    let over_down = Err(Refusal::OverCapacityDown);
-    for (name, qci, (up, down), answer, (up_on_six, down_on_six)) in [
-        ("v1", 128u8, (100u32, 200u32), six, (100u64, 200u64)),
-        ("v2", 128, (200, 300), six, (300, 500)),
-        ("v3", 128, (1, 0), over_up, (300, 500)),
-        ("v3", 128, (0, 1), over_down, (300, 500)),
-        ("v3", 128, (1, 1), over_up, (300, 500)),
-        ("v3", 1, (0, 0), seven, (300, 500)),
-        // The old rates of a rule don't count, and a refusal keeps them.
-        ("v2", 128, (200, 300), six, (300, 500)),
-        ("v2", 128, (200, 301), over_down, (300, 500)),
-        ("v2", 1, (1, 2), seven, (100, 200)),
-    ] {
-        let found = set_rated(bearers, name, qci, Rates { up, down });
-        let expected = (Some(answer), sums(up_on_six, down_on_six));
-        assert_eq!(rt; found, Some(expected), "{name}, {up} and {down}");
-    }
+/// The refusals of a new rule: of an unknown QCI with rates and without, of GBR QCIs without rates, of a non-GBR QCI with
+/// rates, and of a pair that finds no bearer; and none at a pair that has one.
+fn refusals(bearers: &Bearers, name: &RuleName) -> [Option<Refusal>; 7] {
+    let rates = Some(Rates { up: 1, down: 1 });
+    [
+        bearers.refusal(name, pair(10, 1), rates),
+        bearers.refusal(name, pair(10, 1), None),
+        bearers.refusal(name, pair(1, 1), None),
+        bearers.refusal(name, pair(128, 1), None),
+        bearers.refusal(name, pair(5, 1), rates),
+        bearers.refusal(name, pair(1, 1), rates),
+        bearers.refusal(name, pair(8, 1), None),
+    ]
 }
 
 #[test]
 fn refusals_of_kinds(rt: HostRuntime) -> Result<(), Fail> {
     let bearers = ten()?;
-    expect_refusals(&rt, &bearers, &RuleName::known("new"));
+    let found = refusals(&bearers, &RuleName::known("new"));
+    assert_eq!(rt;
+        found,
+        [
+            Some(Refusal::UnknownQci),
+            Some(Refusal::UnknownQci),
+            Some(Refusal::RatesMissing),
+            Some(Refusal::RatesMissing),
+            Some(Refusal::RatesNotWanted),
+            Some(Refusal::TooManyBearers),
+            None
+        ]
+    );
     Ok(())
-}
-
-fn expect_refusals(rt: &impl Abort, bearers: &Bearers, name: &RuleName) {
-    let rates = Some(Rates { up: 1, down: 1 });
-    for (qci, rates, refusal) in [
-        (10u8, rates, Some(Refusal::UnknownQci)),
-        (10, None, Some(Refusal::UnknownQci)),
-        (1, None, Some(Refusal::RatesMissing)),
-        (128, None, Some(Refusal::RatesMissing)),
-        (5, rates, Some(Refusal::RatesNotWanted)),
-        (1, rates, Some(Refusal::TooManyBearers)),
-        (8, None, None),
-    ] {
-        let found = bearers.refusal(name, pair(qci, 1), rates);
-        assert_eq!(rt; found, refusal, "QCI {qci}");
-    }
 }
 
 /// The fault of bearers whose default pair has this QCI and level 1.
@@ -322,54 +356,45 @@ fn fault_of(qci: u8) -> Result<Option<OpenFault>, QciFault> {
 
 #[test]
 fn faults(rt: HostRuntime) {
-    for (qci, fault) in [
-        (10u8, Some(OpenFault::UnknownQci)),
-        (1, Some(OpenFault::DefaultIsGbr)),
-        (9, None),
-    ] {
-        assert_eq!(rt; fault_of(qci), Ok(fault), "QCI {qci}");
-    }
+    let found = [fault_of(10), fault_of(1), fault_of(9)];
+    let unknown = Some(OpenFault::UnknownQci);
+    let gbr = Some(OpenFault::DefaultIsGbr);
+    assert_eq!(rt; found, [Ok(unknown), Ok(gbr), Ok(None)]);
 }
 
-/// Whether a refusal is written as this text, where there is memory for it.
-fn is_refusal_text(alloc: Global, refusal: Refusal, text: &str) -> Option<bool> {
-    let written = format!(in alloc; "{refusal}").ok()?;
-    Some(written.as_str() == text)
-}
-
-/// Whether a fault is written as this text, where there is memory for it.
-fn is_fault_text(alloc: Global, fault: OpenFault, text: &str) -> Option<bool> {
-    let written = format!(in alloc; "{fault}").ok()?;
+/// Whether a value is written as this text, where there is memory for it.
+fn is_text(alloc: Global, value: &impl Display, text: &str) -> Option<bool> {
+    let written = format!(in alloc; "{value}").ok()?;
     Some(written.as_str() == text)
 }
 
 /// Whether each refusal that bearers give is written as it is to be.
 fn are_refusals_written(alloc: Global) -> [Option<bool>; 6] {
     [
-        is_refusal_text(alloc, Refusal::UnknownQci, "the QCI is unknown"),
-        is_refusal_text(
+        is_text(alloc, &Refusal::UnknownQci, "the QCI is unknown"),
+        is_text(
             alloc,
-            Refusal::RatesMissing,
+            &Refusal::RatesMissing,
             "the rule has no guaranteed rates",
         ),
-        is_refusal_text(
+        is_text(
             alloc,
-            Refusal::RatesNotWanted,
+            &Refusal::RatesNotWanted,
             "the rule has guaranteed rates",
         ),
-        is_refusal_text(
+        is_text(
             alloc,
-            Refusal::TooManyBearers,
+            &Refusal::TooManyBearers,
             "no more bearers can be established",
         ),
-        is_refusal_text(
+        is_text(
             alloc,
-            Refusal::OverCapacityUp,
+            &Refusal::OverCapacityUp,
             "the uplink rates are over the capacity",
         ),
-        is_refusal_text(
+        is_text(
             alloc,
-            Refusal::OverCapacityDown,
+            &Refusal::OverCapacityDown,
             "the downlink rates are over the capacity",
         ),
     ]
@@ -378,18 +403,19 @@ fn are_refusals_written(alloc: Global) -> [Option<bool>; 6] {
 /// Whether each fault of an opening is written as it is to be.
 fn are_faults_written(alloc: Global) -> [Option<bool>; 3] {
     [
-        is_fault_text(alloc, OpenFault::UnknownQci, "the default QCI is unknown"),
-        is_fault_text(
+        is_text(alloc, &OpenFault::UnknownQci, "the default QCI is unknown"),
+        is_text(
             alloc,
-            OpenFault::DefaultIsGbr,
+            &OpenFault::DefaultIsGbr,
             "the default QCI has a guaranteed bit rate",
         ),
-        is_fault_text(alloc, OpenFault::NoMemory, "there is no memory left"),
+        is_text(alloc, &OpenFault::NoMemory, "there is no memory left"),
     ]
 }
 
 #[test]
 fn texts(rt: HostRuntime) {
-    assert_eq!(rt; are_refusals_written(rt.alloc()), [Some(true); 6]);
-    assert_eq!(rt; are_faults_written(rt.alloc()), [Some(true); 3]);
+    let refusals = are_refusals_written(rt.alloc());
+    let faults = are_faults_written(rt.alloc());
+    assert_eq!(rt; (refusals, faults), ([Some(true); 6], [Some(true); 3]));
 }

@@ -110,16 +110,48 @@ fn fill(alloc: Global, journal: &mut Journal) -> Result<(), Fail> {
     Ok(())
 }
 
-/// Two workers, of which worker 0 has two packets and worker 1 one, among two commands and three reports.
-fn small_journal(alloc: Global) -> Result<Journal, Fail> {
-    let mut journal = Journal::new(alloc);
-    match fill(alloc, &mut journal) {
-        Ok(()) => Ok(journal),
-        Err(fail) => Err(fail),
-    }
+/// What is seen of the small journal.
+#[derive(Clone, Copy)]
+struct Seen {
+    /// How many rows, commands and reports there are.
+    counts: (u64, u64, u64),
+    /// The octets of the first three rows of workers 0, 1 and 2.
+    octets: [[Option<u32>; 3]; 3],
+    /// Whether the two commands are as expected, one by one, and whether no other follows them.
+    commands: [bool; 3],
+    /// The numbers of the first four reports from 0, 1, 2, 3 and 9 on.
+    numbers: [[Option<u64>; 4]; 5],
+    /// Whether all reports are copied, then those after the first one, and then those after the last one.
+    copies: [Option<bool>; 3],
 }
 
-/// How many rows, commands and reports a journal has.
+/// Two workers, of which worker 0 has two packets and worker 1 one, among two commands and three reports.
+fn filled_and_seen(alloc: Global, journal: &mut Journal) -> Result<Seen, Fail> {
+    fill(alloc, journal)?;
+    Ok(Seen {
+        counts: counts(journal),
+        octets: [
+            octets_of(journal, 0),
+            octets_of(journal, 1),
+            octets_of(journal, 2),
+        ],
+        commands: are_commands(alloc, journal.commands())?,
+        numbers: [
+            numbers_from(journal, 0),
+            numbers_from(journal, 1),
+            numbers_from(journal, 2),
+            numbers_from(journal, 3),
+            numbers_from(journal, 9),
+        ],
+        copies: are_copied_from(alloc, journal),
+    })
+}
+
+fn small_journal(alloc: Global) -> Result<Seen, Fail> {
+    let mut journal = Journal::new(alloc);
+    filled_and_seen(alloc, &mut journal)
+}
+
 fn counts(journal: &Journal) -> (u64, u64, u64) {
     (
         journal.rows_len(),
@@ -134,35 +166,25 @@ fn counts_of_none(alloc: Global) -> (u64, u64, u64) {
     counts(&journal)
 }
 
-/// The counts of the small journal.
-fn counts_of_small(alloc: Global) -> Result<(u64, u64, u64), Fail> {
-    let journal = small_journal(alloc)?;
-    Ok(counts(&journal))
-}
-
 #[test]
 fn counts_of_entries(rt: HostRuntime) -> Result<(), Fail> {
     let none = counts_of_none(rt.alloc());
-    let small = counts_of_small(rt.alloc())?;
+    let small = small_journal(rt.alloc())?.counts;
     assert_eq!(rt; (none, small), ((0, 0, 0), (3, 2, 3)));
     Ok(())
 }
 
-/// Takes memory for two entries, and then adds them.
-fn add_two(journal: &mut Journal) -> Result<(), AllocError> {
+/// Takes memory for two entries, and then adds them: how many rows there are.
+fn add_two(journal: &mut Journal) -> Result<u64, AllocError> {
     journal.reserve(2)?;
     journal.append(Entry::Attach(0));
     journal.append(Entry::Row(web_row(0, 0, 28)));
-    Ok(())
+    Ok(journal.rows_len())
 }
 
-/// How many rows there are then.
 fn rows_of_two(alloc: Global) -> Result<u64, AllocError> {
     let mut journal = Journal::new(alloc);
-    match add_two(&mut journal) {
-        Ok(()) => Ok(journal.rows_len()),
-        Err(error) => Err(error),
-    }
+    add_two(&mut journal)
 }
 
 #[test]
@@ -175,7 +197,6 @@ fn next_octets(lane: &mut Lane<'_>) -> Option<u32> {
     lane.next().map(|row| row.header.octets)
 }
 
-/// The octets of the first three rows of a worker.
 fn octets_of(journal: &Journal, worker: u8) -> [Option<u32>; 3] {
     let mut lane = journal.lane(worker);
     [
@@ -185,21 +206,11 @@ fn octets_of(journal: &Journal, worker: u8) -> [Option<u32>; 3] {
     ]
 }
 
-/// The octets of three workers in the small journal.
-fn octets_of_small(alloc: Global) -> Result<[[Option<u32>; 3]; 3], Fail> {
-    let journal = small_journal(alloc)?;
-    Ok([
-        octets_of(&journal, 0),
-        octets_of(&journal, 1),
-        octets_of(&journal, 2),
-    ])
-}
-
 #[test]
 fn lanes_of_workers(rt: HostRuntime) -> Result<(), Fail> {
-    let lanes = octets_of_small(rt.alloc())?;
+    let octets = small_journal(rt.alloc())?.octets;
     assert_eq!(rt;
-        lanes,
+        octets,
         [
             [Some(28), Some(60), None],
             [Some(40), None, None],
@@ -268,13 +279,15 @@ fn verdicts_in(mut lane: Lane<'_>) -> (u8, bool) {
     (kept, lane.next().is_none())
 }
 
+fn added_and_kept(journal: &mut Journal) -> Result<(u8, bool), AllocError> {
+    add_verdicts(journal)?;
+    Ok(verdicts_in(journal.lane(0)))
+}
+
 /// What a journal keeps of the eight verdicts.
 fn kept_verdicts(alloc: Global) -> Result<(u8, bool), AllocError> {
     let mut journal = Journal::new(alloc);
-    match add_verdicts(&mut journal) {
-        Ok(()) => Ok(verdicts_in(journal.lane(0))),
-        Err(error) => Err(error),
-    }
+    added_and_kept(&mut journal)
 }
 
 #[test]
@@ -291,8 +304,7 @@ fn is_next(commands: &mut Commands<'_>, expected: &Command) -> bool {
     }
 }
 
-/// Whether the commands are those of the small journal, one by one, and no other follows them.
-fn are_expected(alloc: Global, mut commands: Commands<'_>) -> Result<[bool; 3], Fail> {
+fn are_commands(alloc: Global, mut commands: Commands<'_>) -> Result<[bool; 3], Fail> {
     let install = Command::Install(web(alloc)?);
     Ok([
         is_next(&mut commands, &install),
@@ -301,16 +313,10 @@ fn are_expected(alloc: Global, mut commands: Commands<'_>) -> Result<[bool; 3], 
     ])
 }
 
-/// Whether the small journal has the commands that are expected.
-fn are_commands_of_small(alloc: Global) -> Result<[bool; 3], Fail> {
-    let journal = small_journal(alloc)?;
-    are_expected(alloc, journal.commands())
-}
-
 #[test]
 fn commands_from_the_oldest_on(rt: HostRuntime) -> Result<(), Fail> {
-    let found = are_commands_of_small(rt.alloc())?;
-    assert_eq!(rt; found, [true; 3]);
+    let commands = small_journal(rt.alloc())?.commands;
+    assert_eq!(rt; commands, [true; 3]);
     Ok(())
 }
 
@@ -318,7 +324,6 @@ fn next_number(reports: &mut Reports<'_>) -> Option<u64> {
     reports.next().map(|report| report.number)
 }
 
-/// The numbers of the first four reports from a number on.
 fn numbers_from(journal: &Journal, first: u64) -> [Option<u64>; 4] {
     let mut reports = journal.reports_from(first);
     [
@@ -329,21 +334,9 @@ fn numbers_from(journal: &Journal, first: u64) -> [Option<u64>; 4] {
     ]
 }
 
-/// The numbers of the small journal's reports from 0, 1, 2, 3 and 9 on.
-fn numbers_of_small(alloc: Global) -> Result<[[Option<u64>; 4]; 5], Fail> {
-    let journal = small_journal(alloc)?;
-    Ok([
-        numbers_from(&journal, 0),
-        numbers_from(&journal, 1),
-        numbers_from(&journal, 2),
-        numbers_from(&journal, 3),
-        numbers_from(&journal, 9),
-    ])
-}
-
 #[test]
 fn reports_from_a_number_on(rt: HostRuntime) -> Result<(), Fail> {
-    let numbers = numbers_of_small(rt.alloc())?;
+    let numbers = small_journal(rt.alloc())?.numbers;
     assert_eq!(rt;
         numbers,
         [
@@ -376,8 +369,7 @@ fn are_copied(alloc: Global, reports: &Reports<'_>, numbers: &[u64]) -> Option<b
     Some(are_reports(copies.as_slice(), numbers))
 }
 
-/// Whether all reports are copied, then those after the first one, and then those after the last one.
-fn are_ends_copied(alloc: Global, journal: &Journal) -> [Option<bool>; 3] {
+fn are_copied_from(alloc: Global, journal: &Journal) -> [Option<bool>; 3] {
     let mut reports = journal.reports_from(0);
     let all = are_copied(alloc, &reports, &[0, 1, 2]);
     let _ = reports.next();
@@ -386,16 +378,10 @@ fn are_ends_copied(alloc: Global, journal: &Journal) -> [Option<bool>; 3] {
     [all, rest, none]
 }
 
-/// Whether they are so in the small journal.
-fn are_ends_of_small_copied(alloc: Global) -> Result<[Option<bool>; 3], Fail> {
-    let journal = small_journal(alloc)?;
-    Ok(are_ends_copied(alloc, &journal))
-}
-
 #[test]
 fn copies_of_the_reports_that_are_left(rt: HostRuntime) -> Result<(), Fail> {
-    let copied = are_ends_of_small_copied(rt.alloc())?;
-    assert_eq!(rt; copied, [Some(true); 3]);
+    let copies = small_journal(rt.alloc())?.copies;
+    assert_eq!(rt; copies, [Some(true); 3]);
     Ok(())
 }
 

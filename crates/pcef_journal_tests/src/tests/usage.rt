@@ -181,9 +181,8 @@ fn new_len() -> usize {
 
 #[test]
 fn an_empty_journal(rt: HostRuntime) {
-    let empty = seen_empty(rt.alloc());
-    assert_eq!(rt; empty, (Ok(()), (0, 0, [None; 3]), None));
-    assert_eq!(rt; new_len(), 0);
+    let found = (seen_empty(rt.alloc()), new_len());
+    assert_eq!(rt; found, ((Ok(()), (0, 0, [None; 3]), None), 0));
 }
 
 /// Two keys, each with a packet that doesn't reach its grant.
@@ -226,16 +225,12 @@ fn around_the_grant(
 }
 
 #[test]
-fn a_grant_is_reached(rt: HostRuntime) -> Result<(), Fail> {
-    let (before, after, slot, is_told) = around_the_grant(&rt, rt.alloc())?;
+fn a_grant_is_reached(rt: HostRuntime) {
+    let found = around_the_grant(&rt, rt.alloc());
     let other = Some((true, Some(1000), 0, 28));
-    assert_eq!(rt;
-        before,
-        (2, 0, [Some((true, Some(100), 0, 60)), other, None])
-    );
-    assert_eq!(rt; after, (3, 1, [Some((true, None, 100, 0)), other, None]));
-    assert_eq!(rt; (slot, is_told), (Some(Slot(1)), true));
-    Ok(())
+    let before = (2, 0, [Some((true, Some(100), 0, 60)), other, None]);
+    let after = (3, 1, [Some((true, None, 100, 0)), other, None]);
+    assert_eq!(rt; found, Ok((before, after, Some(Slot(1)), true)));
 }
 
 /// Two keys, of which the second one reaches its grant while no usage reports are subscribed.
@@ -271,16 +266,14 @@ fn around_the_loss(rt: &impl Abort, alloc: Global) -> Result<(u64, Seen, bool, u
 }
 
 #[test]
-fn a_key_loses_its_rules(rt: HostRuntime) -> Result<(), Fail> {
-    let (before, lost, is_told, after) = around_the_loss(&rt, rt.alloc())?;
-    let states = [
+fn a_key_loses_its_rules(rt: HostRuntime) {
+    let found = around_the_loss(&rt, rt.alloc());
+    let lost = [
         Some((true, Some(100), 0, 0)),
         Some((false, None, 28, 0)),
         None,
     ];
-    assert_eq!(rt; lost, (1, 1, states));
-    assert_eq!(rt; (before, is_told, after), (0, true, 1));
-    Ok(())
+    assert_eq!(rt; found, Ok((0, (1, 1, lost), true, 1)));
 }
 
 /// Three keys and three packets, of which the first and the last count for two keys each.
@@ -294,12 +287,15 @@ fn count_for_two_keys(rt: &impl Abort, counted: &mut CountedJournal) -> Result<(
 }
 
 /// What is seen then.
-fn seen_of_two_keys(rt: &impl Abort, alloc: Global) -> Result<Seen, AllocError> {
+fn seen_of_two_keys(rt: &impl Abort, counted: &mut CountedJournal) -> Result<Seen, AllocError> {
+    count_for_two_keys(rt, counted)?;
+    Ok(seen(counted))
+}
+
+/// The same of a new journal.
+fn of_two_keys(rt: &impl Abort, alloc: Global) -> Result<Seen, AllocError> {
     let mut counted = CountedJournal::new(alloc);
-    match count_for_two_keys(rt, &mut counted) {
-        Ok(()) => Ok(seen(&counted)),
-        Err(error) => Err(error),
-    }
+    seen_of_two_keys(rt, &mut counted)
 }
 
 #[test]
@@ -309,7 +305,7 @@ fn a_row_counts_for_two_keys(rt: HostRuntime) {
         Some((true, Some(1000), 0, 27)),
         Some((true, Some(1000), 0, 80)),
     ];
-    let found = seen_of_two_keys(&rt, rt.alloc());
+    let found = of_two_keys(&rt, rt.alloc());
     assert_eq!(rt; found, Ok((3, 0, states)));
 }
 
@@ -396,14 +392,17 @@ fn eight_keys_have_slots(rt: HostRuntime) -> Result<(), Fail> {
     let in_place = in_place(&mut usage);
     let ninth = slots_of(&mut usage, "k8");
     let after = usage.states().len();
-    assert_eq!(rt; (before, in_place, after), (8, 8, 8));
-    assert_eq!(rt; ninth, Some((Err(KeysFull), None)));
+    let found = (before, in_place, ninth, after);
+    assert_eq!(rt; found, (8, 8, Some((Err(KeysFull), None)), 8));
     Ok(())
 }
 
 /// The figures of the second key: when it is new, after it was switched on and counted, after a report and three octets
 /// more, and after it was switched off; then those of the first key, and the octets of the report.
-fn switched_and_counted(rt: &impl Abort, usage: &mut Usage) -> ([(bool, u64, u64); 5], u64) {
+fn switched_and_counted(
+    rt: &impl Abort,
+    usage: &mut Usage,
+) -> ([(bool, u64, u64); 4], (bool, u64, u64), u64) {
     let new = figures(rt, usage, Slot(1));
     start(rt, usage, Slot(1), 100);
     count(rt, usage, Slot(1), 60);
@@ -415,24 +414,15 @@ fn switched_and_counted(rt: &impl Abort, usage: &mut Usage) -> ([(bool, u64, u64
     stop(rt, usage, Slot(1));
     let off = figures(rt, usage, Slot(1));
     let other = figures(rt, usage, Slot(0));
-    ([new, counted, reported, off, other], told)
+    ([new, counted, reported, off], other, told)
 }
 
 #[test]
 fn a_key_is_switched_and_counts(rt: HostRuntime) -> Result<(), Fail> {
     let mut usage = usage_of(&["video", "audio"])?;
-    let (found, told) = switched_and_counted(&rt, &mut usage);
-    assert_eq!(rt;
-        found,
-        [
-            (false, 0, 0),
-            (true, 0, 67),
-            (true, 67, 3),
-            (false, 67, 3),
-            (false, 0, 0)
-        ]
-    );
-    assert_eq!(rt; told, 67);
+    let found = switched_and_counted(&rt, &mut usage);
+    let second = [(false, 0, 0), (true, 0, 67), (true, 67, 3), (false, 67, 3)];
+    assert_eq!(rt; found, (second, (false, 0, 0), 67));
     Ok(())
 }
 

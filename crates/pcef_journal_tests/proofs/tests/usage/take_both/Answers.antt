@@ -1,4 +1,4 @@
-use Rattle.std.proofs.Common.{arith, refl, ap, ◌∙◌, false}
+use Rattle.std.proofs.Common.{arith, refl, ap, false}
 use Rattle.std.specs.Prelude.{◌||◌}
 use Rattle.pcef_journal_tests.proofs.tests.usage.take_both.Goals as goal
 
