@@ -1,0 +1,71 @@
+//! Short texts of what lines are read as.
+
+use pcef_line::{Line, LineFault};
+use pcef_model::{Command, Step};
+use pcef_packet::{Addr, Header};
+use std::alloc::{AllocError, Global};
+use std::fmt::Write;
+use std::net::Ipv4Addr;
+
+fn tell_command(text: &mut String, command: &Command) -> Result<(), AllocError> {
+    match command {
+        Command::Install(rule) => {
+            let count = rule.filters().len();
+            write!(text, "install with {count} filters {:?}", rule.properties())
+        }
+        Command::Activate(name) => write!(text, "activate {name}"),
+        Command::Remove(name) => write!(text, "remove {name}"),
+        Command::Monitor { key, grant } => write!(text, "monitor {key} with {grant}"),
+        Command::Stop(key) => write!(text, "stop {key}"),
+        Command::ReportNow(key) => write!(text, "report {key}"),
+        Command::Triggers(set) => write!(text, "{set:?}"),
+        Command::Notice { kind, value } => write!(text, "notice {kind:?} {value}"),
+        Command::LoseBearer(bearer) => write!(text, "lose {}", bearer.0),
+        Command::Close => text.push_str("close"),
+        Command::Terminate => text.push_str("terminate"),
+    }
+}
+
+fn tell_take(text: &mut String, worker: u8, header: &Header) -> Result<(), AllocError> {
+    let Header {
+        dir,
+        src: Addr::V4(src),
+        dst: Addr::V4(dst),
+        proto,
+        ports,
+        octets,
+        dscp,
+    } = *header;
+    let (src, dst) = (Ipv4Addr::from_bits(src), Ipv4Addr::from_bits(dst));
+    write!(
+        text,
+        "take by worker {worker} {dir:?} from {src} to {dst} protocol {proto} {ports:?} octets {octets} DSCP {dscp}"
+    )
+}
+
+fn tell_step(text: &mut String, step: &Step) -> Result<(), AllocError> {
+    match step {
+        Step::Command(command) => tell_command(text, command),
+        Step::Attach => text.push_str("attach"),
+        Step::Take { worker, header } => tell_take(text, *worker, header),
+        Step::Refresh { worker } => write!(text, "refresh by worker {worker}"),
+        Step::Flush { worker } => write!(text, "flush by worker {worker}"),
+        Step::Finish { worker } => write!(text, "finish by worker {worker}"),
+        Step::Abandon { worker } => write!(text, "abandon by worker {worker}"),
+    }
+}
+
+fn tell(text: &mut String, line: &Result<Line, LineFault>) -> Result<(), AllocError> {
+    match line {
+        Ok(Line::Step(step)) => tell_step(text, step),
+        Ok(Line::Show) => text.push_str("show"),
+        Err(fault) => write!(text, "fault {} {fault:?}: {fault}", fault.number()),
+    }
+}
+
+/// What a line says, or its fault.
+pub fn told(alloc: Global, line: &Result<Line, LineFault>) -> Result<String, AllocError> {
+    let mut text = String::new(alloc);
+    tell(&mut text, line)?;
+    Ok(text)
+}
