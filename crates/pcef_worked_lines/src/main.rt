@@ -1,33 +1,66 @@
-//! Reads the lines of the files that its words name, and writes below each what it is read as.
+//! Reads the lines and the profiles of the files that its words name, and writes what each is read as.
 //!
-//! A file has a line of a script in each line. Blank lines and lines that begin with `#` stand between them, and are
-//! written as they are. Each line is read alone, and by a reader that reads all lines of its file; where the two
-//! readings differ, both are written. The exit status is 3 where a file can't be read.
+//! A file of lines has a line of a script in each line, and what it is read as is written below it. Blank lines and
+//! lines that begin with `#` stand between them, and are written as they are. A control picture stands for its control
+//! character, and `∅` for no character at all. Each line is read alone, and by a reader that reads all lines of its file;
+//! where the two readings differ, it is written. A line behind `~ ` is read so with each stray octet in the place of each
+//! of its octets.
+//!
+//! A file of profiles has a profile behind each line that begins with `===`. Only these lines are written, and below
+//! each what its profile is read as. At the end come the faults that no text has. The exit status is 3 where a file can't
+//! be read.
 #![tactic(auto)]
 
+mod profiles;
+mod reading;
 mod telling;
 
-use pcef_line::{LineReader, read_line};
+use pcef_line::{LineFault, LineReader};
+use pcef_profile::ReadProfileFault;
+use profiles::{tell_profile_fault, tell_profiles};
+use reading::tell_line;
 use std::alloc::{AllocError, Global};
 use std::fmt::Write;
 use std::process::ExitCode;
 use std::{env, fs, io};
-use telling::told;
+use telling::tell;
 
-/// Tells what a line is read as alone and among many.
-fn tell_twice(
+/// The character that one in a file stands for, if it stands for one.
+fn meant(character: char) -> Option<char> {
+    match character {
+        '∅' => None,
+        '␁' => Some('\u{1}'),
+        '␉' => Some('\t'),
+        '␊' => Some('\n'),
+        '␍' => Some('\r'),
+        other => Some(other),
+    }
+}
+
+/// A line with the characters that those in the file stand for.
+fn as_meant(alloc: Global, line: &str) -> Result<String, AllocError> {
+    let mut text = String::new(alloc);
+    for character in line.chars() {
+        if let Some(meant) = meant(character) {
+            text.push(meant)?;
+        }
+    }
+    Ok(text)
+}
+
+/// A line of a file, and below it what it is read as, unless it is blank or begins with `#`.
+fn tell_file_line(
     alloc: Global,
     lines: &mut LineReader,
     line: &str,
     text: &mut String,
 ) -> Result<(), AllocError> {
-    let alone = told(alloc, &read_line(alloc, line))?;
-    let among_many = told(alloc, &lines.read(alloc, line))?;
-    if alone.as_str() == among_many.as_str() {
-        writeln!(text, "    {alone}")
-    } else {
-        writeln!(text, "    alone {alone}\n    among many {among_many}")
+    writeln!(text, "{line}")?;
+    if line.is_empty() || line.starts_with('#') {
+        return Ok(());
     }
+    let line = as_meant(alloc, line)?;
+    tell_line(alloc, lines, line.as_str(), text)
 }
 
 /// The lines of a file, and below each what it is read as.
@@ -38,23 +71,24 @@ fn tell_lines(
     text: &mut String,
 ) -> Result<(), AllocError> {
     for line in file.split('\n') {
-        writeln!(text, "{line}")?;
-        if !line.is_empty() && !line.starts_with('#') {
-            tell_twice(alloc, lines, line, text)?;
-        }
+        tell_file_line(alloc, lines, line, text)?;
     }
     Ok(())
 }
 
-/// The lines of a file that is read with a reader of its own.
+/// What is written of a file, whose lines are read with a reader of their own.
 fn tell_file(rt: &HostRuntime, path: &str, text: &mut String) -> io::Result<()> {
     let alloc = rt.alloc();
     let file = fs::read_to_string(rt, path)?;
-    tell_lines(alloc, &mut LineReader::new(alloc), file.as_str(), text)?;
+    if path.ends_with(".profiles") {
+        tell_profiles(alloc, file.as_str(), text)?;
+    } else {
+        tell_lines(alloc, &mut LineReader::new(alloc), file.as_str(), text)?;
+    }
     Ok(())
 }
 
-/// The lines of all files that the words name.
+/// What is written of all files that the words name.
 fn tell_files(rt: &HostRuntime, text: &mut String) -> io::Result<()> {
     for path in env::args(rt)?.skip(1) {
         tell_file(rt, path.as_str(), text)?;
@@ -62,9 +96,26 @@ fn tell_files(rt: &HostRuntime, text: &mut String) -> io::Result<()> {
     Ok(())
 }
 
+/// The faults that no text has.
+fn tell_other_faults(text: &mut String) -> Result<(), AllocError> {
+    for fault in [
+        LineFault::LineTooLong,
+        LineFault::NotUtf8,
+        LineFault::NoMemory,
+    ] {
+        tell(text, &Err(fault))?;
+        text.push('\n')?;
+    }
+    tell_profile_fault(text, ReadProfileFault::NoMemory)?;
+    text.push('\n')
+}
+
 fn main(rt: HostRuntime) -> ExitCode {
     let mut text = String::new(rt.alloc());
-    if tell_files(&rt, &mut text).is_err() || print!(&rt; "{text}").is_err() {
+    if tell_files(&rt, &mut text).is_err()
+        || tell_other_faults(&mut text).is_err()
+        || print!(&rt; "{text}").is_err()
+    {
         return ExitCode::from(3);
     }
     ExitCode::from(0)

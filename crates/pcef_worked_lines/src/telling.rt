@@ -55,11 +55,28 @@ fn tell_step(text: &mut String, step: &Step) -> Result<(), AllocError> {
     }
 }
 
-fn tell(text: &mut String, line: &Result<Line, LineFault>) -> Result<(), AllocError> {
+/// A fault by its number and its name, with its field and the number of the inner fault where it has them.
+fn tell_fault(text: &mut String, fault: LineFault) -> Result<(), AllocError> {
+    let (number, name) = (fault.number(), fault.name());
+    match (fault.field(), fault.code()) {
+        (Some(field), Some(code)) => {
+            write!(
+                text,
+                "fault {number} {name} {} {code}: {fault}",
+                field.text()
+            )
+        }
+        (Some(field), None) => write!(text, "fault {number} {name} {}: {fault}", field.text()),
+        (None, _) => write!(text, "fault {number} {name}: {fault}"),
+    }
+}
+
+/// Tells what a line says, or its fault.
+pub fn tell(text: &mut String, line: &Result<Line, LineFault>) -> Result<(), AllocError> {
     match line {
         Ok(Line::Step(step)) => tell_step(text, step),
         Ok(Line::Show) => text.push_str("show"),
-        Err(fault) => write!(text, "fault {} {fault:?}: {fault}", fault.number()),
+        Err(fault) => tell_fault(text, *fault),
     }
 }
 
