@@ -3,5 +3,14 @@
 mod catalog_session;
 mod closures;
 mod finishing;
-mod saturated;
-mod world_steps;
+
+use pcef_model::Command;
+use pcef_rule::KeyName;
+
+/// A grant of 1,000 octets for the key `vid`.
+fn monitor() -> Command {
+    Command::Monitor {
+        key: KeyName::known("vid"),
+        grant: 1000,
+    }
+}

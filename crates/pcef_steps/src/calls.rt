@@ -8,6 +8,7 @@ use pcef_line::{Line, read_line};
 use pcef_model::{Command, Profile, Refusal, Step};
 use pcef_profile::read_profile;
 use pcef_test_scripts::PROFILE;
+use pcef_usage::Usage;
 use pcef_world::StepAnswer;
 use std::alloc::{AllocError, Global};
 use std::io::{self, Write};
@@ -102,20 +103,34 @@ pub(crate) fn answer_steps<W: Write>(
     Ok(())
 }
 
+/// How many octets were reported for the keys of a session, and how many were not.
+fn octets_of(usage: &Usage) -> (u64, u64) {
+    let mut reported = 0u64;
+    let mut unreported = 0u64;
+    for key in usage.states() {
+        reported = reported.saturating_add(key.reported);
+        unreported = unreported.saturating_add(key.unreported);
+    }
+    (reported, unreported)
+}
+
 /// How many steps a list has, made on a new world at once, and what the world then has: the number of its
-/// generation, its rows and its reports.
-fn listed(alloc: Global, catalog: Arc<Catalog>, script: &str) -> Result<[u64; 4], AllocError> {
+/// generation, its rows, its reports, and the octets that were reported for its keys and that were not.
+fn listed(alloc: Global, catalog: Arc<Catalog>, script: &str) -> Result<[u64; 6], AllocError> {
     let steps = steps_of(alloc, script)?;
     let Ok(mut world) = World::open(alloc, profile(alloc)?, catalog) else {
         return Err(AllocError);
     };
     let answers = world.play(alloc, steps)?;
     let session = world.session();
+    let (reported, unreported) = octets_of(session.usage());
     Ok([
         answers.len() as u64,
         u64::from(session.generation()),
         session.journal().rows_len(),
         session.journal().reports_len(),
+        reported,
+        unreported,
     ])
 }
 
@@ -127,13 +142,14 @@ pub(crate) fn answer_list<W: Write>(
     writer: &mut W,
 ) -> io::Result<()> {
     let spare = Arc::try_clone(&catalog)?;
-    let [steps, generation, rows, reports] = match listed(alloc, catalog, script) {
-        Ok(listed) => listed,
+    let told = match listed(alloc, catalog, script) {
+        Ok(told) => told,
         Err(_) => listed(alloc, spare, script)?,
     };
+    let [steps, generation, rows, reports, reported, unreported] = told;
     writeln!(
         writer,
-        "steps {steps} generation {generation} rows {rows} reports {reports}"
+        "steps {steps} generation {generation} rows {rows} reports {reports} octets reported {reported} not {unreported}"
     )
 }
 

@@ -1,12 +1,14 @@
 //! Runs the worked scripts that its words name, and compares what they answer with what was worked out by hand.
 //!
 //! `NAME.jsonl` has the lines of a script, and `NAME.answers.jsonl` their answers. The session's profile is `NAME.toml`
-//! where there is such a file, else `profile.toml`. For each script a line is written: how many answers it has and how
-//! many of its lines are at fault, or the first answer that isn't as worked out. The exit status is 1 where there is such
-//! an answer, and 3 where a file can't be read, a profile is at fault or a script ends early.
+//! where there is such a file, else `profile.toml`. Each script runs twice: for a writer that takes all that it is
+//! offered, and for one that takes half. For each script a line is written: how many answers it has and how many of its
+//! lines are at fault, or the first answer that isn't as worked out. The exit status is 1 where there is such an answer,
+//! and 3 where a file can't be read, a profile is at fault or a script ends early.
 #![tactic(auto)]
 
 mod comparing;
+mod taker;
 
 use comparing::{Difference, first_difference};
 use pcef_catalog::Catalog;
@@ -16,6 +18,7 @@ use std::io::{self, ErrorKind, Write};
 use std::process::ExitCode;
 use std::sync::Arc;
 use std::{env, fs};
+use taker::{Taker, Taking};
 
 /// The text of the profile of a script.
 fn profile_of(rt: &HostRuntime, name: &str) -> io::Result<String> {
@@ -27,8 +30,13 @@ fn profile_of(rt: &HostRuntime, name: &str) -> io::Result<String> {
     }
 }
 
-/// What a script answers, and how many of its lines are at fault.
-fn answered(rt: &HostRuntime, catalog: Arc<Catalog>, name: &str) -> io::Result<(String, u64)> {
+/// What a script answers a writer, and how many of its lines are at fault.
+fn answered(
+    rt: &HostRuntime,
+    catalog: Arc<Catalog>,
+    name: &str,
+    taking: Taking,
+) -> io::Result<(String, u64)> {
     let alloc = rt.alloc();
     let text = profile_of(rt, name)?;
     let Ok(profile) = read_profile(alloc, text.as_str()) else {
@@ -36,32 +44,39 @@ fn answered(rt: &HostRuntime, catalog: Arc<Catalog>, name: &str) -> io::Result<(
     };
     let path = format!(in alloc; "{name}.jsonl")?;
     let script = fs::read_to_string(rt, path.as_str())?;
-    let mut written = Vec::new(alloc);
-    let Ok(faults) = run_script(
-        alloc,
-        &mut script.as_bytes(),
-        &mut written,
-        profile,
-        catalog,
-    ) else {
+    let mut writer = Taker::new(alloc, taking);
+    let Ok(faults) = run_script(alloc, &mut script.as_bytes(), &mut writer, profile, catalog) else {
         return Err(ErrorKind::InvalidData.into());
     };
-    match String::from_utf8(written) {
+    match String::from_utf8(writer.into_taken()) {
         Ok(answers) => Ok((answers, faults)),
         Err(_) => Err(ErrorKind::InvalidData.into()),
     }
 }
 
-/// Tells what a script came to, and gives whether each answer is as worked out.
-fn compare(rt: &HostRuntime, catalog: Arc<Catalog>, name: &str) -> io::Result<bool> {
-    let (answers, faults) = answered(rt, catalog, name)?;
+/// The answers of a script that were worked out by hand.
+fn worked_out(rt: &HostRuntime, name: &str) -> io::Result<String> {
     let path = format!(in rt.alloc(); "{name}.answers.jsonl")?;
-    let wanted = fs::read_to_string(rt, path.as_str())?;
+    fs::read_to_string(rt, path.as_str())
+}
+
+/// Tells what a script came to for a writer, and gives whether each answer is as worked out. What is as it should be is
+/// told of a writer that takes all alone.
+fn compare_taken(
+    rt: &HostRuntime,
+    catalog: Arc<Catalog>,
+    name: &str,
+    taking: Taking,
+) -> io::Result<bool> {
+    let (answers, faults) = answered(rt, catalog, name, taking)?;
+    let wanted = worked_out(rt, name)?;
     let mut writer = io::writer(rt);
     match first_difference(answers.as_str(), wanted.as_str()) {
         None => {
-            let count = answers.as_str().lines().count();
-            writeln!(writer, "{name}: {count} answers, {faults} lines at fault")?;
+            if taking == Taking::All {
+                let count = answers.as_str().lines().count();
+                writeln!(writer, "{name}: {count} answers, {faults} lines at fault")?;
+            }
             Ok(true)
         }
         Some(Difference { line, is, due }) => {
@@ -69,6 +84,14 @@ fn compare(rt: &HostRuntime, catalog: Arc<Catalog>, name: &str) -> io::Result<bo
             Ok(false)
         }
     }
+}
+
+/// Tells what a script came to, and gives whether each answer is as worked out, for both writers.
+fn compare(rt: &HostRuntime, catalog: Arc<Catalog>, name: &str) -> io::Result<bool> {
+    let again = Arc::try_clone(&catalog)?;
+    let are_all = compare_taken(rt, catalog, name, Taking::All)?;
+    let are_halves = compare_taken(rt, again, name, Taking::Half)?;
+    Ok(are_all && are_halves)
 }
 
 /// Runs all scripts that the words name, and gives whether each answer of each is as worked out.

@@ -1,11 +1,11 @@
 //! A worker that finishes on a session, by the session's own call.
 
-ghost use Rattle.std.specs.Prelude.{◌≡◌, ◌∷◌, [], IfOk};
+ghost use Rattle.std.specs.Prelude.{◌≡◌, ◌≤◌, ◌∷◌, [], IfOk};
 ghost use Rattle.pcef_session_tests.specs.UnmatchedRows.{ue, unmatched_item};
 
 use pcef_catalog::Catalog;
 use pcef_core::Session;
-use pcef_model::{Command, FlushRefusal, Judged, Profile, Refusal, Row, Verdict};
+use pcef_model::{Command, FlushRefusal, Judged, Profile, Refusal, Row, Verdict, Verdicts};
 use pcef_packet::{Addr, Dir, Header};
 use pcef_profile::read_profile;
 use pcef_session::{Batch, Item, slots_for};
@@ -16,11 +16,9 @@ use std::test::Fail;
 
 /// A profile of 10.0.0.2 that takes so many rows.
 fn profile(alloc: Global, rows: u32) -> Result<Profile, Fail>
+    requires { (1 ≤ rows) × (rows ≤ 1000) }
     ensures { IfOk result (λ p. p.ue ≡ ue) }
 {
-    if rows == 0 {
-        return Err("a session takes rows")?;
-    }
     let profile = read_profile(alloc, PROFILE)?;
     Ok(Profile {
         ue: Addr::V4(0x0a00_0002),
@@ -66,49 +64,140 @@ fn two_rows(alloc: Global) -> Result<Batch, AllocError>
     Ok(batch)
 }
 
+/// How many verdicts were given, whether each is of an unmatched packet by the first table, and the numbers of the first
+/// report and of the one past the last.
+fn told(verdicts: &Verdicts) -> (usize, bool, u64, u64) {
+    let unmatched = Judged {
+        generation: 0,
+        verdict: Verdict::Unmatched,
+    };
+    let are_unmatched = verdicts.rows.as_slice().iter().all(|row| *row == unmatched);
+    (
+        verdicts.rows.len(),
+        are_unmatched,
+        verdicts.first_report,
+        verdicts.past_last_report,
+    )
+}
+
+/// What comes of a worker that finishes with two rows: its number, the verdicts and the length of its lane; why it can't
+/// finish once more; how many rows there are, and whether the session can then be terminated.
+#[derive(Debug, PartialEq, Eq, Drop)]
+struct Ending {
+    worker: u8,
+    verdicts: (usize, bool, u64, u64),
+    lane: u64,
+    again: Option<FlushRefusal>,
+    rows: u64,
+    ends: bool,
+}
+
+fn finished(
+    alloc: Global,
+    profile: Profile,
+    catalog: Arc<Catalog>,
+    two: &Batch,
+    none: &Batch,
+) -> Result<Ending, Fail>
+    requires profile { profile.ue ≡ ue }
+    requires two { two.now ≡ unmatched_item 0 ∷ unmatched_item 1 ∷ [] }
+    requires none { none.now ≡ [] }
+{
+    let mut session = Session::open(alloc, profile, catalog)?;
+    let worker = session.attach()?;
+    let (verdicts, lane) = session.finish(0, two)?;
+    let again = session.finish(0, none).err();
+    Ok(Ending {
+        worker,
+        verdicts: told(&verdicts),
+        lane,
+        again,
+        rows: session.journal().rows_len(),
+        ends: session.command(Command::Terminate).is_ok(),
+    })
+}
+
 #[test]
 fn a_worker_finishes_with_as_many_rows_as_there_may_be(rt: HostRuntime) -> Result<(), Fail> {
-    let alloc = rt.alloc();
-    let catalog = Arc::new(alloc, Catalog::new(alloc, Vec::new(alloc))?)?;
-    let mut session = Session::open(alloc, profile(alloc, 2)?, catalog)?;
-    let worker = session.attach()?;
-    assert_eq!(rt; worker, 0);
-    let (verdicts, rows) = session.finish(0, &two_rows(alloc)?)?;
-    assert_eq!(rt; rows, 2);
-    assert_eq!(rt; verdicts.rows.len(), 2);
-    for judged in verdicts.rows.as_slice() {
-        assert_eq!(rt;
-            *judged,
-            Judged {
-                generation: 0,
-                verdict: Verdict::Unmatched
-            }
-        );
-    }
-    assert_eq!(rt; verdicts.first_report, 0);
-    assert_eq!(rt; verdicts.past_last_report, 0);
-    let again = session.finish(0, &Batch::new(alloc)?);
-    assert_eq!(rt; again.err(), Some(FlushRefusal::NotAttached));
-    assert_eq!(rt; session.journal().rows_len(), 2);
-    assert!(rt; session.command(Command::Terminate).is_ok());
+    let two = two_rows(rt.alloc())?;
+    let none = Batch::new(rt.alloc())?;
+    let profile = profile(rt.alloc(), 2)?;
+    let catalog = Arc::new(rt.alloc(), Catalog::new(rt.alloc(), Vec::new(rt.alloc()))?)?;
+    let finished = finished(rt.alloc(), profile, catalog, &two, &none)?;
+    assert_eq!(rt;
+        finished,
+        Ending {
+            worker: 0,
+            verdicts: (2, true, 0, 0),
+            lane: 2,
+            again: Some(FlushRefusal::NotAttached),
+            rows: 2,
+            ends: true,
+        }
+    );
     Ok(())
+}
+
+/// What comes of a worker that can't finish with its rows: its number, why, and how many rows there are; why the session
+/// can't be terminated; how many verdicts it is given when it finishes without them, and the length of its lane; and whether
+/// the session can then be terminated.
+#[derive(Debug, PartialEq, Eq, Drop)]
+struct Staying {
+    worker: u8,
+    refused: Option<FlushRefusal>,
+    rows: u64,
+    early: Option<Refusal>,
+    verdicts: usize,
+    lane: u64,
+    ends: bool,
+}
+
+fn stayed(
+    alloc: Global,
+    profile: Profile,
+    catalog: Arc<Catalog>,
+    two: &Batch,
+    none: &Batch,
+) -> Result<Staying, Fail>
+    requires profile { profile.ue ≡ ue }
+    requires two { two.now ≡ unmatched_item 0 ∷ unmatched_item 1 ∷ [] }
+    requires none { none.now ≡ [] }
+{
+    let mut session = Session::open(alloc, profile, catalog)?;
+    let worker = session.attach()?;
+    let refused = session.finish(0, two).err();
+    let rows = session.journal().rows_len();
+    let early = session.command(Command::Terminate).err();
+    let (verdicts, lane) = session.finish(0, none)?;
+    Ok(Staying {
+        worker,
+        refused,
+        rows,
+        early,
+        verdicts: verdicts.rows.len(),
+        lane,
+        ends: session.command(Command::Terminate).is_ok(),
+    })
 }
 
 #[test]
 fn a_worker_stays_whose_last_rows_are_too_many(rt: HostRuntime) -> Result<(), Fail> {
-    let alloc = rt.alloc();
-    let catalog = Arc::new(alloc, Catalog::new(alloc, Vec::new(alloc))?)?;
-    let mut session = Session::open(alloc, profile(alloc, 1)?, catalog)?;
-    let worker = session.attach()?;
-    assert_eq!(rt; worker, 0);
-    let refused = session.finish(0, &two_rows(alloc)?);
-    assert_eq!(rt; refused.err(), Some(FlushRefusal::RowsFull));
-    assert_eq!(rt; session.journal().rows_len(), 0);
-    let early = session.command(Command::Terminate);
-    assert_eq!(rt; early, Err(Refusal::WorkersAttached(1)));
-    let (verdicts, rows) = session.finish(0, &Batch::new(alloc)?)?;
-    assert_eq!(rt; verdicts.rows.len(), 0);
-    assert_eq!(rt; rows, 0);
-    assert!(rt; session.command(Command::Terminate).is_ok());
+    let two = two_rows(rt.alloc())?;
+    let none = Batch::new(rt.alloc())?;
+    let profile = profile(rt.alloc(), 1)?;
+    let catalog = Arc::new(rt.alloc(), Catalog::new(rt.alloc(), Vec::new(rt.alloc()))?)?;
+    let stayed = stayed(rt.alloc(), profile, catalog, &two, &none)?;
+    assert_eq!(rt;
+        stayed,
+        Staying {
+            worker: 0,
+            refused: Some(FlushRefusal::RowsFull),
+            rows: 0,
+            early: Some(Refusal::WorkersAttached(1)),
+            verdicts: 0,
+            lane: 0,
+            ends: true,
+        }
+    );
     Ok(())
 }
