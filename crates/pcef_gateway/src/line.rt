@@ -62,6 +62,40 @@ pub(crate) struct Closed<N: Naming> {
     pub(crate) lacked_memory: bool,
 }
 
+/// The thread of a worker that takes the packets of a ring.
+fn thread_of<
+    's,
+    E,
+    C: Detects + Drop + Send + Sync,
+    N: Naming + Send + Sync,
+    W: Board<Slot<N>> + Drop + Send,
+    G: Gate + Sync,
+    R: Threads + Wait + Sync,
+>(
+    rt: &'s R,
+    scope: &Scope<'s, E>,
+    shared: &'s Shared<C, N, W>,
+    worker: Worker<C, N, Lent<'s, G>>,
+    consumer: Consumer<Header>,
+) -> Result<PromisedHandle<Left<N>, SameRing>, Failure>
+    requires new { taken worker ≡ [] }
+    requires first { received consumer ≡ [] }
+    ensures { IfOk result (λ handle. handle.promise.end.value ≡ consumer) }
+{
+    let promise = SameRing {
+        end: Snapshot::of(&consumer),
+    };
+    let job = move || -> Left<N>
+        requires new { taken worker ≡ [] }
+        requires first { received consumer ≡ [] }
+        ensures { SameConsumer consumer result.consumer }
+    { work(rt, shared, worker, consumer) };
+    match scope.spawn_with(promise, job) {
+        Ok(handle) => Ok(handle),
+        Err(_) => Err(Failure::Thread),
+    }
+}
+
 impl<N: Naming + Send + Sync> Line<N> {
     /// Starts a worker in a thread of the scope.
     pub(crate) fn start<
@@ -81,20 +115,12 @@ impl<N: Naming + Send + Sync> Line<N> {
         requires { taken worker ≡ [] }
         ensures { IfOk result (λ line. line ≡ []) }
     {
-        let Ok((producer, consumer)) = RingBuffer::new(alloc, PLACES) else {
-            return Err(Failure::Ring);
-        };
-        let promise = SameRing {
-            end: Snapshot::of(&consumer),
-        };
-        let job = move || -> Left<N>
-            requires new { taken worker ≡ [] }
-            requires first { received consumer ≡ [] }
-            ensures { SameConsumer consumer result.consumer }
-        { work(rt, shared, worker, consumer) };
-        match scope.spawn_with(promise, job) {
-            Ok(handle) => Ok(Line { producer, handle }),
-            Err(_) => Err(Failure::Thread),
+        match RingBuffer::new(alloc, PLACES) {
+            Ok((producer, consumer)) => match thread_of(rt, scope, shared, worker, consumer) {
+                Ok(handle) => Ok(Line { producer, handle }),
+                Err(failure) => Err(failure),
+            },
+            Err(_) => Err(Failure::Ring),
         }
     }
 
