@@ -98,6 +98,7 @@ fn tell_files(rt: &HostRuntime, text: &mut String) -> io::Result<()> {
 
 /// The faults that no text has.
 fn tell_other_faults(text: &mut String) -> Result<(), AllocError> {
+    text.push_str("\n# Faults that no text has.\n")?;
     for fault in [
         LineFault::LineTooLong,
         LineFault::NotUtf8,
