@@ -1,10 +1,8 @@
 //! Rows that a worker hands over as it leaves.
 
-use super::beginnings::still_attached;
-use super::gathering::{GatheredStory, tell_gathered, told_of_one};
-use super::threads::comes;
+use super::commanding::still_attached;
+use super::held_up::comes;
 use super::*;
-use pcef_lock::Finished;
 use pcef_model::{Judged, Verdict, Verdicts};
 use pcef_worker::Point;
 use std::sync::atomic::{AtomicBool, Ordering};
@@ -26,30 +24,10 @@ impl Gate for HoldsLast<'_> {
     }
 }
 
-#[test]
-fn a_last_flush_and_the_leaving_are_one(rt: HostRuntime) -> Result<(), Fail> {
-    let told = tell_gathered(&rt, rt.alloc(), GatheredStory::LastFlush)?;
-    assert_eq!(rt; told, [0, 2, 2, 0, 628, 628, 0, 1]);
-    Ok(())
-}
-
-// A worker finishes with rows of 28 and of 600 octets, and is held up where its flush was answered: there a Terminate
-// finds nobody attached, and reports the octets. How many it finds; how many verdicts the worker is told, by generation 2
-// and passed by the rule; and the totals.
+/// A worker comes and finishes with rows of 28 and of 600 octets, in a thread of its own, and is held up where its flush was
+/// answered. There the desk terminates the session: 1, how many workers that finds attached, and how many verdicts the
+/// worker is told, by generation 2 and passed by the rule.
 pub fn last_flush<
-    C: Detects + Drop + Send + Sync,
-    N: Naming + Send + Sync,
-    W: Board<Slot<N>> + Drop + Send,
-    R: Threads + Wait + Sync,
->(rt: &R, alloc: Global, shared: Shared<C, N, W>, mut desk: Desk<N>) -> Result<Told, Fail> {
-    match both_ends(rt, alloc, &shared, &mut desk) {
-        Some((left, figures)) => told_of_one(rt, alloc, shared, desk, left, figures),
-        None => Err("the worker comes and finishes, and the session ends")?,
-    }
-}
-
-// What the worker hands in, how many workers the Terminate finds, and how many verdicts the worker is told.
-fn both_ends<
     C: Detects + Drop + Send + Sync,
     N: Naming + Send + Sync,
     W: Board<Slot<N>> + Drop + Send,
@@ -59,21 +37,37 @@ fn both_ends<
     alloc: Global,
     shared: &Shared<C, N, W>,
     desk: &mut Desk<N>,
-) -> Option<(Finished<N>, (u64, u64))> {
+    workers: &mut Workers<C, N>,
+) -> Seen {
     let answered = AtomicBool::new(false);
     let given = AtomicBool::new(false);
     let gate = HoldsLast {
         answered: &answered,
         given: &given,
     };
-    let (workers, finished) = join(
+    let (attached, finished) = join(
         rt,
         || terminated(rt, shared, desk, gate),
         || finishes(rt, alloc, shared, gate),
     );
-    let workers = workers?;
-    let (left, told) = finished?;
-    Some((left, (workers, told)))
+    told_of(workers, attached, finished)
+}
+
+fn told_of<C: Detects + Drop, N: Naming>(
+    workers: &mut Workers<C, N>,
+    attached: Option<u64>,
+    finished: Option<(Finished<N>, u64)>,
+) -> Seen {
+    match finished {
+        Some((left, verdicts)) => {
+            workers.keep(left);
+            match attached {
+                Some(attached) => [1, attached, verdicts, 0],
+                None => NOTHING,
+            }
+        }
+        None => NOTHING,
+    }
 }
 
 // The desk terminates the session where the worker's flush was answered: how many workers are attached.

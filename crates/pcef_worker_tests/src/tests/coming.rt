@@ -1,0 +1,193 @@
+//! Workers that come and leave.
+
+use super::*;
+use pcef_session::Item;
+
+/// The workers that are there, the last of which acts, and what those handed in that left.
+#[derive(Drop)]
+pub struct Workers<C: Offers + Drop, N: Naming> {
+    there: Vec<Worker<C, N, OpenGate>>,
+    left: Vec<Finished<N>>,
+}
+
+impl<C: Offers + Drop, N: Naming> Workers<C, N> {
+    /// Nobody came.
+    pub fn new(alloc: Global) -> Workers<C, N> {
+        Workers {
+            there: Vec::new(alloc),
+            left: Vec::new(alloc),
+        }
+    }
+
+    /// The worker that acts.
+    pub fn acting(&mut self) -> Option<&mut Worker<C, N, OpenGate>> {
+        self.there.last_mut()
+    }
+
+    /// One more is there, and acts.
+    fn add(&mut self, worker: Worker<C, N, OpenGate>) {
+        let _ = self.there.push(worker).ok();
+    }
+
+    /// One more has left.
+    pub fn keep(&mut self, left: Finished<N>) {
+        let _ = self.left.push(left).ok();
+    }
+
+    /// Gives away what those handed in that left.
+    pub fn take_left(&mut self, alloc: Global) -> Vec<Finished<N>> {
+        std::mem::replace(&mut self.left, Vec::new(alloc))
+    }
+}
+
+// What a step tells by which workers come and leave.
+pub fn seen<C: Detects + Drop, N: Naming, W: Board<Slot<N>> + Drop, R: Wait>(
+    rt: &R,
+    alloc: Global,
+    shared: &Shared<C, N, W>,
+    workers: &mut Workers<C, N>,
+    step: Step,
+) -> Seen {
+    match step {
+        Step::Come => comes(rt, alloc, shared, workers),
+        Step::ComeAtLast => comes_at_last(rt, alloc, shared, workers),
+        Step::CanNotCome(reason) => can_not_come(rt, alloc, shared, reason),
+        Step::Turn => turn(workers),
+        Step::HandedIn(number) => handed_in(workers, number),
+        _ => match workers.there.pop() {
+            Some(worker) => leaves(rt, shared, workers, worker, step),
+            None => NOTHING,
+        },
+    }
+}
+
+fn comes<C: Detects + Drop, N: Naming, W: Board<Slot<N>> + Drop, R: Wait>(
+    rt: &R,
+    alloc: Global,
+    shared: &Shared<C, N, W>,
+    workers: &mut Workers<C, N>,
+) -> Seen {
+    match Worker::attach(rt, alloc, shared, OpenGate).ok() {
+        Some(worker) => {
+            let (number, generation) = (worker.worker(), worker.generation());
+            workers.add(worker);
+            [1, u64::from(number), u64::from(generation), 0]
+        }
+        None => NOTHING,
+    }
+}
+
+fn comes_at_last<C: Detects + Drop, N: Naming, W: Board<Slot<N>> + Drop, R: Wait>(
+    rt: &R,
+    alloc: Global,
+    shared: &Shared<C, N, W>,
+    workers: &mut Workers<C, N>,
+) -> Seen {
+    let seen = comes(rt, alloc, shared, workers);
+    if seen == NOTHING {
+        comes(rt, alloc, shared, workers)
+    } else {
+        seen
+    }
+}
+
+fn can_not_come<C: Detects + Drop, N: Naming, W: Board<Slot<N>> + Drop, R: Wait>(
+    rt: &R,
+    alloc: Global,
+    shared: &Shared<C, N, W>,
+    reason: AttachFault,
+) -> Seen {
+    let fault = Worker::attach(rt, alloc, shared, OpenGate).err();
+    [u64::from(fault == Some(reason)), 0, 0, 0]
+}
+
+fn turn<C: Detects + Drop, N: Naming>(workers: &mut Workers<C, N>) -> Seen {
+    workers.there.reverse();
+    [1, 0, 0, 0]
+}
+
+fn leaves<C: Detects + Drop, N: Naming, W: Board<Slot<N>> + Drop, R: Wait>(
+    rt: &R,
+    shared: &Shared<C, N, W>,
+    workers: &mut Workers<C, N>,
+    worker: Worker<C, N, OpenGate>,
+    step: Step,
+) -> Seen {
+    match step {
+        Step::Finish => finished(rt, shared, workers, worker),
+        Step::CanNotFinish(reason) => given_back(rt, shared, workers, worker, reason),
+        _ => kept(workers, 1, worker.abandon(rt, shared)),
+    }
+}
+
+// Keeps what a worker hands in, and tells of it after this number.
+fn kept<C: Detects + Drop, N: Naming>(
+    workers: &mut Workers<C, N>,
+    before: u64,
+    left: Finished<N>,
+) -> Seen {
+    let (number, rows) = (u64::from(left.worker()), left.items().len() as u64);
+    let given_up = u64::from(left.abandoned());
+    workers.keep(left);
+    [before, number, rows, given_up]
+}
+
+fn finished<C: Detects + Drop, N: Naming, W: Board<Slot<N>> + Drop, R: Wait>(
+    rt: &R,
+    shared: &Shared<C, N, W>,
+    workers: &mut Workers<C, N>,
+    worker: Worker<C, N, OpenGate>,
+) -> Seen {
+    match worker.finish(rt, shared).ok() {
+        Some((left, verdicts)) => kept(workers, verdicts.rows.len() as u64, left),
+        None => NOTHING,
+    }
+}
+
+// A finish that is refused gives the worker back.
+fn given_back<C: Detects + Drop, N: Naming, W: Board<Slot<N>> + Drop, R: Wait>(
+    rt: &R,
+    shared: &Shared<C, N, W>,
+    workers: &mut Workers<C, N>,
+    worker: Worker<C, N, OpenGate>,
+    reason: FlushRefusal,
+) -> Seen {
+    let refusal = put_back(workers, worker.finish(rt, shared).err());
+    [u64::from(refusal == Some(reason)), 0, 0, 0]
+}
+
+// The worker that comes back acts again: why it came back.
+fn put_back<C: Detects + Drop, N: Naming>(
+    workers: &mut Workers<C, N>,
+    back: Option<(Worker<C, N, OpenGate>, FlushRefusal)>,
+) -> Option<FlushRefusal> {
+    match back {
+        Some((worker, refusal)) => {
+            workers.add(worker);
+            Some(refusal)
+        }
+        None => None,
+    }
+}
+
+fn handed_in<C: Detects + Drop, N: Naming>(workers: &Workers<C, N>, number: usize) -> Seen {
+    match workers.left.get(number) {
+        Some(left) => octets_in_order(left.items()),
+        None => NOTHING,
+    }
+}
+
+// How many rows of a lane are in order, and the octets of the first three.
+fn octets_in_order(items: &[Item]) -> Seen {
+    let mut told = NOTHING;
+    for (number, item) in items.iter().enumerate() {
+        if item.row.seq != number as u64 {
+            return told;
+        }
+        told[0] = told[0].saturating_add(1);
+        if number < 3 {
+            told[number + 1] = u64::from(item.row.header.octets);
+        }
+    }
+    told
+}

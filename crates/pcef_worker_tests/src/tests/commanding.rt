@@ -1,0 +1,132 @@
+//! Commands of the desk, and the reports that it collects.
+
+use super::*;
+use pcef_model::{Accepted, Body, Refusal, Report};
+use pcef_rule::{KeyName, RuleName};
+
+// What a step of the desk tells.
+pub fn seen<C: Offers + Drop, N: Naming, W: Board<Slot<N>> + Drop, R: Wait>(
+    rt: &R,
+    shared: &Shared<C, N, W>,
+    desk: &mut Desk<N>,
+    install: &Command,
+    step: Step,
+) -> Seen {
+    match step {
+        Step::Terminate => terminated(rt, shared, desk),
+        Step::AskForReport => asked_for(rt, shared, desk),
+        Step::Collect(cause) => collected(rt, shared, desk, cause),
+        _ => generation_after(rt, shared, desk, command_of(step, install)),
+    }
+}
+
+// The command that a step gives.
+fn command_of(step: Step, install: &Command) -> Option<Command> {
+    match step {
+        Step::Install => install.copy().ok(),
+        Step::Monitor => Some(Command::Monitor {
+            key: KeyName::known("vid"),
+            grant: 1_000_000,
+        }),
+        Step::Remove => Some(Command::Remove(RuleName::known("web"))),
+        Step::Close => Some(Command::Close),
+        _ => None,
+    }
+}
+
+fn generation_after<C: Offers + Drop, N: Naming, W: Board<Slot<N>> + Drop, R: Wait>(
+    rt: &R,
+    shared: &Shared<C, N, W>,
+    desk: &mut Desk<N>,
+    command: Option<Command>,
+) -> Seen {
+    match command {
+        Some(command) => accepted(desk.command(rt, shared, command).ok()),
+        None => NOTHING,
+    }
+}
+
+fn accepted(answer: Option<Accepted>) -> Seen {
+    match answer {
+        Some(accepted) => [1, u64::from(accepted.generation), 0, 0],
+        None => NOTHING,
+    }
+}
+
+fn terminated<C: Offers + Drop, N: Naming, W: Board<Slot<N>> + Drop, R: Wait>(
+    rt: &R,
+    shared: &Shared<C, N, W>,
+    desk: &mut Desk<N>,
+) -> Seen {
+    match still_attached(desk.command(rt, shared, Command::Terminate)) {
+        Some(workers) => [1, workers, 0, 0],
+        None => NOTHING,
+    }
+}
+
+// How many workers a Terminate found attached, 0 where it was accepted, if it was not refused for another reason.
+pub fn still_attached(answer: Result<Accepted, Refusal>) -> Option<u64> {
+    match answer {
+        Ok(_) => Some(0),
+        Err(Refusal::WorkersAttached(workers)) => Some(u64::from(workers)),
+        Err(_) => None,
+    }
+}
+
+fn asked_for<C: Offers + Drop, N: Naming, W: Board<Slot<N>> + Drop, R: Wait>(
+    rt: &R,
+    shared: &Shared<C, N, W>,
+    desk: &mut Desk<N>,
+) -> Seen {
+    let [before, _, _, others] = collected(rt, shared, desk, Cause::Requested);
+    let ask = Command::ReportNow(KeyName::known("vid"));
+    if desk.command(rt, shared, ask).is_err() {
+        return NOTHING;
+    }
+    let [after, number, octets, beside] = collected(rt, shared, desk, Cause::Requested);
+    let not_asked_for = before.saturating_add(others).saturating_add(beside);
+    [not_asked_for, after, number, octets]
+}
+
+fn collected<C: Offers + Drop, N: Naming, W: Board<Slot<N>> + Drop, R: Wait>(
+    rt: &R,
+    shared: &Shared<C, N, W>,
+    desk: &mut Desk<N>,
+    cause: Cause,
+) -> Seen {
+    match desk.collect(rt, shared) {
+        Ok(reports) => told_of(reports.as_slice(), cause),
+        Err(_) => [u64::MAX; 4],
+    }
+}
+
+// How many of these reports tell the usage of the key for this cause, the number and the octets of the last of them, and
+// how many others there are.
+fn told_of(reports: &[Report], cause: Cause) -> Seen {
+    let mut told = NOTHING;
+    for report in reports {
+        add_to(&mut told, report, cause);
+    }
+    told
+}
+
+fn add_to(told: &mut Seen, report: &Report, cause: Cause) {
+    match octets_of(report, cause) {
+        Some(octets) => {
+            told[0] = told[0].saturating_add(1);
+            told[1] = report.number;
+            told[2] = octets;
+        }
+        None => told[3] = told[3].saturating_add(1),
+    }
+}
+
+// The octets, if it tells the usage of the key for this cause.
+fn octets_of(report: &Report, wanted: Cause) -> Option<u64> {
+    match &report.body {
+        Body::Usage { key, octets, cause } if key.as_str() == "vid" && *cause == wanted => {
+            Some(*octets)
+        }
+        _ => None,
+    }
+}
