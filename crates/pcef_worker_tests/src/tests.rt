@@ -34,8 +34,8 @@ use std::thread::Threads;
 /// What a step tells.
 type Seen = [u64; 4];
 
-/// What is told by a step that wasn't possible.
-const NOTHING: Seen = [0; 4];
+/// What is told by a step that wasn't possible, and by no other.
+const NOT_DONE: Seen = [u64::MAX; 4];
 
 /// The first step that told other numbers than its row in the table, and what it told; and what the end of the story told,
 /// as [`gathering::ending`] says.

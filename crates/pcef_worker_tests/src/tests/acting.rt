@@ -12,7 +12,7 @@ pub fn seen<C: Detects + Drop, N: Naming, W: Board<Slot<N>> + Drop, R: Wait>(
 ) -> Seen {
     match workers.acting() {
         Some(worker) => seen_of(rt, shared, worker, step),
-        None => NOTHING,
+        None => NOT_DONE,
     }
 }
 
@@ -119,7 +119,7 @@ fn first_that_waits<C: Detects + Drop, N: Naming>(worker: &Worker<C, N, OpenGate
             u64::from(item.row.header.octets),
             0,
         ],
-        [] => NOTHING,
+        [] => NOT_DONE,
     }
 }
 
@@ -130,7 +130,7 @@ fn judged<C: Detects + Drop, N: Naming, W: Board<Slot<N>> + Drop, R: Wait>(
 ) -> Seen {
     match worker.flush(rt, shared) {
         Ok(verdicts) => told_of(verdicts.rows.as_slice()),
-        Err(_) => NOTHING,
+        Err(_) => NOT_DONE,
     }
 }
 
@@ -146,7 +146,7 @@ fn told_of(rows: &[Judged]) -> Seen {
             u64::from(second.generation),
             passed(second).0,
         ],
-        _ => NOTHING,
+        _ => NOT_DONE,
     }
 }
 

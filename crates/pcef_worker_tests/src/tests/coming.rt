@@ -56,7 +56,7 @@ pub fn seen<C: Detects + Drop, N: Naming, W: Board<Slot<N>> + Drop, R: Wait>(
         Step::HandedIn(number) => handed_in(workers, number),
         _ => match workers.there.pop() {
             Some(worker) => leaves(rt, shared, workers, worker, step),
-            None => NOTHING,
+            None => NOT_DONE,
         },
     }
 }
@@ -73,7 +73,7 @@ fn comes<C: Detects + Drop, N: Naming, W: Board<Slot<N>> + Drop, R: Wait>(
             workers.add(worker);
             [1, u64::from(number), u64::from(generation), 0]
         }
-        None => NOTHING,
+        None => NOT_DONE,
     }
 }
 
@@ -84,7 +84,7 @@ fn comes_at_last<C: Detects + Drop, N: Naming, W: Board<Slot<N>> + Drop, R: Wait
     workers: &mut Workers<C, N>,
 ) -> Seen {
     let seen = comes(rt, alloc, shared, workers);
-    if seen == NOTHING {
+    if seen == NOT_DONE {
         comes(rt, alloc, shared, workers)
     } else {
         seen
@@ -140,7 +140,7 @@ fn finished<C: Detects + Drop, N: Naming, W: Board<Slot<N>> + Drop, R: Wait>(
 ) -> Seen {
     match worker.finish(rt, shared).ok() {
         Some((left, verdicts)) => kept(workers, verdicts.rows.len() as u64, left),
-        None => NOTHING,
+        None => NOT_DONE,
     }
 }
 
@@ -173,13 +173,13 @@ fn put_back<C: Detects + Drop, N: Naming>(
 fn handed_in<C: Detects + Drop, N: Naming>(workers: &Workers<C, N>, number: usize) -> Seen {
     match workers.left.get(number) {
         Some(left) => octets_in_order(left.items()),
-        None => NOTHING,
+        None => NOT_DONE,
     }
 }
 
 // How many rows of a lane are in order, and the octets of the first three.
 fn octets_in_order(items: &[Item]) -> Seen {
-    let mut told = NOTHING;
+    let mut told = [0; 4];
     for (number, item) in items.iter().enumerate() {
         if item.row.seq != number as u64 {
             return told;

@@ -42,14 +42,14 @@ fn generation_after<C: Offers + Drop, N: Naming, W: Board<Slot<N>> + Drop, R: Wa
 ) -> Seen {
     match command {
         Some(command) => accepted(desk.command(rt, shared, command).ok()),
-        None => NOTHING,
+        None => NOT_DONE,
     }
 }
 
 fn accepted(answer: Option<Accepted>) -> Seen {
     match answer {
         Some(accepted) => [1, u64::from(accepted.generation), 0, 0],
-        None => NOTHING,
+        None => NOT_DONE,
     }
 }
 
@@ -60,7 +60,7 @@ fn terminated<C: Offers + Drop, N: Naming, W: Board<Slot<N>> + Drop, R: Wait>(
 ) -> Seen {
     match still_attached(desk.command(rt, shared, Command::Terminate)) {
         Some(workers) => [1, workers, 0, 0],
-        None => NOTHING,
+        None => NOT_DONE,
     }
 }
 
@@ -80,8 +80,8 @@ fn asked_for<C: Offers + Drop, N: Naming, W: Board<Slot<N>> + Drop, R: Wait>(
 ) -> Seen {
     let [before, _, _, others] = collected(rt, shared, desk, Cause::Requested);
     let ask = Command::ReportNow(KeyName::known("vid"));
-    if desk.command(rt, shared, ask).is_err() {
-        return NOTHING;
+    if generation_after(rt, shared, desk, Some(ask)) == NOT_DONE {
+        return NOT_DONE;
     }
     let [after, number, octets, beside] = collected(rt, shared, desk, Cause::Requested);
     let not_asked_for = before.saturating_add(others).saturating_add(beside);
@@ -96,14 +96,14 @@ fn collected<C: Offers + Drop, N: Naming, W: Board<Slot<N>> + Drop, R: Wait>(
 ) -> Seen {
     match desk.collect(rt, shared) {
         Ok(reports) => told_of(reports.as_slice(), cause),
-        Err(_) => [u64::MAX; 4],
+        Err(_) => NOT_DONE,
     }
 }
 
 // How many of these reports tell the usage of the key for this cause, the number and the octets of the last of them, and
 // how many others there are.
 fn told_of(reports: &[Report], cause: Cause) -> Seen {
-    let mut told = NOTHING;
+    let mut told = [0; 4];
     for report in reports {
         add_to(&mut told, report, cause);
     }

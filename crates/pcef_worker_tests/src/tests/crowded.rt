@@ -67,7 +67,7 @@ fn verdicts_of<C: Detects + Drop, N: Naming, W: Board<Slot<N>> + Drop, R: Wait>(
     worker: Worker<C, N, OpenGate>,
 ) -> u64 {
     match worker.finish(rt, shared).ok() {
-        Some((_, verdicts)) => verdicts.rows.len() as u64,
+        Some(told) => told.1.rows.len() as u64,
         None => 0,
     }
 }

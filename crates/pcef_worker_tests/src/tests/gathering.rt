@@ -7,7 +7,7 @@ use pcef_lock::{GatherFault, Totals, Ungathered};
 
 /// What the workers hand in, at first without the last that left, and then with it and all that came back: how many workers
 /// were out at first; then the rows, those that were given up, what was counted, reported and not reported for the key, and
-/// how many keys have a slot, zeros where workers are out still.
+/// how many keys have a slot. Where workers are out still, the first number stands in each place, and 0 where none was out.
 pub fn ending<C: Detects + Drop, N: Naming, W: Board<Slot<N>> + Drop, R: Wait>(
     rt: &R,
     shared: Shared<C, N, W>,
@@ -16,9 +16,9 @@ pub fn ending<C: Detects + Drop, N: Naming, W: Board<Slot<N>> + Drop, R: Wait>(
 ) -> [u64; 7] {
     let mut left = left;
     let last = left.pop();
-    match shared.gather(rt, desk, joined(left, None)) {
-        Ok(totals) => told_of(0, &totals),
-        Err(back) => ending_with(rt, back, last),
+    match shared.gather(rt, desk, joined(left, None)).err() {
+        Some(back) => ending_with(rt, back, last),
+        None => [0; 7],
     }
 }
 
@@ -36,7 +36,7 @@ fn ending_with<C: Detects + Drop, N: Naming, W: Board<Slot<N>> + Drop, R: Wait>(
     } = back;
     match shared.gather(rt, desk, joined(finished, last)).ok() {
         Some(totals) => told_of(out, &totals),
-        None => [out, 0, 0, 0, 0, 0, 0],
+        None => [out; 7],
     }
 }
 

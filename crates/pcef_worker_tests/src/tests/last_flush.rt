@@ -63,10 +63,10 @@ fn told_of<C: Detects + Drop, N: Naming>(
             workers.keep(left);
             match attached {
                 Some(attached) => [1, attached, verdicts, 0],
-                None => NOTHING,
+                None => NOT_DONE,
             }
         }
-        None => NOTHING,
+        None => NOT_DONE,
     }
 }
 

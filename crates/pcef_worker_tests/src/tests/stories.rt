@@ -348,6 +348,6 @@ fn sixteen_workers_finish_while_the_session_is_terminated(rt: HostRuntime) -> Re
             (Collect(Cause::Terminated), [1, 0, 448, 0]),
         ],
     )?;
-    assert_eq!(rt; told, (None, [16, 0, 0, 0, 0, 0, 0]));
+    assert_eq!(rt; told, (None, [16; 7]));
     Ok(())
 }
