@@ -160,8 +160,9 @@ fn run_named<
     ensures { IfOk result (λ e.
         RunsTo session.setting session.journal arrivals.now commands.items workers e) }
 {
-    let (shared, desk) =
-        Shared::<C, N, _>::open(rt, alloc, catalog, session, opened, blanks, workers)?;
+    let (shared, desk) = Shared::<C, N, _>::open(
+        rt, alloc, catalog, session, opened, blanks, workers,
+    )?;
     let worked = work_all(rt, alloc, &shared, desk, gate, workers, arrivals, commands)?;
     let ended = end(rt, alloc, shared, worked)?;
     Ok(ended)

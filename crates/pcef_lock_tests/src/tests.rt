@@ -180,8 +180,9 @@ fn told_to_the_desk<C: Detects + Drop, N: Naming, R: Wait + Drop>(
     requires table { Shows session.setting session.journal (gen session.journal) opened.table }
     requires book { (opened.book ≡ N.book) × (opened.root ≡ N.root) }
 {
-    let (shared, mut desk) =
-        Shared::<C, N, _>::open(rt, alloc, catalog, session, opened, blanks, 2)?;
+    let (shared, mut desk) = Shared::<C, N, _>::open(
+        rt, alloc, catalog, session, opened, blanks, 2,
+    )?;
     told_by(rt, alloc, &shared, &mut desk)
 }
 

@@ -158,8 +158,15 @@ fn behind_its_lock<
     requires book { (opened.book ≡ N.book) × (opened.root ≡ N.root) }
 {
     let packets = packets(alloc, load)?;
-    let (shared, mut desk) =
-        Shared::<C, N, _>::open(rt, alloc, catalog, session, opened, blanks, load.workers).ok()?;
+    let (shared, mut desk) = Shared::<C, N, _>::open(
+        rt,
+        alloc,
+        catalog,
+        session,
+        opened,
+        blanks,
+        load.workers,
+    ).ok()?;
     give_commands(rt, alloc, &shared, &mut desk, load)?;
     outcome_of(rt, clock, alloc, shared, desk, packets.as_slice(), load)
 }
