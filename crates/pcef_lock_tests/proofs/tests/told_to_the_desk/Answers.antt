@@ -1,6 +1,6 @@
 use Rattle.std.proofs.Common.{ap}
 use Rattle.pcef_model.specs.Journals.{attach_count}
-use Rattle.pcef_lock_tests.proofs.tests.locked.Goals as goal
+use Rattle.pcef_lock_tests.proofs.tests.told_to_the_desk.Goals as goal
 
 pub open-requires-clause-fresh : goal.open-requires-clause-fresh
 unfolding attach_count
