@@ -38,26 +38,43 @@ fn finds_the_newest<N: Naming, R: Wait + Drop>(
     requires number { opened.table.number ≡ 5 }
     requires entries { opened.table.entries ≡ [] }
 {
-    let (mut publisher, mut subscribers) = Publisher::<N, _>::new(rt, alloc, opened, 2)?;
+    match Publisher::<N, _>::new(rt, alloc, opened, 2) {
+        Ok((mut publisher, mut subscribers)) => match (subscribers.pop(), subscribers.pop()) {
+            (Some(mut quick), Some(mut slow)) => {
+                read_by_both(alloc, &mut publisher, &mut quick, &mut slow)
+            }
+            _ => Err("there are two subscribers")?,
+        },
+        Err(fault) => Err(fault)?,
+    }
+}
+
+// Publishes the table of the next generation, which is empty.
+fn publish_empty<N: Naming, W: Board<Slot<N>> + Drop>(
+    alloc: Global,
+    publisher: &mut Publisher<N, W>,
+) -> Result<(), Fail> {
+    let newest = publisher.generation();
+    let next = newest.checked_add(1).ok_or("there is a next generation")?;
+    publisher.publish(table(alloc, next)?)?;
+    Ok(())
+}
+
+fn read_by_both<N: Naming, W: Board<Slot<N>> + Drop>(
+    alloc: Global,
+    publisher: &mut Publisher<N, W>,
+    quick: &mut Subscriber<N>,
+    slow: &mut Subscriber<N>,
+) -> Result<[u32; 6], Fail> {
     let begun = publisher.generation();
-    let sixth = table(alloc, 6)?;
-    publisher.publish(sixth)?;
-    let mut quick = subscribers.pop().ok_or("there are two subscribers")?;
-    let mut slow = subscribers.pop().ok_or("there are two subscribers")?;
+    publish_empty(alloc, publisher)?;
     let held = quick.current().0;
     let after_one = quick.refresh();
-    let seventh = table(alloc, 7)?;
-    publisher.publish(seventh)?;
+    publish_empty(alloc, publisher)?;
     let after_two = quick.refresh();
     let at_once = slow.refresh();
-    Ok([
-        begun,
-        held,
-        after_one,
-        after_two,
-        at_once,
-        slow.current().1.generation(),
-    ])
+    let number = slow.current().1.generation();
+    Ok([begun, held, after_one, after_two, at_once, number])
 }
 
 #[test]
@@ -79,15 +96,25 @@ fn meets_the_newest<N: Naming, R: Wait + Drop>(
     requires number { opened.table.number ≡ 0 }
     requires entries { opened.table.entries ≡ [] }
 {
-    let (mut publisher, mut subscribers) = Publisher::<N, _>::new(rt, alloc, opened, 1)?;
-    let first = table(alloc, 1)?;
-    publisher.publish(first)?;
-    let second = table(alloc, 2)?;
-    publisher.publish(second)?;
-    let mut one = subscribers.pop().ok_or("there is a subscriber")?;
-    one.meet(&mut publisher)?;
-    let (met, newest) = one.current();
-    let number = newest.generation();
+    match Publisher::<N, _>::new(rt, alloc, opened, 1) {
+        Ok((mut publisher, mut subscribers)) => match subscribers.first_mut() {
+            Some(subscriber) => read_by_one(alloc, &mut publisher, subscriber),
+            None => Err("there is one subscriber")?,
+        },
+        Err(fault) => Err(fault)?,
+    }
+}
+
+fn read_by_one<N: Naming, W: Board<Slot<N>> + Drop>(
+    alloc: Global,
+    publisher: &mut Publisher<N, W>,
+    one: &mut Subscriber<N>,
+) -> Result<[u32; 3], Fail> {
+    publish_empty(alloc, publisher)?;
+    publish_empty(alloc, publisher)?;
+    one.meet(publisher)?;
+    let met = one.current().0;
+    let number = one.current().1.generation();
     Ok([met, number, one.refresh()])
 }
 
@@ -110,11 +137,38 @@ fn read_beside_the_publisher<
     requires first { opened.table.number ≡ N.first }
     requires entries { opened.table.entries ≡ [] }
 {
-    let begun = Publisher::<N, Writer<N, W>>::new(board_rt, alloc, opened, 1).ok();
-    let (publisher, mut subscribers) = begun?;
-    let subscriber = subscribers.pop()?;
-    let (mut publisher, mut subscriber) = at_once(rt, alloc, publisher, subscriber)?;
-    subscriber.meet(&mut publisher).ok()?;
+    match Publisher::<N, Writer<N, W>>::new(board_rt, alloc, opened, 1) {
+        Ok((publisher, subscribers)) => at_the_end(beside(rt, alloc, publisher, subscribers)),
+        Err(_) => None,
+    }
+}
+
+fn beside<N: Naming + Send + Sync, R: Threads + Wait + Sync, W: Board<Slot<N>> + Drop + Send>(
+    rt: &R,
+    alloc: Global,
+    publisher: Publisher<N, W>,
+    mut subscribers: Vec<Subscriber<N>>,
+) -> Option<(Publisher<N, W>, Subscriber<N>)> {
+    match subscribers.pop() {
+        Some(subscriber) => at_once(rt, alloc, publisher, subscriber),
+        None => None,
+    }
+}
+
+fn at_the_end<N: Naming, W: Board<Slot<N>> + Drop>(
+    both: Option<(Publisher<N, W>, Subscriber<N>)>,
+) -> Option<(u32, u32)> {
+    match both {
+        Some((mut publisher, mut subscriber)) => met(&mut publisher, &mut subscriber),
+        None => None,
+    }
+}
+
+fn met<N: Naming, W: Board<Slot<N>> + Drop>(
+    publisher: &mut Publisher<N, W>,
+    subscriber: &mut Subscriber<N>,
+) -> Option<(u32, u32)> {
+    subscriber.meet(publisher).ok()?;
     let met = subscriber.current().0;
     Some((met, subscriber.refresh()))
 }
@@ -184,11 +238,22 @@ fn twice_published<N: Naming, R: Wait + Drop>(
     requires first { opened.table.number ≡ N.first }
     requires entries { opened.table.entries ≡ [] }
 {
-    let begun = Publisher::<N, _>::new(rt, alloc, opened, 1).ok();
-    let (mut publisher, mut subscribers) = begun?;
-    let mut subscriber = subscribers.pop()?;
-    publish_next(alloc, &mut publisher, &mut subscriber)?;
-    publish_next(alloc, &mut publisher, &mut subscriber)?;
+    match Publisher::<N, _>::new(rt, alloc, opened, 1) {
+        Ok((mut publisher, mut subscribers)) => match subscribers.first_mut() {
+            Some(subscriber) => publish_two(alloc, &mut publisher, subscriber),
+            None => None,
+        },
+        Err(_) => None,
+    }
+}
+
+fn publish_two<N: Naming, W: Board<Slot<N>> + Drop>(
+    alloc: Global,
+    publisher: &mut Publisher<N, W>,
+    subscriber: &mut Subscriber<N>,
+) -> Option<(u32, u32)> {
+    publish_next(alloc, publisher, subscriber)?;
+    publish_next(alloc, publisher, subscriber)?;
     Some((publisher.generation(), subscriber.current().0))
 }
 
