@@ -11,7 +11,7 @@ use Rattle.pcef_core.specs.Sessions.{setting_with}
 use Rattle.pcef_core.specs.declared.world.World.{World}
 
 abbrev pub world_of : {d h g : _} → World d h g → WorldModel
-world_of w = w.state
+world_of w = w.state.value
 
 -- what is fixed for the session of a world
 abbrev pub world_setting : {d h g : _} → World d h g → Setting

@@ -22,11 +22,21 @@ use std::alloc::Global;
 use std::sync::Arc;
 
 /// A session and the catalog of its predefined rules.
-#[derive(Drop)]
+// The box keeps the types of all parts from whoever owns a session, and from the proofs of their functions.
 pub struct Session {
     catalog: Arc<Catalog>,
-    state: SessionState,
-    ghost offered: { state.setting.catalog ≡ offers_of (arc_value catalog) },
+    state: Box<SessionState>,
+    ghost offered: { state.value.setting.catalog ≡ offers_of (arc_value catalog) },
+}
+
+// Written out, so that an owner proves one call at each way out.
+impl Drop for Session {
+    fn drop(self) {
+        let Session {
+            catalog: _,
+            state: _,
+        } = self;
+    }
 }
 
 impl Session {
@@ -62,7 +72,10 @@ impl Session {
             return Err(OpenFault::NoMemory);
         };
         let state = SessionState::open(alloc, profile, listing)?;
-        Ok(Session { catalog, state })
+        match Box::new(alloc, state) {
+            Ok(state) => Ok(Session { catalog, state }),
+            Err(_) => Err(OpenFault::NoMemory),
+        }
     }
 
     /// As [`SessionState::prepare`].

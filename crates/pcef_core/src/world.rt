@@ -13,11 +13,21 @@ use std::alloc::{AllocError, Global};
 use std::sync::Arc;
 
 /// A session and its workers, and the catalog of the session's predefined rules.
-#[derive(Drop)]
+// The box keeps the types of all parts from whoever owns a world, and from the proofs of their functions.
 pub struct World {
     catalog: Arc<Catalog>,
-    state: WorldState,
-    ghost offered: { state.session.setting.catalog ≡ offers_of (arc_value catalog) },
+    state: Box<WorldState>,
+    ghost offered: { state.value.session.setting.catalog ≡ offers_of (arc_value catalog) },
+}
+
+// Written out, so that an owner proves one call at each way out.
+impl Drop for World {
+    fn drop(self) {
+        let World {
+            catalog: _,
+            state: _,
+        } = self;
+    }
 }
 
 impl World {
@@ -41,7 +51,10 @@ impl World {
             return Err(OpenFault::NoMemory);
         };
         let state = WorldState::open(alloc, profile, listing)?;
-        Ok(World { catalog, state })
+        match Box::new(alloc, state) {
+            Ok(state) => Ok(World { catalog, state }),
+            Err(_) => Err(OpenFault::NoMemory),
+        }
     }
 
     /// Makes one step, as [`WorldState::step`].
