@@ -45,12 +45,23 @@ pub struct Released {
 /// The bearers of a session, which hold all rules that may be bound in themselves and take no memory.
 /// Two rules are on one bearer exactly where they have the same QCI and the same ARP (TS 23.203, clause
 /// 6.1.1.4).
-#[derive(Drop)]
 pub struct Bearers {
     default_qos: Qos,
     capacity: Sums,
     qcis: QciTable,
     bound: BoundRules,
+}
+
+// Written out, so that an owner proves one call at each way out.
+impl Drop for Bearers {
+    fn drop(self) {
+        let Bearers {
+            default_qos: _,
+            capacity: _,
+            qcis: _,
+            bound: _,
+        } = self;
+    }
 }
 
 impl Model for Bearers {

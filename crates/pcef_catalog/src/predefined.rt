@@ -11,13 +11,23 @@ use pcef_rule::Properties;
 pub type Detect = Box<dyn Fn(&Header) -> bool + Send + Sync>;
 
 /// A rule that stands in the catalog, with the closure that detects its packets (TS 23.203, clause 6.2.2.2).
-#[derive(Drop)]
 pub struct Predefined {
     properties: Properties,
     shape: Shape,
     detect: Detect,
     ghost callable: { Detect.IsAlwaysCallable detect },
     ghost exact: { (at : _) (r : Bool) → Detect.post detect at r → r ≡ shape_holds shape at.now },
+}
+
+// Written out, so that an owner proves one call at each way out.
+impl Drop for Predefined {
+    fn drop(self) {
+        let Predefined {
+            properties: _,
+            shape: _,
+            detect: _,
+        } = self;
+    }
 }
 
 impl Predefined {

@@ -58,9 +58,16 @@ impl Alternative {
 }
 
 /// At most 8 alternatives, of which one is to be true. With none, the shape never holds.
-#[derive(Debug, Drop)]
+#[derive(Debug)]
 pub struct Shape {
     alternatives: ArrayVec<Alternative, 8>,
+}
+
+// Written out, so that an owner proves one call at each way out.
+impl Drop for Shape {
+    fn drop(self) {
+        let Shape { alternatives: _ } = self;
+    }
 }
 
 impl Model for Shape {

@@ -21,11 +21,21 @@ use std::marker::Model;
 /// The compiled index of a table. Contracts see the rules of the table's entries, in order. It keeps copies
 /// of them, which share their filters, so that what it says of a packet is said of these rules, whatever
 /// becomes of the table.
-#[derive(Drop)]
 pub struct Index {
     sources: Vec<Source>,
     lines: Vec<Line>,
     words: Vec<u64>,
+}
+
+// Written out, so that an owner proves one call at each way out.
+impl Drop for Index {
+    fn drop(self) {
+        let Index {
+            sources: _,
+            lines: _,
+            words: _,
+        } = self;
+    }
 }
 
 impl Model for Index {

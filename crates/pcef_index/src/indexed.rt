@@ -13,10 +13,16 @@ use std::alloc::{AllocError, Global};
 use std::marker::Model;
 
 /// A table and the index that was built of it, which never change. Contracts see the table.
-#[derive(Drop)]
 pub struct Indexed {
     table: Table,
     index: Index,
+}
+
+// Written out, so that an owner proves one call at each way out.
+impl Drop for Indexed {
+    fn drop(self) {
+        let Indexed { table: _, index: _ } = self;
+    }
 }
 
 impl Model for Indexed {

@@ -28,13 +28,25 @@ enum Mark {
 /// What happened in a session, entry by entry. Entries are added and never changed.
 ///
 /// A row takes 58 octets, two of them for its mark, and no copy of the name of its rule.
-#[derive(Drop)]
 pub struct Journal {
     marks: Vec<Mark>,
     commands: Vec<Command>,
     rows: Vec<KeptRow>,
     reports: Vec<Report>,
     names: Names,
+}
+
+// Written out, so that an owner proves one call at each way out.
+impl Drop for Journal {
+    fn drop(self) {
+        let Journal {
+            marks: _,
+            commands: _,
+            rows: _,
+            reports: _,
+            names: _,
+        } = self;
+    }
 }
 
 impl Model for Journal {

@@ -12,12 +12,18 @@ use std::marker::Model;
 const MOST_NAMES: usize = 0x1_0000_0000;
 
 /// Names of rules, each of which stands once and keeps its place.
-#[derive(Drop)]
 pub(crate) struct Names {
     names: IndexSet<RuleName>,
     // The place of the name that was asked for last. Most rows have the name of the row before them,
     // which is found here without a hash.
     last: u32,
+}
+
+// Written out, so that an owner proves one call at each way out.
+impl Drop for Names {
+    fn drop(self) {
+        let Names { names: _, last: _ } = self;
+    }
 }
 
 impl Model for Names {

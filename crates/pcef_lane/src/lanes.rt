@@ -22,9 +22,15 @@ pub struct LaneEnd {
 }
 
 /// The ends of the lanes of all workers that ever came, by their numbers. Takes no memory.
-#[derive(Drop)]
 pub struct Lanes {
     ends: ArrayVec<LaneEnd, 16>,
+}
+
+// Written out, so that an owner proves one call at each way out.
+impl Drop for Lanes {
+    fn drop(self) {
+        let Lanes { ends: _ } = self;
+    }
 }
 
 impl Model for Lanes {

@@ -19,11 +19,21 @@ use std::sync::Wait;
 
 /// Gives the commands of a session and collects its reports. It keeps a list of the commands that were accepted and
 /// changed something, and as many are in its share of them.
-#[derive(Drop)]
 pub struct Desk<N: Naming> {
     commands: Vec<Command>,
     shares: Shares<N>,
     collected: u64,
+}
+
+// Written out, so that an owner proves one call at each way out.
+impl<N: Naming> Drop for Desk<N> {
+    fn drop(self) {
+        let Desk {
+            commands: _,
+            shares: _,
+            collected: _,
+        } = self;
+    }
 }
 
 impl<N: Naming> Model for Desk<N> {
@@ -80,7 +90,12 @@ impl<N: Naming> Desk<N> {
     pub(crate) fn into_shares(self) -> Shares<N>
         ensures { result ≡ plus zeros command_ledger (length self.commands) }
     {
-        self.shares
+        let Desk {
+            commands: _,
+            shares,
+            collected: _,
+        } = self;
+        shares
     }
 
     /// Gives a command, as [`crate::State::command`] answers it. One that is accepted and changes something comes to

@@ -9,12 +9,23 @@ use pcef_share::{Naming, Shares};
 use std::marker::Model;
 
 /// What a worker that left hands in: the rows that it handed over, by its own list, and what they count.
-#[derive(Drop)]
 pub struct Finished<N: Naming> {
     worker: u8,
     items: Vec<Item>,
     shares: Shares<N>,
     abandoned: u8,
+}
+
+// Written out, so that an owner proves one call at each way out.
+impl<N: Naming> Drop for Finished<N> {
+    fn drop(self) {
+        let Finished {
+            worker: _,
+            items: _,
+            shares: _,
+            abandoned: _,
+        } = self;
+    }
 }
 
 impl<N: Naming> Model for Finished<N> {
@@ -72,6 +83,12 @@ impl<N: Naming> Finished<N> {
     pub(crate) fn into_shares(self) -> Shares<N>
         ensures { result ≡ with_items zeros self.items }
     {
-        self.shares
+        let Finished {
+            worker: _,
+            items: _,
+            shares,
+            abandoned: _,
+        } = self;
+        shares
     }
 }

@@ -29,10 +29,19 @@ use std::sync::{Arc, Mutex, Wait};
 
 /// A session that threads share: its catalog, and the lock of all else. Each call takes the lock once and makes one call
 /// of the [`State`] behind it, as which it answers. Contracts see what the catalog offers.
-#[derive(Drop)]
 pub struct Shared<C: Offers + Drop, N: Naming, W: Board<Slot<N>> + Drop> {
     catalog: Arc<C>,
     state: Mutex<State<N, W>>,
+}
+
+// Written out, so that an owner proves one call at each way out.
+impl<C: Offers + Drop, N: Naming, W: Board<Slot<N>> + Drop> Drop for Shared<C, N, W> {
+    fn drop(self) {
+        let Shared {
+            catalog: _,
+            state: _,
+        } = self;
+    }
 }
 
 impl<C: Offers + Drop, N: Naming, W: Board<Slot<N>> + Drop> Model for Shared<C, N, W> {

@@ -32,7 +32,6 @@ pub use gathering::StateUngathered;
 
 /// A session with the publisher of its tables, the subscribers that no worker has yet, and its books. It is the value
 /// behind a session's lock: what always holds of it, every hold of the lock finds.
-#[derive(Drop)]
 pub struct State<N: Naming, W: Board<Slot<N>> + Drop> {
     alloc: Global,
     session: SessionState,
@@ -40,6 +39,20 @@ pub struct State<N: Naming, W: Board<Slot<N>> + Drop> {
     subscribers: Vec<Subscriber<N>>,
     books: Books<N>,
     places: u8,
+}
+
+// Written out, so that an owner proves one call at each way out.
+impl<N: Naming, W: Board<Slot<N>> + Drop> Drop for State<N, W> {
+    fn drop(self) {
+        let State {
+            alloc: _,
+            session: _,
+            publisher: _,
+            subscribers: _,
+            books: _,
+            places: _,
+        } = self;
+    }
 }
 
 impl<N: Naming, W: Board<Slot<N>> + Drop> Model for State<N, W> {

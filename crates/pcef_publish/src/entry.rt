@@ -14,10 +14,16 @@ use std::marker::Model;
 use std::sync::Arc;
 
 /// A table with the history that ends with it. Contracts see it as that list.
-#[derive(Drop)]
 pub struct Entry<N: Naming> {
     table: Arc<Indexed>,
     pub front: Front<N>,
+}
+
+// Written out, so that an owner proves one call at each way out.
+impl<N: Naming> Drop for Entry<N> {
+    fn drop(self) {
+        let Entry { table: _, front: _ } = self;
+    }
 }
 
 impl<N: Naming> Model for Entry<N> {

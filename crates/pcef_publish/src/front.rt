@@ -39,12 +39,23 @@ fn draw(word: &Word<Note, u64, Law>, seen: &Seen<Note, u64, Law>, item: &Indexed
 
 /// A history with no table in it, the table that it is to begin with, and the right to add it. No
 /// session goes by it yet. Contracts see its book, the key of its first pen and that table.
-#[derive(Drop)]
 pub struct Opened {
     word: Word<Note, u64, Law>,
     seen: Seen<Note, u64, Law>,
     pen: Pen,
     table: Arc<Indexed>,
+}
+
+// Written out, so that an owner proves one call at each way out.
+impl Drop for Opened {
+    fn drop(self) {
+        let Opened {
+            word: _,
+            seen: _,
+            pen: _,
+            table: _,
+        } = self;
+    }
 }
 
 impl Model for Opened {
@@ -109,13 +120,25 @@ impl Opened {
 }
 
 /// The one who adds to the history. Contracts see it as all its tables.
-#[derive(Drop)]
 pub struct Author<N: Naming> {
     word: Word<Note, u64, Law>,
     pen: Pen,
     len: u64,
     seen: Seen<Note, u64, Law>,
     of: PhantomData<N>,
+}
+
+// Written out, so that an owner proves one call at each way out.
+impl<N: Naming> Drop for Author<N> {
+    fn drop(self) {
+        let Author {
+            word: _,
+            pen: _,
+            len: _,
+            seen: _,
+            of: _,
+        } = self;
+    }
 }
 
 impl<N: Naming> Model for Author<N> {
@@ -195,11 +218,21 @@ impl<N: Naming> Author<N> {
 }
 
 /// A beginning of the history. Contracts see it as its tables.
-#[derive(Drop)]
 pub struct Front<N: Naming> {
     len: u64,
     seen: Seen<Note, u64, Law>,
     of: PhantomData<N>,
+}
+
+// Written out, so that an owner proves one call at each way out.
+impl<N: Naming> Drop for Front<N> {
+    fn drop(self) {
+        let Front {
+            len: _,
+            seen: _,
+            of: _,
+        } = self;
+    }
 }
 
 impl<N: Naming> Model for Front<N> {

@@ -41,12 +41,23 @@ impl From<AllocError> for PublishFault {
 
 /// Publishes the tables of a session's generations, one after the other. Contracts see the list of the
 /// published tables. It keeps the allocator that it was made with.
-#[derive(Drop)]
 pub struct Publisher<N: Naming, W: Board<Slot<N>> + Drop> {
     alloc: Global,
     author: Author<N>,
     newest: Entry<N>,
     board: W,
+}
+
+// Written out, so that an owner proves one call at each way out.
+impl<N: Naming, W: Board<Slot<N>> + Drop> Drop for Publisher<N, W> {
+    fn drop(self) {
+        let Publisher {
+            alloc: _,
+            author: _,
+            newest: _,
+            board: _,
+        } = self;
+    }
 }
 
 impl<N: Naming, W: Board<Slot<N>> + Drop> Model for Publisher<N, W> {

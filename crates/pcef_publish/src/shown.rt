@@ -12,9 +12,15 @@ use std::sync::{Arc, OnceLock, Wait};
 pub type Slot<N> = Arc<OnceLock<Entry<N>>>;
 
 /// What readers take: the newest place.
-#[derive(Drop)]
 pub struct Shown<N: Naming> {
     pub slot: Slot<N>,
+}
+
+// Written out, so that an owner proves one call at each way out.
+impl<N: Naming> Drop for Shown<N> {
+    fn drop(self) {
+        let Shown { slot: _ } = self;
+    }
 }
 
 impl<N: Naming> Absorb<Slot<N>> for Shown<N> {

@@ -18,10 +18,16 @@ use std::sync::Arc;
 
 /// Holds a published table. Contracts see the list of tables that it has seen, of which it holds the
 /// last.
-#[derive(Drop)]
 pub struct Subscriber<N: Naming> {
     reader: ReadHandle<Shown<N>>,
     held: Entry<N>,
+}
+
+// Written out, so that an owner proves one call at each way out.
+impl<N: Naming> Drop for Subscriber<N> {
+    fn drop(self) {
+        let Subscriber { reader: _, held: _ } = self;
+    }
 }
 
 impl<N: Naming> Model for Subscriber<N> {

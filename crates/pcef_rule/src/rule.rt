@@ -117,9 +117,15 @@ struct Shared {
 }
 
 /// A dynamic rule: its properties and 1 to 16 filters. It never changes, so its copies share them.
-#[derive(Drop)]
 pub struct Rule {
     shared: Arc<Shared>,
+}
+
+// Written out, so that an owner proves one call at each way out.
+impl Drop for Rule {
+    fn drop(self) {
+        let Rule { shared: _ } = self;
+    }
 }
 
 impl Model for Rule {

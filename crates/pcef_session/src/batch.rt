@@ -60,9 +60,15 @@ pub fn slots_for(slot: Option<Slot>) -> ArrayVec<Slot, 8>
 }
 
 /// At most 32 rows of one worker that wait, with memory for all of them.
-#[derive(Drop)]
 pub struct Batch {
     items: Vec<Item>,
+}
+
+// Written out, so that an owner proves one call at each way out.
+impl Drop for Batch {
+    fn drop(self) {
+        let Batch { items: _ } = self;
+    }
 }
 
 impl Model for Batch {

@@ -39,7 +39,6 @@ mod refusing;
 pub const MAX_RULES: usize = 64;
 
 /// A session, without the closures of its catalog.
-#[derive(Drop)]
 pub struct SessionState {
     alloc: Global,
     profile: Profile,
@@ -52,6 +51,25 @@ pub struct SessionState {
     lanes: Lanes,
     closed: bool,
     terminated: bool,
+}
+
+// Written out, so that an owner proves one call at each way out.
+impl Drop for SessionState {
+    fn drop(self) {
+        let SessionState {
+            alloc: _,
+            profile: _,
+            listing: _,
+            counted: _,
+            active: _,
+            bearers: _,
+            newest: _,
+            subscribed: _,
+            lanes: _,
+            closed: _,
+            terminated: _,
+        } = self;
+    }
 }
 
 impl Model for SessionState {

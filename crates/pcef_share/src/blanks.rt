@@ -1,8 +1,13 @@
 //! New ledgers.
 
 ghost use Rattle.std.specs.Prelude.{◌≡◌, length};
+ghost use Rattle.pcef_share.specs.Amounts.{zeros};
+ghost use Rattle.pcef_share.specs.Names.{name_at};
 
 use crate::books::MAX_SHARES;
+use crate::naming::Naming;
+use crate::tallies::Tallies;
+use crate::tally::Tally;
 use std::marker::Model;
 use std::sync::ledger::Blank;
 
@@ -12,7 +17,6 @@ const PARTS: u64 = MAX_SHARES as u64;
 /// Ten new ledgers, which no session goes by yet: of the eight slots, of the rows and of the commands.
 /// Each can be cut into seventeen parts, one for each share. Contracts see the ledgers' names in this
 /// order.
-#[derive(Drop)]
 pub struct Blanks {
     pub(crate) slot0: Blank,
     pub(crate) slot1: Blank,
@@ -24,6 +28,24 @@ pub struct Blanks {
     pub(crate) slot7: Blank,
     pub(crate) rows: Blank,
     pub(crate) commands: Blank,
+}
+
+// Written out, so that an owner proves one call at each way out.
+impl Drop for Blanks {
+    fn drop(self) {
+        let Blanks {
+            slot0: _,
+            slot1: _,
+            slot2: _,
+            slot3: _,
+            slot4: _,
+            slot5: _,
+            slot6: _,
+            slot7: _,
+            rows: _,
+            commands: _,
+        } = self;
+    }
 }
 
 impl Model for Blanks {
@@ -57,6 +79,37 @@ impl Blanks {
             slot7: Blank::new(PARTS),
             rows: Blank::new(PARTS),
             commands: Blank::new(PARTS),
+        }
+    }
+
+    /// Books with nothing in them, and all parts of their ledgers.
+    pub(crate) fn into_tallies<N: Naming>(self) -> Tallies<N>
+        requires { N.ledger ≡ name_at self }
+        ensures { result ≡ record { totals = zeros; parts = 17; amounts = zeros } }
+    {
+        let Blanks {
+            slot0,
+            slot1,
+            slot2,
+            slot3,
+            slot4,
+            slot5,
+            slot6,
+            slot7,
+            rows,
+            commands,
+        } = self;
+        Tallies {
+            slot0: Tally::new(slot0),
+            slot1: Tally::new(slot1),
+            slot2: Tally::new(slot2),
+            slot3: Tally::new(slot3),
+            slot4: Tally::new(slot4),
+            slot5: Tally::new(slot5),
+            slot6: Tally::new(slot6),
+            slot7: Tally::new(slot7),
+            rows: Tally::new(rows),
+            commands: Tally::new(commands),
         }
     }
 }

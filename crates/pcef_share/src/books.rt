@@ -19,10 +19,19 @@ pub const MAX_SHARES: usize = 17;
 /// The books of a session: one for each of its eight slots, one for its rows and one for its commands.
 /// Contracts see their totals in this order, and how many shares were issued. Each book is the exact sum
 /// of what was added to the shares, in whatever order threads added it.
-#[derive(Drop)]
 pub struct Books<N: Naming> {
     tallies: Tallies<N>,
     issued: u8,
+}
+
+// Written out, so that an owner proves one call at each way out.
+impl<N: Naming> Drop for Books<N> {
+    fn drop(self) {
+        let Books {
+            tallies: _,
+            issued: _,
+        } = self;
+    }
 }
 
 impl<N: Naming> Model for Books<N> {
@@ -60,7 +69,7 @@ impl<N: Naming> Books<N> {
         ensures { result ≡ record { totals = zeros; issued = 0 } }
     {
         Books {
-            tallies: Tallies::new(blanks),
+            tallies: blanks.into_tallies(),
             issued: 0,
         }
     }
@@ -144,7 +153,7 @@ impl<N: Naming> Books<N> {
         let mut tallies = tallies;
         for share in shares {
             if let Some(share) = share {
-                tallies.take_back(share);
+                share.go_back(&mut tallies);
             }
         }
         Ok(tallies.close())

@@ -1,10 +1,8 @@
 //! The tallies of the ten ledgers, which move together.
 
-ghost use Rattle.std.specs.Prelude.{◌≡◌, ◌+◌, ◌<◌, ◌≤◌, ◌^◌, slice_index};
-ghost use Rattle.pcef_share.specs.Amounts.{zeros, added, plus};
-ghost use Rattle.pcef_share.specs.Names.{name_at};
+ghost use Rattle.std.specs.Prelude.{◌≡◌, ◌+◌, ◌<◌, ◌^◌, slice_index};
+ghost use Rattle.pcef_share.specs.Amounts.{zeros, plus};
 
-use crate::blanks::Blanks;
 use crate::naming::{Naming, Of};
 use crate::shares::Shares;
 use crate::tally::Tally;
@@ -19,16 +17,16 @@ pub const COMMANDS: u8 = 9;
 /// A tally of each ledger. All of them keep equally many parts.
 #[derive(Drop)]
 pub struct Tallies<N: Naming> {
-    slot0: Tally<Of<N, 0>>,
-    slot1: Tally<Of<N, 1>>,
-    slot2: Tally<Of<N, 2>>,
-    slot3: Tally<Of<N, 3>>,
-    slot4: Tally<Of<N, 4>>,
-    slot5: Tally<Of<N, 5>>,
-    slot6: Tally<Of<N, 6>>,
-    slot7: Tally<Of<N, 7>>,
-    rows: Tally<Of<N, 8>>,
-    commands: Tally<Of<N, 9>>,
+    pub(crate) slot0: Tally<Of<N, 0>>,
+    pub(crate) slot1: Tally<Of<N, 1>>,
+    pub(crate) slot2: Tally<Of<N, 2>>,
+    pub(crate) slot3: Tally<Of<N, 3>>,
+    pub(crate) slot4: Tally<Of<N, 4>>,
+    pub(crate) slot5: Tally<Of<N, 5>>,
+    pub(crate) slot6: Tally<Of<N, 6>>,
+    pub(crate) slot7: Tally<Of<N, 7>>,
+    pub(crate) rows: Tally<Of<N, 8>>,
+    pub(crate) commands: Tally<Of<N, 9>>,
 }
 
 impl<N: Naming> Model for Tallies<N> {
@@ -54,25 +52,6 @@ impl<N: Naming> Model for Tallies<N> {
 }
 
 impl<N: Naming> Tallies<N> {
-    /// Books with nothing in them, and all parts of their ledgers.
-    pub fn new(blanks: Blanks) -> Tallies<N>
-        requires { N.ledger ≡ name_at blanks }
-        ensures { result ≡ record { totals = zeros; parts = 17; amounts = zeros } }
-    {
-        Tallies {
-            slot0: Tally::new(blanks.slot0),
-            slot1: Tally::new(blanks.slot1),
-            slot2: Tally::new(blanks.slot2),
-            slot3: Tally::new(blanks.slot3),
-            slot4: Tally::new(blanks.slot4),
-            slot5: Tally::new(blanks.slot5),
-            slot6: Tally::new(blanks.slot6),
-            slot7: Tally::new(blanks.slot7),
-            rows: Tally::new(blanks.rows),
-            commands: Tally::new(blanks.commands),
-        }
-    }
-
     /// What was added to each book.
     pub fn totals(&self) -> [u64; 10]
         ensures { result ≡ self.now.totals }
@@ -133,25 +112,6 @@ impl<N: Naming> Tallies<N> {
             ROWS => self.rows.add(&mut shares.rows, amount),
             _ => self.commands.add(&mut shares.commands, amount),
         }
-    }
-
-    /// A share comes back, with what was added to it.
-    pub fn take_back(&mut self, shares: Shares<N>)
-        ensures totals { self.new.totals ≡ self.old.totals }
-        ensures parts { self.new.parts ≡ self.old.parts + 1 }
-        ensures amounts { self.new.amounts ≡ added self.old.amounts shares }
-        ensures bound { self.new.parts ≤ 17 }
-    {
-        self.slot0.take_back(shares.slot0);
-        self.slot1.take_back(shares.slot1);
-        self.slot2.take_back(shares.slot2);
-        self.slot3.take_back(shares.slot3);
-        self.slot4.take_back(shares.slot4);
-        self.slot5.take_back(shares.slot5);
-        self.slot6.take_back(shares.slot6);
-        self.slot7.take_back(shares.slot7);
-        self.rows.take_back(shares.rows);
-        self.commands.take_back(shares.commands);
     }
 
     /// The totals where all parts are here: they are what was added to them.

@@ -21,11 +21,21 @@ pub const MAX_ENTRIES: usize = 64;
 
 /// One rule generation, which never changes: at most 64 entries in precedence order. The operations
 /// that make the next generation take memory for its entries.
-#[derive(Drop)]
 pub struct Table {
     alloc: Global,
     entries: Vec<Entry>,
     generation: u32,
+}
+
+// Written out, so that an owner proves one call at each way out.
+impl Drop for Table {
+    fn drop(self) {
+        let Table {
+            alloc: _,
+            entries: _,
+            generation: _,
+        } = self;
+    }
 }
 
 impl Model for Table {

@@ -12,11 +12,21 @@ use pcef_model::Report;
 
 /// Hands reports on, each to the reporter of its kind: there is at most one for each kind. What contracts see of it is
 /// what each of its reporters has taken.
-#[derive(Drop)]
 pub struct Outlet {
     usage: Option<Box<dyn Reporter + Send>>,
     access: Option<Box<dyn Reporter + Send>>,
     inactive: Option<Box<dyn Reporter + Send>>,
+}
+
+// Written out, so that an owner proves one call at each way out.
+impl Drop for Outlet {
+    fn drop(self) {
+        let Outlet {
+            usage: _,
+            access: _,
+            inactive: _,
+        } = self;
+    }
 }
 
 /// How far a delivery came.

@@ -16,10 +16,19 @@ use std::alloc::{AllocError, Global};
 use std::marker::Model;
 
 /// A journal, and the counters of its keys.
-#[derive(Drop)]
 pub struct CountedJournal {
     journal: Journal,
     usage: Usage,
+}
+
+// Written out, so that an owner proves one call at each way out.
+impl Drop for CountedJournal {
+    fn drop(self) {
+        let CountedJournal {
+            journal: _,
+            usage: _,
+        } = self;
+    }
 }
 
 impl Model for CountedJournal {

@@ -88,9 +88,15 @@ impl KeyState {
 }
 
 /// The keys that have a slot, in slot order. It holds all that may come in itself, and takes no memory.
-#[derive(Drop)]
 pub struct Usage {
     states: KeyStates,
+}
+
+// Written out, so that an owner proves one call at each way out.
+impl Drop for Usage {
+    fn drop(self) {
+        let Usage { states: _ } = self;
+    }
 }
 
 impl Model for Usage {

@@ -7,7 +7,7 @@ ghost use Rattle.pcef_worker.specs.Working.{abandoned, finished, flushed};
 use crate::gate::{Gate, Point};
 use crate::worker::Worker;
 use pcef_catalog::Detects;
-use pcef_lock::{Finished, Seat, Shared};
+use pcef_lock::{Finished, Shared};
 use pcef_model::{FlushRefusal, Verdicts};
 use pcef_publish::{Board, Slot};
 use pcef_session::{Item, MAX_WAITING};
@@ -67,27 +67,6 @@ impl<C: Detects + Drop, N: Naming, G: Gate + Drop> Worker<C, N, G> {
         keep_all(&mut self.rows, self.waiting.items());
         self.waiting.clear();
         Ok(verdicts)
-    }
-
-    /// What it hands in that left with so many rows waiting.
-    fn into_finished(self, abandoned: u8) -> Finished<N>
-        ensures { result
-            ≡ record { worker = self.worker; items = self.rows; abandoned = abandoned } }
-    {
-        let Worker {
-            seat,
-            catalog: _,
-            gate: _,
-            waiting: _,
-            rows,
-        } = self;
-        let Seat {
-            worker,
-            shares,
-            subscriber: _,
-            ue: _,
-        } = seat;
-        Finished::new(worker, rows, shares, abandoned)
     }
 
     /// Hands the waiting rows over, all or none, in one hold of the lock, and gives their verdicts; or answers the first

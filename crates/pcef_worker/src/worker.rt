@@ -6,7 +6,7 @@ ghost use Rattle.pcef_worker.specs.Working.{Takes};
 
 use crate::gate::Gate;
 use pcef_catalog::{Detects, Offers};
-use pcef_lock::{Seat, Shared};
+use pcef_lock::{Finished, Seat, Shared};
 use pcef_model::AttachFault;
 use pcef_packet::Header;
 use pcef_publish::{Board, Slot};
@@ -19,13 +19,25 @@ use std::sync::{Arc, Wait};
 /// A worker of a session: its seat, what is offered, the rows that wait, and its own list of those that it handed
 /// over. Its shares hold what that list counts. It is used with the [`Shared`] that it was attached to: that is the
 /// caller's condition.
-#[derive(Drop)]
 pub struct Worker<C: Offers + Drop, N: Naming, G: Gate + Drop> {
     pub(crate) seat: Seat<N>,
     pub(crate) catalog: Arc<C>,
     pub(crate) gate: G,
     pub(crate) waiting: Batch,
     pub(crate) rows: Vec<Item>,
+}
+
+// Written out, so that an owner proves one call at each way out.
+impl<C: Offers + Drop, N: Naming, G: Gate + Drop> Drop for Worker<C, N, G> {
+    fn drop(self) {
+        let Worker {
+            seat: _,
+            catalog: _,
+            gate: _,
+            waiting: _,
+            rows: _,
+        } = self;
+    }
 }
 
 impl<C: Offers + Drop, N: Naming, G: Gate + Drop> Model for Worker<C, N, G> {
@@ -151,5 +163,26 @@ impl<C: Detects + Drop, N: Naming, G: Gate + Drop> Worker<C, N, G> {
         ensures refused { OnErr result (self.new ≡ self.old) }
     {
         shared.meet(rt, &mut self.seat)
+    }
+
+    /// What it hands in that left with so many rows waiting.
+    pub(crate) fn into_finished(self, abandoned: u8) -> Finished<N>
+        ensures { result
+            ≡ record { worker = self.worker; items = self.rows; abandoned = abandoned } }
+    {
+        let Worker {
+            seat,
+            catalog: _,
+            gate: _,
+            waiting: _,
+            rows,
+        } = self;
+        let Seat {
+            worker,
+            shares,
+            subscriber: _,
+            ue: _,
+        } = seat;
+        Finished::new(worker, rows, shares, abandoned)
     }
 }

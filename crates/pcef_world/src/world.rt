@@ -26,11 +26,21 @@ use std::marker::Model;
 use std::sync::Arc;
 
 /// A session without the closures of its catalog, and a place for each worker that ever came.
-#[derive(Drop)]
 pub struct WorldState {
     alloc: Global,
     session: SessionState,
     workers: Vec<Option<Worker>>,
+}
+
+// Written out, so that an owner proves one call at each way out.
+impl Drop for WorldState {
+    fn drop(self) {
+        let WorldState {
+            alloc: _,
+            session: _,
+            workers: _,
+        } = self;
+    }
 }
 
 impl Model for WorldState {

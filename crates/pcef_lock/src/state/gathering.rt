@@ -137,7 +137,14 @@ impl<N: Naming, W: Board<Slot<N>> + Drop> State<N, W> {
         }
         let abandoned = abandoned(finished.as_slice());
         let shares = all_shares(desk.into_shares(), finished);
-        let State { session, books, .. } = self;
+        let State {
+            alloc: _,
+            session,
+            publisher: _,
+            subscribers: _,
+            books,
+            places: _,
+        } = self;
         let Ok(amounts) = books.gather(shares) else {
             unreachable!()
         };
