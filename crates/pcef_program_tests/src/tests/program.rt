@@ -25,6 +25,20 @@ pub(crate) fn octets(alloc: Global, words: &[&str]) -> Result<Vec<Vec<u8>>, Fail
     Ok(arguments)
 }
 
+/// An outlet with a reporter of each kind, which stores what it takes and counts it.
+pub(crate) fn storing_outlet(alloc: Global, taken: &Arc<Taken>) -> Result<Outlet, Fail> {
+    let mut reporters = Vec::new(alloc);
+    for kind in [ReportKind::Usage, ReportKind::Access, ReportKind::Inactive] {
+        let storing = Storing::new(alloc, kind, Arc::try_clone(taken)?);
+        let reporter: Box<dyn Reporter + Send> = Box::new(alloc, storing)?;
+        reporters.push((kind, reporter))?;
+    }
+    match Outlet::new(reporters) {
+        Ok(outlet) => Ok(outlet),
+        Err(_) => Err("each kind has one reporter")?,
+    }
+}
+
 /// The exit status of the program without rules in its catalog, and with stored reporters.
 pub(crate) fn program_on<T: Threads + Wait + Sync, R: Read, W: Write, E: Write>(
     rt: &T,
@@ -37,15 +51,7 @@ pub(crate) fn program_on<T: Threads + Wait + Sync, R: Read, W: Write, E: Write>(
 ) -> Result<u8, Fail> {
     let catalog = Arc::new(alloc, Catalog::new(alloc, Vec::new(alloc))?)?;
     let taken = Arc::new(alloc, Taken::new())?;
-    let mut reporters = Vec::new(alloc);
-    for kind in [ReportKind::Usage, ReportKind::Access, ReportKind::Inactive] {
-        let storing = Storing::new(alloc, kind, Arc::try_clone(&taken)?);
-        let reporter: Box<dyn Reporter + Send> = Box::new(alloc, storing)?;
-        reporters.push((kind, reporter))?;
-    }
-    let Ok(outlet) = Outlet::new(reporters) else {
-        return Err("each kind has one reporter")?;
-    };
+    let outlet = storing_outlet(alloc, &taken)?;
     Ok(program(
         rt, alloc, words, profile, catalog, outlet, &taken, reader, writer, faults,
     ))
@@ -82,47 +88,66 @@ pub(crate) fn run<T: Threads + Wait + Sync>(
     ))
 }
 
+/// Whether the program ends so on these words, profile and input: its status, what it answers and what it says of faults.
+pub(crate) fn ends_so<T: Threads + Wait + Sync>(
+    rt: &T,
+    alloc: Global,
+    words: &[&str],
+    profile: Option<&str>,
+    input: &str,
+    (status, answers, faults): (u8, &str, &str),
+) -> Result<bool, Fail> {
+    let words = octets(alloc, words)?;
+    let (got, wrote, said) = run(rt, alloc, &words, profile, input)?;
+    Ok(got == status && wrote.as_str() == answers && said.as_str() == faults)
+}
+
+/// The words for a script.
+const SCRIPT: &[&str] = &["script", "profile.toml"];
+
 #[test]
 fn statuses_and_faults(rt: HostRuntime) -> Result<(), Fail> {
-    let script: &[&str] = &["script", "profile.toml"];
-    for (words, profile, input, status, answers, faults) in [
+    for (profile, input, due) in [
         (
-            script,
             Some(PROFILE),
             "{\"do\":\"attach\"}",
-            0u8,
-            "{\"generation\":0,\"ok\":true,\"worker\":0}\n",
-            "",
+            (0, "{\"generation\":0,\"ok\":true,\"worker\":0}\n", ""),
         ),
         (
-            script,
             Some(PROFILE),
             "x",
-            1,
-            "{\"fault\":3,\"name\":\"NotJson\"}\n",
-            "",
+            (1, "{\"fault\":3,\"name\":\"NotJson\"}\n", ""),
         ),
         (
-            script,
             None,
             "",
-            4,
-            "",
-            "read fault\nprofile.toml: No such file or directory (os error 2)\n",
+            (
+                4,
+                "",
+                "read fault\nprofile.toml: No such file or directory (os error 2)\n",
+            ),
         ),
     ] {
-        let words = octets(rt.alloc(), words)?;
-        let (got, wrote, said) = run(&rt, rt.alloc(), &words, profile, input)?;
-        assert_eq!(rt; got, status);
-        assert_eq!(rt; wrote.as_str(), answers);
-        assert_eq!(rt; said.as_str(), faults);
+        assert!(rt;
+            ends_so(&rt, rt.alloc(), SCRIPT, profile, input, due)?,
+            "{input}"
+        );
     }
     Ok(())
 }
 
+/// Whether these words are told how the program is used, and by what it was proved.
+fn is_usage<T: Threads + Wait + Sync>(rt: &T, alloc: Global, words: &[&str]) -> Result<bool, Fail> {
+    let words = octets(alloc, words)?;
+    let (status, answers, said) = run(rt, alloc, &words, Some(PROFILE), "x")?;
+    let usage = "usage: pcef script PROFILE | pcef run PROFILE WORKERS\n";
+    let proved_by = "rattle-kit-13f logic dac8208d650f15bf\n";
+    let is_told = said.as_str().starts_with(usage) && said.as_str().contains(proved_by);
+    Ok(status == 2 && answers.is_empty() && is_told)
+}
+
 #[test]
 fn other_words_are_usage(rt: HostRuntime) -> Result<(), Fail> {
-    let usage = "usage: pcef script PROFILE | pcef run PROFILE WORKERS\n";
     let wrong: [&[&str]; 6] = [
         &[],
         &["script"],
@@ -132,30 +157,32 @@ fn other_words_are_usage(rt: HostRuntime) -> Result<(), Fail> {
         &["--version", "profile.toml"],
     ];
     for words in wrong {
-        let words = octets(rt.alloc(), words)?;
-        let (status, answers, said) = run(&rt, rt.alloc(), &words, Some(PROFILE), "x")?;
-        assert_eq!(rt; status, 2);
-        assert_eq!(rt; answers.as_str(), "");
-        assert!(rt; said.as_str().starts_with(usage));
-        assert!(rt;
-            said.as_str()
-                .contains("rattle-kit-13f logic dac8208d650f15bf\n")
-        );
+        assert!(rt; is_usage(&rt, rt.alloc(), words)?);
     }
     Ok(())
 }
 
+/// The status of the program on a word and one that is no text, and whether this is said first.
+fn on_no_text<T: Threads + Wait + Sync>(
+    rt: &T,
+    alloc: Global,
+    word: &str,
+    said: &str,
+) -> Result<(u8, bool), Fail> {
+    let mut words = octets(alloc, &[word])?;
+    words.push(Vec::from_slice(alloc, b"a\xff")?)?;
+    let (status, _, faults) = run(rt, alloc, &words, None, "")?;
+    Ok((status, faults.as_str().starts_with(said)))
+}
+
 #[test]
 fn a_word_that_is_no_text(rt: HostRuntime) -> Result<(), Fail> {
-    let alloc = rt.alloc();
     let unread = "read fault\na\u{fffd}: No such file or directory (os error 2)\n";
-    for (front, status, said) in [("script", 4u8, unread), ("scripts", 2, "usage: ")] {
-        let mut words = octets(alloc, &[front])?;
-        words.push(Vec::from_slice(alloc, b"a\xff")?)?;
-        let (got, _, faults) = run(&rt, alloc, &words, None, "")?;
-        assert_eq!(rt; got, status);
-        assert!(rt; faults.as_str().starts_with(said));
-    }
+    assert_eq!(rt; on_no_text(&rt, rt.alloc(), "script", unread)?, (4, true));
+    assert_eq!(rt;
+        on_no_text(&rt, rt.alloc(), "scripts", "usage: ")?,
+        (2, true)
+    );
     Ok(())
 }
 
@@ -187,10 +214,26 @@ const LIMITS: &str = "commands = 1\n";
 const REST: &str =
     "\n[default]\nqci = 9\nlevel = 8\ncapability = false\nvulnerability = true\n\n[capacity]\nup = 1\ndown = 1\n";
 
+/// Whether a profile that begins so is at fault, and this is said of it.
+fn is_explained<T: Threads + Wait + Sync>(
+    rt: &T,
+    alloc: Global,
+    front: &str,
+    said: &str,
+) -> Result<bool, Fail> {
+    let profile = format!(in alloc; "{LIMITS}{front}{REST}")?;
+    ends_so(
+        rt,
+        alloc,
+        SCRIPT,
+        Some(profile.as_str()),
+        "x",
+        (1, "", said),
+    )
+}
+
 #[test]
 fn a_second_line_explains_a_fault_of_the_profile(rt: HostRuntime) -> Result<(), Fail> {
-    let alloc = rt.alloc();
-    let words = octets(alloc, &["script", "profile.toml"])?;
     for (front, said) in [
         (
             "ue = \"10.0.0.2\"\nrows 1000\n",
@@ -225,11 +268,7 @@ fn a_second_line_explains_a_fault_of_the_profile(rt: HostRuntime) -> Result<(), 
             "profile fault 4\nBadValue: declared[1] = 5: a table is expected\n",
         ),
     ] {
-        let text = format!(in alloc; "{LIMITS}{front}{REST}")?;
-        let (status, answers, faults) = run(&rt, alloc, &words, Some(text.as_str()), "x")?;
-        assert_eq!(rt; status, 1);
-        assert_eq!(rt; answers.as_str(), "");
-        assert_eq!(rt; faults.as_str(), said);
+        assert!(rt; is_explained(&rt, rt.alloc(), front, said)?, "{said}");
     }
     Ok(())
 }
@@ -243,7 +282,6 @@ const GBR_QCI: &str =
 
 #[test]
 fn faults_of_the_default_qci_have_their_numbers(rt: HostRuntime) -> Result<(), Fail> {
-    let words = octets(rt.alloc(), &["script", "profile.toml"])?;
     for (profile, said) in [
         (
             UNKNOWN_QCI,
@@ -254,10 +292,11 @@ fn faults_of_the_default_qci_have_their_numbers(rt: HostRuntime) -> Result<(), F
             "profile fault 6\nDefaultIsGbr: default.qci = 1: a QCI without guaranteed bit rate is expected\n",
         ),
     ] {
-        let (status, answers, faults) = run(&rt, rt.alloc(), &words, Some(profile), "x")?;
-        assert_eq!(rt; status, 1);
-        assert_eq!(rt; answers.as_str(), "");
-        assert_eq!(rt; faults.as_str(), said);
+        let due = (1, "", said);
+        assert!(rt;
+            ends_so(&rt, rt.alloc(), SCRIPT, Some(profile), "x", due)?,
+            "{said}"
+        );
     }
     Ok(())
 }
@@ -337,8 +376,7 @@ fn each_end_has_its_status_and_text(rt: HostRuntime) -> Result<(), Fail> {
             "usage: pcef script PROFILE | pcef run PROFILE WORKERS\n",
         ),
     ] {
-        assert_eq!(rt; end.status(), status);
-        assert_eq!(rt; end.text(), text);
+        assert_eq!(rt; (end.status(), end.text()), (status, text));
     }
     Ok(())
 }
@@ -394,28 +432,19 @@ impl Read for Input {
     }
 }
 
-/// The exit status of a script from this input to this output, the output then, and what was said of faults.
-fn run_between<T: Threads + Wait + Sync>(
+/// Whether a script from this input to this output ends so: its status, how often the output was flushed, what it took,
+/// and what was said of faults.
+fn ends_between<T: Threads + Wait + Sync>(
     rt: &T,
     alloc: Global,
-    fails: bool,
-    room: usize,
-    can_flush: bool,
-) -> Result<(u8, Output, String), Fail> {
-    let words = octets(alloc, &["script", "profile.toml"])?;
+    mut input: Input,
+    mut output: Output,
+    (status, flushes, answers, said): (u8, u64, &str, &str),
+) -> Result<bool, Fail> {
+    let words = octets(alloc, SCRIPT)?;
     let profile = Some(Ok(String::from_str(alloc, PROFILE)?));
-    let mut input = Input {
-        is_given: false,
-        fails,
-    };
-    let mut output = Output {
-        taken: Vec::new(alloc),
-        room,
-        flushes: 0,
-        can_flush,
-    };
     let mut faults = Vec::new(alloc);
-    let status = program_on(
+    let got = program_on(
         rt,
         alloc,
         &words,
@@ -424,7 +453,8 @@ fn run_between<T: Threads + Wait + Sync>(
         &mut output,
         &mut faults,
     )?;
-    Ok((status, output, String::from_utf8(faults)?))
+    let is_taken = output.flushes == flushes && output.taken.as_slice() == answers.as_bytes();
+    Ok(got == status && is_taken && faults.as_slice() == said.as_bytes())
 }
 
 #[test]
@@ -440,11 +470,18 @@ fn failing_ends_and_flushes(rt: HostRuntime) -> Result<(), Fail> {
         (false, 100, false, 2, 4, answer, unwritten),
         (true, 100, false, 2, 4, answer, unwritten),
     ] {
-        let (got, output, faults) = run_between(&rt, rt.alloc(), fails, room, can_flush)?;
-        assert_eq!(rt; got, status);
-        assert_eq!(rt; output.flushes, flushes);
-        assert!(rt; output.taken.as_slice() == answers.as_bytes());
-        assert_eq!(rt; faults.as_str(), said);
+        let input = Input {
+            is_given: false,
+            fails,
+        };
+        let output = Output {
+            taken: Vec::new(rt.alloc()),
+            room,
+            flushes: 0,
+            can_flush,
+        };
+        let due = (status, flushes, answers, said);
+        assert!(rt; ends_between(&rt, rt.alloc(), input, output, due)?);
     }
     Ok(())
 }

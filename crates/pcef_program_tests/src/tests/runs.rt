@@ -43,16 +43,26 @@ fn run_lines<T: Threads + Wait + Sync>(
     run(rt, alloc, &words, Some(PROFILE), input.as_str())
 }
 
+/// Whether a run with so many workers on these lines ends so: its status, what it writes, and how what it says of faults
+/// begins, if it says anything.
+fn run_ends<T: Threads + Wait + Sync>(
+    rt: &T,
+    alloc: Global,
+    workers: &str,
+    lines: &[&str],
+    (status, written, front): (u8, &str, &str),
+) -> Result<bool, Fail> {
+    let (got, wrote, said) = run_lines(rt, alloc, workers, lines)?;
+    let is_said = said.as_str().starts_with(front) && said.is_empty() == front.is_empty();
+    Ok(got == status && wrote.as_str() == written && is_said)
+}
+
 #[test]
 fn two_workers_with_a_packet_each(rt: HostRuntime) -> Result<(), Fail> {
     let lines = [INSTALL, MONITOR, FIRST, SECOND];
-    let (status, wrote, said) = run_lines(&rt, rt.alloc(), "2", &lines)?;
-    assert_eq!(rt; status, 0);
-    assert_eq!(rt;
-        wrote.as_str(),
-        "rows 2 abandoned 0 dropped 0\ncommands 2 refused 0\nreports usage 0 access 0 inactive 0\nkey vid counted 56 reported 0 unreported 56\n"
-    );
-    assert_eq!(rt; said.as_str(), "");
+    let written =
+        "rows 2 abandoned 0 dropped 0\ncommands 2 refused 0\nreports usage 0 access 0 inactive 0\nkey vid counted 56 reported 0 unreported 56\n";
+    assert!(rt; run_ends(&rt, rt.alloc(), "2", &lines, (0, written, ""))?);
     Ok(())
 }
 
@@ -109,13 +119,9 @@ fn reports_of_each_kind_are_counted(rt: HostRuntime) -> Result<(), Fail> {
 
 #[test]
 fn sixteen_workers_without_a_line(rt: HostRuntime) -> Result<(), Fail> {
-    let (status, wrote, said) = run_lines(&rt, rt.alloc(), "16", &[])?;
-    assert_eq!(rt; status, 0);
-    assert_eq!(rt;
-        wrote.as_str(),
-        "rows 0 abandoned 0 dropped 0\ncommands 0 refused 0\nreports usage 0 access 0 inactive 0\n"
-    );
-    assert_eq!(rt; said.as_str(), "");
+    let written =
+        "rows 0 abandoned 0 dropped 0\ncommands 0 refused 0\nreports usage 0 access 0 inactive 0\n";
+    assert!(rt; run_ends(&rt, rt.alloc(), "16", &[], (0, written, ""))?);
     Ok(())
 }
 
@@ -134,16 +140,17 @@ fn the_first_unfit_line_is_told(rt: HostRuntime) -> Result<(), Fail> {
             "line 3 fault\n",
         ),
     ] {
-        let (status, wrote, told) = run_lines(&rt, rt.alloc(), workers, &lines)?;
-        assert_eq!(rt; status, 1);
-        assert_eq!(rt; wrote.as_str(), "");
-        assert!(rt; told.as_str().starts_with(said));
+        assert!(rt;
+            run_ends(&rt, rt.alloc(), workers, &lines, (1, "", said))?,
+            "{said}"
+        );
     }
     Ok(())
 }
 
 #[test]
 fn other_numbers_of_workers_are_usage(rt: HostRuntime) -> Result<(), Fail> {
+    let usage = "usage: pcef script PROFILE | pcef run PROFILE WORKERS\n";
     for workers in [
         "0",
         "17",
@@ -154,12 +161,9 @@ fn other_numbers_of_workers_are_usage(rt: HostRuntime) -> Result<(), Fail> {
         "1 ",
         "999999999999999999999",
     ] {
-        let (status, wrote, said) = run_lines(&rt, rt.alloc(), workers, &[FIRST])?;
-        assert_eq!(rt; status, 2);
-        assert_eq!(rt; wrote.as_str(), "");
         assert!(rt;
-            said.as_str()
-                .starts_with("usage: pcef script PROFILE | pcef run PROFILE WORKERS\n")
+            run_ends(&rt, rt.alloc(), workers, &[FIRST], (2, "", usage))?,
+            "{workers}"
         );
     }
     Ok(())
@@ -172,10 +176,8 @@ fn a_session_that_was_closed_before_its_packets(rt: HostRuntime) -> Result<(), F
         [INSTALL, MONITOR, close, FIRST, SECOND],
         [INSTALL, MONITOR, "", "", close],
     ] {
-        let (status, wrote, said) = run_lines(&rt, rt.alloc(), "2", &lines)?;
-        assert_eq!(rt; status, 4);
-        assert_eq!(rt; wrote.as_str(), "");
-        assert!(rt; said.as_str().starts_with("run fault 5\n"));
+        let due = (4, "", "run fault 5\n");
+        assert!(rt; run_ends(&rt, rt.alloc(), "2", &lines, due)?);
     }
     Ok(())
 }
@@ -211,39 +213,33 @@ impl Write for Full {
     }
 }
 
+/// The status of a run of one worker from this input to this output, and whether this is said first.
+fn run_between<T: Threads + Wait + Sync, R: Read, W: Write>(
+    rt: &T,
+    alloc: Global,
+    reader: &mut R,
+    writer: &mut W,
+    said: &str,
+) -> Result<(u8, bool), Fail> {
+    let words = octets(alloc, &["run", "profile.toml", "1"])?;
+    let profile = Some(Ok(String::from_str(alloc, PROFILE)?));
+    let mut faults = Vec::new(alloc);
+    let status = program_on(rt, alloc, &words, &profile, reader, writer, &mut faults)?;
+    Ok((status, faults.as_slice().starts_with(said.as_bytes())))
+}
+
 #[test]
 fn ends_of_a_run_that_fail(rt: HostRuntime) -> Result<(), Fail> {
     let alloc = rt.alloc();
-    let words = octets(alloc, &["run", "profile.toml", "1"])?;
-    let profile = Some(Ok(String::from_str(alloc, PROFILE)?));
     let mut written = Vec::new(alloc);
-    let mut faults = Vec::new(alloc);
-    let mut reader = Failing { is_given: false };
-    let status = program_on(
-        &rt,
-        alloc,
-        &words,
-        &profile,
-        &mut reader,
-        &mut written,
-        &mut faults,
-    )?;
-    assert_eq!(rt; status, 4);
-    assert!(rt; written.is_empty());
-    assert!(rt; faults.as_slice().starts_with(b"read fault\n"));
-    let mut faults = Vec::new(alloc);
+    let mut failing = Failing { is_given: false };
+    let unread = run_between(&rt, alloc, &mut failing, &mut written, "read fault\n")?;
     let mut input = "".as_bytes();
-    let status = program_on(
-        &rt,
-        alloc,
-        &words,
-        &profile,
-        &mut input,
-        &mut Full,
-        &mut faults,
-    )?;
-    assert_eq!(rt; status, 4);
-    assert!(rt; faults.as_slice().starts_with(b"write fault\n"));
+    let unwritten = run_between(&rt, alloc, &mut input, &mut Full, "write fault\n")?;
+    assert_eq!(rt;
+        (written.len(), unread, unwritten),
+        (0, (4, true), (4, true))
+    );
     Ok(())
 }
 

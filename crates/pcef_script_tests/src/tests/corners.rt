@@ -67,25 +67,42 @@ fn read_failing(
     Ok((ended, String::from_utf8(written)?, reader.calls))
 }
 
+/// Whether a script ends so, with these answers and after so many calls, whose reader fails at this one.
+fn reading_ends(
+    alloc: Global,
+    fails_at: usize,
+    failure: io::ErrorKind,
+    (ended, answers, calls): (Result<u64, ScriptFault>, &str, usize),
+) -> Result<bool, Fail> {
+    let (end, text, made) = read_failing(alloc, fails_at, failure)?;
+    Ok(end == ended && text.as_str() == answers && made == calls)
+}
+
+/// The first call of a reader at which a script ends otherwise than it should, if there is one.
+fn first_wrong_reading(alloc: Global, failure: io::ErrorKind) -> Result<Option<usize>, Fail> {
+    let first = LINES.len() - 4;
+    let last = LINES.len() + 1;
+    for fails_at in 1..LINES.len() + 3 {
+        let due = if fails_at <= first {
+            (Err(ScriptFault::Read), "", fails_at)
+        } else if fails_at < last {
+            (Err(ScriptFault::Read), FIRST, fails_at)
+        } else if fails_at == last {
+            (Err(ScriptFault::Read), ANSWERS, last)
+        } else {
+            (Ok(1), ANSWERS, last)
+        };
+        if !reading_ends(alloc, fails_at, failure, due)? {
+            return Ok(Some(fails_at));
+        }
+    }
+    Ok(None)
+}
+
 #[test]
 fn a_reader_that_fails_once_is_not_read_again(rt: HostRuntime) -> Result<(), Fail> {
-    let alloc = rt.alloc();
-    let first = LINES.len() - 4;
     for failure in FAILURES {
-        for fails_at in 1..LINES.len() + 1 {
-            let (ended, text, calls) = read_failing(alloc, fails_at, failure)?;
-            assert_eq!(rt; ended, Err(ScriptFault::Read));
-            assert_eq!(rt; calls, fails_at);
-            assert_eq!(rt; text.as_str(), if fails_at > first { FIRST } else { "" });
-        }
-        let last = LINES.len() + 1;
-        let (ended, text, _) = read_failing(alloc, last, failure)?;
-        assert_eq!(rt; ended, Err(ScriptFault::Read));
-        assert_eq!(rt; text.as_str(), ANSWERS);
-        let (ended, text, calls) = read_failing(alloc, last + 1, failure)?;
-        assert_eq!(rt; ended, Ok(1));
-        assert_eq!(rt; calls, last);
-        assert_eq!(rt; text.as_str(), ANSWERS);
+        assert_eq!(rt; first_wrong_reading(rt.alloc(), failure)?, None);
     }
     Ok(())
 }
@@ -120,61 +137,92 @@ impl Write for FailsOnceWriter {
     }
 }
 
+/// How a script ends whose writer fails at this call, what was taken, and how often it was written to.
+fn write_failing(
+    alloc: Global,
+    fails_at: usize,
+    failure: Option<io::ErrorKind>,
+) -> Result<(Result<u64, ScriptFault>, Vec<u8>, usize), Fail> {
+    let mut writer = FailsOnceWriter {
+        taken: Vec::new(alloc),
+        calls: 0,
+        fails_at,
+        failure,
+    };
+    let profile = read_profile(alloc, PROFILE)?;
+    let catalog = Arc::new(alloc, Catalog::new(alloc, Vec::new(alloc))?)?;
+    let ended = run_script(alloc, &mut LINES.as_bytes(), &mut writer, profile, catalog);
+    let FailsOnceWriter { taken, calls, .. } = writer;
+    Ok((ended, taken, calls))
+}
+
+/// Whether a script ends so, with so many octets taken and after so many calls, whose writer fails at this one.
+fn writing_ends(
+    alloc: Global,
+    fails_at: usize,
+    failure: Option<io::ErrorKind>,
+    (ended, octets, calls): (Result<u64, ScriptFault>, usize, usize),
+) -> Result<bool, Fail> {
+    let (end, taken, made) = write_failing(alloc, fails_at, failure)?;
+    let front = ANSWERS.as_bytes().get(..octets).unwrap_or(&[]);
+    Ok(end == ended && taken.as_slice() == front && made == calls)
+}
+
+/// The first call of a writer at which a script ends otherwise than it should, if there is one.
+fn first_wrong_writing(
+    alloc: Global,
+    failure: Option<io::ErrorKind>,
+) -> Result<Option<usize>, Fail> {
+    let all = ANSWERS.len();
+    for fails_at in 1..all + 2 {
+        let due = if fails_at <= all {
+            (Err(ScriptFault::Write), fails_at - 1, fails_at)
+        } else {
+            (Ok(1), all, all)
+        };
+        if !writing_ends(alloc, fails_at, failure, due)? {
+            return Ok(Some(fails_at));
+        }
+    }
+    Ok(None)
+}
+
 #[test]
 fn a_writer_that_fails_once_is_not_written_again(rt: HostRuntime) -> Result<(), Fail> {
-    let alloc = rt.alloc();
     for failure in [
         Some(io::ErrorKind::Other),
         Some(io::ErrorKind::Interrupted),
         None,
     ] {
-        for fails_at in 1..ANSWERS.len() + 2 {
-            let mut writer = FailsOnceWriter {
-                taken: Vec::new(alloc),
-                calls: 0,
-                fails_at,
-                failure,
-            };
-            let profile = read_profile(alloc, PROFILE)?;
-            let catalog = Arc::new(alloc, Catalog::new(alloc, Vec::new(alloc))?)?;
-            let ended = run_script(alloc, &mut LINES.as_bytes(), &mut writer, profile, catalog);
-            let fails = fails_at <= ANSWERS.len();
-            let taken = if fails { fails_at - 1 } else { ANSWERS.len() };
-            assert_eq!(rt;
-                ended,
-                if fails {
-                    Err(ScriptFault::Write)
-                } else {
-                    Ok(1)
-                }
-            );
-            assert_eq!(rt; writer.calls, if fails { fails_at } else { taken });
-            assert!(rt; writer.taken.as_slice() == ANSWERS.as_bytes().split_at(taken).0);
-        }
+        assert_eq!(rt; first_wrong_writing(rt.alloc(), failure)?, None);
     }
     Ok(())
+}
+
+/// A line of so many blanks.
+fn blank_line(alloc: Global, blanks: u32) -> Result<String, Fail> {
+    let mut line = String::new(alloc);
+    for _ in 0..blanks {
+        line.push(' ')?;
+    }
+    line.push('\n')?;
+    Ok(line)
+}
+
+/// Whether a script has these answers, of which so many tell a fault.
+fn is_answered(alloc: Global, script: &str, answers: &str, faults: u64) -> Result<bool, Fail> {
+    let (text, told) = run(alloc, PROFILE, script)?;
+    Ok(text.as_str() == answers && told == faults)
 }
 
 #[test]
 fn a_line_has_262_144_bytes_at_most(rt: HostRuntime) -> Result<(), Fail> {
     let alloc = rt.alloc();
-    let mut script = String::new(alloc);
-    for _ in 0..262_144 {
-        script.push(' ')?;
-    }
-    script.push('\n')?;
-    let (text, faults) = run(alloc, PROFILE, script.as_str())?;
-    assert_eq!(rt; text.as_str(), "");
-    assert_eq!(rt; faults, 0);
-    let mut longer = String::new(alloc);
-    longer.push(' ')?;
-    longer.push_str(script.as_str())?;
+    assert!(rt; is_answered(alloc, blank_line(alloc, 262_144)?.as_str(), "", 0)?);
+    let mut longer = blank_line(alloc, 262_145)?;
     longer.push_str("{\"do\":\"show\"}\n")?;
-    let (text, faults) = run(alloc, PROFILE, longer.as_str())?;
-    assert_eq!(rt;
-        text.as_str(),
-        "{\"fault\":1,\"name\":\"LineTooLong\"}\n{\"active\":[],\"bearers\":[{\"down\":0,\"id\":5,\"rules\":0,\"up\":0}],\"generation\":0,\"keys\":[]}\n"
-    );
-    assert_eq!(rt; faults, 1);
+    let answers =
+        "{\"fault\":1,\"name\":\"LineTooLong\"}\n{\"active\":[],\"bearers\":[{\"down\":0,\"id\":5,\"rules\":0,\"up\":0}],\"generation\":0,\"keys\":[]}\n";
+    assert!(rt; is_answered(alloc, longer.as_str(), answers, 1)?);
     Ok(())
 }

@@ -7,7 +7,6 @@ use pcef_test_scripts::PROFILE;
 use std::alloc::Global;
 use std::io;
 use std::io::{Read, Write};
-use std::process::Abort;
 use std::sync::Arc;
 use std::test::Fail;
 
@@ -96,13 +95,12 @@ impl Read for FailingReader {
     }
 }
 
-/// A reader that fails after so many bytes of these lines ends the script with the answers to the whole lines before.
-fn whole_lines_are_answered(
-    rt: &impl Abort,
+/// How a script of these lines ends whose reader fails after so many bytes, and what was written.
+fn read(
     alloc: Global,
     lines: &[(&str, &str)],
     room: usize,
-) -> Result<(), Fail> {
+) -> Result<(Result<u64, ScriptFault>, String), Fail> {
     let mut reader = FailingReader {
         script: script_of(alloc, lines)?,
         given: 0,
@@ -112,23 +110,31 @@ fn whole_lines_are_answered(
     let profile = read_profile(alloc, PROFILE)?;
     let catalog = Arc::new(alloc, Catalog::new(alloc, Vec::new(alloc))?)?;
     let ended = run_script(alloc, &mut reader, &mut written, profile, catalog);
-    assert_eq!(rt; ended, Err(ScriptFault::Read));
-    let text = String::from_utf8(written)?;
-    let expected = answers_within(alloc, lines, room)?;
-    assert_eq!(rt; text.as_str(), expected.as_str(), "at {room}");
-    Ok(())
+    Ok((ended, String::from_utf8(written)?))
+}
+
+/// Whether a reader that fails after so many bytes ends the script with the answers to the whole lines before.
+fn has_whole_lines(alloc: Global, lines: &[(&str, &str)], room: usize) -> Result<bool, Fail> {
+    let (ended, text) = read(alloc, lines, room)?;
+    let answers = answers_within(alloc, lines, room)?;
+    Ok(ended == Err(ScriptFault::Read) && text.as_str() == answers.as_str())
+}
+
+/// The first room of a reader with which a script ends otherwise than it should, if there is one.
+fn first_wrong_room(alloc: Global, lines: &[(&str, &str)]) -> Result<Option<usize>, Fail> {
+    let len = script_of(alloc, lines)?.len();
+    for room in 0..len.saturating_add(1) {
+        if !has_whole_lines(alloc, lines, room)? {
+            return Ok(Some(room));
+        }
+    }
+    Ok(None)
 }
 
 #[test]
 fn a_reader_that_fails_leaves_the_answers_to_whole_lines(rt: HostRuntime) -> Result<(), Fail> {
-    let alloc = rt.alloc();
-    for lines in [LINES, LINES_AT_FAULT] {
-        let len = script_of(alloc, lines)?.len();
-        for room in 0..len {
-            whole_lines_are_answered(&rt, alloc, lines, room)?;
-        }
-        whole_lines_are_answered(&rt, alloc, lines, len)?;
-    }
+    assert_eq!(rt; first_wrong_room(rt.alloc(), LINES)?, None);
+    assert_eq!(rt; first_wrong_room(rt.alloc(), LINES_AT_FAULT)?, None);
     Ok(())
 }
 
@@ -184,29 +190,44 @@ fn written(
     Ok((ended, String::from_utf8(writer.taken)?))
 }
 
-/// A writer of too little room for the answers has its front of them. One of enough room has them all, and so many lines
-/// are at fault then.
-fn fronts_are_written(
-    rt: &impl Abort,
+/// Whether a script ends so with this writer, which then has this text.
+fn is_written(
+    alloc: Global,
+    lines: &[(&str, &str)],
+    (room, most, failure): (usize, usize, Option<io::ErrorKind>),
+    ended: Result<u64, ScriptFault>,
+    text: &str,
+) -> Result<bool, Fail> {
+    let (end, front) = written(alloc, lines, room, most, failure)?;
+    Ok(end == ended && front.as_str() == text)
+}
+
+/// The first room of a writer that hasn't the front of the answers, if there is one. With room for all answers so many
+/// lines are at fault.
+fn first_wrong_front(
     alloc: Global,
     lines: &[(&str, &str)],
     faults: u64,
     most: usize,
     failure: Option<io::ErrorKind>,
-) -> Result<(), Fail> {
+) -> Result<Option<usize>, Fail> {
     let answers = answers_within(alloc, lines, usize::MAX)?;
-    for room in 0..answers.len() {
-        let Some(front) = answers.as_str().get(..room) else {
-            panic!(rt; "no front of {room} bytes");
+    let all = answers.len();
+    for room in 0..all.saturating_add(1) {
+        let front = answers
+            .as_str()
+            .get(..room)
+            .ok_or("a front ends within a letter")?;
+        let ended = if room < all {
+            Err(ScriptFault::Write)
+        } else {
+            Ok(faults)
         };
-        let (ended, text) = written(alloc, lines, room, most, failure)?;
-        assert_eq!(rt; ended, Err(ScriptFault::Write));
-        assert_eq!(rt; text.as_str(), front);
+        if !is_written(alloc, lines, (room, most, failure), ended, front)? {
+            return Ok(Some(room));
+        }
     }
-    let (ended, text) = written(alloc, lines, answers.len(), most, failure)?;
-    assert_eq!(rt; ended, Ok(faults));
-    assert_eq!(rt; text.as_str(), answers.as_str());
-    Ok(())
+    Ok(None)
 }
 
 #[test]
@@ -218,7 +239,8 @@ fn a_writer_that_fails_has_a_front_of_the_answers(rt: HostRuntime) -> Result<(),
                 Some(io::ErrorKind::Interrupted),
                 None,
             ] {
-                fronts_are_written(&rt, rt.alloc(), lines, faults, most, failure)?;
+                let wrong = first_wrong_front(rt.alloc(), lines, faults, most, failure)?;
+                assert_eq!(rt; wrong, None);
             }
         }
     }

@@ -42,21 +42,23 @@ fn profile(qci: u8) -> Result<Profile, Fail> {
     })
 }
 
+/// How a script ends whose default bearer has this QCI, how often it was read, and how many octets were written.
+fn ended(alloc: Global, qci: u8) -> Result<(Result<u64, ScriptFault>, usize, usize), Fail> {
+    let mut reader = FailingReader { calls: 0 };
+    let mut written = Vec::new(alloc);
+    let catalog = Arc::new(alloc, Catalog::new(alloc, Vec::new(alloc))?)?;
+    let ended = run_script(alloc, &mut reader, &mut written, profile(qci)?, catalog);
+    Ok((ended, reader.calls, written.len()))
+}
+
 #[test]
 fn a_profile_is_refused_before_anything_is_read(rt: HostRuntime) -> Result<(), Fail> {
-    let alloc = rt.alloc();
     for (qci, fault, calls) in [
         (77, ScriptFault::Profile(OpenFault::UnknownQci), 0),
         (1, ScriptFault::Profile(OpenFault::DefaultIsGbr), 0),
         (9, ScriptFault::Read, 1),
     ] {
-        let mut reader = FailingReader { calls: 0 };
-        let mut written = Vec::new(alloc);
-        let catalog = Arc::new(alloc, Catalog::new(alloc, Vec::new(alloc))?)?;
-        let ended = run_script(alloc, &mut reader, &mut written, profile(qci)?, catalog);
-        assert_eq!(rt; ended, Err(fault), "{qci}");
-        assert_eq!(rt; reader.calls, calls, "{qci}");
-        assert!(rt; written.is_empty());
+        assert_eq!(rt; ended(rt.alloc(), qci)?, (Err(fault), calls, 0), "{qci}");
     }
     Ok(())
 }

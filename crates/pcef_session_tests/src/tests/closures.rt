@@ -12,6 +12,7 @@ use pcef_packet::{Addr, Dir, Header, Ports};
 use pcef_profile::read_profile;
 use pcef_rule::{Arp, BearerId, Gate, Properties, Qci, Qos, RuleName};
 use pcef_test_scripts::{PROFILE, run_on, script_of};
+use std::alloc::Global;
 use std::sync::Arc;
 use std::sync::atomic::{AtomicU64, Ordering};
 use std::test::Fail;
@@ -75,6 +76,14 @@ fn expedited() -> Result<Properties, Fail> {
     })
 }
 
+/// Whether the script has its answers with this catalog.
+fn is_answered(alloc: Global, catalog: Arc<Catalog>) -> Result<bool, Fail> {
+    let script = script_of(alloc, &LINES)?;
+    let answers = script_of(alloc, &ANSWERS)?;
+    let (text, faults) = run_on(alloc, catalog, PROFILE, script.as_str())?;
+    Ok(text.as_str() == answers.as_str() && faults == 0)
+}
+
 #[test]
 fn a_script_calls_the_closure_for_each_packet_that_no_earlier_rule_decides(
     rt: HostRuntime,
@@ -94,13 +103,26 @@ fn a_script_calls_the_closure_for_each_packet_that_no_earlier_rule_decides(
     let mut rules = Vec::new(alloc);
     rules.push(Predefined::new(expedited()?, one(Test::Dscp(46)), detect))?;
     let catalog = Arc::new(alloc, Catalog::new(alloc, rules)?)?;
-    let script = script_of(alloc, &LINES)?;
-    let wanted = script_of(alloc, &ANSWERS)?;
-    let (text, faults) = run_on(alloc, catalog, PROFILE, script.as_str())?;
-    assert_eq!(rt; text.as_str(), wanted.as_str());
-    assert_eq!(rt; faults, 0);
+    assert!(rt; is_answered(alloc, catalog)?);
     assert_eq!(rt; calls.load(Ordering::SeqCst), 2);
     Ok(())
+}
+
+/// Whether the packet passes by the rule of this catalog on the default bearer, once the rule is active.
+fn passes(alloc: Global, catalog: Arc<Catalog>) -> Result<bool, Fail> {
+    let mut session = Session::open(alloc, read_profile(alloc, PROFILE)?, catalog)?;
+    session.command(Command::Activate(RuleName::new("expedited")?))?;
+    let ue = session.profile().ue;
+    let verdict = session
+        .indexed()
+        .classify(&**session.catalog(), ue, &EXPEDITED);
+    Ok(matches!(
+        verdict,
+        Verdict::Passed {
+            bearer: BearerId(5),
+            ..
+        }
+    ))
 }
 
 #[test]
@@ -120,21 +142,7 @@ fn a_table_calls_the_closure(rt: HostRuntime) -> Result<(), Fail> {
     let mut rules = Vec::new(alloc);
     rules.push(Predefined::new(expedited()?, one(Test::Dscp(46)), detect))?;
     let catalog = Arc::new(alloc, Catalog::new(alloc, rules)?)?;
-    let mut session = Session::open(alloc, read_profile(alloc, PROFILE)?, catalog)?;
-    session.command(Command::Activate(RuleName::new("expedited")?))?;
-    let ue = session.profile().ue;
-    let verdict = session
-        .indexed()
-        .classify(&**session.catalog(), ue, &EXPEDITED);
-    assert!(rt;
-        matches!(
-            verdict,
-            Verdict::Passed {
-                bearer: BearerId(5),
-                ..
-            }
-        )
-    );
+    assert!(rt; passes(alloc, catalog)?);
     assert_eq!(rt; calls.load(Ordering::SeqCst), 1);
     Ok(())
 }
