@@ -25,9 +25,10 @@ ghost use Rattle.pcef_model.specs.Journals.{gen};
 ghost use Rattle.pcef_session.specs.Shown.{Shows};
 ghost use Rattle.pcef_share.specs.Names.{name_at};
 
-use opening::{give_commands, packets, session};
+use opening::{packets, session};
 use pcef_catalog::{Catalog, Detects};
 use pcef_lock::{Shared, opened};
+use pcef_packet::Header;
 use pcef_publish::Opened;
 use pcef_session::SessionState;
 use pcef_share::{Blanks, Naming};
@@ -115,6 +116,7 @@ fn measured<R: Threads + Wait + Sync, K: Clock + Sync>(
     alloc: Global,
     load: Load,
 ) -> Option<Reached> {
+    let packets = packets(alloc, load)?;
     let session = session(alloc, load)?;
     let Ok(opened) = opened(&session) else {
         return None;
@@ -129,6 +131,7 @@ fn measured<R: Threads + Wait + Sync, K: Clock + Sync>(
         session,
         opened,
         Blanks::new(),
+        packets.as_slice(),
         load,
     )
 }
@@ -147,6 +150,7 @@ fn behind_its_lock<
     session: SessionState,
     opened: Opened,
     blanks: Blanks,
+    packets: &[Header],
     load: Load,
 ) -> Option<Reached>
     requires name { N.ledger ≡ name_at blanks }
@@ -157,18 +161,10 @@ fn behind_its_lock<
     requires table { Shows session.setting session.journal (gen session.journal) opened.table }
     requires book { (opened.book ≡ N.book) × (opened.root ≡ N.root) }
 {
-    let packets = packets(alloc, load)?;
-    let (shared, mut desk) = Shared::<C, N, _>::open(
-        rt,
-        alloc,
-        catalog,
-        session,
-        opened,
-        blanks,
-        load.workers,
-    ).ok()?;
-    give_commands(rt, alloc, &shared, &mut desk, load)?;
-    outcome_of(rt, clock, alloc, shared, desk, packets.as_slice(), load)
+    match Shared::<C, N, _>::open(rt, alloc, catalog, session, opened, blanks, load.workers) {
+        Ok((shared, desk)) => outcome_of(rt, clock, alloc, shared, desk, packets, load),
+        Err(_) => None,
+    }
 }
 
 fn main(rt: HostRuntime) -> ExitCode {

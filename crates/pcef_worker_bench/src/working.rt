@@ -1,7 +1,7 @@
 //! What the workers do, each in a thread of its own.
 
 use crate::alone::judged_alone;
-use crate::opening::packets_of;
+use crate::opening::{give_commands, packets_of};
 use crate::times::{Lap, spread};
 use crate::{Load, Work};
 use pcef_catalog::Detects;
@@ -160,6 +160,21 @@ fn worked<C: Detects + Drop, N: Naming, W: Board<Slot<N>> + Drop, R: Wait, K: Cl
     }
 }
 
+/// Adds what one more worker leaves.
+fn add<N: Naming>(all: &mut AllLeft<N>, one: Left<N>) -> Option<()> {
+    let Left {
+        finished,
+        judged,
+        flushes,
+    } = one;
+    all.judged = all.judged.saturating_add(judged);
+    all.finished.push(finished).ok()?;
+    for flush in flushes {
+        all.flushes.push(flush).ok()?;
+    }
+    Some(())
+}
+
 /// What all workers leave, in one.
 fn together<N: Naming>(alloc: Global, left: Vec<Option<Left<N>>>) -> Option<AllLeft<N>> {
     let mut all = AllLeft {
@@ -168,12 +183,7 @@ fn together<N: Naming>(alloc: Global, left: Vec<Option<Left<N>>>) -> Option<AllL
         flushes: Vec::new(alloc),
     };
     for one in left {
-        let one = one?;
-        all.judged = all.judged.saturating_add(one.judged);
-        all.finished.push(one.finished).ok()?;
-        for flush in one.flushes {
-            all.flushes.push(flush).ok()?;
-        }
+        add(&mut all, one?)?;
     }
     Some(all)
 }
@@ -201,6 +211,26 @@ fn work_each<
     Some((together(alloc, left)?, nanoseconds))
 }
 
+/// Gives the commands, and has the workers do their work.
+fn worked_off<
+    C: Detects + Drop + Send + Sync,
+    N: Naming + Send + Sync,
+    W: Board<Slot<N>> + Drop + Send,
+    R: Threads + Wait + Sync,
+    K: Clock + Sync,
+>(
+    rt: &R,
+    clock: &K,
+    alloc: Global,
+    shared: &Shared<C, N, W>,
+    desk: &mut Desk<N>,
+    packets: &[Header],
+    load: Load,
+) -> Option<(AllLeft<N>, u64)> {
+    give_commands(rt, alloc, shared, desk, load)?;
+    work_each(rt, clock, alloc, shared, packets, load)
+}
+
 /// What the workers of a session reach.
 pub fn outcome_of<
     C: Detects + Drop + Send + Sync,
@@ -213,17 +243,36 @@ pub fn outcome_of<
     clock: &K,
     alloc: Global,
     shared: Shared<C, N, W>,
-    desk: Desk<N>,
+    mut desk: Desk<N>,
     packets: &[Header],
     load: Load,
 ) -> Option<Reached> {
-    let (left, nanoseconds) = work_each(rt, clock, alloc, &shared, packets, load)?;
+    match worked_off(rt, clock, alloc, &shared, &mut desk, packets, load) {
+        Some((left, nanoseconds)) => comes_to(rt, shared, desk, left, nanoseconds),
+        None => None,
+    }
+}
+
+/// What a session comes to whose workers left this after so many nanoseconds.
+fn comes_to<C: Detects + Drop, N: Naming, W: Board<Slot<N>> + Drop, R: Wait>(
+    rt: &R,
+    shared: Shared<C, N, W>,
+    desk: Desk<N>,
+    left: AllLeft<N>,
+    nanoseconds: u64,
+) -> Option<Reached> {
     let AllLeft {
         finished,
         judged,
         flushes,
     } = left;
-    let totals = gathered(rt, shared, desk, finished)?;
+    match gathered(rt, shared, desk, finished) {
+        Some(totals) => told(&totals, judged, flushes, nanoseconds),
+        None => None,
+    }
+}
+
+fn told(totals: &Totals, judged: u64, flushes: Vec<u64>, nanoseconds: u64) -> Option<Reached> {
     Some(Reached {
         rows: totals.rows.saturating_add(judged),
         counted: totals.keys.as_slice().first()?.counted,
