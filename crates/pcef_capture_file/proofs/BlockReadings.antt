@@ -1,9 +1,8 @@
 -- What it takes to read blocks one after another.
-use Rattle.std.proofs.Common.{◌≡◌, ◌<◌, ◌∙◌, ◌++◌, ℕ, List, [], ◌∷◌, length, eqb, false, true, Option, Some, None, Result, Ok, Err, refl, sym, ap, subst, arith, append_assoc, append-nil, Bool, drop, IsOkAnd}
-use Rattle.std.specs.List.{filter_map}
+use Rattle.std.proofs.Common.{◌≡◌, ◌<◌, ◌∙◌, ◌++◌, ℕ, List, [], ◌∷◌, length, false, true, Option, Some, None, Result, Ok, Err, refl, sym, ap, subst, arith, append_assoc, append-nil, Bool, drop, IsOkAnd}
 use Rattle.pcef_capture_file.specs.Captured.{Captured}
 use Rattle.pcef_capture_file.specs.Blocks.{begins_section, block_of}
-use Rattle.pcef_capture_file.specs.Captures.{ReadsAs, ReadsClassic}
+use Rattle.pcef_capture_file.specs.Captures.{ReadsAs}
 use Rattle.pcef_capture_file.specs.Classic.{file_header_of, record_of}
 use Rattle.pcef_capture_file.specs.Laws.{OneCapture}
 use Rattle.pcef_capture_file.specs.PcapNg.{packets_among, ReadsBlocks, ReadsFile, step_of}

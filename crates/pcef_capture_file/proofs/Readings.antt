@@ -1,5 +1,5 @@
 -- What it takes to read packets one after another.
-use Rattle.std.proofs.Common.{◌≡◌, ◌<◌, ◌∙◌, ℕ, List, [], ◌∷◌, length, eqb, false, true, Option, Some, None, Result, Ok, Err, refl, sym, ap, subst, arith}
+use Rattle.std.proofs.Common.{◌≡◌, ◌<◌, ◌∙◌, ℕ, List, [], ◌∷◌, length, eqb, false, Some, None, Result, Ok, Err, refl, sym, ap, subst, arith}
 use Rattle.pcef_capture_file.specs.Captured.{Captured, Reads}
 use Rattle.pcef_capture_file.specs.Classic.{record_of}
 use Rattle.pcef_capture_file.specs.Laws.{OneReading}

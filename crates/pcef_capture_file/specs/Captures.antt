@@ -1,5 +1,5 @@
 -- What it means that packets are those of a capture file, in either format.
-use Rattle.std.specs.Prelude.{◌≡◌, ℕ, List, drop, Bool, true, false, Option, Some, None, Err, Ok, IsOkAnd}
+use Rattle.std.specs.Prelude.{ℕ, List, drop, Bool, true, false, Option, IsOkAnd}
 use Rattle.pcef_capture_file.specs.Blocks.{begins_section}
 use Rattle.pcef_capture_file.specs.Captured.{Captured, Reads}
 use Rattle.pcef_capture_file.specs.Classic.{file_header_of, record_of}

@@ -1,7 +1,7 @@
-use Rattle.std.proofs.Common.{◌≡◌, ◌<◌, List, [], ◌∷◌, length, Option, Some, None, ◌∙◌, sym, subst, append-nil}
+use Rattle.std.proofs.Common.{◌≡◌, ◌<◌, [], length, Some, None, ◌∙◌, sym, subst, append-nil}
 use Rattle.std.proofs.lemmas.List.{nil_from_length}
 use Rattle.std.proofs.lemmas.Bool.{eqb-true}
-use Rattle.pcef_capture_file.specs.Captured.{captured, Reads}
+use Rattle.pcef_capture_file.specs.Captured.{Reads}
 use Rattle.pcef_capture_file.specs.Classic.{record_of}
 use Rattle.pcef_capture_file.proofs.Readings.{some_length}
 use Rattle.pcef_capture_file.proofs.classic.records.Goals as goal

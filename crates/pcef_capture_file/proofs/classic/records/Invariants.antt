@@ -1,4 +1,4 @@
-use Rattle.std.proofs.Common.{◌≡◌, List, ◌++◌, Option, length, map}
+use Rattle.std.proofs.Common.{List, ◌++◌, Option, length, map}
 use Rattle.pcef_capture_file.specs.Captured.{Captured, captured, Reads}
 use Rattle.pcef_capture_file.specs.Classic.{record_of}
 use Rattle.pcef_capture_file.specs.declared.fault.CaptureFault.{CaptureFault}

@@ -1,4 +1,4 @@
-use Rattle.std.proofs.Common.{List, Option, length, map}
+use Rattle.std.proofs.Common.{length, map}
 use Rattle.pcef_capture_file.specs.Captured.{captured}
 use Rattle.pcef_capture_file.specs.Sections.{standing}
 use Rattle.pcef_capture_file.proofs.BlockReadings.{ReadSoFar}
