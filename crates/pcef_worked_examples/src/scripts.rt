@@ -1,24 +1,13 @@
-//! Runs the worked scripts that its words name, and compares what they answer with what was worked out by hand.
-//!
-//! `NAME.jsonl` has the lines of a script, and `NAME.answers.jsonl` their answers. The session's profile is `NAME.toml`
-//! where there is such a file, else `profile.toml`. Each script runs twice: for a writer that takes all that it is
-//! offered, and for one that takes half. For each script a line is written: how many answers it has and how many of its
-//! lines are at fault, or the first answer that isn't as worked out. The exit status is 1 where there is such an answer,
-//! and 3 where a file can't be read, a profile is at fault or a script ends early.
-#![tactic(auto)]
+//! Runs scripts, and compares what they answer with what was worked out by hand.
 
-mod comparing;
-mod taker;
-
-use comparing::{Difference, first_difference};
+use crate::comparing::{Difference, first_difference};
+use crate::taker::{Taker, Taking};
 use pcef_catalog::Catalog;
 use pcef_profile::read_profile;
 use pcef_script::run_script;
+use std::fs;
 use std::io::{self, ErrorKind, Write};
-use std::process::ExitCode;
 use std::sync::Arc;
-use std::{env, fs};
-use taker::{Taker, Taking};
 
 /// The text of the profile of a script.
 fn profile_of(rt: &HostRuntime, name: &str) -> io::Result<String> {
@@ -87,33 +76,9 @@ fn compare_taken(
 }
 
 /// Tells what a script came to, and gives whether each answer is as worked out, for both writers.
-fn compare(rt: &HostRuntime, catalog: Arc<Catalog>, name: &str) -> io::Result<bool> {
+pub fn compare(rt: &HostRuntime, catalog: Arc<Catalog>, name: &str) -> io::Result<bool> {
     let again = Arc::try_clone(&catalog)?;
     let are_all = compare_taken(rt, catalog, name, Taking::All)?;
     let are_halves = compare_taken(rt, again, name, Taking::Half)?;
     Ok(are_all && are_halves)
-}
-
-/// Runs all scripts that the words name, and gives whether each answer of each is as worked out.
-fn compare_all(rt: &HostRuntime, catalog: Arc<Catalog>) -> io::Result<bool> {
-    let mut are_all = true;
-    for name in env::args(rt)?.skip(1) {
-        are_all &= compare(rt, Arc::try_clone(&catalog)?, name.as_str())?;
-    }
-    Ok(are_all)
-}
-
-fn main(rt: HostRuntime) -> ExitCode {
-    let alloc = rt.alloc();
-    let Ok(catalog) = Catalog::new(alloc, Vec::new(alloc)) else {
-        return ExitCode::from(3);
-    };
-    let Ok(catalog) = Arc::new(alloc, catalog) else {
-        return ExitCode::from(3);
-    };
-    match compare_all(&rt, catalog) {
-        Ok(true) => ExitCode::from(0),
-        Ok(false) => ExitCode::from(1),
-        Err(_) => ExitCode::from(3),
-    }
 }

@@ -1,29 +1,13 @@
-//! Reads the lines and the profiles of the files that its words name, and writes what each is read as.
-//!
-//! A file of lines has a line of a script in each line, and what it is read as is written below it. Blank lines and
-//! lines that begin with `#` stand between them, and are written as they are. A control picture stands for its control
-//! character, and `∅` for no character at all. Each line is read alone, and by a reader that reads all lines of its file;
-//! where the two readings differ, it is written. A line behind `~ ` is read so with each stray octet in the place of each
-//! of its octets.
-//!
-//! A file of profiles has a profile behind each line that begins with `===`. Only these lines are written, and below
-//! each what its profile is read as. At the end come the faults that no text has. The exit status is 3 where a file can't
-//! be read.
-#![tactic(auto)]
+//! Reads lines and profiles, and writes what each is read as.
 
-mod profiles;
-mod reading;
-mod telling;
-
+use crate::profiles::{tell_profile_fault, tell_profiles};
+use crate::reading::tell_line;
+use crate::telling::tell;
 use pcef_line::{LineFault, LineReader};
 use pcef_profile::ReadProfileFault;
-use profiles::{tell_profile_fault, tell_profiles};
-use reading::tell_line;
 use std::alloc::{AllocError, Global};
 use std::fmt::Write;
-use std::process::ExitCode;
-use std::{env, fs, io};
-use telling::tell;
+use std::{fs, io};
 
 /// The character that one in a file stands for, if it stands for one.
 fn meant(character: char) -> Option<char> {
@@ -76,30 +60,23 @@ fn tell_lines(
     Ok(())
 }
 
-/// What is written of a file, whose lines are read with a reader of their own.
-fn tell_file(rt: &HostRuntime, path: &str, text: &mut String) -> io::Result<()> {
+/// Writes what the lines of a file are read as, by a reader of their own, or what its profiles are read as.
+pub fn tell_file(rt: &HostRuntime, path: &str) -> io::Result<()> {
     let alloc = rt.alloc();
     let file = fs::read_to_string(rt, path)?;
+    let mut text = String::new(alloc);
     if path.ends_with(".profiles") {
-        tell_profiles(alloc, file.as_str(), text)?;
+        tell_profiles(alloc, file.as_str(), &mut text)?;
     } else {
-        tell_lines(alloc, &mut LineReader::new(alloc), file.as_str(), text)?;
+        tell_lines(alloc, &mut LineReader::new(alloc), file.as_str(), &mut text)?;
     }
-    Ok(())
-}
-
-/// What is written of all files that the words name.
-fn tell_files(rt: &HostRuntime, text: &mut String) -> io::Result<()> {
-    for path in env::args(rt)?.skip(1) {
-        tell_file(rt, path.as_str(), text)?;
-    }
-    Ok(())
+    print!(rt; "{text}")
 }
 
 /// The faults that no text has.
-fn tell_other_faults(text: &mut String) -> Result<(), AllocError> {
+fn other_faults(text: &mut String) -> Result<(), AllocError> {
     text.push_str("\n# Faults that no text has.\n")?;
-    for fault in [
+    for &fault in &[
         LineFault::LineTooLong,
         LineFault::NotUtf8,
         LineFault::NoMemory,
@@ -111,13 +88,9 @@ fn tell_other_faults(text: &mut String) -> Result<(), AllocError> {
     text.push('\n')
 }
 
-fn main(rt: HostRuntime) -> ExitCode {
+/// Writes the faults that no text has.
+pub fn tell_other_faults(rt: &HostRuntime) -> io::Result<()> {
     let mut text = String::new(rt.alloc());
-    if tell_files(&rt, &mut text).is_err()
-        || tell_other_faults(&mut text).is_err()
-        || print!(&rt; "{text}").is_err()
-    {
-        return ExitCode::from(3);
-    }
-    ExitCode::from(0)
+    other_faults(&mut text)?;
+    print!(rt; "{text}")
 }

@@ -7,7 +7,7 @@ use std::fmt::Write;
 use std::str;
 
 /// The octets that stand in a line in the place of another.
-const STRAYS: [u8; 14] = [
+static STRAYS: [u8; 14] = [
     b'"', b'\\', b'{', b'}', b',', b':', b' ', b'\n', b'0', b'1', b'f', b'g', 0, 127,
 ];
 
@@ -38,7 +38,7 @@ fn first_stray(
 ) -> Result<Option<(usize, u8)>, AllocError> {
     for place in 0..octets.len() {
         let own = octets[place];
-        for stray in STRAYS {
+        for &stray in &STRAYS {
             octets[place] = stray;
             if let Ok(line) = str::from_utf8(octets) {
                 if !is_read_alike(alloc, lines, line)? {

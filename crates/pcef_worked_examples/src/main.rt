@@ -1,0 +1,70 @@
+//! Goes through the worked examples that its words name: scripts, files of lines and files of profiles.
+//!
+//! A word that ends in `.lines` or `.profiles` names a file. Any other names a script: `NAME.jsonl` has its lines, and
+//! `NAME.answers.jsonl` their answers, which were worked out by hand. The session's profile is `NAME.toml` where there is
+//! such a file, else `profile.toml`. Each script runs twice: for a writer that takes all that it is offered, and for one
+//! that takes half. For each script a line is written: how many answers it has and how many of its lines are at fault, or
+//! the first answer that isn't as worked out.
+//!
+//! A file of lines has a line of a script in each line, and what it is read as is written below it. Blank lines and
+//! lines that begin with `#` stand between them, and are written as they are. A control picture stands for its control
+//! character, and `∅` for no character at all. Each line is read alone, and by a reader that reads all lines of its file;
+//! where the two readings differ, it is written. A line behind `~ ` is read so with each stray octet in the place of each
+//! of its octets.
+//!
+//! A file of profiles has a profile behind each line that begins with `===`. Only these lines are written, and below
+//! each what its profile is read as. At the end come the faults that no text has.
+//!
+//! The exit status is 1 where an answer isn't as worked out, and 3 where a file can't be read, the profile of a script is
+//! at fault or a script ends early.
+#![tactic(auto)]
+
+mod comparing;
+mod lines;
+mod profiles;
+mod reading;
+mod scripts;
+mod taker;
+mod telling;
+
+use lines::{tell_file, tell_other_faults};
+use pcef_catalog::Catalog;
+use scripts::compare;
+use std::process::ExitCode;
+use std::sync::Arc;
+use std::{env, io};
+
+/// Tells what an example comes to, and gives whether each answer of a script is as worked out.
+fn tell_example(rt: &HostRuntime, catalog: &Arc<Catalog>, word: &str) -> io::Result<bool> {
+    if word.ends_with(".lines") || word.ends_with(".profiles") {
+        tell_file(rt, word)?;
+        Ok(true)
+    } else {
+        compare(rt, Arc::try_clone(catalog)?, word)
+    }
+}
+
+/// Tells what all examples come to that the words name, and gives whether each answer of each script is as worked out.
+fn tell_examples(rt: &HostRuntime, catalog: &Arc<Catalog>) -> io::Result<bool> {
+    let mut are_all = true;
+    for word in env::args(rt)?.skip(1) {
+        are_all &= tell_example(rt, catalog, word.as_str())?;
+    }
+    tell_other_faults(rt)?;
+    Ok(are_all)
+}
+
+fn main(rt: HostRuntime) -> ExitCode {
+    let alloc = rt.alloc();
+    let Ok(catalog) = Catalog::new(alloc, Vec::new(alloc)) else {
+        return ExitCode::from(3);
+    };
+    let Ok(catalog) = Arc::new(alloc, catalog) else {
+        return ExitCode::from(3);
+    };
+    match tell_examples(&rt, &catalog) {
+        Ok(true) => ExitCode::from(0),
+        Ok(false) => ExitCode::from(1),
+        Err(_) => ExitCode::from(3),
+    }
+}
