@@ -1,4 +1,4 @@
-//! Tests of the program. They stand above the crate that they test, which is then proved once.
+//! Tests of plans of runs, and of the program. They stand above the crates that they test, which are then proved once.
 #![tactic(auto)]
 
 #[cfg(test)]

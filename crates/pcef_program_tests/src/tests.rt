@@ -1,6 +1,7 @@
-//! The built-in catalog, and the program at work.
+//! Plans of runs, the built-in catalog, and the program at work.
 
 mod built_in;
 mod live;
+mod plans;
 mod program;
 mod runs;

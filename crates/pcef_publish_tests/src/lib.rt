@@ -1,4 +1,5 @@
-//! Tests of publishers and subscribers. They stand above the crate that they test, which is then proved once.
+//! Tests of books and shares, and of publishers and subscribers. They stand above the crates that they test, which are
+//! then proved once.
 #![tactic(auto)]
 
 #[cfg(test)]

@@ -1,5 +1,5 @@
-//! Tests of whole sessions, through scripts and through the public calls. Their crates have no tests of their own, since a
-//! crate with tests is proved twice.
+//! Tests of whole sessions, through scripts and through the public calls, of answers, and of scripts as texts. They stand
+//! above the crates that they test, which are then proved once.
 #![tactic(auto)]
 
 #[cfg(test)]

@@ -1,8 +1,15 @@
-//! Sessions from their opening to their end.
+//! Sessions from their opening to their end, answers, and scripts as texts.
 
+mod answer;
 mod catalog_session;
 mod closures;
+mod corners;
+mod declared_script;
+mod ends;
 mod finishing;
+mod fronts;
+mod memory;
+mod refused_profiles;
 
 use pcef_model::Command;
 use pcef_rule::KeyName;

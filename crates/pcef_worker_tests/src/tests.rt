@@ -1,4 +1,4 @@
-//! Workers of one session behind its lock, whose rows and octets were counted by hand. A test is a table: what happens step
+//! Workers of one session behind its lock, whose rows and octets were counted by hand. A story is a table: what happens step
 //! by step, and beside each step the four numbers that it tells, as [`Step`] says.
 ghost use Rattle.std.specs.Prelude.{◌≡◌, [], IfSome};
 ghost use Rattle.std.specs.Arc.{arc_value};

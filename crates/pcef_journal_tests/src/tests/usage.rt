@@ -428,7 +428,7 @@ fn a_key_is_switched_and_counts(rt: HostRuntime) -> Result<(), Fail> {
 
 /// Starts three keys and counts for them, by which the first and the last reach their grants.
 fn start_three(rt: &impl Abort, usage: &mut Usage) {
-    for (slot, grant, octets) in [(0u8, 100u64, 100u32), (1, 100, 99), (2, 28, 60)] {
+    for &(slot, grant, octets) in &[(0u8, 100u64, 100u32), (1, 100, 99), (2, 28, 60)] {
         start(rt, usage, Slot(slot), grant);
         count(rt, usage, Slot(slot), octets);
     }

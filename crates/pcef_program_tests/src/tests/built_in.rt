@@ -87,40 +87,50 @@ fn run(
     Ok((said, text))
 }
 
+/// Packets, and what each of the three shapes says of them, in the order of the catalog.
+static DETECTED: [(Header, [bool; 3]); 6] = [
+    (DNS_ANSWER, [true, false, true]),
+    (DNS_QUESTION, [true, false, true]),
+    (
+        Header {
+            dscp: 46,
+            ..DNS_ANSWER
+        },
+        [true, true, true],
+    ),
+    (
+        Header {
+            proto: 6,
+            ..DNS_ANSWER
+        },
+        [true, false, true],
+    ),
+    (
+        Header {
+            ports: Some(Ports { src: 54, dst: 53 }),
+            ..DNS_ANSWER
+        },
+        [false, false, true],
+    ),
+    (
+        Header {
+            ports: None,
+            ..DNS_ANSWER
+        },
+        [false, false, true],
+    ),
+];
+
 #[test]
 fn closures_and_shapes(rt: HostRuntime) -> Result<(), Fail> {
-    let expedited = Header {
-        dscp: 46,
-        ..DNS_ANSWER
-    };
-    let over_tcp = Header {
-        proto: 6,
-        ..DNS_ANSWER
-    };
-    let other_port = Header {
-        ports: Some(Ports { src: 54, dst: 53 }),
-        ..DNS_ANSWER
-    };
-    let fragment = Header {
-        ports: None,
-        ..DNS_ANSWER
-    };
-    for (header, wanted) in [
-        (DNS_ANSWER, [true, false, true]),
-        (DNS_QUESTION, [true, false, true]),
-        (expedited, [true, true, true]),
-        (over_tcp, [true, false, true]),
-        (other_port, [false, false, true]),
-        (fragment, [false, false, true]),
-    ] {
+    for &(header, wanted) in &DETECTED {
         let (said, _) = run(rt.alloc(), &header, PROFILE, &[])?;
-        assert_eq!(rt; said, wanted);
         let shapes = [
             dns_shape().holds(&header),
             expedited_shape().holds(&header),
             remaining_shape().holds(&header),
         ];
-        assert_eq!(rt; shapes, wanted);
+        assert_eq!(rt; (said, shapes), (wanted, wanted));
     }
     Ok(())
 }
@@ -146,26 +156,16 @@ const FLUSH: &str = "{\"do\":\"flush\",\"worker\":0}";
 
 const SHOW: &str = "{\"do\":\"show\"}";
 
-/// The line that installs a rule for DNS answers of this name and precedence.
-fn install(alloc: Global, name: &str, precedence: u32) -> Result<String, Fail> {
-    Ok(format!(in alloc;
-        "{{\"do\":\"install\",\"rule\":{{\"name\":\"{name}\",\"precedence\":{precedence},\"filters\":[{{\"text\":\"permit out 17 from any 53 to assigned\"}}],\"qci\":9,\"arp\":{{\"level\":8,\"capability\":false,\"vulnerability\":true}},\"gate\":\"ENABLED\"}}}}"
-    )?)
-}
-
-#[test]
-fn an_active_rule_stays_unchanged(rt: HostRuntime) -> Result<(), Fail> {
-    let alloc = rt.alloc();
-    let taken = install(alloc, "pre-dns", 100)?;
-    let (_, text) = run(
-        alloc,
-        &DNS_ANSWER,
+/// Profiles, lines, and what these answer.
+static SCRIPTS: [(&str, &[&str], &str); 6] = [
+    // An active rule stays as it is.
+    (
         PROFILE,
         &[
             ACTIVATE_DNS,
             ACTIVATE_DNS,
             "{\"do\":\"activate\",\"name\":\"nope\"}",
-            taken.as_str(),
+            "{\"do\":\"install\",\"rule\":{\"name\":\"pre-dns\",\"precedence\":100,\"filters\":[{\"text\":\"permit out 17 from any 53 to assigned\"}],\"qci\":9,\"arp\":{\"level\":8,\"capability\":false,\"vulnerability\":true},\"gate\":\"ENABLED\"}}",
             ACTIVATE_EXPEDITED,
             ACTIVATE_EXPEDITED,
             SHOW,
@@ -173,19 +173,10 @@ fn an_active_rule_stays_unchanged(rt: HostRuntime) -> Result<(), Fail> {
             "{\"do\":\"remove\",\"name\":\"pre-ef\"}",
             SHOW,
         ],
-    )?;
-    assert_eq!(rt;
-        text.as_str(),
-        "{\"bearer\":5,\"generation\":1,\"ok\":true,\"reports\":[]}\n{\"bearer\":5,\"generation\":1,\"ok\":true,\"reports\":[],\"unchanged\":true}\n{\"name\":\"UnknownRule\",\"refused\":5}\n{\"name\":\"NameIsPredefined\",\"refused\":4}\n{\"bearer\":6,\"generation\":2,\"ok\":true,\"reports\":[]}\n{\"bearer\":6,\"generation\":2,\"ok\":true,\"reports\":[],\"unchanged\":true}\n{\"active\":[\"pre-dns\",\"pre-ef\"],\"bearers\":[{\"down\":0,\"id\":5,\"rules\":1,\"up\":0},{\"down\":0,\"id\":6,\"rules\":1,\"up\":0}],\"generation\":2,\"keys\":[{\"key\":\"dns\",\"on\":false,\"reported\":0,\"unreported\":0}]}\n{\"generation\":3,\"ok\":true,\"reports\":[]}\n{\"name\":\"UnknownRule\",\"refused\":5}\n{\"active\":[\"pre-dns\"],\"bearers\":[{\"down\":0,\"id\":5,\"rules\":1,\"up\":0}],\"generation\":3,\"keys\":[{\"key\":\"dns\",\"on\":false,\"reported\":0,\"unreported\":0}]}\n"
-    );
-    Ok(())
-}
-
-#[test]
-fn what_is_unchanged_takes_no_command(rt: HostRuntime) -> Result<(), Fail> {
-    let (_, text) = run(
-        rt.alloc(),
-        &DNS_ANSWER,
+        "{\"bearer\":5,\"generation\":1,\"ok\":true,\"reports\":[]}\n{\"bearer\":5,\"generation\":1,\"ok\":true,\"reports\":[],\"unchanged\":true}\n{\"name\":\"UnknownRule\",\"refused\":5}\n{\"name\":\"NameIsPredefined\",\"refused\":4}\n{\"bearer\":6,\"generation\":2,\"ok\":true,\"reports\":[]}\n{\"bearer\":6,\"generation\":2,\"ok\":true,\"reports\":[],\"unchanged\":true}\n{\"active\":[\"pre-dns\",\"pre-ef\"],\"bearers\":[{\"down\":0,\"id\":5,\"rules\":1,\"up\":0},{\"down\":0,\"id\":6,\"rules\":1,\"up\":0}],\"generation\":2,\"keys\":[{\"key\":\"dns\",\"on\":false,\"reported\":0,\"unreported\":0}]}\n{\"generation\":3,\"ok\":true,\"reports\":[]}\n{\"name\":\"UnknownRule\",\"refused\":5}\n{\"active\":[\"pre-dns\"],\"bearers\":[{\"down\":0,\"id\":5,\"rules\":1,\"up\":0}],\"generation\":3,\"keys\":[{\"key\":\"dns\",\"on\":false,\"reported\":0,\"unreported\":0}]}\n",
+    ),
+    // What changes nothing takes no command.
+    (
         PROFILE_OF_TWO_COMMANDS,
         &[
             ACTIVATE_DNS,
@@ -194,92 +185,48 @@ fn what_is_unchanged_takes_no_command(rt: HostRuntime) -> Result<(), Fail> {
             ACTIVATE_REMAINING,
             ACTIVATE_DNS,
         ],
-    )?;
-    assert_eq!(rt;
-        text.as_str(),
-        "{\"bearer\":5,\"generation\":1,\"ok\":true,\"reports\":[]}\n{\"bearer\":5,\"generation\":1,\"ok\":true,\"reports\":[],\"unchanged\":true}\n{\"bearer\":5,\"generation\":1,\"ok\":true,\"reports\":[],\"unchanged\":true}\n{\"bearer\":5,\"generation\":2,\"ok\":true,\"reports\":[]}\n{\"name\":\"CommandsFull\",\"refused\":3}\n"
-    );
-    Ok(())
-}
-
-#[test]
-fn an_installed_rule_goes_before_a_predefined_one(rt: HostRuntime) -> Result<(), Fail> {
-    let alloc = rt.alloc();
-    let same = install(alloc, "zz", 50)?;
-    let later = install(alloc, "zz", 51)?;
-    let (_, text) = run(
-        alloc,
-        &DNS_ANSWER,
+        "{\"bearer\":5,\"generation\":1,\"ok\":true,\"reports\":[]}\n{\"bearer\":5,\"generation\":1,\"ok\":true,\"reports\":[],\"unchanged\":true}\n{\"bearer\":5,\"generation\":1,\"ok\":true,\"reports\":[],\"unchanged\":true}\n{\"bearer\":5,\"generation\":2,\"ok\":true,\"reports\":[]}\n{\"name\":\"CommandsFull\",\"refused\":3}\n",
+    ),
+    // At the same precedence an installed rule goes before a predefined one.
+    (
         PROFILE,
         &[
             ACTIVATE_DNS,
-            same.as_str(),
+            "{\"do\":\"install\",\"rule\":{\"name\":\"zz\",\"precedence\":50,\"filters\":[{\"text\":\"permit out 17 from any 53 to assigned\"}],\"qci\":9,\"arp\":{\"level\":8,\"capability\":false,\"vulnerability\":true},\"gate\":\"ENABLED\"}}",
             ATTACH,
             TAKE,
-            later.as_str(),
+            "{\"do\":\"install\",\"rule\":{\"name\":\"zz\",\"precedence\":51,\"filters\":[{\"text\":\"permit out 17 from any 53 to assigned\"}],\"qci\":9,\"arp\":{\"level\":8,\"capability\":false,\"vulnerability\":true},\"gate\":\"ENABLED\"}}",
             REFRESH,
             TAKE,
             FLUSH,
         ],
-    )?;
-    assert_eq!(rt;
-        text.as_str(),
-        "{\"bearer\":5,\"generation\":1,\"ok\":true,\"reports\":[]}\n{\"bearer\":5,\"generation\":2,\"ok\":true,\"reports\":[]}\n{\"generation\":2,\"ok\":true,\"worker\":0}\n{\"ok\":true,\"waiting\":1}\n{\"bearer\":5,\"generation\":3,\"ok\":true,\"reports\":[]}\n{\"generation\":3,\"ok\":true}\n{\"ok\":true,\"waiting\":2}\n{\"ok\":true,\"reports\":[],\"verdicts\":[{\"bearer\":5,\"generation\":2,\"rule\":\"zz\",\"verdict\":\"Passed\"},{\"bearer\":5,\"generation\":3,\"rule\":\"pre-dns\",\"verdict\":\"Passed\"}]}\n"
-    );
-    Ok(())
-}
-
-/// The line that installs a rule `a` for every packet, of this precedence.
-fn install_for_all(alloc: Global, precedence: u32) -> Result<String, Fail> {
-    Ok(format!(in alloc;
-        "{{\"do\":\"install\",\"rule\":{{\"name\":\"a\",\"precedence\":{precedence},\"filters\":[{{\"text\":\"permit out ip from any to any\"}}],\"qci\":9,\"arp\":{{\"level\":8,\"capability\":false,\"vulnerability\":true}},\"gate\":\"ENABLED\"}}}}"
-    )?)
-}
-
-#[test]
-fn a_worker_that_refreshes_judges_by_the_modified_rules(rt: HostRuntime) -> Result<(), Fail> {
-    let alloc = rt.alloc();
-    let first = install_for_all(alloc, 10)?;
-    let second = install(alloc, "b", 20)?;
-    let earlier = install(alloc, "b", 5)?;
-    let tied = install_for_all(alloc, 50)?;
-    let later = install_for_all(alloc, 51)?;
-    let (_, text) = run(
-        alloc,
-        &DNS_ANSWER,
+        "{\"bearer\":5,\"generation\":1,\"ok\":true,\"reports\":[]}\n{\"bearer\":5,\"generation\":2,\"ok\":true,\"reports\":[]}\n{\"generation\":2,\"ok\":true,\"worker\":0}\n{\"ok\":true,\"waiting\":1}\n{\"bearer\":5,\"generation\":3,\"ok\":true,\"reports\":[]}\n{\"generation\":3,\"ok\":true}\n{\"ok\":true,\"waiting\":2}\n{\"ok\":true,\"reports\":[],\"verdicts\":[{\"bearer\":5,\"generation\":2,\"rule\":\"zz\",\"verdict\":\"Passed\"},{\"bearer\":5,\"generation\":3,\"rule\":\"pre-dns\",\"verdict\":\"Passed\"}]}\n",
+    ),
+    // A worker that refreshes judges by the modified rules.
+    (
         PROFILE,
         &[
-            first.as_str(),
-            second.as_str(),
+            "{\"do\":\"install\",\"rule\":{\"name\":\"a\",\"precedence\":10,\"filters\":[{\"text\":\"permit out ip from any to any\"}],\"qci\":9,\"arp\":{\"level\":8,\"capability\":false,\"vulnerability\":true},\"gate\":\"ENABLED\"}}",
+            "{\"do\":\"install\",\"rule\":{\"name\":\"b\",\"precedence\":20,\"filters\":[{\"text\":\"permit out 17 from any 53 to assigned\"}],\"qci\":9,\"arp\":{\"level\":8,\"capability\":false,\"vulnerability\":true},\"gate\":\"ENABLED\"}}",
             ATTACH,
             TAKE,
-            earlier.as_str(),
+            "{\"do\":\"install\",\"rule\":{\"name\":\"b\",\"precedence\":5,\"filters\":[{\"text\":\"permit out 17 from any 53 to assigned\"}],\"qci\":9,\"arp\":{\"level\":8,\"capability\":false,\"vulnerability\":true},\"gate\":\"ENABLED\"}}",
             REFRESH,
             TAKE,
             "{\"do\":\"remove\",\"name\":\"b\"}",
-            tied.as_str(),
+            "{\"do\":\"install\",\"rule\":{\"name\":\"a\",\"precedence\":50,\"filters\":[{\"text\":\"permit out ip from any to any\"}],\"qci\":9,\"arp\":{\"level\":8,\"capability\":false,\"vulnerability\":true},\"gate\":\"ENABLED\"}}",
             ACTIVATE_DNS,
             REFRESH,
             TAKE,
-            later.as_str(),
+            "{\"do\":\"install\",\"rule\":{\"name\":\"a\",\"precedence\":51,\"filters\":[{\"text\":\"permit out ip from any to any\"}],\"qci\":9,\"arp\":{\"level\":8,\"capability\":false,\"vulnerability\":true},\"gate\":\"ENABLED\"}}",
             REFRESH,
             TAKE,
             FLUSH,
         ],
-    )?;
-    assert!(rt;
-        text.as_str().ends_with(
-            "{\"ok\":true,\"waiting\":4}\n{\"ok\":true,\"reports\":[],\"verdicts\":[{\"bearer\":5,\"generation\":2,\"rule\":\"a\",\"verdict\":\"Passed\"},{\"bearer\":5,\"generation\":3,\"rule\":\"b\",\"verdict\":\"Passed\"},{\"bearer\":5,\"generation\":6,\"rule\":\"a\",\"verdict\":\"Passed\"},{\"bearer\":5,\"generation\":7,\"rule\":\"pre-dns\",\"verdict\":\"Passed\"}]}\n"
-        )
-    );
-    Ok(())
-}
-
-#[test]
-fn predefined_rules_judge_and_count(rt: HostRuntime) -> Result<(), Fail> {
-    let (_, text) = run(
-        rt.alloc(),
-        &DNS_ANSWER,
+        "{\"bearer\":5,\"generation\":1,\"ok\":true,\"reports\":[]}\n{\"bearer\":5,\"generation\":2,\"ok\":true,\"reports\":[]}\n{\"generation\":2,\"ok\":true,\"worker\":0}\n{\"ok\":true,\"waiting\":1}\n{\"bearer\":5,\"generation\":3,\"ok\":true,\"reports\":[]}\n{\"generation\":3,\"ok\":true}\n{\"ok\":true,\"waiting\":2}\n{\"generation\":4,\"ok\":true,\"reports\":[]}\n{\"bearer\":5,\"generation\":5,\"ok\":true,\"reports\":[]}\n{\"bearer\":5,\"generation\":6,\"ok\":true,\"reports\":[]}\n{\"generation\":6,\"ok\":true}\n{\"ok\":true,\"waiting\":3}\n{\"bearer\":5,\"generation\":7,\"ok\":true,\"reports\":[]}\n{\"generation\":7,\"ok\":true}\n{\"ok\":true,\"waiting\":4}\n{\"ok\":true,\"reports\":[],\"verdicts\":[{\"bearer\":5,\"generation\":2,\"rule\":\"a\",\"verdict\":\"Passed\"},{\"bearer\":5,\"generation\":3,\"rule\":\"b\",\"verdict\":\"Passed\"},{\"bearer\":5,\"generation\":6,\"rule\":\"a\",\"verdict\":\"Passed\"},{\"bearer\":5,\"generation\":7,\"rule\":\"pre-dns\",\"verdict\":\"Passed\"}]}\n",
+    ),
+    // Predefined rules judge and count.
+    (
         PROFILE,
         &[
             ACTIVATE_REMAINING,
@@ -293,12 +240,33 @@ fn predefined_rules_judge_and_count(rt: HostRuntime) -> Result<(), Fail> {
             "{\"do\":\"remove\",\"name\":\"pre-dns\"}",
             SHOW,
         ],
-    )?;
-    assert_eq!(rt;
-        text.as_str(),
-        "{\"bearer\":5,\"generation\":1,\"ok\":true,\"reports\":[]}\n{\"bearer\":6,\"generation\":2,\"ok\":true,\"reports\":[]}\n{\"bearer\":5,\"generation\":3,\"ok\":true,\"reports\":[]}\n{\"generation\":4,\"ok\":true,\"reports\":[]}\n{\"generation\":4,\"ok\":true,\"worker\":0}\n{\"ok\":true,\"waiting\":1}\n{\"ok\":true,\"waiting\":2}\n{\"ok\":true,\"reports\":[],\"verdicts\":[{\"bearer\":5,\"generation\":4,\"rule\":\"pre-dns\",\"verdict\":\"Passed\"},{\"bearer\":6,\"generation\":4,\"rule\":\"pre-ef\",\"verdict\":\"Passed\"}]}\n{\"generation\":5,\"ok\":true,\"reports\":[{\"cause\":\"RulesGone\",\"key\":\"dns\",\"number\":0,\"octets\":28}]}\n{\"active\":[\"pre-ef\",\"pre-rest\"],\"bearers\":[{\"down\":0,\"id\":5,\"rules\":1,\"up\":0},{\"down\":0,\"id\":6,\"rules\":1,\"up\":0}],\"generation\":5,\"keys\":[{\"key\":\"dns\",\"on\":false,\"reported\":28,\"unreported\":0}]}\n"
-    );
+        "{\"bearer\":5,\"generation\":1,\"ok\":true,\"reports\":[]}\n{\"bearer\":6,\"generation\":2,\"ok\":true,\"reports\":[]}\n{\"bearer\":5,\"generation\":3,\"ok\":true,\"reports\":[]}\n{\"generation\":4,\"ok\":true,\"reports\":[]}\n{\"generation\":4,\"ok\":true,\"worker\":0}\n{\"ok\":true,\"waiting\":1}\n{\"ok\":true,\"waiting\":2}\n{\"ok\":true,\"reports\":[],\"verdicts\":[{\"bearer\":5,\"generation\":4,\"rule\":\"pre-dns\",\"verdict\":\"Passed\"},{\"bearer\":6,\"generation\":4,\"rule\":\"pre-ef\",\"verdict\":\"Passed\"}]}\n{\"generation\":5,\"ok\":true,\"reports\":[{\"cause\":\"RulesGone\",\"key\":\"dns\",\"number\":0,\"octets\":28}]}\n{\"active\":[\"pre-ef\",\"pre-rest\"],\"bearers\":[{\"down\":0,\"id\":5,\"rules\":1,\"up\":0},{\"down\":0,\"id\":6,\"rules\":1,\"up\":0}],\"generation\":5,\"keys\":[{\"key\":\"dns\",\"on\":false,\"reported\":28,\"unreported\":0}]}\n",
+    ),
+    // A predefined name is never installed.
+    (
+        PROFILE,
+        &[
+            "{\"do\":\"install\",\"rule\":{\"name\":\"pre-ef\",\"precedence\":100,\"filters\":[{\"text\":\"permit out 17 from any 53 to assigned\"}],\"qci\":9,\"arp\":{\"level\":8,\"capability\":false,\"vulnerability\":true},\"gate\":\"ENABLED\"}}",
+            SHOW,
+        ],
+        "{\"name\":\"NameIsPredefined\",\"refused\":4}\n{\"active\":[],\"bearers\":[{\"down\":0,\"id\":5,\"rules\":0,\"up\":0}],\"generation\":0,\"keys\":[]}\n",
+    ),
+];
+
+#[test]
+fn scripts_on_the_built_in_rules(rt: HostRuntime) -> Result<(), Fail> {
+    for &(profile, lines, answers) in &SCRIPTS {
+        let (_, text) = run(rt.alloc(), &DNS_ANSWER, profile, lines)?;
+        assert_eq!(rt; text.as_str(), answers);
+    }
     Ok(())
+}
+
+/// The line that installs the rule for DNS answers with this number in its name.
+fn install(alloc: Global, number: u8) -> Result<String, Fail> {
+    Ok(format!(in alloc;
+        "{{\"do\":\"install\",\"rule\":{{\"name\":\"n{number}\",\"precedence\":100,\"filters\":[{{\"text\":\"permit out 17 from any 53 to assigned\"}}],\"qci\":9,\"arp\":{{\"level\":8,\"capability\":false,\"vulnerability\":true}},\"gate\":\"ENABLED\"}}}}"
+    )?)
 }
 
 /// Whether the answers to lines that were made end so.
@@ -316,8 +284,7 @@ fn where_no_more_rules_can_be_active(rt: HostRuntime) -> Result<(), Fail> {
     let alloc = rt.alloc();
     let mut script = Vec::new(alloc);
     for number in 1..65u8 {
-        let name = format!(in alloc; "n{number}")?;
-        script.push(install(alloc, name.as_str(), 100)?)?;
+        script.push(install(alloc, number)?)?;
     }
     script.push(String::from_str(alloc, ACTIVATE_DNS)?)?;
     let end =
@@ -356,17 +323,5 @@ fn where_no_bearer_is_free(rt: HostRuntime) -> Result<(), Fail> {
     let end =
         "{\"bearer\":15,\"generation\":10,\"ok\":true,\"reports\":[]}\n{\"name\":\"TooManyBearers\",\"refused\":16}\n";
     assert!(rt; answers_end(alloc, script.as_slice(), end)?);
-    Ok(())
-}
-
-#[test]
-fn a_predefined_name_is_never_installed(rt: HostRuntime) -> Result<(), Fail> {
-    let alloc = rt.alloc();
-    let line = install(alloc, "pre-ef", 100)?;
-    let (_, text) = run(alloc, &DNS_ANSWER, PROFILE, &[line.as_str(), SHOW])?;
-    assert_eq!(rt;
-        text.as_str(),
-        "{\"name\":\"NameIsPredefined\",\"refused\":4}\n{\"active\":[],\"bearers\":[{\"down\":0,\"id\":5,\"rules\":0,\"up\":0}],\"generation\":0,\"keys\":[]}\n"
-    );
     Ok(())
 }

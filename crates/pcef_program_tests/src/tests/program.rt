@@ -28,7 +28,7 @@ pub(crate) fn octets(alloc: Global, words: &[&str]) -> Result<Vec<Vec<u8>>, Fail
 /// An outlet with a reporter of each kind, which stores what it takes and counts it.
 pub(crate) fn storing_outlet(alloc: Global, taken: &Arc<Taken>) -> Result<Outlet, Fail> {
     let mut reporters = Vec::new(alloc);
-    for kind in [ReportKind::Usage, ReportKind::Access, ReportKind::Inactive] {
+    for &kind in &[ReportKind::Usage, ReportKind::Access, ReportKind::Inactive] {
         let storing = Storing::new(alloc, kind, Arc::try_clone(taken)?);
         let reporter: Box<dyn Reporter + Send> = Box::new(alloc, storing)?;
         reporters.push((kind, reporter))?;
@@ -105,29 +105,32 @@ pub(crate) fn ends_so<T: Threads + Wait + Sync>(
 /// The words for a script.
 const SCRIPT: &[&str] = &["script", "profile.toml"];
 
+/// Profiles and inputs, and the status, the answers and what is said of faults.
+static ENDS: [(Option<&str>, &str, (u8, &str, &str)); 3] = [
+    (
+        Some(PROFILE),
+        "{\"do\":\"attach\"}",
+        (0, "{\"generation\":0,\"ok\":true,\"worker\":0}\n", ""),
+    ),
+    (
+        Some(PROFILE),
+        "x",
+        (1, "{\"fault\":3,\"name\":\"NotJson\"}\n", ""),
+    ),
+    (
+        None,
+        "",
+        (
+            4,
+            "",
+            "read fault\nprofile.toml: No such file or directory (os error 2)\n",
+        ),
+    ),
+];
+
 #[test]
 fn statuses_and_faults(rt: HostRuntime) -> Result<(), Fail> {
-    for (profile, input, due) in [
-        (
-            Some(PROFILE),
-            "{\"do\":\"attach\"}",
-            (0, "{\"generation\":0,\"ok\":true,\"worker\":0}\n", ""),
-        ),
-        (
-            Some(PROFILE),
-            "x",
-            (1, "{\"fault\":3,\"name\":\"NotJson\"}\n", ""),
-        ),
-        (
-            None,
-            "",
-            (
-                4,
-                "",
-                "read fault\nprofile.toml: No such file or directory (os error 2)\n",
-            ),
-        ),
-    ] {
+    for &(profile, input, due) in &ENDS {
         assert!(rt;
             ends_so(&rt, rt.alloc(), SCRIPT, profile, input, due)?,
             "{input}"
@@ -146,17 +149,19 @@ fn is_usage<T: Threads + Wait + Sync>(rt: &T, alloc: Global, words: &[&str]) -> 
     Ok(status == 2 && answers.is_empty() && is_told)
 }
 
+/// Words that ask for nothing.
+static WRONG: [&[&str]; 6] = [
+    &[],
+    &["script"],
+    &["run", "profile.toml"],
+    &["scripts", "profile.toml"],
+    &["--help"],
+    &["--version", "profile.toml"],
+];
+
 #[test]
 fn other_words_are_usage(rt: HostRuntime) -> Result<(), Fail> {
-    let wrong: [&[&str]; 6] = [
-        &[],
-        &["script"],
-        &["run", "profile.toml"],
-        &["scripts", "profile.toml"],
-        &["--help"],
-        &["--version", "profile.toml"],
-    ];
-    for words in wrong {
+    for &words in &WRONG {
         assert!(rt; is_usage(&rt, rt.alloc(), words)?);
     }
     Ok(())
@@ -232,42 +237,45 @@ fn is_explained<T: Threads + Wait + Sync>(
     )
 }
 
+/// How profiles at fault begin, and what is said of them.
+static EXPLAINED: [(&str, &str); 8] = [
+    (
+        "ue = \"10.0.0.2\"\nrows 1000\n",
+        "profile fault 1\nNotToml: line 3: rows 1000: key with no value, expected `=`\n",
+    ),
+    (
+        "ue = \"10.0.0.2\"\nrow = 1000\nrows = 1\n",
+        "profile fault 2\nUnknownKey: row: ue, rows, commands, default, capacity or declared is expected\n",
+    ),
+    (
+        "ue = \"10.0.0.2\"\n",
+        "profile fault 3\nMissing: rows: a whole number from 1 to 4294967295 is expected\n",
+    ),
+    (
+        "ue = \"10.0.0.2\"\nrows = 0\n",
+        "profile fault 4\nBadValue: rows = 0: a whole number from 1 to 4294967295 is expected\n",
+    ),
+    (
+        "ue = \"10.0.0\"\nrows = 1\n",
+        "profile fault 4\nBadValue: ue = \"10.0.0\": an IPv4 address in quotes, as \"10.0.0.2\", is expected\n",
+    ),
+    (
+        "ue = \"10.0.0.2\"\nrows = 1\ndeclared = [{qci = 77, kind = \"GBR\"}, {qci = 78, kind = \"Gbr\"}]\n",
+        "profile fault 4\nBadValue: declared[2].kind = \"Gbr\": \"GBR\" or \"NON-GBR\" is expected\n",
+    ),
+    (
+        "ue = \"10.0.0.2\"\nrows = 1\ndeclared = [{qci = 77, kind = \"GBR\"}, {qci = 77, kind = \"GBR\"}]\n",
+        "profile fault 4\nBadValue: declared[2].qci = 77: each QCI once is expected\n",
+    ),
+    (
+        "ue = \"10.0.0.2\"\nrows = 1\ndeclared = [5]\n",
+        "profile fault 4\nBadValue: declared[1] = 5: a table is expected\n",
+    ),
+];
+
 #[test]
 fn a_second_line_explains_a_fault_of_the_profile(rt: HostRuntime) -> Result<(), Fail> {
-    for (front, said) in [
-        (
-            "ue = \"10.0.0.2\"\nrows 1000\n",
-            "profile fault 1\nNotToml: line 3: rows 1000: key with no value, expected `=`\n",
-        ),
-        (
-            "ue = \"10.0.0.2\"\nrow = 1000\nrows = 1\n",
-            "profile fault 2\nUnknownKey: row: ue, rows, commands, default, capacity or declared is expected\n",
-        ),
-        (
-            "ue = \"10.0.0.2\"\n",
-            "profile fault 3\nMissing: rows: a whole number from 1 to 4294967295 is expected\n",
-        ),
-        (
-            "ue = \"10.0.0.2\"\nrows = 0\n",
-            "profile fault 4\nBadValue: rows = 0: a whole number from 1 to 4294967295 is expected\n",
-        ),
-        (
-            "ue = \"10.0.0\"\nrows = 1\n",
-            "profile fault 4\nBadValue: ue = \"10.0.0\": an IPv4 address in quotes, as \"10.0.0.2\", is expected\n",
-        ),
-        (
-            "ue = \"10.0.0.2\"\nrows = 1\ndeclared = [{qci = 77, kind = \"GBR\"}, {qci = 78, kind = \"Gbr\"}]\n",
-            "profile fault 4\nBadValue: declared[2].kind = \"Gbr\": \"GBR\" or \"NON-GBR\" is expected\n",
-        ),
-        (
-            "ue = \"10.0.0.2\"\nrows = 1\ndeclared = [{qci = 77, kind = \"GBR\"}, {qci = 77, kind = \"GBR\"}]\n",
-            "profile fault 4\nBadValue: declared[2].qci = 77: each QCI once is expected\n",
-        ),
-        (
-            "ue = \"10.0.0.2\"\nrows = 1\ndeclared = [5]\n",
-            "profile fault 4\nBadValue: declared[1] = 5: a table is expected\n",
-        ),
-    ] {
+    for &(front, said) in &EXPLAINED {
         assert!(rt; is_explained(&rt, rt.alloc(), front, said)?, "{said}");
     }
     Ok(())
@@ -280,18 +288,21 @@ const UNKNOWN_QCI: &str =
 const GBR_QCI: &str =
     "ue = \"10.0.0.2\"\nrows = 1\ncommands = 1\n\n[default]\nqci = 1\nlevel = 8\ncapability = false\nvulnerability = true\n\n[capacity]\nup = 1\ndown = 1\n";
 
+/// Profiles with another default QCI, and what is said of them.
+static DEFAULT_QCIS: [(&str, &str); 2] = [
+    (
+        UNKNOWN_QCI,
+        "profile fault 5\nUnknownQci: default.qci = 100: a QCI that is standard or declared is expected\n",
+    ),
+    (
+        GBR_QCI,
+        "profile fault 6\nDefaultIsGbr: default.qci = 1: a QCI without guaranteed bit rate is expected\n",
+    ),
+];
+
 #[test]
 fn faults_of_the_default_qci_have_their_numbers(rt: HostRuntime) -> Result<(), Fail> {
-    for (profile, said) in [
-        (
-            UNKNOWN_QCI,
-            "profile fault 5\nUnknownQci: default.qci = 100: a QCI that is standard or declared is expected\n",
-        ),
-        (
-            GBR_QCI,
-            "profile fault 6\nDefaultIsGbr: default.qci = 1: a QCI without guaranteed bit rate is expected\n",
-        ),
-    ] {
+    for &(profile, said) in &DEFAULT_QCIS {
         let due = (1, "", said);
         assert!(rt;
             ends_so(&rt, rt.alloc(), SCRIPT, Some(profile), "x", due)?,
@@ -301,83 +312,74 @@ fn faults_of_the_default_qci_have_their_numbers(rt: HostRuntime) -> Result<(), F
     Ok(())
 }
 
+/// What a script came to, and the status and the text of the program's end.
+static SCRIPT_ENDS: [(Result<u64, ScriptFault>, u8, &str); 9] = [
+    (Ok(0), 0, ""),
+    (Ok(2), 1, ""),
+    (Err(ScriptFault::Read), 4, "read fault\n"),
+    (Err(ScriptFault::TooMuch), 4, "read fault\n"),
+    (Err(ScriptFault::Write), 4, "write fault\n"),
+    (Err(ScriptFault::NoMemory), 3, "want of memory\n"),
+    (
+        Err(ScriptFault::Profile(OpenFault::UnknownQci)),
+        1,
+        "profile fault 5\n",
+    ),
+    (
+        Err(ScriptFault::Profile(OpenFault::DefaultIsGbr)),
+        1,
+        "profile fault 6\n",
+    ),
+    (
+        Err(ScriptFault::Profile(OpenFault::NoMemory)),
+        3,
+        "want of memory\n",
+    ),
+];
+
 #[test]
-fn each_end_has_its_status_and_text(rt: HostRuntime) -> Result<(), Fail> {
-    for (end, status, text) in [
-        (script_end(Ok(0)), 0u8, ""),
-        (script_end(Ok(2)), 1, ""),
-        (script_end(Err(ScriptFault::Read)), 4, "read fault\n"),
-        (script_end(Err(ScriptFault::TooMuch)), 4, "read fault\n"),
-        (unread_end(io::ErrorKind::NotFound), 4, "read fault\n"),
-        (
-            unread_end(io::ErrorKind::OutOfMemory),
-            3,
-            "want of memory\n",
-        ),
-        (script_end(Err(ScriptFault::Write)), 4, "write fault\n"),
-        (
-            script_end(Err(ScriptFault::NoMemory)),
-            3,
-            "want of memory\n",
-        ),
-        (
-            script_end(Err(ScriptFault::Profile(OpenFault::UnknownQci))),
-            1,
-            "profile fault 5\n",
-        ),
-        (
-            script_end(Err(ScriptFault::Profile(OpenFault::DefaultIsGbr))),
-            1,
-            "profile fault 6\n",
-        ),
-        (
-            script_end(Err(ScriptFault::Profile(OpenFault::NoMemory))),
-            3,
-            "want of memory\n",
-        ),
-        (
-            profile_end(ReadProfileFault::NotToml),
-            1,
-            "profile fault 1\n",
-        ),
-        (
-            profile_end(ReadProfileFault::UnknownKey),
-            1,
-            "profile fault 2\n",
-        ),
-        (
-            profile_end(ReadProfileFault::Missing),
-            1,
-            "profile fault 3\n",
-        ),
-        (
-            profile_end(ReadProfileFault::BadValue),
-            1,
-            "profile fault 4\n",
-        ),
-        (
-            profile_end(ReadProfileFault::UnknownQci),
-            1,
-            "profile fault 5\n",
-        ),
-        (
-            profile_end(ReadProfileFault::DefaultIsGbr),
-            1,
-            "profile fault 6\n",
-        ),
-        (
-            profile_end(ReadProfileFault::NoMemory),
-            3,
-            "want of memory\n",
-        ),
-        (
-            End::Usage,
-            2,
-            "usage: pcef script PROFILE | pcef run PROFILE WORKERS\n",
-        ),
-    ] {
+fn each_end_of_a_script_has_its_status_and_text(rt: HostRuntime) -> Result<(), Fail> {
+    for &(ended, status, text) in &SCRIPT_ENDS {
+        let end = script_end(ended);
         assert_eq!(rt; (end.status(), end.text()), (status, text));
     }
+    Ok(())
+}
+
+/// Faults of a profile, and the status and the text of the program's end.
+static PROFILE_ENDS: [(ReadProfileFault, u8, &str); 7] = [
+    (ReadProfileFault::NotToml, 1, "profile fault 1\n"),
+    (ReadProfileFault::UnknownKey, 1, "profile fault 2\n"),
+    (ReadProfileFault::Missing, 1, "profile fault 3\n"),
+    (ReadProfileFault::BadValue, 1, "profile fault 4\n"),
+    (ReadProfileFault::UnknownQci, 1, "profile fault 5\n"),
+    (ReadProfileFault::DefaultIsGbr, 1, "profile fault 6\n"),
+    (ReadProfileFault::NoMemory, 3, "want of memory\n"),
+];
+
+#[test]
+fn each_fault_of_a_profile_has_its_status_and_text(rt: HostRuntime) -> Result<(), Fail> {
+    for &(fault, status, text) in &PROFILE_ENDS {
+        let end = profile_end(fault);
+        assert_eq!(rt; (end.status(), end.text()), (status, text));
+    }
+    Ok(())
+}
+
+/// Why a profile can't be read, and the status and the text of the program's end.
+static UNREAD_ENDS: [(io::ErrorKind, u8, &str); 2] = [
+    (io::ErrorKind::NotFound, 4, "read fault\n"),
+    (io::ErrorKind::OutOfMemory, 3, "want of memory\n"),
+];
+
+#[test]
+fn the_other_ends_have_their_status_and_text(rt: HostRuntime) -> Result<(), Fail> {
+    for &(kind, status, text) in &UNREAD_ENDS {
+        let end = unread_end(kind);
+        assert_eq!(rt; (end.status(), end.text()), (status, text));
+    }
+    let usage = "usage: pcef script PROFILE | pcef run PROFILE WORKERS\n";
+    assert_eq!(rt; (End::Usage.status(), End::Usage.text()), (2, usage));
     Ok(())
 }
 
@@ -457,19 +459,26 @@ fn ends_between<T: Threads + Wait + Sync>(
     Ok(got == status && is_taken && faults.as_slice() == said.as_bytes())
 }
 
+const ANSWER: &str = "{\"fault\":3,\"name\":\"NotJson\"}\n";
+
+const UNREAD: &str =
+    "read fault\nStandard input fails; the whole lines of a script before that are answered.\n";
+
+const UNWRITTEN: &str = "write fault\nStandard output takes no more.\n";
+
+/// Whether the input fails, how much the output takes and whether it can be flushed; and the status, how often it was
+/// flushed, the answers and what is said of faults.
+static FAILING: [(bool, usize, bool, (u8, u64, &str, &str)); 5] = [
+    (false, 100, true, (1, 2, ANSWER, "")),
+    (true, 100, true, (4, 2, ANSWER, UNREAD)),
+    (false, 0, true, (4, 1, "", UNWRITTEN)),
+    (false, 100, false, (4, 2, ANSWER, UNWRITTEN)),
+    (true, 100, false, (4, 2, ANSWER, UNWRITTEN)),
+];
+
 #[test]
 fn failing_ends_and_flushes(rt: HostRuntime) -> Result<(), Fail> {
-    let answer = "{\"fault\":3,\"name\":\"NotJson\"}\n";
-    let unread =
-        "read fault\nStandard input fails; the whole lines of a script before that are answered.\n";
-    let unwritten = "write fault\nStandard output takes no more.\n";
-    for (fails, room, can_flush, flushes, status, answers, said) in [
-        (false, 100, true, 2u64, 1u8, answer, ""),
-        (true, 100, true, 2, 4, answer, unread),
-        (false, 0, true, 1, 4, "", unwritten),
-        (false, 100, false, 2, 4, answer, unwritten),
-        (true, 100, false, 2, 4, answer, unwritten),
-    ] {
+    for &(fails, room, can_flush, due) in &FAILING {
         let input = Input {
             is_given: false,
             fails,
@@ -480,7 +489,6 @@ fn failing_ends_and_flushes(rt: HostRuntime) -> Result<(), Fail> {
             flushes: 0,
             can_flush,
         };
-        let due = (status, flushes, answers, said);
         assert!(rt; ends_between(&rt, rt.alloc(), input, output, due)?);
     }
     Ok(())

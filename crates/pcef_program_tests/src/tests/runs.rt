@@ -125,21 +125,24 @@ fn sixteen_workers_without_a_line(rt: HostRuntime) -> Result<(), Fail> {
     Ok(())
 }
 
+/// Numbers of workers, lines, and what is said of the first that doesn't fit.
+static UNFIT: [(&str, [&str; 4], &str); 3] = [
+    ("1", [INSTALL, MONITOR, FIRST, SECOND], "line 4 fault\n"),
+    (
+        "2",
+        [INSTALL, "", "{\"do\":\"attach\"}", "x"],
+        "line 3 fault\n",
+    ),
+    (
+        "2",
+        [INSTALL, MONITOR, "x", "{\"do\":\"show\"}"],
+        "line 3 fault\n",
+    ),
+];
+
 #[test]
 fn the_first_unfit_line_is_told(rt: HostRuntime) -> Result<(), Fail> {
-    for (workers, lines, said) in [
-        ("1", [INSTALL, MONITOR, FIRST, SECOND], "line 4 fault\n"),
-        (
-            "2",
-            [INSTALL, "", "{\"do\":\"attach\"}", "x"],
-            "line 3 fault\n",
-        ),
-        (
-            "2",
-            [INSTALL, MONITOR, "x", "{\"do\":\"show\"}"],
-            "line 3 fault\n",
-        ),
-    ] {
+    for &(workers, lines, said) in &UNFIT {
         assert!(rt;
             run_ends(&rt, rt.alloc(), workers, &lines, (1, "", said))?,
             "{said}"
@@ -148,19 +151,22 @@ fn the_first_unfit_line_is_told(rt: HostRuntime) -> Result<(), Fail> {
     Ok(())
 }
 
+/// Words that are no number of workers.
+static OTHER_NUMBERS: [&str; 8] = [
+    "0",
+    "17",
+    "01",
+    "+1",
+    "",
+    "20",
+    "1 ",
+    "999999999999999999999",
+];
+
 #[test]
 fn other_numbers_of_workers_are_usage(rt: HostRuntime) -> Result<(), Fail> {
     let usage = "usage: pcef script PROFILE | pcef run PROFILE WORKERS\n";
-    for workers in [
-        "0",
-        "17",
-        "01",
-        "+1",
-        "",
-        "20",
-        "1 ",
-        "999999999999999999999",
-    ] {
+    for &workers in &OTHER_NUMBERS {
         assert!(rt;
             run_ends(&rt, rt.alloc(), workers, &[FIRST], (2, "", usage))?,
             "{workers}"
@@ -172,12 +178,12 @@ fn other_numbers_of_workers_are_usage(rt: HostRuntime) -> Result<(), Fail> {
 #[test]
 fn a_session_that_was_closed_before_its_packets(rt: HostRuntime) -> Result<(), Fail> {
     let close = "{\"do\":\"close\"}";
-    for lines in [
+    for lines in &[
         [INSTALL, MONITOR, close, FIRST, SECOND],
         [INSTALL, MONITOR, "", "", close],
     ] {
         let due = (4, "", "run fault 5\n");
-        assert!(rt; run_ends(&rt, rt.alloc(), "2", &lines, due)?);
+        assert!(rt; run_ends(&rt, rt.alloc(), "2", lines, due)?);
     }
     Ok(())
 }

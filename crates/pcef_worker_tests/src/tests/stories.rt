@@ -1,17 +1,26 @@
-//! The tables. In each, what happens stands beside what it tells.
+//! The stories. In each, what happens stands beside what it tells.
 
 use super::Step::*;
 use super::*;
 
-#[test]
-fn a_refused_flush_keeps_the_rows(rt: HostRuntime) -> Result<(), Fail> {
+/// What happens in a session that takes so many rows, behind a lock with so many places for workers, and what the end
+/// tells.
+#[derive(Clone, Copy)]
+struct Story {
+    name: &'static str,
+    rows: u32,
+    places: u8,
+    steps: Table<'static>,
+    end: [u64; 7],
+}
+
+static STORIES: [Story; 14] = [
     // The session takes one row, and two wait. Nothing of them comes to it, since a later worker's row is taken.
-    let told = tell(
-        &rt,
-        rt.alloc(),
-        1,
-        2,
-        &[
+    Story {
+        name: "a refused flush keeps the rows",
+        rows: 1,
+        places: 2,
+        steps: &[
             (Install, [1, 1, 0, 0]),
             (Monitor, [1, 2, 0, 0]),
             (Come, [1, 0, 2, 0]),
@@ -27,19 +36,13 @@ fn a_refused_flush_keeps_the_rows(rt: HostRuntime) -> Result<(), Fail> {
             (Abandon, [1, 1, 1, 0]),
             (AskForReport, [0, 1, 0, 40]),
         ],
-    )?;
-    assert_eq!(rt; told, (None, [1, 1, 2, 40, 40, 0, 1]));
-    Ok(())
-}
-
-#[test]
-fn as_many_rows_wait_as_may(rt: HostRuntime) -> Result<(), Fail> {
-    let told = tell(
-        &rt,
-        rt.alloc(),
-        100,
-        2,
-        &[
+        end: [1, 1, 2, 40, 40, 0, 1],
+    },
+    Story {
+        name: "as many rows wait as may",
+        rows: 100,
+        places: 2,
+        steps: &[
             (Install, [1, 1, 0, 0]),
             (Monitor, [1, 2, 0, 0]),
             (Come, [1, 0, 2, 0]),
@@ -49,19 +52,13 @@ fn as_many_rows_wait_as_may(rt: HostRuntime) -> Result<(), Fail> {
             (Waiting, [1, 32, 40, 0]),
             (Abandon, [1, 0, 32, 1]),
         ],
-    )?;
-    assert_eq!(rt; told, (None, [1, 32, 1, 896, 0, 896, 1]));
-    Ok(())
-}
-
-#[test]
-fn what_two_workers_hand_in(rt: HostRuntime) -> Result<(), Fail> {
-    let told = tell(
-        &rt,
-        rt.alloc(),
-        100,
-        2,
-        &[
+        end: [1, 32, 1, 896, 0, 896, 1],
+    },
+    Story {
+        name: "what two workers hand in",
+        rows: 100,
+        places: 2,
+        steps: &[
             (Install, [1, 1, 0, 0]),
             (Monitor, [1, 2, 0, 0]),
             (Come, [1, 0, 2, 0]),
@@ -78,38 +75,26 @@ fn what_two_workers_hand_in(rt: HostRuntime) -> Result<(), Fail> {
             (HandedIn(1), [1, 600, 0, 0]),
             (AskForReport, [0, 1, 0, 1256]),
         ],
-    )?;
-    assert_eq!(rt; told, (None, [1, 4, 0, 1256, 1256, 0, 1]));
-    Ok(())
-}
-
-#[test]
-fn a_place_is_taken_once(rt: HostRuntime) -> Result<(), Fail> {
-    let told = tell(
-        &rt,
-        rt.alloc(),
-        100,
-        1,
-        &[
+        end: [1, 4, 0, 1256, 1256, 0, 1],
+    },
+    Story {
+        name: "a place is taken once",
+        rows: 100,
+        places: 1,
+        steps: &[
             (Come, [1, 0, 0, 0]),
             (CanNotCome(AttachFault::NoPlace), [1, 0, 0, 0]),
             (Abandon, [1, 0, 0, 0]),
             (CanNotCome(AttachFault::NoPlace), [1, 0, 0, 0]),
         ],
-    )?;
-    assert_eq!(rt; told, (None, [1, 0, 0, 0, 0, 0, 0]));
-    Ok(())
-}
-
-#[test]
-fn a_worker_meets_the_newest_table(rt: HostRuntime) -> Result<(), Fail> {
+        end: [1, 0, 0, 0, 0, 0, 0],
+    },
     // The rule and its key make generation 2 after the worker came.
-    let told = tell(
-        &rt,
-        rt.alloc(),
-        100,
-        2,
-        &[
+    Story {
+        name: "a worker meets the newest table",
+        rows: 100,
+        places: 2,
+        steps: &[
             (Come, [1, 0, 0, 0]),
             (Install, [1, 1, 0, 0]),
             (Monitor, [1, 2, 0, 0]),
@@ -123,19 +108,14 @@ fn a_worker_meets_the_newest_table(rt: HostRuntime) -> Result<(), Fail> {
             (Judge, [1, 2, 1, 5]),
             (Abandon, [1, 0, 2, 0]),
         ],
-    )?;
-    assert_eq!(rt; told, (None, [1, 2, 0, 56, 28, 28, 1]));
-    Ok(())
-}
-
-#[test]
-fn a_worker_that_refreshes_late_judges_by_what_it_held(rt: HostRuntime) -> Result<(), Fail> {
-    let told = tell(
-        &rt,
-        rt.alloc(),
-        100,
-        2,
-        &[
+        end: [1, 2, 0, 56, 28, 28, 1],
+    },
+    // The rule's key has its slot, and isn't monitored.
+    Story {
+        name: "a worker that refreshes late judges by what it held",
+        rows: 100,
+        places: 2,
+        steps: &[
             (Come, [1, 0, 0, 0]),
             (Take(28), [1, 1, 0, 0]),
             (Install, [1, 1, 0, 0]),
@@ -145,21 +125,14 @@ fn a_worker_that_refreshes_late_judges_by_what_it_held(rt: HostRuntime) -> Resul
             (Judge, [1, 1, 1, 5]),
             (Abandon, [1, 0, 2, 0]),
         ],
-    )?;
-    // The rule's key has its slot, and isn't monitored.
-    assert_eq!(rt; told, (None, [1, 2, 0, 0, 0, 0, 1]));
-    Ok(())
-}
-
-#[test]
-fn a_session_ends_when_its_workers_have_left(rt: HostRuntime) -> Result<(), Fail> {
+        end: [1, 2, 0, 0, 0, 0, 1],
+    },
     // There is one more place, and nobody can take it, since the session was closed.
-    let told = tell(
-        &rt,
-        rt.alloc(),
-        100,
-        3,
-        &[
+    Story {
+        name: "a session ends when its workers have left",
+        rows: 100,
+        places: 3,
+        steps: &[
             (Come, [1, 0, 0, 0]),
             (Come, [1, 1, 0, 0]),
             (Terminate, [1, 2, 0, 0]),
@@ -170,20 +143,15 @@ fn a_session_ends_when_its_workers_have_left(rt: HostRuntime) -> Result<(), Fail
             (Terminate, [1, 0, 0, 0]),
             (CanNotCome(AttachFault::Closed), [1, 0, 0, 0]),
         ],
-    )?;
-    assert_eq!(rt; told, (None, [1, 0, 0, 0, 0, 0, 0]));
-    Ok(())
-}
-
-#[test]
-fn a_worker_judges_by_the_generation_that_it_holds(rt: HostRuntime) -> Result<(), Fail> {
+        end: [1, 0, 0, 0, 0, 0, 0],
+    },
     // The rule and its key made generation 2. The rule goes while the worker holds that table, and comes again.
-    let told = tell(
-        &rt,
-        rt.alloc(),
-        100,
-        2,
-        &[
+    // The key went off with its last rule, so the fourth packet counts for none.
+    Story {
+        name: "a worker judges by the generation that it holds",
+        rows: 100,
+        places: 2,
+        steps: &[
             (Install, [1, 1, 0, 0]),
             (Monitor, [1, 2, 0, 0]),
             (Come, [1, 0, 2, 0]),
@@ -201,42 +169,14 @@ fn a_worker_judges_by_the_generation_that_it_holds(rt: HostRuntime) -> Result<()
             (Judge, [3, 0, 4, 1]),
             (Abandon, [1, 0, 4, 0]),
         ],
-    )?;
-    // The key went off with its last rule, so the fourth packet counts for none.
-    assert_eq!(rt; told, (None, [1, 4, 0, 28, 0, 28, 1]));
-    Ok(())
-}
-
-#[test]
-fn a_worker_that_finds_no_memory_can_go_on(rt: HostRuntime) -> Result<(), Fail> {
-    // `rt try --test --fail-alloc N` lets the Nth allocation fail.
-    let told = tell(
-        &rt,
-        rt.alloc(),
-        100,
-        2,
-        &[
-            (Install, [1, 1, 0, 0]),
-            (Monitor, [1, 2, 0, 0]),
-            (ComeAtLast, [1, 0, 2, 0]),
-            (Take(28), [1, 1, 0, 2]),
-            (FlushAtLast, [1, 0, 1, 2]),
-            (Abandon, [1, 0, 1, 0]),
-        ],
-    )?;
-    assert_eq!(rt; told, (None, [1, 1, 0, 28, 0, 28, 1]));
-    Ok(())
-}
-
-#[test]
-fn what_two_workers_hand_in_is_gathered(rt: HostRuntime) -> Result<(), Fail> {
+        end: [1, 4, 0, 28, 0, 28, 1],
+    },
     // A report tells of the first worker's rows. The second one gives up a row.
-    let told = tell(
-        &rt,
-        rt.alloc(),
-        100,
-        2,
-        &[
+    Story {
+        name: "what two workers hand in is gathered",
+        rows: 100,
+        places: 2,
+        steps: &[
             (Install, [1, 1, 0, 0]),
             (Monitor, [1, 2, 0, 0]),
             (Come, [1, 0, 2, 0]),
@@ -251,20 +191,14 @@ fn what_two_workers_hand_in_is_gathered(rt: HostRuntime) -> Result<(), Fail> {
             (Take(40), [1, 1, 1, 2]),
             (Abandon, [1, 1, 1, 1]),
         ],
-    )?;
-    assert_eq!(rt; told, (None, [1, 3, 1, 656, 628, 28, 1]));
-    Ok(())
-}
-
-#[test]
-fn rows_of_an_older_generation_count_after_a_close(rt: HostRuntime) -> Result<(), Fail> {
+        end: [1, 3, 1, 656, 628, 28, 1],
+    },
     // The rules go with the close, while the worker holds generation 2.
-    let told = tell(
-        &rt,
-        rt.alloc(),
-        100,
-        2,
-        &[
+    Story {
+        name: "rows of an older generation count after a close",
+        rows: 100,
+        places: 2,
+        steps: &[
             (Install, [1, 1, 0, 0]),
             (Monitor, [1, 2, 0, 0]),
             (Come, [1, 0, 2, 0]),
@@ -274,80 +208,82 @@ fn rows_of_an_older_generation_count_after_a_close(rt: HostRuntime) -> Result<()
             (Judge, [2, 1, 2, 1]),
             (Abandon, [1, 0, 2, 0]),
         ],
-    )?;
-    assert_eq!(rt; told, (None, [1, 2, 0, 628, 0, 628, 1]));
-    Ok(())
-}
-
-#[test]
-fn a_worker_that_is_held_up_hands_over_later(rt: HostRuntime) -> Result<(), Fail> {
-    let told = tell(
-        &rt,
-        rt.alloc(),
-        100,
-        2,
-        &[
+        end: [1, 2, 0, 628, 0, 628, 1],
+    },
+    Story {
+        name: "a worker that is held up hands over later",
+        rows: 100,
+        places: 2,
+        steps: &[
             (Install, [1, 1, 0, 0]),
             (Monitor, [1, 2, 0, 0]),
             (HoldUp, [1, 0, 1, 1]),
             (AskForReport, [0, 1, 0, 56]),
         ],
-    )?;
-    assert_eq!(rt; told, (None, [1, 2, 0, 56, 56, 0, 1]));
-    Ok(())
-}
-
-#[test]
-fn rows_of_two_threads_are_gathered_unreported(rt: HostRuntime) -> Result<(), Fail> {
-    let told = tell(
-        &rt,
-        rt.alloc(),
-        100,
-        2,
-        &[
+        end: [1, 2, 0, 56, 56, 0, 1],
+    },
+    Story {
+        name: "rows of two threads are gathered unreported",
+        rows: 100,
+        places: 2,
+        steps: &[
             (Install, [1, 1, 0, 0]),
             (Monitor, [1, 2, 0, 0]),
             (HoldUp, [1, 0, 1, 1]),
             (Collect(Cause::Requested), [0, 0, 0, 0]),
         ],
-    )?;
-    assert_eq!(rt; told, (None, [1, 2, 0, 56, 0, 56, 1]));
-    Ok(())
-}
-
-#[test]
-fn a_last_flush_and_the_leaving_are_one(rt: HostRuntime) -> Result<(), Fail> {
+        end: [1, 2, 0, 56, 0, 56, 1],
+    },
     // Nobody is attached where the flush was answered, and the octets are reported as the session ends.
-    let told = tell(
-        &rt,
-        rt.alloc(),
-        100,
-        2,
-        &[
+    Story {
+        name: "a last flush and the leaving are one",
+        rows: 100,
+        places: 2,
+        steps: &[
             (Install, [1, 1, 0, 0]),
             (Monitor, [1, 2, 0, 0]),
             (LastFlush, [1, 0, 2, 0]),
         ],
-    )?;
-    assert_eq!(rt; told, (None, [1, 2, 0, 628, 628, 0, 1]));
-    Ok(())
-}
-
-#[test]
-fn sixteen_workers_finish_while_the_session_is_terminated(rt: HostRuntime) -> Result<(), Fail> {
+        end: [1, 2, 0, 628, 628, 0, 1],
+    },
     // What they hand in isn't kept.
-    let told = tell(
-        &rt,
-        rt.alloc(),
-        100,
-        16,
-        &[
+    Story {
+        name: "sixteen workers finish while the session is terminated",
+        rows: 100,
+        places: 16,
+        steps: &[
             (Install, [1, 1, 0, 0]),
             (Monitor, [1, 2, 0, 0]),
             (Crowd, [16, 1, 0, 0]),
             (Collect(Cause::Terminated), [1, 0, 448, 0]),
         ],
-    )?;
-    assert_eq!(rt; told, (None, [16; 7]));
+        end: [16; 7],
+    },
+];
+
+#[test]
+fn each_step_tells_what_stands_beside_it(rt: HostRuntime) -> Result<(), Fail> {
+    for story in &STORIES {
+        let told = tell(&rt, rt.alloc(), story.rows, story.places, story.steps)?;
+        assert_eq!(rt; told, (None, story.end), "{}", story.name);
+    }
+    Ok(())
+}
+
+/// A worker comes and flushes, where memory may be refused once for each.
+const WITHOUT_MEMORY: Table<'static> = &[
+    (Install, [1, 1, 0, 0]),
+    (Monitor, [1, 2, 0, 0]),
+    (ComeAtLast, [1, 0, 2, 0]),
+    (Take(28), [1, 1, 0, 2]),
+    (FlushAtLast, [1, 0, 1, 2]),
+    (Abandon, [1, 0, 1, 0]),
+];
+
+#[test]
+fn a_worker_that_finds_no_memory_can_go_on(rt: HostRuntime) -> Result<(), Fail> {
+    // `rt try --test --fail-alloc N` lets the Nth allocation fail.
+    let told = tell(&rt, rt.alloc(), 100, 2, WITHOUT_MEMORY)?;
+    assert_eq!(rt; told, (None, [1, 1, 0, 28, 0, 28, 1]));
     Ok(())
 }

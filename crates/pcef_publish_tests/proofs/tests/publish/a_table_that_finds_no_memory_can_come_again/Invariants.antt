@@ -1,5 +1,5 @@
 use Rattle.pcef_share.specs.Names.{no_setting}
-use Rattle.pcef_publish_tests.proofs.tests.a_table_that_finds_no_memory_can_come_again.Given as goal
+use Rattle.pcef_publish_tests.proofs.tests.publish.a_table_that_finds_no_memory_can_come_again.Given as goal
 
 -- the session of the opened history
 abbrev pub ghosts-twice_published : goal.ghosts-twice_published

@@ -1,5 +1,5 @@
 use Rattle.pcef_share.specs.Names.{no_setting}
-use Rattle.pcef_publish_tests.proofs.tests.a_refresh_finds_the_newest_table.Given as goal
+use Rattle.pcef_publish_tests.proofs.tests.publish.a_refresh_finds_the_newest_table.Given as goal
 
 -- the session of the opened history
 abbrev pub ghosts-finds_the_newest : goal.ghosts-finds_the_newest

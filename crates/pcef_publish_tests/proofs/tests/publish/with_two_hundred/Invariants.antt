@@ -1,5 +1,5 @@
 use Rattle.std.specs.Prelude.{◌+◌, ◌-◌, length}
-use Rattle.pcef_publish_tests.proofs.tests.with_two_hundred.Given as goal
+use Rattle.pcef_publish_tests.proofs.tests.publish.with_two_hundred.Given as goal
 
 -- the generations up to the one of number 200
 abbrev pub decreases-tables : goal.decreases-tables

@@ -1,5 +1,5 @@
 use Rattle.pcef_share.specs.Names.{no_setting}
-use Rattle.pcef_publish_tests.proofs.tests.a_reader_beside_the_publisher_never_goes_back.Given as goal
+use Rattle.pcef_publish_tests.proofs.tests.publish.a_reader_beside_the_publisher_never_goes_back.Given as goal
 
 -- the session of the opened history
 abbrev pub ghosts-read_beside_the_publisher : goal.ghosts-read_beside_the_publisher

@@ -1,0 +1,4 @@
+//! Sessions that threads share.
+
+mod gateway;
+mod lock;

@@ -1,0 +1,114 @@
+//! Runs that come to nothing, and those at a limit.
+
+use super::*;
+use pcef_worker::OpenGate;
+
+/// The fault of a run of a new session without commands.
+fn fault<R: Threads + Wait + Sync>(
+    rt: &R,
+    alloc: Global,
+    arrivals: Vec<Arrival>,
+    workers: u8,
+) -> Result<Option<RunFault>, Fail> {
+    let commands = Vec::new(alloc);
+    let ended = run(
+        rt,
+        alloc,
+        session(alloc, 1000)?,
+        arrivals,
+        commands,
+        workers,
+        &OpenGate,
+    )?;
+    Ok(ended.err())
+}
+
+#[test]
+fn there_are_one_to_sixteen_workers(rt: HostRuntime) -> Result<(), Fail> {
+    let alloc = rt.alloc();
+    assert_eq!(rt;
+        fault(&rt, alloc, Vec::new(alloc), 0)?,
+        Some(RunFault::Workers)
+    );
+    assert_eq!(rt;
+        fault(&rt, alloc, packets(alloc, 1, 1)?, 0)?,
+        Some(RunFault::Workers)
+    );
+    assert_eq!(rt;
+        fault(&rt, alloc, Vec::new(alloc), 17)?,
+        Some(RunFault::Workers)
+    );
+    Ok(())
+}
+
+#[test]
+fn sixteen_workers_may_come(rt: HostRuntime) -> Result<(), Fail> {
+    let alloc = rt.alloc();
+    let (arrivals, commands) = (Vec::new(alloc), Vec::new(alloc));
+    let ended = run(
+        &rt,
+        alloc,
+        session(alloc, 1000)?,
+        arrivals,
+        commands,
+        16,
+        &OpenGate,
+    )??;
+    assert_eq!(rt; figures_of(ended)?, Figures::default());
+    Ok(())
+}
+
+#[test]
+fn a_packet_for_nobody_is_refused(rt: HostRuntime) -> Result<(), Fail> {
+    let alloc = rt.alloc();
+    let arrivals = packets(alloc, 1, 3)?;
+    assert_eq!(rt;
+        fault(&rt, alloc, arrivals, 2)?,
+        Some(RunFault::StrangeWorker)
+    );
+    Ok(())
+}
+
+#[test]
+fn no_worker_comes_to_a_closed_session(rt: HostRuntime) -> Result<(), Fail> {
+    let alloc = rt.alloc();
+    let closed = accepted(monitored(alloc)?, Command::Close)?;
+    let (arrivals, commands) = (packets(alloc, 1, 1)?, Vec::new(alloc));
+    match run(&rt, alloc, closed, arrivals, commands, 1, &OpenGate)?.err() {
+        Some(RunFault::Attach) => {}
+        Some(other) => return Err(other)?,
+        None => return Err("a worker came to a closed session")?,
+    }
+    assert_eq!(rt; RunFault::Attach.number(), 5);
+    Ok(())
+}
+
+// A first flush of one row is taken over, each other one is refused: the worker gives the rows of that up, and drops
+// what comes later.
+#[test]
+fn each_packet_of_a_full_session_is_told_of(rt: HostRuntime) -> Result<(), Fail> {
+    let alloc = rt.alloc();
+    let (arrivals, commands) = (packets(alloc, 100, 1)?, Vec::new(alloc));
+    let ended = run(
+        &rt,
+        alloc,
+        session(alloc, 1)?,
+        arrivals,
+        commands,
+        1,
+        &OpenGate,
+    )??;
+    let told = figures_of(ended)?;
+    assert!(rt; told.rows <= 1);
+    let left = 100u64
+        .saturating_sub(told.rows)
+        .saturating_sub(told.abandoned);
+    let expected = Figures {
+        rows: told.rows,
+        abandoned: told.abandoned,
+        dropped: left,
+        ..Figures::default()
+    };
+    assert_eq!(rt; told, expected);
+    Ok(())
+}

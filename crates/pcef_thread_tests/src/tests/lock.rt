@@ -1,0 +1,283 @@
+//! A session of two workers behind its lock, whose octets were counted by hand.
+ghost use Rattle.std.specs.Prelude.{◌≡◌, []};
+ghost use Rattle.std.specs.Arc.{arc_value};
+ghost use Rattle.pcef_model.specs.Journals.{gen};
+ghost use Rattle.pcef_session.specs.Shown.{Shows};
+ghost use Rattle.pcef_share.specs.Names.{name_at};
+
+mod opening;
+
+use pcef_catalog::{Catalog, Detects, Offers};
+use pcef_lock::{Desk, Seat, Shared, State, opened};
+use pcef_model::{Body, Command};
+use pcef_packet::Header;
+use pcef_publish::{Board, Opened, Slot};
+use pcef_session::{Batch, SessionState};
+use pcef_share::{Blanks, Naming, Shares};
+use pcef_test_sessions::{monitor, packet, packet_from, session, vid, web};
+use std::alloc::Global;
+use std::marker::Brand;
+use std::sync::{Arc, Wait};
+use std::test::*;
+
+#[test]
+fn rows_count_for_the_keys_of_their_tables(rt: HostRuntime) -> Result<(), Fail> {
+    let session = session(rt.alloc(), 1000)?;
+    let opened = opened(&session)?;
+    let (before, after) = judged_and_flushed::<Brand, _>(
+        &rt,
+        rt.alloc(),
+        session,
+        opened,
+        Blanks::new(),
+    )?;
+    assert_eq!(rt; before, [0, 0, 0, 0, 0, 0, 0, 0, 0, 2]);
+    assert_eq!(rt; after, [628, 0, 0, 0, 0, 0, 0, 0, 3, 2]);
+    Ok(())
+}
+
+// The books after a rule and a key came, and after two workers handed over packets of 28, 600 and 40 octets, of which
+// the last has no rule.
+fn judged_and_flushed<N: Naming, R: Wait + Drop>(
+    rt: R,
+    alloc: Global,
+    session: SessionState,
+    opened: Opened,
+    blanks: Blanks,
+) -> Result<([u64; 10], [u64; 10]), Fail>
+    requires name { N.ledger ≡ name_at blanks }
+    requires setting { session.setting ≡ N.setting }
+    requires fresh { session.journal ≡ [] }
+    requires offers { session.setting.catalog ≡ [] }
+    requires first { N.first ≡ gen session.journal }
+    requires table { Shows session.setting session.journal (gen session.journal) opened.table }
+    requires book { (opened.book ≡ N.book) × (opened.root ≡ N.root) }
+{
+    let catalog = Catalog::new(alloc, Vec::new(alloc))?;
+    match State::<N, _>::open(rt, alloc, session, opened, blanks, 2).ok() {
+        Some((mut state, mut desk)) => books_around_rows(alloc, &catalog, &mut state, &mut desk),
+        None => Err("the session didn't come behind a lock")?,
+    }
+}
+
+// One worker comes before the key, the other one after it.
+fn books_around_rows<C: Detects, N: Naming, W: Board<Slot<N>> + Drop>(
+    alloc: Global,
+    catalog: &C,
+    state: &mut State<N, W>,
+    desk: &mut Shares<N>,
+) -> Result<([u64; 10], [u64; 10]), Fail>
+    requires offers { C.offers catalog.now ≡ N.setting.catalog }
+{
+    state.command(desk, Command::Install(web(alloc)?))?;
+    match state.attach() {
+        Ok(mut late) => books_around_late(alloc, catalog, state, desk, &mut late),
+        Err(fault) => Err(fault)?,
+    }
+}
+
+// The key comes, and the worker after it.
+fn books_around_late<C: Detects, N: Naming, W: Board<Slot<N>> + Drop>(
+    alloc: Global,
+    catalog: &C,
+    state: &mut State<N, W>,
+    desk: &mut Shares<N>,
+    late: &mut Seat<N>,
+) -> Result<([u64; 10], [u64; 10]), Fail>
+    requires offers { C.offers catalog.now ≡ N.setting.catalog }
+    requires late { late.old.ue ≡ N.setting.ue }
+{
+    state.command(desk, monitor(1000)?)?;
+    match state.attach() {
+        Ok(mut quick) => books_of_both(alloc, catalog, state, late, &mut quick),
+        Err(fault) => Err(fault)?,
+    }
+}
+
+// Both hand their rows over.
+fn books_of_both<C: Detects, N: Naming, W: Board<Slot<N>> + Drop>(
+    alloc: Global,
+    catalog: &C,
+    state: &mut State<N, W>,
+    late: &mut Seat<N>,
+    quick: &mut Seat<N>,
+) -> Result<([u64; 10], [u64; 10]), Fail>
+    requires offers { C.offers catalog.now ≡ N.setting.catalog }
+    requires late { late.old.ue ≡ N.setting.ue }
+    requires quick { quick.old.ue ≡ N.setting.ue }
+{
+    let before = state.totals();
+    hand_over(alloc, catalog, state, quick)?;
+    leave(alloc, catalog, state, late)?;
+    Ok((before, state.totals()))
+}
+
+// A worker hands over packets of 28 and 600 octets.
+fn hand_over<C: Detects, N: Naming, W: Board<Slot<N>> + Drop>(
+    alloc: Global,
+    catalog: &C,
+    state: &mut State<N, W>,
+    seat: &mut Seat<N>,
+) -> Result<(), Fail>
+    requires offers { C.offers catalog.now ≡ N.setting.catalog }
+    requires ue { seat.old.ue ≡ N.setting.ue }
+{
+    let mut batch = Batch::new(alloc)?;
+    batch.push(seat.judge(catalog, 0, &packet(28)));
+    batch.push(seat.judge(catalog, 1, &packet(600)));
+    state.flush(seat, &batch)?;
+    Ok(())
+}
+
+// A worker leaves with a packet of 40 octets that no rule fits.
+fn leave<C: Detects, N: Naming, W: Board<Slot<N>> + Drop>(
+    alloc: Global,
+    catalog: &C,
+    state: &mut State<N, W>,
+    seat: &mut Seat<N>,
+) -> Result<(), Fail>
+    requires offers { C.offers catalog.now ≡ N.setting.catalog }
+    requires ue { seat.old.ue ≡ N.setting.ue }
+{
+    let mut batch = Batch::new(alloc)?;
+    batch.push(seat.judge(catalog, 0, &packet_from(54, 40)));
+    state.finish(seat, &batch)?;
+    Ok(())
+}
+
+#[test]
+fn two_workers_hand_over_and_the_desk_is_told(rt: HostRuntime) -> Result<(), Fail> {
+    let session = session(rt.alloc(), 1000)?;
+    let opened = opened(&session)?;
+    let catalog = Arc::new(rt.alloc(), Catalog::new(rt.alloc(), Vec::new(rt.alloc()))?)?;
+    let told = told_to_the_desk::<Catalog, Brand, _>(
+        &rt,
+        rt.alloc(),
+        catalog,
+        session,
+        opened,
+        Blanks::new(),
+    )?;
+    assert_eq!(rt; told, [200, 100, 65_600, 0, 3]);
+    Ok(())
+}
+
+// How many rows of 28 octets one worker hands over and how many of 600 the other, what a report that is then asked for
+// says of their key, how many reports come after it, and how many commands the desk has.
+fn told_to_the_desk<C: Detects + Drop, N: Naming, R: Wait + Drop>(
+    rt: &R,
+    alloc: Global,
+    catalog: Arc<C>,
+    session: SessionState,
+    opened: Opened,
+    blanks: Blanks,
+) -> Result<[u64; 5], Fail>
+    requires name { N.ledger ≡ name_at blanks }
+    requires setting { session.setting ≡ N.setting }
+    requires fresh { session.journal ≡ [] }
+    requires offers { C.offers (arc_value catalog) ≡ session.setting.catalog }
+    requires first { N.first ≡ gen session.journal }
+    requires table { Shows session.setting session.journal (gen session.journal) opened.table }
+    requires book { (opened.book ≡ N.book) × (opened.root ≡ N.root) }
+{
+    let (shared, mut desk) = Shared::<C, N, _>::open(
+        rt, alloc, catalog, session, opened, blanks, 2,
+    )?;
+    told_by(rt, alloc, &shared, &mut desk)
+}
+
+fn told_by<C: Detects + Drop, N: Naming, W: Board<Slot<N>> + Drop, R: Wait>(
+    rt: &R,
+    alloc: Global,
+    shared: &Shared<C, N, W>,
+    desk: &mut Desk<N>,
+) -> Result<[u64; 5], Fail> {
+    give_commands(rt, alloc, shared, desk)?;
+    let (one, two) = handed_over_by_two(rt, alloc, shared)?;
+    let (octets, later) = reported(rt, shared, desk)?;
+    Ok([one, two, octets, later, desk.commands().len() as u64])
+}
+
+// The desk installs the rule and monitors its key.
+fn give_commands<C: Offers + Drop, N: Naming, W: Board<Slot<N>> + Drop, R: Wait>(
+    rt: &R,
+    alloc: Global,
+    shared: &Shared<C, N, W>,
+    desk: &mut Desk<N>,
+) -> Result<(), Fail> {
+    desk.command(rt, shared, Command::Install(web(alloc)?))?;
+    desk.command(rt, shared, monitor(1000)?)?;
+    Ok(())
+}
+
+// Two workers come, and hand rows over.
+fn handed_over_by_two<C: Detects + Drop, N: Naming, W: Board<Slot<N>> + Drop, R: Wait>(
+    rt: &R,
+    alloc: Global,
+    shared: &Shared<C, N, W>,
+) -> Result<(u64, u64), Fail> {
+    let one = shared.attach(rt)?;
+    let two = shared.attach(rt)?;
+    let small = handed_over(rt, alloc, shared, one, &packet(28), 200);
+    let large = handed_over(rt, alloc, shared, two, &packet(600), 100);
+    Ok((small, large))
+}
+
+// The octets of the report that the desk asks for, and how many reports come after it.
+fn reported<C: Offers + Drop, N: Naming, W: Board<Slot<N>> + Drop, R: Wait>(
+    rt: &R,
+    shared: &Shared<C, N, W>,
+    desk: &mut Desk<N>,
+) -> Result<(u64, u64), Fail> {
+    desk.command(rt, shared, Command::ReportNow(vid()?))?;
+    let reports = desk.collect(rt, shared)?;
+    let [report] = reports.as_slice() else {
+        return Err("there is one report")?;
+    };
+    let Body::Usage { octets, .. } = &report.body else {
+        return Err("the report is of usage")?;
+    };
+    let later = desk.collect(rt, shared)?;
+    Ok((*octets, later.len() as u64))
+}
+
+// Hands rows over one by one, each in one hold of the lock, and gives how many were taken over.
+fn handed_over<C: Detects + Drop, N: Naming, W: Board<Slot<N>> + Drop, R: Wait>(
+    rt: &R,
+    alloc: Global,
+    shared: &Shared<C, N, W>,
+    mut seat: Seat<N>,
+    header: &Header,
+    times: u64,
+) -> u64
+    requires { seat.ue ≡ N.setting.ue }
+{
+    let mut taken = 0;
+    for seq in 0..times {
+        if is_handed_over(rt, alloc, shared, &mut seat, header, seq) {
+            taken += 1;
+        }
+    }
+    taken
+}
+
+fn is_handed_over<C: Detects + Drop, N: Naming, W: Board<Slot<N>> + Drop, R: Wait>(
+    rt: &R,
+    alloc: Global,
+    shared: &Shared<C, N, W>,
+    seat: &mut Seat<N>,
+    header: &Header,
+    seq: u64,
+) -> bool
+    requires { seat.old.ue ≡ N.setting.ue }
+    ensures { seat.new.ue ≡ seat.old.ue }
+{
+    let Ok(catalog) = shared.catalog() else {
+        return false;
+    };
+    let Ok(mut batch) = Batch::new(alloc) else {
+        return false;
+    };
+    batch.push(seat.judge(&*catalog, seq, header));
+    shared.flush(rt, seat, &batch).is_ok()
+}

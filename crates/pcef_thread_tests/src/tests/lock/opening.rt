@@ -1,0 +1,52 @@
+//! How many places for workers a lock may have.
+
+ghost use Rattle.std.specs.Prelude.{◌≡◌, []};
+ghost use Rattle.pcef_model.specs.Journals.{gen};
+ghost use Rattle.pcef_session.specs.Shown.{Shows};
+ghost use Rattle.pcef_share.specs.Names.{name_at};
+
+use super::*;
+use pcef_lock::SharedFault;
+use std::thread::Threads;
+
+#[test]
+fn a_lock_has_one_to_sixteen_places(rt: HostRuntime) -> Result<(), Fail> {
+    let told = [
+        tell_places(&rt, rt.alloc(), 0)?,
+        tell_places(&rt, rt.alloc(), 1)?,
+        tell_places(&rt, rt.alloc(), 16)?,
+        tell_places(&rt, rt.alloc(), 17)?,
+    ];
+    assert_eq!(rt; told, [1, 0, 0, 1]);
+    Ok(())
+}
+
+// Tells of a lock with so many places.
+fn tell_places<R: Threads + Wait + Sync>(rt: &R, alloc: Global, places: u8) -> Result<u64, Fail> {
+    let session = session(alloc, 100)?;
+    let opened = opened(&session)?;
+    refused_places::<Brand, _>(rt, alloc, session, opened, Blanks::new(), places)
+}
+
+// 1 where there may not be so many places, 0 where the session comes behind its lock.
+fn refused_places<N: Naming, R: Wait + Drop>(
+    rt: R,
+    alloc: Global,
+    session: SessionState,
+    opened: Opened,
+    blanks: Blanks,
+    places: u8,
+) -> Result<u64, Fail>
+    requires name { N.ledger ≡ name_at blanks }
+    requires setting { session.setting ≡ N.setting }
+    requires fresh { session.journal ≡ [] }
+    requires first { N.first ≡ gen session.journal }
+    requires table { Shows session.setting session.journal (gen session.journal) opened.table }
+    requires book { (opened.book ≡ N.book) × (opened.root ≡ N.root) }
+{
+    match State::<N, _>::open(rt, alloc, session, opened, blanks, places).err() {
+        None => Ok(0),
+        Some((_, SharedFault::Places)) => Ok(1),
+        Some(_) => Err("neither open nor refused for its places")?,
+    }
+}
