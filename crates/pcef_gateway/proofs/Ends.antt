@@ -1,12 +1,14 @@
 -- What a session's run comes to, by what was handed in.
-use Rattle.std.proofs.Common.{◌≡◌, ◌≢◌, ◌∙◌, ◌<◌, ◌+◌, ℕ, zero, suc, true, false, ◌==◌, List, [], ◌∷◌, ◌++◌, All, Some, find, length, filter, map, reverse, get_or, sum_by, refl, ap, sym, subst, arith}
-use Rattle.std.specs.Prelude.{Result}
+use Rattle.std.proofs.Common.{◌≡◌, ◌≢◌, ◌∙◌, ◌<◌, ◌+◌, ℕ, zero, suc, ◌==◌, List, [], ◌∷◌, ◌++◌, All, Some, find, length, filter, map, reverse, get_or, sum_by, refl, ap, sym, subst, arith}
+use Rattle.std.specs.Prelude.{IfOk, Result, Ok, Err}
 use Rattle.std.specs.Option.{option_map}
 use mathlib.Core.List.{IsPrefix}
 use Rattle.std.proofs.lemmas.Bool.{eq-eqb, ne_eqb}
 use Rattle.std.proofs.lemmas.List.{length-map, length-reverse}
 use Rattle.std.proofs.lemmas.List.Sums.{sum_by-cons}
 use Rattle.pcef_packet.specs.declared.header.Header.{Header}
+use Rattle.pcef_model.specs.declared.answer.Accepted.{Accepted}
+use Rattle.pcef_model.specs.declared.answer.Refusal.{Refusal}
 use Rattle.pcef_model.specs.declared.command.Command.{Command}
 use Rattle.pcef_model.specs.declared.row.Row.{Row}
 use Rattle.pcef_model.specs.Setting.{Setting}
@@ -19,7 +21,7 @@ use Rattle.pcef_session.specs.Following.{row_of}
 use Rattle.pcef_lock.specs.Gathering.{HasLane, rows_abandoned}
 use Rattle.pcef_lock.specs.HandedIn.{HandedIn}
 use Rattle.pcef_gateway.specs.Arriving.{headers_for}
-use Rattle.pcef_gateway.specs.Commanding.{FoundMemory, changing}
+use Rattle.pcef_gateway.specs.Commanding.{HaveAnswers, changing}
 use Rattle.pcef_gateway.specs.Ending.{AddUpTo, RunsTo}
 use Rattle.pcef_gateway.specs.InOrder.{commands_of, lane_headers, reports_of}
 use Rattle.pcef_gateway.specs.Sending.{HandInArrivals, rows_of}
@@ -73,11 +75,11 @@ rows_sum p j handed d lawful numbered many lanes =
     let lower : All (λ (r : Row). r.worker < length handed) (rows j) = subst (λ n. All (λ (r : Row). r.worker < n) (rows j)) (sym many) (lawful_numbered p j lawful).rows_below in
     sums_up (λ (r : Row). r.worker) (λ (h : HandedIn). length h.items) (rows j) handed d own lower
 
-pub runs_to : (p : Setting) (before : Journal) (arrivals : List Arrival) (given listed first : List Command) (workers dropped : ℕ) (handed : List HandedIn) (e : Ended)
+runs_to : (p : Setting) (before : Journal) (arrivals : List Arrival) (given first listed : List Command) (workers dropped : ℕ) (handed : List HandedIn) (e : Ended)
     → AddUpTo p listed handed e.totals → HandInArrivals workers arrivals dropped handed → Lawful e.totals.session.setting e.totals.session.journal
-    → e.dropped ≡ dropped → length e.answers.items ≡ length given → All FoundMemory e.answers.items → first ≡ commands_of before → listed ≡ first ++ changing given e.answers.items
+    → e.dropped ≡ dropped → HaveAnswers first given listed e.answers.items → first ≡ commands_of before
     → e.reports.items ≡ reports_of e.totals.session.journal → RunsTo p before arrivals given workers e
-runs_to p before arrivals given listed first workers dropped handed e add_up hand_in lawful dropped_is answers memory first_is listed_is reports_are =
+runs_to p before arrivals given first listed workers dropped handed e add_up hand_in lawful dropped_is have first_is reports_are =
     let j = e.totals.session.journal in
     let d : HandedIn = record { worker = 0; items = []; abandoned = 0 } in
     let numbered : (n : ℕ) → n < length handed → (get_or handed n d).worker ≡ n = λ n below. hand_in.numbered n d below in
@@ -96,8 +98,18 @@ runs_to p before arrivals given listed first workers dropped handed e add_up han
           sym (headers_of_rows (get_or handed w d).items) ∙ ap (map (λ (r : Row). r.header)) (own_rows j handed w d numbered there (add_up.lanes w came)) in
           subst (λ hs. IsPrefix hs (headers_for w arrivals)) own (hand_in.first w d there);
       whole = omega (arith, add_up.rows_are, add_up.abandoned_are, dropped_is, hand_in.whole, sum_of_rows handed, sum);
-      answers = answers;
-      memory = memory;
-      commands_are = sym add_up.listed_are ∙ listed_is ∙ ap (λ cs. cs ++ changing given e.answers.items) first_is;
+      answers = have.many;
+      memory = have.memory;
+      commands_are = sym add_up.listed_are ∙ have.listed_are ∙ ap (λ cs. cs ++ changing given e.answers.items) first_is;
       reports_are = reports_are;
     }
+
+-- where it came to an end
+pub ends_so : {E : Type 0} (r : Result Ended E) (p : Setting) (before : Journal) (arrivals : List Arrival) (given first listed : List Command) (workers dropped : ℕ) (handed : List HandedIn) (answers : List (Result Accepted Refusal))
+    → IfOk r (λ e. AddUpTo p listed handed e.totals) → HandInArrivals workers arrivals dropped handed → IfOk r (λ e. Lawful e.totals.session.setting e.totals.session.journal)
+    → IfOk r (λ e. (e.dropped ≡ dropped) × (e.answers.items ≡ answers)) → HaveAnswers first given listed answers → first ≡ commands_of before → IfOk r (λ e. e.reports.items ≡ reports_of e.totals.session.journal)
+    → IfOk r (λ e. RunsTo p before arrivals given workers e)
+ends_so (Ok e) p before arrivals given first listed workers dropped handed answers add_up hand_in lawful rest have first_is reports_are =
+    runs_to p before arrivals given first listed workers dropped handed e add_up hand_in lawful rest.0
+    (subst (λ (xs : List (Result Accepted Refusal)). HaveAnswers first given listed xs) (sym rest.1) have) first_is reports_are
+ends_so (Err f) p before arrivals given first listed workers dropped handed answers add_up hand_in lawful rest have first_is reports_are = tt

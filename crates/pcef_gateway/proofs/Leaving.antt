@@ -1,7 +1,7 @@
 -- What workers hand in that leave.
-use Rattle.std.proofs.Common.{◌≡◌, ◌∙◌, ◌≤◌, ◌+◌, ℕ, List, [], ◌∷◌, ◌++◌, length, map, take, drop, refl, ap, sym, subst, arith}
+use Rattle.std.proofs.Common.{◌≡◌, ◌∙◌, ◌≤◌, ◌+◌, ℕ, List, ◌++◌, length, map, take, ap, sym, arith}
 use mathlib.Core.List.{IsPrefix}
-use Rattle.std.proofs.lemmas.List.{length-append, length-map, map-append, take-append-drop, take-append-le}
+use Rattle.std.proofs.lemmas.List.{length-append, length-map, map-append, take-append-le}
 use Rattle.std.proofs.Math.Seq.{take-append_seam, take-length}
 use Rattle.pcef_packet.specs.declared.header.Header.{Header}
 use Rattle.pcef_lock.specs.HandedIn.{HandedIn}

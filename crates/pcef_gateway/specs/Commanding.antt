@@ -1,5 +1,5 @@
 -- Commands with their answers.
-use Rattle.std.specs.Prelude.{◌≡◌, ◌++◌, List, [], ◌∷◌, Result, Err}
+use Rattle.std.specs.Prelude.{◌≡◌, ◌++◌, List, [], ◌∷◌, All, Result, Err, length}
 use Rattle.pcef_model.specs.declared.answer.Accepted.{Accepted}
 use Rattle.pcef_model.specs.declared.answer.Refusal.{Refusal}
 use Rattle.pcef_model.specs.declared.answer.Refusal.TheVariants.{NoMemory}
@@ -14,3 +14,10 @@ changing cs answers = []
 -- the answer of a command that met no want of memory
 abbrev pub FoundMemory : Result Accepted Refusal → Type 0
 FoundMemory answer = answer ≡ Err NoMemory → ⊥
+
+-- Each of these commands has its answer, and met no want of memory. A list of commands, which had the first ones, has
+-- those too now that changed something.
+pub record HaveAnswers (first given now : List Command) (answers : List (Result Accepted Refusal)) : Type 0 where
+  pub many : length answers ≡ length given
+  pub memory : All FoundMemory answers
+  pub listed_are : now ≡ first ++ changing given answers

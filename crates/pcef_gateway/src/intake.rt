@@ -1,9 +1,10 @@
-//! What the calling thread does: it starts the workers, leads packets to them and gives commands, and ends it all.
+//! What the calling thread does: it attaches the workers and starts them, leads packets to them and gives commands, and
+//! ends it all.
 
 ghost use Rattle.std.specs.Prelude.{◌≡◌, ◌+◌, ◌++◌, ◌∷◌, ◌<◌, ◌≤◌, ℕ, All, IfOk, List, OnOk, [], length, slice_index_or, vec_len};
 ghost use Rattle.pcef_packet.specs.declared.header.Header.{Header};
 ghost use Rattle.pcef_gateway.specs.Arriving.{headers_for};
-ghost use Rattle.pcef_gateway.specs.Commanding.{FoundMemory, changing};
+ghost use Rattle.pcef_gateway.specs.Commanding.{FoundMemory, HaveAnswers};
 ghost use Rattle.pcef_lock.specs.Desks.{listed};
 ghost use Rattle.pcef_gateway.specs.Sending.{HandInTheirs};
 ghost use Rattle.pcef_gateway.specs.Serving.{HandsIn};
@@ -72,51 +73,60 @@ fn attached<'g, C: Detects + Drop, N: Naming, W: Board<Slot<N>> + Drop, G: Gate,
     }
 }
 
-/// Attaches the worker of this number, and puts it at the end.
-fn attach_next<'g, C: Detects + Drop, N: Naming, W: Board<Slot<N>> + Drop, G: Gate, R: Wait>(
-    rt: &R,
+/// Attaches the worker of this number, to which the gate is lent, and starts it in a thread of the scope.
+fn started<
+    's,
+    E,
+    C: Detects + Drop + Send + Sync,
+    N: Naming + Send + Sync,
+    W: Board<Slot<N>> + Drop + Send,
+    G: Gate + Sync,
+    R: Threads + Wait + Sync,
+>(
+    rt: &'s R,
+    scope: &Scope<'s, E>,
     alloc: Global,
-    shared: &Shared<C, N, W>,
-    gate: &'g G,
+    shared: &'s Shared<C, N, W>,
+    gate: &'s G,
     number: u8,
-    all: &mut Vec<Worker<C, N, Lent<'g, G>>>,
-) -> Result<(), Failure>
-    ensures many { OnOk result (vec_len all.new ≡ vec_len all.old + 1) }
-    ensures new { All (λ w. taken w ≡ []) all.old.items
-        → OnOk result (All (λ w. taken w ≡ []) all.new.items) }
+) -> Result<Line<N>, Failure>
+    ensures { IfOk result (λ line. line ≡ []) }
 {
     match attached(rt, alloc, shared, gate, number) {
-        Ok(worker) => keep(all, worker),
+        Ok(worker) => Line::start(rt, scope, alloc, shared, worker),
         Err(failure) => Err(failure),
     }
 }
 
-/// Attaches so many workers, to which the gate is lent.
-pub(crate) fn attach_all<
-    'g,
-    C: Detects + Drop,
-    N: Naming,
-    W: Board<Slot<N>> + Drop,
-    G: Gate,
-    R: Wait,
+/// Starts the worker of this number, and puts the way to it at the end.
+fn start_next<
+    's,
+    E,
+    C: Detects + Drop + Send + Sync,
+    N: Naming + Send + Sync,
+    W: Board<Slot<N>> + Drop + Send,
+    G: Gate + Sync,
+    R: Threads + Wait + Sync,
 >(
-    rt: &R,
+    rt: &'s R,
+    scope: &Scope<'s, E>,
     alloc: Global,
-    shared: &Shared<C, N, W>,
-    gate: &'g G,
-    workers: u8,
-) -> Result<Vec<Worker<C, N, Lent<'g, G>>>, Failure>
-    ensures many { IfOk result (λ v. vec_len v ≡ workers) }
-    ensures new { IfOk result (λ v. All (λ w. taken w ≡ []) v.items) }
+    shared: &'s Shared<C, N, W>,
+    gate: &'s G,
+    number: u8,
+    lines: &mut Vec<Line<N>>,
+) -> Result<(), Failure>
+    ensures many { OnOk result (vec_len lines.new ≡ vec_len lines.old + 1) }
+    ensures empty { All (λ line. line ≡ []) lines.old.items
+        → OnOk result (All (λ line. line ≡ []) lines.new.items) }
 {
-    let mut all = Vec::new(alloc);
-    for number in 0..workers {
-        attach_next(rt, alloc, shared, gate, number, &mut all)?;
+    match started(rt, scope, alloc, shared, gate, number) {
+        Ok(line) => keep(lines, line),
+        Err(failure) => Err(failure),
     }
-    Ok(all)
 }
 
-/// Starts workers in threads of the scope.
+/// Attaches so many workers, to which the gate is lent, and starts each in a thread of the scope.
 pub(crate) fn start_all<
     's,
     E,
@@ -130,18 +140,15 @@ pub(crate) fn start_all<
     scope: &Scope<'s, E>,
     alloc: Global,
     shared: &'s Shared<C, N, W>,
-    workers: Vec<Worker<C, N, Lent<'s, G>>>,
+    gate: &'s G,
+    workers: u8,
 ) -> Result<Vec<Line<N>>, Failure>
-    requires { All (λ w. taken w ≡ []) workers.items }
-    ensures many { IfOk result (λ lines. vec_len lines ≡ vec_len workers.entry) }
+    ensures many { IfOk result (λ lines. vec_len lines ≡ workers) }
     ensures empty { IfOk result (λ lines. All (λ line. line ≡ []) lines.items) }
 {
     let mut lines = Vec::new(alloc);
-    for worker in workers {
-        let line = Line::start(rt, scope, alloc, shared, worker)?;
-        if lines.push(line).is_err() {
-            return Err(Failure::NoMemory);
-        }
+    for number in 0..workers {
+        start_next(rt, scope, alloc, shared, gate, number, &mut lines)?;
     }
     Ok(lines)
 }
@@ -177,6 +184,25 @@ fn give<C: Offers + Drop, N: Naming, W: Board<Slot<N>> + Drop, R: Wait>(
     }
 }
 
+/// Gives a command, and puts its answer at the end.
+fn give_next<C: Offers + Drop, N: Naming, W: Board<Slot<N>> + Drop, R: Wait>(
+    rt: &R,
+    shared: &Shared<C, N, W>,
+    desk: &mut Desk<N>,
+    command: Command,
+    answers: &mut Vec<Answer>,
+) -> Result<(), Failure>
+    ensures { (first given : List Command)
+        → HaveAnswers first given desk.old.commands answers.old.items
+        → OnOk result (HaveAnswers first (given ++ command ∷ []) desk.new.commands
+        answers.new.items) }
+{
+    match give(rt, shared, desk, command) {
+        Ok(answer) => keep(answers, answer),
+        Err(failure) => Err(failure),
+    }
+}
+
 /// Leads packets to the workers and gives the commands meanwhile, which stand evenly among the packets. An answer for
 /// each command.
 pub(crate) fn take_in<C: Offers + Drop, N: Naming + Send + Sync, W: Board<Slot<N>> + Drop, R: Wait>(
@@ -192,10 +218,8 @@ pub(crate) fn take_in<C: Offers + Drop, N: Naming + Send + Sync, W: Board<Slot<N
     ensures packets { IfOk result (λ _. (w : ℕ) → w < length lines.old
         → slice_index_or lines.new w []
         ≡ slice_index_or lines.old w [] ++ headers_for w arrivals.now) }
-    ensures answers { IfOk result (λ v. length v.items ≡ length commands.items) }
-    ensures memory { IfOk result (λ v. All FoundMemory v.items) }
-    ensures listed { IfOk result (λ v. desk.new.commands
-        ≡ desk.old.commands ++ changing commands.items v.items) }
+    ensures answers { IfOk result (λ v.
+        HaveAnswers desk.old.commands commands.items desk.new.commands v.items) }
 {
     let between = arrivals.len() / (commands.len() + 1);
     let mut left = arrivals;
@@ -204,10 +228,7 @@ pub(crate) fn take_in<C: Offers + Drop, N: Naming + Send + Sync, W: Board<Slot<N
         let (next, later) = left.split_at(between.min(left.len()));
         feed(rt, lines, next);
         left = later;
-        let answer = give(rt, shared, desk, command)?;
-        if answers.push(answer).is_err() {
-            return Err(Failure::NoMemory);
-        }
+        give_next(rt, shared, desk, command, &mut answers)?;
     }
     feed(rt, lines, left);
     Ok(answers)

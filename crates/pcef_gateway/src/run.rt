@@ -3,25 +3,23 @@
 ghost use Rattle.std.specs.Prelude.{◌≡◌, ◌↔◌, ◌⊎◌, ◌+◌, ◌++◌, ◌<◌, ◌≤◌, ℕ, All, IfOk, [], length, vec_len};
 ghost use Rattle.std.specs.Arc.{arc_value};
 ghost use mathlib.Core.List.{IsPrefix};
-ghost use Rattle.pcef_model.specs.Entries.{rows};
+ghost use Rattle.pcef_model.specs.Entries.{Journal, rows};
 ghost use Rattle.pcef_model.specs.Journals.{attach_count, gen};
 ghost use Rattle.pcef_model.specs.Lawful.{Lawful};
 ghost use Rattle.pcef_session.specs.Shown.{Shows};
 ghost use Rattle.pcef_share.specs.Names.{name_at};
 ghost use Rattle.pcef_lock.specs.Gathering.{key_totals};
 ghost use Rattle.pcef_gateway.specs.Arriving.{headers_for};
-ghost use Rattle.pcef_gateway.specs.Commanding.{FoundMemory, changing};
+ghost use Rattle.pcef_gateway.specs.Commanding.{FoundMemory, HaveAnswers, changing};
 ghost use Rattle.pcef_gateway.specs.Ending.{AddUpTo, AreGatheredFrom, FailsBy, RunsTo};
 ghost use Rattle.pcef_gateway.specs.InOrder.{commands_of, lane_headers, reports_of};
 ghost use Rattle.pcef_gateway.specs.Sending.{HandInArrivals};
-ghost use Rattle.pcef_gateway.specs.Taking.{taken};
 ghost use Rattle.pcef_gateway.specs.declared.fault.RunFault.TheVariants.{StrangeWorker, Workers};
 
 use crate::arrivals::{Arrival, are_known};
 use crate::ended::{Answer, Ended, all_reports};
 use crate::fault::{Failure, RunFault};
-use crate::intake::{Handed, attach_all, close_all, start_all, take_in};
-use crate::lent::Lent;
+use crate::intake::{Handed, close_all, start_all, take_in};
 use crate::line::Line;
 use pcef_catalog::{Detects, Offers};
 use pcef_lane::MAX_WORKERS;
@@ -30,7 +28,7 @@ use pcef_model::Command;
 use pcef_publish::{Board, Opened, Slot};
 use pcef_session::SessionState;
 use pcef_share::{Blanks, Naming};
-use pcef_worker::{Gate, Worker};
+use pcef_worker::Gate;
 use std::alloc::Global;
 use std::marker::Brand;
 use std::sync::{Arc, Wait};
@@ -160,12 +158,40 @@ fn run_named<
     ensures { IfOk result (λ e.
         RunsTo session.setting session.journal arrivals.now commands.items workers e) }
 {
-    let (shared, desk) = Shared::<C, N, _>::open(
-        rt, alloc, catalog, session, opened, blanks, workers,
-    )?;
-    let worked = work_all(rt, alloc, &shared, desk, gate, workers, arrivals, commands)?;
-    let ended = end(rt, alloc, shared, worked)?;
-    Ok(ended)
+    match Shared::<C, N, _>::open(rt, alloc, catalog, session, opened, blanks, workers) {
+        Ok((shared, desk)) => {
+            run_shared(rt, alloc, shared, desk, gate, workers, arrivals, commands)
+        }
+        Err(fault) => Err(fault.into()),
+    }
+}
+
+/// Runs a session that stands behind its lock, from a history with the commands that its desk has.
+fn run_shared<
+    C: Detects + Drop + Send + Sync,
+    N: Naming + Send + Sync,
+    W: Board<Slot<N>> + Drop + Send,
+    G: Gate + Sync,
+    R: Threads + Wait + Sync,
+>(
+    rt: &R,
+    alloc: Global,
+    shared: Shared<C, N, W>,
+    desk: Desk<N>,
+    gate: &G,
+    workers: u8,
+    arrivals: &[Arrival],
+    commands: Vec<Command>,
+) -> Result<Ended, Failure>
+    requires few { workers ≤ 16 }
+    requires known { All (λ a. a.worker < workers) arrivals.now }
+    ensures { (before : Journal) → desk.commands ≡ commands_of before → IfOk result (λ e.
+        RunsTo N.setting before arrivals.now commands.items workers e) }
+{
+    match work_all(rt, alloc, &shared, desk, gate, workers, arrivals, commands) {
+        Ok(worked) => end(rt, alloc, shared, worked),
+        Err(failure) => Err(failure),
+    }
 }
 
 /// What desk and workers hand in.
@@ -176,7 +202,7 @@ struct Worked<N: Naming> {
     handed: Handed<N>,
 }
 
-/// Attaches so many workers, and runs them.
+/// Runs so many workers in threads, with the calling thread as the intake.
 fn work_all<
     C: Detects + Drop + Send + Sync,
     N: Naming + Send + Sync,
@@ -195,59 +221,23 @@ fn work_all<
 ) -> Result<Worked<N>, Failure>
     requires few { workers ≤ 16 }
     requires known { All (λ a. a.worker < workers) arrivals.now }
-    ensures answers { IfOk result (λ w. length w.answers.items ≡ length commands.items) }
-    ensures memory { IfOk result (λ w. All FoundMemory w.answers.items) }
-    ensures desk { IfOk result (λ w. w.desk.commands
-        ≡ desk.commands ++ changing commands.items w.answers.items) }
+    ensures answers { IfOk result (λ w.
+        HaveAnswers desk.commands commands.items w.desk.commands w.answers.items) }
     ensures handed { IfOk result (λ w.
         HandInArrivals workers arrivals.now w.handed.dropped w.handed.finished.items) }
-{
-    let attached = attach_all(rt, alloc, shared, gate, workers)?;
-    run_workers(rt, alloc, shared, desk, attached, arrivals, commands)
-}
-
-/// Runs workers in threads, with the calling thread as the intake.
-fn run_workers<
-    C: Detects + Drop + Send + Sync,
-    N: Naming + Send + Sync,
-    W: Board<Slot<N>> + Drop + Send,
-    G: Gate + Sync,
-    R: Threads + Wait + Sync,
->(
-    rt: &R,
-    alloc: Global,
-    shared: &Shared<C, N, W>,
-    desk: Desk<N>,
-    attached: Vec<Worker<C, N, Lent<'_, G>>>,
-    arrivals: &[Arrival],
-    commands: Vec<Command>,
-) -> Result<Worked<N>, Failure>
-    requires few { vec_len attached ≤ 16 }
-    requires new { All (λ w. taken w ≡ []) attached.items }
-    requires known { All (λ a. a.worker < vec_len attached) arrivals.now }
-    ensures answers { IfOk result (λ w. length w.answers.items ≡ length commands.items) }
-    ensures memory { IfOk result (λ w. All FoundMemory w.answers.items) }
-    ensures desk { IfOk result (λ w. w.desk.commands
-        ≡ desk.commands ++ changing commands.items w.answers.items) }
-    ensures handed { IfOk result (λ w. HandInArrivals (vec_len attached.entry) arrivals.now
-        w.handed.dropped w.handed.finished.items) }
 {
     thread::scope(
         thread::scope_env(),
         rt,
         move |scope| -> Result<Worked<N>, Failure>
-            requires few { vec_len attached ≤ 16 }
-            requires new { All (λ w. taken w ≡ []) attached.items }
-            requires known { All (λ a. a.worker < vec_len attached) arrivals.now }
-            ensures answers { IfOk result (λ w. length w.answers.items ≡ length commands.items) }
-            ensures memory { IfOk result (λ w. All FoundMemory w.answers.items) }
-            ensures desk { IfOk result (λ w. w.desk.commands
-                ≡ desk.commands ++ changing commands.items w.answers.items) }
-            ensures handed { IfOk result (λ w.
-                HandInArrivals (vec_len attached.entry) arrivals.entry.now
+            requires few { workers ≤ 16 }
+            requires known { All (λ a. a.worker < workers) arrivals.now }
+            ensures answers { IfOk result (λ w.
+                HaveAnswers desk.commands commands.items w.desk.commands w.answers.items) }
+            ensures handed { IfOk result (λ w. HandInArrivals workers arrivals.entry.now
                 w.handed.dropped w.handed.finished.items) }
         {
-            let lines = start_all(rt, scope, alloc, shared, attached)?;
+            let lines = start_all(rt, scope, alloc, shared, gate, workers)?;
             lead(rt, alloc, shared, desk, lines, arrivals, commands)
         },
     )
@@ -266,10 +256,8 @@ fn lead<C: Offers + Drop, N: Naming + Send + Sync, W: Board<Slot<N>> + Drop, R: 
     requires few { vec_len lines ≤ 16 }
     requires empty { All (λ line. line ≡ []) lines.items }
     requires known { All (λ a. a.worker < vec_len lines) arrivals.now }
-    ensures answers { IfOk result (λ w. length w.answers.items ≡ length commands.items) }
-    ensures memory { IfOk result (λ w. All FoundMemory w.answers.items) }
-    ensures desk { IfOk result (λ w. w.desk.commands
-        ≡ desk.commands ++ changing commands.items w.answers.items) }
+    ensures answers { IfOk result (λ w.
+        HaveAnswers desk.commands commands.items w.desk.commands w.answers.items) }
     ensures handed { IfOk result (λ w.
         HandInArrivals (vec_len lines) arrivals.now w.handed.dropped w.handed.finished.items) }
 {
@@ -311,7 +299,7 @@ fn end<C: Offers + Drop, N: Naming, W: Board<Slot<N>> + Drop, R: Wait>(
     ensures add_up { IfOk result (λ e.
         AddUpTo N.setting worked.desk.commands worked.handed.finished.items e.totals) }
     ensures rest { IfOk result (λ e. (e.dropped ≡ worked.handed.dropped)
-        × (e.answers ≡ worked.answers)) }
+        × (e.answers.items ≡ worked.answers.items)) }
     ensures reports { IfOk result (λ e. e.reports.items ≡ reports_of e.totals.session.journal) }
     ensures lawful { IfOk result (λ e. Lawful e.totals.session.setting e.totals.session.journal) }
 {

@@ -1,5 +1,5 @@
-use Rattle.std.specs.Prelude.{◌≡◌, [], All, length, vec_len}
+use Rattle.std.specs.Prelude.{◌≡◌, [], All, vec_len}
 use Rattle.pcef_gateway.proofs.intake.start_all.Given as goal
 
-abbrev pub invariant-loop-worker : goal.invariant-loop-worker
-invariant-loop-worker g l = (vec_len l.lines ≡ length l.yielded) × All (λ line. line ≡ []) l.lines.items
+abbrev pub invariant-loop-number : goal.invariant-loop-number
+invariant-loop-number g l = (vec_len l.lines ≡ l.number) × All (λ line. line ≡ []) l.lines.items
