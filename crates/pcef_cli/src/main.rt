@@ -25,7 +25,63 @@ use std::process::ExitCode;
 use std::sync::{Arc, Wait};
 use std::thread::Threads;
 
-/// Runs the program, whose catalog has the built-in rules, with a stored reporter of each kind.
+/// Runs the program, whose catalog has the built-in rules, with these reporters.
+fn run_telling<T: Threads + Wait + Sync>(
+    threads: &T,
+    rt: &HostRuntime,
+    catalog: Arc<Catalog>,
+    words: &[Vec<u8>],
+    profile: &Option<io::Result<String>>,
+    outlet: Outlet,
+    taken: &Taken,
+) -> io::Result<u8>
+    requires { offers_of (arc_value catalog) ≡ built_in_offers }
+    ensures { IfOk result (λ status. status ≤ 4) }
+{
+    let alloc = rt.alloc();
+    let mut reader = rt.stdin();
+    let mut writer = BufWriter::new(alloc, io::writer(rt))?;
+    let mut faults = rt.stderr();
+    Ok(program(
+        threads,
+        alloc,
+        words,
+        profile,
+        catalog,
+        outlet,
+        taken,
+        &mut reader,
+        &mut writer,
+        &mut faults,
+    ))
+}
+
+/// Runs the program with a reporter of each kind, which stores what it takes.
+fn run_storing<T: Threads + Wait + Sync>(
+    threads: &T,
+    rt: &HostRuntime,
+    catalog: Arc<Catalog>,
+    words: &[Vec<u8>],
+    profile: &Option<io::Result<String>>,
+    taken: &Arc<Taken>,
+) -> io::Result<u8>
+    requires { offers_of (arc_value catalog) ≡ built_in_offers }
+    ensures { IfOk result (λ status. status ≤ 4) }
+{
+    let alloc = rt.alloc();
+    let mut reporters = Vec::with_capacity(alloc, 3)?;
+    for &kind in &[ReportKind::Usage, ReportKind::Access, ReportKind::Inactive] {
+        let storing = Storing::new(alloc, kind, Arc::try_clone(taken)?);
+        let reporter: Box<dyn Reporter + Send> = Box::new(alloc, storing)?;
+        reporters.push((kind, reporter))?;
+    }
+    match Outlet::new(reporters) {
+        Ok(outlet) => run_telling(threads, rt, catalog, words, profile, outlet, taken),
+        Err(_) => Err(AllocError.into()),
+    }
+}
+
+/// Runs the program as its words ask.
 fn run_with<T: Threads + Wait + Sync>(
     threads: &T,
     rt: &HostRuntime,
@@ -37,31 +93,8 @@ fn run_with<T: Threads + Wait + Sync>(
     let alloc = rt.alloc();
     let words = words(alloc, rt)?;
     let profile = profile_of(rt, &words);
-    let mut reader = rt.stdin();
-    let mut writer = BufWriter::new(alloc, io::writer(rt))?;
-    let mut faults = rt.stderr();
     let taken = Arc::new(alloc, Taken::new())?;
-    let mut reporters = Vec::with_capacity(alloc, 3)?;
-    for kind in [ReportKind::Usage, ReportKind::Access, ReportKind::Inactive] {
-        let storing = Storing::new(alloc, kind, Arc::try_clone(&taken)?);
-        let reporter: Box<dyn Reporter + Send> = Box::new(alloc, storing)?;
-        reporters.push((kind, reporter))?;
-    }
-    let Ok(outlet) = Outlet::new(reporters) else {
-        return Err(AllocError.into());
-    };
-    Ok(program(
-        threads,
-        alloc,
-        &words,
-        &profile,
-        catalog,
-        outlet,
-        &taken,
-        &mut reader,
-        &mut writer,
-        &mut faults,
-    ))
+    run_storing(threads, rt, catalog, &words, &profile, &taken)
 }
 
 /// Makes the built-in catalog, and runs the program with it.

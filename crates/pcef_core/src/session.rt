@@ -22,7 +22,7 @@ use std::alloc::Global;
 use std::sync::Arc;
 
 /// A session and the catalog of its predefined rules.
-// The box keeps the types of all parts from whoever owns a session, and from the proofs of their functions.
+// In a box, so that whoever owns a session has one pointer to prove, and not each part of the state.
 pub struct Session {
     catalog: Arc<Catalog>,
     state: Box<SessionState>,

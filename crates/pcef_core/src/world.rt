@@ -13,7 +13,7 @@ use std::alloc::{AllocError, Global};
 use std::sync::Arc;
 
 /// A session and its workers, and the catalog of the session's predefined rules.
-// The box keeps the types of all parts from whoever owns a world, and from the proofs of their functions.
+// In a box, so that whoever owns a world has one pointer to prove, and not each part of the state.
 pub struct World {
     catalog: Arc<Catalog>,
     state: Box<WorldState>,

@@ -4,7 +4,7 @@ ghost use Rattle.std.specs.Prelude.{◌≡◌};
 ghost use Rattle.serde_json.specs.View.{view, items_view, members_view};
 ghost use Rattle.pcef_decoding.specs.Readings.{names_one_of};
 ghost use Rattle.pcef_line.specs.LineWords.{field_text};
-ghost use Rattle.pcef_line.specs.LineShape.{members_known, has_only, items_have_only, each_has_only, rule_is_known, is_known};
+ghost use Rattle.pcef_line.specs.LineShape.{members_known, has_only, items_have_only, each_has_only, rule_is_known, inner_is_known, is_known};
 
 use crate::field::Field;
 use crate::word::Word;
@@ -80,11 +80,20 @@ fn rule_is_known(rule: &Value) -> bool
             .is_none_or(|gbr| has_only(OF_GBR, gbr))
 }
 
+/// Whether each object in a line with this word, that stands where an object belongs, has only fields that it may have.
+fn inner_is_known(word: Word, line: &Value) -> bool
+    ensures { result ≡ inner_is_known word (view line.now) }
+{
+    match word {
+        Word::Install => line.get(Field::Rule.text()).is_none_or(rule_is_known),
+        _ => true,
+    }
+}
+
 /// Whether a line with this word, and each object in it that stands where an object belongs, has only
 /// fields that it may have.
 pub(crate) fn is_known(word: Word, line: &Value) -> bool
     ensures { result ≡ is_known word (view line.now) }
 {
-    has_only(word.fields(), line)
-        && (word != Word::Install || line.get(Field::Rule.text()).is_none_or(rule_is_known))
+    has_only(word.fields(), line) && inner_is_known(word, line)
 }

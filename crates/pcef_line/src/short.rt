@@ -3,7 +3,7 @@
 ghost use Rattle.std.specs.Prelude.{◌≡◌, IfSome, Some, option_map};
 ghost use Rattle.json.specs.Lex.{tokens};
 ghost use Rattle.json.specs.Reads.{token_of};
-ghost use Rattle.serde_json.specs.Data.{object, put, unsigned};
+ghost use Rattle.serde_json.specs.Data.{number, object, put, string, unsigned};
 ghost use Rattle.serde_json.specs.Read.{number_of};
 ghost use Rattle.pcef_line.specs.LineValues.{Gives};
 ghost use Rattle.pcef_filter.specs.Reading.{reading_of};
@@ -51,32 +51,55 @@ fn worker_of(text: &str) -> Option<u8>
     }
 }
 
-/// The fields with a member more, if it's one of them and of the usual kind.
-fn keep<'a>(fields: Fields<'a>, key: &str, token: Token<'a>) -> Option<Fields<'a>>
+/// The fields with a text more, if one of them has this name.
+fn keep_text<'a>(fields: Fields<'a>, key: &str, text: &'a str) -> Option<Fields<'a>>
     ensures { IfSome result (λ f.
-        option_map (λ d. put key.now d (found_in fields.entry)) (plain_of (token_of token.entry))
-        ≡ Some (found_in f)) }
+        put key.now (string text.now) (found_in fields.entry) ≡ found_in f) }
 {
-    match (key, token) {
-        ("do", Token::String(text)) => Some(Fields {
+    match key {
+        "do" => Some(Fields {
             word: Some(text),
             ..fields
         }),
-        ("worker", Token::Number(text)) => {
+        "dir" => Some(Fields {
+            dir: Some(text),
+            ..fields
+        }),
+        "packet" => Some(Fields {
+            packet: Some(text),
+            ..fields
+        }),
+        _ => None,
+    }
+}
+
+/// The fields with a number more, if it's a worker's and written as is usual.
+fn keep_number<'a>(fields: Fields<'a>, key: &str, text: &str) -> Option<Fields<'a>>
+    ensures { IfSome result (λ f.
+        option_map (λ n. put key.now (number n) (found_in fields.entry)) (number_of text.now)
+        ≡ Some (found_in f)) }
+{
+    match key {
+        "worker" => {
             let worker = worker_of(text)?;
             Some(Fields {
                 worker: Some(worker),
                 ..fields
             })
         }
-        ("dir", Token::String(text)) => Some(Fields {
-            dir: Some(text),
-            ..fields
-        }),
-        ("packet", Token::String(text)) => Some(Fields {
-            packet: Some(text),
-            ..fields
-        }),
+        _ => None,
+    }
+}
+
+/// The fields with a member more, if it's one of them and of the usual kind.
+fn keep<'a>(fields: Fields<'a>, key: &str, token: Token<'a>) -> Option<Fields<'a>>
+    ensures { IfSome result (λ f.
+        option_map (λ d. put key.now d (found_in fields.entry)) (plain_of (token_of token.entry))
+        ≡ Some (found_in f)) }
+{
+    match token {
+        Token::String(text) => keep_text(fields, key, text),
+        Token::Number(text) => keep_number(fields, key, text),
         _ => None,
     }
 }

@@ -40,18 +40,27 @@ fn not_toml(alloc: Global, text: &str, error: &Error) -> Result<String, AllocErr
 }
 
 /// The first key that a table may not have.
+fn unknown_in(level: Level, table: &Table) -> Option<&str> {
+    for text in table.keys() {
+        if !level.keys().iter().any(|key| key.text() == text.as_str()) {
+            return Some(text.as_str());
+        }
+    }
+    None
+}
+
+/// What is told of a key that a table may not have.
+fn told_unknown(alloc: Global, level: Level, text: &str) -> Result<String, AllocError> {
+    let text = if is_plain(text) { text } else { ".." };
+    let keys = level.expected();
+    format!(in alloc; "{level}{text}: {keys} is expected")
+}
+
+/// The first key that a profile or a table in it may not have.
 fn unknown_key(alloc: Global, table: &Table) -> Result<Option<String>, AllocError> {
     for (level, table) in levels(alloc, table)? {
-        for text in table.keys() {
-            if !level.keys().iter().any(|key| key.text() == text.as_str()) {
-                let text = if is_plain(text.as_str()) {
-                    text.as_str()
-                } else {
-                    ".."
-                };
-                let keys = level.expected();
-                return Ok(Some(format!(in alloc; "{level}{text}: {keys} is expected")?));
-            }
+        if let Some(text) = unknown_in(level, table) {
+            return Ok(Some(told_unknown(alloc, level, text)?));
         }
     }
     Ok(None)

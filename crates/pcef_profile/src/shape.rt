@@ -178,24 +178,38 @@ impl Display for Level {
     }
 }
 
+/// Adds a table of a profile, if it is there.
+fn add<'a>(
+    levels: &mut Vec<(Level, &'a Table)>,
+    level: Level,
+    table: Option<&'a Table>,
+) -> Result<(), AllocError> {
+    if let Some(table) = table {
+        levels.push((level, table))?;
+    }
+    Ok(())
+}
+
+/// Adds the entries of the array of declared QCIs that are tables.
+fn add_declared<'a>(
+    levels: &mut Vec<(Level, &'a Table)>,
+    values: &'a [Value],
+) -> Result<(), AllocError> {
+    for (place, value) in values.iter().enumerate() {
+        let level = Level::Declared(place.saturating_add(1));
+        add(levels, level, value.as_table())?;
+    }
+    Ok(())
+}
+
 /// The tables of a profile that are there.
 pub(crate) fn levels(alloc: Global, table: &Table) -> Result<Vec<(Level, &Table)>, AllocError> {
     let mut levels = Vec::new(alloc);
     levels.push((Level::Profile, table))?;
-    if let Some(table) = inner(table, Key::Default) {
-        levels.push((Level::Default, table))?;
-    }
-    if let Some(table) = inner(table, Key::Capacity) {
-        levels.push((Level::Capacity, table))?;
-    }
+    add(&mut levels, Level::Default, inner(table, Key::Default))?;
+    add(&mut levels, Level::Capacity, inner(table, Key::Capacity))?;
     if let Some(values) = entries(table, Key::Declared) {
-        let mut number = 0usize;
-        for value in values {
-            number = number.saturating_add(1);
-            if let Some(table) = value.as_table() {
-                levels.push((Level::Declared(number), table))?;
-            }
-        }
+        add_declared(&mut levels, values)?;
     }
     Ok(levels)
 }
