@@ -1,5 +1,0 @@
-//! Tests of answers, and of scripts as texts. They stand above the crates that they test, which are then proved once.
-#![tactic(auto)]
-
-#[cfg(test)]
-mod tests;
