@@ -3,47 +3,64 @@
 ghost use Rattle.std.specs.Prelude.{◌≡◌};
 ghost use Rattle.pcef_capture_file.specs.Faults.{fault_number};
 
-use thiserror::Error;
+use std::error::Error;
+use std::fmt::{self, Display, Formatter, Write};
 
 /// Why a capture file is refused, or read no further. Of several faults the first in the file is
 /// answered.
-#[derive(Clone, Copy, Debug, PartialEq, Eq, Error)]
+#[derive(Clone, Copy, Debug, PartialEq, Eq)]
 pub enum CaptureFault {
     /// The first four octets are those of no format that is known.
-    #[error("the file is no capture")]
     NotACapture,
     /// The file ends within its header.
-    #[error("the file ends within its header")]
     CutHeader,
     /// The version of the format isn't the one that is read.
-    #[error("the version of the format is unknown")]
     Version,
     /// The link type is unknown.
-    #[error("the link type is unknown")]
     LinkType,
     /// The file ends within the header of a record.
-    #[error("the file ends within the header of a record")]
     CutRecord,
     /// The file ends within the packet of a record, or a packet goes on beyond its block.
-    #[error("the file or the block ends within a packet")]
     CutPacket,
     /// The file ends within a block.
-    #[error("the file ends within a block")]
     CutBlock,
     /// The length of a block is no multiple of four, leaves no room for what its type has, or isn't the
     /// same at both ends.
-    #[error("the length of a block is wrong")]
     BlockLength,
     /// The octets that tell the order of a section's numbers are unknown.
-    #[error("the order of the numbers of a section is unknown")]
     ByteOrder,
     /// A packet names an interface that its section didn't describe before.
-    #[error("the interface of a packet isn't described")]
     UnknownInterface,
     /// There is no memory left. It may come before any other.
-    #[error("there is no memory left")]
     NoMemory,
 }
+
+impl CaptureFault {
+    /// What the fault means, in a few words.
+    fn message(self) -> &'static str {
+        match self {
+            CaptureFault::NotACapture => "the file is no capture",
+            CaptureFault::CutHeader => "the file ends within its header",
+            CaptureFault::Version => "the version of the format is unknown",
+            CaptureFault::LinkType => "the link type is unknown",
+            CaptureFault::CutRecord => "the file ends within the header of a record",
+            CaptureFault::CutPacket => "the file or the block ends within a packet",
+            CaptureFault::CutBlock => "the file ends within a block",
+            CaptureFault::BlockLength => "the length of a block is wrong",
+            CaptureFault::ByteOrder => "the order of the numbers of a section is unknown",
+            CaptureFault::UnknownInterface => "the interface of a packet isn't described",
+            CaptureFault::NoMemory => "there is no memory left",
+        }
+    }
+}
+
+impl Display for CaptureFault {
+    fn fmt<W: Write>(&self, f: &mut Formatter<W>) -> fmt::Result {
+        f.write_str(self.message())
+    }
+}
+
+impl Error for CaptureFault {}
 
 impl CaptureFault {
     /// The number under which programs tell it, from 1 on.

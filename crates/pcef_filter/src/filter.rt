@@ -4,7 +4,8 @@ ghost use Rattle.std.specs.Prelude.{◌≡◌};
 
 use arrayvec::ArrayVec;
 use pcef_packet::Addr;
-use thiserror::Error;
+use std::error::Error;
+use std::fmt::{self, Display, Formatter, Write};
 
 /// The direction word of a filter text.
 #[derive(Clone, Copy, Debug, PartialEq, Eq)]
@@ -81,42 +82,58 @@ pub struct Filter {
 }
 
 /// Where a filter text is wrong: the place of the first token that doesn't fit, or of a missing one.
-#[derive(Clone, Copy, Debug, PartialEq, Eq, Error)]
+#[derive(Clone, Copy, Debug, PartialEq, Eq)]
 pub enum FilterFault {
     /// The first token isn't `permit`.
-    #[error("the action isn't `permit`")]
     Action,
     /// The direction is wrong.
-    #[error("the direction is wrong")]
     Direction,
     /// The protocol is wrong.
-    #[error("the protocol is wrong")]
     Proto,
     /// There is no `from` where it must stand.
-    #[error("`from` is missing")]
     From,
     /// The source is wrong.
-    #[error("the source is wrong")]
     Source,
     /// What follows the source begins with a digit and is no port list.
-    #[error("the source's ports are wrong")]
     SourcePorts,
     /// There is no `to` where it must stand.
-    #[error("`to` is missing")]
     To,
     /// The target is wrong.
-    #[error("the target is wrong")]
     Target,
     /// What follows the target begins with a digit and is no port list.
-    #[error("the target's ports are wrong")]
     TargetPorts,
     /// Something else follows the target.
-    #[error("there is more after the target")]
     Rest,
     /// The text is right, but may have no flow word.
-    #[error("the text may have no flow word")]
     Flow,
 }
+
+impl FilterFault {
+    /// What the fault means, in a few words.
+    fn message(self) -> &'static str {
+        match self {
+            FilterFault::Action => "the action isn't `permit`",
+            FilterFault::Direction => "the direction is wrong",
+            FilterFault::Proto => "the protocol is wrong",
+            FilterFault::From => "`from` is missing",
+            FilterFault::Source => "the source is wrong",
+            FilterFault::SourcePorts => "the source's ports are wrong",
+            FilterFault::To => "`to` is missing",
+            FilterFault::Target => "the target is wrong",
+            FilterFault::TargetPorts => "the target's ports are wrong",
+            FilterFault::Rest => "there is more after the target",
+            FilterFault::Flow => "the text may have no flow word",
+        }
+    }
+}
+
+impl Display for FilterFault {
+    fn fmt<W: Write>(&self, f: &mut Formatter<W>) -> fmt::Result {
+        f.write_str(self.message())
+    }
+}
+
+impl Error for FilterFault {}
 
 /// The same port ranges, in memory of their own.
 fn copy_ports(ports: &ArrayVec<PortRange, 8>) -> ArrayVec<PortRange, 8>

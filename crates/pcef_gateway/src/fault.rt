@@ -4,36 +4,53 @@ ghost use Rattle.std.specs.Prelude.{◌≡◌, ◌<◌};
 ghost use Rattle.pcef_gateway.specs.Faults.{number_of};
 
 use pcef_lock::SharedFault;
-use thiserror::Error;
+use std::error::Error;
+use std::fmt::{self, Display, Formatter, Write};
 
 /// Why a run of a session came to no end. The session is then given up.
-#[derive(Clone, Copy, Debug, PartialEq, Eq, Error)]
+#[derive(Clone, Copy, Debug, PartialEq, Eq)]
 pub enum RunFault {
     /// There is to be no worker, or more than sixteen.
-    #[error("there are one to sixteen workers")]
     Workers,
     /// A packet arrives for a worker that there isn't.
-    #[error("a packet arrives for a worker that there isn't")]
     StrangeWorker,
     /// The session didn't come behind its lock.
-    #[error("the session didn't come behind its lock")]
     Shared,
     /// There is no ring to a worker, or a ring doesn't give at the end what went into it.
-    #[error("a ring to a worker failed")]
     Ring,
     /// A worker wasn't attached.
-    #[error("a worker was not attached")]
     Attach,
     /// There is no thread for a worker.
-    #[error("there is no thread for a worker")]
     Thread,
     /// What workers and desk handed in doesn't agree with the journal.
-    #[error("what was handed in does not agree with the journal")]
     Gather,
     /// There is no memory left.
-    #[error("there is no memory left")]
     NoMemory,
 }
+
+impl RunFault {
+    /// What the fault means, in a few words.
+    fn message(self) -> &'static str {
+        match self {
+            RunFault::Workers => "there are one to sixteen workers",
+            RunFault::StrangeWorker => "a packet arrives for a worker that there isn't",
+            RunFault::Shared => "the session didn't come behind its lock",
+            RunFault::Ring => "a ring to a worker failed",
+            RunFault::Attach => "a worker was not attached",
+            RunFault::Thread => "there is no thread for a worker",
+            RunFault::Gather => "what was handed in does not agree with the journal",
+            RunFault::NoMemory => "there is no memory left",
+        }
+    }
+}
+
+impl Display for RunFault {
+    fn fmt<W: Write>(&self, f: &mut Formatter<W>) -> fmt::Result {
+        f.write_str(self.message())
+    }
+}
+
+impl Error for RunFault {}
 
 impl RunFault {
     /// The number of the fault, from 1 to 8.

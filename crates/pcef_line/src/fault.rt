@@ -9,55 +9,78 @@ use pcef_filter::FilterFault;
 use pcef_packet::PacketFault;
 use pcef_rule::RuleFault;
 use std::alloc::AllocFailed;
-use thiserror::Error;
+use std::error::Error;
+use std::fmt::{self, Display, Formatter, Write};
 
 /// Why a line can't be read. Of several faults that of the lowest number is answered up to
 /// [`LineFault::UnknownField`], and then that of the first field in the order of checking.
-#[derive(Clone, Copy, Debug, PartialEq, Eq, Error)]
+#[derive(Clone, Copy, Debug, PartialEq, Eq)]
 pub enum LineFault {
     /// The line has more than 262,144 bytes.
-    #[error("the line is too long")]
     LineTooLong,
     /// The line isn't UTF-8.
-    #[error("the line isn't UTF-8")]
     NotUtf8,
     /// The line isn't a JSON text.
-    #[error("the line isn't JSON")]
     NotJson,
     /// The JSON text is no object.
-    #[error("the line is no object")]
     NotObject,
     /// `do` is missing or none of the known words.
-    #[error("`do` is no known word")]
     UnknownDo,
     /// The line, or an object in it, has a field that it may not have.
-    #[error("a field is unknown")]
     UnknownField,
     /// A field is missing.
-    #[error("a field is missing")]
     MissingField(Field),
     /// A field's value has the wrong kind, is no known word, or is out of range.
-    #[error("a field has a wrong value")]
     BadField(Field),
     /// A field's text is no name.
-    #[error("a field is no name")]
     BadName(Field),
     /// A field's text isn't hexadecimal.
-    #[error("a field isn't hexadecimal")]
     BadHex(Field),
     /// A field's octets are no packet.
-    #[error("a field is no packet: {1}")]
     BadPacket(Field, PacketFault),
     /// A field's text is no filter.
-    #[error("a field is no filter: {1}")]
     BadFilter(Field, FilterFault),
     /// A field's object is no rule.
-    #[error("a field is no rule: {1}")]
     BadRule(Field, RuleFault),
     /// There is no memory left.
-    #[error("there is no memory left")]
     NoMemory,
 }
+
+impl LineFault {
+    /// What the fault means, in a few words, up to the inner fault where there is one.
+    fn message(self) -> &'static str {
+        match self {
+            LineFault::LineTooLong => "the line is too long",
+            LineFault::NotUtf8 => "the line isn't UTF-8",
+            LineFault::NotJson => "the line isn't JSON",
+            LineFault::NotObject => "the line is no object",
+            LineFault::UnknownDo => "`do` is no known word",
+            LineFault::UnknownField => "a field is unknown",
+            LineFault::MissingField(_) => "a field is missing",
+            LineFault::BadField(_) => "a field has a wrong value",
+            LineFault::BadName(_) => "a field is no name",
+            LineFault::BadHex(_) => "a field isn't hexadecimal",
+            LineFault::BadPacket(_, _) => "a field is no packet: ",
+            LineFault::BadFilter(_, _) => "a field is no filter: ",
+            LineFault::BadRule(_, _) => "a field is no rule: ",
+            LineFault::NoMemory => "there is no memory left",
+        }
+    }
+}
+
+impl Display for LineFault {
+    fn fmt<W: Write>(&self, f: &mut Formatter<W>) -> fmt::Result {
+        f.write_str(self.message())?;
+        match self {
+            LineFault::BadPacket(_, inner) => inner.fmt(f),
+            LineFault::BadFilter(_, inner) => inner.fmt(f),
+            LineFault::BadRule(_, inner) => inner.fmt(f),
+            _ => Ok(()),
+        }
+    }
+}
+
+impl Error for LineFault {}
 
 impl<T: Drop> From<AllocFailed<T>> for LineFault {
     ghost from_gives = { λ _ fault. fault ≡ NoMemory };

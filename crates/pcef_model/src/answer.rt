@@ -2,6 +2,8 @@
 
 use crate::verdict::Verdict;
 use pcef_rule::BearerId;
+use std::error;
+use std::fmt::{self, Display, Formatter, Write};
 use thiserror::Error;
 
 /// Why a session can't be opened. Of several faults the first in this order is answered.
@@ -19,66 +21,85 @@ pub enum OpenFault {
 }
 
 /// Why a command is refused. Of several refusals the first in this order is answered.
-#[derive(Clone, Copy, Debug, PartialEq, Eq, Error)]
+#[derive(Clone, Copy, Debug, PartialEq, Eq)]
 pub enum Refusal {
     /// The session was terminated.
-    #[error("the session was terminated")]
     Terminated,
     /// The session was closed.
-    #[error("the session was closed")]
     Closed,
     /// The journal holds as many commands as the profile allows.
-    #[error("the journal takes no more commands")]
     CommandsFull,
     /// A predefined rule has the name.
-    #[error("a predefined rule has this name")]
     NameIsPredefined,
     /// No rule of the catalog, or no active rule, has the name.
-    #[error("there is no rule of this name")]
     UnknownRule,
     /// The key isn't on, or has no slot.
-    #[error("the key is unknown")]
     UnknownKey,
     /// The grant is 0.
-    #[error("the grant is 0")]
     ZeroGrant,
     /// No bearer has the id.
-    #[error("there is no bearer of this id")]
     UnknownBearer,
     /// The default bearer can't be lost.
-    #[error("the default bearer can't be lost")]
     DefaultBearer,
     /// So many workers are still attached.
-    #[error("{0} workers are still attached")]
     WorkersAttached(u8),
     /// As many rules are active as may be.
-    #[error("no more rules can be active")]
     RulesFull,
     /// Every slot has a key.
-    #[error("no more keys can have a slot")]
     KeysFull,
     /// The QCI is neither standard nor declared.
-    #[error("the QCI is unknown")]
     UnknownQci,
     /// A rule of a GBR QCI has no rates.
-    #[error("the rule has no guaranteed rates")]
     RatesMissing,
     /// A rule of a non-GBR QCI has rates.
-    #[error("the rule has guaranteed rates")]
     RatesNotWanted,
     /// A new pair of QCI and ARP finds no free bearer.
-    #[error("no more bearers can be established")]
     TooManyBearers,
     /// The sum of uplink rates would be over the capacity.
-    #[error("the uplink rates are over the capacity")]
     OverCapacityUp,
     /// The sum of downlink rates would be over the capacity.
-    #[error("the downlink rates are over the capacity")]
     OverCapacityDown,
     /// There is no memory left.
-    #[error("there is no memory left")]
     NoMemory,
 }
+
+impl Refusal {
+    /// What the refusal means, in a few words.
+    fn message(self) -> &'static str {
+        match self {
+            Refusal::Terminated => "the session was terminated",
+            Refusal::Closed => "the session was closed",
+            Refusal::CommandsFull => "the journal takes no more commands",
+            Refusal::NameIsPredefined => "a predefined rule has this name",
+            Refusal::UnknownRule => "there is no rule of this name",
+            Refusal::UnknownKey => "the key is unknown",
+            Refusal::ZeroGrant => "the grant is 0",
+            Refusal::UnknownBearer => "there is no bearer of this id",
+            Refusal::DefaultBearer => "the default bearer can't be lost",
+            Refusal::WorkersAttached(_) => "workers are still attached",
+            Refusal::RulesFull => "no more rules can be active",
+            Refusal::KeysFull => "no more keys can have a slot",
+            Refusal::UnknownQci => "the QCI is unknown",
+            Refusal::RatesMissing => "the rule has no guaranteed rates",
+            Refusal::RatesNotWanted => "the rule has guaranteed rates",
+            Refusal::TooManyBearers => "no more bearers can be established",
+            Refusal::OverCapacityUp => "the uplink rates are over the capacity",
+            Refusal::OverCapacityDown => "the downlink rates are over the capacity",
+            Refusal::NoMemory => "there is no memory left",
+        }
+    }
+}
+
+impl Display for Refusal {
+    fn fmt<W: Write>(&self, f: &mut Formatter<W>) -> fmt::Result {
+        if let Refusal::WorkersAttached(count) = self {
+            write!(f, "{count} ")?;
+        }
+        f.write_str(self.message())
+    }
+}
+
+impl error::Error for Refusal {}
 
 /// What is told of an accepted command.
 #[derive(Clone, Copy, Debug, PartialEq, Eq)]

@@ -3,7 +3,8 @@
 ghost use Rattle.std.specs.Prelude.{◌≡◌};
 ghost use Rattle.pcef_packet.specs.Addresses.{agrees_in, same_front, ue_side};
 
-use thiserror::Error;
+use std::error::Error;
+use std::fmt::{self, Display, Formatter, Write};
 
 /// The direction of a packet, as the gateway was given it.
 #[derive(Clone, Copy, Debug, PartialEq, Eq)]
@@ -50,24 +51,40 @@ pub struct Header {
 }
 
 /// Why octets are no packet. Of several faults the first in this order is answered.
-#[derive(Clone, Copy, Debug, PartialEq, Eq, Error)]
+#[derive(Clone, Copy, Debug, PartialEq, Eq)]
 pub enum PacketFault {
     /// There are no octets.
-    #[error("the packet has no octets")]
     Empty,
     /// The version isn't 4.
-    #[error("the version isn't 4")]
     Version,
     /// There are fewer than 20 octets.
-    #[error("the packet is shorter than a header")]
     ShortHeader,
     /// The header length is below 20 octets or beyond the octets given.
-    #[error("the header length is wrong")]
     BadHeaderLength,
     /// The total length is below the header length or beyond the octets given.
-    #[error("the total length is wrong")]
     BadTotalLength,
 }
+
+impl PacketFault {
+    /// What the fault means, in a few words.
+    fn message(self) -> &'static str {
+        match self {
+            PacketFault::Empty => "the packet has no octets",
+            PacketFault::Version => "the version isn't 4",
+            PacketFault::ShortHeader => "the packet is shorter than a header",
+            PacketFault::BadHeaderLength => "the header length is wrong",
+            PacketFault::BadTotalLength => "the total length is wrong",
+        }
+    }
+}
+
+impl Display for PacketFault {
+    fn fmt<W: Write>(&self, f: &mut Formatter<W>) -> fmt::Result {
+        f.write_str(self.message())
+    }
+}
+
+impl Error for PacketFault {}
 
 /// Whether two numbers of 32 bits agree in their first bits.
 fn is_same_front(bits: u8, a: u32, b: u32) -> bool

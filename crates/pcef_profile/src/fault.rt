@@ -6,34 +6,51 @@ ghost use Rattle.pcef_profile.specs.ProfileOf.{fault_number};
 ghost use Rattle.pcef_profile.specs.declared.fault.ReadProfileFault.TheVariants.{NoMemory};
 
 use std::alloc::AllocFailed;
-use thiserror::Error;
+use std::error::Error;
+use std::fmt::{self, Display, Formatter, Write};
 
 /// Why a profile can't be read. Of several faults the first in this order is answered, wherever in the
 /// text it is.
-#[derive(Clone, Copy, Debug, PartialEq, Eq, Error)]
+#[derive(Clone, Copy, Debug, PartialEq, Eq)]
 pub enum ReadProfileFault {
     /// The text isn't TOML.
-    #[error("the profile isn't TOML")]
     NotToml,
     /// A table has a key that it may not have.
-    #[error("a key of the profile is unknown")]
     UnknownKey,
     /// A table lacks a key.
-    #[error("a key of the profile is missing")]
     Missing,
     /// A value has the wrong kind or is out of range.
-    #[error("a value of the profile is wrong")]
     BadValue,
     /// The QCI of the default bearer is neither standard nor declared.
-    #[error("the default QCI is unknown")]
     UnknownQci,
     /// The QCI of the default bearer has a guaranteed bit rate.
-    #[error("the default QCI has a guaranteed bit rate")]
     DefaultIsGbr,
     /// There is no memory left.
-    #[error("there is no memory left")]
     NoMemory,
 }
+
+impl ReadProfileFault {
+    /// What the fault means, in a few words.
+    fn message(self) -> &'static str {
+        match self {
+            ReadProfileFault::NotToml => "the profile isn't TOML",
+            ReadProfileFault::UnknownKey => "a key of the profile is unknown",
+            ReadProfileFault::Missing => "a key of the profile is missing",
+            ReadProfileFault::BadValue => "a value of the profile is wrong",
+            ReadProfileFault::UnknownQci => "the default QCI is unknown",
+            ReadProfileFault::DefaultIsGbr => "the default QCI has a guaranteed bit rate",
+            ReadProfileFault::NoMemory => "there is no memory left",
+        }
+    }
+}
+
+impl Display for ReadProfileFault {
+    fn fmt<W: Write>(&self, f: &mut Formatter<W>) -> fmt::Result {
+        f.write_str(self.message())
+    }
+}
+
+impl Error for ReadProfileFault {}
 
 impl<T: Drop> From<AllocFailed<T>> for ReadProfileFault {
     ghost from_gives = { λ _ fault. fault ≡ NoMemory };

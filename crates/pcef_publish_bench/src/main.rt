@@ -16,7 +16,7 @@ ghost use Rattle.std.specs.Prelude.{◌≡◌, ◌<◌, [], IfOk};
 ghost use Rattle.std.specs.Arc.{arc_value};
 
 use pcef_index::Indexed;
-use pcef_publish::{Opened, Publisher, Subscriber};
+use pcef_publish::{Board, Opened, Publisher, Slot, Subscriber};
 use pcef_share::Naming;
 use std::alloc::{AllocError, Global};
 use std::marker::Brand;
@@ -121,7 +121,58 @@ struct Reached {
     times: Times,
 }
 
-/// The newest generation, and the one that the last subscriber holds.
+/// Publishes the next table, and lets each subscriber refresh. Where it is timed, so many owners of tables are swapped
+/// beside them.
+fn publish_next<N: Naming, W: Board<Slot<N>> + Drop, C: Clock>(
+    clock: &C,
+    alloc: Global,
+    load: Load,
+    publisher: &mut Publisher<N, W>,
+    subscribers: &mut [Subscriber<N>],
+    held: &mut [Arc<Indexed>],
+    times: &mut Times,
+) -> Option<()> {
+    let generation = publisher.generation().checked_add(1)?;
+    let table = empty_table(alloc, generation).ok()?;
+    let newest = Arc::try_clone(&table).ok()?;
+    publisher.publish(table).ok()?;
+    if load.is_timed {
+        time_each(clock, subscribers, held, &newest, times).ok()?;
+    }
+    refresh_each(subscribers, load.refreshes);
+    Some(())
+}
+
+/// Publishes all tables: the newest generation, the one that the last subscriber holds, and what it took.
+fn publish_all<N: Naming, W: Board<Slot<N>> + Drop, C: Clock>(
+    clock: &C,
+    alloc: Global,
+    load: Load,
+    publisher: &mut Publisher<N, W>,
+    subscribers: &mut [Subscriber<N>],
+) -> Option<Reached> {
+    let mut held = owners(alloc, subscribers.last()?.current().1, load.subscribers).ok()?;
+    let mut times = Times::new(alloc);
+    for _ in 0..load.tables {
+        publish_next(
+            clock,
+            alloc,
+            load,
+            publisher,
+            subscribers,
+            &mut held,
+            &mut times,
+        )?;
+    }
+    times.sort().ok()?;
+    Some(Reached {
+        newest: publisher.generation(),
+        held: subscribers.last()?.current().0,
+        times,
+    })
+}
+
+/// What is reached by a publisher of its own.
 fn measured<N: Naming, R: Wait + Drop, C: Clock>(
     rt: R,
     clock: &C,
@@ -134,26 +185,12 @@ fn measured<N: Naming, R: Wait + Drop, C: Clock>(
     requires entries { opened.table.entries ≡ [] }
     requires subscribers { 0 < load.subscribers }
 {
-    let begun = Publisher::<N, _>::new(rt, alloc, opened, load.subscribers as usize).ok();
-    let (mut publisher, mut subscribers) = begun?;
-    let mut held = owners(alloc, subscribers.last()?.current().1, load.subscribers).ok()?;
-    let mut times = Times::new(alloc);
-    for _ in 0..load.tables {
-        let generation = publisher.generation().checked_add(1)?;
-        let table = empty_table(alloc, generation).ok()?;
-        let newest = Arc::try_clone(&table).ok()?;
-        publisher.publish(table).ok()?;
-        if load.is_timed {
-            time_each(clock, &mut subscribers, &mut held, &newest, &mut times).ok()?;
+    match Publisher::<N, _>::new(rt, alloc, opened, load.subscribers as usize) {
+        Ok((mut publisher, mut subscribers)) => {
+            publish_all(clock, alloc, load, &mut publisher, &mut subscribers)
         }
-        refresh_each(&mut subscribers, load.refreshes);
+        Err(_) => None,
     }
-    times.sort().ok()?;
-    Some(Reached {
-        newest: publisher.generation(),
-        held: subscribers.last()?.current().0,
-        times,
-    })
 }
 
 /// Tells what one refresh or swap of a kind took, in hundredths of a nanosecond.

@@ -10,7 +10,6 @@ ghost use Rattle.pcef_share.specs.Names.{name_at};
 mod acting;
 mod coming;
 mod commanding;
-mod crowded;
 mod gathering;
 mod held_up;
 mod last_flush;
@@ -104,8 +103,6 @@ enum Step {
     HoldUp,
     /// As [`last_flush::last_flush`].
     LastFlush,
-    /// As [`crowded::crowded`].
-    Crowd,
 }
 
 /// What happens, and what is told of it.
@@ -296,7 +293,6 @@ fn seen_of<
         Kind::Worker => acting::seen(rt, shared, workers, step),
         Kind::HoldUp => held_up::held_up(rt, alloc, shared, workers),
         Kind::LastFlush => last_flush::last_flush(rt, alloc, shared, desk, workers),
-        Kind::Crowd => crowded::crowded(rt, alloc, shared, desk),
     }
 }
 
@@ -308,7 +304,6 @@ enum Kind {
     Worker,
     HoldUp,
     LastFlush,
-    Crowd,
 }
 
 fn kind_of(step: Step) -> Kind {
@@ -330,7 +325,6 @@ fn kind_of(step: Step) -> Kind {
         | Step::HandedIn(_) => Kind::Place,
         Step::HoldUp => Kind::HoldUp,
         Step::LastFlush => Kind::LastFlush,
-        Step::Crowd => Kind::Crowd,
         _ => Kind::Worker,
     }
 }

@@ -246,6 +246,35 @@ impl SessionState {
             .reserve(reports.len() + 9 + self.lanes.attached())
     }
 
+    /// The table that a command makes, with its index, and what the command reports by itself, once there is room.
+    fn ready_with(
+        &mut self,
+        command: &Command,
+        rule: Option<&Activation>,
+        bearer: Option<BearerId>,
+    ) -> Result<(Option<Arc<Indexed>>, Vec<PendingReport>), AllocError>
+        requires accepted { Accepts self.old command.now }
+        requires changing { changes self.old.setting self.old.journal command.now ≡ true }
+        requires rule { MakesActive self.old command.now (option_copied rule) }
+        requires bearer { GetsBearer self.old.setting self.old.journal (option_copied rule) bearer }
+        ensures setting { self.new.setting ≡ self.old.setting }
+        ensures journal { self.new.journal ≡ self.old.journal }
+        ensures room { HasAtLeast self.old.room self.new.room }
+        ensures table { IfOk result (λ r. IsNextTable self.old command.now
+            (option_map (λ t. arc_value t) r.0)) }
+        ensures reports { IfOk result (λ r. r.1.items
+            ≡ plan self.old.setting self.old.journal command.now) }
+        ensures entries { IfOk result (λ r. length r.1.items + 9 + length (attached self.old.journal)
+            ≤ self.new.room.entries) }
+        ensures rules { OnOk result (0 < self.new.room.rules) }
+    {
+        let table = self.next_table(command, rule, bearer)?;
+        let table = share(self.alloc, table, &self.listing)?;
+        let reports = self.plan(command, rule)?;
+        self.take_room(reports.as_slice())?;
+        Ok((table, reports))
+    }
+
     /// Takes all memory that an accepted command needs, and changes nothing that can be seen but room.
     fn ready(&mut self, command: Command) -> Result<PreparedChange, AllocError>
         requires accepted { Accepts self.old command }
@@ -258,20 +287,16 @@ impl SessionState {
     {
         let rule = self.activation(&command)?;
         let bearer = self.bearer_for_rule(&command, rule.as_ref());
-        let table = share(
-            self.alloc,
-            self.next_table(&command, rule.as_ref(), bearer)?,
-            &self.listing,
-        )?;
-        let reports = self.plan(&command, rule.as_ref())?;
-        self.take_room(reports.as_slice())?;
-        Ok(PreparedChange {
-            command,
-            table,
-            rule,
-            bearer,
-            reports,
-        })
+        match self.ready_with(&command, rule.as_ref(), bearer) {
+            Ok((table, reports)) => Ok(PreparedChange {
+                command,
+                table,
+                rule,
+                bearer,
+                reports,
+            }),
+            Err(refused) => Err(refused),
+        }
     }
 
     /// Looks whether a command is accepted, and takes all memory that it needs, or answers the first

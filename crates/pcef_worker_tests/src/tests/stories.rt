@@ -246,19 +246,6 @@ static STORIES: [Story; 14] = [
         ],
         end: [1, 2, 0, 628, 628, 0, 1],
     },
-    // What they hand in isn't kept.
-    Story {
-        name: "sixteen workers finish while the session is terminated",
-        rows: 100,
-        places: 16,
-        steps: &[
-            (Install, [1, 1, 0, 0]),
-            (Monitor, [1, 2, 0, 0]),
-            (Crowd, [16, 1, 0, 0]),
-            (Collect(Cause::Terminated), [1, 0, 448, 0]),
-        ],
-        end: [16; 7],
-    },
 ];
 
 #[test]
