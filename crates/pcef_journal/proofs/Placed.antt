@@ -1,26 +1,13 @@
 -- Kept rows, as names are added.
-use Rattle.std.proofs.Common.{◌≡◌, ◌∙◌, sym, ap, refl, ℕ, List, [], ◌∷◌, ◌++◌, length, arith, length-append}
+use Rattle.std.proofs.Common.{◌≡◌, ◌∙◌, ap, refl, ℕ, List, [], ◌∷◌, ◌++◌, length, arith, length-append}
 use Rattle.std.proofs.lemmas.List.{get_or_append_left, map-append, reverse-append}
 use Rattle.pcef_model.specs.declared.row.Row.{Row}
-use Rattle.std.specs.Prelude.{reverse, if◌then◌else◌}
-use Rattle.std.specs.List.{list_any}
-use Rattle.indexmap.specs.IndexSet.{insert_key}
-use Rattle.std.proofs.lemmas.List.{append-nil}
-use Rattle.std.proofs.Common.{Bool, true, false}
+use Rattle.std.specs.Prelude.{reverse}
 use Rattle.pcef_journal.specs.declared.kept_row.KeptRow.{KeptRow}
 use Rattle.pcef_journal.specs.declared.kept_row.KeptVerdict.{KeptVerdict}
 use Rattle.pcef_journal.specs.declared.kept_row.KeptVerdict.TheVariants.{Stray, Unmatched, Gated, Passed}
 use Rattle.pcef_model.specs.declared.verdict.Verdict.TheVariants as verdict
-use Rattle.pcef_journal.specs.KeptNames.{GoesOn}
 use Rattle.pcef_journal.specs.KeptRows.{ArePlaced, IsPlaced, row_of, rows_of, verdict_of}
-
--- a name is added where it is new
-pub name_goes_on : (eq : List ℕ → List ℕ → Bool) (old kept new : List (List ℕ)) (name : List ℕ) → kept ≡ old → new ≡ insert_key eq kept name → GoesOn old new
-name_goes_on eq old kept new name same is = rw (is, same) (inserted (list_any (eq name) old))
-  where
-    inserted : (b : Bool) → GoesOn old (if b then old else old ++ name ∷ [])
-    inserted true = ([], sym (append-nil old))
-    inserted false = (name ∷ [], refl)
 
 module _ (names more : List (List ℕ)) where
   verdict_stays : (place : ℕ) (v : KeptVerdict) → IsPlaced (length names) place v → verdict_of (names ++ more) place v ≡ verdict_of names place v
