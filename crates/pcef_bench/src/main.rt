@@ -13,6 +13,9 @@
 mod packets;
 mod rules;
 
+ghost use Rattle.pcef_catalog.specs.Catalogs.{offers_of};
+ghost use Rattle.pcef_table.specs.Tables.{IsTable};
+
 use packets::{Tally, Way, judge_all, without_count, write_verdicts};
 use pcef_catalog::Catalog;
 use pcef_index::{Index, Indexed};
@@ -47,6 +50,55 @@ fn build(rt: &HostRuntime, catalog: &Catalog, rules: &str, times: u32) -> io::Re
     Ok(true)
 }
 
+/// Judges recorded packets so many times, and writes how many went which way, or the verdict on each packet.
+fn judge<W: Write>(
+    catalog: &Catalog,
+    rules: &Indexed,
+    recorded: &[u8],
+    passes: u32,
+    way: Way,
+    writer: &mut W,
+) -> io::Result<()>
+    requires { IsTable (offers_of catalog.now) rules.now.entries }
+{
+    if passes == 0 {
+        return write_verdicts(catalog, rules, way, UE, recorded, writer);
+    }
+    let mut tally = Tally::default();
+    for _ in 0..passes {
+        judge_all(catalog, rules, way, UE, recorded, &mut tally);
+    }
+    writeln!(
+        writer,
+        "passed {} gated {} unmatched {} stray {} octets {}",
+        tally.passed, tally.gated, tally.unmatched, tally.stray, tally.octets
+    )
+}
+
+/// Judges the packets of a file.
+fn judge_file(
+    rt: &HostRuntime,
+    catalog: &Catalog,
+    rules: &Indexed,
+    packets: &str,
+    passes: u32,
+    way: Way,
+) -> io::Result<()>
+    requires { IsTable (offers_of catalog.now) rules.now.entries }
+{
+    let file = fs::read(rt, packets)?;
+    let mut writer = BufWriter::new(rt.alloc(), io::writer(rt))?;
+    judge(
+        catalog,
+        rules,
+        without_count(&file),
+        passes,
+        way,
+        &mut writer,
+    )?;
+    writer.flush()
+}
+
 /// Judges the packets of one file by the rules of another, or tells that these are none.
 fn run(
     rt: &HostRuntime,
@@ -57,27 +109,11 @@ fn run(
     way: Way,
 ) -> io::Result<bool> {
     let text = fs::read_to_string(rt, rules)?;
-    let file = fs::read(rt, packets)?;
-    let recorded = without_count(&file);
-    let mut writer = BufWriter::new(rt.alloc(), io::writer(rt))?;
     let Ok(table) = rules::table(rt.alloc(), catalog, text.as_str()) else {
         return Ok(false);
     };
     let rules = Indexed::new(rt.alloc(), table, catalog)?;
-    if passes == 0 {
-        write_verdicts(catalog, &rules, way, UE, recorded, &mut writer)?;
-    } else {
-        let mut tally = Tally::default();
-        for _ in 0..passes {
-            judge_all(catalog, &rules, way, UE, recorded, &mut tally);
-        }
-        writeln!(
-            writer,
-            "passed {} gated {} unmatched {} stray {} octets {}",
-            tally.passed, tally.gated, tally.unmatched, tally.stray, tally.octets
-        )?;
-    }
-    writer.flush()?;
+    judge_file(rt, catalog, &rules, packets, passes, way)?;
     Ok(true)
 }
 

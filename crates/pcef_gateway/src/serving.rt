@@ -105,8 +105,33 @@ fn rest<C: Detects + Drop, N: Naming, W: Board<Slot<N>> + Drop, G: Gate + Drop, 
     hand_over(rt, shared, worker)
 }
 
-/// Takes packets till the ring ends, and hands their rows over where 32 wait or no packet comes. Ends too where they
-/// aren't taken over, by the refusal.
+/// Takes the next packet of the ring, and hands rows over where 32 wait or no packet comes. Says whether the ring goes on,
+/// or the refusal where rows aren't taken over.
+fn serve_next<C: Detects + Drop, N: Naming, W: Board<Slot<N>> + Drop, G: Gate + Drop, R: Wait>(
+    rt: &R,
+    shared: &Shared<C, N, W>,
+    worker: &mut Worker<C, N, G>,
+    consumer: &mut Consumer<Header>,
+) -> Result<bool, FlushRefusal>
+    requires { taken worker.old ≡ received consumer.old }
+    ensures ring { SameConsumer consumer.old consumer.new }
+    ensures taken { taken worker.new ≡ received consumer.new }
+{
+    make_room(rt, shared, worker)?;
+    let gone = consumer.is_abandoned();
+    match consumer.pop() {
+        Ok(header) => take(worker, header),
+        Err(_) => {
+            if gone {
+                return Ok(false);
+            }
+            rest(rt, shared, worker)?;
+        }
+    }
+    Ok(true)
+}
+
+/// Takes packets till the ring ends. Ends too where rows aren't taken over, by the refusal.
 fn serve<C: Detects + Drop, N: Naming, W: Board<Slot<N>> + Drop, G: Gate + Drop, R: Wait>(
     rt: &R,
     shared: &Shared<C, N, W>,
@@ -118,16 +143,8 @@ fn serve<C: Detects + Drop, N: Naming, W: Board<Slot<N>> + Drop, G: Gate + Drop,
     ensures taken { taken worker.new ≡ received consumer.new }
 {
     for _ in rt.forever() {
-        make_room(rt, shared, worker)?;
-        let gone = consumer.is_abandoned();
-        match consumer.pop() {
-            Ok(header) => take(worker, header),
-            Err(_) => {
-                if gone {
-                    return Ok(());
-                }
-                rest(rt, shared, worker)?;
-            }
+        if !serve_next(rt, shared, worker, consumer)? {
+            return Ok(());
         }
     }
     unreachable!()
@@ -180,6 +197,21 @@ fn lacks_memory(refusal: FlushRefusal) -> bool {
     matches!(refusal, FlushRefusal::NoMemory)
 }
 
+/// What a worker leaves behind that has left. What comes still is dropped.
+fn gone<N: Naming, R: Wait>(
+    rt: &R,
+    finished: Finished<N>,
+    consumer: Consumer<Header>,
+    lacked_memory: bool,
+) -> Left<N>
+    requires { HandsIn (received consumer) 0 finished }
+    ensures { SameConsumer consumer result.consumer }
+{
+    let mut consumer = consumer;
+    let dropped = drain(rt, &mut consumer);
+    Left::new(finished, consumer, dropped, lacked_memory)
+}
+
 /// A worker's work: it takes the packets of its ring till that ends, and leaves. After a refused flush it leaves at
 /// once, and drops what comes still.
 pub(crate) fn work<C: Detects + Drop, N: Naming, W: Board<Slot<N>> + Drop, G: Gate + Drop, R: Wait>(
@@ -194,11 +226,14 @@ pub(crate) fn work<C: Detects + Drop, N: Naming, W: Board<Slot<N>> + Drop, G: Ga
 {
     let mut worker = worker;
     let mut consumer = consumer;
-    let refusal = serve(rt, shared, &mut worker, &mut consumer).err();
-    let (finished, lacked_memory) = match refusal {
-        None => leave(rt, shared, worker),
-        Some(refusal) => (worker.abandon(rt, shared), lacks_memory(refusal)),
-    };
-    let dropped = drain(rt, &mut consumer);
-    Left::new(finished, consumer, dropped, lacked_memory)
+    match serve(rt, shared, &mut worker, &mut consumer) {
+        Ok(()) => {
+            let (finished, lacked_memory) = leave(rt, shared, worker);
+            gone(rt, finished, consumer, lacked_memory)
+        }
+        Err(refusal) => {
+            let finished = worker.abandon(rt, shared);
+            gone(rt, finished, consumer, lacks_memory(refusal))
+        }
+    }
 }
