@@ -1,5 +1,5 @@
 -- Answers have no float, so that their text is known.
-use Rattle.std.proofs.Common.{◌≡◌, ◌∙◌, ℕ, List, [], ◌∷◌, Bool, true, false, Option, Some, None, Result, IfOk, filter_map, length, refl, ap, string_bytes}
+use Rattle.std.proofs.Common.{◌≡◌, ◌∙◌, ℕ, List, [], ◌∷◌, false, Option, Some, None, Result, IfOk, filter_map, length, refl, ap, string_bytes}
 use Rattle.std.specs.List.{cons_option}
 use Rattle.std.specs.Option.{option_map}
 use Rattle.std.specs.Prelude.{String}
@@ -8,53 +8,20 @@ use Rattle.std.specs.declared.alloc.Global.{Global}
 use Rattle.std.proofs.lemmas.Result.{IfOk-weaker}
 use Rattle.serde_json.specs.Data.{Data, array}
 use Rattle.serde_json.specs.View.{items_of}
-use Rattle.serde_json.specs.Written.{has_float, members_have_float, compact_text}
-use Rattle.pcef_rule.specs.declared.quantity.BearerId.{BearerId}
+use Rattle.serde_json.specs.Written.{has_float, compact_text}
 use Rattle.pcef_rule.specs.declared.quantity.Sums.{Sums}
 use Rattle.pcef_table.specs.declared.entry.Entry.{Entry}
 use Rattle.pcef_catalog.specs.declared.listing.Offer.{Offer}
-use Rattle.pcef_model.specs.declared.report.Body.{Body}
-use Rattle.pcef_model.specs.declared.report.Body.TheVariants.{Usage, Access, Inactive}
-use Rattle.pcef_model.specs.declared.report.Report.{Report}
-use Rattle.pcef_model.specs.Entries.{Journal}
 use Rattle.pcef_bearer.specs.declared.bearers.Bound.{Bound}
 use Rattle.pcef_bearer.specs.Bindings.{guaranteed, rules_on}
 use Rattle.pcef_usage.specs.declared.usage.KeyState.{KeyState}
-use Rattle.pcef_model.specs.declared.answer.Accepted.{Accepted}
-use Rattle.pcef_answer.specs.RefusalAnswers.{data_of}
-use Rattle.pcef_answer.specs.ReportAnswers.{body_data, reports_data, reports_told}
 use Rattle.pcef_answer.specs.ShowAnswers.{active_data, bearer_data, bearer_ids, bearer_told, bearers_told, kept_data, states_data}
-use Rattle.pcef_answer.specs.StepAnswers.{accepted_data, members_told}
 
 -- what is written for a value is the text of its data
 pub text_known : (r : Result (String Global) AllocError) (seen due : Data) → seen ≡ due → has_float due ≡ false
     → IfOk r (λ text. has_float seen ≡ false → string_bytes text ≡ compact_text seen) → IfOk r (λ text. string_bytes text ≡ compact_text due)
 text_known r seen due same none written =
     IfOk-weaker r _ _ (λ text known. known (ap has_float same ∙ none) ∙ ap compact_text same) written
-
-pub refusal : (workers : Option ℕ) (name : List ℕ) (number : ℕ) → has_float (data_of workers name number) ≡ false
-refusal None name number = refl
-refusal (Some workers) name number = refl
-
-body : (number : ℕ) (b : Body) → has_float (body_data number b) ≡ false
-body number (Usage key octets cause) = refl
-body number (Access kind value) = refl
-body number (Inactive rule cause) = refl
-
-pub reports : (rs : List Report) → has_float (reports_data rs) ≡ false
-reports [] = refl
-reports (r ∷ rs) = rw (body r.number r.body) (reports rs)
-
-members : (told : Data) → has_float told ≡ false → (bearer : Option BearerId) (generation : ℕ) (unchanged : Bool) → members_have_float (members_told told bearer generation unchanged) ≡ false
-members told none None generation true = rw none refl
-members told none None generation false = rw none refl
-members told none (Some b) generation true = rw none refl
-members told none (Some b) generation false = rw none refl
-
-pub accepted : (journal : Journal) (a : Accepted) → has_float (accepted_data journal a) ≡ false
-accepted journal a =
-    let rs = reports_told journal a.first_report a.past_last_report in
-    members (reports_data rs) (reports rs) a.bearer a.generation a.unchanged
 
 -- ---- what is shown
 entries : (offers : List Offer) (es : List Entry) → has_float (active_data offers es) ≡ false

@@ -1,4 +1,4 @@
 pub mod AnswerTexts
-pub mod NoFloats
+pub mod PlainWords
 pub mod Showing
 pub mod WrittenTexts

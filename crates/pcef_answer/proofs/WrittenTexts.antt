@@ -9,6 +9,18 @@ use Rattle.json.specs.Print.{escape, escape_byte}
 use Rattle.pcef_rule.specs.Name.{IsName, IsVisible}
 
 -- ---- pieces, one after the other
+pub last_two : {A E : Type 0} (result : Result A E) (s t u a b : List ℕ) → t ≡ s ++ a → OnOk result (u ≡ t ++ b) → OnOk result (u ≡ s ++ (a ++ b))
+last_two (Ok x) s t u a b p q = q ∙ ap (λ x. x ++ b) p ∙ append_assoc s a b
+last_two (Err e) s t u a b p q = tt
+
+-- the last one as `push_str` tells it
+pub pushed_two : {A E : Type 0} (result : Result A E) (s t u a b : List ℕ) → t ≡ s ++ a → u ≡ (if is_ok result then t ++ b else t) → OnOk result (u ≡ s ++ (a ++ b))
+pushed_two (Ok x) s t u a b p q = q ∙ ap (λ x. x ++ b) p ∙ append_assoc s a b
+pushed_two (Err e) s t u a b p q = tt
+
+pub two_alone : (s t u a b : List ℕ) → s ≡ [] → t ≡ s ++ a → u ≡ t ++ b → u ≡ a ++ b
+two_alone s t u a b nothing p q = q ∙ ap (λ x. x ++ b) (p ∙ ap (λ x. x ++ a) nothing)
+
 pub three : (s t u v a b c : List ℕ) → t ≡ s ++ a → u ≡ t ++ b → v ≡ u ++ c → v ≡ s ++ (a ++ (b ++ c))
 three s t u v a b c p q r = r ∙ ap (λ x. x ++ c) (q ∙ ap (λ x. x ++ b) p) ∙ append_assoc (s ++ a) b c ∙ append_assoc s a (b ++ c)
 

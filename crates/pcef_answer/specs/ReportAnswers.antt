@@ -59,9 +59,6 @@ abbrev pub reports_data : List Report → Data
 reports_data told = array (items_of (map report_data told))
 
 -- ---- for private clauses
--- the reports that are told from one number to another, as a list
-abbrev pub told_reports : Journal → ℕ → ℕ → Data
-told_reports journal first past_last = reports_data (reports_told journal first past_last)
-
+-- the reports that are told from one number to another
 abbrev pub reports_text : Journal → ℕ → ℕ → List ℕ
-reports_text journal first past_last = compact_text (told_reports journal first past_last)
+reports_text journal first past_last = compact_text (reports_data (reports_told journal first past_last))

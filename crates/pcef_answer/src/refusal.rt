@@ -1,28 +1,39 @@
 //! The answers to refused steps.
 
-ghost use Rattle.std.specs.Prelude.{◌≡◌, IfOk, string_bytes};
-ghost use Rattle.serde_json.specs.View.{view};
-ghost use Rattle.pcef_answer.specs.RefusalAnswers.{refused_data, refused_text, refusal_name, refusal_number, refusal_count, counted_data, refusal_data, refusal_text, attach_fault_text, flush_refusal_text, no_worker_text};
+ghost use Rattle.std.specs.Prelude.{◌≡◌, ◌++◌, IfOk, OnOk, codes, decimal, string_bytes};
+ghost use Rattle.json.specs.Print.{escape};
+ghost use Rattle.serde_json.specs.Written.{compact_text};
+ghost use Rattle.pcef_answer.specs.RefusalAnswers.{refused_text, refusal_name, refusal_number, refusal_count, counted_data, refusal_text, attach_fault_text, flush_refusal_text, no_worker_text};
+ghost use Rattle.pcef_answer.specs.Written.{GoesOn};
 
+use crate::written::{push_count, push_word};
 use pcef_model::{AttachFault, FlushRefusal, Refusal};
-use serde_json::{Value, json};
 use std::alloc::{AllocError, Global};
 
-fn refused_value(alloc: Global, name: &str, number: u8) -> Result<Value, AllocError>
-    ensures { IfOk result (λ v. view v ≡ refused_data name.now number) }
+// the front ends with the quotation mark before the name
+fn push_refused(text: &mut String, front: &str, name: &str, number: u8) -> Result<(), AllocError>
+    requires { escape name.now ≡ name.now }
+    ensures { OnOk result (GoesOn text.old text.new
+        ((front.now ++ (escape name.now ++ codes "\""))
+        ++ ((codes ",\"refused\":" ++ decimal number) ++ codes "}"))) }
 {
-    json!(in alloc; { "name": name, "refused": number })
+    push_word(text, front, name)?;
+    push_count(text, ",\"refused\":", u64::from(number))?;
+    text.push_str("}")
 }
 
 /// A refusal by its name and number.
 pub(crate) fn refused_answer(alloc: Global, name: &str, number: u8) -> Result<String, AllocError>
+    requires { escape name.now ≡ name.now }
     ensures { IfOk result (λ text. string_bytes text ≡ refused_text name.now number) }
 {
-    refused_value(alloc, name, number)?.to_string(alloc)
+    let mut text = String::with_capacity(alloc, 64)?;
+    push_refused(&mut text, "{\"name\":\"", name, number)?;
+    Ok(text)
 }
 
 /// A step of a worker that isn't attached.
-#[tactic(auto, unfolding(crate::specs::RefusalAnswers::no_worker_text))]
+#[tactic(auto, unfolding(crate::specs::RefusalAnswers::no_worker_text, json::specs::Print::escape_byte))]
 pub(crate) fn no_worker_answer(alloc: Global) -> Result<String, AllocError>
     ensures { IfOk result (λ text. string_bytes text ≡ no_worker_text) }
 {
@@ -33,27 +44,32 @@ pub(crate) fn no_worker_answer(alloc: Global) -> Result<String, AllocError>
 pub(crate) fn refusal_answer(alloc: Global, refusal: Refusal) -> Result<String, AllocError>
     ensures { IfOk result (λ text. string_bytes text ≡ refusal_text refusal) }
 {
-    refusal_value(alloc, refusal)?.to_string(alloc)
+    let mut text = String::with_capacity(alloc, 64)?;
+    push_refusal(&mut text, refusal)?;
+    Ok(text)
 }
 
-fn refusal_value(alloc: Global, refusal: Refusal) -> Result<Value, AllocError>
-    ensures { IfOk result (λ v. view v ≡ refusal_data refusal) }
+fn push_refusal(text: &mut String, refusal: Refusal) -> Result<(), AllocError>
+    ensures { OnOk result (GoesOn text.old text.new (refusal_text refusal)) }
 {
     let (name, number) = name_of_refusal(refusal);
     match count_of_refusal(refusal) {
-        None => refused_value(alloc, name, number),
-        Some(count) => counted_value(alloc, count, name, number),
+        None => push_refused(text, "{\"name\":\"", name, number),
+        Some(count) => push_counted(text, count, name, number),
     }
 }
 
-fn counted_value(alloc: Global, count: u8, name: &str, number: u8) -> Result<Value, AllocError>
-    ensures { IfOk result (λ v. view v ≡ counted_data count name.now number) }
+fn push_counted(text: &mut String, count: u8, name: &str, number: u8) -> Result<(), AllocError>
+    requires { escape name.now ≡ name.now }
+    ensures { OnOk result (GoesOn text.old text.new
+        (compact_text (counted_data count name.now number))) }
 {
-    json!(in alloc; { "count": count, "name": name, "refused": number })
+    push_count(text, "{\"count\":", u64::from(count))?;
+    push_refused(text, ",\"name\":\"", name, number)
 }
 
 /// A refused `attach`.
-#[tactic(auto, unfolding(crate::specs::RefusalAnswers::attach_fault_text))]
+#[tactic(auto, unfolding(crate::specs::RefusalAnswers::attach_fault_text, json::specs::Print::escape_byte))]
 pub(crate) fn attach_fault_answer(alloc: Global, fault: AttachFault) -> Result<String, AllocError>
     ensures { IfOk result (λ text. string_bytes text ≡ attach_fault_text fault) }
 {
@@ -65,7 +81,7 @@ pub(crate) fn attach_fault_answer(alloc: Global, fault: AttachFault) -> Result<S
 }
 
 /// A refused `flush`.
-#[tactic(auto, unfolding(crate::specs::RefusalAnswers::flush_refusal_text))]
+#[tactic(auto, unfolding(crate::specs::RefusalAnswers::flush_refusal_text, json::specs::Print::escape_byte))]
 pub(crate) fn flush_refusal_answer(
     alloc: Global,
     refusal: FlushRefusal,

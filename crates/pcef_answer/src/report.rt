@@ -1,14 +1,17 @@
 //! Reports in answers.
 
-ghost use Rattle.std.specs.Prelude.{◌≡◌, IfOk};
-ghost use Rattle.serde_json.specs.View.{view};
+ghost use Rattle.std.specs.Prelude.{◌≡◌, ◌++◌, OnOk, codes, decimal};
+ghost use Rattle.json.specs.Print.{escape};
+ghost use Rattle.serde_json.specs.Written.{comma_if, compact_text};
+ghost use Rattle.pcef_rule.specs.Name.{IsName};
 ghost use Rattle.pcef_model.specs.declared.report.Body.TheVariants.{Access, Inactive, Usage};
-ghost use Rattle.pcef_answer.specs.ReportAnswers.{body_data, cause_text, kind_text, inactive_text, report_data, reports_data, told_reports};
+ghost use Rattle.pcef_answer.specs.ReportAnswers.{body_data, cause_text, kind_text, inactive_text, report_data, reports_data, reports_text};
+ghost use Rattle.pcef_answer.specs.Written.{GoesOn};
 
+use crate::written::{push_count, push_name, push_word};
 use pcef_journal::{Journal, Reports};
 use pcef_model::{AccessKind, Body, Cause, InactiveCause, NoticeValue, Report};
 use pcef_rule::{KeyName, RuleName};
-use serde_json::{Value, json};
 use std::alloc::{AllocError, Global};
 
 fn cause_text(cause: Cause) -> &'static str
@@ -42,73 +45,107 @@ fn inactive_text(cause: InactiveCause) -> &'static str
     }
 }
 
-fn report_value(alloc: Global, report: &Report) -> Result<Value, AllocError>
-    ensures { IfOk result (λ v. view v ≡ report_data report.now) }
+fn push_report(text: &mut String, report: &Report) -> Result<(), AllocError>
+    ensures { OnOk result (GoesOn text.old text.new (compact_text (report_data report.now))) }
 {
     let number = report.number;
     match &report.body {
-        Body::Usage { key, octets, cause } => usage_value(alloc, number, key, *octets, *cause),
-        Body::Access { kind, value } => access_value(alloc, number, *kind, value),
-        Body::Inactive { rule, cause } => inactive_value(alloc, number, rule, *cause),
+        Body::Usage { key, octets, cause } => push_usage(text, number, key, *octets, *cause),
+        Body::Access { kind, value } => push_access(text, number, *kind, value),
+        Body::Inactive { rule, cause } => push_inactive(text, number, rule, *cause),
     }
 }
 
-fn usage_value(
-    alloc: Global,
+fn push_usage(
+    text: &mut String,
     number: u64,
     key: &KeyName,
     octets: u64,
     cause: Cause,
-) -> Result<Value, AllocError>
-    ensures { IfOk result (λ v. view v ≡ body_data number (Usage key.now octets cause)) }
+) -> Result<(), AllocError>
+    ensures { OnOk result (GoesOn text.old text.new
+        (compact_text (body_data number (Usage key.now octets cause)))) }
 {
-    json!(in alloc; { "cause": cause_text(cause), "key": key.as_str(), "number": number, "octets": octets })
+    push_word(text, "{\"cause\":\"", cause_text(cause))?;
+    push_name(text, ",\"key\":\"", key.as_str())?;
+    push_count(text, ",\"number\":", number)?;
+    push_count(text, ",\"octets\":", octets)?;
+    text.push_str("}")
 }
 
-fn access_value(
-    alloc: Global,
+fn push_access(
+    text: &mut String,
     number: u64,
     kind: AccessKind,
     value: &NoticeValue,
-) -> Result<Value, AllocError>
-    ensures { IfOk result (λ v. view v ≡ body_data number (Access kind value.now)) }
+) -> Result<(), AllocError>
+    ensures { OnOk result (GoesOn text.old text.new
+        (compact_text (body_data number (Access kind value.now)))) }
 {
-    json!(in alloc; { "event": kind_text(kind), "number": number, "value": value.as_str() })
+    push_word(text, "{\"event\":\"", kind_text(kind))?;
+    push_last(text, number, ",\"value\":\"", value.as_str())
 }
 
-fn inactive_value(
-    alloc: Global,
+fn push_inactive(
+    text: &mut String,
     number: u64,
     rule: &RuleName,
     cause: InactiveCause,
-) -> Result<Value, AllocError>
-    ensures { IfOk result (λ v. view v ≡ body_data number (Inactive rule.now cause)) }
+) -> Result<(), AllocError>
+    ensures { OnOk result (GoesOn text.old text.new
+        (compact_text (body_data number (Inactive rule.now cause)))) }
 {
-    json!(in alloc; { "cause": inactive_text(cause), "number": number, "rule": rule.as_str() })
+    push_word(text, "{\"cause\":\"", inactive_text(cause))?;
+    push_last(text, number, ",\"rule\":\"", rule.as_str())
 }
 
-fn report_values(alloc: Global, reports: Reports<'_>) -> Result<Value, AllocError>
-    ensures { IfOk result (λ v. view v ≡ reports_data reports.entry) }
+// the number, and a name as the last member
+fn push_last(text: &mut String, number: u64, front: &str, name: &str) -> Result<(), AllocError>
+    requires { IsName name.now }
+    ensures { OnOk result (GoesOn text.old text.new
+        ((codes ",\"number\":" ++ decimal number)
+        ++ ((front.now ++ (escape name.now ++ codes "\"")) ++ codes "}"))) }
 {
-    let mut list = Vec::new(alloc);
-    for report in reports {
-        list.push(report_value(alloc, report)?)?;
+    push_count(text, ",\"number\":", number)?;
+    push_name(text, front, name)?;
+    text.push_str("}")
+}
+
+fn push_item(text: &mut String, later: bool, report: &Report) -> Result<(), AllocError>
+    ensures { OnOk result (GoesOn text.old text.new
+        (comma_if later ++ compact_text (report_data report.now))) }
+{
+    if later {
+        text.push_str(",")?;
     }
-    Ok(Value::Array(list))
+    push_report(text, report)
+}
+
+fn push_list(text: &mut String, reports: Reports<'_>) -> Result<(), AllocError>
+    ensures { OnOk result (GoesOn text.old text.new (compact_text (reports_data reports.entry))) }
+{
+    text.push_str("[")?;
+    let mut later = false;
+    for report in reports {
+        push_item(text, later, report)?;
+        later = true;
+    }
+    text.push_str("]")
 }
 
 /// The reports of a journal from a number on, if it is before the other one, else none.
-pub(crate) fn report_list(
-    alloc: Global,
+pub(crate) fn push_reports(
+    text: &mut String,
     journal: &Journal,
     first: u64,
     past_last: u64,
-) -> Result<Value, AllocError>
-    ensures { IfOk result (λ v. view v ≡ told_reports journal.now.entries first past_last) }
+) -> Result<(), AllocError>
+    ensures { OnOk result (GoesOn text.old text.new
+        (reports_text journal.now.entries first past_last)) }
 {
     if first < past_last {
-        report_values(alloc, journal.reports_from(first))
+        push_list(text, journal.reports_from(first))
     } else {
-        Ok(Value::Array(Vec::new(alloc)))
+        text.push_str("[]")
     }
 }

@@ -1,32 +1,122 @@
-//! The answers to workers' steps, written piece by piece: they are the most common ones, and no JSON
-//! value stands between.
+//! The answers to steps, written piece by piece: no JSON value stands between.
 
-ghost use Rattle.std.specs.Prelude.{◌≡◌, ◌++◌, ◌<◌, ◌≤◌, ◌||◌, ◌==◌, IfOk, OnOk, codes, decimal, string_bytes};
+ghost use Rattle.std.specs.Prelude.{◌≡◌, ◌++◌, ◌<◌, ◌≤◌, ◌||◌, ◌==◌, IfOk, true, OnOk, codes, decimal, string_bytes};
 ghost use Rattle.std.specs.Bool.{OnTrue};
 ghost use Rattle.json.specs.Print.{escape, escape_byte};
-ghost use Rattle.serde_json.specs.Written.{comma_if, compact_text};
+ghost use Rattle.serde_json.specs.Written.{comma_if, compact_text, members_text};
 ghost use Rattle.pcef_answer.specs.ReportAnswers.{reports_text};
-ghost use Rattle.pcef_rule.specs.Name.{IsVisible};
+ghost use Rattle.pcef_rule.specs.Name.{IsName, IsVisible};
 ghost use Rattle.pcef_model.specs.Outcomes.{flush_answer_of};
 ghost use Rattle.pcef_model.specs.declared.verdict.Verdict.TheVariants.{Gated, Passed};
-ghost use Rattle.pcef_answer.specs.StepAnswers.{finished_data, flushed_data, judged_data, taken_data, verdicts_data};
+ghost use Rattle.pcef_answer.specs.StepAnswers.{abandoned_data, accepted_data, attached_data, finished_data, flushed_data, judged_data, refreshed_data, taken_data, unchanged_last, verdicts_data};
 ghost use Rattle.pcef_answer.specs.Written.{GoesOn, verdict_text};
 
-use crate::report::report_list;
+use crate::report::push_reports;
 use itoa::Buffer;
 use pcef_journal::Journal;
-use pcef_model::{Judged, Verdict, Verdicts};
+use pcef_model::{Accepted, Judged, Verdict, Verdicts};
 use pcef_rule::{BearerId, RuleName};
+use pcef_world::Abandoned;
 use std::alloc::{AllocError, Global};
+
+/// The answer to a command that was accepted, with the reports that the journal has for it.
+pub(crate) fn accepted(
+    alloc: Global,
+    journal: &Journal,
+    accepted: Accepted,
+) -> Result<String, AllocError>
+    ensures { IfOk result (λ text. string_bytes text
+        ≡ compact_text (accepted_data journal.now.entries accepted)) }
+{
+    let mut text = String::with_capacity(alloc, 128)?;
+    push_accepted(&mut text, journal, accepted)?;
+    Ok(text)
+}
+
+fn push_accepted(text: &mut String, journal: &Journal, accepted: Accepted) -> Result<(), AllocError>
+    ensures { OnOk result (GoesOn text.old text.new
+        (compact_text (accepted_data journal.now.entries accepted))) }
+{
+    match accepted.bearer {
+        None => push_change(text, "{\"generation\":", journal, accepted),
+        Some(bearer) => {
+            push_count(text, "{\"bearer\":", u64::from(bearer.0))?;
+            push_change(text, ",\"generation\":", journal, accepted)
+        }
+    }
+}
+
+fn push_change(
+    text: &mut String,
+    front: &str,
+    journal: &Journal,
+    accepted: Accepted,
+) -> Result<(), AllocError>
+    ensures { OnOk result (GoesOn text.old text.new
+        ((front.now ++ decimal accepted.generation) ++ (codes ",\"ok\":true,\"reports\":"
+        ++ (reports_text journal.now.entries accepted.first_report accepted.past_last_report
+        ++ members_text true (unchanged_last accepted.unchanged))))) }
+{
+    push_count(text, front, u64::from(accepted.generation))?;
+    text.push_str(",\"ok\":true,\"reports\":")?;
+    push_reports(
+        text,
+        journal,
+        accepted.first_report,
+        accepted.past_last_report,
+    )?;
+    push_end(text, accepted.unchanged)
+}
+
+#[tactic(auto, unfolding(json::specs::Print::escape_byte))]
+fn push_end(text: &mut String, unchanged: bool) -> Result<(), AllocError>
+    ensures { OnOk result (GoesOn text.old text.new
+        (members_text true (unchanged_last unchanged))) }
+{
+    if unchanged {
+        text.push_str(",\"unchanged\":true}")
+    } else {
+        text.push_str("}")
+    }
+}
+
+/// The answer to a worker that comes in this generation.
+pub(crate) fn attached(alloc: Global, generation: u32, worker: u8) -> Result<String, AllocError>
+    ensures { IfOk result (λ text. string_bytes text
+        ≡ compact_text (attached_data generation worker)) }
+{
+    let mut text = String::with_capacity(alloc, 64)?;
+    push_count(&mut text, "{\"generation\":", u64::from(generation))?;
+    push_last_count(&mut text, ",\"ok\":true,\"worker\":", u64::from(worker))?;
+    Ok(text)
+}
+
+/// The answer to a worker that holds this generation then.
+pub(crate) fn refreshed(alloc: Global, generation: u32) -> Result<String, AllocError>
+    ensures { IfOk result (λ text. string_bytes text ≡ compact_text (refreshed_data generation)) }
+{
+    let mut text = String::with_capacity(alloc, 64)?;
+    push_count(&mut text, "{\"generation\":", u64::from(generation))?;
+    text.push_str(",\"ok\":true}")?;
+    Ok(text)
+}
+
+/// How many rows waited, and the length of the worker's lane.
+pub(crate) fn abandoned(alloc: Global, abandoned: Abandoned) -> Result<String, AllocError>
+    ensures { IfOk result (λ text. string_bytes text ≡ compact_text (abandoned_data abandoned)) }
+{
+    let mut text = String::with_capacity(alloc, 64)?;
+    push_count(&mut text, "{\"abandoned\":", u64::from(abandoned.waiting))?;
+    push_last_count(&mut text, ",\"ok\":true,\"rows\":", abandoned.rows)?;
+    Ok(text)
+}
 
 /// The answer to a packet that was taken.
 pub(crate) fn taken(alloc: Global, waiting: u8) -> Result<String, AllocError>
     ensures { IfOk result (λ text. string_bytes text ≡ compact_text (taken_data waiting)) }
 {
     let mut text = String::with_capacity(alloc, 32)?;
-    text.push_str("{\"ok\":true,\"waiting\":")?;
-    push_number(&mut text, u64::from(waiting))?;
-    text.push_str("}")?;
+    push_last_count(&mut text, "{\"ok\":true,\"waiting\":", u64::from(waiting))?;
     Ok(text)
 }
 
@@ -44,7 +134,6 @@ pub(crate) fn flushed(
     text.push_str("{\"ok\":true,\"reports\":")?;
     push_reports(
         &mut text,
-        alloc,
         journal,
         verdicts.first_report,
         verdicts.past_last_report,
@@ -70,7 +159,6 @@ pub(crate) fn finished(
     text.push_str("{\"ok\":true,\"reports\":")?;
     push_reports(
         &mut text,
-        alloc,
         journal,
         verdicts.first_report,
         verdicts.past_last_report,
@@ -81,36 +169,6 @@ pub(crate) fn finished(
     push_verdicts(&mut text, &verdicts.rows)?;
     text.push_str("}")?;
     Ok(text)
-}
-
-fn push_reports(
-    text: &mut String,
-    alloc: Global,
-    journal: &Journal,
-    first: u64,
-    past_last: u64,
-) -> Result<(), AllocError>
-    ensures { OnOk result (GoesOn text.old text.new
-        (reports_text journal.now.entries first past_last)) }
-{
-    if first < past_last {
-        let reports = reports_text(alloc, journal, first, past_last)?;
-        text.push_str(&reports)
-    } else {
-        text.push_str("[]")
-    }
-}
-
-fn reports_text(
-    alloc: Global,
-    journal: &Journal,
-    first: u64,
-    past_last: u64,
-) -> Result<String, AllocError>
-    ensures { IfOk result (λ text. string_bytes text
-        ≡ reports_text journal.now.entries first past_last) }
-{
-    report_list(alloc, journal, first, past_last)?.to_string(alloc)
 }
 
 fn push_verdicts(text: &mut String, rows: &[Judged]) -> Result<(), AllocError>
@@ -186,25 +244,49 @@ fn push_rule(text: &mut String, rule: &RuleName, end: &str) -> Result<(), AllocE
         (codes ",\"rule\":\"" ++ (escape rule.now ++ end.now))) }
 {
     text.push_str(",\"rule\":\"")?;
-    push_escaped(text, rule)?;
+    push_escaped(text, rule.as_str())?;
     text.push_str(end)
 }
 
-fn push_escaped(text: &mut String, name: &RuleName) -> Result<(), AllocError>
+/// A name behind a front that ends with the quotation mark before it.
+pub(crate) fn push_name(text: &mut String, front: &str, name: &str) -> Result<(), AllocError>
+    requires { IsName name.now }
+    ensures { OnOk result (GoesOn text.old text.new
+        (front.now ++ (escape name.now ++ codes "\""))) }
+{
+    text.push_str(front)?;
+    push_escaped(text, name)?;
+    text.push_str("\"")
+}
+
+/// A word that needs no escape, behind a front that ends with the quotation mark before it.
+pub(crate) fn push_word(text: &mut String, front: &str, word: &str) -> Result<(), AllocError>
+    requires { escape word.now ≡ word.now }
+    ensures { OnOk result (GoesOn text.old text.new
+        (front.now ++ (escape word.now ++ codes "\""))) }
+{
+    text.push_str(front)?;
+    text.push_str(word)?;
+    text.push_str("\"")
+}
+
+fn push_escaped(text: &mut String, name: &str) -> Result<(), AllocError>
+    requires { IsName name.now }
     ensures { OnOk result (GoesOn text.old text.new (escape name.now)) }
 {
     if is_plain(name) {
-        text.push_str(name.as_str())
+        text.push_str(name)
     } else {
         push_bytes(text, name)
     }
 }
 
 // most names are
-fn is_plain(name: &RuleName) -> bool
+fn is_plain(name: &str) -> bool
+    requires { IsName name.now }
     ensures { OnTrue result (escape name.now ≡ name.now) }
 {
-    for byte in name.as_str().as_bytes() {
+    for byte in name.as_bytes() {
         if is_special(*byte) {
             return false;
         }
@@ -218,10 +300,11 @@ fn is_special(byte: u8) -> bool
     byte == b'"' || byte == b'\\'
 }
 
-fn push_bytes(text: &mut String, name: &RuleName) -> Result<(), AllocError>
+fn push_bytes(text: &mut String, name: &str) -> Result<(), AllocError>
+    requires { IsName name.now }
     ensures { OnOk result (GoesOn text.old text.new (escape name.now)) }
 {
-    for byte in name.as_str().as_bytes() {
+    for byte in name.as_bytes() {
         push_byte(text, *byte)?;
     }
     Ok(())
@@ -237,6 +320,22 @@ fn push_byte(text: &mut String, byte: u8) -> Result<(), AllocError>
     } else {
         text.push(char::from(byte))
     }
+}
+
+/// A number behind a front.
+pub(crate) fn push_count(text: &mut String, front: &str, number: u64) -> Result<(), AllocError>
+    ensures { OnOk result (GoesOn text.old text.new (front.now ++ decimal number)) }
+{
+    text.push_str(front)?;
+    push_number(text, number)
+}
+
+fn push_last_count(text: &mut String, front: &str, number: u64) -> Result<(), AllocError>
+    ensures { OnOk result (GoesOn text.old text.new
+        ((front.now ++ decimal number) ++ codes "}")) }
+{
+    push_count(text, front, number)?;
+    text.push_str("}")
 }
 
 fn push_number(text: &mut String, number: u64) -> Result<(), AllocError>

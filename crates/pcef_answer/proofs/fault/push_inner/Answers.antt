@@ -1,0 +1,9 @@
+use Rattle.json.specs.Print.{escape_byte}
+use Rattle.pcef_answer.proofs.WrittenTexts.{last_two}
+use Rattle.pcef_answer.proofs.fault.push_inner.Goals as goal
+
+pub returns : goal.returns
+unfolding escape_byte
+returns c =
+    let number = rw c.from.ensures at c.in_ok-push_count.ensures in
+    last_two c.push_field.result _ _ _ _ _ number c.push_field.ensures
