@@ -1,4 +1,3 @@
-pub mod AnswerTexts
 pub mod PlainWords
 pub mod Showing
 pub mod WrittenTexts

@@ -1,8 +1,9 @@
 -- What is shown is as the journal says.
-use Rattle.std.proofs.Common.{◌≡◌, ◌∙◌, List, [], ◌∷◌, ap, arith, map, refl}
+use Rattle.std.proofs.Common.{◌≡◌, ◌∙◌, List, [], ◌∷◌, Bool, ap, arith, filter_map, map, refl}
 use Rattle.std.specs.List.{AllByRecursion}
 use Rattle.serde_json.specs.Data.{array}
 use Rattle.serde_json.specs.View.{items_of}
+use Rattle.serde_json.specs.Written.{items_text}
 use Rattle.pcef_model.specs.Entries.{Journal}
 use Rattle.pcef_model.specs.Commands.{is_among}
 use Rattle.pcef_model.specs.Journals.{gen, now, reported, unreported}
@@ -10,10 +11,11 @@ use Rattle.pcef_model.specs.Setting.{Setting}
 use Rattle.pcef_usage.specs.declared.usage.KeyState.{KeyState}
 use Rattle.pcef_session.specs.Agreement.{KeyAgrees, KeysAgree}
 use Rattle.pcef_table.specs.declared.entry.Entry.{Entry}
+use Rattle.pcef_bearer.specs.declared.bearers.Bound.{Bound}
 use Rattle.pcef_bearer.specs.Bindings.{Binding}
 use Rattle.std.specs.Prelude.{ℕ}
 use Rattle.pcef_bearer.specs.Standing.{binding_of, bound_of}
-use Rattle.pcef_answer.specs.ShowAnswers.{active_data, bearers_data, key_data, key_told, kept_data, session_data, state_data, states_data, told_data}
+use Rattle.pcef_answer.specs.ShowAnswers.{active_data, bearer_told, bearers_data, key_data, key_told, kept_data, session_data, state_data, states_data, told_data}
 
 state_told : (p : Setting) (j : Journal) (s : KeyState) → KeyAgrees p j s → state_data s ≡ key_told p j s.key
 state_told p j s agrees =
@@ -36,3 +38,7 @@ kept_told p j entries binding generation keys binding_is generation_is agrees =
     ap (λ (b : Binding). session_data active (bearers_data b.bound) generation (states_data keys)) binding_is
     ∙ ap (λ n. session_data active bearers n (states_data keys)) generation_is
     ∙ ap (λ ds. session_data active bearers (gen j) (array (items_of ds))) (states_told p j keys agrees.usage_is ∙ ap (map (key_told p j)) agrees.keys_are)
+
+-- ---- the bearers of some ids, up to the closing bracket
+abbrev pub bearers_text : List Bound → Bool → List ℕ → List ℕ
+bearers_text bound later ids = items_text later (items_of (filter_map (bearer_told bound) ids))

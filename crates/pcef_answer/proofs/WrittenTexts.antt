@@ -41,6 +41,14 @@ pub name_quoted : {A E : Type 0} (result : Result A E) (s v a b front name end :
     → OnOk result (v ≡ s ++ (a ++ (b ++ (front ++ ((name ++ 34 ∷ []) ++ end)))))
 name_quoted result s v a b front name end r = subst (λ x. OnOk result (v ≡ s ++ (a ++ (b ++ (front ++ x))))) (sym (append_assoc name (34 ∷ []) end)) r
 
+-- ---- lists
+pub begun : (s t a rest : List ℕ) → t ≡ s ++ a → t ++ rest ≡ s ++ (a ++ rest)
+begun s t a rest p = ap (λ x. x ++ rest) p ∙ append_assoc s a rest
+
+pub closed : {A E : Type 0} (result : Result A E) (t u whole : List ℕ) → t ++ 93 ∷ [] ≡ whole → u ≡ (if is_ok result then t ++ 93 ∷ [] else t) → OnOk result (u ≡ whole)
+closed (Ok x) t u whole p q = q ∙ p
+closed (Err e) t u whole p q = tt
+
 -- ---- numbers
 pub digit_pushed : {A E : Type 0} (r : Result A E) (old new utf8 : List ℕ) (digit ch : ℕ) → digit < 10 → ch ≡ 48 + digit
     → (ch < 128 → utf8 ≡ ch ∷ []) → new ≡ (if is_ok r then old ++ utf8 else old) → OnOk r (new ≡ old ++ decimal digit)

@@ -97,7 +97,3 @@ states_data states = array (items_of (map state_data states))
 
 abbrev pub kept_data : List Offer → List Entry → List Bound → ℕ → List KeyState → Data
 kept_data offers entries bound generation keys = session_data (active_data offers entries) (bearers_data bound) generation (states_data keys)
-
--- a bearer, where there is one of this id
-abbrev pub one_bearer : List Bound → ℕ → List Data
-one_bearer bound id = filter_map (bearer_told bound) (id ∷ [])

@@ -1,119 +1,157 @@
 //! The answer to `show`.
 
-ghost use Rattle.std.specs.Prelude.{◌≡◌, ◌++◌, All, IfOk, OnOk, map, string_bytes};
-ghost use Rattle.serde_json.specs.View.{view};
+ghost use Rattle.std.specs.Prelude.{◌≡◌, ◌++◌, All, IfOk, OnOk, codes, string_bytes};
+ghost use Rattle.serde_json.specs.Data.{boolean};
+ghost use Rattle.serde_json.specs.Written.{comma_if, compact_text};
 ghost use Rattle.pcef_table.specs.Sources.{IsKnown};
-ghost use Rattle.pcef_answer.specs.ShowAnswers.{ShowsSession, active_data, bearer_data, bearers_data, bearers_told, entry_data, session_data, state_data, states_data, one_bearer};
+ghost use Rattle.pcef_answer.specs.ShowAnswers.{ShowsSession, active_data, bearer_data, bearers_told, entry_data, kept_data, state_data, states_data};
+ghost use Rattle.pcef_answer.specs.Written.{GoesOn};
 
+use crate::written::{push_count, push_last_count, push_name};
 use pcef_bearer::Bearers;
 use pcef_catalog::Listing;
 use pcef_rule::{BearerId, Sums};
 use pcef_session::SessionState;
 use pcef_table::Entry;
 use pcef_usage::KeyState;
-use serde_json::{Value, json};
 use std::alloc::{AllocError, Global};
 
 /// The active rules in precedence order, the bearers by id, the generation, and the keys in slot order.
 pub fn show_answer(alloc: Global, session: &SessionState) -> Result<String, AllocError>
     ensures { IfOk result (λ text. ShowsSession session.now (string_bytes text)) }
 {
-    let active = active_list(
-        alloc,
+    let mut text = String::with_capacity(alloc, 1024)?;
+    push_shown(
+        &mut text,
         session.listing(),
         session.indexed().table().entries(),
+        session.bearers(),
+        session.generation(),
+        session.usage().states(),
     )?;
-    let bearers = bearer_list(alloc, session.bearers())?;
-    let keys = key_list(alloc, session.usage().states())?;
-    let generation = session.generation();
-    show_value(alloc, active, bearers, generation, keys)?.to_string(alloc)
+    Ok(text)
 }
 
-fn show_value(
-    alloc: Global,
-    active: Value,
-    bearers: Value,
+fn push_shown(
+    text: &mut String,
+    listing: &Listing,
+    entries: &[Entry],
+    bearers: &Bearers,
     generation: u32,
-    keys: Value,
-) -> Result<Value, AllocError>
-    ensures { IfOk result (λ v. view v
-        ≡ session_data (view active) (view bearers) generation (view keys)) }
-{
-    json!(in alloc; { "active": active, "bearers": bearers, "generation": generation, "keys": keys })
-}
-
-fn active_list(alloc: Global, listing: &Listing, entries: &[Entry]) -> Result<Value, AllocError>
+    states: &[KeyState],
+) -> Result<(), AllocError>
     requires { All (λ e. IsKnown listing.now e.source) entries.now }
-    ensures { IfOk result (λ v. view v ≡ active_data listing.now entries.now) }
+    ensures { OnOk result (GoesOn text.old text.new
+        (compact_text (kept_data listing.now entries.now bearers.now.bound generation states.now))) }
 {
-    let mut list = Vec::with_capacity(alloc, entries.len())?;
-    for entry in entries {
-        list.push(entry_value(alloc, listing, entry)?)?;
-    }
-    Ok(Value::Array(list))
+    push_active(text, listing, entries)?;
+    push_bearers(text, bearers, &IDS)?;
+    push_count(text, ",\"generation\":", u64::from(generation))?;
+    push_keys(text, states)?;
+    text.push_str("}")
 }
 
-fn entry_value(alloc: Global, listing: &Listing, entry: &Entry) -> Result<Value, AllocError>
-    requires { IsKnown listing.now entry.now.source }
-    ensures { IfOk result (λ v. view v ≡ entry_data listing.now entry.now) }
+fn push_comma(text: &mut String, later: bool) -> Result<(), AllocError>
+    ensures { OnOk result (GoesOn text.old text.new (comma_if later)) }
 {
-    json!(in alloc; entry.source.properties(listing).name.as_str())
+    if later { text.push_str(",") } else { Ok(()) }
+}
+
+fn push_active(text: &mut String, listing: &Listing, entries: &[Entry]) -> Result<(), AllocError>
+    requires { All (λ e. IsKnown listing.now e.source) entries.now }
+    ensures { OnOk result (GoesOn text.old text.new
+        (codes "{\"active\":" ++ compact_text (active_data listing.now entries.now))) }
+{
+    text.push_str("{\"active\":[")?;
+    let mut later = false;
+    for entry in entries {
+        push_entry(text, later, listing, entry)?;
+        later = true;
+    }
+    text.push_str("]")
+}
+
+fn push_entry(
+    text: &mut String,
+    later: bool,
+    listing: &Listing,
+    entry: &Entry,
+) -> Result<(), AllocError>
+    requires { IsKnown listing.now entry.now.source }
+    ensures { OnOk result (GoesOn text.old text.new
+        (comma_if later ++ compact_text (entry_data listing.now entry.now))) }
+{
+    push_comma(text, later)?;
+    push_name(text, "\"", entry.source.properties(listing).name.as_str())
 }
 
 /// The ids that a bearer may have.
 const IDS: [u8; 11] = [5, 6, 7, 8, 9, 10, 11, 12, 13, 14, 15];
 
-fn bearer_value(alloc: Global, id: u8, rules: u8, sums: Sums) -> Result<Value, AllocError>
-    ensures { IfOk result (λ v. view v ≡ bearer_data id rules sums) }
+fn push_bearers(text: &mut String, bearers: &Bearers, ids: &[u8]) -> Result<(), AllocError>
+    ensures { OnOk result (GoesOn text.old text.new
+        (codes ",\"bearers\":" ++ compact_text (bearers_told bearers.now.bound ids.now))) }
 {
-    json!(in alloc; { "down": sums.down, "id": id, "rules": rules, "up": sums.up })
-}
-
-fn add_bearer(
-    alloc: Global,
-    bearers: &Bearers,
-    id: u8,
-    list: &mut Vec<Value>,
-) -> Result<(), AllocError>
-    ensures { OnOk result (map view list.new.items
-        ≡ map view list.old.items ++ one_bearer bearers.now.bound id) }
-{
-    let Some(sums) = bearers.guaranteed(BearerId(id)) else {
-        return Ok(());
-    };
-    let rules = bearers.rules_on(BearerId(id));
-    list.push(bearer_value(alloc, id, rules, sums)?)?;
-    Ok(())
-}
-
-fn bearers_of(alloc: Global, bearers: &Bearers, ids: &[u8]) -> Result<Value, AllocError>
-    ensures { IfOk result (λ v. view v ≡ bearers_told bearers.now.bound ids.now) }
-{
-    let mut list = Vec::new(alloc);
+    text.push_str(",\"bearers\":[")?;
+    let mut later = false;
     for id in ids {
-        add_bearer(alloc, bearers, *id, &mut list)?;
+        if let Some(sums) = bearers.guaranteed(BearerId(*id)) {
+            let rules = bearers.rules_on(BearerId(*id));
+            push_bearer(text, later, *id, rules, sums)?;
+            later = true;
+        }
     }
-    Ok(Value::Array(list))
+    text.push_str("]")
 }
 
-fn bearer_list(alloc: Global, bearers: &Bearers) -> Result<Value, AllocError>
-    ensures { IfOk result (λ v. view v ≡ bearers_data bearers.now.bound) }
+fn push_bearer(
+    text: &mut String,
+    later: bool,
+    id: u8,
+    rules: u8,
+    sums: Sums,
+) -> Result<(), AllocError>
+    ensures { OnOk result (GoesOn text.old text.new
+        (comma_if later ++ compact_text (bearer_data id rules sums))) }
 {
-    bearers_of(alloc, bearers, &IDS)
+    push_comma(text, later)?;
+    push_count(text, "{\"down\":", sums.down)?;
+    push_count(text, ",\"id\":", u64::from(id))?;
+    push_count(text, ",\"rules\":", u64::from(rules))?;
+    push_last_count(text, ",\"up\":", sums.up)
 }
 
-fn key_list(alloc: Global, states: &[KeyState]) -> Result<Value, AllocError>
-    ensures { IfOk result (λ v. view v ≡ states_data states.now) }
+fn push_keys(text: &mut String, states: &[KeyState]) -> Result<(), AllocError>
+    ensures { OnOk result (GoesOn text.old text.new
+        (codes ",\"keys\":" ++ compact_text (states_data states.now))) }
 {
-    let mut list = Vec::with_capacity(alloc, states.len())?;
+    text.push_str(",\"keys\":[")?;
+    let mut later = false;
     for state in states {
-        list.push(key_value(alloc, state)?)?;
+        push_key(text, later, state)?;
+        later = true;
     }
-    Ok(Value::Array(list))
+    text.push_str("]")
 }
 
-fn key_value(alloc: Global, state: &KeyState) -> Result<Value, AllocError>
-    ensures { IfOk result (λ v. view v ≡ state_data state.now) }
+fn push_key(text: &mut String, later: bool, state: &KeyState) -> Result<(), AllocError>
+    ensures { OnOk result (GoesOn text.old text.new
+        (comma_if later ++ compact_text (state_data state.now))) }
 {
-    json!(in alloc; { "key": state.key.as_str(), "on": state.on, "reported": state.reported, "unreported": state.unreported })
+    push_comma(text, later)?;
+    push_name(text, "{\"key\":\"", state.key.as_str())?;
+    push_on(text, state.on)?;
+    push_count(text, ",\"reported\":", state.reported)?;
+    push_last_count(text, ",\"unreported\":", state.unreported)
+}
+
+fn push_on(text: &mut String, on: bool) -> Result<(), AllocError>
+    ensures { OnOk result (GoesOn text.old text.new
+        (codes ",\"on\":" ++ compact_text (boolean on))) }
+{
+    if on {
+        text.push_str(",\"on\":true")
+    } else {
+        text.push_str(",\"on\":false")
+    }
 }

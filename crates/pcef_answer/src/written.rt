@@ -330,7 +330,8 @@ pub(crate) fn push_count(text: &mut String, front: &str, number: u64) -> Result<
     push_number(text, number)
 }
 
-fn push_last_count(text: &mut String, front: &str, number: u64) -> Result<(), AllocError>
+/// A number behind a front, as the last member.
+pub(crate) fn push_last_count(text: &mut String, front: &str, number: u64) -> Result<(), AllocError>
     ensures { OnOk result (GoesOn text.old text.new
         ((front.now ++ decimal number) ++ codes "}")) }
 {
