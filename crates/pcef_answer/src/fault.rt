@@ -50,6 +50,7 @@ fn push_inner(text: &mut String, fault: LineFault, field: Field, code: u8) -> Re
     push_field(text, ",\"fault\":", fault, field)
 }
 
+#[tactic(auto, unfolding(crate::specs::FaultAnswers::fault_text, json::specs::Print::escape_byte))]
 fn push_fault(text: &mut String, fault: LineFault) -> Result<(), AllocError>
     ensures { OnOk result (GoesOn text.old text.new (fault_text fault)) }
 {
