@@ -5,7 +5,6 @@ ghost use Rattle.std.specs.Arc.{arc_value};
 ghost use Rattle.std.specs.Result.{result_err};
 ghost use Rattle.pcef_catalog.specs.Catalogs.{offers_of};
 
-use indexmap::IndexMap;
 use pcef_bearer::Bearers;
 use pcef_catalog::{Catalog, Offers};
 use pcef_index::Indexed;
@@ -186,8 +185,8 @@ impl Session {
     }
 
     /// The active rules by their names, in the order in which they became active.
-    pub fn active(&self) -> &IndexMap<RuleName, Source>
-        ensures { AreActive (state_of self.now) result.now.entries }
+    pub fn active(&self) -> &[(RuleName, Source)]
+        ensures { AreActive (state_of self.now) result.now }
     {
         self.state.active()
     }

@@ -6,7 +6,6 @@ use Rattle.std.specs.List.{AllByRecursion, list_any}
 use Rattle.std.proofs.lemmas.Bool.{cases_Bool}
 use Rattle.std.proofs.lemmas.List.{length-map}
 use Rattle.pcef_rule.specs.declared.quantity.BearerId.{BearerId}
-use Rattle.indexmap.specs.IndexMap.{insert_entry}
 use Rattle.pcef_rule.specs.declared.rule.Properties.{Properties}
 use Rattle.pcef_table.specs.declared.entry.Source.{Source}
 use Rattle.pcef_bearer.specs.Bindings.{Binding, with_rules}
@@ -14,7 +13,7 @@ use Rattle.pcef_model.specs.declared.command.Command.{Command}
 use Rattle.pcef_model.specs.declared.command.Command.TheVariants.{Install, Activate, Remove, Monitor, Stop, ReportNow, Triggers, Notice, LoseBearer, Close, Terminate}
 use Rattle.pcef_model.specs.declared.entry.Entry.TheVariants as entry
 use Rattle.pcef_model.specs.declared.pending_report.PendingReport.{PendingReport}
-use Rattle.pcef_model.specs.Setting.{Setting, same_name}
+use Rattle.pcef_model.specs.Setting.{Setting}
 use Rattle.pcef_model.specs.ActiveRules.{Active, dynamic, is_named, put}
 use Rattle.pcef_model.specs.Generations.{Generation, next, rules_after}
 use Rattle.pcef_model.specs.Commands.{key_named, is_table, activated, takes_away}
@@ -40,7 +39,7 @@ use Rattle.pcef_session.specs.declared.prepared.Activation.{Activation}
 use Rattle.pcef_model.specs.Outcomes.{CommandStep, Gives, IsRefused, bearer_named, bearer_of, changes, command_outcome}
 use Rattle.pcef_bearer.specs.Standing.{binding_of}
 use Rattle.pcef_session.specs.Preparing.{Activates}
-use Rattle.pcef_session.specs.private.Changes.{IsBoundTo, IsRebound, active_after, entered_by, rule_key}
+use Rattle.pcef_session.specs.private.Changes.{IsBoundTo, IsRebound, active_after, entered_by, put_kept, rule_key}
 use Rattle.pcef_model.specs.Lawful.{Lawful, by_command}
 use Rattle.pcef_model.specs.Refusals.{first_of, is_active, refusals}
 use Rattle.pcef_session.specs.Shown.{Shows}
@@ -93,8 +92,8 @@ kept_after p j c None bound kept brings bound_is are =
     (λ name. ap (λ (b : Binding). list_any (bound_named name) b.bound) bound_is ∙ named_bound name g g.rules ∙ ap (list_any (is_named name)) (rules_now p j c)) are
 kept_after p j c (Some x) bound kept brings bound_is are =
     let b = brought p c (Some x) x refl brings in
-    subst (λ (q : Properties). AreKept p.catalog (insert_entry same_name kept q.name x.source) (rules_after p (now p j) c)) (sym b.is_of.properties_are)
-    (subst (AreKept p.catalog (insert_entry same_name kept b.rule.properties.name x.source)) (sym ((makes_active p c b.rule b.becomes).rules_are (now p j)))
+    subst (λ (q : Properties). AreKept p.catalog (put_kept (q.name, x.source) kept) (rules_after p (now p j) c)) (sym b.is_of.properties_are)
+    (subst (AreKept p.catalog (put_kept (b.rule.properties.name, x.source) kept)) (sym ((makes_active p c b.rule b.becomes).rules_are (now p j)))
     (kept_put p.catalog b.rule x.source kept (now p j).rules b.is_of.rule_is are))
 
 -- the rule that was put in is found by its name

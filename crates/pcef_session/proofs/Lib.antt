@@ -10,6 +10,7 @@ pub mod Inserting
 pub mod KeptRules
 pub mod Leaving
 pub mod NextTables
+pub mod PlacedRules
 pub mod Refused
 pub mod RowLoops
 pub mod ShownChanges

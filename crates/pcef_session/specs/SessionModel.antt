@@ -3,7 +3,7 @@ use Rattle.std.specs.Prelude.{ℕ, ◌≤◌}
 use Rattle.pcef_model.specs.Entries.{Journal}
 use Rattle.pcef_model.specs.Setting.{Setting}
 
--- how many more entries the journal takes without memory, and how many more rules the map of active rules
+-- how many more entries the journal takes without memory, and how many more rules the list of active rules
 pub record Room : Type 0 where
   pub entries : ℕ
   pub rules : ℕ

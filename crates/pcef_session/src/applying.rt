@@ -1,21 +1,17 @@
 //! What an accepted command does to what a session keeps. Nothing here takes memory.
 
-ghost use Rattle.std.specs.Prelude.{◌≡◌, ◌||◌, ◌<◌, ◌≤◌, ◌+◌, ◌∷◌, filter, length, false, unwrap_or, Some};
+ghost use Rattle.std.specs.Prelude.{◌≡◌, ◌||◌, ◌<◌, ◌≤◌, ◌+◌, ◌∷◌, filter, length, position, false, unwrap_or, vec_capacity, vec_len, Some};
 ghost use Rattle.std.specs.Arc.{arc_value};
-ghost use Rattle.std.specs.List.{list_any};
 ghost use Rattle.std.specs.Option.{option_copied, option_map};
-ghost use Rattle.indexmap.specs.IndexMap.{insert_entry, spare};
-ghost use Rattle.pcef_model.specs.Setting.{same_name};
 ghost use Rattle.pcef_model.specs.Refusals.{is_close, is_terminate};
 ghost use Rattle.pcef_session.specs.Preparing.{IsBearerFor, IsBearerOf};
 ghost use Rattle.pcef_bearer.specs.Bindings as binding;
 ghost use Rattle.pcef_usage.specs.Commands.{subscribed_by};
 ghost use Rattle.pcef_usage.specs.Keys.{finds_no_slot, keys_of};
 ghost use Rattle.pcef_usage.specs.PendingReports.{KnowsAll};
-ghost use Rattle.pcef_session.specs.private.Changes.{Binds, CanBind, IsBoundTo, IsRebound, active_after, counters_told, entered_by, is_still_bound, journal_told, key_of, rule_key};
+ghost use Rattle.pcef_session.specs.private.Changes.{Binds, CanBind, IsBoundTo, IsRebound, active_after, counters_told, entered_by, is_kept_as, is_still_bound, journal_told, key_of, put_kept, rule_key};
 
 use crate::prepared::Activation;
-use indexmap::IndexMap;
 use pcef_bearer::Bearers;
 use pcef_index::Indexed;
 use pcef_model::{Command, Entry, PendingReport, TriggerSet};
@@ -113,32 +109,45 @@ pub(crate) fn keep_table(held: &mut Arc<Indexed>, made: Option<Arc<Indexed>>)
     }
 }
 
-/// Keeps a rule that became active, in the place of the one of its name or behind all others.
-pub(crate) fn keep_rule(active: &mut IndexMap<RuleName, Source>, name: RuleName, source: Source)
-    requires { 0 < spare active.old }
-    ensures { active.new.entries ≡ insert_entry same_name active.old.entries name source }
+/// Whether a rule is kept by this name.
+fn is_kept_as(name: &RuleName, kept: &(RuleName, Source)) -> bool
+    ensures { result ≡ is_kept_as name.now kept.now }
 {
-    match active.insert(name, source) {
-        Ok(_) => {}
-        Err(_) => unreachable!(),
+    kept.0 == *name
+}
+
+/// The place of the rule of this name, if it is active.
+fn place_of(active: &[(RuleName, Source)], name: &RuleName) -> Option<usize>
+    ensures { result ≡ position (is_kept_as name.now) active.now }
+{
+    active.iter().position(|kept| is_kept_as(name, kept))
+}
+
+/// Keeps a rule that became active, in the place of the one of its name or behind all others.
+pub(crate) fn keep_rule(active: &mut Vec<(RuleName, Source)>, name: RuleName, source: Source)
+    requires { vec_len active.old < vec_capacity active.old }
+    ensures { active.new.items ≡ put_kept (name, source) active.old.items }
+{
+    match place_of(active, &name) {
+        Some(place) => active[place] = (name, source),
+        None => active.push_reserved((name, source)),
     }
 }
 
 /// Lets the rules go that aren't bound any more.
-fn keep_bound(active: &mut IndexMap<RuleName, Source>, bearers: &Bearers)
-    ensures { active.new.entries ≡ filter (is_still_bound bearers.now) active.old.entries }
+fn keep_bound(active: &mut Vec<(RuleName, Source)>, bearers: &Bearers)
+    ensures { active.new.items ≡ filter (is_still_bound bearers.now) active.old.items }
 {
     active.retain(
-        |name: &RuleName, source: &mut Source| -> bool
-            ensures { (result ≡ list_any (binding.is_named name.now) bearers.entry.now.bound)
-                × (source.new ≡ source.old) }
-        { bearers.is_bound(name) },
+        |kept: &(RuleName, Source)| -> bool
+            ensures { result ≡ is_still_bound bearers.entry.now kept.now }
+        { bearers.is_bound(&kept.0) },
     );
 }
 
 /// Takes the rules away that a command takes away, and their bindings.
-fn take_away(active: &mut IndexMap<RuleName, Source>, bearers: &mut Bearers, command: &Command)
-    ensures active { active.new.entries ≡ filter (is_still_bound bearers.new) active.old.entries }
+fn take_away(active: &mut Vec<(RuleName, Source)>, bearers: &mut Bearers, command: &Command)
+    ensures active { active.new.items ≡ filter (is_still_bound bearers.new) active.old.items }
     ensures bearers { bearers.new
         ≡ binding.with_rules bearers.old (binding.kept_by command.now bearers.old.bound) }
 {
@@ -148,15 +157,15 @@ fn take_away(active: &mut IndexMap<RuleName, Source>, bearers: &mut Bearers, com
 
 /// Binds a rule to the bearer that was found for it, and keeps it.
 fn activate(
-    active: &mut IndexMap<RuleName, Source>,
+    active: &mut Vec<(RuleName, Source)>,
     bearers: &mut Bearers,
     rule: Activation,
     bearer: BearerId,
 )
-    requires place { 0 < spare active.old }
+    requires place { vec_len active.old < vec_capacity active.old }
     requires can { Binds rule.properties bearers.old }
     requires gets { IsBearerOf bearers.old rule bearer }
-    ensures active { active.new.entries ≡ active_after (Some rule) bearers.new active.old.entries }
+    ensures active { active.new.items ≡ active_after (Some rule) bearers.new active.old.items }
     ensures bearers { IsBoundTo rule.properties bearers.old bearers.new bearer }
 {
     let name = rule.properties.name.copy();
@@ -172,16 +181,16 @@ fn activate(
 /// Changes the active rules and their bearers as a command says. The rule that becomes active gets
 /// this bearer.
 pub(crate) fn change_rules(
-    active: &mut IndexMap<RuleName, Source>,
+    active: &mut Vec<(RuleName, Source)>,
     bearers: &mut Bearers,
     command: &Command,
     rule: Option<Activation>,
     bearer: Option<BearerId>,
 )
-    requires place { 0 < spare active.old }
+    requires place { vec_len active.old < vec_capacity active.old }
     requires can { CanBind rule bearers.old }
     requires gets { IsBearerFor bearers.old rule bearer }
-    ensures active { active.new.entries ≡ active_after rule bearers.new active.old.entries }
+    ensures active { active.new.items ≡ active_after rule bearers.new active.old.items }
     ensures bearers { IsRebound rule command.now bearers.old bearers.new bearer }
 {
     match rule {

@@ -15,7 +15,6 @@ ghost use Rattle.pcef_session.specs.Agreement.{KeysAgree};
 ghost use Rattle.pcef_session.specs.Answers.{AreActive, IsOpened, ShowsNewest, binding_now};
 ghost use Rattle.pcef_session.specs.SessionModel.{HasAtLeast};
 
-use indexmap::IndexMap;
 use pcef_bearer::Bearers;
 use pcef_catalog::Listing;
 use pcef_index::Indexed;
@@ -44,7 +43,7 @@ pub struct SessionState {
     profile: Profile,
     listing: Listing,
     counted: CountedJournal,
-    active: IndexMap<RuleName, Source>,
+    active: Vec<(RuleName, Source)>,
     bearers: Bearers,
     newest: Arc<Indexed>,
     subscribed: TriggerSet,
@@ -129,7 +128,7 @@ impl SessionState {
         };
         let counted = CountedJournal::new(alloc);
         // One place more than rules: a command is given a free one before it is known to want it.
-        let Ok(active) = IndexMap::with_capacity(alloc, MAX_RULES + 1) else {
+        let Ok(active) = Vec::with_capacity(alloc, MAX_RULES + 1) else {
             return Err(OpenFault::NoMemory);
         };
         let Ok(newest) = first_table(alloc) else {
@@ -192,10 +191,10 @@ impl SessionState {
     }
 
     /// The active rules by their names, in the order in which they became active.
-    pub fn active(&self) -> &IndexMap<RuleName, Source>
-        ensures { AreActive self.now result.now.entries }
+    pub fn active(&self) -> &[(RuleName, Source)]
+        ensures { AreActive self.now result.now }
     {
-        &self.active
+        self.active.as_slice()
     }
 
     /// The bearers, and the rules that are bound to them: each active rule to the bearer of its QCI and

@@ -8,14 +8,13 @@ use Rattle.pcef_model.specs.declared.pending_report.PendingReport.TheVariants.{I
 use Rattle.pcef_model.specs.Reports.{in_order}
 use Rattle.pcef_bearer.specs.Bindings.{is_named}
 use Rattle.std.specs.Prelude.{ℕ, ◌≡◌, List, Option, Some, None, Bool, filter, not}
-use Rattle.indexmap.specs.IndexMap.{insert_entry}
 use Rattle.pcef_rule.specs.declared.quantity.BearerId.{BearerId}
 use Rattle.pcef_rule.specs.declared.rule.Properties.{Properties}
 use Rattle.pcef_bearer.specs.Bindings.{Binding, HasRoom, bound_at, id_excluding, put, refusals, with_rules, without}
 use Rattle.pcef_model.specs.Refusals.{first_of}
 use Rattle.pcef_model.specs.declared.command.Command.{Command}
 use Rattle.pcef_model.specs.declared.command.Command.TheVariants.{Monitor}
-use Rattle.pcef_model.specs.Setting.{same_name}
+use Rattle.pcef_model.specs.Named.{has_name, put_by}
 use Rattle.pcef_table.specs.declared.entry.Source.{Source}
 use Rattle.pcef_usage.specs.declared.usage.KeyState.{KeyState}
 use Rattle.pcef_model.specs.Entries.{Journal}
@@ -47,9 +46,17 @@ entered_by of_rule c states = started_by c (with_slot (key_of of_rule c) states)
 abbrev pub is_still_bound : Binding → List ℕ × Source → Bool
 is_still_bound b e = list_any (is_named e.0) b.bound
 
+-- a rule is kept by this name
+abbrev pub is_kept_as : List ℕ → List ℕ × Source → Bool
+is_kept_as name e = has_name (λ e. e.0) name e
+
+-- the active rules with this one: in the place of the one of its name, or behind all others
+abbrev pub put_kept : List ℕ × Source → List (List ℕ × Source) → List (List ℕ × Source)
+put_kept new active = put_by (λ e. e.0) new active
+
 -- a rule that becomes active is put among the others; else those stay that are still bound
 abbrev pub active_after : Option Activation → Binding → List (List ℕ × Source) → List (List ℕ × Source)
-active_after (Some x) bound active = insert_entry same_name active x.properties.name x.source
+active_after (Some x) bound active = put_kept (x.properties.name, x.source) active
 active_after None bound active = filter (is_still_bound bound) active
 
 -- the rule that becomes active can be bound

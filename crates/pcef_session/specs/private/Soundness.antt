@@ -1,9 +1,8 @@
 -- What always holds of a session's parts.
-use Rattle.std.specs.Prelude.{Bool, ◌+◌, if◌then◌else◌}
+use Rattle.std.specs.Prelude.{Bool, ◌+◌, ◌-◌, if◌then◌else◌, vec_capacity, vec_len}
 use Rattle.pcef_lane.specs.Lanes.{LanesAgree}
 use Rattle.std.specs.Prelude.{ℕ, ◌≡◌, ◌≤◌, ◌<◌, ◌^◌, All, length}
 use Rattle.std.specs.Arc.{arc_value}
-use Rattle.indexmap.specs.IndexMap.{spare}
 use Rattle.pcef_model.specs.declared.row.Row.{Row}
 use Rattle.pcef_model.specs.Entries.{Journal, commands, rows}
 use Rattle.pcef_model.specs.Journals.{attached}
@@ -15,7 +14,7 @@ use Rattle.pcef_session.specs.SessionModel.{SessionModel}
 
 abbrev pub parts_of : Inside → Parts
 parts_of s = record {
-  rules = s.active.entries;
+  rules = s.active.items;
   binding = s.bearers;
   keys = s.counted.states;
   triggers = s.subscribed;
@@ -26,7 +25,7 @@ abbrev pub model_of : Inside → SessionModel
 model_of s = record {
   setting = setting_of s.profile s.listing;
   journal = s.counted.journal;
-  room = record { entries = s.counted.room; rules = spare s.active };
+  room = record { entries = s.counted.room; rules = vec_capacity s.active - vec_len s.active };
 }
 
 abbrev pub held_of : Inside → Held
@@ -51,7 +50,7 @@ pub record IsLimited (s : Inside) : Type 0 where
 
 -- at most 64 rules are active, and at most 8 keys have a slot
 pub record IsSmall (s : Inside) : Type 0 where
-  pub few_rules : length s.active.entries ≤ 64
+  pub few_rules : length s.active.items ≤ 64
   pub few_keys : length s.counted.states ≤ 8
 
 -- there is room for the leaving of each worker that is attached
