@@ -105,6 +105,8 @@ impl<N: Naming, W: Board<Slot<N>> + Drop> State<N, W> {
     /// is reported or unreported. Else all comes back with the first fault in the order of [`GatherFault`]. Takes no
     /// memory. The conditions of the caller: the desk and the workers are those of this lock, and no two of them are of
     /// one worker.
+    // Apart, for inlined it takes LLVM a minute and a half: the value is large, and is moved three times.
+    #[inline(never)]
     pub fn gather(
         self,
         desk: Desk<N>,

@@ -82,8 +82,8 @@ fn run<G: Gate + Sync, R: Threads + Wait + Sync>(
     ))
 }
 
-/// What a run came to that has the key `vid` or none.
-fn told(ended: &Ended) -> Result<Figures, Fail> {
+/// What a run came to, where it has the key `vid` or none.
+fn told(ended: &Ended) -> Option<Figures> {
     let totals = &ended.totals;
     let keys = totals.keys.as_slice();
     let mut told = Figures {
@@ -95,17 +95,17 @@ fn told(ended: &Ended) -> Result<Figures, Fail> {
         ..Figures::default()
     };
     if let Some(key) = keys.first() {
-        if key.key != vid()? {
-            return Err("the key is `vid`")?;
+        if key.key.as_str() != "vid" {
+            return None;
         }
         told.counted = key.counted;
         told.reported = key.reported;
         told.unreported = key.unreported;
     }
-    Ok(told)
+    Some(told)
 }
 
 /// The same of a run that nothing else is asked of.
-fn figures_of(ended: Ended) -> Result<Figures, Fail> {
+fn figures_of(ended: Ended) -> Option<Figures> {
     told(&ended)
 }

@@ -9,7 +9,7 @@ mod opening;
 
 use pcef_catalog::{Catalog, Detects, Offers};
 use pcef_lock::{Desk, Seat, Shared, State, opened};
-use pcef_model::{Body, Command};
+use pcef_model::{Body, Command, Report};
 use pcef_packet::Header;
 use pcef_publish::{Board, Opened, Slot};
 use pcef_session::{Batch, SessionState};
@@ -20,77 +20,96 @@ use std::marker::Brand;
 use std::sync::{Arc, Wait};
 use std::test::*;
 
+/// That a rule is installed, that its key is monitored, and that a report of it is asked for.
+fn commands(alloc: Global) -> Result<[Command; 3], Fail> {
+    Ok([
+        Command::Install(web(alloc)?),
+        monitor(1000)?,
+        Command::ReportNow(vid()?),
+    ])
+}
+
 #[test]
 fn rows_count_for_the_keys_of_their_tables(rt: HostRuntime) -> Result<(), Fail> {
     let session = session(rt.alloc(), 1000)?;
     let opened = opened(&session)?;
-    let (before, after) = judged_and_flushed::<Brand, _>(
+    let commands = commands(rt.alloc())?;
+    let catalog = Catalog::new(rt.alloc(), Vec::new(rt.alloc()))?;
+    let told = judged_and_flushed::<Catalog, Brand, _>(
         &rt,
         rt.alloc(),
+        &commands,
+        &catalog,
         session,
         opened,
         Blanks::new(),
-    )?;
-    assert_eq!(rt; before, [0, 0, 0, 0, 0, 0, 0, 0, 0, 2]);
-    assert_eq!(rt; after, [628, 0, 0, 0, 0, 0, 0, 0, 3, 2]);
+    );
+    let before = [0, 0, 0, 0, 0, 0, 0, 0, 0, 2];
+    let after = [628, 0, 0, 0, 0, 0, 0, 0, 3, 2];
+    assert_eq!(rt; told, Some((before, after)));
     Ok(())
 }
 
 // The books after a rule and a key came, and after two workers handed over packets of 28, 600 and 40 octets, of which
 // the last has no rule.
-fn judged_and_flushed<N: Naming, R: Wait + Drop>(
+fn judged_and_flushed<C: Detects, N: Naming, R: Wait + Drop>(
     rt: R,
     alloc: Global,
+    commands: &[Command; 3],
+    catalog: &C,
     session: SessionState,
     opened: Opened,
     blanks: Blanks,
-) -> Result<([u64; 10], [u64; 10]), Fail>
+) -> Option<([u64; 10], [u64; 10])>
     requires name { N.ledger ≡ name_at blanks }
     requires setting { session.setting ≡ N.setting }
     requires fresh { session.journal ≡ [] }
-    requires offers { session.setting.catalog ≡ [] }
+    requires offers { C.offers catalog.now ≡ session.setting.catalog }
     requires first { N.first ≡ gen session.journal }
     requires table { Shows session.setting session.journal (gen session.journal) opened.table }
     requires book { (opened.book ≡ N.book) × (opened.root ≡ N.root) }
 {
-    let catalog = Catalog::new(alloc, Vec::new(alloc))?;
     match State::<N, _>::open(rt, alloc, session, opened, blanks, 2).ok() {
-        Some((mut state, mut desk)) => books_around_rows(alloc, &catalog, &mut state, &mut desk),
-        None => Err("the session didn't come behind a lock")?,
+        Some((mut state, mut desk)) => books_around_rows(
+            alloc, commands, catalog, &mut state, &mut desk,
+        ),
+        None => None,
     }
 }
 
 // One worker comes before the key, the other one after it.
 fn books_around_rows<C: Detects, N: Naming, W: Board<Slot<N>> + Drop>(
     alloc: Global,
+    commands: &[Command; 3],
     catalog: &C,
     state: &mut State<N, W>,
     desk: &mut Shares<N>,
-) -> Result<([u64; 10], [u64; 10]), Fail>
+) -> Option<([u64; 10], [u64; 10])>
     requires offers { C.offers catalog.now ≡ N.setting.catalog }
 {
-    state.command(desk, Command::Install(web(alloc)?))?;
+    state.command(desk, commands[0].copy().ok()?).ok()?;
     match state.attach() {
-        Ok(mut late) => books_around_late(alloc, catalog, state, desk, &mut late),
-        Err(fault) => Err(fault)?,
+        Ok(mut late) => books_around_late(alloc, commands, catalog, state, desk, &mut late),
+        Err(_) => None,
     }
 }
 
 // The key comes, and the worker after it.
 fn books_around_late<C: Detects, N: Naming, W: Board<Slot<N>> + Drop>(
     alloc: Global,
+    commands: &[Command; 3],
     catalog: &C,
     state: &mut State<N, W>,
     desk: &mut Shares<N>,
     late: &mut Seat<N>,
-) -> Result<([u64; 10], [u64; 10]), Fail>
+) -> Option<([u64; 10], [u64; 10])>
     requires offers { C.offers catalog.now ≡ N.setting.catalog }
     requires late { late.old.ue ≡ N.setting.ue }
 {
-    state.command(desk, monitor(1000)?)?;
+    state.command(desk, commands[1].copy().ok()?).ok()?;
     match state.attach() {
         Ok(mut quick) => books_of_both(alloc, catalog, state, late, &mut quick),
-        Err(fault) => Err(fault)?,
+        Err(_) => None,
     }
 }
 
@@ -101,7 +120,7 @@ fn books_of_both<C: Detects, N: Naming, W: Board<Slot<N>> + Drop>(
     state: &mut State<N, W>,
     late: &mut Seat<N>,
     quick: &mut Seat<N>,
-) -> Result<([u64; 10], [u64; 10]), Fail>
+) -> Option<([u64; 10], [u64; 10])>
     requires offers { C.offers catalog.now ≡ N.setting.catalog }
     requires late { late.old.ue ≡ N.setting.ue }
     requires quick { quick.old.ue ≡ N.setting.ue }
@@ -109,7 +128,7 @@ fn books_of_both<C: Detects, N: Naming, W: Board<Slot<N>> + Drop>(
     let before = state.totals();
     hand_over(alloc, catalog, state, quick)?;
     leave(alloc, catalog, state, late)?;
-    Ok((before, state.totals()))
+    Some((before, state.totals()))
 }
 
 // A worker hands over packets of 28 and 600 octets.
@@ -118,15 +137,17 @@ fn hand_over<C: Detects, N: Naming, W: Board<Slot<N>> + Drop>(
     catalog: &C,
     state: &mut State<N, W>,
     seat: &mut Seat<N>,
-) -> Result<(), Fail>
+) -> Option<()>
     requires offers { C.offers catalog.now ≡ N.setting.catalog }
     requires ue { seat.old.ue ≡ N.setting.ue }
 {
-    let mut batch = Batch::new(alloc)?;
+    let Ok(mut batch) = Batch::new(alloc) else {
+        return None;
+    };
     batch.push(seat.judge(catalog, 0, &packet(28)));
     batch.push(seat.judge(catalog, 1, &packet(600)));
-    state.flush(seat, &batch)?;
-    Ok(())
+    state.flush(seat, &batch).ok()?;
+    Some(())
 }
 
 // A worker leaves with a packet of 40 octets that no rule fits.
@@ -135,14 +156,16 @@ fn leave<C: Detects, N: Naming, W: Board<Slot<N>> + Drop>(
     catalog: &C,
     state: &mut State<N, W>,
     seat: &mut Seat<N>,
-) -> Result<(), Fail>
+) -> Option<()>
     requires offers { C.offers catalog.now ≡ N.setting.catalog }
     requires ue { seat.old.ue ≡ N.setting.ue }
 {
-    let mut batch = Batch::new(alloc)?;
+    let Ok(mut batch) = Batch::new(alloc) else {
+        return None;
+    };
     batch.push(seat.judge(catalog, 0, &packet_from(54, 40)));
-    state.finish(seat, &batch)?;
-    Ok(())
+    state.finish(seat, &batch).ok()?;
+    Some(())
 }
 
 #[test]
@@ -150,15 +173,17 @@ fn two_workers_hand_over_and_the_desk_is_told(rt: HostRuntime) -> Result<(), Fai
     let session = session(rt.alloc(), 1000)?;
     let opened = opened(&session)?;
     let catalog = Arc::new(rt.alloc(), Catalog::new(rt.alloc(), Vec::new(rt.alloc()))?)?;
+    let commands = commands(rt.alloc())?;
     let told = told_to_the_desk::<Catalog, Brand, _>(
         &rt,
         rt.alloc(),
+        &commands,
         catalog,
         session,
         opened,
         Blanks::new(),
-    )?;
-    assert_eq!(rt; told, [200, 100, 65_600, 0, 3]);
+    );
+    assert_eq!(rt; told, Some([200, 100, 65_600, 0, 3]));
     Ok(())
 }
 
@@ -167,11 +192,12 @@ fn two_workers_hand_over_and_the_desk_is_told(rt: HostRuntime) -> Result<(), Fai
 fn told_to_the_desk<C: Detects + Drop, N: Naming, R: Wait + Drop>(
     rt: &R,
     alloc: Global,
+    commands: &[Command; 3],
     catalog: Arc<C>,
     session: SessionState,
     opened: Opened,
     blanks: Blanks,
-) -> Result<[u64; 5], Fail>
+) -> Option<[u64; 5]>
     requires name { N.ledger ≡ name_at blanks }
     requires setting { session.setting ≡ N.setting }
     requires fresh { session.journal ≡ [] }
@@ -180,34 +206,35 @@ fn told_to_the_desk<C: Detects + Drop, N: Naming, R: Wait + Drop>(
     requires table { Shows session.setting session.journal (gen session.journal) opened.table }
     requires book { (opened.book ≡ N.book) × (opened.root ≡ N.root) }
 {
-    let (shared, mut desk) = Shared::<C, N, _>::open(
-        rt, alloc, catalog, session, opened, blanks, 2,
-    )?;
-    told_by(rt, alloc, &shared, &mut desk)
+    match Shared::<C, N, _>::open(rt, alloc, catalog, session, opened, blanks, 2) {
+        Ok((shared, mut desk)) => told_by(rt, alloc, commands, &shared, &mut desk),
+        Err(_) => None,
+    }
 }
 
 fn told_by<C: Detects + Drop, N: Naming, W: Board<Slot<N>> + Drop, R: Wait>(
     rt: &R,
     alloc: Global,
+    commands: &[Command; 3],
     shared: &Shared<C, N, W>,
     desk: &mut Desk<N>,
-) -> Result<[u64; 5], Fail> {
-    give_commands(rt, alloc, shared, desk)?;
+) -> Option<[u64; 5]> {
+    give_commands(rt, commands, shared, desk)?;
     let (one, two) = handed_over_by_two(rt, alloc, shared)?;
-    let (octets, later) = reported(rt, shared, desk)?;
-    Ok([one, two, octets, later, desk.commands().len() as u64])
+    let (octets, later) = reported(rt, commands, shared, desk)?;
+    Some([one, two, octets, later, desk.commands().len() as u64])
 }
 
 // The desk installs the rule and monitors its key.
 fn give_commands<C: Offers + Drop, N: Naming, W: Board<Slot<N>> + Drop, R: Wait>(
     rt: &R,
-    alloc: Global,
+    commands: &[Command; 3],
     shared: &Shared<C, N, W>,
     desk: &mut Desk<N>,
-) -> Result<(), Fail> {
-    desk.command(rt, shared, Command::Install(web(alloc)?))?;
-    desk.command(rt, shared, monitor(1000)?)?;
-    Ok(())
+) -> Option<()> {
+    desk.command(rt, shared, commands[0].copy().ok()?).ok()?;
+    desk.command(rt, shared, commands[1].copy().ok()?).ok()?;
+    Some(())
 }
 
 // Two workers come, and hand rows over.
@@ -215,30 +242,36 @@ fn handed_over_by_two<C: Detects + Drop, N: Naming, W: Board<Slot<N>> + Drop, R:
     rt: &R,
     alloc: Global,
     shared: &Shared<C, N, W>,
-) -> Result<(u64, u64), Fail> {
-    let one = shared.attach(rt)?;
-    let two = shared.attach(rt)?;
+) -> Option<(u64, u64)> {
+    let one = shared.attach(rt).ok()?;
+    let two = shared.attach(rt).ok()?;
     let small = handed_over(rt, alloc, shared, one, &packet(28), 200);
     let large = handed_over(rt, alloc, shared, two, &packet(600), 100);
-    Ok((small, large))
+    Some((small, large))
 }
 
 // The octets of the report that the desk asks for, and how many reports come after it.
 fn reported<C: Offers + Drop, N: Naming, W: Board<Slot<N>> + Drop, R: Wait>(
     rt: &R,
+    commands: &[Command; 3],
     shared: &Shared<C, N, W>,
     desk: &mut Desk<N>,
-) -> Result<(u64, u64), Fail> {
-    desk.command(rt, shared, Command::ReportNow(vid()?))?;
-    let reports = desk.collect(rt, shared)?;
-    let [report] = reports.as_slice() else {
-        return Err("there is one report")?;
-    };
-    let Body::Usage { octets, .. } = &report.body else {
-        return Err("the report is of usage")?;
-    };
-    let later = desk.collect(rt, shared)?;
-    Ok((*octets, later.len() as u64))
+) -> Option<(u64, u64)> {
+    desk.command(rt, shared, commands[2].copy().ok()?).ok()?;
+    let octets = octets_of_one(&desk.collect(rt, shared).ok()?)?;
+    let later = desk.collect(rt, shared).ok()?;
+    Some((octets, later.len() as u64))
+}
+
+// The octets that the only report tells.
+fn octets_of_one(reports: &[Report]) -> Option<u64> {
+    match reports {
+        [report] => match &report.body {
+            Body::Usage { octets, .. } => Some(*octets),
+            _ => None,
+        },
+        _ => None,
+    }
 }
 
 // Hands rows over one by one, each in one hold of the lock, and gives how many were taken over.

@@ -7,5 +7,5 @@ use Rattle.pcef_thread_tests.proofs.tests.lock.leave.Goals as goal
 pub finish-requires : goal.finish-requires
 finish-requires g c =
     let J : Item → Type 0 = IsJudged g.N.Naming.setting.catalog g.N.Naming.setting.ue g.N.Naming.first c.args.seat.now.subscriber in
-    let one = c.push.ensures ∙ ap (λ (xs : List Item). xs ++ c.judge.result ∷ []) c.in_ok-batch.ensures in
+    let one = c.push.ensures ∙ ap (λ (xs : List Item). xs ++ c.judge.result ∷ []) c.in-Ok.ensures in
     subst (λ (xs : List Item). All J xs) (sym one) (All-cons J c.judge.result [] c.judge.ensures.judged (All-nil J))
