@@ -24,52 +24,57 @@ fn planned(alloc: Global, lines: &[&str], workers: u8) -> Result<Result<Plan, Pl
     Ok(read_plan(alloc, &mut input.as_bytes(), workers))
 }
 
+/// Whether a command stands before the first packet, two packets for two workers come, and two commands later.
+fn is_as_it_stands(plan: &Plan) -> bool {
+    match (
+        plan.first.as_slice(),
+        plan.arrivals.as_slice(),
+        plan.later.as_slice(),
+    ) {
+        ([Command::Monitor { .. }], [first, second], [Command::Stop(_), Command::Monitor { .. }]) =>
+            first.worker == 0 && second.worker == 1 && second.header.octets == 28,
+        _ => false,
+    }
+}
+
 #[test]
 fn commands_stand_before_and_after_the_first_packet(rt: HostRuntime) -> Result<(), Fail> {
-    let plan = planned(
-        rt.alloc(),
-        &[MONITOR, "\n", FIRST, STOP, " \r\n", SECOND, MONITOR],
-        2,
-    )??;
-    let numbers = (plan.first.len(), plan.arrivals.len(), plan.later.len());
-    assert_eq!(rt; numbers, (1, 2, 2));
-    assert!(rt; matches!(plan.first.first(), Some(Command::Monitor { .. })));
-    assert!(rt; matches!(plan.later.first(), Some(Command::Stop(_))));
-    assert!(rt; matches!(plan.later.last(), Some(Command::Monitor { .. })));
-    let workers = (plan.arrivals[0].worker, plan.arrivals[1].worker);
-    assert_eq!(rt; workers, (0, 1));
-    assert_eq!(rt; plan.arrivals[1].header.octets, 28);
+    let lines = [MONITOR, "\n", FIRST, STOP, " \r\n", SECOND, MONITOR];
+    let plan = planned(rt.alloc(), &lines, 2)??;
+    assert!(rt; is_as_it_stands(&plan));
     Ok(())
+}
+
+/// How many commands come first, how many packets there are, and how many commands come later.
+fn counts(plan: Plan) -> (usize, usize, usize) {
+    (plan.first.len(), plan.arrivals.len(), plan.later.len())
 }
 
 #[test]
 fn without_packets_all_commands_come_first(rt: HostRuntime) -> Result<(), Fail> {
-    let plan = planned(rt.alloc(), &[MONITOR, STOP], 1)??;
     assert_eq!(rt;
-        (plan.first.len(), plan.arrivals.len(), plan.later.len()),
+        counts(planned(rt.alloc(), &[MONITOR, STOP], 1)??),
         (2, 0, 0)
     );
-    let plan = planned(rt.alloc(), &[], 16)??;
-    assert_eq!(rt;
-        (plan.first.len(), plan.arrivals.len(), plan.later.len()),
-        (0, 0, 0)
-    );
+    assert_eq!(rt; counts(planned(rt.alloc(), &[], 16)??), (0, 0, 0));
     Ok(())
 }
 
+/// Lines for one worker, and the number of the first that is unfit.
+static UNFIT: [(&[&str], u64); 5] = [
+    (&[MONITOR, "\n", FIRST, SECOND, "{}"], 4),
+    (&["{\"do\":\"attach\"}\n", FIRST], 1),
+    (&[FIRST, "{\"do\":\"show\"}"], 2),
+    (&["[1]"], 1),
+    (&["\u{7f}\n"], 1),
+];
+
 #[test]
 fn the_first_line_that_is_unfit_is_named(rt: HostRuntime) -> Result<(), Fail> {
-    let alloc = rt.alloc();
-    let fault = planned(alloc, &[MONITOR, "\n", FIRST, SECOND, "{}"], 1)?.err();
-    assert_eq!(rt; fault, Some(PlanFault::Line(4)));
-    let fault = planned(alloc, &["{\"do\":\"attach\"}\n", FIRST], 1)?.err();
-    assert_eq!(rt; fault, Some(PlanFault::Line(1)));
-    let fault = planned(alloc, &[FIRST, "{\"do\":\"show\"}"], 1)?.err();
-    assert_eq!(rt; fault, Some(PlanFault::Line(2)));
-    let fault = planned(alloc, &["[1]"], 1)?.err();
-    assert_eq!(rt; fault, Some(PlanFault::Line(1)));
-    let fault = planned(alloc, &["\u{7f}\n"], 1)?.err();
-    assert_eq!(rt; fault, Some(PlanFault::Line(1)));
+    for &(lines, number) in &UNFIT {
+        let fault = planned(rt.alloc(), lines, 1)?.err();
+        assert_eq!(rt; fault, Some(PlanFault::Line(number)));
+    }
     Ok(())
 }
 
