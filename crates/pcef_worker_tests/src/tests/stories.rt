@@ -14,7 +14,7 @@ struct Story {
     end: [u64; 7],
 }
 
-static STORIES: [Story; 14] = [
+static STORIES: [Story; 13] = [
     // The session takes one row, and two wait. Nothing of them comes to it, since a later worker's row is taken.
     Story {
         name: "a refused flush keeps the rows",
