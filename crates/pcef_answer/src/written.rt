@@ -270,6 +270,7 @@ pub(crate) fn push_word(text: &mut String, front: &str, word: &str) -> Result<()
     text.push_str("\"")
 }
 
+#[inline(always)]
 fn push_escaped(text: &mut String, name: &str) -> Result<(), AllocError>
     requires { IsName name.now }
     ensures { OnOk result (GoesOn text.old text.new (escape name.now)) }
@@ -322,7 +323,8 @@ fn push_byte(text: &mut String, byte: u8) -> Result<(), AllocError>
     }
 }
 
-/// A number behind a front.
+/// A number behind a front. Inlined, so that a front of known length is copied without a call.
+#[inline(always)]
 pub(crate) fn push_count(text: &mut String, front: &str, number: u64) -> Result<(), AllocError>
     ensures { OnOk result (GoesOn text.old text.new (front.now ++ decimal number)) }
 {
@@ -331,6 +333,7 @@ pub(crate) fn push_count(text: &mut String, front: &str, number: u64) -> Result<
 }
 
 /// A number behind a front, as the last member.
+#[inline(always)]
 pub(crate) fn push_last_count(text: &mut String, front: &str, number: u64) -> Result<(), AllocError>
     ensures { OnOk result (GoesOn text.old text.new
         ((front.now ++ decimal number) ++ codes "}")) }
