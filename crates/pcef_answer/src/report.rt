@@ -8,7 +8,7 @@ ghost use Rattle.pcef_model.specs.declared.report.Body.TheVariants.{Access, Inac
 ghost use Rattle.pcef_answer.specs.ReportAnswers.{body_data, cause_text, kind_text, inactive_text, report_data, reports_data, reports_text};
 ghost use Rattle.pcef_answer.specs.Written.{GoesOn};
 
-use crate::written::{push_count, push_name, push_word};
+use crate::written::{push_comma, push_count, push_name, push_word};
 use pcef_journal::{Journal, Reports};
 use pcef_model::{AccessKind, Body, Cause, InactiveCause, NoticeValue, Report};
 use pcef_rule::{KeyName, RuleName};
@@ -115,9 +115,7 @@ fn push_item(text: &mut String, later: bool, report: &Report) -> Result<(), Allo
     ensures { OnOk result (GoesOn text.old text.new
         (comma_if later ++ compact_text (report_data report.now))) }
 {
-    if later {
-        text.push_str(",")?;
-    }
+    push_comma(text, later)?;
     push_report(text, report)
 }
 

@@ -7,7 +7,7 @@ ghost use Rattle.pcef_table.specs.Sources.{IsKnown};
 ghost use Rattle.pcef_answer.specs.ShowAnswers.{ShowsSession, active_data, bearer_data, bearers_told, entry_data, kept_data, state_data, states_data};
 ghost use Rattle.pcef_answer.specs.Written.{GoesOn};
 
-use crate::written::{push_count, push_last_count, push_name};
+use crate::written::{push_comma, push_count, push_last_count, push_name};
 use pcef_bearer::Bearers;
 use pcef_catalog::Listing;
 use pcef_rule::{BearerId, Sums};
@@ -49,12 +49,6 @@ fn push_shown(
     push_count(text, ",\"generation\":", u64::from(generation))?;
     push_keys(text, states)?;
     text.push_str("}")
-}
-
-fn push_comma(text: &mut String, later: bool) -> Result<(), AllocError>
-    ensures { OnOk result (GoesOn text.old text.new (comma_if later)) }
-{
-    if later { text.push_str(",") } else { Ok(()) }
 }
 
 fn push_active(text: &mut String, listing: &Listing, entries: &[Entry]) -> Result<(), AllocError>

@@ -187,9 +187,7 @@ fn push_item(text: &mut String, later: bool, judged: &Judged) -> Result<(), Allo
     ensures { OnOk result (GoesOn text.old text.new
         (comma_if later ++ compact_text (judged_data judged.now))) }
 {
-    if later {
-        text.push_str(",")?;
-    }
+    push_comma(text, later)?;
     push_judged(text, judged)
 }
 
@@ -321,6 +319,13 @@ fn push_byte(text: &mut String, byte: u8) -> Result<(), AllocError>
     } else {
         text.push(char::from(byte))
     }
+}
+
+/// A comma between an item and the one before it.
+pub(crate) fn push_comma(text: &mut String, later: bool) -> Result<(), AllocError>
+    ensures { OnOk result (GoesOn text.old text.new (comma_if later)) }
+{
+    if later { text.push_str(",") } else { Ok(()) }
 }
 
 /// A number behind a front. Inlined, so that a front of known length is copied without a call.

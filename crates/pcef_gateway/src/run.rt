@@ -162,7 +162,7 @@ fn run_named<
         Ok((shared, desk)) => {
             run_shared(rt, alloc, shared, desk, gate, workers, arrivals, commands)
         }
-        Err(fault) => Err(fault.into()),
+        Err(unopened) => Err(unopened.fault.into()),
     }
 }
 

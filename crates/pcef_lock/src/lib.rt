@@ -18,7 +18,7 @@ pub use desk::{Desk, commands_so_far};
 pub use finished::Finished;
 pub use gathering::{GatherFault, Totals};
 pub use key_totals::{KeyTotal, KeyTotals};
-pub use opening::{SharedFault, opened};
+pub use opening::{SharedFault, Unopened, opened};
 pub use seat::Seat;
 pub use shared::{Shared, Ungathered};
 pub use state::{State, StateUngathered};

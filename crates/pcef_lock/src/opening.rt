@@ -8,7 +8,7 @@ ghost use Rattle.pcef_session.specs.Answers.{ShowsNewest};
 ghost use Rattle.pcef_share.specs.Names.{name_at};
 ghost use Rattle.pcef_table.specs.Tables.{IsTable};
 ghost use Rattle.pcef_lock.specs.Desks.{desk_shares};
-ghost use Rattle.pcef_lock.specs.Opening.{IsPlacesFault, LacksPlaces};
+ghost use Rattle.pcef_lock.specs.Opening.{IsPlacesFault};
 ghost use Rattle.pcef_lock.specs.declared.opening.SharedFault.TheVariants.{Places};
 
 use crate::desk::{Desk, commands_so_far};
@@ -105,10 +105,32 @@ impl<N: Naming, R: Wait + Drop> State<N, Writer<N, R>> {
     }
 }
 
+/// What comes back where a session didn't come behind its lock.
+#[derive(Drop)]
+pub struct Unopened<C: Drop> {
+    /// Why.
+    pub fault: SharedFault,
+    /// The catalog.
+    pub catalog: Arc<C>,
+    /// The session, as it was.
+    pub session: SessionState,
+}
+
+/// The fault where there is no memory: `Places` goes before it.
+fn lacks_memory(places: u8) -> SharedFault
+    ensures { (result ≡ Places) ↔ ((places ≡ 0) ⊎ (16 < places)) }
+{
+    if places == 0 || usize::from(places) > MAX_WORKERS {
+        SharedFault::Places
+    } else {
+        SharedFault::NoMemory
+    }
+}
+
 impl<C: Offers + Drop, N: Naming, R: Wait + Drop> Shared<C, N, Writer<N, R>> {
     /// Puts a session behind its lock, with so many places for workers, beside a desk that has the session's commands so
-    /// far. The conditions of the caller are those of [`State::open`], and the catalog is that of the session. Session
-    /// and opened history are lost with a fault. Takes memory. May wait for readers.
+    /// far. The conditions of the caller are those of [`State::open`], and the catalog is that of the session. Catalog
+    /// and session come back with a fault; the opened history is then lost. Takes memory. May wait for readers.
     pub fn open(
         rt: R,
         alloc: Global,
@@ -117,7 +139,7 @@ impl<C: Offers + Drop, N: Naming, R: Wait + Drop> Shared<C, N, Writer<N, R>> {
         opened: Opened,
         blanks: Blanks,
         places: u8,
-    ) -> Result<(Shared<C, N, Writer<N, R>>, Desk<N>), SharedFault>
+    ) -> Result<(Shared<C, N, Writer<N, R>>, Desk<N>), Unopened<C>>
         requires name { N.ledger ≡ name_at blanks }
         requires setting { session.setting ≡ N.setting }
         requires first { N.first ≡ gen session.journal }
@@ -127,15 +149,27 @@ impl<C: Offers + Drop, N: Naming, R: Wait + Drop> Shared<C, N, Writer<N, R>> {
         requires book { (opened.book ≡ N.book) × (opened.root ≡ N.root) }
         ensures commands { IfOk result (λ r. r.1.commands ≡ reverse (commands session.journal)) }
         ensures collected { IfOk result (λ r. r.1.collected ≡ 0) }
-        ensures fault { LacksPlaces result ↔ ((places ≡ 0) ⊎ (16 < places)) }
+        ensures places { IfOk result (λ r. (0 < places) × (places ≤ 16)) }
+        ensures fault { IfErr result (λ e. (e.fault ≡ Places) ↔ ((places ≡ 0) ⊎ (16 < places))) }
+        ensures back { IfErr result (λ e. (e.catalog ≡ catalog) × (e.session ≡ session)) }
     {
-        let commands = commands_so_far(alloc, &session);
+        let commands = match commands_so_far(alloc, &session) {
+            Ok(commands) => commands,
+            Err(_) => {
+                return Err(Unopened {
+                    fault: lacks_memory(places),
+                    catalog,
+                    session,
+                });
+            }
+        };
         match State::open(rt, alloc, session, opened, blanks, places) {
-            Ok((state, shares)) => match commands {
-                Ok(commands) => Ok((Shared::new(catalog, state), Desk::new(commands, shares))),
-                Err(_) => Err(SharedFault::NoMemory),
-            },
-            Err((_, fault)) => Err(fault),
+            Ok((state, shares)) => Ok((Shared::new(catalog, state), Desk::new(commands, shares))),
+            Err((session, fault)) => Err(Unopened {
+                fault,
+                catalog,
+                session,
+            }),
         }
     }
 }
