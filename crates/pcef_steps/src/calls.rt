@@ -2,7 +2,7 @@
 
 use pcef_answer::step_answer;
 use pcef_catalog::Catalog;
-use pcef_core::{Session, World};
+use pcef_core::{Session, World, run};
 use pcef_journal::Journal;
 use pcef_line::{Line, read_line};
 use pcef_model::{Command, Profile, Refusal, Step};
@@ -114,14 +114,12 @@ fn octets_of(usage: &Usage) -> (u64, u64) {
     (reported, unreported)
 }
 
-/// How many steps a list has, made on a new world at once, and what the world then has: the number of its
-/// generation, its rows, its reports, and the octets that were reported for its keys and that were not.
+/// How many steps a run of a list answers, and what its world then has: the number of its generation, its rows, its reports, and the octets that were reported for its keys and that were not.
 fn listed(alloc: Global, catalog: Arc<Catalog>, script: &str) -> Result<[u64; 6], AllocError> {
     let steps = steps_of(alloc, script)?;
-    let Ok(mut world) = World::open(alloc, profile(alloc)?, catalog) else {
+    let Ok((world, answers)) = run(alloc, profile(alloc)?, catalog, steps) else {
         return Err(AllocError);
     };
-    let answers = world.play(alloc, steps)?;
     let session = world.session();
     let (reported, unreported) = octets_of(session.usage());
     Ok([

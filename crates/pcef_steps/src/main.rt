@@ -1,5 +1,5 @@
-//! Makes the steps of a script through the public calls that `pcef` doesn't make: on a `World`, as one list, and its
-//! commands on a `Session`. A call that finds no memory is made once more.
+//! Makes the steps of a script through the public calls that `pcef` doesn't make: on a `World`, as the list of a run, and
+//! its commands on a `Session`. A call that finds no memory is made once more. The catalog has one predefined rule.
 //!
 //! A refusal leaves a world and a session as they were. So with one allocation refused the program writes what it
 //! writes with memory, or, where its input, its writer or its catalog found none, nothing and ends with 3
@@ -8,8 +8,16 @@
 
 mod calls;
 
+ghost use Rattle.std.specs.Prelude.{◌≡◌, [], ◌∷◌};
+ghost use Rattle.pcef_catalog.specs.Shapes.{test_holds};
+ghost use Rattle.pcef_catalog.specs.declared.shape.Test.TheVariants.{Dscp};
+
+use arrayvec::ArrayVec;
 use calls::{answer_commands, answer_list, answer_steps};
-use pcef_catalog::Catalog;
+use pcef_catalog::{Alternative, Catalog, Detect, Predefined, Shape, Test};
+use pcef_packet::Header;
+use pcef_rule::{Arp, Gate, Properties, Qci, Qos, RuleName};
+use std::alloc::AllocError;
 use std::io::{self, BufWriter, Read, Write};
 use std::process::ExitCode;
 use std::sync::Arc;
@@ -28,15 +36,51 @@ fn run(rt: &HostRuntime, catalog: Arc<Catalog>) -> io::Result<()> {
     writer.flush()
 }
 
-fn main(rt: HostRuntime) -> ExitCode {
+/// The shape of the predefined rule: the DSCP is 46.
+fn shape() -> Shape
+    ensures { result ≡ (Dscp 46 ∷ []) ∷ [] }
+{
+    let mut expedited = Alternative::default();
+    expedited.tests.push(Test::Dscp(46));
+    let mut alternatives = ArrayVec::new();
+    alternatives.push(expedited);
+    Shape::new(alternatives)
+}
+
+/// The properties of the predefined rule, which wants a bearer of its own.
+fn properties() -> Properties {
+    Properties {
+        name: RuleName::known("pre-ef"),
+        precedence: 200,
+        qos: Qos {
+            qci: Qci(5),
+            arp: Arp::known(4, false, false),
+        },
+        rates: None,
+        gate: Gate::Enabled,
+        key: None,
+    }
+}
+
+/// Answers the script with a catalog of one predefined rule.
+fn run_with_rule(rt: &HostRuntime) -> io::Result<()> {
     let alloc = rt.alloc();
-    let Ok(catalog) = Catalog::new(alloc, Vec::new(alloc)) else {
-        return ExitCode::from(3);
+    let detect: Detect = Box::new(
+        alloc,
+        |header: &Header| -> bool
+            ensures { result ≡ test_holds header.now (Dscp 46) }
+        { header.dscp == 46 },
+    )?;
+    let mut rules = Vec::new(alloc);
+    rules.push(Predefined::new(properties(), shape(), detect))?;
+    let Ok(catalog) = Catalog::new(alloc, rules) else {
+        return Err(AllocError)?;
     };
-    let Ok(catalog) = Arc::new(alloc, catalog) else {
-        return ExitCode::from(3);
-    };
-    match run(&rt, catalog) {
+    run(rt, Arc::new(alloc, catalog)?)
+}
+
+fn main(rt: HostRuntime) -> ExitCode {
+    match run_with_rule(&rt) {
         Ok(()) => ExitCode::from(0),
         Err(_) => ExitCode::from(3),
     }

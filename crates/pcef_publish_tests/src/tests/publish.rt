@@ -213,7 +213,7 @@ fn never_older<N: Naming>(mut subscriber: Subscriber<N>) -> Option<Subscriber<N>
     Some(subscriber)
 }
 
-/// `rt try --test --fail-alloc N` lets the Nth allocation fail.
+// `.ci/refused-memory` refuses each allocation in turn.
 #[test]
 fn a_table_that_finds_no_memory_can_come_again(rt: HostRuntime) -> Result<(), Fail> {
     for _ in 0..2u8 {

@@ -1,7 +1,6 @@
 //! Commands that meet want of memory: they leave no trace, and are done when they come again.
 //!
-//! With memory for everything each command is done at once. `rt try --test --fail-alloc N` lets the Nth
-//! allocation fail.
+//! With memory for everything each command is done at once. `.ci/refused-memory` refuses each allocation in turn.
 
 use pcef_catalog::Catalog;
 use pcef_core::World;

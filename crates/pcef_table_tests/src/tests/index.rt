@@ -19,6 +19,7 @@ use pcef_rule::Gate;
 use pcef_table::{Entry, Table};
 use std::alloc::Global;
 use std::process::Abort;
+use std::test::Fail;
 
 /// A rule of one filter, on bearer 5.
 fn install<'a>(name: &'a str, precedence: u32, filter: &'a str) -> Step<'a> {
@@ -338,19 +339,25 @@ fn the_scan_gives_the_same_verdicts(rt: HostRuntime) {
     assert!(rt; passed > 100 && passed < 700, "{passed}");
 }
 
-/// `rt try --test --fail-alloc N` lets the Nth allocation fail.
+// It ends in error where there is no table. `.ci/refused-memory` refuses each allocation in turn.
 #[test]
-fn a_build_that_finds_no_memory_can_come_again(rt: HostRuntime) {
-    assert_eq!(rt; judged_at_a_second_try(rt.alloc()), passed("b", 5));
+fn a_build_that_finds_no_memory_can_come_again(rt: HostRuntime) -> Result<(), Fail> {
+    match judged_at_a_second_try(rt.alloc()) {
+        Some(verdict) => assert_eq!(rt; verdict, passed("b", 5)),
+        None => Err("there is no table to build an index of")?,
+    }
+    Ok(())
 }
 
-/// The verdict of a DNS answer by an index that may be built a second time.
-fn judged_at_a_second_try(alloc: Global) -> Option<Verdict> {
+/// The verdict of a DNS answer by an index that may be built a second time, if there is a table to build it of.
+fn judged_at_a_second_try(alloc: Global) -> Option<Option<Verdict>> {
     let catalog = empty_catalog(alloc)?;
     let steps = [install("a", 10, ALL), install("b", 5, DNS)];
     let table = table_of(alloc, &catalog, &steps)?;
-    let index = built_at_a_second_try(alloc, &catalog, &table)?;
-    Some(index.classify(&table, &catalog, UE, &DNS_ANSWER))
+    match built_at_a_second_try(alloc, &catalog, &table) {
+        Some(index) => Some(Some(index.classify(&table, &catalog, UE, &DNS_ANSWER))),
+        None => Some(None),
+    }
 }
 
 fn built_at_a_second_try<C: Offers>(alloc: Global, catalog: &C, table: &Table) -> Option<Index>

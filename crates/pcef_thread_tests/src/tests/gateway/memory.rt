@@ -1,4 +1,4 @@
-//! Want of memory. `rt try --test --fail-alloc N` lets the Nth allocation fail.
+//! Want of memory. `.ci/refused-memory` refuses each allocation in turn.
 
 use super::workers::TWO_COUNTED;
 use super::*;
