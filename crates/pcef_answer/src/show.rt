@@ -42,7 +42,8 @@ fn push_shown(
 ) -> Result<(), AllocError>
     requires { All (λ e. IsKnown listing.now e.source) entries.now }
     ensures { OnOk result (GoesOn text.old text.new
-        (compact_text (kept_data listing.now entries.now bearers.now.bound generation states.now))) }
+        (compact_text (kept_data listing.now entries.now bearers.now.bound
+        generation states.now))) }
 {
     push_active(text, listing, entries)?;
     push_bearers(text, bearers, &IDS)?;

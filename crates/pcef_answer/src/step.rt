@@ -15,8 +15,8 @@ use pcef_session::BatchFull;
 use pcef_world::StepAnswer;
 use std::alloc::{AllocError, Global};
 
-/// The answer to a step that was made: what was answered, with the reports that the journal after it has for it, and the
-/// number of the newest generation where a worker came.
+/// The answer to a step that was made: what was answered, with the reports that the journal after it has for it, and
+/// the number of the newest generation where a worker came.
 pub fn step_answer(
     alloc: Global,
     journal: &Journal,

@@ -68,8 +68,8 @@ impl World {
         self.state.step(&*self.catalog, step)
     }
 
-    /// Makes steps one after the other, as [`WorldState::play`]. Want of memory leaves some of them made, from the first
-    /// on, and nothing else changed.
+    /// Makes steps one after the other, as [`WorldState::play`]. Want of memory leaves some of them made, from the
+    /// first on, and nothing else changed.
     pub fn play(&mut self, alloc: Global, steps: Vec<Step>) -> Result<Vec<StepAnswer>, AllocError>
         ensures answers { IfOk result (λ v.
             MakesSteps (world_of self.old) steps.items v.items (world_of self.new)) }

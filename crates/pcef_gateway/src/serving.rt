@@ -105,8 +105,8 @@ fn rest<C: Detects + Drop, N: Naming, W: Board<Slot<N>> + Drop, G: Gate + Drop, 
     hand_over(rt, shared, worker)
 }
 
-/// Takes the next packet of the ring, and hands rows over where 32 wait or no packet comes. Says whether the ring goes on,
-/// or the refusal where rows aren't taken over.
+/// Takes the next packet of the ring, and hands rows over where 32 wait or no packet comes. Says whether the ring goes
+/// on, or the refusal where rows aren't taken over.
 fn serve_next<C: Detects + Drop, N: Naming, W: Board<Slot<N>> + Drop, G: Gate + Drop, R: Wait>(
     rt: &R,
     shared: &Shared<C, N, W>,

@@ -128,9 +128,9 @@ fn lacks_memory(places: u8) -> SharedFault
 }
 
 impl<C: Offers + Drop, N: Naming, R: Wait + Drop> Shared<C, N, Writer<N, R>> {
-    /// Puts a session behind its lock, with so many places for workers, beside a desk that has the session's commands so
-    /// far. The conditions of the caller are those of [`State::open`], and the catalog is that of the session. Catalog
-    /// and session come back with a fault; the opened history is then lost. Takes memory. May wait for readers.
+    /// Puts a session behind its lock, with so many places for workers, beside a desk that has the session's commands
+    /// so far. The conditions of the caller are those of [`State::open`], and the catalog is that of the session.
+    /// Catalog and session come back with a fault; the opened history is then lost. Takes memory. May wait for readers.
     pub fn open(
         rt: R,
         alloc: Global,

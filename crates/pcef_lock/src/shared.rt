@@ -27,8 +27,8 @@ use std::alloc::AllocError;
 use std::marker::Model;
 use std::sync::{Arc, Mutex, Wait};
 
-/// A session that threads share: its catalog, and the lock of all else. Each call takes the lock once and makes one call
-/// of the [`State`] behind it, as which it answers. Contracts see what the catalog offers.
+/// A session that threads share: its catalog, and the lock of all else. Each call takes the lock once and makes one
+/// call of the [`State`] behind it, as which it answers. Contracts see what the catalog offers.
 pub struct Shared<C: Offers + Drop, N: Naming, W: Board<Slot<N>> + Drop> {
     catalog: Arc<C>,
     state: Mutex<State<N, W>>,
@@ -160,9 +160,9 @@ impl<C: Offers + Drop, N: Naming, W: Board<Slot<N>> + Drop> Shared<C, N, W> {
         self.state.lock(rt).collect(from)
     }
 
-    /// As [`State::gather`], of the value behind the lock, which ends with it. The headline's last clause: for each
-    /// monitoring key the octets that the journal's rows passed for it, those of all workers' lists, and those that were
-    /// reported and that weren't are one number; each row stands in one worker's list, once.
+    /// As [`State::gather`], of the value behind the lock, which ends with it. For each monitoring key the octets that
+    /// the journal's rows passed for it, those of all workers' lists, and those that were reported and that weren't are
+    /// one number; each row stands in one worker's list, once.
     pub fn gather<R: Wait>(
         self,
         rt: &R,

@@ -67,7 +67,11 @@ impl Model for Opened {
 
     ghost Value = { Opening };
 
-    ghost view = { λ o. record { book = o.seen.book; root = o.pen.nib.key; table = arc_value o.table } };
+    ghost view = { λ o. record {
+      book = o.seen.book;
+      root = o.pen.nib.key;
+      table = arc_value o.table;
+    } };
 
     ghost invariant = { λ o.
         (o.seen.log ≡ [])

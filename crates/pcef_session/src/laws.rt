@@ -10,8 +10,8 @@ pub fn shown_tables_judge()
     ensures stay { ShownTablesStay }
 {}
 
-/// The bearers of a session, as [`crate::SessionState::bearers`] has them: each active rule stands on the one of its QCI
-/// and ARP, and each bearer's guaranteed rates are the exact sums of its rules' (TS 23.203, clause 6.1.1.4).
+/// The bearers of a session, as [`crate::SessionState::bearers`] has them: each active rule stands on the one of its
+/// QCI and ARP, and each bearer's guaranteed rates are the exact sums of its rules' (TS 23.203, clause 6.1.1.4).
 pub fn rules_have_their_bearers()
     ensures bearers { RulesStandOnTheirBearers }
     ensures sums { RatesAreSums }

@@ -25,7 +25,8 @@ pub struct Activation {
 pub struct PreparedChange {
     /// The command.
     pub command: Command,
-    /// The table that the command makes, with its index, if it makes one: that of the journal after it and all that is reported with it.
+    /// The table that the command makes, with its index, if it makes one: that of the journal after it and all that is
+    /// reported with it.
     pub table: Option<Arc<Indexed>>,
     /// The rule that the command makes active.
     pub rule: Option<Activation>,
@@ -45,7 +46,8 @@ pub enum Prepared {
 }
 
 impl Prepared {
-    /// The table, with its index, of the journal after the command and all that is reported with it, if the command makes one.
+    /// The table, with its index, of the journal after the command and all that is reported with it, if the command
+    /// makes one.
     pub fn indexed(&self) -> Option<&Arc<Indexed>>
         ensures { option_map (λ t. arc_value t) (option_copied result) ≡ table_made self.now }
     {

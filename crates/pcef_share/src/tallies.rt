@@ -39,8 +39,9 @@ impl<N: Naming> Model for Tallies<N> {
       totals = t.slot0.total ∷ t.slot1.total ∷ t.slot2.total ∷ t.slot3.total ∷ t.slot4.total
           ∷ t.slot5.total ∷ t.slot6.total ∷ t.slot7.total ∷ t.rows.total ∷ t.commands.total ∷ [];
       parts = t.slot0.parts;
-      amounts = t.slot0.amount ∷ t.slot1.amount ∷ t.slot2.amount ∷ t.slot3.amount ∷ t.slot4.amount
-          ∷ t.slot5.amount ∷ t.slot6.amount ∷ t.slot7.amount ∷ t.rows.amount ∷ t.commands.amount ∷ [];
+      amounts = t.slot0.amount ∷ t.slot1.amount ∷ t.slot2.amount ∷ t.slot3.amount
+          ∷ t.slot4.amount ∷ t.slot5.amount ∷ t.slot6.amount ∷ t.slot7.amount
+          ∷ t.rows.amount ∷ t.commands.amount ∷ [];
     } };
 
     ghost invariant = { λ t.

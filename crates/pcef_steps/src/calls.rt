@@ -114,7 +114,8 @@ fn octets_of(usage: &Usage) -> (u64, u64) {
     (reported, unreported)
 }
 
-/// How many steps a run of a list answers, and what its world then has: the number of its generation, its rows, its reports, and the octets that were reported for its keys and that were not.
+/// How many steps a run of a list answers, and what its world then has: the number of its generation, its rows, its
+/// reports, and the octets that were reported for its keys and that were not.
 fn listed(alloc: Global, catalog: Arc<Catalog>, script: &str) -> Result<[u64; 6], AllocError> {
     let steps = steps_of(alloc, script)?;
     let Ok((world, answers)) = run(alloc, profile(alloc)?, catalog, steps) else {

@@ -1,5 +1,5 @@
-//! Makes the steps of a script through the public calls that `pcef` doesn't make: on a `World`, as the list of a run, and
-//! its commands on a `Session`. A call that finds no memory is made once more. The catalog has one predefined rule.
+//! Makes the steps of a script through the public calls that `pcef` doesn't make: on a `World`, as the list of a run,
+//! and its commands on a `Session`. A call that finds no memory is made once more. The catalog has one predefined rule.
 //!
 //! A refusal leaves a world and a session as they were. So with one allocation refused the program writes what it
 //! writes with memory, or, where its input, its writer or its catalog found none, nothing and ends with 3

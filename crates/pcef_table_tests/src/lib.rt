@@ -1,5 +1,5 @@
-//! Tests of tables, of their indexes and of reporters' outlets. They stand above the crates that they test, which are then
-//! proved once.
+//! Tests of tables, of their indexes and of reporters' outlets. They stand above the crates that they test, which are
+//! then proved once.
 #![tactic(auto)]
 
 #[cfg(test)]

@@ -1,22 +1,22 @@
 //! Goes through the worked examples that its words name: scripts, files of lines and files of profiles.
 //!
 //! A word that ends in `.lines` or `.profiles` names a file. Any other names a script: `NAME.jsonl` has its lines, and
-//! `NAME.answers.jsonl` their answers, which were worked out by hand. The session's profile is `NAME.toml` where there is
-//! such a file, else `profile.toml`. Each script runs twice: for a writer that takes all that it is offered, and for one
-//! that takes half. For each script a line is written: how many answers it has and how many of its lines are at fault, or
-//! the first answer that isn't as worked out.
+//! `NAME.answers.jsonl` their answers, which were worked out by hand. The session's profile is `NAME.toml` where there
+//! is such a file, else `profile.toml`. Each script runs twice: for a writer that takes all that it is offered, and for
+//! one that takes half. For each script a line is written: how many answers it has and how many of its lines are at
+//! fault, or the first answer that isn't as worked out.
 //!
 //! A file of lines has a line of a script in each line, and what it is read as is written below it. Blank lines and
 //! lines that begin with `#` stand between them, and are written as they are. A control picture stands for its control
-//! character, and `∅` for no character at all. Each line is read alone, and by a reader that reads all lines of its file;
-//! where the two readings differ, it is written. A line behind `~ ` is read so with each stray octet in the place of each
-//! of its octets.
+//! character, and `∅` for no character at all. Each line is read alone, and by a reader that reads all lines of its
+//! file; where the two readings differ, it is written. A line behind `~ ` is read so with each stray octet in the place
+//! of each of its octets.
 //!
 //! A file of profiles has a profile behind each line that begins with `===`. Only these lines are written, and below
 //! each what its profile is read as. At the end come the faults that no text has.
 //!
-//! The exit status is 1 where an answer isn't as worked out, and 3 where a file can't be read, the profile of a script is
-//! at fault or a script ends early.
+//! The exit status is 1 where an answer isn't as worked out, and 3 where a file can't be read, the profile of a script
+//! is at fault or a script ends early.
 #![tactic(auto)]
 
 mod comparing;

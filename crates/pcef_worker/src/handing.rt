@@ -69,9 +69,9 @@ impl<C: Detects + Drop, N: Naming, G: Gate + Drop> Worker<C, N, G> {
         Ok(verdicts)
     }
 
-    /// Hands the waiting rows over, all or none, in one hold of the lock, and gives their verdicts; or answers the first
-    /// refusal in the order of [`FlushRefusal`], which changes nothing. The gate is called before and after, with no
-    /// lock held. Takes memory, and may meet want of it before another refusal is seen. Waits for the lock.
+    /// Hands the waiting rows over, all or none, in one hold of the lock, and gives their verdicts; or answers the
+    /// first refusal in the order of [`FlushRefusal`], which changes nothing. The gate is called before and after, with
+    /// no lock held. Takes memory, and may meet want of it before another refusal is seen. Waits for the lock.
     pub fn flush<W: Board<Slot<N>> + Drop, R: Wait>(
         &mut self,
         rt: &R,

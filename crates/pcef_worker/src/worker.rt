@@ -150,8 +150,8 @@ impl<C: Detects + Drop, N: Naming, G: Gate + Drop> Worker<C, N, G> {
         self.seat.subscriber.refresh()
     }
 
-    /// Takes the newest table in one hold of the lock, and answers its generation. Where a further owner of the table is
-    /// refused, nothing changes. Waits for the lock.
+    /// Takes the newest table in one hold of the lock, and answers its generation. Where a further owner of the table
+    /// is refused, nothing changes. Waits for the lock.
     pub fn meet<W: Board<Slot<N>> + Drop, R: Wait>(
         &mut self,
         rt: &R,

@@ -6,8 +6,8 @@ ghost use Rattle.pcef_writing.specs.Writing.{AppendsFront};
 
 use std::io::{self, ErrorKind, Write};
 
-/// Writes all of some bytes, or a front of them and the error. Every error of the writer ends it, an interruption too, and
-/// so does a write that takes no byte. It doesn't flush, and takes no memory.
+/// Writes all of some bytes, or a front of them and the error. Every error of the writer ends it, an interruption too,
+/// and so does a write that takes no byte. It doesn't flush, and takes no memory.
 pub fn put_all<W: Write>(writer: &mut W, bytes: &[u8]) -> io::Result<()>
     ensures all { OnOk result (Appends (W.contents writer.old) (W.contents writer.new) bytes.now) }
     ensures front { OnErr result

@@ -113,8 +113,8 @@ fn each_pair_gets_a_bearer(rt: HostRuntime) -> Result<(), Fail> {
     Ok(())
 }
 
-/// What is answered for an eleventh pair: the refusal, no bearer, the refusal to bind a rule, and how many rules are bound
-/// then.
+/// What is answered for an eleventh pair: the refusal, no bearer, the refusal to bind a rule, and how many rules are
+/// bound then.
 fn answers_to_an_eleventh(
     bearers: &mut Bearers,
 ) -> (Option<Refusal>, Option<BearerId>, Answer, usize) {
@@ -197,8 +197,8 @@ fn sums(up: u64, down: u64) -> Option<Sums> {
     Some(Sums { up, down })
 }
 
-/// Two rules are on one bearer, which ends with the second of them: the bearer of the second one, what each of them leaves,
-/// and the rates on the bearer after each.
+/// Two rules are on one bearer, which ends with the second of them: the bearer of the second one, what each of them
+/// leaves, and the rates on the bearer after each.
 fn around_an_end(bearers: &mut Bearers) -> (Answer, [Option<Released>; 2], [Option<Sums>; 2]) {
     let bound = set(bearers, RuleName::known("also"), pair(8, 4), None);
     let first = bearers.unbind(&RuleName::known("r4"));
@@ -314,8 +314,8 @@ fn rates_at_the_capacity(rt: HostRuntime) -> Result<(), Fail> {
     Ok(())
 }
 
-/// The refusals of a new rule: of an unknown QCI with rates and without, of GBR QCIs without rates, of a non-GBR QCI with
-/// rates, and of a pair that finds no bearer; and none at a pair that has one.
+/// The refusals of a new rule: of an unknown QCI with rates and without, of GBR QCIs without rates, of a non-GBR QCI
+/// with rates, and of a pair that finds no bearer; and none at a pair that has one.
 fn refusals(bearers: &Bearers, name: &RuleName) -> [Option<Refusal>; 7] {
     let rates = Some(Rates { up: 1, down: 1 });
     [

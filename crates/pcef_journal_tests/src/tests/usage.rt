@@ -165,8 +165,8 @@ fn is_first_report(counted: &CountedJournal, key: KeyName, octets: u64, cause: C
     counted.journal().reports_from(0).next() == Some(&expected)
 }
 
-/// Whether memory is taken for three entries, what is then seen of a journal without entries, and the slot of a key that
-/// has none.
+/// Whether memory is taken for three entries, what is then seen of a journal without entries, and the slot of a key
+/// that has none.
 fn seen_empty(alloc: Global) -> (Result<(), AllocError>, Seen, Option<Slot>) {
     let mut counted = CountedJournal::new(alloc);
     let reserved = counted.reserve(3);
@@ -200,8 +200,8 @@ fn reach_the_grant(rt: &impl Abort, counted: &mut CountedJournal) -> Result<(), 
     report_thresholds(counted, true)
 }
 
-/// What is seen before the grant is reached and afterwards, the slot of the second key, and whether the report is the one
-/// that is expected.
+/// What is seen before the grant is reached and afterwards, the slot of the second key, and whether the report is the
+/// one that is expected.
 fn seen_around_the_grant(
     rt: &impl Abort,
     counted: &mut CountedJournal,
@@ -244,8 +244,8 @@ fn reach_a_grant_unsubscribed(
     report_thresholds(counted, false)
 }
 
-/// How many reports there are before the second key loses its rules, what is seen afterwards, whether the report is the one
-/// that is expected, and how many reports there are after one more event.
+/// How many reports there are before the second key loses its rules, what is seen afterwards, whether the report is the
+/// one that is expected, and how many reports there are after one more event.
 fn seen_around_the_loss(
     rt: &impl Abort,
     counted: &mut CountedJournal,
@@ -439,8 +439,8 @@ fn are_settled(usage: &mut Usage, subscribed: bool, slots: &[Slot]) -> bool {
     usage.settle(subscribed).as_slice() == slots
 }
 
-/// Whether grants are settled as expected, while no reports are subscribed, while they are, once more, and after one octet
-/// more for the second key.
+/// Whether grants are settled as expected, while no reports are subscribed, while they are, once more, and after one
+/// octet more for the second key.
 fn settled(rt: &impl Abort, usage: &mut Usage) -> [bool; 4] {
     let unsubscribed = are_settled(usage, false, &[]);
     let subscribed = are_settled(usage, true, &[Slot(0), Slot(2)]);

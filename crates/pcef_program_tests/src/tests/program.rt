@@ -88,7 +88,8 @@ pub(crate) fn run<T: Threads + Wait + Sync>(
     ))
 }
 
-/// Whether the program ends so on these words, profile and input: its status, what it answers and what it says of faults.
+/// Whether the program ends so on these words, profile and input: its status, what it answers and what it says of
+/// faults.
 pub(crate) fn ends_so<T: Threads + Wait + Sync>(
     rt: &T,
     alloc: Global,

@@ -43,8 +43,8 @@ fn run_lines<T: Threads + Wait + Sync>(
     run(rt, alloc, &words, Some(PROFILE), input.as_str())
 }
 
-/// Whether a run with so many workers on these lines ends so: its status, what it writes, and how what it says of faults
-/// begins, if it says anything.
+/// Whether a run with so many workers on these lines ends so: its status, what it writes, and how what it says of
+/// faults begins, if it says anything.
 fn run_ends<T: Threads + Wait + Sync>(
     rt: &T,
     alloc: Global,

@@ -264,8 +264,8 @@ impl SessionState {
             (option_map (λ t. arc_value t) r.0)) }
         ensures reports { IfOk result (λ r. r.1.items
             ≡ plan self.old.setting self.old.journal command.now) }
-        ensures entries { IfOk result (λ r. length r.1.items + 9 + length (attached self.old.journal)
-            ≤ self.new.room.entries) }
+        ensures entries { IfOk result (λ r.
+            length r.1.items + 9 + length (attached self.old.journal) ≤ self.new.room.entries) }
         ensures rules { OnOk result (0 < self.new.room.rules) }
     {
         let table = self.next_table(command, rule, bearer)?;

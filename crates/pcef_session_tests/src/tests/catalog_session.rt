@@ -61,8 +61,8 @@ fn a_prepared_command_of_a_session(rt: HostRuntime) -> Result<(), Fail> {
     Ok(())
 }
 
-/// Why a flush is refused before a worker came, the numbers of two workers that come, and how many verdicts a flush of the
-/// second one gives that hands nothing over.
+/// Why a flush is refused before a worker came, the numbers of two workers that come, and how many verdicts a flush of
+/// the second one gives that hands nothing over.
 fn with_two_workers(
     alloc: Global,
     profile: Profile,
@@ -89,7 +89,8 @@ fn workers_of_a_session(rt: HostRuntime) -> Result<(), Fail> {
     Ok(())
 }
 
-/// How many rules an opened session is offered, stand in its table, are active and are bound, and how many rows it takes.
+/// How many rules an opened session is offered, stand in its table, are active and are bound, and how many rows it
+/// takes.
 fn shown_when_opened(alloc: Global, profile: Profile, catalog: Arc<Catalog>) -> Option<[usize; 5]> {
     let session = Session::open(alloc, profile, catalog).ok()?;
     Some([

@@ -28,8 +28,8 @@ const EXPEDITED: Header = Header {
     dscp: 46,
 };
 
-/// Beside an earlier rule for TCP a table is judged by its index. The same packet, one with the default DSCP, and one of
-/// TCP, which the earlier rule decides.
+/// Beside an earlier rule for TCP a table is judged by its index. The same packet, one with the default DSCP, and one
+/// of TCP, which the earlier rule decides.
 const LINES: [&str; 7] = [
     r#"{"do":"install","rule":{"name":"early","precedence":10,"filters":[{"text":"permit out 6 from any to assigned"}],"qci":9,"arp":{"level":8,"capability":false,"vulnerability":true},"gate":"ENABLED"}}"#,
     r#"{"do":"activate","name":"expedited"}"#,

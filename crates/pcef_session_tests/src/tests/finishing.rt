@@ -64,8 +64,8 @@ fn two_rows(alloc: Global) -> Result<Batch, AllocError>
     Ok(batch)
 }
 
-/// How many verdicts were given, whether each is of an unmatched packet by the first table, and the numbers of the first
-/// report and of the one past the last.
+/// How many verdicts were given, whether each is of an unmatched packet by the first table, and the numbers of the
+/// first report and of the one past the last.
 fn told(verdicts: &Verdicts) -> (usize, bool, u64, u64) {
     let unmatched = Judged {
         generation: 0,
@@ -80,8 +80,8 @@ fn told(verdicts: &Verdicts) -> (usize, bool, u64, u64) {
     )
 }
 
-/// What comes of a worker that finishes with two rows: its number, the verdicts and the length of its lane; why it can't
-/// finish once more; how many rows there are, and whether the session can then be terminated.
+/// What comes of a worker that finishes with two rows: its number, the verdicts and the length of its lane; why it
+/// can't finish once more; how many rows there are, and whether the session can then be terminated.
 #[derive(Debug, PartialEq, Eq, Drop)]
 struct Ending {
     worker: u8,
@@ -138,9 +138,9 @@ fn a_worker_finishes_with_as_many_rows_as_there_may_be(rt: HostRuntime) -> Resul
     Ok(())
 }
 
-/// What comes of a worker that can't finish with its rows: its number, why, and how many rows there are; why the session
-/// can't be terminated; how many verdicts it is given when it finishes without them, and the length of its lane; and whether
-/// the session can then be terminated.
+/// What comes of a worker that can't finish with its rows: its number, why, and how many rows there are; why the
+/// session can't be terminated; how many verdicts it is given when it finishes without them, and the length of its
+/// lane; and whether the session can then be terminated.
 #[derive(Debug, PartialEq, Eq, Drop)]
 struct Staying {
     worker: u8,

@@ -1,5 +1,5 @@
-//! Verdicts and candidates that were worked out by hand from TS 23.203, clause 6.2.2.2, and made-up rules and packets, of
-//! which the table's linear scan gives a second opinion.
+//! Verdicts and candidates that were worked out by hand from TS 23.203, clause 6.2.2.2, and made-up rules and packets,
+//! of which the table's linear scan gives a second opinion.
 ghost use Rattle.std.specs.Prelude.{◌≡◌, ◌<◌, IfSome, List, map};
 ghost use Rattle.pcef_catalog.specs.declared.listing.Offer.{Offer};
 ghost use Rattle.pcef_table.specs.Sources.{IsKnown};

@@ -122,7 +122,8 @@ fn verdict_of_an_uplink_one(alloc: Global) -> Option<Verdict> {
     verdict_over(alloc, &catalog, &steps, &uplink)
 }
 
-/// What is seen of a table: the number of its generation, how many entries there are, and the bearers of the first three.
+/// What is seen of a table: the number of its generation, how many entries there are, and the bearers of the first
+/// three.
 type Seen = (u32, usize, [Option<BearerId>; 3]);
 
 fn seen(table: &Table) -> Seen {
@@ -205,8 +206,8 @@ fn counting_of_a_slot(rt: HostRuntime) {
     );
 }
 
-/// The slot that a packet counts for: of a table where no slot is counted, where slot 2 is, where slot 3 is, there with a
-/// packet that no rule fits, and where slot 3 is no more.
+/// The slot that a packet counts for: of a table where no slot is counted, where slot 2 is, where slot 3 is, there with
+/// a packet that no rule fits, and where slot 3 is no more.
 fn slots_counted(alloc: Global) -> Option<[Option<Slot>; 5]> {
     let catalog = empty_catalog(alloc)?;
     let steps = [Step::Install(("web", 50, Gate::Enabled, 5, DNS))];
@@ -228,7 +229,8 @@ fn slots_after<C: Offers>(
     Some([before, two, three, unmatched, no_more])
 }
 
-/// The slots where one is counted: of the packet, of one that no rule fits, and of the packet where it's counted no more.
+/// The slots where one is counted: of the packet, of one that no rule fits, and of the packet where it's counted no
+/// more.
 fn slots_with<C: Offers>(
     catalog: &C,
     table: &Table,

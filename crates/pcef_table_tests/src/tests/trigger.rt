@@ -161,7 +161,8 @@ fn delivered_twice(outlet: &mut Outlet, written: &Written, reports: &[Report]) -
     [(first, after_first), (again, written.digits())]
 }
 
-/// What is seen of two deliveries to these reporters. The reports are of these kinds, and are numbered from a number on.
+/// What is seen of two deliveries to these reporters. The reports are of these kinds, and are numbered from a number
+/// on.
 fn deliveries(alloc: Global, rows: &[Row], first: u64, kinds: &[ReportKind]) -> Option<[Seen; 2]> {
     let reports = reports_of(alloc, first, kinds)?;
     let written = Arc::new(alloc, Written::new()).ok()?;

@@ -100,8 +100,8 @@ fn collected<C: Offers + Drop, N: Naming, W: Board<Slot<N>> + Drop, R: Wait>(
     }
 }
 
-// How many of these reports tell the usage of the key for this cause, the number and the octets of the last of them, and
-// how many others there are.
+// How many of these reports tell the usage of the key for this cause, the number and the octets of the last of them,
+// and how many others there are.
 fn told_of(reports: &[Report], cause: Cause) -> Seen {
     let mut told = [0; 4];
     for report in reports {

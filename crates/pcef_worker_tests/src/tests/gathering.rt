@@ -5,9 +5,10 @@ ghost use Rattle.std.specs.Prelude.{◌≤◌, length};
 use super::*;
 use pcef_lock::{GatherFault, Totals, Ungathered};
 
-/// What the workers hand in, at first without the last that left, and then with it and all that came back: how many workers
-/// were out at first; then the rows, those that were given up, what was counted, reported and not reported for the key, and
-/// how many keys have a slot. Where workers are out still, the first number stands in each place, and 0 where none was out.
+/// What the workers hand in, at first without the last that left, and then with it and all that came back: how many
+/// workers were out at first; then the rows, those that were given up, what was counted, reported and not reported for
+/// the key, and how many keys have a slot. Where workers are out still, the first number stands in each place, and 0
+/// where none was out.
 pub fn ending<C: Detects + Drop, N: Naming, W: Board<Slot<N>> + Drop, R: Wait>(
     rt: &R,
     shared: Shared<C, N, W>,

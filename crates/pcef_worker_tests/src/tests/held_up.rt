@@ -43,8 +43,8 @@ pub fn comes(flag: &AtomicBool) -> bool {
     false
 }
 
-/// Two workers come, take a packet of 28 octets, hand its row over and abandon, each in a thread of its own: 1 where the
-/// first one came to its gate, 1 where it gave up there, and how many rows each hands in.
+/// Two workers come, take a packet of 28 octets, hand its row over and abandon, each in a thread of its own: 1 where
+/// the first one came to its gate, 1 where it gave up there, and how many rows each hands in.
 pub fn held_up<
     C: Detects + Drop + Send + Sync,
     N: Naming + Send + Sync,

@@ -24,9 +24,9 @@ impl Gate for HoldsLast<'_> {
     }
 }
 
-/// A worker comes and finishes with rows of 28 and of 600 octets, in a thread of its own, and is held up where its flush was
-/// answered. There the desk terminates the session: 1, how many workers that finds attached, and how many verdicts the
-/// worker is told, by generation 2 and passed by the rule.
+/// A worker comes and finishes with rows of 28 and of 600 octets, in a thread of its own, and is held up where its
+/// flush was answered. There the desk terminates the session: 1, how many workers that finds attached, and how many
+/// verdicts the worker is told, by generation 2 and passed by the rule.
 pub fn last_flush<
     C: Detects + Drop + Send + Sync,
     N: Naming + Send + Sync,
