@@ -16,7 +16,7 @@ use Rattle.pcef_model.specs.Generations.{Generation, rules_after}
 use Rattle.pcef_model.specs.Commands.{is_among, switched}
 use Rattle.pcef_model.specs.Entries.{Journal}
 use Rattle.pcef_model.specs.Journals.{now, slots, subscribed, unreported}
-use Rattle.pcef_model.specs.Reports.{requested, ended, in_order, inactive, insert_name, is_reached, is_subscribed, noticed, plan, thresholds}
+use Rattle.pcef_model.specs.Reports.{requested, keys_ended, in_order, inactive, insert_name, is_reached, is_subscribed, noticed, plan, thresholds}
 use Rattle.pcef_lists.proofs.Keeping.{filter_length}
 
 -- ---- rules that become inactive
@@ -56,7 +56,7 @@ few_within cause test keys = omega (arith, length-map (filter test keys) (λ k. 
 abbrev loses_rules : Setting → Journal → Command → List ℕ → Bool
 loses_rules p j c k = is_among k (switched c (now p j).on) && has_key k (now p j).rules && not (has_key k (rules_after p (now p j) c))
 
-few_ended : (p : Setting) (j : Journal) (c : Command) → length (ended p j c) ≤ length (slots p j)
+few_ended : (p : Setting) (j : Journal) (c : Command) → length (keys_ended p j c) ≤ length (slots p j)
 few_ended p j Terminate = few_within Terminated (λ k. is_among k (now p j).on || nat_lt 0 (unreported p j k)) (slots p j)
 few_ended p j (Install rule) = few_within RulesGone (loses_rules p j (Install rule)) (slots p j)
 few_ended p j (Activate name) = few_within RulesGone (loses_rules p j (Activate name)) (slots p j)
@@ -86,8 +86,8 @@ few_else j Terminate = omega arith
 -- a command tells at most one report for each rule and each key, and one more
 pub few_planned : (p : Setting) (j : Journal) (c : Command) → length (plan p j c) ≤ length (now p j).rules + length (slots p j) + 1
 few_planned p j c =
-    let first = length-append (inactive (now p j) c) (ended p j c ++ (requested c ++ noticed j c)) in
-    let second = length-append (ended p j c) (requested c ++ noticed j c) in
+    let first = length-append (inactive (now p j) c) (keys_ended p j c ++ (requested c ++ noticed j c)) in
+    let second = length-append (keys_ended p j c) (requested c ++ noticed j c) in
     let third = length-append (requested c) (noticed j c) in
     omega (arith, first, second, third, few_inactive (now p j) c, few_ended p j c, few_else j c)
 

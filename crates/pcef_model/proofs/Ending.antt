@@ -19,7 +19,7 @@ use Rattle.pcef_model.specs.Journals.{attached, counted, now, octets_told, repor
 use Rattle.pcef_model.specs.Laws.{IsOver}
 use Rattle.pcef_model.specs.Lawful.{Lawful}
 use Rattle.pcef_model.specs.Refusals.{attach_faults, first_of, is_attached, refusals, was_closed, was_terminated}
-use Rattle.pcef_model.specs.Reports.{after_command, body_of, ended, plan, tell, thresholds}
+use Rattle.pcef_model.specs.Reports.{after_command, body_of, keys_ended, plan, tell, thresholds}
 use Rattle.pcef_model.proofs.Acceptance.{condition_none}
 use Rattle.pcef_model.proofs.Exactness.{lawful_exact}
 use Rattle.pcef_model.proofs.Growth.{counted_after_command}
@@ -94,7 +94,7 @@ nothing_unreported p j lawful key there =
     ap (λ n. n - reported k key) (counted_after_command p j key Terminate (lawful_exact p j lawful).known)
     ∙ ap (λ n. counted p j key - n) (reported_after_command j key Terminate) in
     let planned : list_any (tells key) (plan p j Terminate) ≡ is_among key (filter (wants_end p j) (slots p j)) =
-    ap (list_any (tells key)) (append-nil (ended p j Terminate)) ∙ told_among key (filter (wants_end p j) (slots p j)) in
+    ap (list_any (tells key)) (append-nil (keys_ended p j Terminate)) ∙ told_among key (filter (wants_end p j) (slots p j)) in
     tell_zero p (thresholds p (tell p (plan p j Terminate) k)) (tell p (plan p j Terminate) k) key
     (elim (cases_Bool (wants_end p j key)) [
       | inl wants ↦ tell_clears p (plan p j Terminate) k key (planned ∙ among_kept (wants_end p j) key (slots p j) there wants)

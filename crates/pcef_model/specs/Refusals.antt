@@ -63,11 +63,11 @@ unfoldable pub limited_count : Journal → ℕ
 limited_count [] = 0
 limited_count (e ∷ before) = (if is_limited e then 1 else 0) + limited_count before
 
-abbrev pub ended : Journal → Conditions Refusal
-ended j = (was_terminated j, refusal.Terminated) ∷ (was_closed j, refusal.Closed) ∷ []
+abbrev pub end_refusals : Journal → Conditions Refusal
+end_refusals j = (was_terminated j, refusal.Terminated) ∷ (was_closed j, refusal.Closed) ∷ []
 
 abbrev pub common_refusals : Setting → Journal → Conditions Refusal
-common_refusals p j = ended j ++ (nat_le p.commands (limited_count j), refusal.CommandsFull) ∷ []
+common_refusals p j = end_refusals j ++ (nat_le p.commands (limited_count j), refusal.CommandsFull) ∷ []
 
 -- ---- binding (TS 23.203, clause 6.1.1.4; capacity is an own choice)
 -- why a rule with this pair and these rates can't be bound beside others: whether it finds a bearer, and what the
@@ -135,7 +135,7 @@ is_bearer p j id = list_any (λ r. (now p j).id_of r.properties.qos == id) (now 
 -- what refuses a command whatever it asks for: Close and Terminate have no budget, and a closed session can still be
 -- terminated
 abbrev pub first_refusals : Setting → Journal → Command → Conditions Refusal
-first_refusals p j Close = ended j
+first_refusals p j Close = end_refusals j
 first_refusals p j Terminate = (was_terminated j, refusal.Terminated) ∷ []
 first_refusals p j _ = common_refusals p j
 

@@ -53,9 +53,9 @@ inactive g _ = []
 
 -- the keys that are on, had a rule and lose their last one, in slot order; or, at Terminate, all keys
 -- that are on or have unreported octets (TS 29.212, clauses 4.5.16 and 4.5.17)
-abbrev pub ended : Setting → Journal → Command → List PendingReport
-ended p j Terminate = map (λ k. Usage k Terminated) (filter (λ k. is_among k (now p j).on || nat_lt 0 (unreported p j k)) (slots p j))
-ended p j c =
+abbrev pub keys_ended : Setting → Journal → Command → List PendingReport
+keys_ended p j Terminate = map (λ k. Usage k Terminated) (filter (λ k. is_among k (now p j).on || nat_lt 0 (unreported p j k)) (slots p j))
+keys_ended p j c =
     map (λ k. Usage k RulesGone)
     (filter (λ k. is_among k (switched c (now p j).on) && has_key k (now p j).rules && not (has_key k (rules_after p (now p j) c)))
     (slots p j))
@@ -82,7 +82,7 @@ noticed j c = noticed_by (subscribed j) c
 
 -- all that a command reports by itself, in its order
 abbrev pub plan : Setting → Journal → Command → List PendingReport
-plan p j c = inactive (now p j) c ++ (ended p j c ++ (requested c ++ noticed j c))
+plan p j c = inactive (now p j) c ++ (keys_ended p j c ++ (requested c ++ noticed j c))
 
 -- ---- thresholds
 abbrev pub is_reached_by : Option ℕ → ℕ → Bool

@@ -59,8 +59,8 @@ ports_in proto payload =
 abbrev pub payload_v4 : List ℕ → List ℕ
 payload_v4 octets = slice_range octets (header_len_v4 octets) (total_len_v4 octets)
 
--- Protocol is octet 9, Source Address octets 12 to 15, Destination Address octets 16 to 19; the code
--- point is the upper six bits of octet 1 (RFC 2474, clause 3)
+-- Protocol is octet 9, Source Address octets 12 to 15, Destination Address octets 16 to 19; the DSCP is
+-- the upper six bits of octet 1 (RFC 2474, clause 3)
 unfoldable pub header_v4 : Dir → List ℕ → Header
 header_v4 dir octets = record {
   dir = dir;

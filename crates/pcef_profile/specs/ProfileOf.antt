@@ -26,7 +26,7 @@ pub record Said : Type 0 where
   pub capacity : Sums
   pub declared : List (ℕ × Kind)
 
--- the terms of a session, as a profile that declares these QCIs says them
+-- what the text of a profile says that declares these QCIs
 abbrev pub said : List (ℕ × Kind) → ProfileModel → Said
 said declared t = record { ue = t.ue; rows = t.rows; commands = t.commands; default_qos = t.default_qos; capacity = t.capacity; declared = declared }
 
@@ -70,7 +70,7 @@ ProfileOf text = or_fault NotToml (parse_document text) >>= profile_of
 abbrev pub Declares : List (Option Kind) → List (ℕ × Kind) → Type 0
 Declares kinds declared = (qci : ℕ) → qci < 256 → declared_at kinds qci ≡ declared_kind declared qci
 
--- the terms of a session are what a profile says
+-- a profile has what its text says
 pub record AreSaid (t : ProfileModel) (s : Said) : Type 0 where
   pub values : said s.declared t ≡ s
   pub kinds : Declares t.qcis s.declared

@@ -44,7 +44,8 @@ Ran None p end before left old new = RanScript p end before left old new
 Ran (Some workers) p end before left old new = RanPlan p workers end before left old new
 
 abbrev pub EndsBy : List Offer → Option ℕ → Result ProfileModel ReadProfileFault → End → Option (List ℕ) → Option (List ℕ) → Option (List ℕ) → Option (List ℕ) → Type 0
-EndsBy offers workers (Ok terms) end before left old new = Ran workers (setting_of terms offers) end before left old new
+EndsBy offers workers (Ok profile) end before left old new =
+    Ran workers (setting_of profile offers) end before left old new
 EndsBy offers workers (Err fault) end before left old new = (end ≡ profile_end fault) × IsUntouched before left old new
 
 -- that is run on the session of its profile, or the end is the profile's
@@ -59,14 +60,16 @@ Ends offers workers (Some (Ok text)) end before left old new =
 -- answers to all lines are written
 abbrev pub IsWholeScript : List Offer → Option Text → Option (List ℕ) → Option (List ℕ) → Option (List ℕ) → Option (List ℕ) → Type 0
 IsWholeScript offers asked before left old new =
-    (text : String Global) × (terms : ProfileModel) × (input : List ℕ) × (asked ≡ Some (Ok text)) × GivesProfile (Ok terms) (ProfileOf (string_bytes text))
-    × Consumes before left input × IsAtEnd left × Wrote (setting_of terms offers) (all_lines input) 0 old new
+    (text : String Global) × (profile : ProfileModel) × (input : List ℕ)
+    × (asked ≡ Some (Ok text)) × GivesProfile (Ok profile) (ProfileOf (string_bytes text))
+    × Consumes before left input × IsAtEnd left × Wrote (setting_of profile offers) (all_lines input) 0 old new
 
 -- or a run: the session of its profile ran the plan that the input is, and what it came to is written
 abbrev pub IsWholeRun : List Offer → ℕ → Option Text → Option (List ℕ) → Option (List ℕ) → Option (List ℕ) → Option (List ℕ) → Type 0
 IsWholeRun offers workers asked before left old new =
-    (text : String Global) × (terms : ProfileModel) × (asked ≡ Some (Ok text)) × GivesProfile (Ok terms) (ProfileOf (string_bytes text))
-    × RanPlan (setting_of terms offers) workers ending.Done before left old new
+    (text : String Global) × (profile : ProfileModel)
+    × (asked ≡ Some (Ok text)) × GivesProfile (Ok profile) (ProfileOf (string_bytes text))
+    × RanPlan (setting_of profile offers) workers ending.Done before left old new
 
 abbrev pub IsWhole : List Offer → Option ℕ → Option Text → Option (List ℕ) → Option (List ℕ) → Option (List ℕ) → Option (List ℕ) → Type 0
 IsWhole offers None asked before left old new = IsWholeScript offers asked before left old new

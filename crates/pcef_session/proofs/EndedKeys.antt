@@ -26,7 +26,7 @@ use Rattle.pcef_model.specs.ActiveRules.{Active, has_key, is_key, is_named, put,
 use Rattle.pcef_model.specs.Generations.{Generation, rules_after}
 use Rattle.pcef_model.specs.Entries.{Journal}
 use Rattle.pcef_model.specs.Journals.{at, gen, now, tables}
-use Rattle.pcef_model.specs.Reports.{requested, ended, inactive, noticed, plan}
+use Rattle.pcef_model.specs.Reports.{requested, keys_ended, inactive, noticed, plan}
 use Rattle.pcef_model.proofs.Growth.{at_newest}
 use Rattle.pcef_model.proofs.Sameness.{same_name_is}
 use Rattle.pcef_usage.specs.declared.usage.KeyState.{KeyState}
@@ -182,7 +182,7 @@ usage_alike cause mine other (s ∷ states) same =
 
 -- what a session reports of the keys that a command ends, a Terminate apart
 pub ended_agree : (p : Setting) (j : Journal) (c : Command) (x : Option Activation) (parts : Parts) → Agrees p j parts → c ≢ Terminate → Activates p (activated p c) x →
-    usage_of RulesGone (is_lost p.catalog parts.table.entries c x) parts.keys ≡ ended p j c
+    usage_of RulesGone (is_lost p.catalog parts.table.entries c x) parts.keys ≡ keys_ended p j c
 ended_agree p j c x parts agrees differs prepared =
     usage_alike RulesGone (is_lost p.catalog parts.table.entries c x) (loses_rules (now p j).rules (rules_after p (now p j) c)) parts.keys
     (λ s. lost_alike p j c x parts.table s prepared (made_once p (tables j)) agrees.table_shows)
@@ -190,7 +190,7 @@ ended_agree p j c x parts agrees differs prepared =
 
 -- what a session reports of the keys that a command ends
 pub ended_keys : (p : Setting) (j : Journal) (c : Command) (x : Option Activation) (parts : Parts) → Agrees p j parts → Activates p (activated p c) x →
-    usage_of (end_cause c) (is_ended p.catalog parts.table.entries c x) parts.keys ≡ ended p j c
+    usage_of (end_cause c) (is_ended p.catalog parts.table.entries c x) parts.keys ≡ keys_ended p j c
 ended_keys p j (Install rule) x parts agrees prepared = ended_agree p j (Install rule) x parts agrees (λ same. cc) prepared
 ended_keys p j (Activate name) x parts agrees prepared = ended_agree p j (Activate name) x parts agrees (λ same. cc) prepared
 ended_keys p j (Remove name) x parts agrees prepared = ended_agree p j (Remove name) x parts agrees (λ same. cc) prepared
@@ -234,7 +234,7 @@ inactive_is p g Close b is = refl
 inactive_is p g Terminate b is = refl
 
 -- what is planned part by part
-pub plan_is : (p : Setting) (j : Journal) (c : Command) → ((inactive (now p j) c ++ ended p j c) ++ requested c) ++ noticed j c ≡ plan p j c
+pub plan_is : (p : Setting) (j : Journal) (c : Command) → ((inactive (now p j) c ++ keys_ended p j c) ++ requested c) ++ noticed j c ≡ plan p j c
 plan_is p j c =
-    append_assoc (inactive (now p j) c ++ ended p j c) (requested c) (noticed j c)
-    ∙ append_assoc (inactive (now p j) c) (ended p j c) (requested c ++ noticed j c)
+    append_assoc (inactive (now p j) c ++ keys_ended p j c) (requested c) (noticed j c)
+    ∙ append_assoc (inactive (now p j) c) (keys_ended p j c) (requested c ++ noticed j c)

@@ -15,7 +15,7 @@ use Rattle.pcef_model.specs.Generations.{Generation, made_by, rules_after, slots
 use Rattle.pcef_model.specs.Commands.{add_key, is_among, switched, is_table}
 use Rattle.pcef_model.specs.Entries.{Journal}
 use Rattle.pcef_model.specs.Journals.{ends_grant, now, slots, subscribed, tables, unreported}
-use Rattle.pcef_model.specs.Reports.{requested, ended as keys_ended, in_order, inactive, is_subscribed, noticed, plan}
+use Rattle.pcef_model.specs.Reports.{requested, keys_ended, in_order, inactive, is_subscribed, noticed, plan}
 use Rattle.pcef_model.proofs.Sameness.{same_name_is, same_name_not, same_name_turned}
 use Rattle.pcef_usage.specs.Commands.{OnAfter, switched_on}
 use Rattle.pcef_usage.specs.PendingReports.{ended, ends}

@@ -14,7 +14,7 @@ use Rattle.pcef_model.specs.Generations.{Generation}
 use Rattle.pcef_model.specs.Commands.{is_among}
 use Rattle.pcef_model.specs.Entries.{Journal}
 use Rattle.pcef_model.specs.Journals.{now, slots, subscribed, unreported}
-use Rattle.pcef_model.specs.Reports.{requested, ended as keys_ended, in_order, inactive, is_subscribed, noticed, plan}
+use Rattle.pcef_model.specs.Reports.{requested, keys_ended, in_order, inactive, is_subscribed, noticed, plan}
 use Rattle.pcef_model.proofs.Sameness.{same_name_self}
 use Rattle.pcef_usage.specs.Commands.{Asks}
 use Rattle.pcef_usage.specs.PendingReports.{KnowsAll}

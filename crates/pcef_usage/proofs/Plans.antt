@@ -19,7 +19,7 @@ use Rattle.pcef_model.specs.Commands.{is_among, switched}
 use Rattle.pcef_model.specs.Generations.{rules_after}
 use Rattle.pcef_model.specs.Entries.{Journal}
 use Rattle.pcef_model.specs.Journals.{now, slots, unreported}
-use Rattle.pcef_model.specs.Reports.{ended as keys_ended, inactive, noticed, plan}
+use Rattle.pcef_model.specs.Reports.{keys_ended, inactive, noticed, plan}
 use Rattle.pcef_usage.specs.declared.usage.KeyState.{KeyState}
 use Rattle.pcef_usage.specs.Commands.{loses_rules, usage_of}
 use Rattle.pcef_usage.specs.Keys.{keys_of}

@@ -79,7 +79,7 @@ fn changed_packets(rt: HostRuntime) {
 }
 
 const FIELDS: [Change; 7] = [
-    // The code point is the upper six bits.
+    // The DSCP is the upper six bits.
     (
         1,
         0xbb,

@@ -6,7 +6,7 @@ ghost use Rattle.std.specs.Option.{option_copied, option_map};
 ghost use Rattle.pcef_model.specs.Outcomes.{changes};
 ghost use Rattle.pcef_model.specs.Commands.{activated, is_table};
 ghost use Rattle.pcef_model.specs.Journals.{attached, now};
-ghost use Rattle.pcef_model.specs.Reports.{ended, inactive, plan};
+ghost use Rattle.pcef_model.specs.Reports.{inactive, keys_ended, plan};
 ghost use Rattle.pcef_session.specs.Answers.{KeepsPrepared, Refuses};
 ghost use Rattle.pcef_session.specs.Preparing.{GetsBearer, IsPreparedFor, IsReady, command_of};
 ghost use Rattle.pcef_session.specs.private.Entries.{ShowsNext};
@@ -185,7 +185,7 @@ impl SessionState {
     ) -> Result<(), AllocError>
         requires rule { MakesActive self.now command.now (option_copied rule) }
         ensures { OnOk result (reports.new.items
-            ≡ reports.old.items ++ ended self.now.setting self.now.journal command.now) }
+            ≡ reports.old.items ++ keys_ended self.now.setting self.now.journal command.now) }
     {
         add_ended_keys(
             reports,

@@ -7,7 +7,7 @@ ghost use Rattle.pcef_model.specs.Journals.{now, slots};
 ghost use Rattle.pcef_usage.specs.Keys.{finds_no_slot as slotless, has_slot};
 ghost use Rattle.pcef_model.specs.Commands.{is_among};
 ghost use Rattle.pcef_model.specs.declared.command.Command.TheVariants as of;
-ghost use Rattle.pcef_model.specs.Refusals.{becoming_active, common_refusals, ended, finds_no_slot, first_of, first_refusals, is_active, is_bearer, refusals};
+ghost use Rattle.pcef_model.specs.Refusals.{becoming_active, common_refusals, end_refusals, finds_no_slot, first_of, first_refusals, is_active, is_bearer, refusals};
 ghost use Rattle.pcef_session.specs.private.Sessions.{TellsFull, binding_refusal, finds_no_place, install_refusal, own_refusal};
 
 use super::{MAX_RULES, SessionState};
@@ -74,7 +74,7 @@ impl SessionState {
 
     /// Why a Close is refused.
     fn ended_refusal(&self) -> Option<Refusal>
-        ensures { result ≡ first_of (ended self.now.journal) }
+        ensures { result ≡ first_of (end_refusals self.now.journal) }
     {
         if self.terminated {
             return Some(Refusal::Terminated);

@@ -3,7 +3,7 @@ use Rattle.std.specs.Prelude.{OnOk}
 use Rattle.std.specs.Option.{option_copied}
 use Rattle.std.proofs.lemmas.Result.{on_ok_weaker}
 use Rattle.pcef_model.specs.Commands.{activated}
-use Rattle.pcef_model.specs.Reports.{ended}
+use Rattle.pcef_model.specs.Reports.{keys_ended}
 use Rattle.pcef_session.specs.Preparing.{Activates}
 use Rattle.pcef_session.specs.SessionModel.{SessionModel}
 use Rattle.pcef_session.specs.private.Soundness.{held_of}
@@ -16,7 +16,7 @@ returns c =
     let command = c.args.command.now in
     let x = option_copied c.args.rule in
     let rule = subst (λ (m : SessionModel). Activates m.setting (activated m.setting command) x) (sym c.self.view_is) c.requires.rule in
-    subst (λ (m : SessionModel). OnOk c.add_ended_keys.result (c.add_ended_keys.new.reports.items ≡ c.args.reports.now.items ++ ended m.setting m.journal command)) c.self.view_is
+    subst (λ (m : SessionModel). OnOk c.add_ended_keys.result (c.add_ended_keys.new.reports.items ≡ c.args.reports.now.items ++ keys_ended m.setting m.journal command)) c.self.view_is
     (on_ok_weaker c.add_ended_keys.result
     (λ is. is ∙ ap (λ ts. c.args.reports.now.items ++ ts) (ended_keys v.setting v.journal command x v.parts c.self.invariant.agrees rule))
     (rw (c.states.ensures.states, c.usage.ensures, c.entries.ensures.entries, (c.table.ensures ∙ c.deref.ensures)) at c.add_ended_keys.ensures))
