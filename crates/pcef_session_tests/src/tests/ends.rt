@@ -138,18 +138,36 @@ fn a_reader_that_fails_leaves_the_answers_to_whole_lines(rt: HostRuntime) -> Res
     Ok(())
 }
 
-/// Takes bytes while there is room, at most so many a call, and then fails with an error, or by taking none.
+/// What a writer takes of the bytes that a call offers.
+#[derive(Clone, Copy)]
+enum Portion {
+    One,
+    Half,
+    All,
+}
+
+impl Portion {
+    fn of(self, offered: usize) -> usize {
+        match self {
+            Portion::One => offered.min(1),
+            Portion::Half => offered - offered / 2,
+            Portion::All => offered,
+        }
+    }
+}
+
+/// Takes bytes while there is room, a portion of each call's, and then fails with an error, or by taking none.
 #[derive(Drop)]
 struct FailingWriter {
     taken: Vec<u8>,
     room: usize,
-    most: usize,
+    portion: Portion,
     failure: Option<io::ErrorKind>,
 }
 
 impl Write for FailingWriter {
     fn write(&mut self, bytes: &[u8]) -> io::Result<usize> {
-        let count = bytes.len().min(self.most).min(self.room);
+        let count = self.portion.of(bytes.len()).min(self.room);
         if count == 0 {
             return match self.failure {
                 Some(kind) => Err(io::Error::from(kind)),
@@ -169,19 +187,19 @@ impl Write for FailingWriter {
     }
 }
 
-/// How the script ends with a writer of so much room that takes so many bytes a call, and what the writer has then.
+/// How the script ends with a writer of so much room that takes this portion of each call, and what the writer has then.
 fn written(
     alloc: Global,
     lines: &[(&str, &str)],
     room: usize,
-    most: usize,
+    portion: Portion,
     failure: Option<io::ErrorKind>,
 ) -> Result<(Result<u64, ScriptFault>, String), Fail> {
     let script = script_of(alloc, lines)?;
     let mut writer = FailingWriter {
         taken: Vec::new(alloc),
         room,
-        most,
+        portion,
         failure,
     };
     let profile = read_profile(alloc, PROFILE)?;
@@ -194,11 +212,11 @@ fn written(
 fn is_written(
     alloc: Global,
     lines: &[(&str, &str)],
-    (room, most, failure): (usize, usize, Option<io::ErrorKind>),
+    (room, portion, failure): (usize, Portion, Option<io::ErrorKind>),
     ended: Result<u64, ScriptFault>,
     text: &str,
 ) -> Result<bool, Fail> {
-    let (end, front) = written(alloc, lines, room, most, failure)?;
+    let (end, front) = written(alloc, lines, room, portion, failure)?;
     Ok(end == ended && front.as_str() == text)
 }
 
@@ -208,7 +226,7 @@ fn first_wrong_front(
     alloc: Global,
     lines: &[(&str, &str)],
     faults: u64,
-    most: usize,
+    portion: Portion,
     failure: Option<io::ErrorKind>,
 ) -> Result<Option<usize>, Fail> {
     let answers = answers_within(alloc, lines, usize::MAX)?;
@@ -223,7 +241,7 @@ fn first_wrong_front(
         } else {
             Ok(faults)
         };
-        if !is_written(alloc, lines, (room, most, failure), ended, front)? {
+        if !is_written(alloc, lines, (room, portion, failure), ended, front)? {
             return Ok(Some(room));
         }
     }
@@ -233,13 +251,13 @@ fn first_wrong_front(
 #[test]
 fn a_writer_that_fails_has_a_front_of_the_answers(rt: HostRuntime) -> Result<(), Fail> {
     for &(lines, faults) in &[(LINES, 0), (LINES_AT_FAULT, 1)] {
-        for &most in &[1, usize::MAX] {
+        for &portion in &[Portion::One, Portion::Half, Portion::All] {
             for &failure in &[
                 Some(io::ErrorKind::Other),
                 Some(io::ErrorKind::Interrupted),
                 None,
             ] {
-                let wrong = first_wrong_front(rt.alloc(), lines, faults, most, failure)?;
+                let wrong = first_wrong_front(rt.alloc(), lines, faults, portion, failure)?;
                 assert_eq!(rt; wrong, None);
             }
         }
