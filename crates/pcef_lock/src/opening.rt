@@ -70,9 +70,8 @@ fn published<N: Naming, R: Wait + Drop>(
 impl<N: Naming, R: Wait + Drop> State<N, Writer<N, R>> {
     /// The value behind the lock of a session, with so many places for workers, and the shares of its desk, which hold
     /// the session's commands so far. The condition of the caller: no worker ever came to the session, and the name is
-    /// that of the session, of the blanks and of a history that was opened with the session's newest table. The
-    /// session comes back with a fault; the opened history is then lost. Takes
-    /// memory. May wait for readers.
+    /// that of the session, of the blanks and of a history that was opened with the session's newest table. The session
+    /// comes back with a fault; the opened history is then lost. Takes memory. May wait for readers.
     pub fn open(
         rt: R,
         alloc: Global,
