@@ -49,7 +49,6 @@ fn done<C: Detects + Drop, N: Naming, W: Board<Slot<N>> + Drop, R: Wait>(
         Step::TakeTillFull => as_many_as_may(worker),
         Step::Flush => verdicts_of_a_flush(rt, shared, worker),
         Step::CanNotFlush(reason) => can_not_flush(rt, shared, worker, reason),
-        Step::FlushAtLast => u64::from(flushes_at_last(rt, shared, worker)),
         Step::Refresh => u64::from(worker.refresh()),
         Step::Meet => met(rt, shared, worker),
         _ => 0,
@@ -73,6 +72,7 @@ fn verdicts_of_a_flush<C: Detects + Drop, N: Naming, W: Board<Slot<N>> + Drop, R
 ) -> u64 {
     match worker.flush(rt, shared) {
         Ok(verdicts) => verdicts.rows.len() as u64,
+        Err(FlushRefusal::NoMemory) => NO_MEMORY,
         Err(_) => u64::MAX,
     }
 }
@@ -86,19 +86,6 @@ fn can_not_flush<C: Detects + Drop, N: Naming, W: Board<Slot<N>> + Drop, R: Wait
     u64::from(worker.flush(rt, shared).err() == Some(reason))
 }
 
-// Whether one of two flushes is answered, the first of which may leave the row waiting.
-fn flushes_at_last<C: Detects + Drop, N: Naming, W: Board<Slot<N>> + Drop, R: Wait>(
-    rt: &R,
-    shared: &Shared<C, N, W>,
-    worker: &mut Worker<C, N, OpenGate>,
-) -> bool {
-    if worker.flush(rt, shared).is_ok() {
-        return true;
-    }
-    let is_unchanged = worker.waiting().len() == 1 && worker.rows().is_empty();
-    is_unchanged && worker.flush(rt, shared).is_ok()
-}
-
 fn met<C: Detects + Drop, N: Naming, W: Board<Slot<N>> + Drop, R: Wait>(
     rt: &R,
     shared: &Shared<C, N, W>,
@@ -106,7 +93,7 @@ fn met<C: Detects + Drop, N: Naming, W: Board<Slot<N>> + Drop, R: Wait>(
 ) -> u64 {
     match worker.meet(rt, shared) {
         Ok(generation) => u64::from(generation),
-        Err(_) => u64::MAX,
+        Err(_) => NO_MEMORY,
     }
 }
 

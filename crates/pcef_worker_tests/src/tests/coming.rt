@@ -10,7 +10,7 @@ pub struct Workers<C: Offers + Drop, N: Naming> {
     left: Vec<Finished<N>>,
 }
 
-impl<C: Offers + Drop, N: Naming> Workers<C, N> {
+impl<C: Detects + Drop, N: Naming> Workers<C, N> {
     /// Nobody came.
     pub fn new(alloc: Global) -> Workers<C, N> {
         Workers {
@@ -24,19 +24,41 @@ impl<C: Offers + Drop, N: Naming> Workers<C, N> {
         self.there.last_mut()
     }
 
+    /// How many are there and how many have left; and of the worker that acts, how many rows wait, how many were handed over,
+    /// and the generation that it holds.
+    pub fn standing(&self) -> [u64; 5] {
+        let (there, left) = (self.there.len() as u64, self.left.len() as u64);
+        match self.there.last() {
+            Some(worker) => {
+                let (waiting, rows) = (worker.waiting().len() as u64, worker.rows().len() as u64);
+                [there, left, waiting, rows, u64::from(worker.generation())]
+            }
+            None => [there, left, 0, 0, 0],
+        }
+    }
+
     /// One more is there, and acts.
     fn add(&mut self, worker: Worker<C, N, OpenGate>) {
+        make_room(&mut self.there);
         let _ = self.there.push(worker).ok();
     }
 
     /// One more has left.
     pub fn keep(&mut self, left: Finished<N>) {
+        make_room(&mut self.left);
         let _ = self.left.push(left).ok();
     }
 
     /// Gives away what those handed in that left.
     pub fn take_left(&mut self, alloc: Global) -> Vec<Finished<N>> {
         std::mem::replace(&mut self.left, Vec::new(alloc))
+    }
+}
+
+// Makes room for one more, where memory may be refused once.
+fn make_room<T>(list: &mut Vec<T>) {
+    if list.reserve(1).is_err() {
+        let _ = list.reserve(1).ok();
     }
 }
 
@@ -50,7 +72,6 @@ pub fn seen<C: Detects + Drop, N: Naming, W: Board<Slot<N>> + Drop, R: Wait>(
 ) -> Seen {
     match step {
         Step::Come => comes(rt, alloc, shared, workers),
-        Step::ComeAtLast => comes_at_last(rt, alloc, shared, workers),
         Step::CanNotCome(reason) => can_not_come(rt, alloc, shared, reason),
         Step::Turn => turn(workers),
         Step::HandedIn(number) => handed_in(workers, number),
@@ -67,27 +88,13 @@ fn comes<C: Detects + Drop, N: Naming, W: Board<Slot<N>> + Drop, R: Wait>(
     shared: &Shared<C, N, W>,
     workers: &mut Workers<C, N>,
 ) -> Seen {
-    match Worker::attach(rt, alloc, shared, OpenGate).ok() {
-        Some(worker) => {
+    match Worker::attach(rt, alloc, shared, OpenGate) {
+        Ok(worker) => {
             let (number, generation) = (worker.worker(), worker.generation());
             workers.add(worker);
             [1, u64::from(number), u64::from(generation), 0]
         }
-        None => NOT_DONE,
-    }
-}
-
-fn comes_at_last<C: Detects + Drop, N: Naming, W: Board<Slot<N>> + Drop, R: Wait>(
-    rt: &R,
-    alloc: Global,
-    shared: &Shared<C, N, W>,
-    workers: &mut Workers<C, N>,
-) -> Seen {
-    let seen = comes(rt, alloc, shared, workers);
-    if seen == NOT_DONE {
-        comes(rt, alloc, shared, workers)
-    } else {
-        seen
+        Err(fault) => refused(fault == AttachFault::NoMemory),
     }
 }
 
@@ -114,8 +121,14 @@ fn leaves<C: Detects + Drop, N: Naming, W: Board<Slot<N>> + Drop, R: Wait>(
     step: Step,
 ) -> Seen {
     match step {
-        Step::Finish => finished(rt, shared, workers, worker),
-        Step::CanNotFinish(reason) => given_back(rt, shared, workers, worker, reason),
+        Step::Finish => match finished(rt, shared, workers, worker) {
+            Ok(seen) => seen,
+            Err(refusal) => refused(refusal == FlushRefusal::NoMemory),
+        },
+        Step::CanNotFinish(reason) => {
+            let refusal = finished(rt, shared, workers, worker).err();
+            [u64::from(refusal == Some(reason)), 0, 0, 0]
+        }
         _ => kept(workers, 1, worker.abandon(rt, shared)),
     }
 }
@@ -132,41 +145,19 @@ fn kept<C: Detects + Drop, N: Naming>(
     [before, number, rows, given_up]
 }
 
+// A finish that is refused gives the worker back, which is there as before: why.
 fn finished<C: Detects + Drop, N: Naming, W: Board<Slot<N>> + Drop, R: Wait>(
     rt: &R,
     shared: &Shared<C, N, W>,
     workers: &mut Workers<C, N>,
     worker: Worker<C, N, OpenGate>,
-) -> Seen {
-    match worker.finish(rt, shared).ok() {
-        Some((left, verdicts)) => kept(workers, verdicts.rows.len() as u64, left),
-        None => NOT_DONE,
-    }
-}
-
-// A finish that is refused gives the worker back.
-fn given_back<C: Detects + Drop, N: Naming, W: Board<Slot<N>> + Drop, R: Wait>(
-    rt: &R,
-    shared: &Shared<C, N, W>,
-    workers: &mut Workers<C, N>,
-    worker: Worker<C, N, OpenGate>,
-    reason: FlushRefusal,
-) -> Seen {
-    let refusal = put_back(workers, worker.finish(rt, shared).err());
-    [u64::from(refusal == Some(reason)), 0, 0, 0]
-}
-
-// The worker that comes back acts again: why it came back.
-fn put_back<C: Detects + Drop, N: Naming>(
-    workers: &mut Workers<C, N>,
-    back: Option<(Worker<C, N, OpenGate>, FlushRefusal)>,
-) -> Option<FlushRefusal> {
-    match back {
-        Some((worker, refusal)) => {
+) -> Result<Seen, FlushRefusal> {
+    match worker.finish(rt, shared) {
+        Ok((left, verdicts)) => Ok(kept(workers, verdicts.rows.len() as u64, left)),
+        Err((worker, refusal)) => {
             workers.add(worker);
-            Some(refusal)
+            Err(refusal)
         }
-        None => None,
     }
 }
 

@@ -14,13 +14,13 @@ pub fn seen<C: Offers + Drop, N: Naming, W: Board<Slot<N>> + Drop, R: Wait>(
 ) -> Seen {
     match step {
         Step::Terminate => terminated(rt, shared, desk),
-        Step::AskForReport => asked_for(rt, shared, desk),
+        Step::AskForReport => asked_for(rt, shared, desk, install),
         Step::Collect(cause) => collected(rt, shared, desk, cause),
         _ => generation_after(rt, shared, desk, command_of(step, install)),
     }
 }
 
-// The command that a step gives.
+// The command that a step gives, if there is memory for it.
 fn command_of(step: Step, install: &Command) -> Option<Command> {
     match step {
         Step::Install => install.copy().ok(),
@@ -30,6 +30,7 @@ fn command_of(step: Step, install: &Command) -> Option<Command> {
         }),
         Step::Remove => Some(Command::Remove(RuleName::known("web"))),
         Step::Close => Some(Command::Close),
+        Step::Ask => Some(Command::ReportNow(KeyName::known("vid"))),
         _ => None,
     }
 }
@@ -41,15 +42,15 @@ fn generation_after<C: Offers + Drop, N: Naming, W: Board<Slot<N>> + Drop, R: Wa
     command: Option<Command>,
 ) -> Seen {
     match command {
-        Some(command) => accepted(desk.command(rt, shared, command).ok()),
-        None => NOT_DONE,
+        Some(command) => answered(desk.command(rt, shared, command)),
+        None => refused(true),
     }
 }
 
-fn accepted(answer: Option<Accepted>) -> Seen {
+fn answered(answer: Result<Accepted, Refusal>) -> Seen {
     match answer {
-        Some(accepted) => [1, u64::from(accepted.generation), 0, 0],
-        None => NOT_DONE,
+        Ok(accepted) => [1, u64::from(accepted.generation), 0, 0],
+        Err(refusal) => refused(refusal == Refusal::NoMemory),
     }
 }
 
@@ -77,10 +78,11 @@ fn asked_for<C: Offers + Drop, N: Naming, W: Board<Slot<N>> + Drop, R: Wait>(
     rt: &R,
     shared: &Shared<C, N, W>,
     desk: &mut Desk<N>,
+    install: &Command,
 ) -> Seen {
     let [before, _, _, others] = collected(rt, shared, desk, Cause::Requested);
-    let ask = Command::ReportNow(KeyName::known("vid"));
-    if generation_after(rt, shared, desk, Some(ask)) == NOT_DONE {
+    let ask = command_of(Step::Ask, install);
+    if generation_after(rt, shared, desk, ask)[0] != 1 {
         return NOT_DONE;
     }
     let [after, number, octets, beside] = collected(rt, shared, desk, Cause::Requested);
@@ -96,7 +98,7 @@ fn collected<C: Offers + Drop, N: Naming, W: Board<Slot<N>> + Drop, R: Wait>(
 ) -> Seen {
     match desk.collect(rt, shared) {
         Ok(reports) => told_of(reports.as_slice(), cause),
-        Err(_) => NOT_DONE,
+        Err(_) => refused(true),
     }
 }
 

@@ -1,6 +1,7 @@
 //! The stories. In each, what happens stands beside what it tells.
 
 use super::Step::*;
+use super::opening::{Lock, tell};
 use super::*;
 
 /// What happens in a session that takes so many rows, behind a lock with so many places for workers, and what the end
@@ -14,7 +15,7 @@ struct Story {
     end: [u64; 7],
 }
 
-static STORIES: [Story; 13] = [
+static STORIES: [Story; 14] = [
     // The session takes one row, and two wait. Nothing of them comes to it, since a later worker's row is taken.
     Story {
         name: "a refused flush keeps the rows",
@@ -246,31 +247,61 @@ static STORIES: [Story; 13] = [
         ],
         end: [1, 2, 0, 628, 628, 0, 1],
     },
+    // What they hand in isn't kept.
+    Story {
+        name: "sixteen workers finish while the session is terminated",
+        rows: 100,
+        places: 16,
+        steps: &[
+            (Install, [1, 1, 0, 0]),
+            (Monitor, [1, 2, 0, 0]),
+            (Crowd, [16, 16, 1, 0]),
+            (Collect(Cause::Terminated), [1, 0, 448, 0]),
+        ],
+        end: [16; 7],
+    },
 ];
 
 #[test]
 fn each_step_tells_what_stands_beside_it(rt: HostRuntime) -> Result<(), Fail> {
     for story in &STORIES {
-        let told = tell(&rt, rt.alloc(), story.rows, story.places, story.steps)?;
+        let lock = Lock {
+            places: story.places,
+            at_last: false,
+        };
+        let told = tell(&rt, rt.alloc(), story.rows, lock, story.steps)?;
         assert_eq!(rt; told, (None, story.end), "{}", story.name);
     }
     Ok(())
 }
 
-/// A worker comes and flushes, where memory may be refused once for each.
+/// Each call that takes memory is made once more where it finds none. Of three rows the first two are reported.
 const WITHOUT_MEMORY: Table<'static> = &[
-    (Install, [1, 1, 0, 0]),
-    (Monitor, [1, 2, 0, 0]),
-    (ComeAtLast, [1, 0, 2, 0]),
+    (ComeAtLast, [1, 0, 0, 0]),
+    (InstallAtLast, [1, 1, 0, 0]),
+    (MonitorAtLast, [1, 2, 0, 0]),
+    (MeetAtLast, [2, 0, 0, 2]),
     (Take(28), [1, 1, 0, 2]),
     (FlushAtLast, [1, 0, 1, 2]),
-    (Abandon, [1, 0, 1, 0]),
+    (AskAtLast, [1, 2, 0, 0]),
+    (CollectAtLast(Cause::Requested), [1, 0, 28, 0]),
+    (Take(600), [1, 1, 1, 2]),
+    (FlushAtLast, [1, 0, 2, 2]),
+    (AskAtLast, [1, 2, 0, 0]),
+    (CollectAtLast(Cause::Requested), [1, 1, 600, 0]),
+    (Take(40), [1, 1, 2, 2]),
+    (FinishAtLast, [1, 0, 3, 0]),
+    (HandedIn(0), [3, 28, 600, 40]),
 ];
 
 #[test]
 fn a_worker_that_finds_no_memory_can_go_on(rt: HostRuntime) -> Result<(), Fail> {
     // `rt try --test --fail-alloc N` lets the Nth allocation fail.
-    let told = tell(&rt, rt.alloc(), 100, 2, WITHOUT_MEMORY)?;
-    assert_eq!(rt; told, (None, [1, 1, 0, 28, 0, 28, 1]));
+    let lock = Lock {
+        places: 2,
+        at_last: true,
+    };
+    let told = tell(&rt, rt.alloc(), 100, lock, WITHOUT_MEMORY)?;
+    assert_eq!(rt; told, (None, [1, 3, 0, 668, 628, 40, 1]));
     Ok(())
 }

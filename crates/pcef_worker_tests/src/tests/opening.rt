@@ -1,0 +1,213 @@
+//! Sessions that come behind a lock, where a story begins.
+
+ghost use Rattle.std.specs.Prelude.{◌≡◌, [], IfErr, IfSome};
+ghost use Rattle.std.specs.Arc.{arc_value};
+ghost use Rattle.pcef_catalog.specs.Catalogs.{offers_of};
+ghost use Rattle.pcef_model.specs.Journals.{gen};
+ghost use Rattle.pcef_session.specs.Shown.{Shows};
+ghost use Rattle.pcef_share.specs.Names.{name_at};
+
+use super::*;
+use pcef_catalog::Catalog;
+use pcef_lock::{SharedFault, Unopened, opened};
+use pcef_publish::Opened;
+use pcef_session::SessionState;
+use pcef_share::Blanks;
+use pcef_test_sessions::{session, web};
+use std::marker::Brand;
+use std::sync::Arc;
+
+/// The lock of a story.
+#[derive(Clone, Copy)]
+pub struct Lock {
+    /// How many places there are for workers.
+    pub places: u8,
+    /// Whether it is opened once more where there is no memory.
+    pub at_last: bool,
+}
+
+/// Why a story didn't begin: there was no memory for what comes before the lock.
+const NO_SESSION: &str = "the session comes behind its lock";
+
+/// Why a story didn't begin: the lock was refused.
+const NO_LOCK: &str = "the lock of the session is opened";
+
+/// What is told of a session that takes so many rows, behind this lock.
+pub fn tell<R: Threads + Wait + Sync>(
+    rt: &R,
+    alloc: Global,
+    rows: u32,
+    lock: Lock,
+    table: Table<'_>,
+) -> Result<Told, Fail> {
+    let install = Command::Install(web(alloc)?);
+    tell_of_a_session(rt, alloc, rows, lock, &install, table)
+}
+
+fn tell_of_a_session<R: Threads + Wait + Sync>(
+    rt: &R,
+    alloc: Global,
+    rows: u32,
+    lock: Lock,
+    install: &Command,
+    table: Table<'_>,
+) -> Result<Told, Fail> {
+    let session = session(alloc, rows)?;
+    match tell_at_once(rt, alloc, session, lock, install, table) {
+        Ok(told) => Ok(told),
+        Err(reason) => Err(reason)?,
+    }
+}
+
+fn tell_at_once<R: Threads + Wait + Sync>(
+    rt: &R,
+    alloc: Global,
+    session: SessionState,
+    lock: Lock,
+    install: &Command,
+    table: Table<'_>,
+) -> Result<Told, &'static str>
+    requires fresh { session.journal ≡ [] }
+    requires catalog { session.setting.catalog ≡ [] }
+{
+    match no_rules(alloc) {
+        Some(catalog) => tell_of_its_catalog(rt, alloc, catalog, session, lock, install, table),
+        None => Err(NO_SESSION),
+    }
+}
+
+// The catalog of a session that offers no rules.
+fn no_rules(alloc: Global) -> Option<Arc<Catalog>>
+    ensures { IfSome result (λ c. offers_of (arc_value c) ≡ []) }
+{
+    match Catalog::new(alloc, Vec::new(alloc)).ok() {
+        Some(catalog) => Arc::new(alloc, catalog).ok(),
+        None => None,
+    }
+}
+
+fn tell_of_its_catalog<R: Threads + Wait + Sync>(
+    rt: &R,
+    alloc: Global,
+    catalog: Arc<Catalog>,
+    session: SessionState,
+    lock: Lock,
+    install: &Command,
+    table: Table<'_>,
+) -> Result<Told, &'static str>
+    requires fresh { session.journal ≡ [] }
+    requires catalog { session.setting.catalog ≡ [] }
+    requires offers { offers_of (arc_value catalog) ≡ [] }
+{
+    match opened(&session).ok() {
+        Some(opened) => {
+            match tell_of_opened(
+                rt,
+                alloc,
+                catalog,
+                session,
+                opened,
+                lock.places,
+                install,
+                table,
+            ) {
+                Ok(told) => Ok(told),
+                Err(unopened) => tell_at_last(rt, alloc, unopened, lock, install, table),
+            }
+        }
+        None => Err(NO_SESSION),
+    }
+}
+
+// The same, of the catalog and the session that came back.
+fn tell_at_last<R: Threads + Wait + Sync>(
+    rt: &R,
+    alloc: Global,
+    unopened: Unopened<Catalog>,
+    lock: Lock,
+    install: &Command,
+    table: Table<'_>,
+) -> Result<Told, &'static str>
+    requires fresh { unopened.session.journal ≡ [] }
+    requires catalog { unopened.session.setting.catalog ≡ [] }
+    requires offers { offers_of (arc_value unopened.catalog) ≡ [] }
+{
+    if !lock.at_last || unopened.fault == SharedFault::Places {
+        return Err(NO_LOCK);
+    }
+    let Unopened {
+        fault: _,
+        catalog,
+        session,
+    } = unopened;
+    match opened(&session).ok() {
+        Some(opened) => {
+            match tell_of_opened(
+                rt,
+                alloc,
+                catalog,
+                session,
+                opened,
+                lock.places,
+                install,
+                table,
+            ) {
+                Ok(told) => Ok(told),
+                Err(_) => Err(NO_LOCK),
+            }
+        }
+        None => Err(NO_LOCK),
+    }
+}
+
+fn tell_of_opened<R: Threads + Wait + Sync>(
+    rt: &R,
+    alloc: Global,
+    catalog: Arc<Catalog>,
+    session: SessionState,
+    opened: Opened,
+    places: u8,
+    install: &Command,
+    table: Table<'_>,
+) -> Result<Told, Unopened<Catalog>>
+    requires fresh { session.journal ≡ [] }
+    requires catalog { session.setting.catalog ≡ [] }
+    requires offers { offers_of (arc_value catalog) ≡ [] }
+    requires table { Shows session.setting session.journal (gen session.journal) opened.table }
+    ensures back { IfErr result (λ e. (e.catalog ≡ catalog) × (e.session ≡ session)) }
+{
+    let blanks = Blanks::new();
+    tell_behind_its_lock::<Catalog, Brand, _>(
+        rt, alloc, catalog, session, opened, blanks, places, install, table,
+    )
+}
+
+fn tell_behind_its_lock<
+    C: Detects + Drop + Send + Sync,
+    N: Naming + Send + Sync,
+    R: Threads + Wait + Sync,
+>(
+    rt: &R,
+    alloc: Global,
+    catalog: Arc<C>,
+    session: SessionState,
+    opened: Opened,
+    blanks: Blanks,
+    places: u8,
+    install: &Command,
+    table: Table<'_>,
+) -> Result<Told, Unopened<C>>
+    requires name { N.ledger ≡ name_at blanks }
+    requires setting { session.setting ≡ N.setting }
+    requires fresh { session.journal ≡ [] }
+    requires offers { C.offers (arc_value catalog) ≡ session.setting.catalog }
+    requires first { N.first ≡ gen session.journal }
+    requires table { Shows session.setting session.journal (gen session.journal) opened.table }
+    requires book { (opened.book ≡ N.book) × (opened.root ≡ N.root) }
+    ensures back { IfErr result (λ e. (e.catalog ≡ catalog) × (e.session ≡ session)) }
+{
+    match Shared::<C, N, _>::open(rt, alloc, catalog, session, opened, blanks, places) {
+        Ok((shared, desk)) => Ok(tell_to_the_end(rt, alloc, shared, desk, install, table)),
+        Err(unopened) => Err(unopened),
+    }
+}
