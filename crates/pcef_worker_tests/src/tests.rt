@@ -1,5 +1,5 @@
-//! Workers of one session behind its lock, whose rows and octets were counted by hand. A story is a table: what happens step
-//! by step, and beside each step the four numbers that it tells, as [`Step`] says.
+//! Workers of one session behind its lock, whose rows and octets were counted by hand. A story is a table: what happens
+//! step by step, and beside each step the four numbers that it tells, as [`Step`] says.
 
 mod acting;
 mod at_last;
@@ -34,12 +34,12 @@ const NOT_DONE: Seen = [u64::MAX; 4];
 /// What is told, first or alone, by a step that found no memory, and by no other.
 const NO_MEMORY: u64 = u64::MAX - 1;
 
-/// The first step that told other numbers than its row in the table, and what it told; and what the end of the story told,
-/// as [`gathering::ending`] says.
+/// The first step that told other numbers than its row in the table, and what it told; and what the end of the story
+/// told, as [`gathering::ending`] says.
 type Told = (Option<(usize, Seen)>, [u64; 7]);
 
-/// What happens next, and what it tells, zeros after it. Of the workers that are there one acts, the last that came. A step
-/// whose name ends in `AtLast` is made once more where it finds no memory, if that left all as it was.
+/// What happens next, and what it tells, zeros after it. Of the workers that are there one acts, the last that came. A
+/// step whose name ends in `AtLast` is made once more where it finds no memory, if that left all as it was.
 #[derive(Clone, Copy)]
 enum Step {
     /// The desk installs the rule `web`: 1, and the generation after it.
@@ -54,17 +54,18 @@ enum Step {
     Remove,
     /// The desk closes the session: 1, and the generation after it.
     Close,
-    /// The desk terminates the session: 1, and how many workers are attached still, so that it is refused; 0 if none is.
+    /// The desk terminates the session: 1, and how many workers are attached still, so that it is refused; 0 if none
+    /// is.
     Terminate,
     /// The desk asks for a report of the key: 1, and the generation after it.
     Ask,
     /// The same, once more where it finds no memory.
     AskAtLast,
-    /// The desk collects, asks for a report of the key and collects: how many reports there are that it didn't ask for, how
-    /// many that it asked for, and the number and the octets of the last.
+    /// The desk collects, asks for a report of the key and collects: how many reports there are that it didn't ask for,
+    /// how many that it asked for, and the number and the octets of the last.
     AskForReport,
-    /// The desk collects: how many reports of the key there are for this cause, the number of the last and its octets; and
-    /// how many other reports there are.
+    /// The desk collects: how many reports of the key there are for this cause, the number of the last and its octets;
+    /// and how many other reports there are.
     Collect(Cause),
     /// The same, once more where it finds no memory.
     CollectAtLast(Cause),
@@ -89,8 +90,8 @@ enum Step {
     /// three.
     HandedIn(usize),
 
-    /// The worker takes a packet of so many octets. As each step of a worker that has no word on it below, it tells 1, how
-    /// many rows wait and how many were handed over, and the generation that the worker holds.
+    /// The worker takes a packet of so many octets. As each step of a worker that has no word on it below, it tells 1,
+    /// how many rows wait and how many were handed over, and the generation that the worker holds.
     Take(u32),
     /// It takes packets of 28 octets till one is refused, 40 at most: how many it took in place of the 1.
     TakeTillFull,
@@ -106,8 +107,8 @@ enum Step {
     Meet,
     /// The same, once more where it finds no memory.
     MeetAtLast,
-    /// It flushes one row: 1, its generation, 1 if it passes by the rule, and the bearer. Or it flushes two rows: of each
-    /// its generation, and 1 if it passes by the rule.
+    /// It flushes one row: 1, its generation, 1 if it passes by the rule, and the bearer. Or it flushes two rows: of
+    /// each its generation, and 1 if it passes by the rule.
     Judge,
     /// How many rows wait, and the number in the lane and the octets of the first.
     Waiting,

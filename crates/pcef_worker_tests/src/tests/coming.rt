@@ -24,8 +24,8 @@ impl<C: Detects + Drop, N: Naming> Workers<C, N> {
         self.there.last_mut()
     }
 
-    /// How many are there and how many have left; and of the worker that acts, how many rows wait, how many were handed over,
-    /// and the generation that it holds.
+    /// How many are there and how many have left; and of the worker that acts, how many rows wait, how many were handed
+    /// over, and the generation that it holds.
     pub fn standing(&self) -> [u64; 5] {
         let (there, left) = (self.there.len() as u64, self.left.len() as u64);
         match self.there.last() {

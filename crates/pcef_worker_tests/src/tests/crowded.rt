@@ -44,9 +44,9 @@ impl Crowd {
     }
 }
 
-/// Sixteen workers come, each in a thread of its own, and the desk gives Terminate. Then each takes a packet of 28 octets and
-/// finishes, while the desk gives Terminate again and again: how many are told the verdict of their row, how many the first
-/// Terminate found attached, and 1 where the session is terminated at last.
+/// Sixteen workers come, each in a thread of its own, and the desk gives Terminate. Then each takes a packet of 28
+/// octets and finishes, while the desk gives Terminate again and again: how many are told the verdict of their row, how
+/// many the first Terminate found attached, and 1 where the session is terminated at last.
 pub fn crowded<
     C: Detects + Drop + Send + Sync,
     N: Naming + Send + Sync,
