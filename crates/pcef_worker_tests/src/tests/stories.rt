@@ -296,7 +296,7 @@ const WITHOUT_MEMORY: Table<'static> = &[
 
 #[test]
 fn a_worker_that_finds_no_memory_can_go_on(rt: HostRuntime) -> Result<(), Fail> {
-    // `rt try --test --fail-alloc N` lets the Nth allocation fail.
+    // `.ci/refused-memory` refuses each allocation in turn.
     let lock = Lock {
         places: 2,
         at_last: true,
