@@ -99,22 +99,9 @@ fn tell_of_its_catalog<R: Threads + Wait + Sync>(
     requires catalog { session.setting.catalog ≡ [] }
     requires offers { offers_of (arc_value catalog) ≡ [] }
 {
-    match opened(&session).ok() {
-        Some(opened) => {
-            match tell_of_opened(
-                rt,
-                alloc,
-                catalog,
-                session,
-                opened,
-                lock.places,
-                install,
-                table,
-            ) {
-                Ok(told) => Ok(told),
-                Err(unopened) => tell_at_last(rt, alloc, unopened, lock, install, table),
-            }
-        }
+    match tell_once(rt, alloc, catalog, session, lock.places, install, table) {
+        Some(Ok(told)) => Ok(told),
+        Some(Err(unopened)) => tell_at_last(rt, alloc, unopened, lock, install, table),
         None => Err(NO_SESSION),
     }
 }
@@ -140,23 +127,33 @@ fn tell_at_last<R: Threads + Wait + Sync>(
         catalog,
         session,
     } = unopened;
+    match tell_once(rt, alloc, catalog, session, lock.places, install, table) {
+        Some(Ok(told)) => Ok(told),
+        _ => Err(NO_LOCK),
+    }
+}
+
+// What is told behind a lock, or what came back; nothing where no history can be opened.
+fn tell_once<R: Threads + Wait + Sync>(
+    rt: &R,
+    alloc: Global,
+    catalog: Arc<Catalog>,
+    session: SessionState,
+    places: u8,
+    install: &Command,
+    table: Table<'_>,
+) -> Option<Result<Told, Unopened<Catalog>>>
+    requires fresh { session.journal ≡ [] }
+    requires catalog { session.setting.catalog ≡ [] }
+    requires offers { offers_of (arc_value catalog) ≡ [] }
+    ensures back { IfSome result (λ told.
+        IfErr told (λ e. (e.catalog ≡ catalog) × (e.session ≡ session))) }
+{
     match opened(&session).ok() {
-        Some(opened) => {
-            match tell_of_opened(
-                rt,
-                alloc,
-                catalog,
-                session,
-                opened,
-                lock.places,
-                install,
-                table,
-            ) {
-                Ok(told) => Ok(told),
-                Err(_) => Err(NO_LOCK),
-            }
-        }
-        None => Err(NO_LOCK),
+        Some(opened) => Some(tell_of_opened(
+            rt, alloc, catalog, session, opened, places, install, table,
+        )),
+        None => None,
     }
 }
 
