@@ -1,0 +1,9 @@
+pub mod AddressTextLaws
+pub mod CarryingLaws
+pub mod Cuts
+pub mod DottedLaws
+pub mod ExtensionLaws
+pub mod GroupNumbers
+pub mod GroupWalks
+pub mod Packing
+pub mod ReadingLaws

@@ -1,3 +1,9 @@
+pub mod AddressTexts
 pub mod Addresses
+pub mod Carrying
+pub mod ColonHex
 pub mod DottedDecimal
+pub mod ExtensionHeaders
 pub mod HeaderOf
+pub mod Joined
+pub mod private

@@ -1,28 +1,14 @@
 //! Headers of version 4 (RFC 791, clause 3.1).
 
 ghost use Rattle.std.specs.Prelude.{◌≡◌, ◌<◌, ◌≤◌, length};
-ghost use Rattle.pcef_packet.specs.HeaderOf.{faults_v4, header_unless, fragment_offset_v4, header_len_v4, header_v4, ports_in, total_len_v4};
+ghost use Rattle.pcef_packet.specs.HeaderOf.{faults_v4, header_unless, fragment_offset_v4, header_len_v4, header_v4, total_len_v4};
 
-use crate::header::{Addr, Dir, Header, PacketFault, Ports};
+use crate::header::{Addr, Dir, Header, PacketFault};
+use crate::ports::ports_of;
 use byteorder::{BigEndian, ByteOrder};
 
 /// The length of a header without options.
 const LEAST_HEADER_LEN: usize = 20;
-
-/// The ports at the front of a payload, for a protocol that has them.
-#[tactic(auto, unfolding(crate::specs::HeaderOf::ports_in))]
-fn ports_of(proto: u8, payload: &[u8]) -> Option<Ports>
-    ensures { result ≡ ports_in proto payload.now }
-{
-    if matches!(proto, 6 | 17 | 132) && 4 <= payload.len() {
-        Some(Ports {
-            src: BigEndian::read_u16(payload),
-            dst: BigEndian::read_u16(&payload[2..]),
-        })
-    } else {
-        None
-    }
-}
 
 /// The header length in octets, from the lower half of the first octet.
 #[tactic(auto, unfolding(crate::specs::HeaderOf::header_len_v4))]

@@ -1,0 +1,15 @@
+use Rattle.std.proofs.Common.{arith}
+use Rattle.pcef_packet.proofs.GroupWalks.{gap_within}
+use Rattle.pcef_packet.proofs.colon_hex.colon_hex_number.Goals as goal
+
+pub slice_bounds-shortened-count : goal.slice_bounds-shortened-count
+slice_bounds-shortened-count c =
+    let place = c.place_of_gap-place.ensures.place in
+    let within = gap_within c.args.text.now (omega (arith, place, c.if-place-text.true)) in
+    omega (arith, place, within)
+
+pub slice_bounds-shortened-start : goal.slice_bounds-shortened-start
+slice_bounds-shortened-start c =
+    let place = c.place_of_gap-place.ensures.place in
+    let within = gap_within c.args.text.now (omega (arith, place, c.if-place-text.true)) in
+    omega (arith, place, within)
