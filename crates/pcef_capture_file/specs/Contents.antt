@@ -5,13 +5,13 @@ use Rattle.pcef_packet.specs.declared.header.PacketFault.{PacketFault}
 use Rattle.pcef_packet.specs.declared.header.PacketFault.TheVariants as fault
 use Rattle.pcef_capture_file.specs.Captured.{Captured}
 use Rattle.pcef_capture_file.specs.Directions.{direction_in}
-use Rattle.pcef_capture_file.specs.Frames.{ipv4_in}
+use Rattle.pcef_capture_file.specs.Frames.{ip_in}
 use Rattle.pcef_capture_file.specs.declared.content.Content.{Content}
 use Rattle.pcef_capture_file.specs.declared.content.Content.TheVariants.{Packet, Neither, Cut, NotIpv4}
 
 -- these octets stand in the frame where IPv4 is said to
 abbrev pub Holds : Captured → List ℕ → Type 0
-Holds p octets = ipv4_in p.link p.endianness p.octets ≡ Some octets
+Holds p octets = ip_in p.link p.endianness p.octets ≡ Some octets
 
 -- fewer octets were recorded than there were on the line
 abbrev pub IsCut : Captured → Type 0

@@ -1,7 +1,7 @@
 -- Which way a packet goes for a session.
 use Rattle.std.specs.Prelude.{ℕ, List, Option, Some, None, Result, Ok, if◌then◌else◌}
 use Rattle.pcef_decoding.specs.Readings.{◌>>=◌}
-use Rattle.pcef_packet.specs.Addresses.{agrees_in}
+use Rattle.pcef_packet.specs.Addresses.{is_assigned}
 use Rattle.pcef_packet.specs.HeaderOf.{header_of}
 use Rattle.pcef_packet.specs.declared.header.Addr.{Addr}
 use Rattle.pcef_packet.specs.declared.header.Dir.{Dir}
@@ -9,11 +9,11 @@ use Rattle.pcef_packet.specs.declared.header.Dir.TheVariants.{Up, Down}
 use Rattle.pcef_packet.specs.declared.header.Header.{Header}
 use Rattle.pcef_packet.specs.declared.header.PacketFault.{PacketFault}
 
--- up from the address, down to it
+-- up from an address of the session, down to one
 abbrev pub way_of : Addr → Header → Option Dir
 way_of ue header =
-    if agrees_in 32 ue header.src then Some Up
-    else if agrees_in 32 ue header.dst then Some Down
+    if is_assigned header.src ue then Some Up
+    else if is_assigned header.dst ue then Some Down
     else None
 
 unfoldable pub direction_in : Addr → List ℕ → Result (Option Dir) PacketFault

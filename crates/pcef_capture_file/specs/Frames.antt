@@ -22,23 +22,31 @@ behind octets place = if nat_le place (length octets) then Some (drop place octe
 unfoldable pub past_tag : List ℕ → ℕ → ℕ
 past_tag octets place = if is_tag_at octets place then place + 4 else place
 
--- IPv4 behind its type, 0x0800 (RFC 894), before which at most two tags stand
+-- the type of IPv4, 0x0800 (RFC 894), or of IPv6, 0x86DD (RFC 2464, clause 3), stands at a place
+unfoldable pub is_ip_at : List ℕ → ℕ → Bool
+is_ip_at octets place = is_type_at octets place 2048 || is_type_at octets place 34525
+
+-- a packet behind its type, before which at most two tags stand
 unfoldable pub behind_type : List ℕ → ℕ → Option (List ℕ)
 behind_type octets place =
-    if is_type_at octets (past_tag octets (past_tag octets place)) 2048
+    if is_ip_at octets (past_tag octets (past_tag octets place))
     then behind octets (past_tag octets (past_tag octets place) + 2)
     else None
 
--- IPv4 behind its protocol family, which is 2 on every system
+-- the protocol family of IPv4, which is 2 on every system, or one of those of IPv6
+unfoldable pub is_ip_family : ℕ → Bool
+is_ip_family family = (family == 2) || ((family == 24) || ((family == 28) || (family == 30)))
+
+-- a packet behind its protocol family
 unfoldable pub behind_family : Endianness → List ℕ → Option (List ℕ)
-behind_family e octets = if nat_le 4 (length octets) && (number e octets 0 4 == 2) then behind octets 4 else None
+behind_family e octets = if nat_le 4 (length octets) && is_ip_family (number e octets 0 4) then behind octets 4 else None
 
 -- The type stands behind two addresses of six octets in Ethernet, at octets 14 and 15 of the first cooked
 -- header, and in front of the second one, which has 20 octets.
-unfoldable pub ipv4_in : Link → Endianness → List ℕ → Option (List ℕ)
-ipv4_in Ethernet e octets = behind_type octets 12
-ipv4_in Raw e octets = Some octets
-ipv4_in Null e octets = behind_family e octets
-ipv4_in Loop e octets = behind_family Big octets
-ipv4_in LinuxCooked e octets = behind_type octets 14
-ipv4_in LinuxCooked2 e octets = if is_type_at octets 0 2048 then behind octets 20 else None
+unfoldable pub ip_in : Link → Endianness → List ℕ → Option (List ℕ)
+ip_in Ethernet e octets = behind_type octets 12
+ip_in Raw e octets = Some octets
+ip_in Null e octets = behind_family e octets
+ip_in Loop e octets = behind_family Big octets
+ip_in LinuxCooked e octets = behind_type octets 14
+ip_in LinuxCooked2 e octets = if is_ip_at octets 0 then behind octets 20 else None

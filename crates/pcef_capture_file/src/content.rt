@@ -5,20 +5,20 @@ ghost use Rattle.pcef_capture_file.specs.Captured.{captured};
 ghost use Rattle.pcef_capture_file.specs.Contents.{IsContent};
 
 use crate::direction::direction_of;
-use crate::frame::ipv4_of;
+use crate::frame::ip_of;
 use crate::packet::Packet;
 use pcef_packet::{Addr, Dir, PacketFault};
 
 /// What a frame is for the session of an address.
 #[derive(Clone, Copy, Debug, PartialEq, Eq)]
 pub enum Content<'a> {
-    /// It has a whole packet of version 4, which goes from the address (up) or to it (down).
+    /// It has a whole packet, which goes from the address (up) or to it (down).
     Packet(Dir, &'a [u8]),
-    /// It has a whole packet of version 4, with the address on neither side.
+    /// It has a whole packet, with the address on neither side.
     Neither,
     /// It was recorded in part, and so is the packet in it.
     Cut(&'a [u8]),
-    /// It has no packet of version 4, or one whose header is wrong.
+    /// It has no packet, or one whose header is wrong.
     NotIpv4,
 }
 
@@ -27,7 +27,7 @@ pub fn content_of<'a>(ue: Addr, packet: &Packet<'a>) -> Content<'a>
     ensures { IsContent ue (captured packet.now) result }
 {
     let is_cut = packet.octets.len() < packet.original as usize;
-    let Some(octets) = ipv4_of(packet) else {
+    let Some(octets) = ip_of(packet) else {
         return Content::NotIpv4;
     };
     match direction_of(ue, octets) {

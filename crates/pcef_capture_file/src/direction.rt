@@ -7,16 +7,16 @@ use pcef_packet::{Addr, Dir, PacketFault, read_header};
 
 /// Which way a packet goes for the session of an address: up where the address is its source, else
 /// down where it is its destination, else none. An `Err` is the first fault of its header: the octets
-/// aren't a whole packet of version 4. Takes no memory.
+/// aren't a whole packet. Takes no memory.
 #[tactic(auto, unfolding(crate::specs::Directions::direction_in))]
 pub fn direction_of(ue: Addr, octets: &[u8]) -> Result<Option<Dir>, PacketFault>
     ensures { result ≡ direction_in ue octets.now }
 {
     match read_header(Dir::Up, octets) {
         Ok(header) => {
-            if ue.agrees_in(32, header.src) {
+            if header.src.is_assigned(ue) {
                 Ok(Some(Dir::Up))
-            } else if ue.agrees_in(32, header.dst) {
+            } else if header.dst.is_assigned(ue) {
                 Ok(Some(Dir::Down))
             } else {
                 Ok(None)

@@ -1,7 +1,7 @@
 //! The packet behind the header of a frame.
 
 ghost use Rattle.std.specs.Prelude.{◌≡◌, ◌+◌, ◌<◌, ◌≤◌, option_map};
-ghost use Rattle.pcef_capture_file.specs.Frames.{behind, behind_family, behind_type, ipv4_in, is_tag_at, is_type_at, past_tag};
+ghost use Rattle.pcef_capture_file.specs.Frames.{behind, behind_family, behind_type, ip_in, is_ip_at, is_ip_family, is_tag_at, is_type_at, past_tag};
 
 use crate::endianness::Endianness;
 use crate::link::Link;
@@ -10,8 +10,8 @@ use crate::packet::Packet;
 /// The type of IPv4 in Ethernet and in the cooked headers.
 const IPV4_TYPE: u16 = 0x0800;
 
-/// The protocol family of IPv4 in the loopback headers.
-const IPV4_FAMILY: u32 = 2;
+/// The type of IPv6 there.
+const IPV6_TYPE: u16 = 0x86dd;
 
 /// Whether this number of two octets stands at a place.
 #[tactic(auto, unfolding(crate::specs::Frames::is_type_at))]
@@ -60,39 +60,55 @@ fn past_tag(octets: &[u8], place: usize) -> usize
     }
 }
 
-/// What stands behind a type, where it is IPv4's: at most two tags may stand before it.
+/// Whether the type of IPv4 or IPv6 stands at a place.
+#[tactic(auto, unfolding(crate::specs::Frames::is_ip_at))]
+fn is_ip_at(octets: &[u8], place: usize) -> bool
+    ensures { result ≡ is_ip_at octets.now place }
+{
+    is_type_at(octets, place, IPV4_TYPE) || is_type_at(octets, place, IPV6_TYPE)
+}
+
+/// Whether a protocol family of the loopback headers is that of IPv4 or one of those that systems have for IPv6.
+#[tactic(auto, unfolding(crate::specs::Frames::is_ip_family))]
+fn is_ip_family(family: u32) -> bool
+    ensures { result ≡ is_ip_family family }
+{
+    matches!(family, 2 | 24 | 28 | 30)
+}
+
+/// What stands behind a type, where it is IPv4's or IPv6's: at most two tags may stand before it.
 #[tactic(auto, unfolding(crate::specs::Frames::behind_type))]
 fn behind_type(octets: &[u8], place: usize) -> Option<&[u8]>
     requires { place < 200 }
     ensures { option_map (λ o. o.now) result ≡ behind_type octets.now place }
 {
     let place = past_tag(octets, past_tag(octets, place));
-    if is_type_at(octets, place, IPV4_TYPE) {
+    if is_ip_at(octets, place) {
         behind(octets, place + 2)
     } else {
         None
     }
 }
 
-/// What stands behind a protocol family, where it is IPv4's.
+/// What stands behind a protocol family, where it is IPv4's or IPv6's.
 #[tactic(auto, unfolding(crate::specs::Frames::behind_family))]
 fn behind_family(endianness: Endianness, octets: &[u8]) -> Option<&[u8]>
     ensures { option_map (λ o. o.now) result ≡ behind_family endianness octets.now }
 {
-    if 4 <= octets.len() && endianness.number_in_4(octets, 0) == IPV4_FAMILY {
+    if 4 <= octets.len() && is_ip_family(endianness.number_in_4(octets, 0)) {
         behind(octets, 4)
     } else {
         None
     }
 }
 
-/// The octets of a frame behind its link header, where that header says that an IPv4 packet comes, or
+/// The octets of a frame behind its link header, where that header says that an IP packet comes, or
 /// none. Raw frames have no header: all of them is given, whatever its version. Behind a packet padding
 /// may stand. Takes no memory.
-#[tactic(auto, unfolding(crate::specs::Frames::ipv4_in))]
-pub fn ipv4_of<'a>(packet: &Packet<'a>) -> Option<&'a [u8]>
+#[tactic(auto, unfolding(crate::specs::Frames::ip_in))]
+pub fn ip_of<'a>(packet: &Packet<'a>) -> Option<&'a [u8]>
     ensures { option_map (λ o. o.now) result
-        ≡ ipv4_in packet.now.link packet.now.endianness packet.now.octets.now }
+        ≡ ip_in packet.now.link packet.now.endianness packet.now.octets.now }
 {
     let octets = packet.octets;
     match packet.link {
@@ -102,7 +118,7 @@ pub fn ipv4_of<'a>(packet: &Packet<'a>) -> Option<&'a [u8]>
         Link::Loop => behind_family(Endianness::Big, octets),
         Link::LinuxCooked => behind_type(octets, 14),
         Link::LinuxCooked2 => {
-            if is_type_at(octets, 0, IPV4_TYPE) {
+            if is_ip_at(octets, 0) {
                 behind(octets, 20)
             } else {
                 None

@@ -23,7 +23,7 @@ pub use content::{Content, content_of};
 pub use direction::direction_of;
 pub use endianness::Endianness;
 pub use fault::CaptureFault;
-pub use frame::ipv4_of;
+pub use frame::ip_of;
 pub use laws::{one_capture, one_reading};
 pub use link::Link;
 pub use packet::{Capture, Packet};

@@ -9,7 +9,7 @@ use Rattle.pcef_packet.specs.declared.header.PacketFault.TheVariants as fault
 use Rattle.pcef_capture_file.specs.Captured.{Captured}
 use Rattle.pcef_capture_file.specs.Contents.{Holds, IsContent}
 use Rattle.pcef_capture_file.specs.Directions.{direction_in}
-use Rattle.pcef_capture_file.specs.Frames.{ipv4_in}
+use Rattle.pcef_capture_file.specs.Frames.{ip_in}
 use Rattle.pcef_capture_file.specs.declared.content.Content.{Content}
 use Rattle.pcef_capture_file.specs.declared.content.Content.TheVariants.{Packet, Neither, Cut, NotIpv4}
 use Rattle.pcef_capture_script.specs.Fates.{AreFates, Fate, IsFate, fate_of}
@@ -39,13 +39,13 @@ content_at ue p octets holds (Err fault.Version) is = (
 )
 content_at ue p octets holds (Err f) is = wrong_content ue p octets f holds is (λ e. cc e)
 
-content_in : (ue : Addr) (p : Captured) (found : Option (List ℕ)) → ipv4_in p.link p.endianness p.octets ≡ found → (content : Content) × IsContent ue p content
+content_in : (ue : Addr) (p : Captured) (found : Option (List ℕ)) → ip_in p.link p.endianness p.octets ≡ found → (content : Content) × IsContent ue p content
 content_in ue p None is = (NotIpv4, λ octets there. absurd (cc (is, there)))
 content_in ue p (Some octets) is = content_at ue p octets is (direction_in ue octets) refl
 
 pub fate_there : (ue : Addr) (pads : Bool) (p : Captured) → (fate : Fate) × IsFate ue pads p fate
 fate_there ue pads p =
-    let c = content_in ue p (ipv4_in p.link p.endianness p.octets) refl in
+    let c = content_in ue p (ip_in p.link p.endianness p.octets) refl in
     (fate_of ue pads c.0, (c.0, c.1, refl))
 
 pub fates_there : (ue : Addr) (pads : Bool) (frames : List Captured) → (fates : List Fate) × AreFates ue pads frames fates

@@ -4,7 +4,7 @@ use Rattle.std.specs.Prelude.{codes}
 use Rattle.pcef_filter.specs.Tokens.{Token}
 use Rattle.pcef_filter.specs.Pieces.{pieces}
 use Rattle.pcef_filter.specs.Classes.{IsDirection, IsProto, IsPlace, AllowsFlow}
-use Rattle.pcef_packet.specs.DottedDecimal.{address_of, cut_at_dot}
+use Rattle.pcef_packet.specs.AddressTexts.{address_of, cut_at, dotted_of}
 use Rattle.pcef_filter.specs.ReadingClasses.{is_word, and_then, number_in, up_to, direction_in, proto_in, net_in, place_in, is_clash}
 use Rattle.pcef_filter.specs.declared.filter.Direction.{Direction}
 use Rattle.pcef_filter.specs.declared.filter.Direction.TheVariants as direction
@@ -68,11 +68,11 @@ no_net w t n none some = go (is_word w t) refl
     go true same = let clash : Some n ≡ None = sym some ∙ ap net_in (word_is w t same) ∙ none in absurd (cc)
 
 any_no_net : net_in (codes "any") ≡ None
-unfolding net_in address_of cut_at_dot pieces
+unfolding net_in address_of dotted_of cut_at pieces
 any_no_net = refl
 
 assigned_no_net : net_in (codes "assigned") ≡ None
-unfolding net_in address_of cut_at_dot pieces
+unfolding net_in address_of dotted_of cut_at pieces
 assigned_no_net = refl
 
 pub place_found : (t : Token) (p : Place) → place_in t ≡ Some p → IsPlace t p

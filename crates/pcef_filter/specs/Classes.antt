@@ -1,8 +1,7 @@
--- What single tokens of a filter text spell (RFC 6733, clause 4.3.1). Addresses are of version 4 for
--- now. How many digits a number may have, and how many ranges a port list, are own choices.
+-- What single tokens of a filter text spell (RFC 6733, clause 4.3.1). How many digits a number may have, and how many ranges a port list, are own choices.
 use Rattle.std.specs.Prelude.{ℕ, ◌≡◌, ◌≤◌, List, [], ◌∷◌, length, Option, Some, None, codes, ⊤}
-use Rattle.pcef_packet.specs.declared.header.Addr.{Addr}
-use Rattle.pcef_packet.specs.DottedDecimal.{address_of}
+use Rattle.pcef_packet.specs.AddressTexts.{WritesAddress}
+use Rattle.pcef_packet.specs.Addresses.{width_of}
 use Rattle.pcef_filter.specs.Tokens.{Token}
 use Rattle.pcef_filter.specs.Numbers.{IsNumber}
 use Rattle.pcef_filter.specs.Pieces.{pieces, slash, comma, dash}
@@ -25,15 +24,11 @@ IsProto token None = token ≡ codes "ip"
 IsProto token (Some number) = IsNumber 5 token number × (number ≤ 255)
 
 -- ---- src and dst
--- an address in dotted decimal form
-abbrev pub IsAddress : Token → Addr → Type 0
-IsAddress token addr = address_of token ≡ Some addr
-
 -- an address alone counts whole; behind a slash stands how many of its bits count
 abbrev pub AreNet : List Token → Net → Type 0
 AreNet [] net = ⊥
-AreNet (addr ∷ []) net = IsAddress addr net.addr × (net.bits ≡ 32)
-AreNet (addr ∷ bits ∷ []) net = IsAddress addr net.addr × IsNumber 5 bits net.bits × (net.bits ≤ 32)
+AreNet (addr ∷ []) net = WritesAddress addr net.addr × (net.bits ≡ width_of net.addr)
+AreNet (addr ∷ bits ∷ []) net = WritesAddress addr net.addr × IsNumber 5 bits net.bits × (net.bits ≤ width_of net.addr)
 AreNet (addr ∷ bits ∷ more ∷ rest) net = ⊥
 
 -- the word `any`, the word `assigned`, or a network

@@ -6,7 +6,7 @@ use Rattle.pcef_packet.specs.declared.header.Dir.{Dir}
 use Rattle.pcef_packet.specs.declared.header.Dir.TheVariants.{Up, Down}
 use Rattle.pcef_packet.specs.declared.header.Header.{Header}
 use Rattle.pcef_packet.specs.declared.header.Ports.{Ports}
-use Rattle.pcef_packet.specs.Addresses.{agrees_in, same_addr}
+use Rattle.pcef_packet.specs.Addresses.{agrees_in, is_assigned}
 use Rattle.pcef_filter.specs.declared.filter.Direction.{Direction}
 use Rattle.pcef_filter.specs.declared.filter.Direction.TheVariants.{In, Out}
 use Rattle.pcef_filter.specs.declared.filter.Flow.{Flow}
@@ -49,7 +49,7 @@ proto_fits (Some wanted) proto = proto == wanted
 
 abbrev pub place_fits : Place → Addr → Addr → Bool
 place_fits Any ue addr = true
-place_fits Assigned ue addr = same_addr addr ue
+place_fits Assigned ue addr = is_assigned addr ue
 place_fits (Net net) ue addr = agrees_in net.bits addr net.addr
 
 abbrev pub in_ranges : List PortRange → ℕ → Bool

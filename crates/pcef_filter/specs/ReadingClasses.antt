@@ -6,7 +6,8 @@ use Rattle.std.specs.Str.{all_ascii_digits, bytes_eq}
 use Rattle.std.specs.Str.Parse.{digits_value}
 use Rattle.arrayvec.specs.ArrayVec.{ArrayVec}
 use Rattle.pcef_packet.specs.declared.header.Addr.{Addr}
-use Rattle.pcef_packet.specs.DottedDecimal.{address_of}
+use Rattle.pcef_packet.specs.AddressTexts.{address_of}
+use Rattle.pcef_packet.specs.Addresses.{width_of}
 use Rattle.pcef_filter.specs.Tokens.{Token}
 use Rattle.pcef_filter.specs.Pieces.{pieces, slash, comma, dash}
 use Rattle.pcef_filter.specs.declared.filter.Direction.{Direction}
@@ -55,16 +56,16 @@ pieces_left separator None = []
 pieces_left separator (Some left) = pieces separator left.now
 
 -- ---- places
-unfoldable pub bits_in : Token → Option ℕ
-bits_in piece = up_to 32 (number_in 5 piece)
+unfoldable pub bits_in : ℕ → Token → Option ℕ
+bits_in width piece = up_to width (number_in 5 piece)
 
 abbrev pub net_of : Addr → ℕ → Net
 net_of addr bits = record { addr = addr; bits = bits }
 
 abbrev pub net_from : List Token → Option Net
 net_from [] = None
-net_from (addr ∷ []) = and_then (address_of addr) (λ a. Some (net_of a 32))
-net_from (addr ∷ bits ∷ []) = and_then (address_of addr) (λ a. and_then (bits_in bits) (λ b. Some (net_of a b)))
+net_from (addr ∷ []) = and_then (address_of addr) (λ a. Some (net_of a (width_of a)))
+net_from (addr ∷ bits ∷ []) = and_then (address_of addr) (λ a. and_then (bits_in (width_of a) bits) (λ b. Some (net_of a b)))
 net_from (addr ∷ bits ∷ more ∷ rest) = None
 
 unfoldable pub net_in : Token → Option Net

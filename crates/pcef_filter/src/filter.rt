@@ -33,7 +33,7 @@ pub enum Flow {
 pub enum Place {
     /// Every address.
     Any,
-    /// The address of the session.
+    /// The addresses of the session: its own, or of version 6 the network of 64 bits that it stands in.
     Assigned,
     /// The addresses of a network.
     Net(Net),
@@ -44,7 +44,7 @@ pub enum Place {
 pub struct Net {
     /// An address of the network. Bits below the mask don't count.
     pub addr: Addr,
-    /// How many bits count: 0 to 32.
+    /// How many bits count: 0 to 32, or to 128 for version 6.
     pub bits: u8,
 }
 

@@ -58,12 +58,12 @@ fn proto_difference(wanted: Option<u8>, proto: u8) -> u8
 }
 
 impl Place {
-    fn fits(&self, ue: Addr, addr: Addr) -> bool
-        ensures { result ≡ place_fits self.now ue addr }
+    fn fits(&self, ue: &Addr, addr: Addr) -> bool
+        ensures { result ≡ place_fits self.now ue.now addr }
     {
         match self {
             Place::Any => true,
-            Place::Assigned => addr == ue,
+            Place::Assigned => addr.is_assigned(*ue),
             Place::Net(net) => addr.agrees_in(net.bits, net.addr),
         }
     }
@@ -90,9 +90,10 @@ fn fails_early(applies: bool, proto_difference: u8) -> bool
 }
 
 /// Whether one endpoint fits the packet's source, and the other its destination. The addresses come first,
-/// since few fit by them.
-fn fit(source: &Endpoint, target: &Endpoint, ue: Addr, header: &Header) -> bool
-    ensures { result ≡ endpoints_fit source.now target.now ue header.now }
+/// since few fit by them. The session's address comes by reference: by value its 32 octets were written to
+/// memory again for each filter of a scan.
+fn fit(source: &Endpoint, target: &Endpoint, ue: &Addr, header: &Header) -> bool
+    ensures { result ≡ endpoints_fit source.now target.now ue.now header.now }
 {
     source.place.fits(ue, header.src)
         && target.place.fits(ue, header.dst)
@@ -102,9 +103,9 @@ fn fit(source: &Endpoint, target: &Endpoint, ue: Addr, header: &Header) -> bool
 
 impl Filter {
     /// Whether the filter matches an uplink packet.
-    fn matches_uplink(&self, ue: Addr, header: &Header) -> bool
+    fn matches_uplink(&self, ue: &Addr, header: &Header) -> bool
         requires { header.now.dir ≡ Dir.Up }
-        ensures { result ≡ matches self.now ue header.now }
+        ensures { result ≡ matches self.now ue.now header.now }
     {
         let is_in = self.direction == Direction::In;
         let applies = is_in | asks_for_uplink(self.flow);
@@ -120,9 +121,9 @@ impl Filter {
     }
 
     /// Whether the filter matches a downlink packet.
-    fn matches_downlink(&self, ue: Addr, header: &Header) -> bool
+    fn matches_downlink(&self, ue: &Addr, header: &Header) -> bool
         requires { header.now.dir ≡ Dir.Down }
-        ensures { result ≡ matches self.now ue header.now }
+        ensures { result ≡ matches self.now ue.now header.now }
     {
         let applies = !((self.direction == Direction::In) | leaves_downlink(self.flow));
         if fails_early(applies, proto_difference(self.proto, header.proto)) {
@@ -136,24 +137,24 @@ impl Filter {
         ensures { result ≡ matches self.now ue header.now }
     {
         match header.dir {
-            Dir::Up => self.matches_uplink(ue, header),
-            Dir::Down => self.matches_downlink(ue, header),
+            Dir::Up => self.matches_uplink(&ue, header),
+            Dir::Down => self.matches_downlink(&ue, header),
         }
     }
 }
 
-fn any_matches_uplink(filters: &[Filter], ue: Addr, header: &Header) -> bool
+fn any_matches_uplink(filters: &[Filter], ue: &Addr, header: &Header) -> bool
     requires { header.now.dir ≡ Dir.Up }
-    ensures { result ≡ list_any (λ f. matches f ue header.now) filters.now }
+    ensures { result ≡ list_any (λ f. matches f ue.now header.now) filters.now }
 {
     filters
         .iter()
         .any(|filter| filter.matches_uplink(ue, header))
 }
 
-fn any_matches_downlink(filters: &[Filter], ue: Addr, header: &Header) -> bool
+fn any_matches_downlink(filters: &[Filter], ue: &Addr, header: &Header) -> bool
     requires { header.now.dir ≡ Dir.Down }
-    ensures { result ≡ list_any (λ f. matches f ue header.now) filters.now }
+    ensures { result ≡ list_any (λ f. matches f ue.now header.now) filters.now }
 {
     filters
         .iter()
@@ -165,7 +166,7 @@ pub fn any_matches(filters: &[Filter], ue: Addr, header: &Header) -> bool
     ensures { result ≡ list_any (λ f. matches f ue header.now) filters.now }
 {
     match header.dir {
-        Dir::Up => any_matches_uplink(filters, ue, header),
-        Dir::Down => any_matches_downlink(filters, ue, header),
+        Dir::Up => any_matches_uplink(filters, &ue, header),
+        Dir::Down => any_matches_downlink(filters, &ue, header),
     }
 }

@@ -8,13 +8,13 @@ use crate::filter::{Net, Place};
 use crate::pieces::cut;
 use pcef_packet::Addr;
 
-/// The width of a network: of so many bits are its addresses alike.
+/// How many bits of addresses of this width count.
 #[tactic(auto, unfolding(crate::specs::ReadingClasses::bits_in))]
-fn bits_of(piece: &[u8]) -> Option<u8>
-    ensures { result ≡ bits_in piece.now }
+fn bits_of(width: u8, piece: &[u8]) -> Option<u8>
+    ensures { result ≡ bits_in width piece.now }
 {
     let bits = number_of(piece, MOST_DIGITS)?;
-    if bits > 32 {
+    if bits > u32::from(width) {
         return None;
     }
     Some(bits as u8)
@@ -28,14 +28,17 @@ fn net_of(token: &[u8]) -> Option<Net>
     let (front, left) = cut(token, b'/');
     let Some(left) = left else {
         let addr = Addr::from_text(front)?;
-        return Some(Net { addr, bits: 32 });
+        return Some(Net {
+            addr,
+            bits: addr.width(),
+        });
     };
     let (back, left) = cut(left, b'/');
     if left.is_some() {
         return None;
     }
     let addr = Addr::from_text(front)?;
-    let bits = bits_of(back)?;
+    let bits = bits_of(addr.width(), back)?;
     Some(Net { addr, bits })
 }
 

@@ -146,6 +146,8 @@ fn read_allowed(text: &str, flow: Option<Flow>) -> Result<Filter, FilterFault>
 /// proto   = "ip" | number up to 255
 /// place   = "any" | "assigned" | address ["/" bits]
 /// address = number "." number "." number "." number
+///         | eight groups with ":" between them, or fewer with one "::"
+/// group   = one to four hexadecimal digits
 /// ports   = range {"," range}, at most eight
 /// range   = port | port "-" port
 /// ```

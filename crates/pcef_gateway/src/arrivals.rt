@@ -2,16 +2,19 @@
 
 ghost use Rattle.std.specs.Prelude.{◌↔◌, ◌<◌, All, IsTrue};
 
-use pcef_packet::Header;
+use pcef_packet::PackedHeader;
+use std::mem::size_of;
 
 /// A packet that arrives for a worker.
-#[derive(Clone, Copy, Debug, PartialEq, Eq)]
+#[derive(Drop)]
 pub struct Arrival {
+    /// What is read of the packet.
+    pub header: PackedHeader,
     /// The number of the worker, from 0 on.
     pub worker: u8,
-    /// What is read of the packet.
-    pub header: Header,
 }
+
+const _: () = prove!(size_of::<Arrival>() == 52);
 
 /// Whether each packet arrives for one of so many workers.
 pub(crate) fn are_known(arrivals: &[Arrival], workers: u8) -> bool

@@ -164,7 +164,7 @@ pub(crate) fn feed<N: Naming + Send + Sync, R: Wait>(
         ≡ slice_index_or lines.old w [] ++ headers_for w arrivals.now }
 {
     for arrival in arrivals {
-        lines[usize::from(arrival.worker)].send(rt, arrival.header);
+        lines[usize::from(arrival.worker)].send(rt, arrival.header.header());
     }
 }
 

@@ -5,12 +5,12 @@ use Rattle.std.proofs.lemmas.Nat.{pow-add}
 use Rattle.std.proofs.lemmas.Bool.{and_parts, cases_Bool, cond_both, eqb-true, le-leb, leb-true, or_left, or_right}
 use Rattle.std.proofs.lemmas.List.Elements.{All-cons, All-nil}
 use Rattle.pcef_packet.specs.declared.header.Addr.{Addr}
-use Rattle.pcef_packet.specs.declared.header.Addr.TheVariants.{V4}
+use Rattle.pcef_packet.specs.declared.header.Addr.TheVariants.{V4, V6}
 use Rattle.pcef_packet.specs.declared.header.Dir.{Dir}
 use Rattle.pcef_packet.specs.declared.header.Dir.TheVariants.{Up, Down}
 use Rattle.pcef_packet.specs.declared.header.Header.{Header}
 use Rattle.pcef_packet.specs.declared.header.Ports.{Ports}
-use Rattle.pcef_packet.specs.Addresses.{agrees_in, remote_side, remote_side_in, ue_side_in}
+use Rattle.pcef_packet.specs.Addresses.{agrees_in, remote_side, remote_side_in, ue_side_in, width_of}
 use Rattle.pcef_catalog.specs.Shapes.{local_port, remote_port}
 use Rattle.pcef_filter.specs.declared.filter.Direction.{Direction}
 use Rattle.pcef_filter.specs.declared.filter.Direction.TheVariants.{In, Out}
@@ -24,7 +24,7 @@ use Rattle.pcef_filter.specs.Matching.{dst_port, endpoint_fits, in_ranges, match
 use Rattle.pcef_index.specs.declared.cells.Cells.{Cells}
 use Rattle.pcef_index.specs.declared.cells.Half.{Half}
 use Rattle.pcef_index.specs.declared.cells.Half.TheVariants.{High, Low}
-use Rattle.pcef_index.specs.private.Cells.{are_whole, filter_passes, half_cells, header_cells, high_cells, is_in, local_end, local_in, octet_of, only, place_cells, place_passes, port_cells, ports_pass, proto_cells, ranges_pass, remote_end, remote_in, way_cell, way_in, whole}
+use Rattle.pcef_index.specs.private.Cells.{are_whole, filter_passes, half_cells, header_cells, high_cells, is_in, local_end, local_in, octet_of, only, place_cells, place_passes, port_cells, ports_pass, proto_cells, ranges_pass, remote_end, remote_in, rest_of, shift_of, wide_shift, way_cell, way_in, whole}
 use Rattle.pcef_index.specs.private.Marks.{ArePortsRanged, IsRanged}
 
 inside : (k : ℕ) (c : Cells) → c.first ≤ k → k ≤ c.last → is_in k c ≡ true
@@ -50,8 +50,13 @@ front_agrees a b rest shift less same =
 
 octet_small : (shift : ℕ) (addr : Addr) → octet_of shift addr < 256
 octet_small shift (V4 a) = omega arith
+octet_small shift (V6 a) = omega arith
 
-octets_agree : (bits shift : ℕ) (a b : Addr) → 32 - bits ≤ shift → agrees_in bits a b ≡ true → octet_of shift a ≡ octet_of shift b
+octets_agree : (bits shift : ℕ) (a b : Addr) → width_of b - bits ≤ shift_of shift b → agrees_in bits a b ≡ true → octet_of shift a ≡ octet_of shift b
+octets_agree bits shift (V4 a) (V6 b) less agrees = absurd (cc)
+octets_agree bits shift (V6 a) (V4 b) less agrees = absurd (cc)
+octets_agree bits shift (V6 a) (V6 b) less agrees =
+    ap (λ (n : ℕ). n % 256) (front_agrees a b (128 - bits) (wide_shift shift) less (eqb-true (a / 2 ^ (128 - bits)) (b / 2 ^ (128 - bits)) agrees))
 octets_agree bits shift (V4 a) (V4 b) less agrees =
     ap (λ (n : ℕ). n % 256) (front_agrees a b (32 - bits) shift less (eqb-true (a / 2 ^ (32 - bits)) (b / 2 ^ (32 - bits)) agrees))
 
@@ -59,8 +64,8 @@ place_in : (base shift : ℕ) (place : Place) (ue addr : Addr) → place_fits pl
 place_in base shift Any ue addr fits = in_whole base (octet_of shift addr) (octet_small shift addr)
 place_in base shift Assigned ue addr fits = in_whole base (octet_of shift addr) (octet_small shift addr)
 place_in base shift (Net net) ue addr fits =
-    cond_both (nat_le (32 - net.bits) shift) (only (base + octet_of shift net.addr)) (whole base) (λ (c : Cells). is_in (base + octet_of shift addr) c ≡ true)
-    (λ counts. rw (octets_agree net.bits shift addr net.addr (leb-true (32 - net.bits) shift counts) fits) (in_only (base + octet_of shift net.addr)))
+    cond_both (nat_le (rest_of net) (shift_of shift net.addr)) (only (base + octet_of shift net.addr)) (whole base) (λ (c : Cells). is_in (base + octet_of shift addr) c ≡ true)
+    (λ counts. rw (octets_agree net.bits shift addr net.addr (leb-true (rest_of net) (shift_of shift net.addr) counts) fits) (in_only (base + octet_of shift net.addr)))
     (λ _. in_whole base (octet_of shift addr) (octet_small shift addr))
 
 -- an octet of a port, and the cell of one

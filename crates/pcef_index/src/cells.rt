@@ -1,7 +1,7 @@
 //! The cells that a filter lets pass: one cell for each octet of each field that filters look at.
 
 ghost use Rattle.std.specs.Prelude.{◌≡◌, ◌<◌, ◌≤◌, ◌+◌};
-ghost use Rattle.pcef_index.specs.private.Cells.{half_cells, high_cells, local_end, low_cells, net_cells, octet_of, place_cells, proto_cells, remote_end, way_in, whole};
+ghost use Rattle.pcef_index.specs.private.Cells.{half_cells, high_cells, local_end, low_cells, net_cells, octet_of, place_cells, proto_cells, remote_end, rest_of, shift_of, way_in, whole, wide_shift};
 
 use pcef_filter::{Direction, Endpoint, Filter, Flow, Net, Place, PortRange};
 use pcef_packet::Addr;
@@ -108,7 +108,17 @@ pub(crate) fn proto_cells(proto: Option<u8>) -> Cells
     }
 }
 
-/// An octet of an address: the lowest of those that are left by a shift.
+/// The shift of version 6 that stands for one of version 4: octets 3, 5, 7 and 15 for the four, since networks of
+/// 32, 48, 64 and 128 bits end there.
+fn wide_shift(shift: u8) -> u8
+    requires { shift < 32 }
+    ensures is { result ≡ wide_shift shift }
+    ensures small { result < 128 }
+{
+    if shift == 0 { 0 } else { 48 + 2 * shift }
+}
+
+/// An octet of an address: the lowest of those that are left by a shift. Both versions have the same cells.
 pub(crate) fn octet_of(shift: u8, addr: Addr) -> u16
     requires { shift < 32 }
     ensures is { result ≡ octet_of shift addr }
@@ -116,7 +126,26 @@ pub(crate) fn octet_of(shift: u8, addr: Addr) -> u16
 {
     match addr {
         Addr::V4(addr) => ((addr >> shift) % 256) as u16,
+        Addr::V6(addr) => ((addr >> wide_shift(shift)) % 256) as u16,
     }
+}
+
+/// How many bits a shift leaves out.
+fn shift_of(shift: u8, addr: Addr) -> u8
+    requires { shift < 32 }
+    ensures { result ≡ shift_of shift addr }
+{
+    match addr {
+        Addr::V4(_) => shift,
+        Addr::V6(_) => wide_shift(shift),
+    }
+}
+
+/// How many bits of a network's addresses don't count.
+fn rest_of(net: Net) -> u8
+    ensures { result ≡ rest_of net }
+{
+    net.addr.width().saturating_sub(net.bits)
 }
 
 /// The octets of a network's addresses at this shift: one where all its bits count, else all.
@@ -126,7 +155,7 @@ fn net_cells(base: u16, shift: u8, net: Net) -> Cells
     ensures is { result ≡ net_cells base shift net }
     ensures within { result.last ≤ 2305 }
 {
-    if 32u8.saturating_sub(net.bits) <= shift {
+    if rest_of(net) <= shift_of(shift, net.addr) {
         only(base + octet_of(shift, net.addr))
     } else {
         whole(base)

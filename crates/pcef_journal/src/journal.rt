@@ -27,7 +27,7 @@ enum Mark {
 
 /// What happened in a session, entry by entry. Entries are added and never changed.
 ///
-/// A row takes 58 octets, two of them for its mark, and no copy of the name of its rule.
+/// A row takes 82 octets, two of them for its mark, and no copy of the name of its rule.
 pub struct Journal {
     marks: Vec<Mark>,
     commands: Vec<Command>,

@@ -6,8 +6,9 @@ ghost use Rattle.pcef_journal.specs.KeptRows.{IsPlaced, name_at, row_of, verdict
 
 use crate::names::Names;
 use pcef_model::{Row, Verdict};
-use pcef_packet::Header;
+use pcef_packet::PackedHeader;
 use pcef_rule::{BearerId, RuleName};
+use std::mem::size_of;
 
 /// What a generation decided of a packet, without the name of the rule.
 #[derive(Clone, Copy)]
@@ -22,17 +23,19 @@ pub(crate) enum KeptVerdict {
     Passed(BearerId),
 }
 
-/// A row without the name of its rule. It takes 56 octets, since the wider fields stand first.
-#[derive(Clone, Copy)]
+/// A row without the name of its rule.
+#[derive(Drop)]
 pub(crate) struct KeptRow {
     seq: u64,
     generation: u32,
     // The place of the rule's name, if the verdict speaks of a rule.
     rule: u32,
-    header: Header,
-    worker: u8,
+    header: PackedHeader,
     verdict: KeptVerdict,
+    worker: u8,
 }
+
+const _: () = prove!(size_of::<KeptRow>() == 72);
 
 /// The name at a place.
 fn name_at(names: &[RuleName], place: u32) -> RuleName
@@ -72,9 +75,9 @@ impl KeptRow {
             seq: row.seq,
             generation: row.generation,
             rule,
-            header: row.header,
-            worker: row.worker,
+            header: PackedHeader::new(&row.header),
             verdict,
+            worker: row.worker,
         }
     }
 
@@ -109,10 +112,10 @@ impl KeptRow {
         ensures { result ≡ row_of names.now self.now }
     {
         Row {
-            worker: self.worker,
             seq: self.seq,
             generation: self.generation,
-            header: self.header,
+            worker: self.worker,
+            header: self.header.header(),
             verdict: self.verdict(names),
         }
     }

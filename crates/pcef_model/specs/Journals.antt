@@ -2,7 +2,7 @@
 use Rattle.std.specs.Prelude.{ℕ, ◌+◌, ◌-◌, ◌==◌, Bool, true, false, not, ◌&&◌, List, [], ◌∷◌, Option, Some, None, filter, length, if◌then◌else◌}
 use Rattle.std.specs.List.{filter_map}
 use Rattle.pcef_packet.specs.declared.header.Header.{Header}
-use Rattle.pcef_packet.specs.Addresses.{same_addr, ue_side}
+use Rattle.pcef_packet.specs.Addresses.{is_assigned, ue_side}
 use Rattle.pcef_rule.specs.Gate.{opens}
 use Rattle.pcef_model.specs.declared.verdict.Verdict.{Verdict}
 use Rattle.pcef_model.specs.declared.verdict.Verdict.TheVariants.{Stray, Unmatched, Gated, Passed}
@@ -92,7 +92,7 @@ decided_by header None = unmatched
 decided_by header (Some r) = if opens r.properties.gate header.dir then passed r else gated r
 
 abbrev pub decision : Setting → Generation → Header → Decision
-decision p g header = if same_addr (ue_side header) p.ue then decided_by header (decisive g.rules p.ue header) else stray
+decision p g header = if is_assigned (ue_side header) p.ue then decided_by header (decisive g.rules p.ue header) else stray
 
 abbrev pub verdict_of : Generation → Decision → Verdict
 verdict_of g stray = Stray

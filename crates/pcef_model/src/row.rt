@@ -8,12 +8,12 @@ use pcef_packet::Header;
 /// A packet that a worker judged.
 #[derive(Debug, PartialEq, Eq, Drop)]
 pub struct Row {
-    /// The worker.
-    pub worker: u8,
     /// How many rows the worker had before.
     pub seq: u64,
     /// The generation that judged the packet.
     pub generation: u32,
+    /// The worker.
+    pub worker: u8,
     /// The packet's header.
     pub header: Header,
     /// What the generation decided.

@@ -8,6 +8,7 @@ use crate::fault::Unfit;
 use pcef_gateway::Arrival;
 use pcef_line::Line;
 use pcef_model::{Command, Step};
+use pcef_packet::PackedHeader;
 use std::alloc::{AllocError, Global};
 
 /// What an input asks of a run: commands, then packets and, apart from these, the commands after the first of them.
@@ -60,7 +61,8 @@ impl Plan {
         let added = match line {
             Line::Step(Step::Command(command)) => self.add_command(command),
             Line::Step(Step::Take { worker, header }) if worker < workers => {
-                self.add_packet(Arrival { worker, header })
+                let header = PackedHeader::new(&header);
+                self.add_packet(Arrival { header, worker })
             }
             _ => return Err(Unfit::AtFault),
         };

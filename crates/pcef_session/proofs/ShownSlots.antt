@@ -4,7 +4,7 @@ use Rattle.std.specs.Prelude.{Option, ◌||◌}
 use Rattle.std.specs.Option.{option_map, option_map_or, option_to_list}
 use Rattle.std.proofs.lemmas.Bool.{cases_Bool, eqb-true, eq-eqb, false_from_ne_true, and_left, and_right}
 use Rattle.pcef_packet.specs.declared.header.Header.{Header}
-use Rattle.pcef_packet.specs.Addresses.{same_addr, ue_side}
+use Rattle.pcef_packet.specs.Addresses.{is_assigned, ue_side}
 use Rattle.pcef_rule.specs.declared.quantity.Slot.{Slot}
 use Rattle.pcef_rule.specs.Gate.{opens}
 use Rattle.pcef_table.specs.declared.entry.Entry.{Entry}
@@ -79,7 +79,7 @@ gate_of header x r is =
 
 passed_is : (p : Setting) (g : Generation) (header : Header) (r : Active) → decision p g header ≡ passed r → Contains g.rules r
 passed_is p g header r is =
-    elim (cases_Bool (same_addr (ue_side header) p.ue)) [
+    elim (cases_Bool (is_assigned (ue_side header) p.ue)) [
       | inr other ↦ let e : stray ≡ passed r = rw other at is in absurd cc
       | inl own ↦ from (decisive g.rules p.ue header) refl (rw own at is)
     ]

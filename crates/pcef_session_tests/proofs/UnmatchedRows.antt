@@ -12,7 +12,7 @@ use Rattle.pcef_model.specs.Journals.{attach_count, passed_for, slots, stray, un
 use Rattle.pcef_model.specs.Lawful.{BatchFollows, RowFollows, RowsFollow}
 use Rattle.pcef_model.specs.Outcomes.{AttachStep, attach_outcome}
 use Rattle.pcef_model.specs.Slots.{CountsFor, IsWithin}
-use Rattle.pcef_packet.specs.Addresses.{same_addr}
+use Rattle.pcef_packet.specs.Addresses.{is_assigned}
 use Rattle.pcef_session.specs.declared.batch.Item.{Item}
 use Rattle.pcef_session.specs.Following.{HasItsSlots, row_of}
 use Rattle.pcef_session_tests.specs.UnmatchedRows.{ue, unmatched_item}
@@ -37,7 +37,7 @@ first_follows p h = record {
   in_lane = refl;
   not_older = omega arith;
   known = omega arith;
-  verdict = sym (ap (λ a. verdict_of at_first (if same_addr ue a then unmatched else stray)) h);
+  verdict = sym (ap (λ a. verdict_of at_first (if is_assigned ue a then unmatched else stray)) h);
 }
 
 second_follows : (p : Setting) → p.ue ≡ ue → RowFollows p (entry.Row (unmatched_item 0).row ∷ attached) (unmatched_item 1).row
@@ -46,7 +46,7 @@ second_follows p h = record {
   in_lane = refl;
   not_older = omega arith;
   known = omega arith;
-  verdict = sym (ap (λ a. verdict_of at_first (if same_addr ue a then unmatched else stray)) h);
+  verdict = sym (ap (λ a. verdict_of at_first (if is_assigned ue a then unmatched else stray)) h);
 }
 
 both_follow : (p : Setting) → p.ue ≡ ue → BatchFollows p attached 0 (map row_of two)
@@ -65,7 +65,7 @@ two_follow p j items h alone is =
 
 counts_for_none : (p : Setting) (n : ℕ) → p.ue ≡ ue → CountsFor p attached (unmatched_item n).row (unmatched_item n).slots.items
 unfolding made_by oldest
-counts_for_none p n h key = ap (λ a. passed_for key (if same_addr ue a then unmatched else stray) && is_among key []) h
+counts_for_none p n h key = ap (λ a. passed_for key (if is_assigned ue a then unmatched else stray) && is_among key []) h
 
 both_slots : (p : Setting) → p.ue ≡ ue → HasItsSlots p attached two
 both_slots p h =

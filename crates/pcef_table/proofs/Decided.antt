@@ -3,7 +3,7 @@ use Rattle.std.proofs.Common.{◌≡◌, List, Some, find, refl, sym, subst, tru
 use Rattle.std.proofs.lemmas.Bool.{cond_both}
 use Rattle.pcef_packet.specs.declared.header.Addr.{Addr}
 use Rattle.pcef_packet.specs.declared.header.Header.{Header}
-use Rattle.pcef_packet.specs.Addresses.{same_addr, ue_side}
+use Rattle.pcef_packet.specs.Addresses.{is_assigned, ue_side}
 use Rattle.pcef_rule.specs.declared.rule.Properties.{Properties}
 use Rattle.pcef_rule.specs.Gate.{opens}
 use Rattle.pcef_table.specs.declared.entry.Entry.{Entry}
@@ -27,7 +27,7 @@ first_is_decisive offers entries ue header e p ordered found known =
     }
 
 -- where the first entry that fits is known, its gate decides
-pub gate_decides : (offers : List Offer) (entries : List Entry) (ue : Addr) (header : Header) (e : Entry) (p : Properties) (verdict : Verdict) → same_addr (ue_side header) ue ≡ true → AllPairs (GoesBefore offers) entries → find (λ (f : Entry). fits offers ue header f.source) entries ≡ Some e → properties_of offers e.source ≡ Some p → verdict ≡ gate_verdict p e.bearer header.dir → IsVerdict offers entries ue header verdict
+pub gate_decides : (offers : List Offer) (entries : List Entry) (ue : Addr) (header : Header) (e : Entry) (p : Properties) (verdict : Verdict) → is_assigned (ue_side header) ue ≡ true → AllPairs (GoesBefore offers) entries → find (λ (f : Entry). fits offers ue header f.source) entries ≡ Some e → properties_of offers e.source ≡ Some p → verdict ≡ gate_verdict p e.bearer header.dir → IsVerdict offers entries ue header verdict
 gate_decides offers entries ue header e p verdict own ordered found known is =
     let decisive = first_is_decisive offers entries ue header e p ordered found known in
     subst (IsVerdict offers entries ue header) (sym is)

@@ -4,7 +4,7 @@ use Rattle.std.specs.Option.{option_map_or}
 use Rattle.pcef_packet.specs.declared.header.Addr.{Addr}
 use Rattle.pcef_packet.specs.declared.header.Dir.{Dir}
 use Rattle.pcef_packet.specs.declared.header.Header.{Header}
-use Rattle.pcef_packet.specs.Addresses.{same_addr, ue_side}
+use Rattle.pcef_packet.specs.Addresses.{is_assigned, ue_side}
 use Rattle.pcef_rule.specs.declared.quantity.BearerId.{BearerId}
 use Rattle.pcef_rule.specs.declared.quantity.Slot.{Slot}
 use Rattle.pcef_rule.specs.declared.rule.Properties.{Properties}
@@ -30,14 +30,14 @@ gate_verdict p bearer dir = if opens p.gate dir then Passed p.name bearer else G
 -- a packet whose user equipment's side isn't the session's address is a stray (own choice); one that
 -- no rule fits is discarded; else the decisive entry's gate decides
 abbrev pub IsVerdict : List Offer → List Entry → Addr → Header → Verdict → Type 0
-IsVerdict offers entries ue header Stray = same_addr (ue_side header) ue ≡ false
+IsVerdict offers entries ue header Stray = is_assigned (ue_side header) ue ≡ false
 IsVerdict offers entries ue header Unmatched =
-    (same_addr (ue_side header) ue ≡ true) × All (λ e. fits offers ue header e.source ≡ false) entries
+    (is_assigned (ue_side header) ue ≡ true) × All (λ e. fits offers ue header e.source ≡ false) entries
 IsVerdict offers entries ue header (Gated rule) =
-    (same_addr (ue_side header) ue ≡ true) × (e : Entry) × (p : Properties)
+    (is_assigned (ue_side header) ue ≡ true) × (e : Entry) × (p : Properties)
     × IsDecisive offers entries ue header e p × (opens p.gate header.dir ≡ false) × (rule ≡ p.name)
 IsVerdict offers entries ue header (Passed rule bearer) =
-    (same_addr (ue_side header) ue ≡ true) × (e : Entry) × (p : Properties)
+    (is_assigned (ue_side header) ue ≡ true) × (e : Entry) × (p : Properties)
     × IsDecisive offers entries ue header e p × (opens p.gate header.dir ≡ true) × (rule ≡ p.name) × (bearer ≡ e.bearer)
 
 abbrev pub counted_slot : Entry → Option Slot

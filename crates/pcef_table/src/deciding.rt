@@ -2,7 +2,7 @@
 
 ghost use Rattle.std.specs.Prelude.{◌≡◌, All, IfSome, find, None};
 ghost use Rattle.std.specs.Option.{option_copied, option_map_or};
-ghost use Rattle.pcef_packet.specs.Addresses.{same_addr, ue_side};
+ghost use Rattle.pcef_packet.specs.Addresses.{is_assigned, ue_side};
 ghost use Rattle.pcef_table.specs.Sources.{IsKnown, fits, is_named};
 ghost use Rattle.pcef_table.specs.Verdicts.{counted_slot, gate_verdict};
 
@@ -14,9 +14,9 @@ use pcef_rule::{BearerId, Properties, RuleName, Slot};
 
 /// Whether the address on the user equipment's side is the session's.
 pub fn is_own(header: &Header, ue: Addr) -> bool
-    ensures { result ≡ same_addr (ue_side header.now) ue }
+    ensures { result ≡ is_assigned (ue_side header.now) ue }
 {
-    header.ue_side() == ue
+    header.ue_side().is_assigned(ue)
 }
 
 /// The first entry that fits.

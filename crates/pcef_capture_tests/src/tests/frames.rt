@@ -1,5 +1,5 @@
 //! Frames of every link, with and without IPv4 in them.
-use pcef_capture_file::{Endianness, Link, Packet, ipv4_of};
+use pcef_capture_file::{Endianness, Link, Packet, ip_of};
 
 /// How many octets stand behind the link header, and the first.
 type Inside = (usize, Option<u8>);
@@ -12,7 +12,7 @@ fn inside(link: Link, endianness: Endianness, octets: &[u8]) -> Option<Inside> {
         original: 0,
         octets,
     };
-    match ipv4_of(&packet) {
+    match ip_of(&packet) {
         Some(ipv4) => Some((ipv4.len(), ipv4.first().copied())),
         None => None,
     }

@@ -1,13 +1,13 @@
 -- The cells that a filter lets pass, and those of a header: one cell for each octet of each field.
-use Rattle.std.specs.Prelude.{ℕ, ◌+◌, ◌-◌, ◌/◌, ◌%◌, ◌^◌, ◌==◌, nat_le, Bool, not, length, Option, Some, None, List, [], ◌∷◌, if◌then◌else◌, ◌&&◌, ◌||◌}
+use Rattle.std.specs.Prelude.{ℕ, ◌+◌, ◌-◌, ◌*◌, ◌/◌, ◌%◌, ◌^◌, ◌==◌, nat_le, Bool, not, length, Option, Some, None, List, [], ◌∷◌, if◌then◌else◌, ◌&&◌, ◌||◌}
 use Rattle.std.specs.List.{list_any}
 use Rattle.pcef_packet.specs.declared.header.Addr.{Addr}
-use Rattle.pcef_packet.specs.declared.header.Addr.TheVariants.{V4}
+use Rattle.pcef_packet.specs.declared.header.Addr.TheVariants.{V4, V6}
 use Rattle.pcef_packet.specs.declared.header.Dir.{Dir}
 use Rattle.pcef_packet.specs.declared.header.Dir.TheVariants.{Up, Down}
 use Rattle.pcef_packet.specs.declared.header.Header.{Header}
 use Rattle.pcef_packet.specs.declared.header.Ports.{Ports}
-use Rattle.pcef_packet.specs.Addresses.{remote_side}
+use Rattle.pcef_packet.specs.Addresses.{remote_side, width_of}
 use Rattle.pcef_catalog.specs.Shapes.{local_port, remote_port}
 use Rattle.pcef_filter.specs.declared.filter.Direction.{Direction}
 use Rattle.pcef_filter.specs.declared.filter.Direction.TheVariants.{In, Out}
@@ -62,11 +62,23 @@ abbrev pub proto_cells : Option ℕ → Cells
 proto_cells None = whole 0
 proto_cells (Some n) = only n
 
+-- of version 6 octets 3, 5, 7 and 15 have a cell
+abbrev pub wide_shift : ℕ → ℕ
+wide_shift shift = if shift == 0 then 0 else 48 + 2 * shift
+
 abbrev pub octet_of : ℕ → Addr → ℕ
 octet_of shift (V4 a) = a / 2 ^ shift % 256
+octet_of shift (V6 a) = a / 2 ^ wide_shift shift % 256
+
+abbrev pub shift_of : ℕ → Addr → ℕ
+shift_of shift (V4 a) = shift
+shift_of shift (V6 a) = wide_shift shift
+
+abbrev pub rest_of : Net → ℕ
+rest_of net = width_of net.addr - net.bits
 
 abbrev pub net_cells : ℕ → ℕ → Net → Cells
-net_cells base shift net = if nat_le (32 - net.bits) shift then only (base + octet_of shift net.addr) else whole base
+net_cells base shift net = if nat_le (rest_of net) (shift_of shift net.addr) then only (base + octet_of shift net.addr) else whole base
 
 abbrev pub place_cells : ℕ → ℕ → Place → Cells
 place_cells base shift place.Any = whole base
