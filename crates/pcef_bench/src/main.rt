@@ -1,11 +1,12 @@
 //! Judges recorded packets by a table of rules, again and again: what the index takes, and what a linear
 //! scan.
 //!
-//! `pcef_bench RULES PACKETS PASSES [scan]`. RULES has a line for each filter, `NAME PRECEDENCE FLOW TEXT`, where
-//! FLOW is a flow word or `-`, and the filters of a rule stand together. PACKETS has a count of four
-//! octets, and for each packet its length in two octets, its direction (0 uplink, 1 downlink) and its
-//! octets, little endian. With PASSES 0 the verdict on each packet is written, one a line, else how many
-//! packets of all passes went which way. With `scan` no index is asked.
+//! `pcef_bench RULES PACKETS PASSES [ADDRESS] [scan]`. RULES has a line for each filter,
+//! `NAME PRECEDENCE FLOW TEXT`, where FLOW is a flow word or `-`, and the filters of a rule stand together.
+//! PACKETS has a count of four octets, and for each packet its length in two octets, its direction (0 uplink,
+//! 1 downlink) and its octets, little endian. With PASSES 0 the verdict on each packet is written, one a line,
+//! else how many packets of all passes went which way. ADDRESS is the session's, of either version; without
+//! it the session has 10.0.0.2. With `scan` no index is asked.
 //!
 //! `pcef_bench RULES build TIMES` builds the index so many times, and writes the number of rules.
 #![tactic(auto)]
@@ -24,8 +25,19 @@ use std::io::{self, BufWriter, Write};
 use std::process::ExitCode;
 use std::{env, fs};
 
-/// The address of the user equipment in the recorded packets: 10.0.0.2.
+/// The session's address where no word gives one: 10.0.0.2.
 const UE: Addr = Addr::V4(0x0A00_0002);
+
+/// How the packets are judged.
+#[derive(Clone, Copy)]
+struct Work {
+    /// How many times, or 0 for the verdict on each.
+    passes: u32,
+    /// The session's address.
+    ue: Addr,
+    /// By the index or by a scan.
+    way: Way,
+}
 
 /// The arguments after the program's name.
 fn words(rt: &HostRuntime) -> io::Result<Vec<String>> {
@@ -34,6 +46,11 @@ fn words(rt: &HostRuntime) -> io::Result<Vec<String>> {
         words.push(word)?;
     }
     Ok(words)
+}
+
+/// An address in text.
+fn address_of(word: &String) -> Option<Addr> {
+    Addr::from_text(word.as_bytes())
 }
 
 /// Builds the index of the rules of a file again and again, or tells that these are none.
@@ -55,18 +72,18 @@ fn judge<W: Write>(
     catalog: &Catalog,
     rules: &Indexed,
     recorded: &[u8],
-    passes: u32,
-    way: Way,
+    work: Work,
     writer: &mut W,
 ) -> io::Result<()>
     requires { IsTable (offers_of catalog.now) rules.now.entries }
 {
+    let Work { passes, ue, way } = work;
     if passes == 0 {
-        return write_verdicts(catalog, rules, way, UE, recorded, writer);
+        return write_verdicts(catalog, rules, way, ue, recorded, writer);
     }
     let mut tally = Tally::default();
     for _ in 0..passes {
-        judge_all(catalog, rules, way, UE, recorded, &mut tally);
+        judge_all(catalog, rules, way, ue, recorded, &mut tally);
     }
     writeln!(
         writer,
@@ -81,21 +98,13 @@ fn judge_file(
     catalog: &Catalog,
     rules: &Indexed,
     packets: &str,
-    passes: u32,
-    way: Way,
+    work: Work,
 ) -> io::Result<()>
     requires { IsTable (offers_of catalog.now) rules.now.entries }
 {
     let file = fs::read(rt, packets)?;
     let mut writer = BufWriter::new(rt.alloc(), io::writer(rt))?;
-    judge(
-        catalog,
-        rules,
-        without_count(&file),
-        passes,
-        way,
-        &mut writer,
-    )?;
+    judge(catalog, rules, without_count(&file), work, &mut writer)?;
     writer.flush()
 }
 
@@ -105,30 +114,39 @@ fn run(
     catalog: &Catalog,
     rules: &str,
     packets: &str,
-    passes: u32,
-    way: Way,
+    work: Work,
 ) -> io::Result<bool> {
     let text = fs::read_to_string(rt, rules)?;
     let Ok(table) = rules::table(rt.alloc(), catalog, text.as_str()) else {
         return Ok(false);
     };
     let rules = Indexed::new(rt.alloc(), table, catalog)?;
-    judge_file(rt, catalog, &rules, packets, passes, way)?;
+    judge_file(rt, catalog, &rules, packets, work)?;
     Ok(true)
 }
 
 /// Does what the words ask for, or tells that they ask for nothing.
 fn done(rt: &HostRuntime, catalog: &Catalog, words: &[String]) -> io::Result<bool> {
-    let (rules, packets, passes, way) = match words {
-        [rules, packets, passes] => (rules, packets, passes, Way::Index),
+    let (rules, packets, passes, ue, way) = match words {
+        [rules, packets, passes] => (rules, packets, passes, Some(UE), Way::Index),
         [rules, packets, passes, word] if word.as_str() == "scan" => {
-            (rules, packets, passes, Way::Scan)
+            (rules, packets, passes, Some(UE), Way::Scan)
+        }
+        [rules, packets, passes, ue] => (rules, packets, passes, address_of(ue), Way::Index),
+        [rules, packets, passes, ue, word] if word.as_str() == "scan" => {
+            (rules, packets, passes, address_of(ue), Way::Scan)
         }
         _ => return Ok(false),
     };
+    let Some(ue) = ue else {
+        return Ok(false);
+    };
     match passes.as_str().parse::<u32>() {
         Ok(times) if packets.as_str() == "build" => build(rt, catalog, rules.as_str(), times),
-        Ok(passes) => run(rt, catalog, rules.as_str(), packets.as_str(), passes, way),
+        Ok(passes) => {
+            let work = Work { passes, ue, way };
+            run(rt, catalog, rules.as_str(), packets.as_str(), work)
+        }
         Err(_) => Ok(false),
     }
 }

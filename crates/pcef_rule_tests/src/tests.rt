@@ -2,5 +2,6 @@
 
 mod catalog;
 mod filter;
+mod ipv6;
 mod packet;
 mod rule;

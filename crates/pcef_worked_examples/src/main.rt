@@ -19,6 +19,7 @@
 //! is at fault or a script ends early.
 #![tactic(auto)]
 
+mod addresses;
 mod comparing;
 mod lines;
 mod profiles;

@@ -1,12 +1,11 @@
 //! Reads profiles.
 
+use crate::addresses::tell_address;
 use pcef_model::Profile;
-use pcef_packet::Addr;
 use pcef_profile::{ReadProfileFault, read_profile};
 use pcef_rule::{Kind, Qci, QciTable};
 use std::alloc::{AllocError, Global};
 use std::fmt::Write;
-use std::net::Ipv4Addr;
 
 /// Tells the kinds of the QCIs from 0 to 255, a letter each: `G` with a guaranteed bit rate, `N` without, `-` for none.
 fn tell_kinds(text: &mut String, qcis: &QciTable) -> Result<(), AllocError> {
@@ -21,15 +20,12 @@ fn tell_kinds(text: &mut String, qcis: &QciTable) -> Result<(), AllocError> {
 }
 
 fn tell_values(text: &mut String, profile: &Profile) -> Result<(), AllocError> {
-    let Addr::V4(ue) = profile.ue;
+    text.push_str("ue ")?;
+    tell_address(text, profile.ue)?;
     write!(
         text,
-        "ue {} rows {} commands {} {:?} {:?} kinds ",
-        Ipv4Addr::from_bits(ue),
-        profile.rows,
-        profile.commands,
-        profile.default_qos,
-        profile.capacity
+        " rows {} commands {} {:?} {:?} kinds ",
+        profile.rows, profile.commands, profile.default_qos, profile.capacity
     )?;
     tell_kinds(text, &profile.qcis)
 }

@@ -1,11 +1,11 @@
 //! Short texts of what lines are read as.
 
+use crate::addresses::tell_address;
 use pcef_line::{Line, LineFault};
 use pcef_model::{Command, Step};
-use pcef_packet::{Addr, Header};
+use pcef_packet::Header;
 use std::alloc::{AllocError, Global};
 use std::fmt::Write;
-use std::net::Ipv4Addr;
 
 fn tell_command(text: &mut String, command: &Command) -> Result<(), AllocError> {
     match command {
@@ -27,19 +27,14 @@ fn tell_command(text: &mut String, command: &Command) -> Result<(), AllocError> 
 }
 
 fn tell_take(text: &mut String, worker: u8, header: &Header) -> Result<(), AllocError> {
-    let Header {
-        dir,
-        src: Addr::V4(src),
-        dst: Addr::V4(dst),
-        proto,
-        ports,
-        octets,
-        dscp,
-    } = *header;
-    let (src, dst) = (Ipv4Addr::from_bits(src), Ipv4Addr::from_bits(dst));
+    write!(text, "take by worker {worker} {:?} from ", header.dir)?;
+    tell_address(text, header.src)?;
+    text.push_str(" to ")?;
+    tell_address(text, header.dst)?;
     write!(
         text,
-        "take by worker {worker} {dir:?} from {src} to {dst} protocol {proto} {ports:?} octets {octets} DSCP {dscp}"
+        " protocol {} {:?} octets {} DSCP {}",
+        header.proto, header.ports, header.octets, header.dscp
     )
 }
 

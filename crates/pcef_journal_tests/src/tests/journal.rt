@@ -296,6 +296,68 @@ fn rows_of_several_rules(rt: HostRuntime) {
     assert_eq!(rt; kept, Ok((8, true)));
 }
 
+/// Sources and targets whose halves differ, at the bounds of a half, and of both versions.
+const ADDRESSES: [(Addr, Addr); 9] = [
+    (
+        Addr::V6(0x2001_0db8_0000_0001_0000_0000_0000_0007),
+        Addr::V6(0x2001_0db8_0000_0002_fedc_ba98_7654_3210),
+    ),
+    (
+        Addr::V6(0x0123_4567_89ab_cdef_fedc_ba98_7654_3210),
+        Addr::V6(0xfedc_ba98_7654_3210_0123_4567_89ab_cdef),
+    ),
+    (Addr::V6(0), Addr::V6(u128::MAX)),
+    (Addr::V6(1), Addr::V6(1 << 64)),
+    (Addr::V6((1 << 64) - 1), Addr::V6((1 << 64) + 1)),
+    (Addr::V6(u128::MAX - ((1 << 64) - 1)), Addr::V6(1 << 127)),
+    (Addr::V4(7), Addr::V6(7)),
+    (Addr::V6(0xffff_ffff), Addr::V4(0xffff_ffff)),
+    (Addr::V4(0), Addr::V4(u32::MAX)),
+];
+
+/// The row of a packet between two addresses.
+fn row_between(src: Addr, dst: Addr) -> Row {
+    let mut row = web_row(0, 0, 40);
+    row.header.src = src;
+    row.header.dst = dst;
+    row
+}
+
+/// Adds a row for each of the addresses.
+fn add_addresses(journal: &mut Journal) -> Result<(), AllocError> {
+    for (src, dst) in &ADDRESSES {
+        add(journal, Entry::Row(row_between(*src, *dst)))?;
+    }
+    Ok(())
+}
+
+/// The first of the addresses whose row isn't the next one of a lane.
+fn first_missing(mut lane: Lane<'_>) -> Option<(Addr, Addr)> {
+    for (src, dst) in &ADDRESSES {
+        if lane.next() != Some(row_between(*src, *dst)) {
+            return Some((*src, *dst));
+        }
+    }
+    None
+}
+
+fn added_and_missing(journal: &mut Journal) -> Result<Option<(Addr, Addr)>, AllocError> {
+    add_addresses(journal)?;
+    Ok(first_missing(journal.lane(0)))
+}
+
+/// The first of the addresses that a journal doesn't give back.
+fn missing_addresses(alloc: Global) -> Result<Option<(Addr, Addr)>, AllocError> {
+    let mut journal = Journal::new(alloc);
+    added_and_missing(&mut journal)
+}
+
+#[test]
+fn rows_between_addresses_of_both_versions(rt: HostRuntime) {
+    let missing = missing_addresses(rt.alloc());
+    assert_eq!(rt; missing, Ok(None));
+}
+
 /// Whether the next command is the same as this one.
 fn is_next(commands: &mut Commands<'_>, expected: &Command) -> bool {
     match commands.next() {

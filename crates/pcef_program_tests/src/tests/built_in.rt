@@ -19,6 +19,9 @@ use std::test::Fail;
 const PROFILE_OF_TWO_COMMANDS: &str =
     "ue = \"10.0.0.2\"\nrows = 1\ncommands = 2\n\n[default]\nqci = 9\nlevel = 8\ncapability = false\nvulnerability = true\n\n[capacity]\nup = 1000000\ndown = 2000000\n";
 
+const PROFILE_V6: &str =
+    "ue = \"2001:db8::2\"\nrows = 4\ncommands = 4\n\n[default]\nqci = 9\nlevel = 8\ncapability = false\nvulnerability = true\n\n[capacity]\nup = 1000000\ndown = 2000000\n";
+
 /// A UDP packet of 28 octets from 198.51.100.7 port 53 to 10.0.0.2 port 5000.
 const DNS_ANSWER: Header = Header {
     dir: Dir::Down,
@@ -152,12 +155,28 @@ const TAKE: &str =
 const TAKE_EXPEDITED: &str =
     "{\"do\":\"take\",\"worker\":0,\"dir\":\"down\",\"packet\":\"45b8001c0000000040110000c63364070a0000020036138800080000\"}";
 
+/// A UDP packet of 48 octets from 2001:db8::7 port 53 to 2001:db8::2 port 5000, with the DSCP 46.
+const TAKE_V6: &str =
+    "{\"do\":\"take\",\"worker\":0,\"dir\":\"down\",\"packet\":\"6b8000000008114020010db800000000000000000000000720010db80000000000000000000000020035138800080000\"}";
+
+/// The same packet from port 54.
+const TAKE_EXPEDITED_V6: &str =
+    "{\"do\":\"take\",\"worker\":0,\"dir\":\"down\",\"packet\":\"6b8000000008114020010db800000000000000000000000720010db80000000000000000000000020036138800080000\"}";
+
+/// A later fragment of such a packet, with the DSCP 0.
+const TAKE_FRAGMENT_V6: &str =
+    "{\"do\":\"take\",\"worker\":0,\"dir\":\"down\",\"packet\":\"6000000000102c4020010db800000000000000000000000720010db800000000000000000000000211000008000000010035138800080000\"}";
+
+/// TCP from port 53 behind hop-by-hop options, 56 octets with the DSCP 0.
+const TAKE_TCP_V6: &str =
+    "{\"do\":\"take\",\"worker\":0,\"dir\":\"down\",\"packet\":\"600000000010004020010db800000000000000000000000720010db800000000000000000000000206000104000000000035138800080000\"}";
+
 const FLUSH: &str = "{\"do\":\"flush\",\"worker\":0}";
 
 const SHOW: &str = "{\"do\":\"show\"}";
 
 /// Profiles, lines, and what these answer.
-static SCRIPTS: [(&str, &[&str], &str); 6] = [
+static SCRIPTS: [(&str, &[&str], &str); 7] = [
     // An active rule stays as it is.
     (
         PROFILE,
@@ -241,6 +260,23 @@ static SCRIPTS: [(&str, &[&str], &str); 6] = [
             SHOW,
         ],
         "{\"bearer\":5,\"generation\":1,\"ok\":true,\"reports\":[]}\n{\"bearer\":6,\"generation\":2,\"ok\":true,\"reports\":[]}\n{\"bearer\":5,\"generation\":3,\"ok\":true,\"reports\":[]}\n{\"generation\":4,\"ok\":true,\"reports\":[]}\n{\"generation\":4,\"ok\":true,\"worker\":0}\n{\"ok\":true,\"waiting\":1}\n{\"ok\":true,\"waiting\":2}\n{\"ok\":true,\"reports\":[],\"verdicts\":[{\"bearer\":5,\"generation\":4,\"rule\":\"pre-dns\",\"verdict\":\"Passed\"},{\"bearer\":6,\"generation\":4,\"rule\":\"pre-ef\",\"verdict\":\"Passed\"}]}\n{\"generation\":5,\"ok\":true,\"reports\":[{\"cause\":\"RulesGone\",\"key\":\"dns\",\"number\":0,\"octets\":28}]}\n{\"active\":[\"pre-ef\",\"pre-rest\"],\"bearers\":[{\"down\":0,\"id\":5,\"rules\":1,\"up\":0},{\"down\":0,\"id\":6,\"rules\":1,\"up\":0}],\"generation\":5,\"keys\":[{\"key\":\"dns\",\"on\":false,\"reported\":28,\"unreported\":0}]}\n",
+    ),
+    // They judge packets of version 6, whose octets reach a grant. A later fragment has no ports.
+    (
+        PROFILE_V6,
+        &[
+            ACTIVATE_EXPEDITED,
+            ACTIVATE_DNS,
+            "{\"do\":\"monitor\",\"key\":\"dns\",\"grant\":104}",
+            "{\"do\":\"triggers\",\"events\":[\"USAGE_REPORT\"]}",
+            ATTACH,
+            TAKE_V6,
+            TAKE_EXPEDITED_V6,
+            TAKE_FRAGMENT_V6,
+            TAKE_TCP_V6,
+            FLUSH,
+        ],
+        "{\"bearer\":6,\"generation\":1,\"ok\":true,\"reports\":[]}\n{\"bearer\":5,\"generation\":2,\"ok\":true,\"reports\":[]}\n{\"generation\":3,\"ok\":true,\"reports\":[]}\n{\"generation\":3,\"ok\":true,\"reports\":[]}\n{\"generation\":3,\"ok\":true,\"worker\":0}\n{\"ok\":true,\"waiting\":1}\n{\"ok\":true,\"waiting\":2}\n{\"ok\":true,\"waiting\":3}\n{\"ok\":true,\"waiting\":4}\n{\"ok\":true,\"reports\":[{\"cause\":\"Threshold\",\"key\":\"dns\",\"number\":0,\"octets\":104}],\"verdicts\":[{\"bearer\":5,\"generation\":3,\"rule\":\"pre-dns\",\"verdict\":\"Passed\"},{\"bearer\":6,\"generation\":3,\"rule\":\"pre-ef\",\"verdict\":\"Passed\"},{\"generation\":3,\"verdict\":\"Unmatched\"},{\"bearer\":5,\"generation\":3,\"rule\":\"pre-dns\",\"verdict\":\"Passed\"}]}\n",
     ),
     // A predefined name is never installed.
     (

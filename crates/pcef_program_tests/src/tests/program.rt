@@ -239,7 +239,7 @@ fn is_explained<T: Threads + Wait + Sync>(
 }
 
 /// How profiles at fault begin, and what is said of them.
-static EXPLAINED: [(&str, &str); 8] = [
+static EXPLAINED: [(&str, &str); 9] = [
     (
         "ue = \"10.0.0.2\"\nrows 1000\n",
         "profile fault 1\nNotToml: line 3: rows 1000: key with no value, expected `=`\n",
@@ -258,7 +258,11 @@ static EXPLAINED: [(&str, &str); 8] = [
     ),
     (
         "ue = \"10.0.0\"\nrows = 1\n",
-        "profile fault 4\nBadValue: ue = \"10.0.0\": an IPv4 address in quotes, as \"10.0.0.2\", is expected\n",
+        "profile fault 4\nBadValue: ue = \"10.0.0\": an address in quotes, as \"10.0.0.2\" or \"2001:db8::2\", is expected\n",
+    ),
+    (
+        "ue = \"2001:db8::2/64\"\nrows = 1\n",
+        "profile fault 4\nBadValue: ue = \"2001:db8::2/64\": an address in quotes, as \"10.0.0.2\" or \"2001:db8::2\", is expected\n",
     ),
     (
         "ue = \"10.0.0.2\"\nrows = 1\ndeclared = [{qci = 77, kind = \"GBR\"}, {qci = 78, kind = \"Gbr\"}]\n",

@@ -344,6 +344,68 @@ fn tests_of_a_header(rt: HostRuntime) {
     }
 }
 
+/// The answer and the query between 2001:db8::7 and 2001:db8::2.
+const ANSWER_V6: Header = Header {
+    src: Addr::V6(0x2001_0db8 << 96 | 7),
+    dst: Addr::V6(0x2001_0db8 << 96 | 2),
+    ..DNS_ANSWER
+};
+
+const QUERY_V6: Header = Header {
+    src: Addr::V6(0x2001_0db8 << 96 | 2),
+    dst: Addr::V6(0x2001_0db8 << 96 | 7),
+    ..DNS_QUERY
+};
+
+/// Networks, and whether the remote side of the packets of version 6 is in each, and that of the packets of version 4.
+const REMOTES: [(Addr, u8, [bool; 2]); 11] = [
+    (Addr::V6(u128::MAX), 0, [true, false]),
+    (Addr::V4(0), 0, [false, true]),
+    (
+        Addr::V6(0x2001_0db8_0000_0000_ffff << 48),
+        64,
+        [true, false],
+    ),
+    (Addr::V6(0x2001_0db8_0000_0001 << 64), 64, [false; 2]),
+    (Addr::V6(0x2001_0db8_0000_0001 << 64), 63, [true, false]),
+    (Addr::V6(0x2001_0db8 << 96 | 7), 128, [true, false]),
+    (Addr::V6(0x2001_0db8 << 96 | 6), 128, [false; 2]),
+    (Addr::V6(0x2001_0db8 << 96 | 6), 127, [true, false]),
+    // The user equipment's own address isn't the remote one.
+    (Addr::V6(0x2001_0db8 << 96 | 2), 128, [false; 2]),
+    (Addr::V4(0xc633_6407), 32, [false, true]),
+    // 2001:db8::c633:6407 ends in the octets of the address of version 4.
+    (Addr::V6(0x2001_0db8 << 96 | 0xc633_6407), 96, [true, false]),
+];
+
+/// The first network that the remote sides are otherwise in.
+fn first_wrong_remote(remotes: &[(Addr, u8, [bool; 2])]) -> Option<(Addr, u8)> {
+    for (addr, bits, [six, four]) in remotes {
+        let test = Test::RemoteIn(Net {
+            addr: *addr,
+            bits: *bits,
+        });
+        if are_remote(test) != [*six, *six, *four, *four] {
+            return Some((*addr, *bits));
+        }
+    }
+    None
+}
+
+fn are_remote(test: Test) -> [bool; 4] {
+    [
+        test.holds(&ANSWER_V6),
+        test.holds(&QUERY_V6),
+        test.holds(&DNS_ANSWER),
+        test.holds(&DNS_QUERY),
+    ]
+}
+
+#[test]
+fn remote_networks_of_both_versions(rt: HostRuntime) {
+    assert_eq!(rt; first_wrong_remote(&REMOTES), None);
+}
+
 #[test]
 fn the_default_test(rt: HostRuntime) {
     assert_eq!(rt; answers(Test::default()), [[false; 3]; 3]);

@@ -5,6 +5,9 @@ use pcef_packet::{Addr, Dir, Header, Ports};
 /// The address of the session, 10.0.0.2.
 const UE: Addr = Addr::V4(0x0a00_0002);
 
+/// The address of the session of version 6, 2001:db8::2, which has the network 2001:db8::/64.
+const UE_V6: Addr = Addr::V6(0x2001_0db8 << 96 | 2);
+
 /// A UDP packet from 198.51.100.7 port 53 to 10.0.0.2 port 5000.
 const DNS_ANSWER: Header = Header {
     dir: Dir::Down,
@@ -28,6 +31,36 @@ const DNS_QUESTION: Header = Header {
 const NO_PORTS: Header = Header {
     ports: None,
     ..DNS_ANSWER
+};
+
+/// The packet between 2001:db8::7 and 2001:db8::2.
+const ANSWER_V6: Header = Header {
+    src: Addr::V6(0x2001_0db8 << 96 | 7),
+    dst: UE_V6,
+    ..DNS_ANSWER
+};
+
+const QUESTION_V6: Header = Header {
+    src: UE_V6,
+    dst: Addr::V6(0x2001_0db8 << 96 | 7),
+    ..DNS_QUESTION
+};
+
+/// The answer to 2001:db8::3, another host of the session's network.
+const TO_ANOTHER_HOST: Header = Header {
+    dst: Addr::V6(0x2001_0db8 << 96 | 3),
+    ..ANSWER_V6
+};
+
+/// The answer to 2001:db8:0:1::2, a host of the next network.
+const TO_THE_NEXT_NETWORK: Header = Header {
+    dst: Addr::V6(0x2001_0db8_0000_0001 << 64 | 2),
+    ..ANSWER_V6
+};
+
+const NO_PORTS_V6: Header = Header {
+    ports: None,
+    ..ANSWER_V6
 };
 
 #[test]
@@ -99,8 +132,9 @@ fn faults_of_texts(rt: HostRuntime) {
         first_wrong(&BLANKS_AND_ZEROS),
         first_wrong(&PLACES),
         first_wrong(&PORT_LISTS),
+        first_wrong(&PLACES_V6),
     ];
-    assert_eq!(rt; wrong, [None; 5]);
+    assert_eq!(rt; wrong, [None; 6]);
 }
 
 /// Texts that end early.
@@ -220,6 +254,66 @@ const PLACES: [Text; 9] = [
     ),
 ];
 
+/// Places of version 6. A token behind the source that begins with a digit is a port list, and any other one has to be
+/// `to`.
+const PLACES_V6: [Text; 19] = [
+    ("permit out ip from ::/0 to 2001:DB8::2/128", None),
+    ("permit out ip from ::1/00064 to 10.0.0.0/8", None),
+    ("permit out ip from 2001:db8:: 7 to any", None),
+    (
+        "permit out ip from 2001:db8::7/129 to any",
+        Some(FilterFault::Source),
+    ),
+    (
+        "permit out ip from 2001:db8::7/ to any",
+        Some(FilterFault::Source),
+    ),
+    (
+        "permit out ip from ::/64/64 to any",
+        Some(FilterFault::Source),
+    ),
+    (
+        "permit out ip from ::/000000 to any",
+        Some(FilterFault::Source),
+    ),
+    (
+        "permit out ip from 2001:::7 to any",
+        Some(FilterFault::Source),
+    ),
+    ("permit out ip from ::g to any", Some(FilterFault::Source)),
+    (
+        "permit out ip from ::1.2.3.4 to any",
+        Some(FilterFault::Source),
+    ),
+    (
+        "permit out ip from 2001:db8 ::7 to any",
+        Some(FilterFault::Source),
+    ),
+    ("permit out ip from : to any", Some(FilterFault::Source)),
+    (
+        "permit out ip from any 2001:db8::1 to any",
+        Some(FilterFault::SourcePorts),
+    ),
+    ("permit out ip from any ::1 to any", Some(FilterFault::To)),
+    (
+        "permit out ip from any abcd::1 to any",
+        Some(FilterFault::To),
+    ),
+    (
+        "permit out ip from any to 2001:db8::7/129",
+        Some(FilterFault::Target),
+    ),
+    (
+        "permit out ip from any to 1:2:3:4:5:6:7::8",
+        Some(FilterFault::Target),
+    ),
+    (
+        "permit out ip from any to any 2001:db8::1",
+        Some(FilterFault::TargetPorts),
+    ),
+    ("permit out ip from any to any ::1", Some(FilterFault::Rest)),
+];
+
 /// Port lists: at most eight ranges, each with its lower port first, and none cut off.
 const PORT_LISTS: [Text; 7] = [
     ("permit out 17 from any 1,2,3-4,5,6,7,8,53 to any", None),
@@ -249,30 +343,33 @@ const PORT_LISTS: [Text; 7] = [
 /// A text with a flow word or none, a header, and whether the filter matches packets of this header.
 type Match = (&'static str, Option<Flow>, Header, bool);
 
-/// The text and the header of the first match that is otherwise.
-fn first_wrong_match(matching: &[Match]) -> Option<(&'static str, Header)> {
+/// The text of the first match that is otherwise in a session of this address.
+fn first_wrong_match(ue: Addr, matching: &[Match]) -> Option<&'static str> {
     for (text, flow, header, expected) in matching {
-        if matches(text, *flow, header) != Some(*expected) {
-            return Some((text, *header));
+        if matches(ue, text, *flow, header) != Some(*expected) {
+            return Some(text);
         }
     }
     None
 }
 
 /// Whether the filter that a text and a flow word are matches a packet of this header; nothing where they are none.
-fn matches(text: &str, flow: Option<Flow>, header: &Header) -> Option<bool> {
+fn matches(ue: Addr, text: &str, flow: Option<Flow>, header: &Header) -> Option<bool> {
     let filter = read_filter(text, flow).ok()?;
-    Some(filter.matches(UE, header))
+    Some(filter.matches(ue, header))
 }
 
 #[test]
 fn packets_and_filters(rt: HostRuntime) {
     let wrong = [
-        first_wrong_match(&PACKETS),
-        first_wrong_match(&NETWORKS),
-        first_wrong_match(&FLOW_WORDS),
+        first_wrong_match(UE, &PACKETS),
+        first_wrong_match(UE, &NETWORKS),
+        first_wrong_match(UE, &FLOW_WORDS),
+        first_wrong_match(UE, &OTHER_VERSION),
+        first_wrong_match(UE_V6, &PACKETS_V6),
+        first_wrong_match(UE_V6, &NETWORKS_V6),
     ];
-    assert_eq!(rt; wrong, [None; 3]);
+    assert_eq!(rt; wrong, [None; 6]);
 }
 
 const DNS: &str = "permit out 17 from any 53 to assigned";
@@ -366,4 +463,176 @@ const FLOW_WORDS: [Match; 8] = [
         true,
     ),
     ("permit in ip from any to any", None, DNS_ANSWER, false),
+];
+
+/// Packets of version 6 in a session of version 4.
+const OTHER_VERSION: [Match; 4] = [
+    (DNS, None, ANSWER_V6, false),
+    ("permit out ip from any to any", None, ANSWER_V6, true),
+    (
+        "permit out ip from 0.0.0.0/0 to any",
+        None,
+        ANSWER_V6,
+        false,
+    ),
+    ("permit out ip from ::/0 to any", None, ANSWER_V6, true),
+];
+
+/// Sides, ports and flow words in a session of version 6, which has all addresses of its network.
+const PACKETS_V6: [Match; 17] = [
+    (DNS, None, ANSWER_V6, true),
+    (DNS, None, TO_ANOTHER_HOST, true),
+    (DNS, None, TO_THE_NEXT_NETWORK, false),
+    (DNS, None, DNS_ANSWER, false),
+    (DNS, None, NO_PORTS_V6, false),
+    ("permit out ip from any to any", None, NO_PORTS_V6, true),
+    (
+        "permit out 17 from 2001:db8::/32 53 to assigned",
+        None,
+        ANSWER_V6,
+        true,
+    ),
+    (
+        "permit out 17 from 2001:db8::/32 53 to assigned",
+        None,
+        TO_ANOTHER_HOST,
+        true,
+    ),
+    (
+        "permit out 17 from 2001:db8::/32 53 to assigned",
+        None,
+        TO_THE_NEXT_NETWORK,
+        false,
+    ),
+    (
+        "permit out 17 from 2001:DB8::7 1,50-53 to 2001:db8::2/128 5000",
+        None,
+        ANSWER_V6,
+        true,
+    ),
+    (
+        "permit out 17 from 2001:db8::7 1-52,54 to 2001:db8::2",
+        None,
+        ANSWER_V6,
+        false,
+    ),
+    (
+        "permit out 17 from 2001:db8::7 to 2001:db8::2 5001",
+        None,
+        ANSWER_V6,
+        false,
+    ),
+    (
+        "permit out 6 from 2001:db8::7 to any",
+        None,
+        ANSWER_V6,
+        false,
+    ),
+    // The network is the session's, but a host in a filter is that host alone.
+    (
+        "permit out ip from any to 2001:db8::2",
+        None,
+        TO_ANOTHER_HOST,
+        false,
+    ),
+    (
+        "permit out 17 from 2001:db8::7 53 to assigned",
+        Some(Flow::Uplink),
+        QUESTION_V6,
+        true,
+    ),
+    (
+        "permit out 17 from 2001:db8::7 53 to assigned",
+        Some(Flow::Bidirectional),
+        ANSWER_V6,
+        true,
+    ),
+    (
+        "permit in 17 from assigned 5000 to 2001:db8::7 53",
+        None,
+        QUESTION_V6,
+        true,
+    ),
+];
+
+/// Networks and hosts around 2001:db8::7.
+const NETWORKS_V6: [Match; 17] = [
+    (
+        "permit out ip from 0.0.0.0/0 to any",
+        None,
+        ANSWER_V6,
+        false,
+    ),
+    (
+        "permit out ip from any to 0.0.0.0/0",
+        None,
+        ANSWER_V6,
+        false,
+    ),
+    ("permit out ip from ::/0 to any", None, DNS_ANSWER, false),
+    ("permit out ip from ::/0 to ::/0", None, ANSWER_V6, true),
+    // Bits below the mask don't count.
+    ("permit out ip from ffff::/0 to any", None, ANSWER_V6, true),
+    ("permit out ip from 7fff::/1 to any", None, ANSWER_V6, true),
+    ("permit out ip from a001::/1 to any", None, ANSWER_V6, false),
+    (
+        "permit out ip from 2001:db9::/31 to any",
+        None,
+        ANSWER_V6,
+        true,
+    ),
+    (
+        "permit out ip from 2001:db9::/32 to any",
+        None,
+        ANSWER_V6,
+        false,
+    ),
+    (
+        "permit out ip from 2001:db8:0:1::/63 to any",
+        None,
+        ANSWER_V6,
+        true,
+    ),
+    (
+        "permit out ip from 2001:db8:0:1::/64 to any",
+        None,
+        ANSWER_V6,
+        false,
+    ),
+    (
+        "permit out ip from 2001:db8::ffff:ffff:ffff:ffff/64 to any",
+        None,
+        ANSWER_V6,
+        true,
+    ),
+    (
+        "permit out ip from 2001:db8::8000:0:0:0/65 to any",
+        None,
+        ANSWER_V6,
+        false,
+    ),
+    (
+        "permit out ip from 2001:db8::6/127 to any",
+        None,
+        ANSWER_V6,
+        true,
+    ),
+    (
+        "permit out ip from 2001:db8::6/128 to any",
+        None,
+        ANSWER_V6,
+        false,
+    ),
+    (
+        "permit out ip from 2001:db8::6 to any",
+        None,
+        ANSWER_V6,
+        false,
+    ),
+    (
+        "permit out ip from 2001:db8::7/00128 to any",
+        None,
+        ANSWER_V6,
+        true,
+    ),
 ];

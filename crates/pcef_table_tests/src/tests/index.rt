@@ -6,8 +6,8 @@ ghost use Rattle.pcef_table.specs.Sources.{IsKnown};
 ghost use Rattle.pcef_table.specs.Tables.{IsTable};
 
 use crate::tests::tables::{
-    ALL, DNS, DNS_ANSWER, Step, UE, catalog_of, empty_catalog, empty_table, entry_of, passed,
-    properties_of, table_of, with_entry,
+    ALL, DNS, DNS_ANSWER, Step, UE, UE_V6, catalog_of, empty_catalog, empty_table, entry_of,
+    passed, properties_of, table_of, with_entry,
 };
 use arrayvec::ArrayVec;
 use pcef_catalog::{Detects, Offers};
@@ -158,8 +158,46 @@ fn draw(state: &mut u64, limit: u64) -> u64
     (*state >> 33) % limit
 }
 
+/// An address of either version.
 fn made_addr(state: &mut u64) -> Addr {
-    Addr::V4(0xc633_0000 + draw(state, 3) as u32 * 256 + draw(state, 9) as u32)
+    let six = draw(state, 2) == 0;
+    made_remote(state, six)
+}
+
+/// An address of version 6 or 4.
+fn made_remote(state: &mut u64, six: bool) -> Addr {
+    if six {
+        Addr::V6(made_number(state))
+    } else {
+        Addr::V4(0xc633_0000 + draw(state, 3) as u32 * 256 + draw(state, 9) as u32)
+    }
+}
+
+/// A number of an address of version 6: octets 3, 5, 6, 7 and 15 vary.
+fn made_number(state: &mut u64) -> u128 {
+    let network = 0x2001_0db8_0010_0000
+        + draw(state, 3) * 0x1_0000_0000
+        + draw(state, 2) * 0x1_0000
+        + draw(state, 2) * 0x100
+        + draw(state, 2);
+    u128::from(network) * 0x1_0000_0000_0000_0000 + u128::from(draw(state, 3))
+}
+
+/// Where networks of version 6 end, within octets 3, 5, 7 and 15 and at their ends, and elsewhere.
+const ENDS: [u8; 12] = [0, 29, 31, 32, 44, 48, 56, 61, 64, 96, 127, 128];
+
+/// How many bits of an address count.
+fn made_bits(state: &mut u64, addr: Addr) -> u8 {
+    match addr {
+        Addr::V4(_) => 22 + draw(state, 12) as u8,
+        Addr::V6(_) => *ENDS.get(draw(state, 12) as usize).unwrap_or(&128),
+    }
+}
+
+fn made_net(state: &mut u64) -> Net {
+    let addr = made_addr(state);
+    let bits = made_bits(state, addr);
+    Net { addr, bits }
 }
 
 fn made_ports(state: &mut u64) -> ArrayVec<PortRange, 8> {
@@ -180,10 +218,7 @@ fn made_end(state: &mut u64) -> Endpoint {
     let place = match draw(state, 4) {
         0 => Place::Any,
         1 => Place::Assigned,
-        _ => Place::Net(Net {
-            addr: made_addr(state),
-            bits: 22 + draw(state, 12) as u8,
-        }),
+        _ => Place::Net(made_net(state)),
     };
     Endpoint {
         place,
@@ -216,7 +251,13 @@ fn made_filter(state: &mut u64) -> Filter {
     }
 }
 
-fn made_header(state: &mut u64) -> Header {
+/// The address of a session of version 6 or 4.
+fn session(six: bool) -> Addr {
+    if six { UE_V6 } else { UE }
+}
+
+/// A packet of a session of version 6 or 4.
+fn made_header(state: &mut u64, six: bool) -> Header {
     let ports = match draw(state, 4) {
         0 => None,
         _ => Some(Ports {
@@ -225,10 +266,10 @@ fn made_header(state: &mut u64) -> Header {
         }),
     };
     let proto = draw(state, 12) as u8;
-    let other = made_addr(state);
+    let other = made_remote(state, six);
     let header = Header {
         dir: Dir::Up,
-        src: UE,
+        src: session(six),
         dst: other,
         proto,
         ports,
@@ -241,7 +282,7 @@ fn made_header(state: &mut u64) -> Header {
         Header {
             dir: Dir::Down,
             src: other,
-            dst: UE,
+            dst: header.src,
             ..header
         }
     }
@@ -270,63 +311,66 @@ fn made_table<C: Offers>(alloc: Global, catalog: &C, state: &mut u64) -> Option<
     Some(table)
 }
 
-/// Whether a packet passes, by the index and by the scan.
+/// Whether a packet of a session passes, by the index and by the scan.
 fn is_passed<C: Detects>(
     rt: &impl Abort,
     catalog: &C,
     table: &Table,
     index: &Index,
+    ue: Addr,
     header: &Header,
 ) -> bool
     requires table { IsTable (C.offers catalog.now) table.now.entries }
     requires index { index.now ≡ map (λ e. e.source) table.now.entries }
 {
-    let verdict = index.classify(table, catalog, UE, header);
-    let scanned = table.classify(catalog, UE, header);
+    let verdict = index.classify(table, catalog, ue, header);
+    let scanned = table.classify(catalog, ue, header);
     assert!(rt; verdict == scanned, "{header:?}: {verdict:?}, {scanned:?}");
     matches!(verdict, Verdict::Passed { .. })
 }
 
-/// How many of 200 made packets pass.
+/// How many of 200 made packets of version 6 or 4 pass.
 fn passed_of_200<C: Detects>(
     rt: &impl Abort,
     catalog: &C,
     table: &Table,
     index: &Index,
     state: &mut u64,
+    six: bool,
 ) -> u32
     requires table { IsTable (C.offers catalog.now) table.now.entries }
     requires index { index.now ≡ map (λ e. e.source) table.now.entries }
 {
     let mut passed = 0u32;
     for _ in 0..200u32 {
-        let header = made_header(state);
-        if is_passed(rt, catalog, table, index, &header) {
+        let header = made_header(state, six);
+        if is_passed(rt, catalog, table, index, session(six), &header) {
             passed = passed.saturating_add(1);
         }
     }
     passed
 }
 
-/// How many of 200 made packets pass by a made table.
+/// How many of 200 made packets of version 6 or 4 pass by a made table of rules of both versions.
 fn passed_by_made<C: Detects>(
     rt: &impl Abort,
     alloc: Global,
     catalog: &C,
     state: &mut u64,
+    six: bool,
 ) -> Option<u32> {
     let table = made_table(alloc, catalog, state)?;
     let index = Index::build(alloc, &table, catalog).ok()?;
-    Some(passed_of_200(rt, catalog, &table, &index, state))
+    Some(passed_of_200(rt, catalog, &table, &index, state, six))
 }
 
 /// How many pass by four made tables.
-fn passed_of_800(rt: &impl Abort, alloc: Global) -> Option<u32> {
+fn passed_of_800(rt: &impl Abort, alloc: Global, six: bool) -> Option<u32> {
     let catalog = empty_catalog(alloc)?;
     let mut state = 1u64;
     let mut passed = 0u32;
     for _ in 0..4u32 {
-        let more = passed_by_made(rt, alloc, &catalog, &mut state)?;
+        let more = passed_by_made(rt, alloc, &catalog, &mut state, six)?;
         passed = passed.saturating_add(more);
     }
     Some(passed)
@@ -334,9 +378,220 @@ fn passed_of_800(rt: &impl Abort, alloc: Global) -> Option<u32> {
 
 #[test]
 fn the_scan_gives_the_same_verdicts(rt: HostRuntime) {
-    let passed = passed_of_800(&rt, rt.alloc()).unwrap_or(0);
+    let of_4 = passed_of_800(&rt, rt.alloc(), false).unwrap_or(0);
+    let of_6 = passed_of_800(&rt, rt.alloc(), true).unwrap_or(0);
     // Neither all packets nor none.
-    assert!(rt; passed > 100 && passed < 700, "{passed}");
+    let are_some = of_4 > 100 && of_4 < 700 && of_6 > 100 && of_6 < 700;
+    assert!(rt; are_some, "{of_4}, {of_6}");
+}
+
+/// Rules of both versions, of which the narrower ones come first.
+const RULES: [Step<'static>; 10] = [
+    Step::Install((
+        "host",
+        10,
+        Gate::Enabled,
+        5,
+        "permit out ip from 2001:db8::7 to assigned",
+    )),
+    Step::Install((
+        "two",
+        20,
+        Gate::Enabled,
+        5,
+        "permit out ip from 2001:db8::8/127 to assigned",
+    )),
+    Step::Install((
+        "bits61",
+        30,
+        Gate::Enabled,
+        5,
+        "permit out ip from 2001:db8:0:8::/61 to assigned",
+    )),
+    Step::Install((
+        "bits44",
+        40,
+        Gate::Enabled,
+        5,
+        "permit out ip from 2001:db8:10::/44 to assigned",
+    )),
+    Step::Install((
+        "bits35",
+        50,
+        Gate::Enabled,
+        5,
+        "permit out ip from 2001:db8:2000::/35 to assigned",
+    )),
+    Step::Install((
+        "bits29",
+        60,
+        Gate::Enabled,
+        5,
+        "permit out ip from 2001:db8::/29 to assigned",
+    )),
+    Step::Install((
+        "net4",
+        70,
+        Gate::Enabled,
+        5,
+        "permit out ip from 198.51.100.0/24 to assigned",
+    )),
+    Step::Install((
+        "all4",
+        80,
+        Gate::Enabled,
+        5,
+        "permit out ip from 0.0.0.0/0 to any",
+    )),
+    Step::Install((
+        "all6",
+        90,
+        Gate::Enabled,
+        5,
+        "permit out ip from ::/0 to any",
+    )),
+    Step::Install((
+        "up",
+        100,
+        Gate::Enabled,
+        5,
+        "permit in ip from assigned to any",
+    )),
+];
+
+/// A remote address, and the rule that passes its packet to a session of version 6.
+const REMOTES: [(u128, &str); 18] = [
+    (0x2001_0db8_0000_0000_0000_0000_0000_0007, "host"),
+    (0x2001_0db8_0000_0000_0000_0000_0000_0006, "bits29"),
+    (0x2001_0db8_0000_0000_0000_0000_0000_0008, "two"),
+    (0x2001_0db8_0000_0000_0000_0000_0000_0009, "two"),
+    (0x2001_0db8_0000_0000_0000_0000_0000_000a, "bits29"),
+    (0x2001_0db8_0000_0007_0000_0000_0000_0007, "bits29"),
+    (0x2001_0db8_0000_0008_0000_0000_0000_0007, "bits61"),
+    (0x2001_0db8_0000_000f_ffff_0000_0000_0008, "bits61"),
+    (0x2001_0db8_0000_0010_0000_0000_0000_0007, "bits29"),
+    (0x2001_0db8_000f_ffff_0000_0000_0000_0007, "bits29"),
+    (0x2001_0db8_0010_0000_0000_0000_0000_0007, "bits44"),
+    (0x2001_0db8_001f_ffff_0000_0000_0000_0007, "bits44"),
+    (0x2001_0db8_0020_0000_0000_0000_0000_0007, "bits29"),
+    (0x2001_0db8_2000_0000_0000_0000_0000_0007, "bits35"),
+    (0x2001_0db8_4000_0000_0000_0000_0000_0007, "bits29"),
+    (0x2001_0dbf_ffff_0000_0000_0000_0000_0007, "bits29"),
+    (0x2001_0db7_ffff_0000_0000_0000_0000_0007, "all6"),
+    (0x2001_0dc0_0000_0000_0000_0000_0000_0007, "all6"),
+];
+
+/// Whether the index and the scan decide that this rule passes a packet, or that it is a stray where there is no rule.
+fn is_judged<C: Detects>(
+    catalog: &C,
+    table: &Table,
+    index: &Index,
+    ue: Addr,
+    header: &Header,
+    rule: Option<&str>,
+) -> bool
+    requires table { IsTable (C.offers catalog.now) table.now.entries }
+    requires index { index.now ≡ map (λ e. e.source) table.now.entries }
+{
+    let expected = match rule {
+        Some(rule) => passed(rule, 5),
+        None => Some(Verdict::Stray),
+    };
+    Some(index.classify(table, catalog, ue, header)) == expected
+        && Some(table.classify(catalog, ue, header)) == expected
+}
+
+/// The first remote address whose packet is judged otherwise.
+fn first_wrong_remote<C: Detects>(
+    catalog: &C,
+    table: &Table,
+    index: &Index,
+    remotes: &[(u128, &str)],
+) -> Option<u128>
+    requires table { IsTable (C.offers catalog.now) table.now.entries }
+    requires index { index.now ≡ map (λ e. e.source) table.now.entries }
+{
+    for (remote, rule) in remotes {
+        let header = Header {
+            src: Addr::V6(*remote),
+            dst: UE_V6,
+            ..DNS_ANSWER
+        };
+        if !is_judged(catalog, table, index, UE_V6, &header, Some(*rule)) {
+            return Some(*remote);
+        }
+    }
+    None
+}
+
+/// 2001:db8::7.
+const REMOTE_V6: Addr = Addr::V6(0x2001_0db8 << 96 | 7);
+/// 2001:db8::dead, another host of the session's network.
+const ANOTHER_HOST: Addr = Addr::V6(0x2001_0db8 << 96 | 0xdead);
+/// 2001:db8:0:1::2, a host of the next network.
+const NEXT_NETWORK: Addr = Addr::V6(0x2001_0db8_0000_0001 << 64 | 2);
+/// 198.51.100.7 and 203.0.113.7.
+const REMOTE_V4: Addr = Addr::V4(0xc633_6407);
+
+const ANOTHER_V4: Addr = Addr::V4(0xcb00_7107);
+
+/// The session's address, a packet's direction, its sides, and the rule that passes it; none if it is a stray.
+type Judged = (Addr, Dir, Addr, Addr, Option<&'static str>);
+
+const SESSIONS: [Judged; 12] = [
+    (UE_V6, Dir::Down, REMOTE_V6, UE_V6, Some("host")),
+    (UE_V6, Dir::Down, REMOTE_V6, ANOTHER_HOST, Some("host")),
+    (UE_V6, Dir::Down, REMOTE_V6, NEXT_NETWORK, None),
+    (UE_V6, Dir::Up, UE_V6, REMOTE_V6, Some("up")),
+    (UE_V6, Dir::Up, ANOTHER_HOST, REMOTE_V6, Some("up")),
+    (UE_V6, Dir::Up, NEXT_NETWORK, REMOTE_V6, None),
+    // Packets of the other version.
+    (UE_V6, Dir::Down, REMOTE_V4, UE, None),
+    (UE_V6, Dir::Up, UE, REMOTE_V4, None),
+    (UE, Dir::Down, REMOTE_V6, UE_V6, None),
+    (UE, Dir::Up, UE_V6, REMOTE_V6, None),
+    (UE, Dir::Down, REMOTE_V4, UE, Some("net4")),
+    (UE, Dir::Down, ANOTHER_V4, UE, Some("all4")),
+];
+
+/// The first packet of these that is judged otherwise.
+fn first_wrong_session<C: Detects>(
+    catalog: &C,
+    table: &Table,
+    index: &Index,
+    rows: &[Judged],
+) -> Option<(Addr, Header)>
+    requires table { IsTable (C.offers catalog.now) table.now.entries }
+    requires index { index.now ≡ map (λ e. e.source) table.now.entries }
+{
+    for (ue, dir, src, dst, rule) in rows {
+        let header = Header {
+            dir: *dir,
+            src: *src,
+            dst: *dst,
+            ..DNS_ANSWER
+        };
+        if !is_judged(catalog, table, index, *ue, &header, *rule) {
+            return Some((*ue, header));
+        }
+    }
+    None
+}
+
+/// What is judged otherwise by a table of rules of both versions.
+fn wrong_of_both_versions(alloc: Global) -> Option<(Option<u128>, Option<(Addr, Header)>)> {
+    let catalog = empty_catalog(alloc)?;
+    let table = table_of(alloc, &catalog, &RULES)?;
+    let index = Index::build(alloc, &table, &catalog).ok()?;
+    Some((
+        first_wrong_remote(&catalog, &table, &index, &REMOTES),
+        first_wrong_session(&catalog, &table, &index, &SESSIONS),
+    ))
+}
+
+#[test]
+fn rules_and_packets_of_both_versions(rt: HostRuntime) {
+    assert_eq!(rt; wrong_of_both_versions(rt.alloc()), Some((None, None)));
 }
 
 // It ends in error where there is no table. `.ci/refused-memory` refuses each allocation in turn.

@@ -17,6 +17,8 @@ use std::alloc::Global;
 
 /// The address of the session.
 pub(crate) const UE: Addr = Addr::V4(0x0a00_0002);
+/// The address of a session of version 6, 2001:db8::2.
+pub(crate) const UE_V6: Addr = Addr::V6(0x2001_0db8 << 96 | 2);
 
 /// A UDP packet of 28 octets from 198.51.100.7 port 53 to 10.0.0.2 port 5000.
 pub(crate) const DNS_ANSWER: Header = Header {
