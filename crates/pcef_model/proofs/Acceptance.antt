@@ -6,6 +6,8 @@ use Rattle.pcef_rule.specs.declared.rule.Properties.{Properties}
 use Rattle.pcef_rule.specs.Definition.{Definition}
 use Rattle.pcef_catalog.specs.declared.listing.Offer.{Offer}
 use Rattle.pcef_model.specs.declared.command.Command.TheVariants.{Install, Activate, Remove, Monitor, Stop, ReportNow, Triggers, Notice, LoseBearer, Close, Terminate}
+use Rattle.pcef_model.specs.declared.level.Level.{Level}
+use Rattle.pcef_model.specs.declared.level.Level.TheVariants.{Rule}
 use Rattle.pcef_model.specs.Setting.{most_rules, Setting, offer_named}
 use Rattle.pcef_model.specs.ActiveRules.{Active, is_named, put, without, dynamic, predefined}
 use Rattle.pcef_model.specs.Entries.{Journal}
@@ -14,7 +16,7 @@ use Rattle.pcef_model.specs.Journals.{now, slots}
 use Rattle.pcef_model.specs.Outcomes.{changes}
 use Rattle.pcef_model.specs.declared.answer.Refusal.{Refusal}
 use Rattle.pcef_model.specs.declared.answer.Refusal.TheVariants as refusal
-use Rattle.pcef_model.specs.Refusals.{Conditions, becoming_active, becoming_active_if, bindings, common_refusals, finds_no_slot, first_of, is_active, refusals}
+use Rattle.pcef_model.specs.Refusals.{Conditions, becoming_active, becoming_active_if, bindings, clashes, common_refusals, finds_no_slot, first_of, is_active, refusals}
 use Rattle.pcef_model.proofs.Names.{put_length}
 use Rattle.pcef_model.specs.declared.command.Command.{Command}
 use Rattle.std.specs.Option.{option_map}
@@ -35,15 +37,17 @@ conditions_none (c ∷ cs) ds none =
 -- ---- a rule that becomes active
 pub record CanBecome (p : Setting) (j : Journal) (rule : Properties) : Type 0 where
   pub place : (not (is_active p j rule.name) && nat_le most_rules (length (now p j).rules)) ≡ false
+  pub level : clashes p j Rule rule.key ≡ false
   pub slot : finds_no_slot p j rule.key ≡ false
   pub binds : first_of (bindings p (now p j) rule (without rule.name (now p j).rules)) ≡ None
 
 pub can_become : (p : Setting) (j : Journal) (rule : Properties) → first_of (becoming_active p j rule) ≡ None → CanBecome p j rule
 can_become p j rule accepted =
     let last : Conditions Refusal = bindings p (now p j) rule (without rule.name (now p j).rules) in
-    let first = condition_none (not (is_active p j rule.name) && nat_le most_rules (length (now p j).rules)) refusal.RulesFull ((finds_no_slot p j rule.key, refusal.KeysFull) ∷ last) accepted in
-    let second = condition_none (finds_no_slot p j rule.key) refusal.KeysFull last first.1 in
-    record { place = first.0; slot = second.0; binds = second.1 }
+    let first = condition_none (not (is_active p j rule.name) && nat_le most_rules (length (now p j).rules)) refusal.RulesFull ((clashes p j Rule rule.key, refusal.LevelClash) ∷ (finds_no_slot p j rule.key, refusal.KeysFull) ∷ last) accepted in
+    let level = condition_none (clashes p j Rule rule.key) refusal.LevelClash ((finds_no_slot p j rule.key, refusal.KeysFull) ∷ last) first.1 in
+    let second = condition_none (finds_no_slot p j rule.key) refusal.KeysFull last level.1 in
+    record { place = first.0; level = level.0; slot = second.0; binds = second.1 }
 
 -- a rule that is installed can become active
 pub install_accepted : (p : Setting) (j : Journal) (rule : Definition) → first_of (refusals p j (Install rule)) ≡ None → first_of (becoming_active p j rule.properties) ≡ None
@@ -72,10 +76,14 @@ activate_named p j name accepted =
     let own = (conditions_none (common_refusals p j) ((is_none (offer_named p name), refusal.UnknownRule) ∷ rest) accepted).1 in
     (condition_none (is_none (offer_named p name)) refusal.UnknownRule rest own).0
 
-pub monitor_accepted : (p : Setting) (j : Journal) (key : List ℕ) (amount : ℕ) → first_of (refusals p j (Monitor key amount)) ≡ None → finds_no_slot p j (Some key) ≡ false
-monitor_accepted p j key amount accepted =
-    let own = (conditions_none (common_refusals p j) ((amount == 0, refusal.ZeroGrant) ∷ (finds_no_slot p j (Some key), refusal.KeysFull) ∷ []) accepted).1 in
-    (condition_none (finds_no_slot p j (Some key)) refusal.KeysFull [] (condition_none (amount == 0) refusal.ZeroGrant ((finds_no_slot p j (Some key), refusal.KeysFull) ∷ []) own).1).0
+-- a key that is monitored has a slot or finds one, and keeps its level
+pub monitor_accepted : (p : Setting) (j : Journal) (key : List ℕ) (amount : ℕ) (level : Level) → first_of (refusals p j (Monitor key amount level)) ≡ None →
+    (clashes p j level (Some key) ≡ false) × (finds_no_slot p j (Some key) ≡ false)
+monitor_accepted p j key amount level accepted =
+    let slot : Conditions Refusal = (finds_no_slot p j (Some key), refusal.KeysFull) ∷ [] in
+    let own = (conditions_none (common_refusals p j) ((amount == 0, refusal.ZeroGrant) ∷ (clashes p j level (Some key), refusal.LevelClash) ∷ slot) accepted).1 in
+    let rest = condition_none (clashes p j level (Some key)) refusal.LevelClash slot (condition_none (amount == 0) refusal.ZeroGrant ((clashes p j level (Some key), refusal.LevelClash) ∷ slot) own).1 in
+    (rest.0, (condition_none (finds_no_slot p j (Some key)) refusal.KeysFull [] rest.1).0)
 
 put_longer : (new : Active) (rules : List Active) → length (put new rules) ≤ length rules + 1
 put_longer new [] = omega arith
@@ -120,7 +128,7 @@ activation_accepted p j (Activate name) r accepted changing is = from (offer_nam
     from (Some o) there is =
         let same : predefined o ≡ r = cc in subst (λ (x : Active). first_of (becoming_active p j x.properties) ≡ None) same (activate_accepted p j name o accepted changing there)
 activation_accepted p j (Remove name) r accepted changing is = absurd cc
-activation_accepted p j (Monitor key amount) r accepted changing is = absurd cc
+activation_accepted p j (Monitor key amount level) r accepted changing is = absurd cc
 activation_accepted p j (Stop key) r accepted changing is = absurd cc
 activation_accepted p j (ReportNow key) r accepted changing is = absurd cc
 activation_accepted p j (Triggers set) r accepted changing is = absurd cc

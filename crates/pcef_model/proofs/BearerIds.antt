@@ -254,8 +254,8 @@ module _ (p : Setting) (g : Generation) (rules : List Active) (bound : IsBound p
         ]
       ]
 
-  bound_after : (on : List (List ℕ)) → IsBound p (record { rules = rules; id_of = id_after p g rules; on = on })
-  bound_after on = record {
+  bound_after : (on session : List (List ℕ)) → IsBound p (record { rules = rules; id_of = id_after p g rules; on = on; session = session })
+  bound_after on session = record {
     once = follows.once;
     five = λ q is. id_default p g rules q is;
     others = others_after;
@@ -318,7 +318,7 @@ bound_after_command : (p : Setting) (j : Journal) (c : Command) → IsBound p (n
 bound_after_command p j c bound accepted change =
     elim (cases_Bool (is_table c)) [
       | inl is ↦ subst (IsBound p) (sym (now_after_table p j c is))
-          (bound_after p (now p j) (rules_after p (now p j) c) bound (follows_command p j c bound accepted change) (next p (now p j) c).on)
+          (bound_after p (now p j) (rules_after p (now p j) c) bound (follows_command p j c bound accepted change) (next p (now p j) c).on (next p (now p j) c).session)
       | inr isnt ↦ subst (λ cs. IsBound p (made_by p cs)) (sym (tables_of_other j c isnt)) bound
     ]
 

@@ -129,7 +129,7 @@ refused_over : (p : Setting) (j : Journal) (c : Command) â†’ was_terminated j â‰
 refused_over p j (Install rule) is = rw is refl
 refused_over p j (Activate name) is = rw is refl
 refused_over p j (Remove name) is = rw is refl
-refused_over p j (Monitor key amount) is = rw is refl
+refused_over p j (Monitor key amount level) is = rw is refl
 refused_over p j (Stop key) is = rw is refl
 refused_over p j (ReportNow key) is = rw is refl
 refused_over p j (Triggers set) is = rw is refl

@@ -10,6 +10,7 @@ use Rattle.pcef_model.specs.declared.answer.Refusal.{Refusal}
 use Rattle.pcef_model.specs.declared.answer.Refusal.TheVariants.{Closed, CommandsFull, DefaultBearer, NameIsPredefined, Terminated, UnknownBearer, UnknownRule, WorkersAttached}
 use Rattle.pcef_model.specs.declared.command.Command.{Command}
 use Rattle.pcef_model.specs.declared.command.Command.TheVariants.{Activate, Close, Install, LoseBearer, Monitor, Notice, Remove, ReportNow, Stop, Terminate, Triggers}
+use Rattle.pcef_model.specs.declared.level.Level.TheVariants.{Rule}
 use Rattle.pcef_model.specs.declared.trigger.AccessKind.TheVariants.{RatChange}
 use Rattle.pcef_model.specs.Setting.{Setting}
 use Rattle.pcef_model.specs.Bearers.{sum_down, sum_up}
@@ -49,7 +50,7 @@ lose id = LoseBearer (record { 0 = id })
 -- ---- the loss of a bearer
 -- where the default bearer has another QCI, the rule stands on bearer 6
 abbrev on_bearer_6 : List Event
-on_bearer_6 = web_rule ∷ accept (Monitor vid 9) ∷ []
+on_bearer_6 = web_rule ∷ accept (Monitor vid 9 Rule) ∷ []
 
 -- one report of the rule, and one of its key
 a_bearer_is_lost : IsAcceptedAfter (session_on 8) on_bearer_6 (lose 6) (answer 3 0 2)
@@ -98,7 +99,7 @@ a_terminate_when_all_have_left = refl
 
 -- ---- after a Close, and after a Terminate
 abbrev with_a_key : List Event
-with_a_key = web_rule ∷ accept (Monitor vid 1000) ∷ []
+with_a_key = web_rule ∷ accept (Monitor vid 1000 Rule) ∷ []
 
 -- the key of the rule goes off with it, which is reported
 a_close_is_accepted : IsAcceptedAfter (session_on 9) with_a_key Close (answer 3 0 1)
@@ -111,7 +112,7 @@ closed = with_a_key ++ accept Close ∷ []
 -- one of each command but Terminate
 abbrev commands : List Command
 commands =
-    Install (rule_of 9 Enabled web 17 vid) ∷ Activate web ∷ Remove web ∷ Monitor vid 0 ∷ Stop vid ∷ ReportNow vid ∷ Triggers no_triggers
+    Install (rule_of 9 Enabled web 17 vid) ∷ Activate web ∷ Remove web ∷ Monitor vid 0 Rule ∷ Stop vid ∷ ReportNow vid ∷ Triggers no_triggers
     ∷ Notice RatChange (codes "eutran") ∷ lose 5 ∷ Close ∷ []
 
 -- the answers to commands, each of them after these events

@@ -7,6 +7,7 @@ use Rattle.pcef_rule.specs.declared.gate.Gate.TheVariants.{Enabled, EnabledUplin
 use Rattle.pcef_model.specs.declared.verdict.Verdict.TheVariants.{Gated, Passed, Stray, Unmatched}
 use Rattle.pcef_model.specs.declared.command.Command.TheVariants.{Close, Install, LoseBearer, Monitor, Notice, Remove, ReportNow, Stop, Terminate, Triggers}
 use Rattle.pcef_model.specs.declared.entry.Entry.TheVariants as entry
+use Rattle.pcef_model.specs.declared.level.Level.TheVariants.{Rule}
 use Rattle.pcef_model.specs.declared.report.Body.TheVariants.{Access, Inactive, Usage}
 use Rattle.pcef_model.specs.declared.report.Cause.{Cause}
 use Rattle.pcef_model.specs.declared.report.Cause.TheVariants.{Disabled, Requested, RulesGone, Terminated, Threshold}
@@ -25,7 +26,7 @@ abbrev idle : List ℕ → List ℕ → Event
 idle name key = accept (Install (rule_of 9 Enabled name 6 key))
 
 abbrev monitor : List ℕ → ℕ → Event
-monitor key amount = accept (Monitor key amount)
+monitor key amount = accept (Monitor key amount Rule)
 
 abbrev subscribe_usage : Event
 subscribe_usage = accept (Triggers (record no_triggers { usage_report = true }))

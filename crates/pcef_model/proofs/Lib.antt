@@ -11,8 +11,11 @@ pub mod Exactness
 pub mod ExampleSession
 pub mod Examples
 pub mod ExampleAnswers
+pub mod ExampleLevels
+pub mod FewKeys
 pub mod Growth
 pub mod Lanes
+pub mod Levels
 pub mod LawfulRows
 pub mod Members
 pub mod Names

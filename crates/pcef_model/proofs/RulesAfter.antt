@@ -23,7 +23,7 @@ others_stay : (p : Setting) (g : Generation) (c : Command) (r : Active) → acti
 others_stay p g (Install rule) r is = filter_all g.rules
 others_stay p g (Activate name) r is = filter_all g.rules
 others_stay p g (Remove name) r is = absurd cc
-others_stay p g (Monitor key amount) r is = absurd cc
+others_stay p g (Monitor key amount level) r is = absurd cc
 others_stay p g (Stop key) r is = absurd cc
 others_stay p g (ReportNow key) r is = absurd cc
 others_stay p g (Triggers set) r is = absurd cc
@@ -47,7 +47,7 @@ makes_active p (Activate name) r is =
     from None is = absurd cc
     from (Some o) is = let same : predefined o ≡ r = cc in ap (λ (x : Active). x.properties.key) same
 makes_active p (Remove name) r is = absurd cc
-makes_active p (Monitor key amount) r is = absurd cc
+makes_active p (Monitor key amount level) r is = absurd cc
 makes_active p (Stop key) r is = absurd cc
 makes_active p (ReportNow key) r is = absurd cc
 makes_active p (Triggers set) r is = absurd cc
@@ -87,7 +87,7 @@ other_leaves p g (Notice kind value) isnt = filter_all g.rules
 other_leaves p g (Install rule) isnt = absurd cc
 other_leaves p g (Activate name) isnt = absurd cc
 other_leaves p g (Remove name) isnt = absurd cc
-other_leaves p g (Monitor key amount) isnt = absurd cc
+other_leaves p g (Monitor key amount level) isnt = absurd cc
 other_leaves p g (Stop key) isnt = absurd cc
 other_leaves p g (LoseBearer id) isnt = absurd cc
 other_leaves p g Close isnt = absurd cc

@@ -5,6 +5,8 @@ use Rattle.std.specs.List.{list_any}
 use Rattle.std.specs.Option.{option_map}
 use Rattle.pcef_catalog.specs.declared.listing.Offer.{Offer}
 use Rattle.pcef_model.specs.declared.command.Command.{Command}
+use Rattle.pcef_model.specs.declared.level.Level.{Level}
+use Rattle.pcef_model.specs.declared.level.Level.TheVariants.{Rule, Session}
 use Rattle.pcef_model.specs.declared.command.Command.TheVariants.{Install, Activate, Remove, Monitor, Stop, ReportNow, Triggers, Notice, LoseBearer, Close, Terminate}
 use Rattle.pcef_model.specs.Setting.{Setting, offer_named, same_name}
 use Rattle.pcef_model.specs.ActiveRules.{Active, dynamic, predefined}
@@ -47,12 +49,23 @@ key_offered (Some o) = o.properties.key
 abbrev pub key_named : Setting → Command → Option (List ℕ)
 key_named p (Install rule) = rule.properties.key
 key_named p (Activate name) = key_offered (offer_named p name)
-key_named p (Monitor key grant) = Some key
+key_named p (Monitor key grant level) = Some key
 key_named p _ = None
+
+-- the level that this key has from then on, where it had none
+abbrev pub level_named : Command → Level
+level_named (Monitor key grant level) = level
+level_named _ = Rule
 
 -- the keys that are on, where a command itself switches one or all
 abbrev pub switched : Command → List (List ℕ) → List (List ℕ)
-switched (Monitor key grant) on = add_key key on
+switched (Monitor key grant level) on = add_key key on
 switched (Stop key) on = filter (λ k. not (same_name key k)) on
 switched Terminate on = []
 switched _ on = on
+
+-- the keys of session level (TS 29.212, clause 5.3.61), where a command names one: what would change the level of a key
+-- is refused
+abbrev pub at_session_level : Command → List (List ℕ) → List (List ℕ)
+at_session_level (Monitor key grant Session) keys = add_key key keys
+at_session_level _ keys = keys

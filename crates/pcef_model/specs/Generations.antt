@@ -6,18 +6,19 @@ use Rattle.pcef_model.specs.declared.command.Command.{Command}
 use Rattle.pcef_model.specs.Setting.{Setting, same_qos}
 use Rattle.pcef_model.specs.Bearers.{default_id, has_pair, least_free}
 use Rattle.pcef_model.specs.ActiveRules.{Active, has_key, put_if_some}
-use Rattle.pcef_model.specs.Commands.{activated, add_key, key_named, switched, takes_away}
+use Rattle.pcef_model.specs.Commands.{activated, add_key, at_session_level, key_named, switched, takes_away}
 
--- one generation: its active rules, the id of the bearer of each pair of QCI and ARP that has one, and
--- the keys that are on
+-- one generation: its active rules, the id of the bearer of each pair of QCI and ARP that has one, the keys that are on,
+-- and the keys of session level
 pub record Generation : Type 0 where
   pub rules : List Active
   pub id_of : Qos → ℕ
   pub on : List (List ℕ)
+  pub session : List (List ℕ)
 
 -- before the first table command there is the default bearer alone
 abbrev pub at_first : Generation
-at_first = record { rules = []; id_of = λ q. default_id; on = [] }
+at_first = record { rules = []; id_of = λ q. default_id; on = []; session = [] }
 
 -- ---- rules
 -- a rule that a command doesn't take away
@@ -60,6 +61,7 @@ next p g c = record {
   rules = rules_after p g c;
   id_of = id_after p g (rules_after p g c);
   on = still_on g.rules (rules_after p g c) (switched c g.on);
+  session = at_session_level c g.session;
 }
 
 -- the generation that table commands make

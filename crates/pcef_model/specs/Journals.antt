@@ -1,5 +1,5 @@
 -- What a journal says. It is the list of its entries, the newest first.
-use Rattle.std.specs.Prelude.{ℕ, ◌+◌, ◌-◌, ◌==◌, Bool, true, false, not, ◌&&◌, List, [], ◌∷◌, Option, Some, None, filter, length, if◌then◌else◌}
+use Rattle.std.specs.Prelude.{ℕ, ◌+◌, ◌-◌, ◌==◌, Bool, true, false, not, ◌&&◌, ◌||◌, List, [], ◌∷◌, Option, Some, None, filter, length, if◌then◌else◌}
 use Rattle.std.specs.List.{filter_map}
 use Rattle.pcef_packet.specs.declared.header.Header.{Header}
 use Rattle.pcef_packet.specs.Addresses.{is_assigned, ue_side}
@@ -16,6 +16,8 @@ use Rattle.pcef_model.specs.declared.report.Cause.{Cause}
 use Rattle.pcef_model.specs.declared.report.Cause.TheVariants.{Requested}
 use Rattle.pcef_model.specs.declared.row.Row.{Row}
 use Rattle.pcef_model.specs.declared.trigger.TriggerSet.{TriggerSet}
+use Rattle.pcef_model.specs.declared.level.Level.{Level}
+use Rattle.pcef_model.specs.declared.level.Level.TheVariants.{Rule, Session}
 use Rattle.pcef_model.specs.Setting.{Setting, same_name}
 use Rattle.pcef_model.specs.ActiveRules.{Active, decisive, is_key}
 use Rattle.pcef_model.specs.Generations.{Generation, made_by, oldest, slots_of}
@@ -47,6 +49,10 @@ at p j g = made_by p (oldest g (tables j))
 abbrev pub slots : Setting → Journal → List (List ℕ)
 slots p j = slots_of p (tables j)
 
+-- the level of a key that has a slot
+abbrev pub level_of : Generation → List ℕ → Level
+level_of g key = if is_among key g.session then Session else Rule
+
 -- ---- grants and subscriptions (TS 29.212, clauses 4.5.16 and 5.3.7)
 -- a report that was only asked for leaves the grant (own choice)
 abbrev pub ends_grant : Cause → Bool
@@ -60,7 +66,7 @@ takes_grant key _ = false
 -- the amount of the last Monitor of a key, unless a report has taken it since
 unfoldable pub grant : Journal → List ℕ → Option ℕ
 grant [] key = None
-grant (entry.Command (Monitor other amount) ∷ before) key = if same_name key other then Some amount else grant before key
+grant (entry.Command (Monitor other amount level) ∷ before) key = if same_name key other then Some amount else grant before key
 grant (entry.Report r ∷ before) key = if takes_grant key r.body then None else grant before key
 grant (_ ∷ before) key = grant before key
 
@@ -105,13 +111,14 @@ abbrev pub verdict_at : Setting → Generation → Header → Verdict
 verdict_at p g header = verdict_of g (decision p g header)
 
 -- ---- counting (TS 29.212, clauses 4.5.16 and 4.5.17)
-abbrev pub passed_for : List ℕ → Decision → Bool
-passed_for key (passed r) = is_key key r.properties.key
-passed_for key _ = false
+-- a packet that passed counts for the key of the rule that let it pass, and for each key of session level
+abbrev pub passed_for : Generation → List ℕ → Decision → Bool
+passed_for g key (passed r) = is_key key r.properties.key || is_among key g.session
+passed_for g key _ = false
 
--- a packet counts for the key of the rule that let it pass, if the key was on
+-- if the key was on
 abbrev pub counts_in : Setting → Generation → List ℕ → Header → Bool
-counts_in p g key header = passed_for key (decision p g header) && is_among key g.on
+counts_in p g key header = passed_for g key (decision p g header) && is_among key g.on
 
 -- a row counts by the generation that judged it
 abbrev pub counts : Setting → Journal → List ℕ → Row → Bool

@@ -17,10 +17,12 @@ use Rattle.pcef_model.specs.declared.command.Command.{Command}
 use Rattle.pcef_model.specs.declared.entry.Entry.TheVariants as entry
 use Rattle.pcef_model.specs.declared.report.Report.{Report}
 use Rattle.pcef_model.specs.declared.row.Row.{Row}
-use Rattle.pcef_model.specs.Setting.{Setting, same_qos}
+use Rattle.pcef_model.specs.Setting.{Setting, most_keys, same_qos}
 use Rattle.pcef_model.specs.Generations.{next, has_bearer}
 use Rattle.pcef_model.specs.Entries.{Journal}
-use Rattle.pcef_model.specs.Journals.{at, counted, counts_in, gen, now, reported, slots, unreported}
+use Rattle.pcef_model.specs.declared.level.Level.TheVariants.{Session}
+use Rattle.pcef_model.specs.ActiveRules.{has_key}
+use Rattle.pcef_model.specs.Journals.{at, counted, counts_in, gen, level_of, now, reported, slots, unreported}
 use Rattle.pcef_model.specs.Commands.{is_table}
 use Rattle.pcef_rule.specs.declared.quantity.Qos.{Qos}
 use Rattle.pcef_rule.specs.declared.quantity.Slot.{Slot}
@@ -80,6 +82,20 @@ WaitingRowsStayBesideOthers = (p : Setting) (j : Journal) (other : Row) (worker 
 abbrev pub SlotsStay : Type 0
 SlotsStay = (p : Setting) (j : Journal) (c : Command) (row : Row) (own : List Slot) → row.generation ≤ gen j → IsWithin (slots p j) own →
     CountsFor p j row own → CountsFor p (entry.Command c ∷ j) row own
+
+-- at most eight keys have a slot
+abbrev pub KeysAreFew : Type 0
+KeysAreFew = (p : Setting) (j : Journal) → Lawful p j → length (slots p j) ≤ most_keys
+
+-- ---- levels
+-- an accepted command leaves the level of each key that has a slot
+abbrev pub LevelsStay : Type 0
+LevelsStay = (p : Setting) (j : Journal) (c : Command) → first_of (refusals p j c) ≡ None → (key : List ℕ) → is_among key (slots p j) ≡ true →
+    level_of (now p (entry.Command c ∷ j)) key ≡ level_of (now p j) key
+
+-- no active rule has a key of session level, so such a key doesn't go off for want of rules
+abbrev pub SessionKeysHaveNoRule : Type 0
+SessionKeysHaveNoRule = (p : Setting) (j : Journal) → Lawful p j → (key : List ℕ) → level_of (now p j) key ≡ Session → has_key key (now p j).rules ≡ false
 
 -- all guaranteed rates together are within the capacity (own choice)
 abbrev pub RatesAreWithinCapacity : Type 0

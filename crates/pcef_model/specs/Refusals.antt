@@ -11,15 +11,17 @@ use Rattle.pcef_rule.specs.QciKinds.{kind_of}
 use Rattle.pcef_catalog.specs.declared.listing.Offer.{Offer}
 use Rattle.pcef_model.specs.declared.command.Command.{Command}
 use Rattle.pcef_model.specs.declared.command.Command.TheVariants.{Install, Activate, Remove, Monitor, Stop, ReportNow, LoseBearer, Close, Terminate}
+use Rattle.pcef_model.specs.declared.level.Level.{Level}
+use Rattle.pcef_model.specs.declared.level.Level.TheVariants.{Rule}
 use Rattle.pcef_model.specs.declared.entry.Entry.{Entry}
 use Rattle.pcef_model.specs.declared.entry.Entry.TheVariants as entry
-use Rattle.pcef_model.specs.Setting.{Setting, most_keys, most_rules, offer_named, same_qos}
+use Rattle.pcef_model.specs.Setting.{Setting, most_keys, most_rules, offer_named, same_level, same_qos}
 use Rattle.pcef_model.specs.Bearers.{default_id, is_gbr, is_non_gbr, rate_down, rate_up, sum_down, sum_up}
 use Rattle.pcef_model.specs.ActiveRules.{Active, is_named, without}
 use Rattle.pcef_model.specs.Generations.{Generation, free_id, has_bearer}
 use Rattle.pcef_model.specs.Commands.{is_among}
 use Rattle.pcef_model.specs.Entries.{Journal, rows}
-use Rattle.pcef_model.specs.Journals.{attach_count, attached, now, slots}
+use Rattle.pcef_model.specs.Journals.{attach_count, attached, level_of, now, slots}
 use Rattle.pcef_model.specs.declared.answer.OpenFault.{OpenFault}
 use Rattle.pcef_model.specs.declared.answer.OpenFault.TheVariants as opening
 use Rattle.pcef_model.specs.declared.answer.Refusal.{Refusal}
@@ -116,10 +118,16 @@ is_new_key (Some key) keys = not (is_among key keys)
 abbrev pub finds_no_slot : Setting → Journal → Option (List ℕ) → Bool
 finds_no_slot p j key = is_new_key key (slots p j) && nat_le most_keys (length (slots p j))
 
+-- a key that has a slot has another level than this one
+abbrev pub clashes : Setting → Journal → Level → Option (List ℕ) → Bool
+clashes p j level None = false
+clashes p j level (Some key) = is_among key (slots p j) && not (same_level level (level_of (now p j) key))
+
 -- what keeps a rule from becoming active; a modification takes no further place
 abbrev pub becoming_active : Setting → Journal → Properties → Conditions Refusal
 becoming_active p j rule =
     (not (is_active p j rule.name) && nat_le most_rules (length (now p j).rules), refusal.RulesFull) ∷
+    (clashes p j Rule rule.key, refusal.LevelClash) ∷
     (finds_no_slot p j rule.key, refusal.KeysFull) ∷
     bindings p (now p j) rule (without rule.name (now p j).rules)
 
@@ -149,8 +157,8 @@ own_refusals p j (Activate name) =
 own_refusals p j (Remove name) = (not (is_active p j name), refusal.UnknownRule) ∷ []
 own_refusals p j (Stop key) = (not (is_among key (now p j).on), refusal.UnknownKey) ∷ []
 own_refusals p j (ReportNow key) = (not (is_among key (slots p j)), refusal.UnknownKey) ∷ []
-own_refusals p j (Monitor key amount) =
-    (amount == 0, refusal.ZeroGrant) ∷ (finds_no_slot p j (Some key), refusal.KeysFull) ∷ []
+own_refusals p j (Monitor key amount level) =
+    (amount == 0, refusal.ZeroGrant) ∷ (clashes p j level (Some key), refusal.LevelClash) ∷ (finds_no_slot p j (Some key), refusal.KeysFull) ∷ []
 own_refusals p j (LoseBearer id) =
     (not (id.0 == default_id) && not (is_bearer p j id.0), refusal.UnknownBearer) ∷
     (id.0 == default_id, refusal.DefaultBearer) ∷ []

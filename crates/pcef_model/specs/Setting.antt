@@ -5,6 +5,8 @@ use Rattle.pcef_packet.specs.declared.header.Addr.{Addr}
 use Rattle.pcef_rule.specs.declared.qci.Kind.{Kind}
 use Rattle.pcef_rule.specs.declared.quantity.Qos.{Qos}
 use Rattle.pcef_rule.specs.declared.quantity.Sums.{Sums}
+use Rattle.pcef_model.specs.declared.level.Level.{Level}
+use Rattle.pcef_model.specs.declared.level.Level.TheVariants.{Rule, Session}
 use Rattle.pcef_catalog.specs.declared.listing.Offer.{Offer}
 
 pub record Setting : Type 0 where
@@ -36,6 +38,11 @@ same_name a b = bytes_eq a b
 abbrev pub same_flag : Bool → Bool → Bool
 same_flag true b = b
 same_flag false b = not b
+
+abbrev pub same_level : Level → Level → Bool
+same_level Rule Rule = true
+same_level Session Session = true
+same_level _ _ = false
 
 -- the same QCI (TS 23.203, clause 6.1.1.4), and the same ARP in all three parts (own choice)
 abbrev pub same_qos : Qos → Qos → Bool

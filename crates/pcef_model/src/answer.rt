@@ -45,6 +45,8 @@ pub enum Refusal {
     WorkersAttached(u8),
     /// As many rules are active as may be.
     RulesFull,
+    /// The key has another level.
+    LevelClash,
     /// Every slot has a key.
     KeysFull,
     /// The QCI is neither standard nor declared.
@@ -78,6 +80,7 @@ impl Refusal {
             Refusal::DefaultBearer => "the default bearer can't be lost",
             Refusal::WorkersAttached(_) => "workers are still attached",
             Refusal::RulesFull => "no more rules can be active",
+            Refusal::LevelClash => "the key has another level",
             Refusal::KeysFull => "no more keys can have a slot",
             Refusal::UnknownQci => "the QCI is unknown",
             Refusal::RatesMissing => "the rule has no guaranteed rates",

@@ -3,6 +3,7 @@
 ghost use Rattle.std.specs.Prelude.{◌≡◌, IfOk};
 ghost use Rattle.pcef_model.specs.Commands.{is_table, takes_away};
 
+use crate::level::Level;
 use crate::trigger::{AccessKind, NoticeValue, TriggerSet};
 use pcef_rule::{BearerId, KeyName, Rule, RuleName};
 use std::alloc::AllocError;
@@ -22,6 +23,8 @@ pub enum Command {
         key: KeyName,
         /// How many unreported octets reach the grant.
         grant: u64,
+        /// What the key counts.
+        level: Level,
     },
     /// Switches a monitoring key off.
     Stop(KeyName),
@@ -53,9 +56,10 @@ impl Command {
             Command::Install(rule) => Ok(Command::Install(rule.copy()?)),
             Command::Activate(name) => Ok(Command::Activate(name.copy())),
             Command::Remove(name) => Ok(Command::Remove(name.copy())),
-            Command::Monitor { key, grant } => Ok(Command::Monitor {
+            Command::Monitor { key, grant, level } => Ok(Command::Monitor {
                 key: key.copy(),
                 grant: *grant,
+                level: *level,
             }),
             Command::Stop(key) => Ok(Command::Stop(key.copy())),
             Command::ReportNow(key) => Ok(Command::ReportNow(key.copy())),

@@ -1,6 +1,6 @@
 //! Laws of the definitions, proved for whoever reads them.
 
-ghost use Rattle.pcef_model.specs.Laws.{CommandsAreWithinTheProfile, EarlierGenerationsStay, IdsAreDistinct, IdsAreInRange, NothingFollowsTheEnd, NothingIsLost, NothingIsReportedTwice, NothingIsUnreportedAtTheEnd, LanesAreNumbered, RatesAreWithinCapacity, ReportsLeaveGenerations, RowsAreWithinTheProfile, RowsCountByTheirOwnGeneration, RowsHaveTheirVerdicts, RowsLeaveGenerations, SlotsStay, TableCommandsMakeTheNext, WaitingRowsStay, WaitingRowsStayBesideOthers};
+ghost use Rattle.pcef_model.specs.Laws.{CommandsAreWithinTheProfile, EarlierGenerationsStay, IdsAreDistinct, IdsAreInRange, KeysAreFew, NothingFollowsTheEnd, NothingIsLost, NothingIsReportedTwice, NothingIsUnreportedAtTheEnd, LanesAreNumbered, LevelsStay, RatesAreWithinCapacity, ReportsLeaveGenerations, RowsAreWithinTheProfile, RowsCountByTheirOwnGeneration, RowsHaveTheirVerdicts, RowsLeaveGenerations, SessionKeysHaveNoRule, SlotsStay, TableCommandsMakeTheNext, WaitingRowsStay, WaitingRowsStayBesideOthers};
 
 /// How journals grow: earlier generations stay, and each row counts by its own.
 pub fn journals_grow()
@@ -30,6 +30,13 @@ pub fn waiting_rows_stay()
     ensures commands { WaitingRowsStay }
     ensures others { WaitingRowsStayBesideOthers }
     ensures slots { SlotsStay }
+{}
+
+/// Keys: at most eight have a slot; their levels stay, and no active rule has a key of session level.
+pub fn levels_stay()
+    ensures few { KeysAreFew }
+    ensures stay { LevelsStay }
+    ensures rules { SessionKeysHaveNoRule }
 {}
 
 /// Rows: each has the verdict of its own generation, those of a worker are numbered from 0 on and never go back in

@@ -6,6 +6,7 @@ mod answer;
 mod command;
 mod entry;
 mod laws;
+mod level;
 mod pending_report;
 mod profile;
 mod report;
@@ -18,9 +19,10 @@ pub use answer::{Accepted, AttachFault, FlushRefusal, Judged, OpenFault, Refusal
 pub use command::Command;
 pub use entry::Entry;
 pub use laws::{
-    bearers_have_their_own_ids, commands_are_lawful, journals_grow, rows_are_lawful,
+    bearers_have_their_own_ids, commands_are_lawful, journals_grow, levels_stay, rows_are_lawful,
     sessions_end_whole, usage_is_exact, waiting_rows_stay,
 };
+pub use level::Level;
 pub use pending_report::PendingReport;
 pub use profile::{MAX_CAPACITY, MAX_COMMANDS, Profile};
 pub use report::{Body, Cause, InactiveCause, Report};
