@@ -1,6 +1,7 @@
 //! A table with its index.
 
 ghost use Rattle.std.specs.Prelude.{◌≡◌, [], IfOk, map};
+ghost use Rattle.pcef_table.specs.SessionSlots.{no_slots};
 ghost use Rattle.pcef_table.specs.Tables.{IsTable};
 ghost use Rattle.pcef_table.specs.Verdicts.{IsVerdict};
 
@@ -41,6 +42,7 @@ impl Indexed {
     pub fn empty(alloc: Global, generation: u32) -> Result<Indexed, AllocError>
         ensures number { IfOk result (λ i. i.number ≡ generation) }
         ensures entries { IfOk result (λ i. i.entries ≡ []) }
+        ensures session { IfOk result (λ i. i.session ≡ no_slots) }
     {
         let table = Table::empty(alloc, generation)?;
         let index = index_of(alloc, Vec::new(alloc))?;

@@ -1,3 +1,4 @@
 pub mod Decided
+pub mod Flags
 pub mod KeepingLoops
 pub mod Ordered

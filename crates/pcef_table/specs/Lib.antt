@@ -1,3 +1,4 @@
+pub mod SessionSlots
 pub mod Sides
 pub mod Sources
 pub mod Tables

@@ -8,10 +8,12 @@ use Rattle.pcef_table.specs.Sources.{IsKnown, is_named, name_of, rank_of}
 use Rattle.pcef_model.specs.declared.command.Command.{Command}
 use Rattle.pcef_model.specs.Commands.{takes_away}
 
--- the number of a generation, and its entries in precedence order
+-- the number of a generation, its entries in precedence order, and for each slot whether it is that of a key of session
+-- level that is on
 pub record TableValue : Type 0 where
   pub number : ℕ
   pub entries : List Entry
+  pub session : List Bool
 
 -- own choice
 abbrev pub most_entries : ℕ

@@ -110,6 +110,17 @@ pub(crate) fn copy_with<C: Offers>(
     Ok(kept)
 }
 
+/// Copies of all entries.
+pub(crate) fn copy_all(alloc: Global, entries: &[Entry]) -> Result<Vec<Entry>, AllocError>
+    ensures { IfOk result (λ v. v.items ≡ entries.now) }
+{
+    let mut copies = Vec::with_capacity(alloc, entries.len())?;
+    for entry in entries {
+        copies.push(entry.copy()?)?;
+    }
+    Ok(copies)
+}
+
 /// A copy of an entry, whose slot is counted or not.
 fn copy_counting_one(entry: &Entry, slot: Slot, on: bool) -> Result<Entry, AllocError>
     ensures { IfOk result (λ e. e ≡ with_counting slot on entry.now) }

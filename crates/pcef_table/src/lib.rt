@@ -4,6 +4,7 @@
 mod change;
 mod deciding;
 mod entry;
+mod session_slots;
 mod source;
 mod table;
 

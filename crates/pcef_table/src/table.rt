@@ -1,14 +1,17 @@
 //! The table of a generation.
 
-ghost use Rattle.std.specs.Prelude.{◌≡◌, ◌≤◌, ◌<◌, ◌+◌, ◌^◌, [], IfOk, length, map, slice_get};
+ghost use Rattle.std.specs.Prelude.{◌≡◌, ◌≤◌, ◌<◌, ◌+◌, ◌^◌, [], IfOk, length, map, set, slice_get};
 ghost use Rattle.std.specs.Option.{option_copied};
+ghost use Rattle.pcef_table.specs.SessionSlots.{no_slots, slots_counted, slots_up};
 ghost use Rattle.pcef_table.specs.Sources.{IsKnown};
 ghost use Rattle.pcef_table.specs.Tables.{IsTable, StaysTable, most_entries, placed, with_counting, without, without_bearer, without_taken};
 ghost use Rattle.pcef_table.specs.Verdicts.{IsVerdict, slot_for};
 
-use crate::change::{copy_counting, copy_with, copy_without_taken};
+use crate::change::{copy_all, copy_counting, copy_with, copy_without_taken};
 use crate::deciding::{first_fitting, gate_verdict, is_own, slot_of};
 use crate::entry::Entry;
+use crate::session_slots::{Flags, slots_up, with_slot};
+use arrayvec::ArrayVec;
 use pcef_catalog::{Detects, Offers};
 use pcef_model::{Command, Verdict};
 use pcef_packet::{Addr, Header};
@@ -25,6 +28,7 @@ pub struct Table {
     alloc: Global,
     entries: Vec<Entry>,
     generation: u32,
+    session: Flags,
 }
 
 // Written out, so that an owner proves one call at each way out.
@@ -34,6 +38,7 @@ impl Drop for Table {
             alloc: _,
             entries: _,
             generation: _,
+            session: _,
         } = self;
     }
 }
@@ -45,21 +50,27 @@ impl Model for Table {
 
     ghost Value = { TableValue };
 
-    ghost view = { λ t. record { number = t.generation; entries = t.entries.items } };
+    ghost view = { λ t. record {
+      number = t.generation;
+      entries = t.entries.items;
+      session = t.session;
+    } };
 
     ghost invariant = { λ t. length t.entries.items ≤ most_entries };
 }
 
 impl Table {
-    /// The table of a generation without rules.
+    /// The table of a generation without rules, in which no key of session level is on.
     pub fn empty(alloc: Global, generation: u32) -> Result<Table, AllocError>
         ensures number { IfOk result (λ t. t.number ≡ generation) }
         ensures entries { IfOk result (λ t. t.entries ≡ []) }
+        ensures session { IfOk result (λ t. t.session ≡ no_slots) }
     {
         Ok(Table {
             alloc,
             entries: Vec::new(alloc),
             generation,
+            session: [false; 8],
         })
     }
 
@@ -103,6 +114,7 @@ impl Table {
         ensures number { IfOk result (λ t. t.number ≡ self.now.number + 1) }
         ensures entries { IfOk result
             (λ t. t.entries ≡ placed (C.offers catalog.now) entry self.now.entries) }
+        ensures session { IfOk result (λ t. t.session ≡ self.now.session) }
         ensures table { IfOk result (λ t. IsTable (C.offers catalog.now) t.entries) }
     {
         let entries = copy_with(self.alloc, catalog, self.entries(), entry)?;
@@ -110,6 +122,7 @@ impl Table {
             alloc: self.alloc,
             entries,
             generation: self.generation + 1,
+            session: self.session,
         })
     }
 
@@ -120,6 +133,7 @@ impl Table {
         ensures number { IfOk result (λ t. t.number ≡ self.now.number + 1) }
         ensures entries { IfOk result
             (λ t. t.entries ≡ without (C.offers catalog.now) name.now self.now.entries) }
+        ensures session { IfOk result (λ t. t.session ≡ self.now.session) }
         ensures table { IfOk result (λ t. IsTable (C.offers catalog.now) t.entries) }
     {
         self.without_taken(catalog, &Command::Remove(name.copy()))
@@ -135,6 +149,7 @@ impl Table {
         requires table { IsTable (C.offers catalog.now) self.now.entries }
         ensures number { IfOk result (λ t. t.number ≡ self.now.number + 1) }
         ensures entries { IfOk result (λ t. t.entries ≡ without_bearer bearer.0 self.now.entries) }
+        ensures session { IfOk result (λ t. t.session ≡ self.now.session) }
         ensures table { IfOk result (λ t. IsTable (C.offers catalog.now) t.entries) }
     {
         self.without_taken(catalog, &Command::LoseBearer(bearer))
@@ -151,6 +166,7 @@ impl Table {
         ensures number { IfOk result (λ t. t.number ≡ self.now.number + 1) }
         ensures entries { IfOk result
             (λ t. t.entries ≡ without_taken (C.offers catalog.now) command.now self.now.entries) }
+        ensures session { IfOk result (λ t. t.session ≡ self.now.session) }
         ensures table { IfOk result (λ t. IsTable (C.offers catalog.now) t.entries) }
     {
         let entries = copy_without_taken(self.alloc, catalog, self.entries(), command)?;
@@ -158,6 +174,7 @@ impl Table {
             alloc: self.alloc,
             entries,
             generation: self.generation + 1,
+            session: self.session,
         })
     }
 
@@ -167,6 +184,7 @@ impl Table {
         ensures number { IfOk result (λ t. t.number ≡ self.now.number + 1) }
         ensures entries { IfOk result
             (λ t. t.entries ≡ map (with_counting slot on) self.now.entries) }
+        ensures session { IfOk result (λ t. t.session ≡ self.now.session) }
         ensures table { IfOk result (λ t. StaysTable self.now.entries t.entries) }
     {
         let entries = copy_counting(self.alloc, self.entries(), slot, on)?;
@@ -174,7 +192,49 @@ impl Table {
             alloc: self.alloc,
             entries,
             generation: self.generation + 1,
+            session: self.session,
         })
+    }
+
+    /// The next generation, where every packet that passes counts for this slot or doesn't, or want of memory.
+    pub fn counting_session(&self, slot: Slot, on: bool) -> Result<Table, AllocError>
+        requires number { self.now.number + 1 < 2 ^ 32 }
+        requires slot { slot.0 < 8 }
+        ensures number { IfOk result (λ t. t.number ≡ self.now.number + 1) }
+        ensures entries { IfOk result (λ t. t.entries ≡ self.now.entries) }
+        ensures session { IfOk result (λ t. t.session ≡ set self.now.session slot.0 on) }
+    {
+        let entries = copy_all(self.alloc, self.entries())?;
+        let mut session = self.session;
+        session[slot.0 as usize] = on;
+        Ok(Table {
+            alloc: self.alloc,
+            entries,
+            generation: self.generation + 1,
+            session,
+        })
+    }
+
+    /// The next generation without rules, or want of memory.
+    pub fn cleared(&self) -> Result<Table, AllocError>
+        requires { self.now.number + 1 < 2 ^ 32 }
+        ensures number { IfOk result (λ t. t.number ≡ self.now.number + 1) }
+        ensures entries { IfOk result (λ t. t.entries ≡ []) }
+        ensures session { IfOk result (λ t. t.session ≡ self.now.session) }
+    {
+        Ok(Table {
+            alloc: self.alloc,
+            entries: Vec::new(self.alloc),
+            generation: self.generation + 1,
+            session: self.session,
+        })
+    }
+
+    /// The slots of the keys of session level that are on, in slot order.
+    pub fn session_slots(&self) -> ArrayVec<Slot, 8>
+        ensures { result.items ≡ slots_up self.now.session }
+    {
+        slots_up(&self.session)
     }
 
     /// What the generation decides of a packet, for a session with this address
@@ -203,6 +263,18 @@ impl Table {
         match verdict {
             Verdict::Passed { rule, .. } => slot_of(catalog, self.entries(), rule),
             _ => None,
+        }
+    }
+
+    /// The slots that a packet with this verdict counts for, in slot order: where it passed, the counted slot of its
+    /// rule, and those of the keys of session level that are on. Takes no memory.
+    pub fn slots_counted<C: Offers>(&self, catalog: &C, verdict: &Verdict) -> ArrayVec<Slot, 8>
+        requires { IsTable (C.offers catalog.now) self.now.entries }
+        ensures { result.items ≡ slots_counted (C.offers catalog.now) self.now verdict.now }
+    {
+        match verdict {
+            Verdict::Passed { .. } => slots_up(&with_slot(self.counts(catalog, verdict), self.session)),
+            _ => ArrayVec::new(),
         }
     }
 }

@@ -5,8 +5,9 @@ use Rattle.pcef_model.specs.declared.command.Command.{Command}
 use Rattle.pcef_model.specs.declared.command.Command.TheVariants.{Install, Activate, Remove, Monitor, Stop, ReportNow, Triggers, Notice, LoseBearer, Close, Terminate}
 use Rattle.pcef_model.specs.declared.entry.Entry.TheVariants as entry
 use Rattle.pcef_model.specs.declared.pending_report.PendingReport.{PendingReport}
+use Rattle.pcef_model.specs.declared.level.Level.TheVariants.{Rule}
 use Rattle.pcef_model.specs.Setting.{Setting, most_keys}
-use Rattle.pcef_model.specs.Commands.{key_named}
+use Rattle.pcef_model.specs.Commands.{key_named, level_named}
 use Rattle.pcef_model.specs.Entries.{Journal}
 use Rattle.pcef_model.specs.Journals.{report_count, subscribed}
 use Rattle.pcef_model.specs.Reports.{after_command, plan, tell}
@@ -31,7 +32,7 @@ unfolding subscribed
 subscribed_after j (Install rule) = refl
 subscribed_after j (Activate name) = refl
 subscribed_after j (Remove name) = refl
-subscribed_after j (Monitor l amount) = refl
+subscribed_after j (Monitor l amount level) = refl
 subscribed_after j (Stop l) = refl
 subscribed_after j (ReportNow l) = refl
 subscribed_after j (Triggers set) = refl
@@ -46,8 +47,8 @@ subscribed_after_command p j c =
     subscribed_settled p (tell p (plan p j c) (entry.Command c ∷ j)) ∙ tell_subscribed p (plan p j c) (entry.Command c ∷ j) ∙ subscribed_after j c
 
 -- ---- keys
-pub length-entered : (p : Setting) (c : Command) (states : List KeyState) → length (entered p c states) ≡ length (with_slot (key_named p c) states)
-length-entered p (Monitor l amount) states = length-at_place (started amount) (place_of l (with_slot (key_named p (Monitor l amount)) states)) (with_slot (key_named p (Monitor l amount)) states)
+pub length-entered : (p : Setting) (c : Command) (states : List KeyState) → length (entered p c states) ≡ length (with_slot (key_named p c) (level_named c) states)
+length-entered p (Monitor l amount level) states = length-at_place (started amount) (place_of l (with_slot (key_named p (Monitor l amount level)) level states)) (with_slot (key_named p (Monitor l amount level)) level states)
 length-entered p (Install rule) states = refl
 length-entered p (Activate name) states = refl
 length-entered p (Remove name) states = refl
@@ -60,4 +61,4 @@ length-entered p Close states = refl
 length-entered p Terminate states = refl
 
 pub few_entered : (p : Setting) (c : Command) (states : List KeyState) → finds_no_slot (key_named p c) states ≡ false → length states ≤ most_keys → length (entered p c states) ≤ most_keys
-few_entered p c states finds few = let fits = few_with_slot (key_named p c) states finds few in omega (arith, fits, length-entered p c states)
+few_entered p c states finds few = let fits = few_with_slot (key_named p c) (level_named c) states finds few in omega (arith, fits, length-entered p c states)

@@ -6,6 +6,7 @@ use Rattle.std.proofs.lemmas.Bool.{cases_Bool}
 use Rattle.pcef_model.specs.declared.command.Command.{Command}
 use Rattle.pcef_model.specs.declared.command.Command.TheVariants.{Install, Activate, Remove, Monitor, Stop, ReportNow, Triggers, Notice, LoseBearer, Close, Terminate}
 use Rattle.pcef_model.specs.declared.entry.Entry.TheVariants as entry
+use Rattle.pcef_model.specs.declared.level.Level.TheVariants.{Rule}
 use Rattle.pcef_model.specs.Setting.{Setting, same_name}
 use Rattle.pcef_model.specs.Generations.{add_if_some, slots_of}
 use Rattle.pcef_model.specs.Commands.{add_key, is_among, key_named}
@@ -31,10 +32,10 @@ use Rattle.pcef_usage.proofs.Tells.{all_same, keys_at_place}
 -- ---- the keys as a command comes
 pub keys_entered : (p : Setting) (j : Journal) (c : Command) (states : List KeyState) → keys_of states ≡ slots p j → keys_of (entered p c states) ≡ slots p (entry.Command c ∷ j)
 unfolding slots_of
-keys_entered p j (Monitor l amount) states keys =
-    keys_at_place (started amount) (place_of l (with_slot (Some l) states)) (with_slot (Some l) states) (λ s. refl) ∙ keys_with_slot (Some l) states ∙ ap (add_key l) keys
-keys_entered p j (Install rule) states keys = keys_with_slot (key_named p (Install rule)) states ∙ ap (add_if_some (key_named p (Install rule))) keys
-keys_entered p j (Activate name) states keys = keys_with_slot (key_named p (Activate name)) states ∙ ap (add_if_some (key_named p (Activate name))) keys
+keys_entered p j (Monitor l amount level) states keys =
+    keys_at_place (started amount) (place_of l (with_slot (Some l) level states)) (with_slot (Some l) level states) (λ s. refl) ∙ keys_with_slot (Some l) level states ∙ ap (add_key l) keys
+keys_entered p j (Install rule) states keys = keys_with_slot (key_named p (Install rule)) Rule states ∙ ap (add_if_some (key_named p (Install rule))) keys
+keys_entered p j (Activate name) states keys = keys_with_slot (key_named p (Activate name)) Rule states ∙ ap (add_if_some (key_named p (Activate name))) keys
 keys_entered p j (Remove name) states keys = keys
 keys_entered p j (Stop l) states keys = keys
 keys_entered p j (ReportNow l) states keys = keys
@@ -47,7 +48,7 @@ keys_entered p j Terminate states keys = keys
 -- ---- what they count
 -- only a Monitor grants
 abbrev IsNoMonitor : Command → Type 0
-IsNoMonitor (Monitor l amount) = ⊥
+IsNoMonitor (Monitor l amount level) = ⊥
 IsNoMonitor _ = Unit {0}
 
 grant_same : (j : Journal) (c : Command) (k : List ℕ) → IsNoMonitor c → grant (entry.Command c ∷ j) k ≡ grant j k
@@ -55,7 +56,7 @@ unfolding grant
 grant_same j (Install rule) k isnt = refl
 grant_same j (Activate name) k isnt = refl
 grant_same j (Remove name) k isnt = refl
-grant_same j (Monitor l amount) k isnt = absurd isnt
+grant_same j (Monitor l amount level) k isnt = absurd isnt
 grant_same j (Stop l) k isnt = refl
 grant_same j (ReportNow l) k isnt = refl
 grant_same j (Triggers set) k isnt = refl
@@ -79,14 +80,14 @@ all_count_after p j c states known isnt all = all_same (Counts p j []) (Counts p
 counts_entered : (p : Setting) (j : Journal) (c : Command) (states : List KeyState) → keys_of states ≡ slots p j → Known (gen j) (rows j) →
     ((k : List ℕ) → reported j k ≤ counted p j k) → AllCount p j [] states → AllCount p (entry.Command c ∷ j) [] (entered p c states)
 unfolding slots_of
-counts_entered p j (Monitor l amount) states keys known exact all =
-    let now_keys : keys_of (with_slot (Some l) states) ≡ add_key l (slots p j) = keys_with_slot (Some l) states ∙ ap (add_key l) keys in
-    let distinct : Distinct (keys_of (with_slot (Some l) states)) = subst Distinct (sym now_keys) (distinct_slots p (tables (entry.Command (Monitor l amount) ∷ j))) in
-    monitor_counts p j l amount (with_slot (Some l) states) known distinct (slot_counts p j (Some l) states exact keys all)
+counts_entered p j (Monitor l amount level) states keys known exact all =
+    let now_keys : keys_of (with_slot (Some l) level states) ≡ add_key l (slots p j) = keys_with_slot (Some l) level states ∙ ap (add_key l) keys in
+    let distinct : Distinct (keys_of (with_slot (Some l) level states)) = subst Distinct (sym now_keys) (distinct_slots p (tables (entry.Command (Monitor l amount level) ∷ j))) in
+    monitor_counts p j l amount level (with_slot (Some l) level states) known distinct (slot_counts p j (Some l) level states exact keys all)
 counts_entered p j (Install rule) states keys known exact all =
-    all_count_after p j (Install rule) (with_slot (key_named p (Install rule)) states) known tt (slot_counts p j (key_named p (Install rule)) states exact keys all)
+    all_count_after p j (Install rule) (with_slot (key_named p (Install rule)) Rule states) known tt (slot_counts p j (key_named p (Install rule)) Rule states exact keys all)
 counts_entered p j (Activate name) states keys known exact all =
-    all_count_after p j (Activate name) (with_slot (key_named p (Activate name)) states) known tt (slot_counts p j (key_named p (Activate name)) states exact keys all)
+    all_count_after p j (Activate name) (with_slot (key_named p (Activate name)) Rule states) known tt (slot_counts p j (key_named p (Activate name)) Rule states exact keys all)
 counts_entered p j (Remove name) states keys known exact all = all_count_after p j (Remove name) states known tt all
 counts_entered p j (Stop l) states keys known exact all = all_count_after p j (Stop l) states known tt all
 counts_entered p j (ReportNow l) states keys known exact all = all_count_after p j (ReportNow l) states known tt all
@@ -100,12 +101,12 @@ counts_entered p j Terminate states keys known exact all = all_count_after p j T
 on_entered : (p : Setting) (j : Journal) (c : Command) (states : List KeyState) → keys_of states ≡ slots p j → AllOn p j states →
     AllByRecursion (λ s. s.on ≡ is_among s.key (switched_on c (now p j).on)) (entered p c states)
 unfolding slots_of
-on_entered p j (Monitor l amount) states keys all =
-    let now_keys : keys_of (with_slot (Some l) states) ≡ add_key l (slots p j) = keys_with_slot (Some l) states ∙ ap (add_key l) keys in
-    let distinct : Distinct (keys_of (with_slot (Some l) states)) = subst Distinct (sym now_keys) (distinct_slots p (tables (entry.Command (Monitor l amount) ∷ j))) in
-    monitor_on (now p j).on l amount (with_slot (Some l) states) distinct (from_on p j (with_slot (Some l) states) (slot_on p j (Some l) states keys all))
-on_entered p j (Install rule) states keys all = from_on p j (with_slot (key_named p (Install rule)) states) (slot_on p j (key_named p (Install rule)) states keys all)
-on_entered p j (Activate name) states keys all = from_on p j (with_slot (key_named p (Activate name)) states) (slot_on p j (key_named p (Activate name)) states keys all)
+on_entered p j (Monitor l amount level) states keys all =
+    let now_keys : keys_of (with_slot (Some l) level states) ≡ add_key l (slots p j) = keys_with_slot (Some l) level states ∙ ap (add_key l) keys in
+    let distinct : Distinct (keys_of (with_slot (Some l) level states)) = subst Distinct (sym now_keys) (distinct_slots p (tables (entry.Command (Monitor l amount level) ∷ j))) in
+    monitor_on (now p j).on l amount (with_slot (Some l) level states) distinct (from_on p j (with_slot (Some l) level states) (slot_on p j (Some l) level states keys all))
+on_entered p j (Install rule) states keys all = from_on p j (with_slot (key_named p (Install rule)) Rule states) (slot_on p j (key_named p (Install rule)) Rule states keys all)
+on_entered p j (Activate name) states keys all = from_on p j (with_slot (key_named p (Activate name)) Rule states) (slot_on p j (key_named p (Activate name)) Rule states keys all)
 on_entered p j (Remove name) states keys all = from_on p j states all
 on_entered p j (Stop l) states keys all = from_on p j states all
 on_entered p j (ReportNow l) states keys all = from_on p j states all

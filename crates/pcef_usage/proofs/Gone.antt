@@ -9,6 +9,7 @@ use Rattle.pcef_model.specs.declared.report.Cause.{Cause}
 use Rattle.pcef_model.specs.declared.report.Cause.TheVariants.{RulesGone, Terminated}
 use Rattle.pcef_model.specs.declared.pending_report.PendingReport.{PendingReport}
 use Rattle.pcef_model.specs.declared.pending_report.PendingReport.TheVariants.{Inactive, Usage}
+use Rattle.pcef_model.specs.declared.level.Level.{Level}
 use Rattle.pcef_model.specs.Setting.{Setting, same_name}
 use Rattle.pcef_model.specs.ActiveRules.{has_key}
 use Rattle.pcef_model.specs.Generations.{Generation, made_by, rules_after, slots_of}
@@ -62,7 +63,7 @@ inactive_none g (LoseBearer id) k = inactive_ends (in_order (map (λ r. r.proper
 inactive_none g (Install rule) k = refl
 inactive_none g (Activate name) k = refl
 inactive_none g (Remove name) k = refl
-inactive_none g (Monitor l amount) k = refl
+inactive_none g (Monitor l amount level) k = refl
 inactive_none g (Stop l) k = refl
 inactive_none g (ReportNow l) k = refl
 inactive_none g (Triggers set) k = refl
@@ -75,7 +76,7 @@ noticed_none j (Notice kind value) k = elim (cases_Bool (is_subscribed (subscrib
 noticed_none j (Install rule) k = refl
 noticed_none j (Activate name) k = refl
 noticed_none j (Remove name) k = refl
-noticed_none j (Monitor l amount) k = refl
+noticed_none j (Monitor l amount level) k = refl
 noticed_none j (Stop l) k = refl
 noticed_none j (ReportNow l) k = refl
 noticed_none j (Triggers set) k = refl
@@ -101,7 +102,7 @@ pub gone_are : (p : Setting) (j : Journal) (c : Command) → c ≢ Terminate →
 gone_are p j (Install rule) differs = refl
 gone_are p j (Activate name) differs = refl
 gone_are p j (Remove name) differs = refl
-gone_are p j (Monitor l amount) differs = refl
+gone_are p j (Monitor l amount level) differs = refl
 gone_are p j (Stop l) differs = refl
 gone_are p j (ReportNow l) differs = refl
 gone_are p j (Triggers set) differs = refl
@@ -186,10 +187,10 @@ quiet_ends p j c k differs same =
     plan_ends p j c k
     ∙ ap (λ b. b || ended (requested c) k) (gone_ends p j c k differs ∙ ap (λ b. is_among k (slots p j) && b) (none_gone p j c k same) ∙ and_false (is_among k (slots p j)))
 
-after_monitor : (p : Setting) (j : Journal) (l : List ℕ) (amount : ℕ) → OnAfter p j (Monitor l amount)
-after_monitor p j l amount k has =
-    next_on p j (Monitor l amount) k refl
-    ∙ ap (λ b. is_among k (add_key l (now p j).on) && not b) (none_gone p j (Monitor l amount) k (filter_all (now p j).rules) ∙ sym (quiet_ends p j (Monitor l amount) k (λ e. cc) (filter_all (now p j).rules)))
+after_monitor : (p : Setting) (j : Journal) (l : List ℕ) (amount : ℕ) (level : Level) → OnAfter p j (Monitor l amount level)
+after_monitor p j l amount level k has =
+    next_on p j (Monitor l amount level) k refl
+    ∙ ap (λ b. is_among k (add_key l (now p j).on) && not b) (none_gone p j (Monitor l amount level) k (filter_all (now p j).rules) ∙ sym (quiet_ends p j (Monitor l amount level) k (λ e. cc) (filter_all (now p j).rules)))
 
 turned : (l k : List ℕ) → same_name l k ≡ same_name k l
 turned l k =
@@ -223,7 +224,7 @@ pub on_after : (p : Setting) (j : Journal) (c : Command) → OnAfter p j c
 on_after p j (Install rule) = plain_after p j (Install rule) refl (λ e. cc) (λ k. refl) refl refl
 on_after p j (Activate name) = plain_after p j (Activate name) refl (λ e. cc) (λ k. refl) refl refl
 on_after p j (Remove name) = plain_after p j (Remove name) refl (λ e. cc) (λ k. refl) refl refl
-on_after p j (Monitor l amount) = after_monitor p j l amount
+on_after p j (Monitor l amount level) = after_monitor p j l amount level
 on_after p j (Stop l) = after_stop p j l
 on_after p j (ReportNow l) = other_after p j (ReportNow l) refl (λ e. cc) (filter_all (now p j).rules) (requested_ends l) refl
 on_after p j (Triggers set) = other_after p j (Triggers set) refl (λ e. cc) (filter_all (now p j).rules) (λ k. refl) refl

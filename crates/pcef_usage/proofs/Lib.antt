@@ -3,6 +3,7 @@ pub mod Commanded
 pub mod Endings
 pub mod Flushed
 pub mod Gone
+pub mod Levels
 pub mod Loops
 pub mod Monitors
 pub mod Places

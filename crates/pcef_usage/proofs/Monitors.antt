@@ -7,6 +7,7 @@ use Rattle.std.proofs.lemmas.List.{length-append, length-map}
 use Rattle.pcef_model.specs.declared.command.Command.{Command}
 use Rattle.pcef_model.specs.declared.command.Command.TheVariants.{Install, Activate, Remove, Monitor, Stop, ReportNow, Triggers, Notice, LoseBearer, Close, Terminate}
 use Rattle.pcef_model.specs.declared.entry.Entry.TheVariants as entry
+use Rattle.pcef_model.specs.declared.level.Level.{Level}
 use Rattle.pcef_model.specs.Setting.{Setting, same_name, most_keys}
 use Rattle.pcef_model.specs.Commands.{add_key, is_among, key_named, is_table}
 use Rattle.pcef_model.specs.Generations.{slots_of}
@@ -34,7 +35,7 @@ slots_before p j c k absent =
 pub stranger_grant : (p : Setting) (j : Journal) (k : List ℕ) → is_among k (slots p j) ≡ false → grant j k ≡ None
 unfolding grant slots_of
 stranger_grant p [] k absent = refl
-stranger_grant p (entry.Command (Monitor l amount) ∷ j) k absent =
+stranger_grant p (entry.Command (Monitor l amount level) ∷ j) k absent =
     let parts = or_no (is_among k (slots p j)) (same_name k l) (sym (is_among_add k l (slots p j)) ∙ absent) in rw parts.1 (stranger_grant p j k parts.0)
 stranger_grant p (entry.Report r ∷ j) k absent = elim (cases_Bool (takes_grant k r.body)) [ inl takes ↦ rw takes refl | inr leaves ↦ rw leaves (stranger_grant p j k absent) ]
 stranger_grant p (entry.Attach w ∷ j) k absent = stranger_grant p j k absent
@@ -59,31 +60,31 @@ all_push P (x ∷ xs) y all here = (all.0, all_push P xs y all.1 here)
 absent_from : (p : Setting) (j : Journal) (k : List ℕ) (states : List KeyState) → keys_of states ≡ slots p j → has_slot k states ≡ false → is_among k (slots p j) ≡ false
 absent_from p j k states keys none = ap (is_among k) (sym keys) ∙ sym (has_slot_is k states) ∙ none
 
-fresh_counts : (p : Setting) (j : Journal) (k : List ℕ) → reported j k ≤ counted p j k → is_among k (slots p j) ≡ false → Counts p j [] (fresh k)
-fresh_counts p j k exact absent =
+fresh_counts : (p : Setting) (j : Journal) (k : List ℕ) (level : Level) → reported j k ≤ counted p j k → is_among k (slots p j) ≡ false → Counts p j [] (fresh k level)
+fresh_counts p j k level exact absent =
     let none : counted p j k ≡ 0 = stranger_counted p j k absent in record {
       grant_is = sym (stranger_grant p j k absent);
       reported_is = omega (arith, exact);
       counted_is = omega arith;
     }
 
-pub slot_counts : (p : Setting) (j : Journal) (named : Option (List ℕ)) (states : List KeyState) → ((k : List ℕ) → reported j k ≤ counted p j k) → keys_of states ≡ slots p j →
-    AllCount p j [] states → AllCount p j [] (with_slot named states)
+pub slot_counts : (p : Setting) (j : Journal) (named : Option (List ℕ)) (level : Level) (states : List KeyState) → ((k : List ℕ) → reported j k ≤ counted p j k) → keys_of states ≡ slots p j →
+    AllCount p j [] states → AllCount p j [] (with_slot named level states)
 unfolding AllCount
-slot_counts p j None states exact keys all = all
-slot_counts p j (Some k) states exact keys all =
+slot_counts p j None level states exact keys all = all
+slot_counts p j (Some k) level states exact keys all =
     elim (cases_Bool (has_slot k states)) [
       | inl is ↦ rw is all
-      | inr isnt ↦ rw isnt (all_push (Counts p j []) states (fresh k) all (fresh_counts p j k (exact k) (absent_from p j k states keys isnt)))
+      | inr isnt ↦ rw isnt (all_push (Counts p j []) states (fresh k level) all (fresh_counts p j k level (exact k) (absent_from p j k states keys isnt)))
     ]
 
-pub slot_on : (p : Setting) (j : Journal) (named : Option (List ℕ)) (states : List KeyState) → keys_of states ≡ slots p j → AllOn p j states → AllOn p j (with_slot named states)
+pub slot_on : (p : Setting) (j : Journal) (named : Option (List ℕ)) (level : Level) (states : List KeyState) → keys_of states ≡ slots p j → AllOn p j states → AllOn p j (with_slot named level states)
 unfolding AllOn
-slot_on p j None states keys all = all
-slot_on p j (Some k) states keys all =
+slot_on p j None level states keys all = all
+slot_on p j (Some k) level states keys all =
     elim (cases_Bool (has_slot k states)) [
       | inl is ↦ rw is all
-      | inr isnt ↦ rw isnt (all_push (OnIs p j) states (fresh k) all (record { on_is = sym (stranger_off p (tables j) k (absent_from p j k states keys isnt)) }))
+      | inr isnt ↦ rw isnt (all_push (OnIs p j) states (fresh k level) all (record { on_is = sym (stranger_off p (tables j) k (absent_from p j k states keys isnt)) }))
     ]
 
 -- the test for a free slot, by the journal
@@ -94,36 +95,36 @@ finds_no_slot_is p j k states keys =
     let many : length states ≡ length (slots p j) = sym (length-map states (λ s. s.key)) ∙ ap length keys in
     ap (λ (b : Bool). not b && nat_le most_keys (length states)) known ∙ ap (λ n. not (is_among k (slots p j)) && nat_le most_keys n) many
 
-pub few_with_slot : (named : Option (List ℕ)) (states : List KeyState) → finds_no_slot named states ≡ false → length states ≤ most_keys → length (with_slot named states) ≤ most_keys
-few_with_slot None states finds few = few
-few_with_slot (Some k) states finds few =
+pub few_with_slot : (named : Option (List ℕ)) (level : Level) (states : List KeyState) → finds_no_slot named states ≡ false → length states ≤ most_keys → length (with_slot named level states) ≤ most_keys
+few_with_slot None level states finds few = few
+few_with_slot (Some k) level states finds few =
     elim (cases_Bool (has_slot k states)) [
       | inl is ↦ rw is few
       | inr isnt ↦
           let room : nat_le most_keys (length states) ≡ false = rw isnt at finds in
-          let below = leb-false most_keys (length states) room in rw isnt (omega (arith, below, length-append states (fresh k ∷ [])))
+          let below = leb-false most_keys (length states) room in rw isnt (omega (arith, below, length-append states (fresh k level ∷ [])))
     ]
 
 -- ---- a Monitor
-start_counts : (p : Setting) (j : Journal) (k : List ℕ) (amount : ℕ) (s : KeyState) → Known (gen j) (rows j) → Counts p j [] s →
-    Counts p (entry.Command (Monitor k amount) ∷ j) [] (if same_name k s.key then started amount s else s)
+start_counts : (p : Setting) (j : Journal) (k : List ℕ) (amount : ℕ) (level : Level) (s : KeyState) → Known (gen j) (rows j) → Counts p j [] s →
+    Counts p (entry.Command (Monitor k amount level) ∷ j) [] (if same_name k s.key then started amount s else s)
 unfolding grant
-start_counts p j k amount s known agrees =
-    let told : reported (entry.Command (Monitor k amount) ∷ j) s.key ≡ reported j s.key = reported_after_command j s.key (Monitor k amount) in
-    let same : counted p (entry.Command (Monitor k amount) ∷ j) s.key ≡ counted p j s.key = counted_after_command p j s.key (Monitor k amount) known in
+start_counts p j k amount level s known agrees =
+    let told : reported (entry.Command (Monitor k amount level) ∷ j) s.key ≡ reported j s.key = reported_after_command j s.key (Monitor k amount level) in
+    let same : counted p (entry.Command (Monitor k amount level) ∷ j) s.key ≡ counted p j s.key = counted_after_command p j s.key (Monitor k amount level) known in
     elim (cases_Bool (same_name k s.key)) [
       | inl is ↦ rw is (record { grant_is = rw (same_name_turned k s.key is) refl; reported_is = agrees.reported_is ∙ sym told; counted_is = agrees.counted_is ∙ sym same })
       | inr isnt ↦ rw isnt (record { grant_is = rw (same_name_not k s.key isnt) agrees.grant_is; reported_is = agrees.reported_is ∙ sym told; counted_is = agrees.counted_is ∙ sym same })
     ]
 
 -- the key of a Monitor is started where it has its place
-pub monitor_counts : (p : Setting) (j : Journal) (k : List ℕ) (amount : ℕ) (states : List KeyState) → Known (gen j) (rows j) → Distinct (keys_of states) → AllCount p j [] states →
-    AllCount p (entry.Command (Monitor k amount) ∷ j) [] (at_place (place_of k states) (started amount) states)
+pub monitor_counts : (p : Setting) (j : Journal) (k : List ℕ) (amount : ℕ) (level : Level) (states : List KeyState) → Known (gen j) (rows j) → Distinct (keys_of states) → AllCount p j [] states →
+    AllCount p (entry.Command (Monitor k amount level) ∷ j) [] (at_place (place_of k states) (started amount) states)
 unfolding AllCount
-monitor_counts p j k amount states known distinct all =
-    subst (AllByRecursion (Counts p (entry.Command (Monitor k amount) ∷ j) [])) (sym (at_place_maps (started amount) k states distinct))
-    (all_mapped (Counts p j []) (Counts p (entry.Command (Monitor k amount) ∷ j) []) (λ s. if same_name k s.key then started amount s else s) states
-    (λ s h. start_counts p j k amount s known h) all)
+monitor_counts p j k amount level states known distinct all =
+    subst (AllByRecursion (Counts p (entry.Command (Monitor k amount level) ∷ j) [])) (sym (at_place_maps (started amount) k states distinct))
+    (all_mapped (Counts p j []) (Counts p (entry.Command (Monitor k amount level) ∷ j) []) (λ s. if same_name k s.key then started amount s else s) states
+    (λ s h. start_counts p j k amount level s known h) all)
 
 or_true : (a : Bool) → (a || true) ≡ true
 or_true true = refl

@@ -88,7 +88,7 @@ none_lost_by p j c states differs same =
 
 -- the keys that a command ends that isn't Terminate
 pub lost_by_states : (p : Setting) (j : Journal) (c : Command) (states : List KeyState) → c ≢ Terminate → keys_of states ≡ slots p j → AllOn p j states → rules_gone p j c states ≡ keys_ended p j c
-lost_by_states p j (Monitor key amount) states differs keys on = none_lost_by p j (Monitor key amount) states differs (filter_all (now p j).rules)
+lost_by_states p j (Monitor key amount level) states differs keys on = none_lost_by p j (Monitor key amount level) states differs (filter_all (now p j).rules)
 lost_by_states p j (Stop key) states differs keys on = none_lost_by p j (Stop key) states differs (filter_all (now p j).rules)
 lost_by_states p j (Install rule) states differs keys on = gone_by_states p j (Install rule) states differs refl keys on
 lost_by_states p j (Activate name) states differs keys on = gone_by_states p j (Activate name) states differs refl keys on

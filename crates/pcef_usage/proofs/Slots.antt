@@ -2,12 +2,13 @@
 use Rattle.std.proofs.Common.{◌≡◌, ◌∙◌, ℕ, Bool, true, false, List, [], ◌∷◌, ◌++◌, length, refl, sym, ap, arith, inl, inr, nat_le}
 use Rattle.std.specs.Prelude.{Err, IfOk, Ok, OnOk, Option, Result, Some, None, not, ◌||◌, ◌&&◌, filter}
 use Rattle.pcef_rule.specs.declared.quantity.Slot.{Slot}
-use Rattle.pcef_usage.specs.declared.usage.KeysFull.{KeysFull}
+use Rattle.pcef_usage.specs.declared.usage.SlotFault.{SlotFault}
 use Rattle.std.proofs.lemmas.Bool.{cases_Bool}
 use Rattle.std.proofs.lemmas.List.{map_push}
 use Rattle.pcef_model.specs.declared.command.Command.{Command}
 use Rattle.pcef_model.specs.declared.command.Command.TheVariants.{Install, Activate, Remove, Monitor, Stop, ReportNow, Triggers, Notice, LoseBearer, Close, Terminate}
 use Rattle.pcef_model.specs.declared.row.Row.{Row}
+use Rattle.pcef_model.specs.declared.level.Level.{Level}
 use Rattle.pcef_model.specs.Setting.{Setting, same_name}
 use Rattle.pcef_model.specs.ActiveRules.{has_key}
 use Rattle.pcef_model.specs.Generations.{add_if_some, made_by, oldest, rules_after, slots_of}
@@ -34,17 +35,17 @@ and_no true b absent = absent
 and_no false b absent = refl
 
 -- ---- a key that gets a slot
-place_fresh : (k : List ℕ) (states : List KeyState) → has_slot k states ≡ false → place_of k (states ++ fresh k ∷ []) ≡ length states
-place_fresh k [] absent = rw (same_name_of k k refl) refl
-place_fresh k (s ∷ states) absent =
+place_fresh : (k : List ℕ) (level : Level) (states : List KeyState) → has_slot k states ≡ false → place_of k (states ++ fresh k level ∷ []) ≡ length states
+place_fresh k level [] absent = rw (same_name_of k k refl) refl
+place_fresh k level (s ∷ states) absent =
     let parts = or_no (same_name k s.key) (has_slot k states) absent in
-    rw (parts.0, place_fresh k states parts.1) refl
+    rw (parts.0, place_fresh k level states parts.1) refl
 
 -- it gets the next one
-pub slot_is_place : (r : Result Slot KeysFull) (k : List ℕ) (old new : List KeyState) → has_slot k old ≡ false →
-    IfOk r (λ s. s.0 ≡ length old) → OnOk r (new ≡ old ++ fresh k ∷ []) → IfOk r (λ s. s.0 ≡ place_of k new)
-slot_is_place (Ok s) k old new absent is states = is ∙ sym (ap (place_of k) states ∙ place_fresh k old absent)
-slot_is_place (Err e) k old new absent is states = tt
+pub slot_is_place : (r : Result Slot SlotFault) (k : List ℕ) (level : Level) (old new : List KeyState) → has_slot k old ≡ false →
+    IfOk r (λ s. s.0 ≡ length old) → OnOk r (new ≡ old ++ fresh k level ∷ []) → IfOk r (λ s. s.0 ≡ place_of k new)
+slot_is_place (Ok s) k level old new absent is states = is ∙ sym (ap (place_of k) states ∙ place_fresh k level old absent)
+slot_is_place (Err e) k level old new absent is states = tt
 
 -- ---- one key more, or some fewer
 pub is_among_append : (k l : List ℕ) (keys : List (List ℕ)) → is_among k (keys ++ l ∷ []) ≡ (is_among k keys || same_name k l)
@@ -81,7 +82,7 @@ off_before_add k (Some l) keys absent = (or_no (is_among k keys) (same_name k l)
 
 switched_off : (p : Setting) (c : Command) (keys on : List (List ℕ)) (k : List ℕ) →
     is_among k (add_if_some (key_named p c) keys) ≡ false → is_among k on ≡ false → is_among k (switched c on) ≡ false
-switched_off p (Monitor l amount) keys on k absent off =
+switched_off p (Monitor l amount level) keys on k absent off =
     is_among_add k l on ∙ (let parts = or_no (is_among k keys) (same_name k l) (sym (is_among_add k l keys) ∙ absent) in rw (off, parts.1) refl)
 switched_off p (Stop l) keys on k absent off = is_among_filter k (λ m. not (same_name l m)) on off
 switched_off p Terminate keys on k absent off = refl
@@ -118,7 +119,7 @@ none_counted test (r ∷ rs) none = rw (none r) (omega (arith, none_counted test
 
 pub stranger_counts : (p : Setting) (j : Journal) (k : List ℕ) (r : Row) → is_among k (slots p j) ≡ false → counts p j k r ≡ false
 stranger_counts p j k r absent =
-    and_no (passed_for k (decision p (at p j r.generation) r.header)) (is_among k (at p j r.generation).on)
+    and_no (passed_for (at p j r.generation) k (decision p (at p j r.generation) r.header)) (is_among k (at p j r.generation).on)
     (stranger_off p (oldest r.generation (tables j)) k (stranger_older p r.generation (tables j) k absent))
 
 pub stranger_counted : (p : Setting) (j : Journal) (k : List ℕ) → is_among k (slots p j) ≡ false → counted p j k ≡ 0
@@ -151,10 +152,10 @@ unfolding slots_of
 distinct_slots p [] = tt
 distinct_slots p (c ∷ cs) = distinct_add (key_named p c) (slots_of p cs) (distinct_slots p cs)
 
-pub keys_with_slot : (named : Option (List ℕ)) (states : List KeyState) → keys_of (with_slot named states) ≡ add_if_some named (keys_of states)
-keys_with_slot None states = refl
-keys_with_slot (Some k) states =
+pub keys_with_slot : (named : Option (List ℕ)) (level : Level) (states : List KeyState) → keys_of (with_slot named level states) ≡ add_if_some named (keys_of states)
+keys_with_slot None level states = refl
+keys_with_slot (Some k) level states =
     elim (cases_Bool (has_slot k states)) [
       | inl is ↦ let among : is_among k (keys_of states) ≡ true = sym (has_slot_is k states) ∙ is in rw (is, among) refl
-      | inr isnt ↦ let among : is_among k (keys_of states) ≡ false = sym (has_slot_is k states) ∙ isnt in rw (isnt, among) (map_push (λ (s : KeyState). s.key) states (fresh k))
+      | inr isnt ↦ let among : is_among k (keys_of states) ≡ false = sym (has_slot_is k states) ∙ isnt in rw (isnt, among) (map_push (λ (s : KeyState). s.key) states (fresh k level))
     ]

@@ -9,7 +9,7 @@ use Rattle.pcef_model.specs.declared.pending_report.PendingReport.TheVariants.{U
 use Rattle.pcef_model.specs.declared.trigger.TriggerSet.{TriggerSet}
 use Rattle.pcef_model.specs.Setting.{Setting}
 use Rattle.pcef_model.specs.ActiveRules.{Active, has_key}
-use Rattle.pcef_model.specs.Commands.{add_key, is_among, key_named}
+use Rattle.pcef_model.specs.Commands.{add_key, is_among, key_named, level_named}
 use Rattle.pcef_model.specs.Entries.{Journal}
 use Rattle.pcef_model.specs.Journals.{now, slots}
 use Rattle.pcef_model.specs.Reports.{plan}
@@ -19,12 +19,12 @@ use Rattle.pcef_usage.specs.PendingReports.{ended}
 
 -- the key of a Monitor is started
 abbrev pub started_by : Command → List KeyState → List KeyState
-started_by (Monitor key amount) states = at_place (place_of key states) (started amount) states
+started_by (Monitor key amount level) states = at_place (place_of key states) (started amount) states
 started_by _ states = states
 
 -- the counters when a command comes: a key that it names has a slot, and the key of a Monitor is started
 abbrev pub entered : Setting → Command → List KeyState → List KeyState
-entered p c states = started_by c (with_slot (key_named p c) states)
+entered p c states = started_by c (with_slot (key_named p c) (level_named c) states)
 
 -- a key that is asked for is known: Stop names one that is on, and ReportNow one that has a slot
 abbrev pub Asks : Setting → Journal → Command → Type 0
@@ -34,7 +34,7 @@ Asks p j _ = Unit {0}
 
 -- the keys that a Monitor switches on
 abbrev pub switched_on : Command → List (List ℕ) → List (List ℕ)
-switched_on (Monitor key amount) on = add_key key on
+switched_on (Monitor key amount level) on = add_key key on
 switched_on _ on = on
 
 -- a key that has a slot is on after a command where it was on or is switched on, and no report of the

@@ -2,10 +2,15 @@
 use Rattle.std.specs.Prelude.{ℕ, ◌≡◌, ◌+◌, ◌<◌, ◌^◌, Bool, false, true, List, [], ◌∷◌, ◌++◌, Option, Some, None, MatchOption, if◌then◌else◌, map, not, ◌&&◌, nat_le, length, zero, suc}
 use Rattle.std.specs.List.{list_any, AllByRecursion}
 use Rattle.pcef_rule.specs.declared.quantity.Slot.{Slot}
-use Rattle.pcef_model.specs.Setting.{most_keys, same_name}
+use Rattle.pcef_model.specs.declared.level.Level.{Level}
+use Rattle.pcef_model.specs.declared.level.Level.TheVariants.{Rule}
+use Rattle.pcef_model.specs.Setting.{most_keys, same_level, same_name}
 use Rattle.pcef_model.specs.Reports.{is_reached_by}
 use Rattle.pcef_model.specs.Slots.{AreSlotsBelow}
 use Rattle.pcef_usage.specs.declared.usage.KeyState.{KeyState}
+
+abbrev pub levels_of : List KeyState → List Level
+levels_of states = map (λ s. s.level) states
 
 abbrev pub keys_of : List KeyState → List (List ℕ)
 keys_of states = map (λ s. s.key) states
@@ -18,8 +23,8 @@ abbrev pub place_of : List ℕ → List KeyState → ℕ
 place_of key [] = 0
 place_of key (s ∷ states) = if same_name key s.key then 0 else suc (place_of key states)
 
-abbrev pub fresh : List ℕ → KeyState
-fresh key = record { key = key; on = false; grant = None; reported = 0; unreported = 0 }
+abbrev pub fresh : List ℕ → Level → KeyState
+fresh key level = record { key = key; level = level; on = false; grant = None; reported = 0; unreported = 0 }
 
 -- ---- one key
 abbrev pub started : ℕ → KeyState → KeyState
@@ -57,14 +62,19 @@ at_place zero f (s ∷ states) = f s ∷ states
 at_place (suc n) f (s ∷ states) = s ∷ at_place n f states
 
 abbrev pub state_at : ℕ → List KeyState → KeyState
-state_at n [] = fresh []
+state_at n [] = fresh [] Rule
 state_at zero (s ∷ states) = s
 state_at (suc n) (s ∷ states) = state_at n states
 
--- the states with a slot for this key
-abbrev pub with_slot : Option (List ℕ) → List KeyState → List KeyState
-with_slot None states = states
-with_slot (Some key) states = if has_slot key states then states else states ++ fresh key ∷ []
+-- the states with a slot for this key, which gets this level with it
+abbrev pub with_slot : Option (List ℕ) → Level → List KeyState → List KeyState
+with_slot None level states = states
+with_slot (Some key) level states = if has_slot key states then states else states ++ fresh key level ∷ []
+
+-- a key has a slot, and another level than this one
+abbrev pub clashes : Option (List ℕ) → Level → List KeyState → Bool
+clashes None level states = false
+clashes (Some key) level states = has_slot key states && not (same_level level (state_at (place_of key states) states).level)
 
 -- a key has no slot and there is none left
 abbrev pub finds_no_slot : Option (List ℕ) → List KeyState → Bool

@@ -5,12 +5,12 @@ ghost use Rattle.std.specs.Option.{option_copied};
 ghost use Rattle.pcef_model.specs.Commands.{is_among};
 ghost use Rattle.pcef_model.specs.Journals.{ends_grant};
 ghost use Rattle.pcef_usage.specs.Counted.{IsEvent};
-ghost use Rattle.pcef_usage.specs.Keys.{CanCount, at_place, finds_no_slot, keys_of, place_of, reported_on, started, state_at, stopped, with_octets, with_slot, with_started};
+ghost use Rattle.pcef_usage.specs.Keys.{CanCount, at_place, clashes, finds_no_slot, keys_of, place_of, reported_on, started, state_at, stopped, with_octets, with_slot, with_started};
 ghost use Rattle.pcef_usage.specs.PendingReports.{Knows, KnowsAll, after_stop, after_report, body_by, states_stopped, states_told, thresholds_at, thresholds_told, with_report, with_thresholds, appended};
 
 use crate::usage::{KeyState, Usage};
 use pcef_journal::Journal;
-use pcef_model::{Body, Cause, Entry, InactiveCause, PendingReport, Report, Row};
+use pcef_model::{Body, Cause, Entry, InactiveCause, Level, PendingReport, Report, Row};
 use pcef_rule::{KeyName, Slot};
 use std::alloc::{AllocError, Global};
 use std::marker::Model;
@@ -87,15 +87,17 @@ impl CountedJournal {
         self.journal.append(Entry::Row(row));
     }
 
-    /// Gives a key a slot, unless it has one. Takes no memory.
-    pub fn keep_slot(&mut self, key: Option<&KeyName>)
-        requires { finds_no_slot (option_copied key) self.old.states ≡ false }
+    /// Gives a key a slot at this level, unless it has one. Takes no memory.
+    pub fn keep_slot(&mut self, key: Option<&KeyName>, level: Level)
+        requires clash { clashes (option_copied key) level self.old.states ≡ false }
+        requires slot { finds_no_slot (option_copied key) self.old.states ≡ false }
         ensures journal { self.new.journal ≡ self.old.journal }
-        ensures states { self.new.states ≡ with_slot (option_copied key.entry) self.old.states }
+        ensures states { self.new.states
+            ≡ with_slot (option_copied key.entry) level self.old.states }
         ensures room { self.new.room ≡ self.old.room }
     {
         if let Some(key) = key {
-            keep_slot(&mut self.usage, key);
+            keep_slot(&mut self.usage, key, level);
         }
     }
 
@@ -204,11 +206,12 @@ impl CountedJournal {
     }
 }
 
-fn keep_slot(usage: &mut Usage, key: &KeyName)
-    requires { finds_no_slot (Some key.now) usage.old ≡ false }
-    ensures { usage.new ≡ with_slot (Some key.now) usage.old }
+fn keep_slot(usage: &mut Usage, key: &KeyName, level: Level)
+    requires clash { clashes (Some key.now) level usage.old ≡ false }
+    requires slot { finds_no_slot (Some key.now) usage.old ≡ false }
+    ensures { usage.new ≡ with_slot (Some key.now) level usage.old }
 {
-    match usage.slot(key) {
+    match usage.slot(key, level) {
         Ok(_) => {}
         Err(_) => unreachable!(),
     }

@@ -7,4 +7,4 @@ mod usage;
 mod vacant;
 
 pub use counted::CountedJournal;
-pub use usage::{KeyState, KeysFull, MAX_KEYS, Usage};
+pub use usage::{KeyState, MAX_KEYS, SlotFault, Usage, is_same_level};

@@ -1,10 +1,12 @@
 //! The counters of monitoring keys.
 
-ghost use Rattle.std.specs.Prelude.{◌≡◌, ◌<◌, ◌≤◌, ◌+◌, ◌^◌, ◌↔◌, [], ◌++◌, ◌∷◌, map, length, true, false, IfOk, IsErr, OnErr, OnOk, Some, if◌then◌else◌};
-ghost use Rattle.pcef_usage.specs.Keys.{FitsMore, IsSlotOf, added, at_place, finds_no_slot, fresh, has_slot, is_reached, place_if, place_of, places_of, reached_places, reported_on, started, state_at, stopped, ungranted_if_reached, with_slot};
+ghost use Rattle.std.specs.Prelude.{◌≡◌, ◌<◌, ◌≤◌, ◌+◌, ◌^◌, ◌↔◌, [], ◌++◌, ◌∷◌, map, length, true, false, IfOk, IsErr, OnErr, OnOk, Some, if◌then◌else◌, ◌≢◌, Err, Ok};
+ghost use Rattle.pcef_model.specs.Setting.{same_level};
+ghost use Rattle.pcef_usage.specs.Keys.{FitsMore, IsSlotOf, added, at_place, clashes, finds_no_slot, fresh, has_slot, is_reached, place_if, place_of, places_of, reached_places, reported_on, started, state_at, stopped, ungranted_if_reached, with_slot};
 
 use crate::vacant::{KeyStates, Vacant};
 use arrayvec::ArrayVec;
+use pcef_model::Level;
 use pcef_rule::{KeyName, Slot};
 use std::marker::Model;
 use thiserror::Error;
@@ -12,16 +14,24 @@ use thiserror::Error;
 /// How many keys may have a slot.
 pub const MAX_KEYS: usize = 8;
 
-/// A key has no slot, and there is none left for it.
+/// Why a key has no slot at a level. Of several faults the first in this order is answered.
 #[derive(Clone, Copy, Debug, PartialEq, Eq, Error)]
-#[error("eight keys have a slot already")]
-pub struct KeysFull;
+pub enum SlotFault {
+    /// The key has a slot, and another level.
+    #[error("the key has another level")]
+    LevelClash,
+    /// The key has no slot, and there is none left for it.
+    #[error("eight keys have a slot already")]
+    KeysFull,
+}
 
 /// What is kept of a key that has a slot.
 #[derive(Debug, Drop)]
 pub struct KeyState {
     /// The key.
     pub key: KeyName,
+    /// What it counts, for good.
+    pub level: Level,
     /// Whether it is on.
     pub on: bool,
     /// Its grant in octets, where it has one.
@@ -111,6 +121,16 @@ impl Model for Usage {
     ghost invariant = { λ u. (length u.states.items ≤ 8) × AllFit u.states.items };
 }
 
+/// Whether two levels are the same.
+pub fn is_same_level(a: Level, b: Level) -> bool
+    ensures { result ≡ same_level a b }
+{
+    match (a, b) {
+        (Level::Rule, Level::Rule) | (Level::Session, Level::Session) => true,
+        _ => false,
+    }
+}
+
 fn note(reached: &mut ArrayVec<Slot, 8>, is_reached: bool, place: u8)
     requires { length reached.old.items < 8 }
     ensures slots { places_of reached.new.items
@@ -152,39 +172,66 @@ impl Usage {
         None
     }
 
-    /// The slot of a key, which gets the next one where it has none, or [`KeysFull`] where none is
-    /// left, which changes nothing.
-    pub fn slot(&mut self, key: &KeyName) -> Result<Slot, KeysFull>
-        ensures full { IsErr result ↔ (finds_no_slot (Some key.now) self.old ≡ true) }
+    /// The slot of a key, which gets the next one and this level where it has none, or the first fault in the order of
+    /// [`SlotFault`], which changes nothing.
+    pub fn slot(&mut self, key: &KeyName, level: Level) -> Result<Slot, SlotFault>
+        ensures clash { (result ≡ Err SlotFault.LevelClash)
+            ↔ (clashes (Some key.now) level self.old ≡ true) }
+        ensures full { (result ≡ Err SlotFault.KeysFull)
+            ↔ (finds_no_slot (Some key.now) self.old ≡ true) }
         ensures unchanged { OnErr result (self.new ≡ self.old) }
         ensures slot { IfOk result (λ s. s.0 ≡ place_of key.now self.new) }
-        ensures states { OnOk result (self.new ≡ with_slot (Some key.now) self.old) }
+        ensures states { OnOk result (self.new ≡ with_slot (Some key.now) level self.old) }
     {
         match self.find(key) {
-            Some(slot) => Ok(slot),
-            None => self.next_slot(key),
+            Some(slot) => self.same_slot(slot, level),
+            None => self.next_slot(key, level),
         }
     }
 
-    fn next_slot(&mut self, key: &KeyName) -> Result<Slot, KeysFull>
+    fn same_slot(&self, slot: Slot, level: Level) -> Result<Slot, SlotFault>
+        requires { slot.0 < length self.now }
+        ensures { result ≡ (if same_level level (state_at slot.0 self.now).level
+            then Ok slot else Err SlotFault.LevelClash) }
+    {
+        if is_same_level(level, self.level(slot)) {
+            Ok(slot)
+        } else {
+            Err(SlotFault::LevelClash)
+        }
+    }
+
+    fn next_slot(&mut self, key: &KeyName, level: Level) -> Result<Slot, SlotFault>
         requires { has_slot key.now self.old ≡ false }
-        ensures full { IsErr result ↔ (finds_no_slot (Some key.now) self.old ≡ true) }
+        ensures clash { result ≢ Err SlotFault.LevelClash }
+        ensures full { (result ≡ Err SlotFault.KeysFull)
+            ↔ (finds_no_slot (Some key.now) self.old ≡ true) }
         ensures unchanged { OnErr result (self.new ≡ self.old) }
         ensures slot { IfOk result (λ s. s.0 ≡ length self.old) }
-        ensures states { OnOk result (self.new ≡ self.old ++ fresh key.now ∷ []) }
+        ensures states { OnOk result (self.new ≡ self.old ++ fresh key.now level ∷ []) }
     {
         let place = self.states.len();
         if place >= MAX_KEYS {
-            return Err(KeysFull);
+            return Err(SlotFault::KeysFull);
         }
         self.states.push(KeyState {
             key: key.copy(),
+            level,
             on: false,
             grant: None,
             reported: 0,
             unreported: 0,
         });
         Ok(Slot(place as u8))
+    }
+
+    /// What the key of a slot counts.
+    pub fn level(&self, slot: Slot) -> Level
+        requires { slot.0 < length self.now }
+        ensures { result ≡ (state_at slot.0 self.now).level }
+    {
+        let states = self.states.as_slice();
+        states[slot.0 as usize].level
     }
 
     /// Switches the key of a slot on and sets its grant, in octets.

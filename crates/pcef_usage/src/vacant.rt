@@ -2,6 +2,7 @@
 
 use crate::usage::KeyState;
 use arrayvec::ArrayVec;
+use pcef_model::Level;
 use pcef_rule::KeyName;
 use std::default::MadeWith;
 
@@ -16,6 +17,7 @@ impl MadeWith<Vacant> for KeyState {
     fn made_with(_vacant: Vacant) -> KeyState {
         KeyState {
             key: KeyName::known("-"),
+            level: Level::Rule,
             on: false,
             grant: None,
             reported: 0,
