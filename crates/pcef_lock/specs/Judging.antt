@@ -1,21 +1,21 @@
 -- Rows that are judged by the tables that were seen.
 use Rattle.std.specs.Prelude.{ℕ, ◌≡◌, ◌+◌, List, All, length}
-use Rattle.std.specs.Option.{option_to_list}
 use Rattle.pcef_packet.specs.declared.header.Header.{Header}
 use Rattle.pcef_packet.specs.declared.header.Addr.{Addr}
 use Rattle.pcef_catalog.specs.declared.listing.Offer.{Offer}
 use Rattle.pcef_table.specs.Tables.{TableValue}
-use Rattle.pcef_table.specs.Verdicts.{IsVerdict, slot_for}
+use Rattle.pcef_table.specs.SessionSlots.{slots_counted}
+use Rattle.pcef_table.specs.Verdicts.{IsVerdict}
 use Rattle.pcef_publish.specs.Lists.{IsSeen}
 use Rattle.pcef_model.specs.Setting.{Setting}
 use Rattle.pcef_session.specs.declared.batch.Item.{Item}
 
--- an item as the table judges it that was seen of its generation: its verdict, and the slot that it counts for, if there is one
+-- an item as the table judges it that was seen of its generation: its verdict, and the slots that it counts for
 pub record IsJudged (offers : List Offer) (ue : Addr) (first : ℕ) (seen : List TableValue) (i : Item) : Type 0 where
   pub table : TableValue
   pub there : IsSeen first seen i.row.generation table
   pub verdict_is : IsVerdict offers table.entries ue i.row.header i.row.verdict
-  pub slots_are : i.slots.items ≡ option_to_list (slot_for offers table.entries i.row.verdict)
+  pub slots_are : i.slots.items ≡ slots_counted offers table i.row.verdict
 
 abbrev pub AllJudged : Setting → ℕ → List TableValue → List Item → Type 0
 AllJudged p first seen items = All (IsJudged p.catalog p.ue first seen) items

@@ -109,8 +109,18 @@ pub(crate) fn is_same_command(a: &Command, b: &Command) -> bool
         (Command::Install(a), Command::Install(b)) => is_same_rule(a, b),
         (Command::Activate(a), Command::Activate(b)) => *a == *b,
         (Command::Remove(a), Command::Remove(b)) => *a == *b,
-        (Command::Monitor { key: a, grant: c }, Command::Monitor { key: b, grant: d }) => *a == *b
-            && *c == *d,
+        (
+            Command::Monitor {
+                key: a,
+                grant: c,
+                level: e,
+            },
+            Command::Monitor {
+                key: b,
+                grant: d,
+                level: f,
+            },
+        ) => *a == *b && *c == *d && *e == *f,
         (Command::Stop(a), Command::Stop(b)) => *a == *b,
         (Command::ReportNow(a), Command::ReportNow(b)) => *a == *b,
         (Command::Triggers(a), Command::Triggers(b)) => is_same_set(*a, *b),

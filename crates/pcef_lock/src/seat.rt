@@ -7,7 +7,7 @@ use pcef_catalog::Detects;
 use pcef_model::Row;
 use pcef_packet::{Addr, Header};
 use pcef_publish::Subscriber;
-use pcef_session::{Item, slots_for};
+use pcef_session::Item;
 use pcef_share::{Naming, Shares};
 
 /// What a worker has of a session.
@@ -34,7 +34,7 @@ impl<N: Naming> Seat<N> {
     {
         let (generation, held) = self.subscriber.current();
         let verdict = held.classify(catalog, self.ue, header);
-        let slot = held.table().counts(catalog, &verdict);
+        let slots = held.table().slots_counted(catalog, &verdict);
         Item {
             row: Row {
                 worker: self.worker,
@@ -43,7 +43,7 @@ impl<N: Naming> Seat<N> {
                 header: *header,
                 verdict,
             },
-            slots: slots_for(slot),
+            slots,
         }
     }
 }

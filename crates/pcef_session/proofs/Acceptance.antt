@@ -5,14 +5,15 @@ use Rattle.std.specs.Option.{option_map}
 use Rattle.std.proofs.lemmas.Bool.{leb-false}
 use Rattle.pcef_rule.specs.declared.rule.Properties.{Properties}
 use Rattle.pcef_catalog.specs.declared.listing.Offer.{Offer}
-use Rattle.pcef_model.specs.Refusals.{becoming_active, first_of, is_active, refusals}
+use Rattle.pcef_model.specs.Refusals.{becoming_active, clashes, first_of, is_active, refusals}
 use Rattle.pcef_model.specs.declared.answer.Accepted.{Accepted}
 use Rattle.pcef_model.specs.declared.answer.Refusal.{Refusal}
 use Rattle.pcef_model.specs.declared.command.Command.{Command}
 use Rattle.pcef_model.specs.declared.command.Command.TheVariants.{Install, Activate, Remove, Monitor, Stop, ReportNow, Triggers, Notice, LoseBearer, Close, Terminate}
+use Rattle.pcef_model.specs.declared.level.Level.TheVariants.{Rule}
 use Rattle.pcef_model.specs.Setting.{most_rules, Setting, offer_named}
 use Rattle.pcef_model.specs.ActiveRules.{predefined}
-use Rattle.pcef_model.specs.Commands.{key_named, key_offered, activated}
+use Rattle.pcef_model.specs.Commands.{key_named, key_offered, level_named, activated}
 use Rattle.pcef_model.specs.Entries.{Journal}
 use Rattle.pcef_model.specs.Journals.{now, slots}
 use Rattle.pcef_usage.specs.declared.usage.KeyState.{KeyState}
@@ -39,7 +40,7 @@ names_none p j (Activate name) g accepted none = absurd (from (offer_named p nam
     from None none named = cc
     from (Some o) none named = cc
 names_none p j (Remove name) g accepted none = refl
-names_none p j (Monitor key amount) g accepted none = refl
+names_none p j (Monitor key amount level) g accepted none = refl
 names_none p j (Stop key) g accepted none = refl
 names_none p j (ReportNow key) g accepted none = refl
 names_none p j (Triggers set) g accepted none = refl
@@ -55,7 +56,7 @@ asks_known p j (ReportNow key) accepted = report_accepted p j key accepted
 asks_known p j (Install rule) accepted = tt
 asks_known p j (Activate name) accepted = tt
 asks_known p j (Remove name) accepted = tt
-asks_known p j (Monitor key amount) accepted = tt
+asks_known p j (Monitor key amount level) accepted = tt
 asks_known p j (Triggers set) accepted = tt
 asks_known p j (Notice kind value) accepted = tt
 asks_known p j (LoseBearer id) accepted = tt
@@ -73,7 +74,7 @@ served_slot p j (Activate name) states keys accepted changing = from (offer_name
     from None there = refl
     from (Some o) there = slotless_is p j o.properties.key states keys ∙ (can_become p j o.properties (activate_accepted p j name o accepted changing there)).slot
 served_slot p j (Remove name) states keys accepted changing = refl
-served_slot p j (Monitor key amount) states keys accepted changing = slotless_is p j (Some key) states keys ∙ monitor_accepted p j key amount accepted
+served_slot p j (Monitor key amount level) states keys accepted changing = slotless_is p j (Some key) states keys ∙ (monitor_accepted p j key amount level accepted).1
 served_slot p j (Stop key) states keys accepted changing = refl
 served_slot p j (ReportNow key) states keys accepted changing = refl
 served_slot p j (Triggers set) states keys accepted changing = refl
@@ -81,6 +82,24 @@ served_slot p j (Notice kind value) states keys accepted changing = refl
 served_slot p j (LoseBearer id) states keys accepted changing = refl
 served_slot p j Close states keys accepted changing = refl
 served_slot p j Terminate states keys accepted changing = refl
+
+-- its key keeps its level
+pub served_level : (p : Setting) (j : Journal) (c : Command) → first_of (refusals p j c) ≡ None → changes p j c ≡ true → clashes p j (level_named c) (key_named p c) ≡ false
+served_level p j (Install rule) accepted changing = (can_become p j rule.properties (install_accepted p j rule accepted)).level
+served_level p j (Activate name) accepted changing = from (offer_named p name) refl
+  where
+    from : (o : Option Offer) → offer_named p name ≡ o → clashes p j Rule (key_offered o) ≡ false
+    from None there = refl
+    from (Some o) there = (can_become p j o.properties (activate_accepted p j name o accepted changing there)).level
+served_level p j (Remove name) accepted changing = refl
+served_level p j (Monitor key amount level) accepted changing = (monitor_accepted p j key amount level accepted).0
+served_level p j (Stop key) accepted changing = refl
+served_level p j (ReportNow key) accepted changing = refl
+served_level p j (Triggers set) accepted changing = refl
+served_level p j (Notice kind value) accepted changing = refl
+served_level p j (LoseBearer id) accepted changing = refl
+served_level p j Close accepted changing = refl
+served_level p j Terminate accepted changing = refl
 
 -- ---- the rule can be bound
 pub binds_rule : (p : Setting) (j : Journal) (rule : Properties) → first_of (becoming_active p j rule) ≡ None → Binds rule (binding_of p (now p j))

@@ -1,6 +1,6 @@
 -- A session that has done a command agrees with the journal after it.
 use Rattle.pcef_bearer.specs.Bindings.{is_named as bound_named}
-use Rattle.std.proofs.Common.{◌≡◌, ◌∙◌, ◌≤◌, ℕ, Bool, true, false, List, [], ◌∷◌, length, refl, sym, ap, subst, arith, inl, inr, find, Some, None}
+use Rattle.std.proofs.Common.{◌≡◌, ◌∙◌, ◌≤◌, ℕ, Bool, true, false, List, [], ◌∷◌, length, refl, sym, ap, subst, arith, inl, inr, find, map, Some, None}
 use Rattle.std.specs.Prelude.{Option, Ok, Err, filter, not}
 use Rattle.std.specs.List.{AllByRecursion, list_any}
 use Rattle.std.proofs.lemmas.Bool.{cases_Bool}
@@ -16,16 +16,16 @@ use Rattle.pcef_model.specs.declared.pending_report.PendingReport.{PendingReport
 use Rattle.pcef_model.specs.Setting.{Setting}
 use Rattle.pcef_model.specs.ActiveRules.{Active, dynamic, is_named, put}
 use Rattle.pcef_model.specs.Generations.{Generation, next, rules_after}
-use Rattle.pcef_model.specs.Commands.{key_named, is_table, activated, takes_away}
+use Rattle.pcef_model.specs.Commands.{key_named, is_table, activated, level_named, takes_away}
 use Rattle.pcef_model.specs.declared.trigger.TriggerSet.{TriggerSet}
 use Rattle.pcef_model.specs.Entries.{Journal, commands}
-use Rattle.pcef_model.specs.Journals.{gen, now, report_count, slots, tables}
+use Rattle.pcef_model.specs.Journals.{gen, level_of, now, report_count, slots, tables}
 use Rattle.pcef_model.specs.Reports.{after_command, body_of, plan, tell, thresholds}
 use Rattle.pcef_model.proofs.Growth.{now_after_table}
 use Rattle.pcef_model.proofs.Sameness.{same_name_of}
 use Rattle.pcef_usage.specs.declared.usage.KeyState.{KeyState}
 use Rattle.pcef_usage.specs.Commands.{Asks, entered, started_by, subscribed_by}
-use Rattle.pcef_usage.specs.Keys.{finds_no_slot, keys_of, with_slot}
+use Rattle.pcef_usage.specs.Keys.{finds_no_slot, keys_of, levels_of, with_slot}
 use Rattle.pcef_usage.specs.PendingReports.{AllCount, AllOn, settled_states, threshold_reports, states_stopped, states_told, appended}
 use Rattle.pcef_usage.proofs.Afterwards.{few_entered, subscribed_after, subscribed_after_command}
 use Rattle.pcef_model.proofs.AfterEvents.{now_after, slots_after}
@@ -51,7 +51,8 @@ use Rattle.pcef_bearer.proofs.BoundBearers.{next_id, next_put, next_left, named_
 use Rattle.pcef_model.proofs.Exactness.{lawful_exact}
 use Rattle.pcef_model.proofs.RulesNow.{rules_then, now_after_other, rules_now}
 use Rattle.pcef_session.proofs.KeptRules.{kept_put}
-use Rattle.pcef_session.proofs.NextTables.{all_count_from, all_on_from}
+use Rattle.pcef_session.proofs.NextTables.{all_count_from, all_levels_from, all_on_from}
+use Rattle.pcef_usage.proofs.Levels.{all_levels, keys_slotted, levels_entered, levels_from, levels_settled, levels_stopped, levels_told}
 use Rattle.pcef_model.proofs.Decisive.{made_once}
 use Rattle.pcef_bearer.specs.declared.bearers.Bound.{Bound}
 use Rattle.pcef_session.proofs.TakenAway.{kept_left}
@@ -59,7 +60,7 @@ use Rattle.pcef_session.proofs.TakenAway.{kept_left}
 -- ---- keys that a command names
 -- its key is the one that it names
 pub entering : (p : Setting) (c : Command) (x : Option Activation) (states : List KeyState) → Activates p (activated p c) x → entered_by (rule_key x) c states ≡ entered p c states
-entering p c x states brings = ap (λ (key : Option (List ℕ)). started_by c (with_slot key states)) (sym (served_key p c x brings))
+entering p c x states brings = ap (λ (key : Option (List ℕ)). started_by c (with_slot key (level_named c) states)) (sym (served_key p c x brings))
 
 -- ---- rules and bearers
 -- where nothing is bound anew, the bearers of the rules that stay
@@ -70,7 +71,7 @@ unbound_other (Notice kind value) bound isnt = filter_all bound
 unbound_other (Install rule) bound isnt = absurd cc
 unbound_other (Activate name) bound isnt = absurd cc
 unbound_other (Remove name) bound isnt = absurd cc
-unbound_other (Monitor key amount) bound isnt = absurd cc
+unbound_other (Monitor key amount level) bound isnt = absurd cc
 unbound_other (Stop key) bound isnt = absurd cc
 unbound_other (LoseBearer id) bound isnt = absurd cc
 unbound_other Close bound isnt = absurd cc
@@ -117,7 +118,7 @@ bearer_told p g (Activate name) r is after rules =
     let named : r.properties.name ≡ name = name_activated p name r is in
     ap (bearer_of after) (ap (λ (n : List ℕ). find (is_named n) after.rules) (sym named) ∙ ap (find (is_named r.properties.name)) rules ∙ find_put r g.rules)
 bearer_told p g (Remove name) r is after rules = absurd cc
-bearer_told p g (Monitor key amount) r is after rules = absurd cc
+bearer_told p g (Monitor key amount level) r is after rules = absurd cc
 bearer_told p g (Stop key) r is after rules = absurd cc
 bearer_told p g (ReportNow key) r is after rules = absurd cc
 bearer_told p g (Triggers set) r is after rules = absurd cc
@@ -145,17 +146,24 @@ bound_after p j c (Some x) new (Some id) lawful accepted brings rebound =
     )
 
 -- ---- keys
-pub all_agree : (p : Setting) (j : Journal) (states : List KeyState) → AllCount p j [] states → AllOn p j states → AllByRecursion (KeyAgrees p j) states
+pub all_agree : (p : Setting) (j : Journal) (states : List KeyState) → AllCount p j [] states → AllOn p j states → AllByRecursion (λ s. s.level ≡ level_of (now p j) s.key) states →
+    AllByRecursion (KeyAgrees p j) states
 unfolding AllCount AllOn
-all_agree p j [] counts on = tt
-all_agree p j (s ∷ states) counts on = (
-  record { on_is = on.0.on_is; grant_is = counts.0.grant_is; reported_is = counts.0.reported_is; counted_is = counts.0.counted_is },
-  all_agree p j states counts.1 on.1,
+all_agree p j [] counts on levels = tt
+all_agree p j (s ∷ states) counts on levels = (
+  record { level_is = levels.0; on_is = on.0.on_is; grant_is = counts.0.grant_is; reported_is = counts.0.reported_is; counted_is = counts.0.counted_is },
+  all_agree p j states counts.1 on.1 levels.1,
 )
 
 -- the counters after a command, and the journal after it
 abbrev pub left_by : Bool → List PendingReport → List KeyState → List KeyState
 left_by b ts states = states_told (threshold_reports b (states_told ts (states_stopped ts states))) (settled_states b (states_told ts (states_stopped ts states)))
+
+-- they keep their levels
+pub levels_left : (b : Bool) (ts : List PendingReport) (states : List KeyState) → levels_of (left_by b ts states) ≡ levels_of states
+levels_left b ts states =
+    let told : List KeyState = states_told ts (states_stopped ts states) in
+    levels_told (threshold_reports b told) (settled_states b told) ∙ levels_settled b told ∙ levels_told ts (states_stopped ts states) ∙ levels_stopped ts states
 
 abbrev pub told_by : Bool → List PendingReport → List KeyState → Journal → Journal
 told_by b ts states j =
@@ -168,6 +176,19 @@ ended_command p j c parts agrees asks =
     let exact = lawful_exact p j agrees.lawful in
     command_ended p j c parts.keys (subscribed_by c parts.triggers).usage_report agrees.keys_are (all_count_from p j parts.keys agrees.usage_is) (all_on_from p j parts.keys agrees.usage_is) exact.known exact.exact asks
     (ap (λ (t : TriggerSet). t.usage_report) (ap (subscribed_by c) agrees.triggers_are ∙ sym (subscribed_after j c)))
+
+-- the levels of its keys, after it
+levels_commanded : (p : Setting) (j : Journal) (c : Command) (parts : Parts) (b : Bool) → Agrees p j parts → first_of (refusals p j c) ≡ None →
+    keys_of (left_by b (plan p j c) (entered p c parts.keys)) ≡ slots p (entry.Command c ∷ j) →
+    AllByRecursion (λ s. s.level ≡ level_of (now p (entry.Command c ∷ j)) s.key) (left_by b (plan p j c) (entered p c parts.keys))
+levels_commanded p j c parts b agrees accepted keys =
+    let states : List KeyState = parts.keys in
+    let g : Generation = now p (entry.Command c ∷ j) in
+    let before : levels_of states ≡ map (level_of (now p j)) (keys_of states) = levels_from (now p j) states (all_levels_from p j states agrees.usage_is) in
+    let after : levels_of (entered p c states) ≡ map (level_of g) (keys_of (with_slot (key_named p c) (level_named c) states)) = levels_entered p j c states accepted agrees.keys_are before in
+    let named : keys_of (with_slot (key_named p c) (level_named c) states) ≡ slots p (entry.Command c ∷ j) = keys_slotted p j c states agrees.keys_are in
+    all_levels g (left_by b (plan p j c) (entered p c states))
+    (levels_left b (plan p j c) (entered p c states) ∙ after ∙ ap (map (level_of g)) (named ∙ sym keys))
 
 -- ---- all parts
 pub record IsCommanded (p : Setting) (j : Journal) (c : Command) (x : Option Activation) (old new : Parts) (bearer : Option BearerId) : Type 0 where
@@ -204,6 +225,12 @@ agrees_commanded p j c x old new bearer agrees is =
     journal_commanded p j c x old (told_by (subscribed_by c old.triggers).usage_report (plan p j c) (entered_by (rule_key x) c old.keys) (entry.Command c ∷ j)) agrees is.accepted is.brings refl in
     let keys : new.keys ≡ left_by (subscribed_by c old.triggers).usage_report (plan p j c) (entered p c old.keys) =
     is.keys_are ∙ ap (left_by (subscribed_by c old.triggers).usage_report (plan p j c)) enters in
+    let told : now p (told_by (subscribed_by c old.triggers).usage_report (plan p j c) (entered p c old.keys) (entry.Command c ∷ j)) ≡ now p (entry.Command c ∷ j) =
+    ap (now p) journal ∙ now_after p j c in
+    let levels : AllByRecursion (λ (s : KeyState). s.level ≡ level_of (now p (told_by (subscribed_by c old.triggers).usage_report (plan p j c) (entered p c old.keys) (entry.Command c ∷ j))) s.key)
+        (left_by (subscribed_by c old.triggers).usage_report (plan p j c) (entered p c old.keys)) =
+    subst (λ (g : Generation). AllByRecursion (λ (s : KeyState). s.level ≡ level_of g s.key) (left_by (subscribed_by c old.triggers).usage_report (plan p j c) (entered p c old.keys))) (sym told)
+    (levels_commanded p j c old (subscribed_by c old.triggers).usage_report agrees is.accepted (ended.keys_are ∙ ap (slots p) journal ∙ slots_after p j c)) in
     record {
       lawful = by_command j c agrees.lawful is.accepted is.changing;
       rules_are = subst (λ (rules : List Active). AreKept p.catalog new.rules rules) (sym (rules_then p j c))
@@ -212,7 +239,7 @@ agrees_commanded p j c x old new bearer agrees is =
       keys_are = ap keys_of keys ∙ ended.keys_are ∙ ap (slots p) journal;
       usage_is = subst (AllByRecursion (KeyAgrees p after)) (sym keys)
           (subst (λ (k : Journal). AllByRecursion (KeyAgrees p k) (left_by (subscribed_by c old.triggers).usage_report (plan p j c) (entered p c old.keys))) journal
-          (all_agree p (told_by (subscribed_by c old.triggers).usage_report (plan p j c) (entered p c old.keys) (entry.Command c ∷ j)) (left_by (subscribed_by c old.triggers).usage_report (plan p j c) (entered p c old.keys)) ended.counts ended.on));
+          (all_agree p (told_by (subscribed_by c old.triggers).usage_report (plan p j c) (entered p c old.keys) (entry.Command c ∷ j)) (left_by (subscribed_by c old.triggers).usage_report (plan p j c) (entered p c old.keys)) ended.counts ended.on levels));
       triggers_are = is.triggers_are ∙ ap (subscribed_by c) agrees.triggers_are ∙ sym (subscribed_after_command p j c);
       table_shows = is.shows;
     }

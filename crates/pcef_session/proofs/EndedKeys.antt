@@ -118,7 +118,7 @@ takes_none : (p : Setting) (c : Command) (r : Active) (name : List ℕ) (id : �
 takes_none p (Install rule) r name id is = refl
 takes_none p (Activate other) r name id is = refl
 takes_none p (Remove other) r name id is = absurd cc
-takes_none p (Monitor key amount) r name id is = absurd cc
+takes_none p (Monitor key amount level) r name id is = absurd cc
 takes_none p (Stop key) r name id is = absurd cc
 takes_none p (ReportNow key) r name id is = absurd cc
 takes_none p (Triggers set) r name id is = absurd cc
@@ -194,7 +194,7 @@ pub ended_keys : (p : Setting) (j : Journal) (c : Command) (x : Option Activatio
 ended_keys p j (Install rule) x parts agrees prepared = ended_agree p j (Install rule) x parts agrees (λ same. cc) prepared
 ended_keys p j (Activate name) x parts agrees prepared = ended_agree p j (Activate name) x parts agrees (λ same. cc) prepared
 ended_keys p j (Remove name) x parts agrees prepared = ended_agree p j (Remove name) x parts agrees (λ same. cc) prepared
-ended_keys p j (Monitor key amount) x parts agrees prepared = ended_agree p j (Monitor key amount) x parts agrees (λ same. cc) prepared
+ended_keys p j (Monitor key amount level) x parts agrees prepared = ended_agree p j (Monitor key amount level) x parts agrees (λ same. cc) prepared
 ended_keys p j (Stop key) x parts agrees prepared = ended_agree p j (Stop key) x parts agrees (λ same. cc) prepared
 ended_keys p j (ReportNow key) x parts agrees prepared = ended_agree p j (ReportNow key) x parts agrees (λ same. cc) prepared
 ended_keys p j (Triggers set) x parts agrees prepared = ended_agree p j (Triggers set) x parts agrees (λ same. cc) prepared
@@ -225,7 +225,7 @@ inactive_is p g (LoseBearer id) b is =
 inactive_is p g (Install rule) b is = refl
 inactive_is p g (Activate name) b is = refl
 inactive_is p g (Remove name) b is = refl
-inactive_is p g (Monitor key amount) b is = refl
+inactive_is p g (Monitor key amount level) b is = refl
 inactive_is p g (Stop key) b is = refl
 inactive_is p g (ReportNow key) b is = refl
 inactive_is p g (Triggers set) b is = refl

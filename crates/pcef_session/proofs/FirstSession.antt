@@ -26,7 +26,8 @@ use Rattle.pcef_session.specs.Agreement.{AreKept, KeyAgrees}
 use Rattle.pcef_bearer.specs.Standing.{binding_of}
 use Rattle.pcef_model.specs.Lawful.{at_first, by_attach, by_leave}
 use Rattle.pcef_model.specs.Refusals.{attach_faults, first_of, is_attached}
-use Rattle.pcef_session.specs.Shown.{Shows}
+use Rattle.pcef_session.specs.Shown.{Shows, ShowsSessionKeys}
+use Rattle.pcef_table.specs.SessionSlots.{no_slots}
 use Rattle.pcef_session.proofs.ShownLater.{shows_same}
 
 -- ---- opening
@@ -54,26 +55,31 @@ pub triggers_first : (t : TriggerSet) → t.usage_report ≡ false → t.rat_cha
 triggers_first t usage rat plmn location zone =
     flags_first t.usage_report t.rat_change t.plmn_change t.user_location_change t.ue_time_zone_change usage rat plmn location zone
 
-shows_first : (p : Setting) (t : TableValue) → t.number ≡ 0 → t.entries ≡ [] → Shows p [] 0 t
+session_first : (p : Setting) → ShowsSessionKeys p [] 0 no_slots
+unfolding made_by oldest slots_of
+session_first p = record { eight = refl; within = tt; on_is = λ key. refl }
+
+shows_first : (p : Setting) (t : TableValue) → t.number ≡ 0 → t.entries ≡ [] → t.session ≡ no_slots → Shows p [] 0 t
 unfolding made_by oldest
-shows_first p t number entries = record {
+shows_first p t number entries flags = record {
   number_is = number;
   ordered = empty_is_table p.catalog t.entries entries;
+  session = subst (ShowsSessionKeys p [] 0) (sym flags) (session_first p);
   each = λ r there. absurd (omega (arith, there.1));
   only = λ e there. let none : Contains [] e = subst (λ (es : List Entry). Contains es e) entries there in absurd (omega (arith, none.1));
 }
 
 pub agrees_first : (p : Setting) (parts : Parts) → parts.rules ≡ [] → parts.binding ≡ binding_of p before_all → parts.keys ≡ [] → parts.triggers ≡ no_triggers →
-    parts.table.number ≡ 0 → parts.table.entries ≡ [] → Agrees p [] parts
+    parts.table.number ≡ 0 → parts.table.entries ≡ [] → parts.table.session ≡ no_slots → Agrees p [] parts
 unfolding made_by slots_of subscribed
-agrees_first p parts rules binding keys triggers number entries = record {
+agrees_first p parts rules binding keys triggers number entries flags = record {
   lawful = at_first;
   rules_are = subst (λ (kept : List (List ℕ × Source)). AreKept p.catalog kept []) (sym rules) tt;
   binding_is = binding;
   keys_are = ap (λ (states : List KeyState). map (λ s. s.key) states) keys;
   usage_is = subst (AllByRecursion (KeyAgrees p [])) (sym keys) tt;
   triggers_are = triggers;
-  table_shows = shows_first p parts.table number entries;
+  table_shows = shows_first p parts.table number entries flags;
 }
 
 pub agrees_attached : (p : Setting) (j : Journal) (parts : Parts) → Agrees p j parts → first_of (attach_faults j) ≡ None → Agrees p (after_attach j) parts
@@ -84,7 +90,7 @@ agrees_attached p j parts agrees accepted = record {
   binding_is = agrees.binding_is;
   keys_are = agrees.keys_are;
   usage_is = all_same (KeyAgrees p j) (KeyAgrees p (after_attach j)) parts.keys
-      (λ s h. record { on_is = h.on_is; grant_is = h.grant_is; reported_is = h.reported_is; counted_is = h.counted_is }) agrees.usage_is;
+      (λ s h. record { level_is = h.level_is; on_is = h.on_is; grant_is = h.grant_is; reported_is = h.reported_is; counted_is = h.counted_is }) agrees.usage_is;
   triggers_are = agrees.triggers_are;
   table_shows = shows_same p j (after_attach j) (gen j) parts.table refl agrees.table_shows;
 }
@@ -97,7 +103,7 @@ agrees_left p j worker parts agrees is = record {
   binding_is = agrees.binding_is;
   keys_are = agrees.keys_are;
   usage_is = all_same (KeyAgrees p j) (KeyAgrees p (after_leave worker j)) parts.keys
-      (λ s h. record { on_is = h.on_is; grant_is = h.grant_is; reported_is = h.reported_is; counted_is = h.counted_is }) agrees.usage_is;
+      (λ s h. record { level_is = h.level_is; on_is = h.on_is; grant_is = h.grant_is; reported_is = h.reported_is; counted_is = h.counted_is }) agrees.usage_is;
   triggers_are = agrees.triggers_are;
   table_shows = shows_same p j (after_leave worker j) (gen j) parts.table refl agrees.table_shows;
 }

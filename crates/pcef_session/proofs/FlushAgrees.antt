@@ -12,11 +12,11 @@ use Rattle.pcef_model.specs.Setting.{Setting, same_name}
 use Rattle.pcef_model.specs.Commands.{is_among}
 use Rattle.pcef_model.specs.Generations.{made_by, slots_of}
 use Rattle.pcef_model.specs.Entries.{Journal, commands, rows}
-use Rattle.pcef_model.specs.Journals.{counts, gen, now, octets_of, slots, subscribed, tables}
+use Rattle.pcef_model.specs.Journals.{counts, gen, level_of, now, octets_of, slots, subscribed, tables}
 use Rattle.pcef_model.specs.Reports.{after_flush, thresholds, with_rows}
 use Rattle.pcef_usage.specs.declared.usage.KeyState.{KeyState}
 use Rattle.pcef_usage.specs.Flushes.{rows_counted}
-use Rattle.pcef_usage.specs.Keys.{keys_of, state_at, with_octets}
+use Rattle.pcef_usage.specs.Keys.{keys_of, levels_of, state_at, with_octets}
 use Rattle.pcef_usage.specs.Counted.{Counted}
 use Rattle.pcef_usage.specs.PendingReports.{Distinct, settled_states, threshold_reports, states_told, appended}
 use Rattle.pcef_model.proofs.AfterEvents.{subscribed_settled}
@@ -51,7 +51,9 @@ use Rattle.pcef_model.proofs.LawfulRows.{rows_with}
 use Rattle.pcef_session.specs.private.TakenRows.{with_lane}
 use Rattle.pcef_session.specs.Shown.{Shows}
 use Rattle.pcef_session.proofs.CommandAgrees.{all_agree, commands_told}
-use Rattle.pcef_session.proofs.NextTables.{all_count_from, all_on_from}
+use Rattle.pcef_session.proofs.NextTables.{all_count_from, all_levels_from, all_on_from}
+use Rattle.pcef_usage.proofs.Levels.{all_levels, levels_from, levels_rows_counted, levels_settled, levels_told}
+use Rattle.pcef_model.specs.declared.command.Command.{Command}
 use Rattle.pcef_session.proofs.ShownLater.{shows_same}
 use Rattle.pcef_model.proofs.JournalExtends.{rows_after_flush, tables_after_flush}
 
@@ -130,17 +132,17 @@ record AreCounted (p : Setting) (j : Journal) (rs : List Row) (keys : List KeySt
   keys_are : keys_of keys ≡ slots p after
   agree : AllByRecursion (KeyAgrees p after) keys
 
-are_counted : (p : Setting) (j : Journal) (items : List Item) (b : Bool) (old new : Counted) → StatesAgree p j old.states → old.journal ≡ j → b ≡ (subscribed j).usage_report → HasItsSlots p j items →
+are_counted : (p : Setting) (j : Journal) (items : List Item) (b : Bool) (old new : Counted) → StatesAgree p j old.states → AllByRecursion (λ s. s.level ≡ level_of (now p j) s.key) old.states → old.journal ≡ j → b ≡ (subscribed j).usage_report → HasItsSlots p j items →
     IsTaken b items old new → AreCounted p j (map row_of items) new.states new.journal
-are_counted p j [] b old new agrees is subscribes its taken =
+are_counted p j [] b old new agrees levels is subscribes its taken =
     let same : new.journal ≡ j = taken.0 ∙ is in
     record {
       journal_is = same;
       keys_are = ap keys_of taken.1 ∙ agrees.keys_are ∙ ap (slots p) (sym same);
       agree = subst (λ (k : Journal). AllByRecursion (KeyAgrees p k) new.states) (sym same)
-          (subst (AllByRecursion (KeyAgrees p j)) (sym taken.1) (all_agree p j old.states agrees.counts agrees.on));
+          (subst (AllByRecursion (KeyAgrees p j)) (sym taken.1) (all_agree p j old.states agrees.counts agrees.on levels));
     }
-are_counted p j (i ∷ items) b old new agrees is subscribes its taken =
+are_counted p j (i ∷ items) b old new agrees levels is subscribes its taken =
     let which : AllByRecursion (λ (x : Item). usage.CountsFor p j x.row old.states x.slots.items) (i ∷ items) =
     recursion_from_All (λ (x : Item). usage.CountsFor p j x.row old.states x.slots.items) (i ∷ items)
     (λ n x within. let its_n = its n x within in counts_here p j (get_or (i ∷ items) n x).row (get_or (i ∷ items) n x).slots.items old.states agrees.keys_are its_n.0 its_n.1) in
@@ -151,23 +153,32 @@ are_counted p j (i ∷ items) b old new agrees is subscribes its taken =
     let same : new.journal ≡ end = taken.journal ∙
     ap (λ (k : Journal). appended (threshold_reports b (rows_counted row_of row_slots (i ∷ items) old.states)) (settled_states b (rows_counted row_of row_slots (i ∷ items) old.states))
     (with_rows (map row_of (i ∷ items)) k)) is in
+    let end_tables : tables end ≡ tables j =
+    ap tables (flush_is p j end i.row (map row_of items) (rows_counted row_of row_slots (i ∷ items) old.states) left ended) ∙ tables_after_flush p j (map row_of (i ∷ items)) in
+    let levels_are : levels_of left ≡ levels_of old.states =
+    levels_told (threshold_reports b (rows_counted row_of row_slots (i ∷ items) old.states)) (settled_states b (rows_counted row_of row_slots (i ∷ items) old.states))
+    ∙ levels_settled b (rows_counted row_of row_slots (i ∷ items) old.states) ∙ levels_rows_counted row_of row_slots (i ∷ items) old.states in
+    let left_keys : keys_of left ≡ keys_of old.states = ended.keys_are ∙ ap (slots_of p) end_tables ∙ sym agrees.keys_are in
+    let end_levels : AllByRecursion (λ (s : KeyState). s.level ≡ level_of (now p end) s.key) left =
+    subst (λ (cs : List Command). AllByRecursion (λ (s : KeyState). s.level ≡ level_of (made_by p cs) s.key) left) (sym end_tables)
+    (all_levels (now p j) left (levels_are ∙ levels_from (now p j) old.states levels ∙ ap (map (level_of (now p j))) (sym left_keys))) in
     record {
       journal_is = flush_is p j new.journal i.row (map row_of items) (rows_counted row_of row_slots (i ∷ items) old.states) left
           (subst (λ (k : Journal). Ended p (with_rows (map row_of (i ∷ items)) j) [] (rows_counted row_of row_slots (i ∷ items) old.states) k left) (sym same) ended);
       keys_are = ap keys_of taken.states ∙ ended.keys_are ∙ ap (slots p) (sym same);
       agree = subst (λ (k : Journal). AllByRecursion (KeyAgrees p k) new.states) (sym same)
-          (subst (AllByRecursion (KeyAgrees p end)) (sym taken.states) (all_agree p end left ended.counts ended.on));
+          (subst (AllByRecursion (KeyAgrees p end)) (sym taken.states) (all_agree p end left ended.counts ended.on end_levels));
     }
 
 pub flushed_journal : (p : Setting) (j : Journal) (items : List Item) (parts : Parts) (old new : Counted) → Agrees p j parts → old.states ≡ parts.keys → old.journal ≡ j → HasItsSlots p j items →
     IsTaken parts.triggers.usage_report items old new → new.journal ≡ after_flush p j (map row_of items)
 flushed_journal p j items parts old new agrees keys is its taken =
-    (are_counted p j items parts.triggers.usage_report old new (subst (StatesAgree p j) (sym keys) (states_agree p j parts agrees)) is (ap (λ (t : TriggerSet). t.usage_report) agrees.triggers_are) its taken).journal_is
+    (are_counted p j items parts.triggers.usage_report old new (subst (StatesAgree p j) (sym keys) (states_agree p j parts agrees)) (subst (AllByRecursion (λ (s : KeyState). s.level ≡ level_of (now p j) s.key)) (sym keys) (all_levels_from p j parts.keys agrees.usage_is)) is (ap (λ (t : TriggerSet). t.usage_report) agrees.triggers_are) its taken).journal_is
 
 pub agrees_flushed : (p : Setting) (j : Journal) (worker : ℕ) (items : List Item) (parts new : Parts) (before after : Counted) → Agrees p j parts → before.states ≡ parts.keys → before.journal ≡ j →
     after.states ≡ new.keys → IsTaken parts.triggers.usage_report items before after → IsFlushed p j worker items parts new after.journal → Agrees p after.journal new
 agrees_flushed p j worker items parts new before after agrees keys is left taken flushed =
-    let done = are_counted p j items parts.triggers.usage_report before after (subst (StatesAgree p j) (sym keys) (states_agree p j parts agrees)) is (ap (λ (t : TriggerSet). t.usage_report) agrees.triggers_are) flushed.its taken in
+    let done = are_counted p j items parts.triggers.usage_report before after (subst (StatesAgree p j) (sym keys) (states_agree p j parts agrees)) (subst (AllByRecursion (λ (s : KeyState). s.level ≡ level_of (now p j) s.key)) (sym keys) (all_levels_from p j parts.keys agrees.usage_is)) is (ap (λ (t : TriggerSet). t.usage_report) agrees.triggers_are) flushed.its taken in
     let same : tables after.journal ≡ tables j = ap tables done.journal_is ∙ tables_after_flush p j (map row_of items) in
     let generation : now p after.journal ≡ now p j = ap (made_by p) same in
     record {

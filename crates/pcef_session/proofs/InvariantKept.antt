@@ -40,6 +40,7 @@ use Rattle.pcef_bearer.specs.Standing.{binding_of}
 use Rattle.pcef_session.specs.private.Soundness.{IsSound, parts_of}
 use Rattle.pcef_model.specs.ProfileModel.{setting_of}
 use Rattle.pcef_session.specs.declared.state.SessionState.TheInside.{Inside}
+use Rattle.pcef_table.specs.SessionSlots.{no_slots}
 use Rattle.pcef_session.proofs.FirstSession.{agrees_attached, agrees_first, agrees_left}
 use Rattle.pcef_model.proofs.Acceptance.{activation_accepted, few_put}
 use Rattle.pcef_session.proofs.Acceptance.{served_slot}
@@ -122,13 +123,13 @@ sound_left s t n sound is profile listing journal states active bearers table su
 
 -- a session that is opened
 pub sound_opened : (s : Inside) → s.counted.journal ≡ [] → s.counted.states ≡ [] → s.active.items ≡ [] → s.bearers ≡ binding_of (setting_of s.profile s.listing) before_all →
-    (arc_value s.newest).number ≡ 0 → (arc_value s.newest).entries ≡ [] → s.subscribed ≡ no_triggers → s.lanes ≡ [] → s.closed ≡ false → s.terminated ≡ false → s.profile.commands ≤ 1000000 →
+    (arc_value s.newest).number ≡ 0 → (arc_value s.newest).entries ≡ [] → (arc_value s.newest).session ≡ no_slots → s.subscribed ≡ no_triggers → s.lanes ≡ [] → s.closed ≡ false → s.terminated ≡ false → s.profile.commands ≤ 1000000 →
     s.profile.rows ≤ 4294967295 → IsSound s
 unfolding attached
-sound_opened s journal states active bearers number entries subscribed lanes closed terminated most_commands most_rows =
+sound_opened s journal states active bearers number entries flags subscribed lanes closed terminated most_commands most_rows =
     let p : Setting = setting_of s.profile s.listing in
     record {
-      agrees = rw journal (agrees_first p (parts_of s) active bearers states subscribed number entries);
+      agrees = rw journal (agrees_first p (parts_of s) active bearers states subscribed number entries flags);
       lanes = rw (journal, lanes) lanes_first;
       ends = rw (journal, closed, terminated) ends_first;
       leaving = rw journal (omega arith);

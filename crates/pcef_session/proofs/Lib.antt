@@ -13,8 +13,10 @@ pub mod NextTables
 pub mod PlacedRules
 pub mod Refused
 pub mod RowLoops
+pub mod SessionFlags
 pub mod ShownChanges
 pub mod ShownLater
+pub mod ShownSession
 pub mod ShownSlots
 pub mod ShownVerdicts
 pub mod InvariantKept

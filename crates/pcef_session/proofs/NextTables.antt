@@ -1,10 +1,10 @@
 -- The tables that commands make show their generations, with at most one entry for each rule.
 use Rattle.std.proofs.Common.{◌≡◌, ◌∙◌, ◌≤◌, ◌<◌, ◌+◌, ℕ, suc, Bool, true, false, ◌&&◌, ◌||◌, List, [], ◌∷◌, ◌++◌, length, refl, sym, ap, subst, arith, inl, inr, map, Contains, Some, None, All, AllPairs, IsTrue}
-use Rattle.std.specs.Prelude.{Option, Result, Ok, Err, IfOk, slice_get, not, unwrap_or}
+use Rattle.std.specs.Prelude.{Option, Result, Ok, Err, IfOk, IfSome, slice_get, not, unwrap_or, nat_le, set, if◌then◌else◌}
 use Rattle.std.specs.Option.{option_map}
 use Rattle.std.proofs.lemmas.Option.{slice_get_within}
 use Rattle.std.specs.List.{AllByRecursion, IsDistinct, list_any}
-use Rattle.std.proofs.lemmas.Bool.{cases_Bool, false_from_ne_true}
+use Rattle.std.proofs.lemmas.Bool.{cases_Bool, false_from_ne_true, leb-false}
 use Rattle.std.proofs.lemmas.List.{length-map}
 use Rattle.std.proofs.lemmas.List.Elements.{All-head, All-tail}
 use Rattle.std.proofs.lemmas.Map.Made.{length-le_from_is_member}
@@ -23,23 +23,26 @@ use Rattle.pcef_table.proofs.Ordered.{apart, counting_is_table, placed_is_table,
 use Rattle.pcef_model.specs.declared.entry.Entry.TheVariants as entry
 use Rattle.pcef_model.specs.declared.command.Command.{Command}
 use Rattle.pcef_model.specs.declared.command.Command.TheVariants.{ReportNow, Triggers, Notice, LoseBearer, Close, Terminate, Install, Activate, Monitor, Remove, Stop}
-use Rattle.pcef_model.specs.Setting.{Setting, same_name}
-use Rattle.pcef_model.specs.ActiveRules.{Active, predefined, put}
+use Rattle.pcef_model.specs.declared.level.Level.{Level}
+use Rattle.pcef_model.specs.declared.level.Level.TheVariants.{Rule, Session}
+use Rattle.pcef_model.proofs.RulesAfter.{filter_all}
+use Rattle.pcef_model.specs.Setting.{Setting, most_keys, same_name}
+use Rattle.pcef_model.specs.ActiveRules.{Active, has_key, predefined, put}
 use Rattle.pcef_model.specs.ActiveRules as rules
 use Rattle.pcef_model.specs.Generations.{Generation, add_if_some, next, rules_after, slots_of}
-use Rattle.pcef_model.specs.Commands.{add_key, is_among, key_named, switched, is_table, activated}
+use Rattle.pcef_model.specs.Commands.{add_key, at_session_level, is_among, key_named, switched, is_table, activated}
 use Rattle.pcef_model.specs.Entries.{Journal}
-use Rattle.pcef_model.specs.Journals.{at, gen, now, slots, tables}
+use Rattle.pcef_model.specs.Journals.{at, gen, level_of, now, slots, tables}
 use Rattle.pcef_model.proofs.Growth.{at_newest, tables_of_table, tables_of_other}
 use Rattle.pcef_lists.proofs.Tests.{contrary}
 use Rattle.pcef_model.proofs.Sameness.{same_name_is, same_name_not, same_name_of, same_name_turned}
 use Rattle.pcef_model.specs.declared.entry.Entry.TheVariants as entry
 use Rattle.pcef_model.specs.ActiveRules as rules
 use Rattle.pcef_usage.specs.declared.usage.KeyState.{KeyState}
-use Rattle.pcef_usage.specs.Keys.{has_slot, keys_of, place_of as place_in}
+use Rattle.pcef_usage.specs.Keys.{finds_no_slot, has_slot, keys_of, place_of as place_in, state_at}
 use Rattle.pcef_usage.specs.PendingReports.{AllCount, AllOn, Counts, OnIs}
 use Rattle.pcef_usage.proofs.Slots.{slot_of_on}
-use Rattle.pcef_usage.proofs.Tells.{all_same}
+use Rattle.pcef_usage.proofs.Tells.{all_same, has_slot_is}
 use Rattle.pcef_session.specs.private.Parts.{Held}
 use Rattle.pcef_session.specs.Agreement.{KeyAgrees}
 use Rattle.pcef_bearer.specs.Bindings.{Binding, id_excluding, without as bound_without}
@@ -48,11 +51,16 @@ use Rattle.pcef_bearer.specs.Standing.{binding_of}
 use Rattle.pcef_rule.specs.declared.quantity.BearerId.{BearerId}
 use Rattle.pcef_session.specs.Preparing.{GetsBearer, IsActivationOf, IsBearerOf, IsTableAfter}
 use Rattle.pcef_model.specs.Changes.{MakesActive}
-use Rattle.pcef_session.specs.private.Keys.{is_on, key_switched, switches_on}
-use Rattle.pcef_model.specs.Refusals.{becoming_active, first_of, refusals}
-use Rattle.pcef_session.specs.Shown.{Shows, StandsFor, rule_of}
+use Rattle.pcef_session.specs.private.Keys.{entries_switched, flags_left, flags_switched, is_on, key_switched, level_switched, switches_on}
+use Rattle.pcef_model.specs.Refusals.{becoming_active, finds_no_slot as finds_none, first_of, refusals}
+use Rattle.pcef_session.specs.Shown.{Shows, ShowsSessionKeys, StandsFor, is_session_on, rule_of}
+use Rattle.pcef_session.proofs.ShownSession.{monitored_rule, monitored_session, monitored_without, no_rule, same_session, session_ended, session_next, session_set, stays_on, stopped_rule, stopped_session}
+use Rattle.pcef_session.proofs.Refused.{slotless_is}
+use Rattle.pcef_usage.proofs.Levels.{level_at}
+use Rattle.pcef_usage.proofs.Loops.{place_known}
+use Rattle.pcef_usage.proofs.Slots.{is_among_add}
 use Rattle.pcef_model.specs.Slots.{counts_now, place_of, slot_of}
-use Rattle.pcef_model.proofs.Acceptance.{few_put, stop_accepted}
+use Rattle.pcef_model.proofs.Acceptance.{can_become, few_put, monitor_accepted, stop_accepted}
 use Rattle.pcef_model.proofs.BearerIds.{lawful_bound}
 use Rattle.pcef_bearer.proofs.BoundBearers.{next_id}
 use Rattle.pcef_session.proofs.HeldSound.{IsSoundHeld, few_generations}
@@ -60,12 +68,12 @@ use Rattle.pcef_session.proofs.KeptRules.{kept_length}
 use Rattle.pcef_model.proofs.BoundRules.{NamesOnce}
 use Rattle.pcef_lists.proofs.Found.{any_from}
 use Rattle.pcef_model.proofs.Members.{first_there, later_there, map_to, put_new}
-use Rattle.pcef_session.proofs.ShownChanges.{Fives, after_is, lawful_fives, name_is, shows_monitor, shows_put, still, shows_stop}
+use Rattle.pcef_session.proofs.ShownChanges.{Fives, after_is, has_key_from, lawful_fives, name_is, shows_monitor, shows_put, still, shows_stop}
 use Rattle.pcef_model.proofs.Decisive.{made_once, once_is}
 use Rattle.pcef_session.proofs.ShownVerdicts.{rule_is}
 use Rattle.pcef_session.proofs.ShownLater.{shows_same, shows_after}
 use Rattle.pcef_session.specs.private.Entries.{with_command, IsEntryOf, IsEntryOn, ShowsNext}
-use Rattle.pcef_session.proofs.TakenAway.{shows_left, stay_counted}
+use Rattle.pcef_session.proofs.TakenAway.{StayCounted, shows_left, stay_counted}
 use Rattle.pcef_model.specs.Reports.{after_command}
 
 -- ---- slots
@@ -94,6 +102,15 @@ place_past k (s ∷ states) absent =
       | inr differs ↦ let later : has_slot k states ≡ false = rw differs at absent in rw differs (ap suc (place_past k states later))
     ]
 
+-- what stands past the end is of rule level
+pub state_past : (k : List ℕ) (states : List KeyState) → has_slot k states ≡ false → (state_at (place_in k states) states).level ≡ Rule
+state_past k [] absent = refl
+state_past k (s ∷ states) absent =
+    elim (cases_Bool (same_name k s.key)) [
+      | inl same ↦ let there : has_slot k (s ∷ states) ≡ true = rw same refl in cc
+      | inr differs ↦ let later : has_slot k states ≡ false = rw differs at absent in rw differs (state_past k states later)
+    ]
+
 -- a key's slot is its place, or the next one
 pub key_place : (k : List ℕ) (states : List KeyState) → place_of k (add_key k (keys_of states)) ≡ Some (place_in k states)
 key_place k states =
@@ -116,6 +133,9 @@ slot_named p j c states (Some k) table is keys =
 pub all_on_from : (p : Setting) (j : Journal) (states : List KeyState) → AllByRecursion (KeyAgrees p j) states → AllOn p j states
 unfolding AllOn
 all_on_from p j states all = all_same (KeyAgrees p j) (OnIs p j) states (λ s h. record { on_is = h.on_is }) all
+
+pub all_levels_from : (p : Setting) (j : Journal) (states : List KeyState) → AllByRecursion (KeyAgrees p j) states → AllByRecursion (λ s. s.level ≡ level_of (now p j) s.key) states
+all_levels_from p j states all = all_same (KeyAgrees p j) (λ s. s.level ≡ level_of (now p j) s.key) states (λ s h. h.level_is) all
 
 pub all_count_from : (p : Setting) (j : Journal) (states : List KeyState) → AllByRecursion (KeyAgrees p j) states → AllCount p j [] states
 unfolding AllCount
@@ -163,12 +183,13 @@ on_is p j states (Some k) keys all =
 -- ---- the entry of a rule that becomes active
 pub stands_new : (p : Setting) (j : Journal) (c : Command) (r : Active) (e : Entry) (states : List KeyState) → MakesActive p c r → keys_of states ≡ slots p j → rule_of p.catalog e.source ≡ Some r →
     e.bearer.0 ≡ (next p (now p j) c).id_of r.properties.qos →
-    option_map (λ (s : Slot). s.0) e.slot ≡ option_map (λ k. place_in k states) r.properties.key → e.counted ≡ counts_now (now p j).on r.properties.key →
+    option_map (λ (s : Slot). s.0) e.slot ≡ option_map (λ k. place_in k states) r.properties.key → IfSome e.slot (λ s. s.0 < most_keys) → e.counted ≡ counts_now (now p j).on r.properties.key →
     StandsFor p (entry.Command c ∷ j) (gen (entry.Command c ∷ j)) e r
-stands_new p j c r e states makes keys source bearer slot counted = record {
+stands_new p j c r e states makes keys source bearer slot low counted = record {
   rule_is = source;
   bearer_is = bearer ∙ sym (ap (λ (g : Generation). g.id_of r.properties.qos) (after_is p j c makes.is_table));
   slot_is = slot ∙ slot_named p j c states r.properties.key makes.is_table makes.key_is keys;
+  slot_low = low;
   counted_is = rw (after_is p j c makes.is_table)
       (counted ∙ sym (still (now p j).rules (rules_after p (now p j) c) (switched c (now p j).on) r
       (subst (λ rs. Contains rs r) (sym (makes.rules_are (now p j))) (put_new r (now p j).rules)) ∙ ap (λ on. counts_now on r.properties.key) (makes.on_is (now p j).on)));
@@ -235,28 +256,29 @@ few_entries p j g t shows once =
 
 -- ---- the table with a rule that becomes active
 pub put_shows : (p : Setting) (j : Journal) (c : Command) (r : Active) (e : Entry) (t : TableValue) → MakesActive p c r → Fives p (now p j) → Shows p j (gen j) t →
-    StandsFor p (entry.Command c ∷ j) (gen (entry.Command c ∷ j)) e r → IsKnown p.catalog e.source →
-    Shows p (entry.Command c ∷ j) (gen (entry.Command c ∷ j)) (record { number = t.number + 1; entries = placed p.catalog e t.entries })
-put_shows p j c r e t makes fives shows stands known =
-    shows_put p j c r e t (t.number + 1) (placed p.catalog e t.entries) makes fives shows stands refl refl (placed_is_table p.catalog e t.entries known shows.ordered)
+    StandsFor p (entry.Command c ∷ j) (gen (entry.Command c ∷ j)) e r → IsKnown p.catalog e.source → ShowsSessionKeys p (entry.Command c ∷ j) (gen (entry.Command c ∷ j)) t.session →
+    Shows p (entry.Command c ∷ j) (gen (entry.Command c ∷ j)) (record { number = t.number + 1; entries = placed p.catalog e t.entries; session = t.session })
+put_shows p j c r e t makes fives shows stands known session =
+    shows_put p j c r e t (t.number + 1) (placed p.catalog e t.entries) t.session makes fives shows stands refl refl (placed_is_table p.catalog e t.entries known shows.ordered) session
 
 -- it has room for the entry
 pub room_put : (p : Setting) (j : Journal) (c : Command) (r : Active) (e : Entry) (t : TableValue) → MakesActive p c r → Fives p (now p j) → Shows p j (gen j) t →
-    StandsFor p (entry.Command c ∷ j) (gen (entry.Command c ∷ j)) e r → IsKnown p.catalog e.source →
+    StandsFor p (entry.Command c ∷ j) (gen (entry.Command c ∷ j)) e r → IsKnown p.catalog e.source → ShowsSessionKeys p (entry.Command c ∷ j) (gen (entry.Command c ∷ j)) t.session →
     length (put r (now p j).rules) ≤ 64 → length (placed p.catalog e t.entries) ≤ 64
-room_put p j c r e t makes fives shows stands known few =
+room_put p j c r e t makes fives shows stands known session few =
     let k : Journal = entry.Command c ∷ j in
     let next_rules : (at p k (gen k)).rules ≡ put r (now p j).rules = ap (λ (g : Generation). g.rules) (after_is p j c makes.is_table) ∙ makes.rules_are (now p j) in
     let once : NamesOnce (at p k (gen k)).rules = subst (λ (g : Generation). NamesOnce g.rules) (sym (at_newest p k)) (made_once p (tables k)) in
-    let fewer = few_entries p k (gen k) (record { number = t.number + 1; entries = placed p.catalog e t.entries }) (put_shows p j c r e t makes fives shows stands known) once in
+    let fewer = few_entries p k (gen k) (record { number = t.number + 1; entries = placed p.catalog e t.entries; session = t.session }) (put_shows p j c r e t makes fives shows stands known session) once in
     omega (arith, fewer, ap length next_rules, few)
 
 -- ---- a table with these fields
-pub shows_as : (p : Setting) (j : Journal) (g : ℕ) (t : TableValue) (number : ℕ) (entries : List Entry) → t.number ≡ number → t.entries ≡ entries →
-    Shows p j g (record { number = number; entries = entries }) → Shows p j g t
-shows_as p j g t number entries number_is entries_are shows = record {
+pub shows_as : (p : Setting) (j : Journal) (g : ℕ) (t : TableValue) (number : ℕ) (entries : List Entry) (flags : List Bool) → t.number ≡ number → t.entries ≡ entries → t.session ≡ flags →
+    Shows p j g (record { number = number; entries = entries; session = flags }) → Shows p j g t
+shows_as p j g t number entries flags number_is entries_are flags_are shows = record {
   number_is = number_is ∙ shows.number_is;
   ordered = subst (IsTable p.catalog) (sym entries_are) shows.ordered;
+  session = subst (ShowsSessionKeys p j g) (sym flags_are) shows.session;
   each = λ r there. let w = shows.each r there in (w.0, subst (λ es. Contains es w.0) (sym entries_are) w.1, w.2);
   only = λ e there. shows.only e (subst (λ es. Contains es e) entries_are there);
 }
@@ -265,6 +287,10 @@ shows_as p j g t number entries number_is entries_are shows = record {
 pub if_ok : {T E : Type 0} (P Q R : T → Type 0) (r : Result T E) → ((t : T) → P t → Q t → R t) → IfOk r P → IfOk r Q → IfOk r R
 if_ok P Q R (Ok t) both first second = both t first second
 if_ok P Q R (Err e) both first second = tt
+
+pub if_ok_3 : {T E : Type 0} (P Q R S : T → Type 0) (r : Result T E) → ((t : T) → P t → Q t → R t → S t) → IfOk r P → IfOk r Q → IfOk r R → IfOk r S
+if_ok_3 P Q R S (Ok t) all first second third = all t first second third
+if_ok_3 P Q R S (Err e) all first second third = tt
 
 pub number_fits : (v : Held) → IsSoundHeld v → v.parts.table.number + 1 < 4294967296
 number_fits v sound =
@@ -281,10 +307,30 @@ shows_now v sound = sound.agrees.table_shows
 few_active : (v : Held) → IsSoundHeld v → length (now v.setting v.journal).rules ≤ 64
 few_active v sound = omega (arith, sound.few_rules, kept_length v.setting.catalog v.parts.rules (now v.setting v.journal).rules sound.agrees.rules_are)
 
+-- a key that has a slot or finds one has one of eight
+few_places : (v : Held) (key : List ℕ) (slot : Slot) → IsSoundHeld v → finds_no_slot (Some key) v.parts.keys ≡ false → slot.0 ≡ place_in key v.parts.keys → slot.0 < 8
+few_places v key slot sound finds slot_is =
+    elim (cases_Bool (has_slot key v.parts.keys)) [
+      | inl there ↦
+          let w = place_known key v.parts.keys (sym (has_slot_is key v.parts.keys) ∙ there) in
+          let few = sound.few_keys in omega (arith, w, few, slot_is)
+      | inr absent ↦
+          let room : nat_le most_keys (length v.parts.keys) ≡ false = rw absent at finds in
+          let below = leb-false most_keys (length v.parts.keys) room in
+          let past = place_past key v.parts.keys absent in omega (arith, below, past, slot_is)
+    ]
+
+low_slot : (v : Held) (key : Option (List ℕ)) (slot : Option Slot) → IsSoundHeld v → finds_none v.setting v.journal key ≡ false → option_map (λ (s : Slot). s.0) slot ≡ option_map (λ k. place_in k v.parts.keys) key →
+    IfSome slot (λ s. s.0 < most_keys)
+low_slot v key None sound finds is = tt
+low_slot v None (Some s) sound finds is = absurd cc
+low_slot v (Some key) (Some s) sound finds is =
+    few_places v key s sound (slotless_is v.setting v.journal (Some key) v.parts.keys sound.agrees.keys_are ∙ finds) cc
+
 -- the entry that was made for a rule stands for it, whichever command makes it active
-entry_stands : (v : Held) (c : Command) (r : Active) (x : Activation) (e : Entry) → IsSoundHeld v → MakesActive v.setting c r → IsActivationOf v.setting r x → IsEntryOf v.parts.binding v.parts.keys x e →
+entry_stands : (v : Held) (c : Command) (r : Active) (x : Activation) (e : Entry) → IsSoundHeld v → first_of (becoming_active v.setting v.journal r.properties) ≡ None → MakesActive v.setting c r → IsActivationOf v.setting r x → IsEntryOf v.parts.binding v.parts.keys x e →
     StandsFor v.setting (with_command c v.journal) (gen (with_command c v.journal)) e r
-entry_stands v c r x e sound makes is_of is =
+entry_stands v c r x e sound accepted makes is_of is =
     let p : Setting = v.setting in
     let g : Generation = now p v.journal in
     let same : x.properties ≡ r.properties = is_of.properties_are in
@@ -294,6 +340,7 @@ entry_stands v c r x e sound makes is_of is =
     stands_new p v.journal c r e v.parts.keys makes sound.agrees.keys_are (ap (rule_of p.catalog) is.source_is ∙ is_of.rule_is)
     (sym (next_id p g c r e.bearer.0 makes (lawful_bound p v.journal sound.agrees.lawful) bound))
     (is.slot_is ∙ ap (λ (q : Properties). option_map (λ k. place_in k v.parts.keys) q.key) same)
+    (low_slot v r.properties.key e.slot sound (can_become v.setting v.journal r.properties accepted).slot (is.slot_is ∙ ap (λ (q : Properties). option_map (λ k. place_in k v.parts.keys) q.key) same))
     (is.counted_is ∙ on_is p v.journal v.parts.keys x.properties.key sound.agrees.keys_are sound.agrees.usage_is ∙ ap (λ (q : Properties). counts_now g.on q.key) same)
 
 -- the entry that was made for a rule on the bearer that it gets
@@ -308,6 +355,26 @@ entry_made v x id e sound gets is =
       counted_is = is.counted_is;
     }
 
+-- the flags of slots after a command that makes a rule active
+session_put : (v : Held) (c : Command) (r : Active) → IsSoundHeld v → MakesActive v.setting c r → activated v.setting c ≡ Some r →
+    ShowsSessionKeys v.setting (with_command c v.journal) (gen (with_command c v.journal)) v.parts.table.session
+session_put v c r sound makes becomes =
+    session_next v.setting v.journal c v.parts.table.session (after_is v.setting v.journal c makes.is_table)
+    (same_session v.setting v.journal c sound.agrees.lawful (from c becomes) (λ key is. ap (is_among key) (makes.on_is (now v.setting v.journal).on))) (shows_now v sound).session
+  where
+    from : (d : Command) → activated v.setting d ≡ Some r → at_session_level d (now v.setting v.journal).session ≡ (now v.setting v.journal).session
+    from (Install rule) is = refl
+    from (Activate name) is = refl
+    from (Remove name) is = refl
+    from (Monitor key amount level) is = absurd cc
+    from (Stop key) is = refl
+    from (ReportNow key) is = refl
+    from (Triggers set) is = refl
+    from (Notice kind value) is = refl
+    from (LoseBearer id) is = refl
+    from Close is = refl
+    from Terminate is = refl
+
 -- the place of a rule is in the catalog
 known_of : (offers : List Offer) (source : Source) (r : Active) → rule_of offers source ≡ Some r → IsKnown offers source
 known_of offers (Dynamic d) r is = tt
@@ -321,71 +388,215 @@ pub entry_known : (v : Held) (r : Active) (x : Activation) (e : Entry) → IsAct
 entry_known v r x e is_of is = known_of v.setting.catalog e.source r (ap (rule_of v.setting.catalog) is.source_is ∙ is_of.rule_is)
 
 -- the table with the rule that a command makes active has room for it
-pub room_for_rule : (v : Held) (c : Command) (r : Active) (x : Activation) (e : Entry) → IsSoundHeld v → first_of (becoming_active v.setting v.journal r.properties) ≡ None → MakesActive v.setting c r →
+pub room_for_rule : (v : Held) (c : Command) (r : Active) (x : Activation) (e : Entry) → IsSoundHeld v → first_of (becoming_active v.setting v.journal r.properties) ≡ None → MakesActive v.setting c r → activated v.setting c ≡ Some r →
     IsActivationOf v.setting r x → IsEntryOf v.parts.binding v.parts.keys x e → length (placed v.setting.catalog e v.parts.table.entries) ≤ 64
-room_for_rule v c r x e sound accepted makes is_of is =
-    room_put v.setting v.journal c r e v.parts.table makes (fives_now v sound) (shows_now v sound) (entry_stands v c r x e sound makes is_of is) (entry_known v r x e is_of is)
+room_for_rule v c r x e sound accepted makes becomes is_of is =
+    room_put v.setting v.journal c r e v.parts.table makes (fives_now v sound) (shows_now v sound) (entry_stands v c r x e sound accepted makes is_of is) (entry_known v r x e is_of is) (session_put v c r sound makes becomes)
     (few_put v.setting v.journal r (few_active v sound) accepted)
 
-pub table_with : (v : Held) (c : Command) (r : Active) (x : Activation) (e : Entry) → IsSoundHeld v → MakesActive v.setting c r → IsActivationOf v.setting r x → IsEntryOf v.parts.binding v.parts.keys x e →
-    (new : TableValue) → new.number ≡ v.parts.table.number + 1 → new.entries ≡ placed v.setting.catalog e v.parts.table.entries → ShowsNext v.setting v.journal c new
-table_with v c r x e sound makes is_of is new number entries =
+pub table_with : (v : Held) (c : Command) (r : Active) (x : Activation) (e : Entry) → IsSoundHeld v → first_of (becoming_active v.setting v.journal r.properties) ≡ None → MakesActive v.setting c r → activated v.setting c ≡ Some r → IsActivationOf v.setting r x → IsEntryOf v.parts.binding v.parts.keys x e →
+    (new : TableValue) → new.number ≡ v.parts.table.number + 1 → new.entries ≡ placed v.setting.catalog e v.parts.table.entries → new.session ≡ v.parts.table.session → ShowsNext v.setting v.journal c new
+table_with v c r x e sound accepted makes becomes is_of is new number entries flags =
     let p : Setting = v.setting in
     let t : TableValue = v.parts.table in
-    shows_as p (with_command c v.journal) (gen (with_command c v.journal)) new (t.number + 1) (placed p.catalog e t.entries) number entries
-    (put_shows p v.journal c r e t makes (fives_now v sound) (shows_now v sound) (entry_stands v c r x e sound makes is_of is) (entry_known v r x e is_of is))
+    shows_as p (with_command c v.journal) (gen (with_command c v.journal)) new (t.number + 1) (placed p.catalog e t.entries) t.session number entries flags
+    (put_shows p v.journal c r e t makes (fives_now v sound) (shows_now v sound) (entry_stands v c r x e sound accepted makes is_of is) (entry_known v r x e is_of is) (session_put v c r sound makes becomes))
 
--- the table where the slot of a switched key counts or doesn't
-table_monitored : (v : Held) (key : List ℕ) (amount : ℕ) (slot : Slot) → IsSoundHeld v → slot.0 ≡ place_in key v.parts.keys →
-    (new : TableValue) → new.number ≡ v.parts.table.number + 1 → new.entries ≡ map (with_counting slot true) v.parts.table.entries → ShowsNext v.setting v.journal (Monitor key amount) new
-table_monitored v key amount slot sound slot_is new number entries =
+-- ---- the table where a switched key counts or doesn't
+-- the slot of the key of a Monitor, or of a Stop
+place_monitored : (v : Held) (key : List ℕ) (amount : ℕ) (level : Level) (slot : Slot) → IsSoundHeld v → slot.0 ≡ place_in key v.parts.keys →
+    place_of key (slots v.setting (with_command (Monitor key amount level) v.journal)) ≡ Some slot.0
+place_monitored v key amount level slot sound slot_is =
+    ap (place_of key) (slots_next v.setting v.journal (Monitor key amount level) refl ∙ ap (add_key key) (sym sound.agrees.keys_are)) ∙ key_place key v.parts.keys ∙ ap (λ n. Some n) (sym slot_is)
+
+place_stopped : (v : Held) (key : List ℕ) (slot : Slot) → IsSoundHeld v → is_among key (now v.setting v.journal).on ≡ true → slot.0 ≡ place_in key v.parts.keys →
+    place_of key (slots v.setting (with_command (Stop key) v.journal)) ≡ Some slot.0
+place_stopped v key slot sound on slot_is =
+    let has : is_among key (keys_of v.parts.keys) ≡ true = ap (is_among key) sound.agrees.keys_are ∙ slot_of_on v.setting v.journal key on in
+    ap (place_of key) (slots_next v.setting v.journal (Stop key) refl ∙ sym sound.agrees.keys_are) ∙ here_place key v.parts.keys has ∙ ap (λ n. Some n) (sym slot_is)
+
+-- at rule level
+monitored_at_rule : (v : Held) (key : List ℕ) (amount : ℕ) (slot : Slot) → IsSoundHeld v → first_of (refusals v.setting v.journal (Monitor key amount Rule)) ≡ None → slot.0 ≡ place_in key v.parts.keys →
+    (new : TableValue) → new.number ≡ v.parts.table.number + 1 → new.entries ≡ map (with_counting slot true) v.parts.table.entries → new.session ≡ v.parts.table.session →
+    ShowsNext v.setting v.journal (Monitor key amount Rule) new
+monitored_at_rule v key amount slot sound accepted slot_is new number entries flags =
+    let p : Setting = v.setting in
+    let t : TableValue = v.parts.table in
+    let c : Command = Monitor key amount Rule in
+    let shows = shows_now v sound in
+    shows_as p (with_command c v.journal) (gen (with_command c v.journal)) new (t.number + 1) (map (with_counting slot true) t.entries) t.session number entries flags
+    (shows_monitor p v.journal key amount Rule slot t (t.number + 1) (map (with_counting slot true) t.entries) t.session (fives_now v sound) shows (place_monitored v key amount Rule slot sound slot_is) refl refl
+    (counting_is_table p.catalog slot true t.entries shows.ordered)
+    (session_next p v.journal c t.session (after_is p v.journal c refl) (monitored_rule p v.journal key amount sound.agrees.lawful accepted) shows.session))
+
+stopped_at_rule : (v : Held) (key : List ℕ) (slot : Slot) → IsSoundHeld v → is_among key (now v.setting v.journal).on ≡ true → is_among key (now v.setting v.journal).session ≡ false → slot.0 ≡ place_in key v.parts.keys →
+    (new : TableValue) → new.number ≡ v.parts.table.number + 1 → new.entries ≡ map (with_counting slot false) v.parts.table.entries → new.session ≡ v.parts.table.session →
+    ShowsNext v.setting v.journal (Stop key) new
+stopped_at_rule v key slot sound on level slot_is new number entries flags =
+    let p : Setting = v.setting in
+    let t : TableValue = v.parts.table in
+    let c : Command = Stop key in
+    let shows = shows_now v sound in
+    shows_as p (with_command c v.journal) (gen (with_command c v.journal)) new (t.number + 1) (map (with_counting slot false) t.entries) t.session number entries flags
+    (shows_stop p v.journal key slot t (t.number + 1) (map (with_counting slot false) t.entries) t.session (fives_now v sound) shows (place_stopped v key slot sound on slot_is) refl refl
+    (counting_is_table p.catalog slot false t.entries shows.ordered)
+    (session_next p v.journal c t.session (after_is p v.journal c refl) (stopped_rule p v.journal key sound.agrees.lawful level) shows.session))
+
+-- at session level: no rule has the key, so the entries stay
+keyless_counts : (rs : List Active) (r : Active) (key : List ℕ) (on new : List (List ℕ)) → Contains rs r → has_key key rs ≡ false →
+    ((k : List ℕ) → same_name k key ≡ false → is_among k new ≡ is_among k on) → counts_now new r.properties.key ≡ counts_now on r.properties.key
+keyless_counts rs r key on new there none same = from r.properties.key refl
+  where
+    from : (k : Option (List ℕ)) → r.properties.key ≡ k → counts_now new k ≡ counts_now on k
+    from None is = refl
+    from (Some k) is = same k (false_from_ne_true (same_name k key) (λ one.
+        contrary (has_key key rs) (has_key_from rs r key there (is ∙ ap (λ (x : List ℕ). Some x) (same_name_is k key one))) none))
+
+-- the slot of a key that a command switches is one of eight
+pub switched_slot : (v : Held) (c : Command) (key : List ℕ) (slot : Slot) → IsSoundHeld v → first_of (refusals v.setting v.journal c) ≡ None → key_switched c ≡ Some key → slot.0 ≡ place_in key v.parts.keys →
+    slot.0 < 8
+switched_slot v (Monitor k amount level) key slot sound accepted switched slot_is =
+    let same : k ≡ key = cc in
+    let finds : finds_no_slot (Some k) v.parts.keys ≡ false =
+    slotless_is v.setting v.journal (Some k) v.parts.keys sound.agrees.keys_are ∙ (monitor_accepted v.setting v.journal k amount level accepted).1 in
+    few_places v k slot sound finds (slot_is ∙ ap (λ x. place_in x v.parts.keys) (sym same))
+switched_slot v (Stop k) key slot sound accepted switched slot_is =
+    let same : k ≡ key = cc in
+    let on = stop_accepted v.setting v.journal k accepted in
+    let has : is_among k (keys_of v.parts.keys) ≡ true = ap (is_among k) sound.agrees.keys_are ∙ slot_of_on v.setting v.journal k on in
+    let w = place_known k v.parts.keys has in
+    let few = sound.few_keys in
+    let here : slot.0 ≡ place_in k v.parts.keys = slot_is ∙ ap (λ x. place_in x v.parts.keys) (sym same) in
+    omega (arith, w, few, here)
+switched_slot v (Install rule) key slot sound accepted switched slot_is = absurd cc
+switched_slot v (Activate name) key slot sound accepted switched slot_is = absurd cc
+switched_slot v (Remove name) key slot sound accepted switched slot_is = absurd cc
+switched_slot v (ReportNow k) key slot sound accepted switched slot_is = absurd cc
+switched_slot v (Triggers set) key slot sound accepted switched slot_is = absurd cc
+switched_slot v (Notice kind value) key slot sound accepted switched slot_is = absurd cc
+switched_slot v (LoseBearer id) key slot sound accepted switched slot_is = absurd cc
+switched_slot v Close key slot sound accepted switched slot_is = absurd cc
+switched_slot v Terminate key slot sound accepted switched slot_is = absurd cc
+
+-- a command that leaves the entries, and whose key no rule has
+unkeyed_shows : (v : Held) (c : Command) (key : List ℕ) (slot : Slot) (b : Bool) → IsSoundHeld v → activated v.setting c ≡ None → is_table c ≡ true →
+    without_taken v.setting.catalog c v.parts.table.entries ≡ v.parts.table.entries → StayCounted v.setting (now v.setting v.journal) c →
+    place_of key (slots v.setting (with_command c v.journal)) ≡ Some slot.0 → slot.0 < 8 →
+    ((k : List ℕ) → is_session_on (next v.setting (now v.setting v.journal) c) k ≡ (if same_name k key then b else is_session_on (now v.setting v.journal) k)) →
+    (new : TableValue) → new.number ≡ v.parts.table.number + 1 → new.entries ≡ v.parts.table.entries → new.session ≡ set v.parts.table.session slot.0 b → ShowsNext v.setting v.journal c new
+unkeyed_shows v c key slot b sound none is stay counted place few switches new number entries flags =
     let p : Setting = v.setting in
     let t : TableValue = v.parts.table in
     let shows = shows_now v sound in
-    let place : place_of key (slots p (with_command (Monitor key amount) v.journal)) ≡ Some slot.0 =
-    ap (place_of key) (slots_next p v.journal (Monitor key amount) refl ∙ ap (add_key key) (sym sound.agrees.keys_are)) ∙ key_place key v.parts.keys ∙ ap (λ n. Some n) (sym slot_is) in
-    shows_as p (with_command (Monitor key amount) v.journal) (gen (with_command (Monitor key amount) v.journal)) new (t.number + 1) (map (with_counting slot true) t.entries) number entries
-    (shows_monitor p v.journal key amount slot t (t.number + 1) (map (with_counting slot true) t.entries) (fives_now v sound) shows place refl refl (counting_is_table p.catalog slot true t.entries shows.ordered))
+    let session = session_set p v.journal c key slot.0 b t.session (after_is p v.journal c is) place few switches shows.session in
+    shows_as p (with_command c v.journal) (gen (with_command c v.journal)) new (t.number + 1) (without_taken p.catalog c t.entries) (set t.session slot.0 b) number (entries ∙ sym stay) flags
+    (shows_left p v.journal c t (set t.session slot.0 b) none is counted (fives_now v sound) shows (part_is_table p.catalog (λ e. not (is_taken p.catalog c e)) t.entries shows.ordered) session)
 
-table_stopped : (v : Held) (key : List ℕ) (slot : Slot) → IsSoundHeld v → is_among key (now v.setting v.journal).on ≡ true → slot.0 ≡ place_in key v.parts.keys →
-    (new : TableValue) → new.number ≡ v.parts.table.number + 1 → new.entries ≡ map (with_counting slot false) v.parts.table.entries → ShowsNext v.setting v.journal (Stop key) new
-table_stopped v key slot sound on slot_is new number entries =
+monitored_at_session : (v : Held) (key : List ℕ) (amount : ℕ) (slot : Slot) → IsSoundHeld v → first_of (refusals v.setting v.journal (Monitor key amount Session)) ≡ None → slot.0 ≡ place_in key v.parts.keys →
+    (new : TableValue) → new.number ≡ v.parts.table.number + 1 → new.entries ≡ v.parts.table.entries → new.session ≡ set v.parts.table.session slot.0 true →
+    ShowsNext v.setting v.journal (Monitor key amount Session) new
+monitored_at_session v key amount slot sound accepted slot_is new number entries flags =
     let p : Setting = v.setting in
-    let t : TableValue = v.parts.table in
-    let shows = shows_now v sound in
-    let has : is_among key (keys_of v.parts.keys) ≡ true = ap (is_among key) sound.agrees.keys_are ∙ slot_of_on p v.journal key on in
-    let place : place_of key (slots p (with_command (Stop key) v.journal)) ≡ Some slot.0 =
-    ap (place_of key) (slots_next p v.journal (Stop key) refl ∙ sym sound.agrees.keys_are) ∙ here_place key v.parts.keys has ∙ ap (λ n. Some n) (sym slot_is) in
-    shows_as p (with_command (Stop key) v.journal) (gen (with_command (Stop key) v.journal)) new (t.number + 1) (map (with_counting slot false) t.entries) number entries
-    (shows_stop p v.journal key slot t (t.number + 1) (map (with_counting slot false) t.entries) (fives_now v sound) shows place refl refl (counting_is_table p.catalog slot false t.entries shows.ordered))
+    let g : Generation = now p v.journal in
+    let c : Command = Monitor key amount Session in
+    let none : has_key key g.rules ≡ false = monitored_without p v.journal key amount sound.agrees.lawful accepted in
+    unkeyed_shows v c key slot true sound refl refl (filter_all v.parts.table.entries)
+    (λ r there. keyless_counts g.rules r key g.on (add_key key g.on) (subst (λ (rs : List Active). Contains rs r) (filter_all g.rules) there) none
+    (λ k differs. is_among_add k key g.on ∙ ap (λ b. is_among k g.on || b) differs ∙ or_none (is_among k g.on)))
+    (place_monitored v key amount Session slot sound slot_is) (switched_slot v c key slot sound accepted refl slot_is)
+    (monitored_session p v.journal key amount sound.agrees.lawful accepted) new number entries flags
+  where
+    or_none : (b : Bool) → (b || false) ≡ b
+    or_none true = refl
+    or_none false = refl
+
+stopped_at_session : (v : Held) (key : List ℕ) (slot : Slot) → IsSoundHeld v → first_of (refusals v.setting v.journal (Stop key)) ≡ None → is_among key (now v.setting v.journal).session ≡ true → slot.0 ≡ place_in key v.parts.keys →
+    (new : TableValue) → new.number ≡ v.parts.table.number + 1 → new.entries ≡ v.parts.table.entries → new.session ≡ set v.parts.table.session slot.0 false →
+    ShowsNext v.setting v.journal (Stop key) new
+stopped_at_session v key slot sound accepted level slot_is new number entries flags =
+    let p : Setting = v.setting in
+    let g : Generation = now p v.journal in
+    let c : Command = Stop key in
+    let none : has_key key g.rules ≡ false = no_rule p v.journal key sound.agrees.lawful level in
+    unkeyed_shows v c key slot false sound refl refl (filter_all v.parts.table.entries)
+    (λ r there. keyless_counts g.rules r key g.on (switched c g.on) (subst (λ (rs : List Active). Contains rs r) (filter_all g.rules) there) none (λ k differs. stays_on g.on key k differs))
+    (place_stopped v key slot sound (stop_accepted p v.journal key accepted) slot_is) (switched_slot v c key slot sound accepted refl slot_is)
+    (stopped_session p v.journal key sound.agrees.lawful level) new number entries flags
+
+-- the level of a key that is stopped
+stopped_level : (v : Held) (key : List ℕ) → IsSoundHeld v → is_among key (now v.setting v.journal).on ≡ true →
+    (state_at (place_in key v.parts.keys) v.parts.keys).level ≡ level_of (now v.setting v.journal) key
+stopped_level v key sound on =
+    level_at (now v.setting v.journal) key v.parts.keys (all_levels_from v.setting v.journal v.parts.keys sound.agrees.usage_is)
+    (has_slot_is key v.parts.keys ∙ ap (is_among key) sound.agrees.keys_are ∙ slot_of_on v.setting v.journal key on)
 
 pub table_switched : (v : Held) (c : Command) (key : List ℕ) (slot : Slot) → IsSoundHeld v → first_of (refusals v.setting v.journal c) ≡ None → key_switched c ≡ Some key → slot.0 ≡ place_in key v.parts.keys →
-    (new : TableValue) → new.number ≡ v.parts.table.number + 1 → new.entries ≡ map (with_counting slot (switches_on c)) v.parts.table.entries → ShowsNext v.setting v.journal c new
-table_switched v (Monitor k amount) key slot sound accepted switched slot_is new number entries =
+    (new : TableValue) → new.number ≡ v.parts.table.number + 1 →
+    new.entries ≡ entries_switched (level_switched c key v.parts.keys) slot (switches_on c) v.parts.table.entries →
+    new.session ≡ flags_switched (level_switched c key v.parts.keys) slot (switches_on c) v.parts.table.session → ShowsNext v.setting v.journal c new
+table_switched v (Monitor k amount Rule) key slot sound accepted switched slot_is new number entries flags =
     let same : k ≡ key = cc in
-    table_monitored v k amount slot sound (slot_is ∙ ap (λ x. place_in x v.parts.keys) (sym same)) new number entries
-table_switched v (Stop k) key slot sound accepted switched slot_is new number entries =
+    monitored_at_rule v k amount slot sound accepted (slot_is ∙ ap (λ x. place_in x v.parts.keys) (sym same)) new number entries flags
+table_switched v (Monitor k amount Session) key slot sound accepted switched slot_is new number entries flags =
     let same : k ≡ key = cc in
-    table_stopped v k slot sound (stop_accepted v.setting v.journal k accepted) (slot_is ∙ ap (λ x. place_in x v.parts.keys) (sym same)) new number entries
-table_switched v (Install rule) key slot sound accepted switched slot_is new number entries = absurd cc
-table_switched v (Activate name) key slot sound accepted switched slot_is new number entries = absurd cc
-table_switched v (Remove name) key slot sound accepted switched slot_is new number entries = absurd cc
-table_switched v (ReportNow k) key slot sound accepted switched slot_is new number entries = absurd cc
-table_switched v (Triggers set) key slot sound accepted switched slot_is new number entries = absurd cc
-table_switched v (Notice kind value) key slot sound accepted switched slot_is new number entries = absurd cc
-table_switched v (LoseBearer id) key slot sound accepted switched slot_is new number entries = absurd cc
-table_switched v Close key slot sound accepted switched slot_is new number entries = absurd cc
-table_switched v Terminate key slot sound accepted switched slot_is new number entries = absurd cc
+    monitored_at_session v k amount slot sound accepted (slot_is ∙ ap (λ x. place_in x v.parts.keys) (sym same)) new number entries flags
+table_switched v (Stop k) key slot sound accepted switched slot_is new number entries flags =
+    let same : k ≡ key = cc in
+    let here : slot.0 ≡ place_in k v.parts.keys = slot_is ∙ ap (λ x. place_in x v.parts.keys) (sym same) in
+    let on = stop_accepted v.setting v.journal k accepted in
+    let level : level_switched (Stop k) key v.parts.keys ≡ level_of (now v.setting v.journal) k =
+    ap (λ x. (state_at (place_in x v.parts.keys) v.parts.keys).level) (sym same) ∙ stopped_level v k sound on in
+    let new_entries : new.entries ≡ entries_switched (level_of (now v.setting v.journal) k) slot false v.parts.table.entries =
+    entries ∙ ap (λ l. entries_switched l slot false v.parts.table.entries) level in
+    let new_flags : new.session ≡ flags_switched (level_of (now v.setting v.journal) k) slot false v.parts.table.session =
+    flags ∙ ap (λ l. flags_switched l slot false v.parts.table.session) level in
+    elim (cases_Bool (is_among k (now v.setting v.journal).session)) [
+      | inl is ↦ stopped_at_session v k slot sound accepted is here new number (rw is at new_entries) (rw is at new_flags)
+      | inr isnt ↦ stopped_at_rule v k slot sound on isnt here new number (rw isnt at new_entries) (rw isnt at new_flags)
+    ]
+table_switched v (Install rule) key slot sound accepted switched slot_is new number entries flags = absurd cc
+table_switched v (Activate name) key slot sound accepted switched slot_is new number entries flags = absurd cc
+table_switched v (Remove name) key slot sound accepted switched slot_is new number entries flags = absurd cc
+table_switched v (ReportNow k) key slot sound accepted switched slot_is new number entries flags = absurd cc
+table_switched v (Triggers set) key slot sound accepted switched slot_is new number entries flags = absurd cc
+table_switched v (Notice kind value) key slot sound accepted switched slot_is new number entries flags = absurd cc
+table_switched v (LoseBearer id) key slot sound accepted switched slot_is new number entries flags = absurd cc
+table_switched v Close key slot sound accepted switched slot_is new number entries flags = absurd cc
+table_switched v Terminate key slot sound accepted switched slot_is new number entries flags = absurd cc
+
+-- the flags of slots after a command that switches no key
+session_kept : (v : Held) (c : Command) → IsSoundHeld v → is_table c ≡ true → at_session_level c (now v.setting v.journal).session ≡ (now v.setting v.journal).session →
+    switched c (now v.setting v.journal).on ≡ (now v.setting v.journal).on → ShowsSessionKeys v.setting (with_command c v.journal) (gen (with_command c v.journal)) v.parts.table.session
+session_kept v c sound is levels on =
+    session_next v.setting v.journal c v.parts.table.session (after_is v.setting v.journal c is)
+    (same_session v.setting v.journal c sound.agrees.lawful levels (λ key session. ap (is_among key) on)) (shows_now v sound).session
+
+-- the flags of slots after a command that takes rules away
+session_left : (v : Held) (c : Command) → IsSoundHeld v → activated v.setting c ≡ None → is_table c ≡ true → key_switched c ≡ None →
+    ShowsSessionKeys v.setting (with_command c v.journal) (gen (with_command c v.journal)) (flags_left c v.parts.table.session)
+session_left v Terminate sound none is switches = session_ended v.setting v.journal (after_is v.setting v.journal Terminate refl)
+session_left v (Install rule) sound none is switches = absurd cc
+session_left v (Activate name) sound none is switches = session_kept v (Activate name) sound is refl refl
+session_left v (Remove name) sound none is switches = session_kept v (Remove name) sound is refl refl
+session_left v (Monitor key amount level) sound none is switches = absurd cc
+session_left v (Stop key) sound none is switches = absurd cc
+session_left v (ReportNow key) sound none is switches = absurd cc
+session_left v (Triggers set) sound none is switches = absurd cc
+session_left v (Notice kind value) sound none is switches = absurd cc
+session_left v (LoseBearer id) sound none is switches = session_kept v (LoseBearer id) sound is refl refl
+session_left v Close sound none is switches = session_kept v Close sound is refl refl
 
 -- the table without the rules that a command takes away
 pub table_left : (v : Held) (c : Command) → IsSoundHeld v → activated v.setting c ≡ None → is_table c ≡ true → key_switched c ≡ None →
-    (new : TableValue) → new.number ≡ v.parts.table.number + 1 → new.entries ≡ without_taken v.setting.catalog c v.parts.table.entries → ShowsNext v.setting v.journal c new
-table_left v c sound none is switches new number entries =
+    (new : TableValue) → new.number ≡ v.parts.table.number + 1 → new.entries ≡ without_taken v.setting.catalog c v.parts.table.entries → new.session ≡ flags_left c v.parts.table.session →
+    ShowsNext v.setting v.journal c new
+table_left v c sound none is switches new number entries flags =
     let p : Setting = v.setting in
     let t : TableValue = v.parts.table in
     let shows = shows_now v sound in
-    shows_as p (with_command c v.journal) (gen (with_command c v.journal)) new (t.number + 1) (without_taken p.catalog c t.entries) number entries
-    (shows_left p v.journal c t none is (stay_counted p (now p v.journal) c none switches) (fives_now v sound) shows (part_is_table p.catalog (λ e. not (is_taken p.catalog c e)) t.entries shows.ordered))
+    shows_as p (with_command c v.journal) (gen (with_command c v.journal)) new (t.number + 1) (without_taken p.catalog c t.entries) (flags_left c t.session) number entries flags
+    (shows_left p v.journal c t (flags_left c t.session) none is (stay_counted p (now p v.journal) c none switches) (fives_now v sound) shows (part_is_table p.catalog (λ e. not (is_taken p.catalog c e)) t.entries shows.ordered)
+    (session_left v c sound none is switches))
 
 -- a command that makes no table leaves the one that shows the newest generation
 pub table_stays : (p : Setting) (j : Journal) (c : Command) (t : TableValue) → Shows p j (gen j) t → is_table c ≡ false → Shows p (with_command c j) (gen (with_command c j)) t

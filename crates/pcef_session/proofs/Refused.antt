@@ -8,6 +8,7 @@ use Rattle.pcef_rule.specs.declared.rule.Properties.{Properties}
 use Rattle.pcef_catalog.specs.declared.listing.Offer.{Offer}
 use Rattle.pcef_model.specs.declared.command.Command.TheVariants.{Install, Activate, Remove, Monitor, Stop, ReportNow, Triggers, Notice, LoseBearer, Close, Terminate}
 use Rattle.pcef_model.specs.declared.entry.Entry.TheVariants as entry
+use Rattle.pcef_model.specs.declared.level.Level.TheVariants.{Rule}
 use Rattle.pcef_model.specs.Setting.{most_rules, Setting, offer_named}
 use Rattle.pcef_model.specs.ActiveRules.{predefined, without}
 use Rattle.pcef_model.specs.Entries.{Journal, commands}
@@ -16,8 +17,8 @@ use Rattle.pcef_usage.specs.declared.usage.KeyState.{KeyState}
 use Rattle.pcef_usage.specs.Keys.{finds_no_slot as slotless, keys_of}
 use Rattle.pcef_usage.proofs.Monitors.{finds_no_slot_is}
 use Rattle.pcef_model.specs.declared.answer.Refusal.{Refusal}
-use Rattle.pcef_model.specs.declared.answer.Refusal.TheVariants.{RulesFull, KeysFull, NameIsPredefined, UnknownRule}
-use Rattle.pcef_model.specs.Refusals.{Conditions, becoming_active, becoming_active_if, bindings, finds_no_slot, first_of, is_active, limited_count, was_closed, was_terminated}
+use Rattle.pcef_model.specs.declared.answer.Refusal.TheVariants.{RulesFull, KeysFull, LevelClash, NameIsPredefined, UnknownRule}
+use Rattle.pcef_model.specs.Refusals.{Conditions, becoming_active, becoming_active_if, bindings, clashes, finds_no_slot, first_of, is_active, limited_count, was_closed, was_terminated}
 use Rattle.pcef_session.specs.declared.prepared.Activation.{Activation}
 use Rattle.pcef_session.specs.Preparing.{Activates}
 
@@ -51,7 +52,7 @@ limited_plain (entry.Command Terminate ∷ j) closed terminated = absurd (true�
 limited_plain (entry.Command (Install rule) ∷ j) closed terminated = let rest = limited_plain j closed terminated in omega (arith, rest)
 limited_plain (entry.Command (Activate name) ∷ j) closed terminated = let rest = limited_plain j closed terminated in omega (arith, rest)
 limited_plain (entry.Command (Remove name) ∷ j) closed terminated = let rest = limited_plain j closed terminated in omega (arith, rest)
-limited_plain (entry.Command (Monitor key amount) ∷ j) closed terminated = let rest = limited_plain j closed terminated in omega (arith, rest)
+limited_plain (entry.Command (Monitor key amount level) ∷ j) closed terminated = let rest = limited_plain j closed terminated in omega (arith, rest)
 limited_plain (entry.Command (Stop key) ∷ j) closed terminated = let rest = limited_plain j closed terminated in omega (arith, rest)
 limited_plain (entry.Command (ReportNow key) ∷ j) closed terminated = let rest = limited_plain j closed terminated in omega (arith, rest)
 limited_plain (entry.Command (Triggers set) ∷ j) closed terminated = let rest = limited_plain j closed terminated in omega (arith, rest)
@@ -75,13 +76,17 @@ pub becoming_full : (p : Setting) (j : Journal) (rule : Properties) → true ≡
     Some RulesFull ≡ first_of (becoming_active p j rule)
 becoming_full p j rule full = rw (← full) refl
 
+pub becoming_clashing : (p : Setting) (j : Journal) (rule : Properties) → false ≡ (not (is_active p j rule.name) && nat_le most_rules (length (now p j).rules)) →
+    true ≡ clashes p j Rule rule.key → Some LevelClash ≡ first_of (becoming_active p j rule)
+becoming_clashing p j rule place clash = rw (← place, ← clash) refl
+
 pub becoming_slotless : (p : Setting) (j : Journal) (rule : Properties) → false ≡ (not (is_active p j rule.name) && nat_le most_rules (length (now p j).rules)) →
-    true ≡ finds_no_slot p j rule.key → Some KeysFull ≡ first_of (becoming_active p j rule)
-becoming_slotless p j rule place lacks = rw (← place, ← lacks) refl
+    false ≡ clashes p j Rule rule.key → true ≡ finds_no_slot p j rule.key → Some KeysFull ≡ first_of (becoming_active p j rule)
+becoming_slotless p j rule place level lacks = rw (← place, ← level, ← lacks) refl
 
 pub becoming_bound : (p : Setting) (j : Journal) (rule : Properties) (o : Option Refusal) → false ≡ (not (is_active p j rule.name) && nat_le most_rules (length (now p j).rules)) →
-    false ≡ finds_no_slot p j rule.key → o ≡ first_of (bindings p (now p j) rule (without rule.name (now p j).rules)) → o ≡ first_of (becoming_active p j rule)
-becoming_bound p j rule o place has is = is ∙ rw (← place, ← has) refl
+    false ≡ clashes p j Rule rule.key → false ≡ finds_no_slot p j rule.key → o ≡ first_of (bindings p (now p j) rule (without rule.name (now p j).rules)) → o ≡ first_of (becoming_active p j rule)
+becoming_bound p j rule o place level has is = is ∙ rw (← place, ← level, ← has) refl
 
 -- ---- Install
 abbrev installations : Setting → Journal → Properties → Option Offer → Conditions Refusal

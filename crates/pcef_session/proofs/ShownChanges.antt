@@ -1,6 +1,6 @@
 -- The tables that Install, Remove and Monitor make show the next generation.
 use Rattle.std.proofs.Common.{◌≡◌, ◌∙◌, ◌+◌, ℕ, Bool, true, false, ◌||◌, ◌&&◌, not, List, [], ◌∷◌, refl, sym, ap, subst, arith, inl, inr, filter, map, Contains, Some, None, ◌==◌}
-use Rattle.std.specs.Prelude.{◌⊎◌, Option}
+use Rattle.std.specs.Prelude.{◌⊎◌, ◌<◌, IfSome, Option}
 use Rattle.std.specs.List.{list_any}
 use Rattle.std.specs.Option.{option_map, option_map_or}
 use Rattle.std.proofs.lemmas.Bool.{cases_Bool, or_right, eqb-true, eq-eqb, false_from_ne_true, not_from_false, not_from_true}
@@ -18,7 +18,8 @@ use Rattle.pcef_table.specs.Tables.{IsTable, TableValue, has_other_name, is_befo
 use Rattle.pcef_model.specs.declared.entry.Entry.TheVariants as entry
 use Rattle.pcef_model.specs.declared.command.Command.{Command}
 use Rattle.pcef_model.specs.declared.command.Command.TheVariants.{Monitor, Stop}
-use Rattle.pcef_model.specs.Setting.{Setting, same_name, same_qos}
+use Rattle.pcef_model.specs.declared.level.Level.{Level}
+use Rattle.pcef_model.specs.Setting.{Setting, most_keys, same_name, same_qos}
 use Rattle.pcef_model.specs.ActiveRules.{Active, has_key, is_key, put}
 use Rattle.pcef_model.specs.Generations.{Generation, id_after, next, rules_after, slots_of, still_on}
 use Rattle.pcef_model.specs.Commands.{add_key, is_among, switched, is_table}
@@ -32,7 +33,7 @@ use Rattle.pcef_model.specs.declared.entry.Entry.TheVariants as entry
 use Rattle.pcef_usage.proofs.Gone.{among_filter}
 use Rattle.pcef_usage.proofs.Slots.{is_among_add}
 use Rattle.pcef_model.specs.Changes.{MakesActive}
-use Rattle.pcef_session.specs.Shown.{Shows, StandsFor, rule_of}
+use Rattle.pcef_session.specs.Shown.{Shows, ShowsSessionKeys, StandsFor, rule_of}
 use Rattle.pcef_model.specs.Slots.{counts_now, place_of, slot_of}
 use Rattle.pcef_model.specs.Lawful.{Lawful}
 use Rattle.pcef_model.proofs.BearerIds.{lawful_bound}
@@ -58,7 +59,7 @@ on_kept key test (k ∷ keys) passes =
       ]
     ]
 
-has_key_from : (rs : List Active) (r : Active) (key : List ℕ) → Contains rs r → r.properties.key ≡ Some key → has_key key rs ≡ true
+pub has_key_from : (rs : List Active) (r : Active) (key : List ℕ) → Contains rs r → r.properties.key ≡ Some key → has_key key rs ≡ true
 has_key_from rs r key there is = any_from (λ x. is_key key x.properties.key) rs r there (ap (is_key key) is ∙ same_name_of key key refl)
 
 -- the key of a rule that is there afterwards stays on or off
@@ -112,19 +113,22 @@ stands_next p j c e r is fives there on stands = record {
   rule_is = stands.rule_is;
   bearer_is = bearer_next p j c e r is fives there stands;
   slot_is = slot_next p j c e r is there stands;
+  slot_low = stands.slot_low;
   counted_is = rw (after_is p j c is) (stands.counted_is ∙ ap (λ (g : Generation). counts_now g.on r.properties.key) (at_newest p j) ∙ sym on);
 }
 
 -- what a table says of a generation that a table command made
 pub shows_next : (p : Setting) (j : Journal) (c : Command) (t : TableValue) → is_table c ≡ true → t.number ≡ gen j + 1 → IsTable p.catalog t.entries →
+    ShowsSessionKeys p (entry.Command c ∷ j) (gen (entry.Command c ∷ j)) t.session →
     ((r : Active) → Contains (rules_after p (now p j) c) r → (e : Entry) × Contains t.entries e × StandsFor p (entry.Command c ∷ j) (gen (entry.Command c ∷ j)) e r) →
     ((e : Entry) → Contains t.entries e → (r : Active) × Contains (rules_after p (now p j) c) r × StandsFor p (entry.Command c ∷ j) (gen (entry.Command c ∷ j)) e r) →
     Shows p (entry.Command c ∷ j) (gen (entry.Command c ∷ j)) t
-shows_next p j c t is number table each only =
+shows_next p j c t is number table session each only =
     let after = after_is p j c is in
     record {
       number_is = omega (arith, number, gen_after_table j c is);
       ordered = table;
+      session = session;
       each = λ r there. each r (subst (λ (g : Generation). Contains g.rules r) after there);
       only = λ e there. let w = only e there in (w.0, subst (λ (g : Generation). Contains g.rules w.0) (sym after) w.1, w.2);
     }
@@ -193,11 +197,11 @@ placed_cases offers x entries e there =
     ]
 
 -- the entry of the new rule stands for it, and those of other rules for theirs
-pub shows_put : (p : Setting) (j : Journal) (c : Command) (new : Active) (x : Entry) (t : TableValue) (number : ℕ) (entries : List Entry) → MakesActive p c new → Fives p (now p j) → Shows p j (gen j) t →
+pub shows_put : (p : Setting) (j : Journal) (c : Command) (new : Active) (x : Entry) (t : TableValue) (number : ℕ) (entries : List Entry) (flags : List Bool) → MakesActive p c new → Fives p (now p j) → Shows p j (gen j) t →
     StandsFor p (entry.Command c ∷ j) (gen (entry.Command c ∷ j)) x new →
-    number ≡ t.number + 1 → entries ≡ placed p.catalog x t.entries → IsTable p.catalog entries →
-    Shows p (entry.Command c ∷ j) (gen (entry.Command c ∷ j)) (record { number = number; entries = entries })
-shows_put p j c new x t number entries makes fives shows stands number_is entries_are table =
+    number ≡ t.number + 1 → entries ≡ placed p.catalog x t.entries → IsTable p.catalog entries → ShowsSessionKeys p (entry.Command c ∷ j) (gen (entry.Command c ∷ j)) flags →
+    Shows p (entry.Command c ∷ j) (gen (entry.Command c ∷ j)) (record { number = number; entries = entries; session = flags })
+shows_put p j c new x t number entries flags makes fives shows stands number_is entries_are table session =
     let k : Journal = entry.Command c ∷ j in
     let is = makes.is_table in
     let rules_are : rules_after p (now p j) c ≡ put new (now p j).rules = makes.rules_are (now p j) in
@@ -205,7 +209,7 @@ shows_put p j c new x t number entries makes fives shows stands number_is entrie
     λ r there. still (now p j).rules (rules_after p (now p j) c) (switched c (now p j).on) r there ∙ ap (λ keys. counts_now keys r.properties.key) (makes.on_is (now p j).on) in
     let once : NamesOnce (now p j).rules = made_once p (tables j) in
     let x_name : name_of p.catalog x.source ≡ new.properties.name = name_is p k (gen k) x new stands in
-    shows_next p j c (record { number = number; entries = entries }) is (omega (arith, number_is, shows.number_is)) table
+    shows_next p j c (record { number = number; entries = entries; session = flags }) is (omega (arith, number_is, shows.number_is)) table session
     (λ r there. elim (put_cases new (now p j).rules r once (subst (λ rs. Contains rs r) rules_are there)) [
       | inl same ↦ (x, subst (λ es. Contains es x) (sym entries_are) (placed_new p.catalog x t.entries), subst (StandsFor p k (gen k) x) same stands)
       | inr old ↦
@@ -312,13 +316,14 @@ keeps_slot : (slot : Slot) (b : Bool) (e : Entry) → (with_counting slot b e).s
 keeps_slot slot b e = elim (cases_Bool (is_slot slot e.slot)) [ inl hit ↦ rw hit refl | inr miss ↦ rw miss refl ]
 
 -- a command that leaves the rules and switches a key: the entries that have its slot count from then on, or don't
-pub shows_switched : (p : Setting) (j : Journal) (c : Command) (slot : Slot) (b : Bool) (t : TableValue) (number : ℕ) (entries : List Entry) → is_table c ≡ true →
+pub shows_switched : (p : Setting) (j : Journal) (c : Command) (slot : Slot) (b : Bool) (t : TableValue) (number : ℕ) (entries : List Entry) (flags : List Bool) → is_table c ≡ true →
     rules_after p (now p j) c ≡ (now p j).rules →
     ((e : Entry) (key_of : Option (List ℕ)) → option_map (λ (s : Slot). s.0) e.slot ≡ slot_of (slots p (entry.Command c ∷ j)) key_of → e.counted ≡ counts_now (now p j).on key_of →
     (with_counting slot b e).counted ≡ counts_now (switched c (now p j).on) key_of) →
     Fives p (now p j) → Shows p j (gen j) t → number ≡ t.number + 1 → entries ≡ map (with_counting slot b) t.entries → IsTable p.catalog entries →
-    Shows p (entry.Command c ∷ j) (gen (entry.Command c ∷ j)) (record { number = number; entries = entries })
-shows_switched p j c slot b t number entries is stay turns fives shows number_is entries_are table =
+    ShowsSessionKeys p (entry.Command c ∷ j) (gen (entry.Command c ∷ j)) flags →
+    Shows p (entry.Command c ∷ j) (gen (entry.Command c ∷ j)) (record { number = number; entries = entries; session = flags })
+shows_switched p j c slot b t number entries flags is stay turns fives shows number_is entries_are table session =
     let k : Journal = entry.Command c ∷ j in
     let back : (r : Active) → Contains (rules_after p (now p j) c) r → Contains (now p j).rules r = λ r there. subst (λ (rs : List Active). Contains rs r) stay there in
     let stands : (e : Entry) (r : Active) → Contains (rules_after p (now p j) c) r → StandsFor p j (gen j) e r → StandsFor p k (gen k) (with_counting slot b e) r =
@@ -326,12 +331,13 @@ shows_switched p j c slot b t number entries is stay turns fives shows number_is
       rule_is = ap (rule_of p.catalog) (keeps_source slot b e) ∙ stands.rule_is;
       bearer_is = ap (λ (x : BearerId). x.0) (keeps_bearer slot b e) ∙ bearer_next p j c e r is fives (back r there) stands;
       slot_is = ap (option_map (λ (s : Slot). s.0)) (keeps_slot slot b e) ∙ slot_next p j c e r is (back r there) stands;
+      slot_low = subst (λ (o : Option Slot). IfSome o (λ s. s.0 < most_keys)) (sym (keeps_slot slot b e)) stands.slot_low;
       counted_is = rw (after_is p j c is)
           (turns e r.properties.key (slot_next p j c e r is (back r there) stands)
           (stands.counted_is ∙ ap (λ (g : Generation). counts_now g.on r.properties.key) (at_newest p j))
           ∙ sym (still (now p j).rules (rules_after p (now p j) c) (switched c (now p j).on) r there));
     } in
-    shows_next p j c (record { number = number; entries = entries }) is (omega (arith, number_is, shows.number_is)) table
+    shows_next p j c (record { number = number; entries = entries; session = flags }) is (omega (arith, number_is, shows.number_is)) table session
     (λ r there.
     let w = each_now p j t shows r (back r there) in
     (with_counting slot b w.0, subst (λ es. Contains es (with_counting slot b w.0)) (sym entries_are) (map_to (with_counting slot b) t.entries w.0 w.1), stands w.0 r there w.2))
@@ -342,20 +348,22 @@ shows_switched p j c slot b t number entries is stay turns fives shows number_is
     (w.0, after, subst (λ (y : Entry). StandsFor p k (gen k) y w.0) v.2 (stands v.0 w.0 after w.2)))
 
 -- the entries that have the slot of the key count now
-pub shows_monitor : (p : Setting) (j : Journal) (key : List ℕ) (amount : ℕ) (slot : Slot) (t : TableValue) (number : ℕ) (entries : List Entry) → Fives p (now p j) → Shows p j (gen j) t →
-    place_of key (slots p (entry.Command (Monitor key amount) ∷ j)) ≡ Some slot.0 → number ≡ t.number + 1 → entries ≡ map (with_counting slot true) t.entries → IsTable p.catalog entries →
-    Shows p (entry.Command (Monitor key amount) ∷ j) (gen (entry.Command (Monitor key amount) ∷ j)) (record { number = number; entries = entries })
-shows_monitor p j key amount slot t number entries fives shows place number_is entries_are table =
-    shows_switched p j (Monitor key amount) slot true t number entries refl (filter_all (now p j).rules)
-    (λ e key_of slot_is counted_is. counting_next (slots p (entry.Command (Monitor key amount) ∷ j)) (now p j).on key slot e key_of place slot_is counted_is) fives shows number_is entries_are table
+pub shows_monitor : (p : Setting) (j : Journal) (key : List ℕ) (amount : ℕ) (level : Level) (slot : Slot) (t : TableValue) (number : ℕ) (entries : List Entry) (flags : List Bool) → Fives p (now p j) → Shows p j (gen j) t →
+    place_of key (slots p (entry.Command (Monitor key amount level) ∷ j)) ≡ Some slot.0 → number ≡ t.number + 1 → entries ≡ map (with_counting slot true) t.entries → IsTable p.catalog entries →
+    ShowsSessionKeys p (entry.Command (Monitor key amount level) ∷ j) (gen (entry.Command (Monitor key amount level) ∷ j)) flags →
+    Shows p (entry.Command (Monitor key amount level) ∷ j) (gen (entry.Command (Monitor key amount level) ∷ j)) (record { number = number; entries = entries; session = flags })
+shows_monitor p j key amount level slot t number entries flags fives shows place number_is entries_are table session =
+    shows_switched p j (Monitor key amount level) slot true t number entries flags refl (filter_all (now p j).rules)
+    (λ e key_of slot_is counted_is. counting_next (slots p (entry.Command (Monitor key amount level) ∷ j)) (now p j).on key slot e key_of place slot_is counted_is) fives shows number_is entries_are table session
 
 -- and no longer
-pub shows_stop : (p : Setting) (j : Journal) (key : List ℕ) (slot : Slot) (t : TableValue) (number : ℕ) (entries : List Entry) → Fives p (now p j) → Shows p j (gen j) t →
+pub shows_stop : (p : Setting) (j : Journal) (key : List ℕ) (slot : Slot) (t : TableValue) (number : ℕ) (entries : List Entry) (flags : List Bool) → Fives p (now p j) → Shows p j (gen j) t →
     place_of key (slots p (entry.Command (Stop key) ∷ j)) ≡ Some slot.0 → number ≡ t.number + 1 → entries ≡ map (with_counting slot false) t.entries → IsTable p.catalog entries →
-    Shows p (entry.Command (Stop key) ∷ j) (gen (entry.Command (Stop key) ∷ j)) (record { number = number; entries = entries })
-shows_stop p j key slot t number entries fives shows place number_is entries_are table =
-    shows_switched p j (Stop key) slot false t number entries refl (filter_all (now p j).rules)
-    (λ e key_of slot_is counted_is. uncounting_next (slots p (entry.Command (Stop key) ∷ j)) (now p j).on key slot e key_of place slot_is counted_is) fives shows number_is entries_are table
+    ShowsSessionKeys p (entry.Command (Stop key) ∷ j) (gen (entry.Command (Stop key) ∷ j)) flags →
+    Shows p (entry.Command (Stop key) ∷ j) (gen (entry.Command (Stop key) ∷ j)) (record { number = number; entries = entries; session = flags })
+shows_stop p j key slot t number entries flags fives shows place number_is entries_are table session =
+    shows_switched p j (Stop key) slot false t number entries flags refl (filter_all (now p j).rules)
+    (λ e key_of slot_is counted_is. uncounting_next (slots p (entry.Command (Stop key) ∷ j)) (now p j).on key slot e key_of place slot_is counted_is) fives shows number_is entries_are table session
 
 -- the default pair keeps the default bearer
 pub lawful_fives : (p : Setting) (j : Journal) → Lawful p j → Fives p (now p j)

@@ -13,6 +13,7 @@ use Rattle.pcef_model.specs.Reports.{after_command}
 use Rattle.pcef_model.proofs.Growth.{at_after_command}
 use Rattle.pcef_model.proofs.AfterEvents.{tables_after}
 use Rattle.pcef_session.specs.Shown.{Shows, StandsFor}
+use Rattle.pcef_session.proofs.ShownSession.{session_later}
 use Rattle.pcef_model.proofs.SlotPlaces.{Grows}
 use Rattle.pcef_model.proofs.SlotsGrow.{shown_slots, slot_stays, slots_grow_by}
 
@@ -22,6 +23,7 @@ stands_later p j k g e r same grows there stands = record {
   rule_is = stands.rule_is;
   bearer_is = rw same stands.bearer_is;
   slot_is = stands.slot_is ∙ sym (slot_stays (slots p j) (slots p k) r.properties.key grows (shown_slots p j g r there));
+  slot_low = stands.slot_low;
   counted_is = rw same stands.counted_is;
 }
 
@@ -29,6 +31,7 @@ pub shows_later : (p : Setting) (j k : Journal) (g : ℕ) (t : TableValue) → a
 shows_later p j k g t same grows shows = record {
   number_is = shows.number_is;
   ordered = shows.ordered;
+  session = session_later p j k g t.session same grows shows.session;
   each = λ r there.
       let before : Contains (at p j g).rules r = subst (λ (q : Generation). Contains q.rules r) same there in
       let w = shows.each r before in (w.0, w.1, stands_later p j k g w.0 r same grows before w.2);

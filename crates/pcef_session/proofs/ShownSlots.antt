@@ -1,6 +1,6 @@
 -- A table that shows a generation counts each packet for the key that the generation says.
-use Rattle.std.proofs.Common.{◌≡◌, ◌<◌, ◌∙◌, ℕ, length, Bool, true, false, ◌&&◌, ◌==◌, List, [], refl, sym, ap, subst, inl, inr, find, Contains, Some, None, if◌then◌else◌}
-use Rattle.std.specs.Prelude.{Option, ◌||◌}
+use Rattle.std.proofs.Common.{◌≡◌, ◌<◌, ◌∙◌, ℕ, length, Bool, true, false, ◌&&◌, ◌==◌, List, [], refl, sym, ap, ap₂, arith, subst, inl, inr, find, Contains, Some, None, if◌then◌else◌}
+use Rattle.std.specs.Prelude.{Option, IfSome, ◌||◌}
 use Rattle.std.specs.Option.{option_map, option_map_or, option_to_list}
 use Rattle.std.proofs.lemmas.Bool.{cases_Bool, eqb-true, eq-eqb, false_from_ne_true, and_left, and_right}
 use Rattle.pcef_packet.specs.declared.header.Header.{Header}
@@ -12,9 +12,11 @@ use Rattle.pcef_model.specs.declared.verdict.Verdict.{Verdict}
 use Rattle.pcef_model.specs.declared.verdict.Verdict.TheVariants.{Stray, Unmatched, Gated, Passed}
 use Rattle.pcef_table.specs.Sources.{is_named}
 use Rattle.pcef_table.specs.Tables.{TableValue}
+use Rattle.pcef_table.specs.SessionSlots.{slots_counted}
 use Rattle.pcef_table.specs.Verdicts.{counted_slot, slot_for}
+use Rattle.pcef_session.proofs.SessionFlags.{with_up, with_up_within}
 use Rattle.pcef_lists.proofs.Foremost.{found_is_foremost}
-use Rattle.pcef_model.specs.Setting.{Setting, same_name}
+use Rattle.pcef_model.specs.Setting.{Setting, most_keys, same_name}
 use Rattle.pcef_model.specs.ActiveRules.{Active, decisive, is_decisive, is_key}
 use Rattle.pcef_model.specs.Generations.{Generation}
 use Rattle.pcef_model.specs.Commands.{is_among}
@@ -107,43 +109,70 @@ entry_named p j g t r shows once there =
     (f.0, f.1, subst (StandsFor p j g f.0) same v.2)
 
 -- ---- counting
--- the slot that a table gives to a verdict is that of the key that the packet counts for
+-- the slot of a rule's key is one of eight
+keyed_within : (keys : List (List ℕ)) (key : Option (List ℕ)) (s : Slot) → Some s.0 ≡ slot_of keys key → s.0 < length keys
+keyed_within keys None s is = absurd cc
+keyed_within keys (Some key) s is = place_within key keys s.0 (sym is)
+
+slotted : (keys : List (List ℕ)) (slot : Option Slot) (key : Option (List ℕ)) (b : Bool) → option_map (λ s. s.0) slot ≡ slot_of keys key → (s : Slot) → (if b then slot else None) ≡ Some s → s.0 < length keys
+slotted keys None key true is s some = absurd cc
+slotted keys (Some x) key true is s some = let same : x ≡ s = cc in keyed_within keys key s (ap (λ (y : Slot). Some y.0) (sym same) ∙ is)
+slotted keys slot key false is s some = absurd cc
+
+slot_below : (slot : Option Slot) (b : Bool) → IfSome slot (λ x. x.0 < most_keys) → (s : Slot) → (if b then slot else None) ≡ Some s → s.0 < most_keys
+slot_below None true low s some = absurd cc
+slot_below (Some x) true low s some = let same : x ≡ s = cc in subst (λ (y : Slot). y.0 < most_keys) same low
+slot_below slot false low s some = absurd cc
+
+counted_within : (p : Setting) (j : Journal) (g : ℕ) (t : TableValue) (rule : List ℕ) (o : Option Entry) → Shows p j g t → find (λ e. is_named p.catalog rule e.source) t.entries ≡ o →
+    (s : Slot) → option_map_or counted_slot o None ≡ Some s → (s.0 < most_keys) × (s.0 < length (slots p j))
+counted_within p j g t rule None shows is s some = absurd cc
+counted_within p j g t rule (Some e) shows is s some =
+    let f = found_is_foremost (λ _ _. Unit {0}) (λ (x : Entry). is_named p.catalog rule x.source) t.entries e (λ i k d below within. tt) is in
+    let r = shows.only e f.there in
+    (slot_below e.slot e.counted r.2.slot_low s some, slotted (slots p j) e.slot r.0.properties.key e.counted r.2.slot_is s some)
+
+joined : (a b c : Bool) → ((a || b) && c) ≡ ((b && c) || (a && c))
+joined true true true = refl
+joined true true false = refl
+joined true false true = refl
+joined true false false = refl
+joined false true true = refl
+joined false true false = refl
+joined false false true = refl
+joined false false false = refl
+
+-- the slots that a table gives to a verdict are those of the keys that the packet counts for
 pub shown_counts : (p : Setting) (j : Journal) (g : ℕ) (t : TableValue) (header : Header) (v : Verdict) (key : List ℕ) → Shows p j g t → NamesOnce (at p j g).rules →
-    v ≡ verdict_at p (at p j g) header → counts_in p (at p j g) key header ≡ has_one_of (slots p j) (option_to_list (slot_for p.catalog t.entries v)) key
+    v ≡ verdict_at p (at p j g) header → counts_in p (at p j g) key header ≡ has_one_of (slots p j) (slots_counted p.catalog t v) key
 shown_counts p j g t header v key shows once is = rw is (from (decision p (at p j g) header) refl)
   where
     from : (d : Decision) → decision p (at p j g) header ≡ d →
-        (passed_for key d && is_among key (at p j g).on) ≡ has_one_of (slots p j) (option_to_list (slot_for p.catalog t.entries (verdict_of (at p j g) d))) key
+        (passed_for (at p j g) key d && is_among key (at p j g).on) ≡ has_one_of (slots p j) (slots_counted p.catalog t (verdict_of (at p j g) d)) key
     from stray decided = refl
     from unmatched decided = refl
     from (gated r) decided = refl
     from (passed r) decided =
         let there = passed_is p (at p j g) header r decided in
         let w = entry_named p j g t r shows once there in
-        rw w.1 (slot_counts (slots p j) (at p j g).on r.properties.key w.0.counted w.0.slot key w.2.counted_is w.2.slot_is (shown_slots p j g r there))
+        let own : Option Slot = option_map_or counted_slot (find (λ (e : Entry). is_named p.catalog r.properties.name e.source) t.entries) None in
+        let rule : (is_key key r.properties.key && is_among key (at p j g).on) ≡ has_one_of (slots p j) (option_to_list own) key =
+        slot_counts (slots p j) (at p j g).on r.properties.key w.0.counted w.0.slot key w.2.counted_is w.2.slot_is (shown_slots p j g r there)
+        ∙ ap (λ (o : Option Entry). has_one_of (slots p j) (option_to_list (option_map_or counted_slot o None)) key) (sym w.1) in
+        joined (is_key key r.properties.key) (is_among key (at p j g).session) (is_among key (at p j g).on)
+        ∙ ap₂ (λ a b. a || b) (shows.session.on_is key) rule
+        ∙ sym (with_up (slots p j) t.session own key (λ s some.
+        let inside = counted_within p j g t r.properties.name (find (λ (e : Entry). is_named p.catalog r.properties.name e.source) t.entries) shows refl s some in
+        let eight = shows.session.eight in omega (arith, inside.0, eight)))
 
--- and it is the slot of a key
-pub shown_within : (p : Setting) (j : Journal) (g : ℕ) (t : TableValue) (v : Verdict) → Shows p j g t → IsWithin (slots p j) (option_to_list (slot_for p.catalog t.entries v))
+-- and they are slots of keys
+pub shown_within : (p : Setting) (j : Journal) (g : ℕ) (t : TableValue) (v : Verdict) → Shows p j g t → IsWithin (slots p j) (slots_counted p.catalog t v)
 shown_within p j g t Stray shows = tt
 shown_within p j g t Unmatched shows = tt
 shown_within p j g t (Gated rule) shows = tt
-shown_within p j g t (Passed rule bearer) shows = from (find (λ e. is_named p.catalog rule e.source) t.entries) refl
-  where
-    keyed : (key : Option (List ℕ)) (s : Slot) → Some s.0 ≡ slot_of (slots p j) key → s.0 < length (slots p j)
-    keyed None s is = absurd cc
-    keyed (Some key) s is = place_within key (slots p j) s.0 (sym is)
-
-    slotted : (slot : Option Slot) (key : Option (List ℕ)) → option_map (λ s. s.0) slot ≡ slot_of (slots p j) key → IsWithin (slots p j) (option_to_list slot)
-    slotted None key is = tt
-    slotted (Some s) key is = (keyed key s is, refl, tt)
-
-    counted : (b : Bool) (slot : Option Slot) → IsWithin (slots p j) (option_to_list slot) → IsWithin (slots p j) (option_to_list (if b then slot else None))
-    counted true slot within = within
-    counted false slot within = tt
-
-    from : (o : Option Entry) → find (λ e. is_named p.catalog rule e.source) t.entries ≡ o → IsWithin (slots p j) (option_to_list (option_map_or counted_slot o None))
-    from None is = tt
-    from (Some e) is =
-        let f = found_is_foremost (λ _ _. Unit {0}) (λ (x : Entry). is_named p.catalog rule x.source) t.entries e (λ i k d below within. tt) is in
-        let r = shows.only e f.there in
-        counted e.counted e.slot (slotted e.slot r.0.properties.key r.2.slot_is)
+shown_within p j g t (Passed rule bearer) shows =
+    with_up_within (slots p j) t.session (slot_for p.catalog t.entries (Passed rule bearer))
+    (λ s some.
+    let inside = counted_within p j g t rule (find (λ (e : Entry). is_named p.catalog rule e.source) t.entries) shows refl s some in
+    let eight = shows.session.eight in (omega (arith, inside.0, eight), inside.1))
+    shows.session.within

@@ -19,7 +19,7 @@ use Rattle.pcef_model.specs.Entries.{Journal}
 use Rattle.pcef_model.specs.Journals.{gen, now}
 use Rattle.pcef_model.proofs.Growth.{at_newest}
 use Rattle.pcef_session.specs.private.Keys.{key_switched}
-use Rattle.pcef_session.specs.Shown.{Shows, StandsFor}
+use Rattle.pcef_session.specs.Shown.{Shows, ShowsSessionKeys, StandsFor}
 use Rattle.pcef_model.specs.Slots.{counts_now}
 use Rattle.pcef_lists.proofs.Found.{any_from}
 use Rattle.pcef_model.proofs.Members.{filter_from, filter_to, first_there, later_there}
@@ -33,7 +33,7 @@ use Rattle.pcef_session.proofs.Tests.{same_test, any_there}
 use Rattle.pcef_model.proofs.Decisive.{once_is}
 use Rattle.pcef_model.proofs.Sameness.{same_name_is, same_name_of}
 
-filter_none : {X : Type 0} (xs : List X) → filter (λ x. false) xs ≡ []
+pub filter_none : {X : Type 0} (xs : List X) → filter (λ x. false) xs ≡ []
 filter_none [] = refl
 filter_none (x ∷ xs) = filter_none xs
 
@@ -46,14 +46,14 @@ taken_with p j c e r stands =
     ∙ ap (takes_away c r.properties.name) (stands.bearer_is ∙ ap (λ (g : Generation). g.id_of r.properties.qos) (at_newest p j)))
 
 -- the rules that stay count as before
-abbrev StayCounted : Setting → Generation → Command → Type 0
+abbrev pub StayCounted : Setting → Generation → Command → Type 0
 StayCounted p g c = (r : Active) → Contains (rules_after p g c) r → counts_now (switched c g.on) r.properties.key ≡ counts_now g.on r.properties.key
 
 pub stay_counted : (p : Setting) (g : Generation) (c : Command) → activated p c ≡ None → key_switched c ≡ None → StayCounted p g c
 stay_counted p g (Install rule) none switches r there = refl
 stay_counted p g (Activate name) none switches r there = refl
 stay_counted p g (Remove name) none switches r there = refl
-stay_counted p g (Monitor key amount) none switches r there = absurd cc
+stay_counted p g (Monitor key amount level) none switches r there = absurd cc
 stay_counted p g (Stop key) none switches r there = absurd cc
 stay_counted p g (ReportNow key) none switches r there = refl
 stay_counted p g (Triggers set) none switches r there = refl
@@ -63,15 +63,15 @@ stay_counted p g Close none switches r there = refl
 stay_counted p g Terminate none switches r there =
     let nobody : Contains [] r = subst (λ rs. Contains rs r) (filter_none g.rules) there in absurd (omega (arith, nobody.1))
 
-pub shows_left : (p : Setting) (j : Journal) (c : Command) (t : TableValue) → activated p c ≡ None → is_table c ≡ true → StayCounted p (now p j) c → Fives p (now p j) → Shows p j (gen j) t →
-    IsTable p.catalog (without_taken p.catalog c t.entries) →
-    Shows p (entry.Command c ∷ j) (gen (entry.Command c ∷ j)) (record { number = t.number + 1; entries = without_taken p.catalog c t.entries })
-shows_left p j c t none is counted fives shows table =
+pub shows_left : (p : Setting) (j : Journal) (c : Command) (t : TableValue) (flags : List Bool) → activated p c ≡ None → is_table c ≡ true → StayCounted p (now p j) c → Fives p (now p j) → Shows p j (gen j) t →
+    IsTable p.catalog (without_taken p.catalog c t.entries) → ShowsSessionKeys p (entry.Command c ∷ j) (gen (entry.Command c ∷ j)) flags →
+    Shows p (entry.Command c ∷ j) (gen (entry.Command c ∷ j)) (record { number = t.number + 1; entries = without_taken p.catalog c t.entries; session = flags })
+shows_left p j c t flags none is counted fives shows table session =
     let g : Generation = now p j in
     let left : rules_after p g c ≡ filter (stays g c) g.rules = rules_left p g c none in
     let on : (r : Active) → Contains (rules_after p g c) r → counts_now (next p g c).on r.properties.key ≡ counts_now g.on r.properties.key =
     λ r there. still g.rules (rules_after p g c) (switched c g.on) r there ∙ counted r there in
-    shows_next p j c (record { number = t.number + 1; entries = without_taken p.catalog c t.entries }) is (omega (arith, shows.number_is)) table
+    shows_next p j c (record { number = t.number + 1; entries = without_taken p.catalog c t.entries; session = flags }) is (omega (arith, shows.number_is)) table session
     (λ r there.
     let kept = filter_from (stays g c) g.rules r (subst (λ rs. Contains rs r) left there) in
     let w = each_now p j t shows r kept.0 in (

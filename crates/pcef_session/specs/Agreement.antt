@@ -5,7 +5,7 @@ use Rattle.pcef_model.specs.Setting.{Setting}
 use Rattle.pcef_model.specs.ActiveRules.{Active}
 use Rattle.pcef_model.specs.Commands.{is_among}
 use Rattle.pcef_model.specs.Entries.{Journal}
-use Rattle.pcef_model.specs.Journals.{counted, grant, now, reported, slots}
+use Rattle.pcef_model.specs.Journals.{counted, grant, level_of, now, reported, slots}
 use Rattle.pcef_table.specs.declared.entry.Source.{Source}
 use Rattle.pcef_catalog.specs.declared.listing.Offer.{Offer}
 use Rattle.pcef_usage.specs.declared.usage.KeyState.{KeyState}
@@ -21,9 +21,10 @@ AreKept offers (e ∷ kept) [] = ⊥
 AreKept offers (e ∷ kept) (r ∷ rules) = (e.0 ≡ r.properties.name) × (rule_of offers e.1 ≡ Some r) × AreKept offers kept rules
 
 -- ---- keys (TS 29.212, clauses 4.5.16 and 4.5.17)
--- what is kept of a key: whether it is on, its grant, and its octets, which are those that the journal's
+-- what is kept of a key: its level, whether it is on, its grant, and its octets, which are those that the journal's
 -- rows passed for it
 pub record KeyAgrees (p : Setting) (j : Journal) (s : KeyState) : Type 0 where
+  pub level_is : s.level ≡ level_of (now p j) s.key
   pub on_is : s.on ≡ is_among s.key (now p j).on
   pub grant_is : s.grant ≡ grant j s.key
   pub reported_is : s.reported ≡ reported j s.key

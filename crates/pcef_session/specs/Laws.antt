@@ -1,11 +1,11 @@
 -- Laws of lawful journals, for whoever reads the definitions.
 use Rattle.std.specs.Prelude.{ℕ, ◌≡◌, ◌≤◌, true, List, ◌∷◌, Some, Contains}
-use Rattle.std.specs.Option.{option_to_list}
 use Rattle.pcef_packet.specs.declared.header.Header.{Header}
 use Rattle.pcef_bearer.specs.Bindings.{bearer_of, guaranteed}
 use Rattle.pcef_model.specs.declared.verdict.Verdict.{Verdict}
 use Rattle.pcef_table.specs.Tables.{TableValue}
-use Rattle.pcef_table.specs.Verdicts.{IsVerdict, slot_for}
+use Rattle.pcef_table.specs.SessionSlots.{slots_counted}
+use Rattle.pcef_table.specs.Verdicts.{IsVerdict}
 use Rattle.pcef_model.specs.declared.command.Command.{Command}
 use Rattle.pcef_model.specs.declared.entry.Entry.TheVariants as entry
 use Rattle.pcef_model.specs.ActiveRules.{Active}
@@ -30,11 +30,11 @@ abbrev pub ShownTablesStay : Type 0
 ShownTablesStay = (p : Setting) (j : Journal) (c : Command) (g : ℕ) (t : TableValue) → g ≤ gen j → Shows p j g t →
     Shows p (entry.Command c ∷ j) g t
 
--- a table that shows a generation counts each packet for the key that the generation says
+-- a table that shows a generation counts each packet for the keys that the generation says
 abbrev pub ShownTablesCount : Type 0
 ShownTablesCount = (p : Setting) (j : Journal) (g : ℕ) (t : TableValue) (header : Header) (v : Verdict) (key : List ℕ) → Shows p j g t →
     IsVerdict p.catalog t.entries p.ue header v →
-    counts_in p (at p j g) key header ≡ has_one_of (slots p j) (option_to_list (slot_for p.catalog t.entries v)) key
+    counts_in p (at p j g) key header ≡ has_one_of (slots p j) (slots_counted p.catalog t v) key
 
 -- ---- bearers (TS 23.203, clause 6.1.1.4)
 -- each active rule stands on one bearer, that of its pair of QCI and ARP

@@ -1,32 +1,48 @@
 -- When a table shows a generation of the journal.
-use Rattle.std.specs.Prelude.{ℕ, ◌≡◌, List, Option, Some, slice_get, Contains}
+use Rattle.std.specs.Prelude.{ℕ, ◌≡◌, ◌<◌, Bool, ◌&&◌, IfSome, List, Option, Some, length, slice_get, Contains}
 use Rattle.std.specs.Option.{option_map}
 use Rattle.pcef_table.specs.declared.entry.Entry.{Entry}
 use Rattle.pcef_table.specs.declared.entry.Source.{Source}
 use Rattle.pcef_table.specs.declared.entry.Source.TheVariants.{Dynamic, Predefined}
 use Rattle.pcef_catalog.specs.declared.listing.Offer.{Offer}
 use Rattle.pcef_table.specs.Tables.{IsTable, TableValue}
-use Rattle.pcef_model.specs.Setting.{Setting}
+use Rattle.pcef_table.specs.SessionSlots.{slots_up}
+use Rattle.pcef_model.specs.Setting.{Setting, most_keys}
+use Rattle.pcef_model.specs.Commands.{is_among}
+use Rattle.pcef_model.specs.Generations.{Generation}
 use Rattle.pcef_model.specs.ActiveRules.{Active, dynamic, predefined}
 use Rattle.pcef_model.specs.Entries.{Journal}
 use Rattle.pcef_model.specs.Journals.{at, slots}
-use Rattle.pcef_model.specs.Slots.{slot_of, counts_now}
+use Rattle.pcef_model.specs.Slots.{IsWithin, counts_now, has_one_of, slot_of}
 
 -- the rule of an entry
 abbrev pub rule_of : List Offer → Source → Option Active
 rule_of offers (Dynamic rule) = Some (dynamic rule)
 rule_of offers (Predefined index) = option_map predefined (slice_get offers index)
 
--- an entry that stands for a rule: its bearer, the slot of its key, and whether the key is on
+-- an entry that stands for a rule: its bearer, the slot of its key, which is one of eight, and whether the key is on
 pub record StandsFor (p : Setting) (j : Journal) (g : ℕ) (e : Entry) (r : Active) : Type 0 where
   pub rule_is : rule_of p.catalog e.source ≡ Some r
   pub bearer_is : e.bearer.0 ≡ (at p j g).id_of r.properties.qos
   pub slot_is : option_map (λ s. s.0) e.slot ≡ slot_of (slots p j) r.properties.key
+  pub slot_low : IfSome e.slot (λ s. s.0 < most_keys)
   pub counted_is : e.counted ≡ counts_now (at p j g).on r.properties.key
 
--- the table of generation g: its entries stand for the active rules, and for no others, in precedence order
+-- a key of session level is on
+abbrev pub is_session_on : Generation → List ℕ → Bool
+is_session_on g key = is_among key g.session && is_among key g.on
+
+-- the flags of eight slots, of which those are up whose keys are of session level and on
+pub record ShowsSessionKeys (p : Setting) (j : Journal) (g : ℕ) (flags : List Bool) : Type 0 where
+  pub eight : length flags ≡ most_keys
+  pub within : IsWithin (slots p j) (slots_up flags)
+  pub on_is : (key : List ℕ) → is_session_on (at p j g) key ≡ has_one_of (slots p j) (slots_up flags) key
+
+-- the table of generation g: its entries stand for the active rules, and for no others, in precedence order, and its
+-- slots for all packets are those of the keys of session level that are on
 pub record Shows (p : Setting) (j : Journal) (g : ℕ) (t : TableValue) : Type 0 where
   pub number_is : t.number ≡ g
   pub ordered : IsTable p.catalog t.entries
+  pub session : ShowsSessionKeys p j g t.session
   pub each : (r : Active) → Contains (at p j g).rules r → (e : Entry) × Contains t.entries e × StandsFor p j g e r
   pub only : (e : Entry) → Contains t.entries e → (r : Active) × Contains (at p j g).rules r × StandsFor p j g e r

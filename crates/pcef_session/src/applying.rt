@@ -3,18 +3,19 @@
 ghost use Rattle.std.specs.Prelude.{◌≡◌, ◌||◌, ◌<◌, ◌≤◌, ◌+◌, ◌∷◌, filter, length, position, false, unwrap_or, vec_capacity, vec_len, Some};
 ghost use Rattle.std.specs.Arc.{arc_value};
 ghost use Rattle.std.specs.Option.{option_copied, option_map};
+ghost use Rattle.pcef_model.specs.Commands.{level_named};
 ghost use Rattle.pcef_model.specs.Refusals.{is_close, is_terminate};
 ghost use Rattle.pcef_session.specs.Preparing.{IsBearerFor, IsBearerOf};
 ghost use Rattle.pcef_bearer.specs.Bindings as binding;
 ghost use Rattle.pcef_usage.specs.Commands.{subscribed_by};
-ghost use Rattle.pcef_usage.specs.Keys.{finds_no_slot, keys_of};
+ghost use Rattle.pcef_usage.specs.Keys.{clashes, finds_no_slot, keys_of};
 ghost use Rattle.pcef_usage.specs.PendingReports.{KnowsAll};
 ghost use Rattle.pcef_session.specs.private.Changes.{Binds, CanBind, IsBoundTo, IsRebound, active_after, counters_told, entered_by, is_kept_as, is_still_bound, journal_told, key_of, put_kept, rule_key};
 
 use crate::prepared::Activation;
 use pcef_bearer::Bearers;
 use pcef_index::Indexed;
-use pcef_model::{Command, Entry, PendingReport, TriggerSet};
+use pcef_model::{Command, Entry, Level, PendingReport, TriggerSet};
 use pcef_rule::{BearerId, KeyName, RuleName};
 use pcef_table::Source;
 use pcef_usage::CountedJournal;
@@ -32,7 +33,9 @@ pub(crate) fn rule_key(rule: Option<&Activation>) -> Option<KeyName>
 
 /// Gives the key that a command names a slot, and switches on that of a Monitor.
 fn enter_key(counted: &mut CountedJournal, command: &Command, of_rule: Option<&KeyName>)
-    requires { finds_no_slot (key_of (option_copied of_rule) command.now)
+    requires clash { clashes (key_of (option_copied of_rule) command.now)
+        (level_named command.now) counted.old.states ≡ false }
+    requires slot { finds_no_slot (key_of (option_copied of_rule) command.now)
         counted.old.states ≡ false }
     ensures journal { counted.new.journal ≡ counted.old.journal }
     ensures states { counted.new.states
@@ -40,16 +43,18 @@ fn enter_key(counted: &mut CountedJournal, command: &Command, of_rule: Option<&K
     ensures room { counted.new.room ≡ counted.old.room }
 {
     match command {
-        Command::Monitor { key, grant } => {
-            counted.keep_slot(Some(key));
+        Command::Monitor { key, grant, level } => {
+            counted.keep_slot(Some(key), *level);
             counted.start(key, *grant);
         }
-        _ => counted.keep_slot(of_rule),
+        _ => counted.keep_slot(of_rule, Level::Rule),
     }
 }
 
 /// Adds a command to the journal, with the key that it names.
 pub(crate) fn enter(counted: &mut CountedJournal, command: Command, of_rule: Option<KeyName>)
+    requires clash { clashes (key_of of_rule command) (level_named command)
+        counted.old.states ≡ false }
     requires slot { finds_no_slot (key_of of_rule command) counted.old.states ≡ false }
     requires room { 0 < counted.old.room }
     ensures journal { counted.new.journal ≡ Entry.Command command ∷ counted.old.journal }

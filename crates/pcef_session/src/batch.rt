@@ -1,7 +1,6 @@
 //! The rows of a worker that wait.
 
 ghost use Rattle.std.specs.Prelude.{◌≡◌, ◌≤◌, ◌<◌, ◌++◌, ◌∷◌, [], ◌↔◌, IfOk, IsTrue, length};
-ghost use Rattle.std.specs.Option.{option_to_list};
 ghost use Rattle.pcef_session.specs.Following.{HasSmallRows};
 
 use arrayvec::ArrayVec;
@@ -46,17 +45,6 @@ fn copy_slots(slots: &ArrayVec<Slot, 8>) -> ArrayVec<Slot, 8>
         unreachable!()
     };
     copy
-}
-
-/// The slots of a row that counts for this one alone, or for none.
-pub fn slots_for(slot: Option<Slot>) -> ArrayVec<Slot, 8>
-    ensures { result.items ≡ option_to_list slot }
-{
-    let mut slots = ArrayVec::new();
-    if let Some(slot) = slot {
-        slots.push(slot);
-    }
-    slots
 }
 
 /// At most 32 rows of one worker that wait, with memory for all of them.

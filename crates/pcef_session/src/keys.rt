@@ -3,10 +3,10 @@
 ghost use Rattle.std.specs.Prelude.{◌≡◌};
 ghost use Rattle.std.specs.List.{list_any};
 ghost use Rattle.std.specs.Option.{option_copied, option_map};
-ghost use Rattle.pcef_usage.specs.Keys.{place_of};
-ghost use Rattle.pcef_session.specs.private.Keys.{is_on, is_on_there, key_switched, switches_on};
+ghost use Rattle.pcef_usage.specs.Keys.{place_of, state_at};
+ghost use Rattle.pcef_session.specs.private.Keys.{is_on, is_on_there, key_switched, level_switched, switches_on};
 
-use pcef_model::Command;
+use pcef_model::{Command, Level};
 use pcef_rule::{KeyName, Slot};
 use pcef_usage::{KeyState, Usage};
 
@@ -71,4 +71,24 @@ pub(crate) fn switches_on(command: &Command) -> bool
     ensures { result ≡ switches_on command.now }
 {
     matches!(command, Command::Monitor { .. })
+}
+
+/// The level of the key that a command switches.
+pub(crate) fn level_switched(usage: &Usage, command: &Command, key: &KeyName) -> Level
+    ensures { result ≡ level_switched command.now key.now usage.now }
+{
+    match command {
+        Command::Monitor { level, .. } => *level,
+        _ => level_of(usage, key),
+    }
+}
+
+/// The level of a key that has a slot.
+pub(crate) fn level_of(usage: &Usage, key: &KeyName) -> Level
+    ensures { result ≡ (state_at (place_of key.now usage.now) usage.now).level }
+{
+    match usage.find(key) {
+        Some(slot) => usage.level(slot),
+        None => Level::Rule,
+    }
 }

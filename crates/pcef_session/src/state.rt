@@ -11,6 +11,7 @@ ghost use Rattle.pcef_model.specs.Journals.{gen};
 ghost use Rattle.pcef_model.specs.Lawful.{Lawful};
 ghost use Rattle.pcef_model.specs.Refusals.{attach_faults, first_of, open_faults, was_closed, was_terminated};
 ghost use Rattle.pcef_model.specs.ProfileModel.{setting_of};
+ghost use Rattle.pcef_table.specs.SessionSlots.{no_slots};
 ghost use Rattle.pcef_session.specs.Agreement.{KeysAgree};
 ghost use Rattle.pcef_session.specs.Answers.{AreActive, IsOpened, ShowsNewest, binding_now};
 ghost use Rattle.pcef_session.specs.SessionModel.{HasAtLeast};
@@ -106,6 +107,7 @@ fn open_bearers(profile: &Profile) -> Result<Bearers, OpenFault>
 fn first_table(alloc: Global) -> Result<Arc<Indexed>, AllocError>
     ensures number { IfOk result (λ t. (arc_value t).number ≡ 0) }
     ensures entries { IfOk result (λ t. (arc_value t).entries ≡ []) }
+    ensures session { IfOk result (λ t. (arc_value t).session ≡ no_slots) }
 {
     Ok(Arc::new(alloc, Indexed::empty(alloc, 0)?)?)
 }

@@ -10,7 +10,7 @@ use pcef_catalog::Detects;
 use pcef_index::Indexed;
 use pcef_model::{FlushRefusal, Row, Verdicts};
 use pcef_packet::{Addr, Header};
-use pcef_session::{Batch, BatchFull, Item, MAX_WAITING, SessionState, slots_for};
+use pcef_session::{Batch, BatchFull, Item, MAX_WAITING, SessionState};
 use std::sync::Arc;
 
 /// A worker: the table of the generation that it holds, and its waiting rows.
@@ -32,7 +32,7 @@ impl Worker {
         ensures { IsJudged (C.offers catalog.now) ue header.now handed_over self.now result }
     {
         let verdict = self.held.classify(catalog, ue, header);
-        let slot = self.held.table().counts(catalog, &verdict);
+        let slots = self.held.table().slots_counted(catalog, &verdict);
         Item {
             row: Row {
                 worker: self.number,
@@ -41,7 +41,7 @@ impl Worker {
                 header: *header,
                 verdict,
             },
-            slots: slots_for(slot),
+            slots,
         }
     }
 

@@ -24,7 +24,7 @@ use Rattle.pcef_usage.specs.PendingReports.{appended, states_stopped, states_tol
 use Rattle.pcef_usage.specs.Keys.{with_slot}
 use Rattle.pcef_session.specs.declared.prepared.Activation.{Activation}
 use Rattle.std.specs.List.{list_any}
-use Rattle.pcef_model.specs.Commands.{takes_away}
+use Rattle.pcef_model.specs.Commands.{level_named, takes_away}
 
 -- ---- keys
 -- the key of the rule that becomes active
@@ -34,12 +34,12 @@ rule_key (Some x) = x.properties.key
 
 -- the key that a command names, where the rule that becomes active has this one
 abbrev pub key_of : Option (List ℕ) → Command → Option (List ℕ)
-key_of of_rule (Monitor key grant) = Some key
+key_of of_rule (Monitor key grant level) = Some key
 key_of of_rule _ = of_rule
 
 -- the counters when a command comes: the key that it names has a slot, and that of a Monitor is started
 abbrev pub entered_by : Option (List ℕ) → Command → List KeyState → List KeyState
-entered_by of_rule c states = started_by c (with_slot (key_of of_rule c) states)
+entered_by of_rule c states = started_by c (with_slot (key_of of_rule c) (level_named c) states)
 
 -- ---- rules
 -- the active rules by name

@@ -1,5 +1,11 @@
 -- Keys that are on, keys that commands switch, and keys that lose their last rule.
-use Rattle.std.specs.Prelude.{[], ◌∷◌, if◌then◌else◌, nat_lt}
+use Rattle.pcef_model.specs.declared.level.Level.{Level}
+use Rattle.pcef_model.specs.declared.level.Level.TheVariants.{Rule, Session}
+use Rattle.pcef_rule.specs.declared.quantity.Slot.{Slot}
+use Rattle.pcef_table.specs.SessionSlots.{no_slots}
+use Rattle.pcef_table.specs.Tables.{with_counting}
+use Rattle.pcef_usage.specs.Keys.{place_of, state_at}
+use Rattle.std.specs.Prelude.{map, set, [], ◌∷◌, if◌then◌else◌, nat_lt}
 use Rattle.pcef_model.specs.declared.pending_report.PendingReport.{PendingReport}
 use Rattle.pcef_model.specs.declared.pending_report.PendingReport.TheVariants.{Usage}
 use Rattle.pcef_usage.specs.Commands.{usage_of}
@@ -81,10 +87,29 @@ usage_if is_ended s cause = if is_ended then Usage s.key cause ∷ [] else []
 
 -- ---- the key that a command switches
 abbrev pub key_switched : Command → Option (List ℕ)
-key_switched (Monitor key grant) = Some key
+key_switched (Monitor key grant level) = Some key
 key_switched (Stop key) = Some key
 key_switched _ = None
 
 abbrev pub switches_on : Command → Bool
-switches_on (Monitor key grant) = true
+switches_on (Monitor key grant level) = true
 switches_on _ = false
+
+-- its level: that of a Monitor, or the one that the key has
+abbrev pub level_switched : Command → List ℕ → List KeyState → Level
+level_switched (Monitor key grant level) k states = level
+level_switched c k states = (state_at (place_of k states) states).level
+
+-- the entries, and the flags of slots, where this slot counts or doesn't for a key of this level
+abbrev pub entries_switched : Level → Slot → Bool → List Entry → List Entry
+entries_switched Rule slot on entries = map (with_counting slot on) entries
+entries_switched Session slot on entries = entries
+
+abbrev pub flags_switched : Level → Slot → Bool → List Bool → List Bool
+flags_switched Rule slot on flags = flags
+flags_switched Session slot on flags = set flags slot.0 on
+
+-- the flags of slots after a command that switches no single key
+abbrev pub flags_left : Command → List Bool → List Bool
+flags_left Terminate flags = no_slots
+flags_left _ flags = flags

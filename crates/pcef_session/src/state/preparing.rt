@@ -18,7 +18,8 @@ use super::SessionState;
 use crate::ended_keys::add_ended_keys;
 use crate::entries::{bearer_for, entry_of};
 use crate::inactive::inactive;
-use crate::keys::{place_of, switched_key, switches_on};
+use crate::keys::{level_switched, place_of, switched_key, switches_on};
+use crate::next_tables::{left, switched};
 use crate::pending_reports::{add_noticed, add_requested};
 use crate::prepared::{Activation, Prepared, PreparedChange};
 use pcef_catalog::Listing;
@@ -109,7 +110,8 @@ impl SessionState {
         ensures { IfOk result (λ t. ShowsNext self.now.setting self.now.journal command.now t) }
     {
         let slot = place_of(self.counted.usage(), key);
-        self.newest.table().counting(slot, switches_on(command))
+        let level = level_switched(self.counted.usage(), command, key);
+        switched(self.newest.table(), level, slot, switches_on(command))
     }
 
     /// The table without the rules that a command takes away.
@@ -119,7 +121,7 @@ impl SessionState {
         requires switched { key_switched command.now ≡ None }
         ensures { IfOk result (λ t. ShowsNext self.now.setting self.now.journal command.now t) }
     {
-        self.newest.table().without_taken(&self.listing, command)
+        left(self.alloc, self.newest.table(), &self.listing, command)
     }
 
     /// The table that a command makes.

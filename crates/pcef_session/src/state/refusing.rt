@@ -4,18 +4,18 @@ ghost use Rattle.std.specs.Prelude.{◌≡◌, ◌==◌};
 ghost use Rattle.std.specs.List.{list_any};
 ghost use Rattle.std.specs.Option.{option_copied};
 ghost use Rattle.pcef_model.specs.Journals.{now, slots};
-ghost use Rattle.pcef_usage.specs.Keys.{finds_no_slot as slotless, has_slot};
+ghost use Rattle.pcef_usage.specs.Keys.{clashes as key_clashes, finds_no_slot as slotless, has_slot};
 ghost use Rattle.pcef_model.specs.Commands.{is_among};
 ghost use Rattle.pcef_model.specs.declared.command.Command.TheVariants as of;
-ghost use Rattle.pcef_model.specs.Refusals.{becoming_active, common_refusals, end_refusals, finds_no_slot, first_of, first_refusals, is_active, is_bearer, refusals};
+ghost use Rattle.pcef_model.specs.Refusals.{becoming_active, clashes, common_refusals, end_refusals, finds_no_slot, first_of, first_refusals, is_active, is_bearer, refusals};
 ghost use Rattle.pcef_session.specs.private.Sessions.{TellsFull, binding_refusal, finds_no_place, install_refusal, own_refusal};
 
 use super::{MAX_RULES, SessionState};
-use crate::keys::is_on;
+use crate::keys::{is_on, level_of};
 use pcef_bearer::{Bound, DEFAULT_BEARER};
-use pcef_model::{Command, Profile, Refusal};
+use pcef_model::{Command, Level, Profile, Refusal};
 use pcef_rule::{BearerId, KeyName, Properties, RuleName};
-use pcef_usage::{MAX_KEYS, Usage};
+use pcef_usage::{MAX_KEYS, Usage, is_same_level};
 
 /// How many commands a journal takes.
 fn commands_of(profile: &Profile) -> u64
@@ -31,6 +31,16 @@ fn finds_no_slot(usage: &Usage, key: Option<&KeyName>) -> bool
     match key {
         None => false,
         Some(key) => usage.find(key).is_none() && usage.states().len() >= MAX_KEYS,
+    }
+}
+
+/// Whether a key has a slot, and another level than this one.
+fn clashes(usage: &Usage, key: Option<&KeyName>, level: Level) -> bool
+    ensures { result ≡ key_clashes (option_copied key.entry) level usage.now }
+{
+    match key {
+        None => false,
+        Some(key) => has_slot(usage, key) && !is_same_level(level, level_of(usage, key)),
     }
 }
 
@@ -102,6 +112,14 @@ impl SessionState {
         }
     }
 
+    /// Whether a key would get another level than it has.
+    fn clashes(&self, key: Option<&KeyName>, level: Level) -> bool
+        ensures { result
+            ≡ clashes self.now.setting self.now.journal level (option_copied key.entry) }
+    {
+        clashes(self.counted.usage(), key, level)
+    }
+
     fn finds_no_slot(&self, key: Option<&KeyName>) -> bool
         ensures { result
             ≡ finds_no_slot self.now.setting self.now.journal (option_copied key.entry) }
@@ -135,6 +153,9 @@ impl SessionState {
     {
         if self.finds_no_place(&rule.name) {
             return Some(Refusal::RulesFull);
+        }
+        if self.clashes(rule.key.as_ref(), Level::Rule) {
+            return Some(Refusal::LevelClash);
         }
         if self.finds_no_slot(rule.key.as_ref()) {
             return Some(Refusal::KeysFull);
@@ -173,11 +194,14 @@ impl SessionState {
         }
     }
 
-    fn monitor_refusal(&self, key: &KeyName, grant: u64) -> Option<Refusal>
-        ensures { result ≡ own_refusal self.now (of.Monitor key.now grant) }
+    fn monitor_refusal(&self, key: &KeyName, grant: u64, level: Level) -> Option<Refusal>
+        ensures { result ≡ own_refusal self.now (of.Monitor key.now grant level) }
     {
         if grant == 0 {
             return Some(Refusal::ZeroGrant);
+        }
+        if self.clashes(Some(key), level) {
+            return Some(Refusal::LevelClash);
         }
         if self.finds_no_slot(Some(key)) {
             return Some(Refusal::KeysFull);
@@ -258,7 +282,7 @@ impl SessionState {
             Command::Install(rule) => self.install_refusal(rule.properties()),
             Command::Activate(name) => self.activate_refusal(name),
             Command::Remove(name) => self.remove_refusal(name),
-            Command::Monitor { key, grant } => self.monitor_refusal(key, *grant),
+            Command::Monitor { key, grant, level } => self.monitor_refusal(key, *grant, *level),
             Command::Stop(key) => self.stop_refusal(key),
             Command::ReportNow(key) => self.report_refusal(key),
             Command::LoseBearer(bearer) => self.lose_refusal(*bearer),

@@ -1,12 +1,12 @@
 -- Workers, and what always holds of them.
 use Rattle.std.specs.Prelude.{ℕ, ◌≡◌, ◌≤◌, ◌<◌, ◌+◌, List, [], ◌∷◌, ◌++◌, Option, Some, Result, Ok, Err, length, map, slice_get, true}
 use Rattle.std.specs.Arc.{arc_value}
-use Rattle.std.specs.Option.{option_to_list}
 use Rattle.pcef_packet.specs.declared.header.Addr.{Addr}
 use Rattle.pcef_packet.specs.declared.header.Header.{Header}
 use Rattle.pcef_catalog.specs.declared.listing.Offer.{Offer}
 use Rattle.pcef_table.specs.Tables.{TableValue}
-use Rattle.pcef_table.specs.Verdicts.{IsVerdict, slot_for}
+use Rattle.pcef_table.specs.SessionSlots.{slots_counted}
+use Rattle.pcef_table.specs.Verdicts.{IsVerdict}
 use Rattle.pcef_model.specs.Setting.{Setting}
 use Rattle.pcef_model.specs.Entries.{Journal, lane}
 use Rattle.pcef_model.specs.Journals.{gen, lane_len}
@@ -31,7 +31,7 @@ pub record IsJudged (offers : List Offer) (ue : Addr) (header : Header) (handed_
   pub generation_is : i.row.generation ≡ (held_by w).number
   pub header_is : i.row.header ≡ header
   pub verdict_is : IsVerdict offers (held_by w).entries ue header i.row.verdict
-  pub slots_are : i.slots.items ≡ option_to_list (slot_for offers (held_by w).entries i.row.verdict)
+  pub slots_are : i.slots.items ≡ slots_counted offers (held_by w) i.row.verdict
 
 abbrev pub with_item : Item → Worker → Worker
 with_item i w = record w { waiting = w.waiting ++ i ∷ [] }

@@ -4,19 +4,19 @@ use Rattle.pcef_session.specs.SessionModel.{SessionModel}
 use Rattle.pcef_session.specs.private.Entries.{ShowsNext}
 use Rattle.pcef_session.specs.private.Soundness.{held_of}
 use Rattle.pcef_session.proofs.HeldSound.{held_sound}
-use Rattle.pcef_session.proofs.NextTables.{if_ok, number_fits, table_left}
+use Rattle.pcef_session.proofs.NextTables.{if_ok_3, number_fits, table_left}
 use Rattle.pcef_session.proofs.state.SessionState.table_left.Goals as goal
 use Rattle.std.specs.Prelude.{IfOk}
 
-pub without_taken-requires-clause-number : goal.without_taken-requires-clause-number
-without_taken-requires-clause-number c = let fits = number_fits (held_of c.self.inside) (held_sound c.self.inside c.self.invariant) in rw (c.table.ensures ∙ c.deref.ensures) fits
+pub left-requires-clause-number : goal.left-requires-clause-number
+left-requires-clause-number c = let fits = number_fits (held_of c.self.inside) (held_sound c.self.inside c.self.invariant) in rw (c.table.ensures ∙ c.deref.ensures) fits
 
 pub returns : goal.returns
 returns c =
     let v = held_of c.self.inside in
     let command = c.args.command.now in
     let none = subst (λ (m : SessionModel). activated m.setting command ≡ None) (sym c.self.view_is) c.requires.none in
-    subst (λ (m : SessionModel). IfOk c.without_taken.result (λ t. ShowsNext m.setting m.journal command t)) c.self.view_is
-    (if_ok _ _ _ c.without_taken.result
+    subst (λ (m : SessionModel). IfOk c.left.result (λ t. ShowsNext m.setting m.journal command t)) c.self.view_is
+    (if_ok_3 _ _ _ _ c.left.result
     (table_left v command (held_sound c.self.inside c.self.invariant) none c.requires.table c.requires.switched)
-    (rw (c.table.ensures ∙ c.deref.ensures) at c.without_taken.ensures.number) (rw (c.table.ensures ∙ c.deref.ensures) at c.without_taken.ensures.entries))
+    (rw (c.table.ensures ∙ c.deref.ensures) at c.left.ensures.number) (rw (c.table.ensures ∙ c.deref.ensures) at c.left.ensures.entries) (rw (c.table.ensures ∙ c.deref.ensures) at c.left.ensures.session))

@@ -4,19 +4,26 @@ use Rattle.pcef_session.specs.SessionModel.{SessionModel}
 use Rattle.pcef_session.specs.private.Entries.{ShowsNext}
 use Rattle.pcef_session.specs.private.Soundness.{held_of}
 use Rattle.pcef_session.proofs.HeldSound.{held_sound}
-use Rattle.pcef_session.proofs.NextTables.{if_ok, number_fits, table_switched}
+use Rattle.pcef_session.proofs.NextTables.{if_ok_3, number_fits, switched_slot, table_switched}
 use Rattle.pcef_session.proofs.state.SessionState.table_switched.Goals as goal
 use Rattle.std.specs.Prelude.{IfOk}
 
-pub counting-requires : goal.counting-requires
-counting-requires c = let fits = number_fits (held_of c.self.inside) (held_sound c.self.inside c.self.invariant) in rw (c.table.ensures ∙ c.deref.ensures) fits
+pub switched-requires-clause-number : goal.switched-requires-clause-number
+switched-requires-clause-number c = let fits = number_fits (held_of c.self.inside) (held_sound c.self.inside c.self.invariant) in rw (c.table.ensures ∙ c.deref.ensures) fits
+
+pub switched-requires-clause-slot : goal.switched-requires-clause-slot
+switched-requires-clause-slot c =
+    let accepted = subst (λ (m : SessionModel). first_of (refusals m.setting m.journal c.args.command.now) ≡ None) (sym c.self.view_is) c.requires.accepted in
+    switched_slot (held_of c.self.inside) c.args.command.now c.args.key.now c.place_of-slot.result (held_sound c.self.inside c.self.invariant) accepted c.requires.switched (rw c.usage.ensures at c.place_of-slot.ensures)
 
 pub returns : goal.returns
 returns c =
     let v = held_of c.self.inside in
     let command = c.args.command.now in
     let accepted = subst (λ (m : SessionModel). first_of (refusals m.setting m.journal command) ≡ None) (sym c.self.view_is) c.requires.accepted in
-    subst (λ (m : SessionModel). IfOk c.counting.result (λ t. ShowsNext m.setting m.journal command t)) c.self.view_is
-    (if_ok _ _ _ c.counting.result
+    subst (λ (m : SessionModel). IfOk c.switched.result (λ t. ShowsNext m.setting m.journal command t)) c.self.view_is
+    (if_ok_3 _ _ _ _ c.switched.result
     (table_switched v command c.args.key.now c.place_of-slot.result (held_sound c.self.inside c.self.invariant) accepted c.requires.switched (rw c.usage.ensures at c.place_of-slot.ensures))
-    (rw (c.table.ensures ∙ c.deref.ensures) at c.counting.ensures.number) (rw ((c.table.ensures ∙ c.deref.ensures), c.switches_on.ensures) at c.counting.ensures.entries))
+    (rw (c.table.ensures ∙ c.deref.ensures) at c.switched.ensures.number)
+    (rw ((c.table.ensures ∙ c.deref.ensures), c.switches_on.ensures, c.level_switched-level.ensures, c.usage-2.ensures) at c.switched.ensures.entries)
+    (rw ((c.table.ensures ∙ c.deref.ensures), c.switches_on.ensures, c.level_switched-level.ensures, c.usage-2.ensures) at c.switched.ensures.session))
