@@ -76,6 +76,7 @@ plain_refusal refusal.UnknownBearer = refl
 plain_refusal refusal.DefaultBearer = refl
 plain_refusal (refusal.WorkersAttached workers) = refl
 plain_refusal refusal.RulesFull = refl
+plain_refusal refusal.LevelClash = refl
 plain_refusal refusal.KeysFull = refl
 plain_refusal refusal.UnknownQci = refl
 plain_refusal refusal.RatesMissing = refl

@@ -1,13 +1,16 @@
 -- What is shown is as the journal says.
-use Rattle.std.proofs.Common.{◌≡◌, ◌∙◌, List, [], ◌∷◌, Bool, ap, arith, filter_map, map, refl}
+use Rattle.std.proofs.Common.{◌≡◌, ◌∙◌, ◌++◌, List, [], ◌∷◌, Bool, ap, arith, codes, decimal, filter_map, map, refl, subst, sym, Result, OnOk}
 use Rattle.std.specs.List.{AllByRecursion}
-use Rattle.serde_json.specs.Data.{array}
+use Rattle.json.specs.Print.{escape, escape_byte}
+use Rattle.serde_json.specs.Data.{array, boolean}
 use Rattle.serde_json.specs.View.{items_of}
-use Rattle.serde_json.specs.Written.{items_text}
+use Rattle.serde_json.specs.Written.{compact_text, items_text}
 use Rattle.pcef_model.specs.Entries.{Journal}
 use Rattle.pcef_model.specs.Commands.{is_among}
-use Rattle.pcef_model.specs.Journals.{gen, now, reported, unreported}
+use Rattle.pcef_model.specs.Journals.{gen, level_of, now, reported, unreported}
 use Rattle.pcef_model.specs.Setting.{Setting}
+use Rattle.pcef_model.specs.declared.level.Level.{Level}
+use Rattle.pcef_model.specs.declared.level.Level.TheVariants.{Rule, Session}
 use Rattle.pcef_usage.specs.declared.usage.KeyState.{KeyState}
 use Rattle.pcef_session.specs.Agreement.{KeyAgrees, KeysAgree}
 use Rattle.pcef_table.specs.declared.entry.Entry.{Entry}
@@ -15,15 +18,18 @@ use Rattle.pcef_bearer.specs.declared.bearers.Bound.{Bound}
 use Rattle.pcef_bearer.specs.Bindings.{Binding}
 use Rattle.std.specs.Prelude.{ℕ}
 use Rattle.pcef_bearer.specs.Standing.{binding_of, bound_of}
-use Rattle.pcef_answer.specs.ShowAnswers.{active_data, bearer_told, bearers_data, key_data, key_told, kept_data, session_data, state_data, states_data, told_data}
+use Rattle.pcef_answer.proofs.WrittenTexts.{last_three, last_two}
+use Rattle.pcef_answer.specs.ShowAnswers.{active_data, bearer_told, bearers_data, key_data, key_told, kept_data, level_text, session_data, state_data, states_data, told_data}
 
 state_told : (p : Setting) (j : Journal) (s : KeyState) → KeyAgrees p j s → state_data s ≡ key_told p j s.key
 state_told p j s agrees =
     let on = is_among s.key (now p j).on in
     let rest : s.unreported ≡ unreported p j s.key = omega (arith, agrees.reported_is, agrees.counted_is) in
-    ap (λ on. key_data s.key on s.reported s.unreported) agrees.on_is
-    ∙ ap (λ n. key_data s.key on n s.unreported) agrees.reported_is
-    ∙ ap (λ n. key_data s.key on (reported j s.key) n) rest
+    let level = level_of (now p j) s.key in
+    ap (λ l. key_data s.key l s.on s.reported s.unreported) agrees.level_is
+    ∙ ap (λ on. key_data s.key level on s.reported s.unreported) agrees.on_is
+    ∙ ap (λ n. key_data s.key level on n s.unreported) agrees.reported_is
+    ∙ ap (λ n. key_data s.key level on (reported j s.key) n) rest
 
 states_told : (p : Setting) (j : Journal) (states : List KeyState) → AllByRecursion (KeyAgrees p j) states → map state_data states ≡ map (key_told p j) (map (λ s. s.key) states)
 states_told p j [] all = refl
@@ -42,3 +48,29 @@ kept_told p j entries binding generation keys binding_is generation_is agrees =
 -- ---- the bearers of some ids, up to the closing bracket
 abbrev pub bearers_text : List Bound → Bool → List ℕ → List ℕ
 bearers_text bound later ids = items_text later (items_of (filter_map (bearer_told bound) ids))
+
+-- the text of a key, piece by piece
+pub key_written : (key : List ℕ) (level : Level) (on : Bool) (reported unreported : ℕ) →
+    compact_text (key_data key level on reported unreported)
+    ≡ (codes "{\"key\":\"" ++ (escape key ++ codes "\"")) ++ (level_text level ++ ((codes ",\"on\":" ++ compact_text (boolean on))
+    ++ ((codes ",\"reported\":" ++ decimal reported) ++ ((codes ",\"unreported\":" ++ decimal unreported) ++ codes "}"))))
+unfolding escape_byte
+key_written key Rule on reported unreported = refl
+key_written key Session on reported unreported = refl
+
+-- a key that was pushed piece by piece, behind a comma or none
+pub key_pushed : {A E : Type 0} (result : Result A E) (s u comma key : List ℕ) (level : Level) (on : Bool) (reported unreported : ℕ) →
+    OnOk result (u ≡ s ++ (comma ++ ((codes "{\"key\":\"" ++ (escape key ++ codes "\"")) ++ (level_text level ++ ((codes ",\"on\":" ++ compact_text (boolean on))
+    ++ ((codes ",\"reported\":" ++ decimal reported) ++ ((codes ",\"unreported\":" ++ decimal unreported) ++ codes "}")))))))
+    → OnOk result (u ≡ s ++ (comma ++ compact_text (key_data key level on reported unreported)))
+key_pushed result s u comma key level on reported unreported pushed =
+    subst (λ x. OnOk result (u ≡ s ++ (comma ++ x))) (sym (key_written key level on reported unreported)) pushed
+
+pub key_whole : {A E : Type 0} (result : Result A E) (s t u v w x y comma key : List ℕ) (level : Level) (on : Bool) (reported unreported : ℕ) →
+    t ≡ s ++ comma → u ≡ t ++ (codes "{\"key\":\"" ++ (escape key ++ codes "\"")) → v ≡ u ++ level_text level → w ≡ v ++ (codes ",\"on\":" ++ compact_text (boolean on))
+    → x ≡ w ++ (codes ",\"reported\":" ++ decimal reported) → OnOk result (y ≡ x ++ ((codes ",\"unreported\":" ++ decimal unreported) ++ codes "}"))
+    → OnOk result (y ≡ s ++ (comma ++ compact_text (key_data key level on reported unreported)))
+key_whole result s t u v w x y comma key level on reported unreported a b c d e f =
+    let end = last_three result v w x y (codes ",\"on\":" ++ compact_text (boolean on)) (codes ",\"reported\":" ++ decimal reported) ((codes ",\"unreported\":" ++ decimal unreported) ++ codes "}") d e f in
+    let rest = last_two result u v y (level_text level) ((codes ",\"on\":" ++ compact_text (boolean on)) ++ ((codes ",\"reported\":" ++ decimal reported) ++ ((codes ",\"unreported\":" ++ decimal unreported) ++ codes "}"))) c end in
+    key_pushed result s y comma key level on reported unreported (last_three result s t u y comma (codes "{\"key\":\"" ++ (escape key ++ codes "\"")) _ a b rest)

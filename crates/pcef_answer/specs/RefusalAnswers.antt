@@ -8,7 +8,7 @@ use Rattle.pcef_model.specs.declared.answer.AttachFault.TheVariants as attach
 use Rattle.pcef_model.specs.declared.answer.FlushRefusal.{FlushRefusal}
 use Rattle.pcef_model.specs.declared.answer.FlushRefusal.TheVariants as flush
 use Rattle.pcef_model.specs.declared.answer.Refusal.{Refusal}
-use Rattle.pcef_model.specs.declared.answer.Refusal.TheVariants.{Terminated, Closed, CommandsFull, NameIsPredefined, UnknownRule, UnknownKey, ZeroGrant, UnknownBearer, DefaultBearer, WorkersAttached, RulesFull, KeysFull, UnknownQci, RatesMissing, RatesNotWanted, TooManyBearers, OverCapacityUp, OverCapacityDown, NoMemory}
+use Rattle.pcef_model.specs.declared.answer.Refusal.TheVariants.{Terminated, Closed, CommandsFull, NameIsPredefined, UnknownRule, UnknownKey, ZeroGrant, UnknownBearer, DefaultBearer, WorkersAttached, RulesFull, LevelClash, KeysFull, UnknownQci, RatesMissing, RatesNotWanted, TooManyBearers, OverCapacityUp, OverCapacityDown, NoMemory}
 use Rattle.pcef_answer.specs.FaultAnswers.{count}
 
 abbrev pub refused_data : List ℕ → ℕ → Data
@@ -32,6 +32,7 @@ refusal_number UnknownBearer = 8
 refusal_number DefaultBearer = 9
 refusal_number (WorkersAttached workers) = 10
 refusal_number RulesFull = 11
+refusal_number LevelClash = 20
 refusal_number KeysFull = 12
 refusal_number UnknownQci = 13
 refusal_number RatesMissing = 14
@@ -53,6 +54,7 @@ refusal_name UnknownBearer = codes "UnknownBearer"
 refusal_name DefaultBearer = codes "DefaultBearer"
 refusal_name (WorkersAttached workers) = codes "WorkersAttached"
 refusal_name RulesFull = codes "RulesFull"
+refusal_name LevelClash = codes "LevelClash"
 refusal_name KeysFull = codes "KeysFull"
 refusal_name UnknownQci = codes "UnknownQci"
 refusal_name RatesMissing = codes "RatesMissing"

@@ -2,7 +2,9 @@
 use Rattle.std.specs.Prelude.{ℕ, ◌≡◌, Bool, List, [], ◌∷◌, codes, length, map, Option}
 use Rattle.std.specs.List.{filter_map}
 use Rattle.std.specs.Option.{option_map}
-use Rattle.serde_json.specs.Data.{Data, string, boolean, array, object, member, no_members}
+use Rattle.pcef_model.specs.declared.level.Level.{Level}
+use Rattle.pcef_model.specs.declared.level.Level.TheVariants.{Rule, Session}
+use Rattle.serde_json.specs.Data.{Data, Members, string, boolean, array, object, member, no_members}
 use Rattle.serde_json.specs.View.{items_of}
 use Rattle.serde_json.specs.Written.{compact_text}
 use Rattle.pcef_rule.specs.declared.quantity.Sums.{Sums}
@@ -12,7 +14,7 @@ use Rattle.pcef_table.specs.Sources.{name_of}
 use Rattle.pcef_table.specs.Tables.{TableValue}
 use Rattle.pcef_model.specs.Entries.{Journal}
 use Rattle.pcef_model.specs.Commands.{is_among}
-use Rattle.pcef_model.specs.Journals.{gen, now, reported, slots, unreported}
+use Rattle.pcef_model.specs.Journals.{gen, level_of, now, reported, slots, unreported}
 use Rattle.pcef_model.specs.Setting.{Setting}
 use Rattle.pcef_bearer.specs.declared.bearers.Bound.{Bound}
 use Rattle.pcef_bearer.specs.Bindings.{guaranteed, rules_on}
@@ -54,16 +56,22 @@ abbrev pub bearers_data : List Bound → Data
 bearers_data bound = bearers_told bound bearer_ids
 
 -- ---- keys
--- a key: whether it is on, and its octets
-abbrev pub key_data : List ℕ → Bool → ℕ → ℕ → Data
-key_data key on reported unreported =
+-- the level of a key, where it isn't that of a rule's key
+abbrev pub with_level : Level → Members → Members
+with_level Rule others = others
+with_level Session others = member (codes "level") (string (codes "session")) others
+
+-- a key: its level, whether it is on, and its octets
+abbrev pub key_data : List ℕ → Level → Bool → ℕ → ℕ → Data
+key_data key level on reported unreported =
     object (member (codes "key") (string key)
+    (with_level level
     (member (codes "on") (boolean on)
     (member (codes "reported") (count reported)
-    (member (codes "unreported") (count unreported) no_members))))
+    (member (codes "unreported") (count unreported) no_members)))))
 
 abbrev pub key_told : Setting → Journal → List ℕ → Data
-key_told p j key = key_data key (is_among key (now p j).on) (reported j key) (unreported p j key)
+key_told p j key = key_data key (level_of (now p j) key) (is_among key (now p j).on) (reported j key) (unreported p j key)
 
 -- ---- a session
 abbrev pub session_data : Data → Data → ℕ → Data → Data
@@ -90,10 +98,15 @@ ShowsSession s text = TellsSession s.setting s.journal text
 
 -- ---- for private clauses: the same from what a session keeps beside its journal
 abbrev pub state_data : KeyState → Data
-state_data s = key_data s.key s.on s.reported s.unreported
+state_data s = key_data s.key s.level s.on s.reported s.unreported
 
 abbrev pub states_data : List KeyState → Data
 states_data states = array (items_of (map state_data states))
 
 abbrev pub kept_data : List Offer → List Entry → List Bound → ℕ → List KeyState → Data
 kept_data offers entries bound generation keys = session_data (active_data offers entries) (bearers_data bound) generation (states_data keys)
+
+-- the text of a key's level, where it has one
+abbrev pub level_text : Level → List ℕ
+level_text Rule = []
+level_text Session = codes ",\"level\":\"session\""

@@ -120,6 +120,7 @@ fn name_of_refusal(refusal: Refusal) -> (&'static str, u8)
         Refusal::DefaultBearer => ("DefaultBearer", 9),
         Refusal::WorkersAttached(_) => ("WorkersAttached", 10),
         Refusal::RulesFull => ("RulesFull", 11),
+        Refusal::LevelClash => ("LevelClash", 20),
         Refusal::KeysFull => ("KeysFull", 12),
         Refusal::UnknownQci => ("UnknownQci", 13),
         Refusal::RatesMissing => ("RatesMissing", 14),

@@ -4,12 +4,13 @@ ghost use Rattle.std.specs.Prelude.{◌≡◌, ◌++◌, All, IfOk, OnOk, codes,
 ghost use Rattle.serde_json.specs.Data.{boolean};
 ghost use Rattle.serde_json.specs.Written.{comma_if, compact_text};
 ghost use Rattle.pcef_table.specs.Sources.{IsKnown};
-ghost use Rattle.pcef_answer.specs.ShowAnswers.{ShowsSession, active_data, bearer_data, bearers_told, entry_data, kept_data, state_data, states_data};
+ghost use Rattle.pcef_answer.specs.ShowAnswers.{ShowsSession, active_data, bearer_data, bearers_told, entry_data, kept_data, level_text, state_data, states_data};
 ghost use Rattle.pcef_answer.specs.Written.{GoesOn};
 
 use crate::written::{push_comma, push_count, push_last_count, push_name};
 use pcef_bearer::Bearers;
 use pcef_catalog::Listing;
+use pcef_model::Level;
 use pcef_rule::{BearerId, Sums};
 use pcef_session::SessionState;
 use pcef_table::Entry;
@@ -135,9 +136,19 @@ fn push_key(text: &mut String, later: bool, state: &KeyState) -> Result<(), Allo
 {
     push_comma(text, later)?;
     push_name(text, "{\"key\":\"", state.key.as_str())?;
+    push_level(text, state.level)?;
     push_on(text, state.on)?;
     push_count(text, ",\"reported\":", state.reported)?;
     push_last_count(text, ",\"unreported\":", state.unreported)
+}
+
+fn push_level(text: &mut String, level: Level) -> Result<(), AllocError>
+    ensures { OnOk result (GoesOn text.old text.new (level_text level)) }
+{
+    match level {
+        Level::Rule => Ok(()),
+        Level::Session => text.push_str(",\"level\":\"session\""),
+    }
 }
 
 fn push_on(text: &mut String, on: bool) -> Result<(), AllocError>

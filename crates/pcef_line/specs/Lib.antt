@@ -1,5 +1,6 @@
 pub mod FilterReads
 pub mod LineFaults
+pub mod LineLevels
 pub mod LineOf
 pub mod LineRules
 pub mod LineShape

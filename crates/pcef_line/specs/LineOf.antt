@@ -18,6 +18,7 @@ use Rattle.pcef_line.specs.LineWords.{field_text, word_of}
 use Rattle.pcef_line.specs.LineShape.{is_known}
 use Rattle.pcef_line.specs.LineValues.{number_at, name_at, object_at, dir_at, packet_at}
 use Rattle.pcef_line.specs.LineRules.{rule_at}
+use Rattle.pcef_line.specs.LineLevels.{level_at}
 use Rattle.pcef_line.specs.LineTriggers.{event_at, triggers_at}
 use Rattle.pcef_decoding.specs.Readings.{◌>>=◌, or_fault, passing}
 
@@ -46,7 +47,8 @@ fields_at reads word.Remove d = do
 fields_at reads word.Monitor d = do
   key ← name_at field.Key d
   grant ← number_at field.Grant field.Grant 0 (2 ^ 64 - 1) d
-  Ok (of_command (command.Monitor key grant))
+  level ← level_at d
+  Ok (of_command (command.Monitor key grant level))
 fields_at reads word.Stop d = do
   key ← name_at field.Key d
   Ok (of_command (command.Stop key))

@@ -62,7 +62,7 @@ abbrev pub fields_of : Word → List Field
 fields_of word.Install = field.Do ∷ field.Rule ∷ []
 fields_of word.Activate = field.Do ∷ field.Name ∷ []
 fields_of word.Remove = field.Do ∷ field.Name ∷ []
-fields_of word.Monitor = field.Do ∷ field.Key ∷ field.Grant ∷ []
+fields_of word.Monitor = field.Do ∷ field.Key ∷ field.Grant ∷ field.Level ∷ []
 fields_of word.Stop = field.Do ∷ field.Key ∷ []
 fields_of word.Report = field.Do ∷ field.Key ∷ []
 fields_of word.Triggers = field.Do ∷ field.Events ∷ []

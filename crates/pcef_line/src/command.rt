@@ -10,6 +10,7 @@ ghost use Rattle.pcef_line.specs.LineOf.{fields_at, of_command};
 
 use crate::fault::LineFault;
 use crate::field::Field;
+use crate::level::level_field;
 use crate::line::Line;
 use crate::rule::rule;
 use crate::trigger::{are_triggers, event_of, set_of};
@@ -75,7 +76,8 @@ pub(crate) fn monitor(line: &Value) -> Result<Line, LineFault>
 {
     let key = name_field(line, Field::Key)?;
     let grant = number_field(line, Field::Grant, Field::Grant, 0, u64::MAX)?;
-    Ok(of_command(Command::Monitor { key, grant }))
+    let level = level_field(line)?;
+    Ok(of_command(Command::Monitor { key, grant, level }))
 }
 
 #[tactic(auto, unfolding(crate::specs::LineOf::fields_at))]

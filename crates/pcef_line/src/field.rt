@@ -42,7 +42,7 @@ pub enum Field {
     Qci,
     /// An allocation and retention priority.
     Arp,
-    /// A priority level.
+    /// A priority level, or the level of a monitoring key.
     Level,
     /// A pre-emption capability.
     Capability,

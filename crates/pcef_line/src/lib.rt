@@ -5,6 +5,7 @@ mod command;
 mod fault;
 mod field;
 mod known;
+mod level;
 mod laws;
 mod line;
 mod octets;

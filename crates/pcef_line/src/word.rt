@@ -63,7 +63,7 @@ impl Word {
         match self {
             Word::Install => &[Field::Do, Field::Rule],
             Word::Activate | Word::Remove => &[Field::Do, Field::Name],
-            Word::Monitor => &[Field::Do, Field::Key, Field::Grant],
+            Word::Monitor => &[Field::Do, Field::Key, Field::Grant, Field::Level],
             Word::Stop | Word::Report => &[Field::Do, Field::Key],
             Word::Triggers => &[Field::Do, Field::Events],
             Word::Notice => &[Field::Do, Field::Event, Field::Value],
