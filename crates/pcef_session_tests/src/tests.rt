@@ -11,7 +11,7 @@ mod fronts;
 mod memory;
 mod refused_profiles;
 
-use pcef_model::Command;
+use pcef_model::{Command, Level};
 use pcef_rule::KeyName;
 
 /// A grant of 1,000 octets for the key `vid`.
@@ -19,5 +19,6 @@ fn monitor() -> Command {
     Command::Monitor {
         key: KeyName::known("vid"),
         grant: 1000,
+        level: Level::Rule,
     }
 }

@@ -6,7 +6,7 @@ ghost use Rattle.pcef_model.specs.Journals.{attach_count};
 
 use pcef_catalog::Listing;
 use pcef_filter::read_filter;
-use pcef_model::{Command, Profile};
+use pcef_model::{Command, Level, Profile};
 use pcef_packet::{Addr, Dir, Header, Ports};
 use pcef_rule::{Arp, Gate, KeyName, Properties, Qci, QciTable, Qos, Rule, RuleName, Sums};
 use pcef_session::SessionState;
@@ -66,7 +66,11 @@ pub fn web(alloc: Global) -> Result<Rule, Fail> {
 
 /// Monitors the key with this grant.
 pub fn monitor(grant: u64) -> Result<Command, Fail> {
-    Ok(Command::Monitor { key: vid()?, grant })
+    Ok(Command::Monitor {
+        key: vid()?,
+        grant,
+        level: Level::Rule,
+    })
 }
 
 /// A packet of so many octets from a port of the server at 198.51.100.7 to port 5000 of the session.

@@ -2,7 +2,7 @@
 
 use crate::addresses::tell_address;
 use pcef_line::{Line, LineFault};
-use pcef_model::{Command, Step};
+use pcef_model::{Command, Level, Step};
 use pcef_packet::Header;
 use std::alloc::{AllocError, Global};
 use std::fmt::Write;
@@ -15,7 +15,13 @@ fn tell_command(text: &mut String, command: &Command) -> Result<(), AllocError> 
         }
         Command::Activate(name) => write!(text, "activate {name}"),
         Command::Remove(name) => write!(text, "remove {name}"),
-        Command::Monitor { key, grant } => write!(text, "monitor {key} with {grant}"),
+        Command::Monitor { key, grant, level } => {
+            write!(text, "monitor {key} with {grant}")?;
+            match level {
+                Level::Rule => Ok(()),
+                Level::Session => text.push_str(" for the session"),
+            }
+        }
         Command::Stop(key) => write!(text, "stop {key}"),
         Command::ReportNow(key) => write!(text, "report {key}"),
         Command::Triggers(set) => write!(text, "{set:?}"),

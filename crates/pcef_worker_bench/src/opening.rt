@@ -6,7 +6,7 @@ use crate::Load;
 use pcef_catalog::{Listing, Offers};
 use pcef_filter::read_filter;
 use pcef_lock::{Desk, Shared};
-use pcef_model::{Command, Profile};
+use pcef_model::{Command, Level, Profile};
 use pcef_packet::{Addr, Dir, Header, Ports};
 use pcef_publish::{Board, Slot};
 use pcef_rule::{Arp, Gate, KeyName, Properties, Qci, QciTable, Qos, Rule, RuleName, Sums};
@@ -123,6 +123,7 @@ pub fn give_commands<C: Offers + Drop, N: Naming, W: Board<Slot<N>> + Drop, R: W
     let monitor = Command::Monitor {
         key: KeyName::new("vid").ok()?,
         grant: 1 << 60,
+        level: Level::Rule,
     };
     desk.command(rt, shared, monitor).ok()?;
     for number in 0..load.rules {

@@ -67,7 +67,7 @@ fn what_a_raw_frame_is(rt: HostRuntime) {
         content_of(Addr::V4(1), &raw(28, &PACKET)),
         content_of(UE, &raw(28, &PACKET[..24])),
         content_of(UE, &raw(24, &PACKET[..24])),
-        content_of(UE, &raw(60, [0x60, 0].as_slice())),
+        content_of(UE, &raw(60, [0x20, 0].as_slice())),
     ];
     assert_eq!(rt;
         contents,

@@ -5,8 +5,8 @@ ghost use Rattle.pcef_rule.specs.Name.{IsName};
 use pcef_filter::read_filter;
 use pcef_journal::{Commands, Journal, Lane, Reports};
 use pcef_model::{
-    AccessKind, Body, Cause, Command, Entry, InactiveCause, NoticeValue, Report, Row, TriggerSet,
-    Verdict,
+    AccessKind, Body, Cause, Command, Entry, InactiveCause, Level, NoticeValue, Report, Row,
+    TriggerSet, Verdict,
 };
 use pcef_packet::{Addr, Dir, Header, Ports};
 use pcef_rule::{Arp, BearerId, Gate, KeyName, Properties, Qci, Qos, Rule, RuleName};
@@ -456,8 +456,18 @@ fn is_same_rule(a: &Rule, b: &Rule) -> bool {
 fn is_same(a: &Command, b: &Command) -> bool {
     match (a, b) {
         (Command::Install(a), Command::Install(b)) => is_same_rule(a, b),
-        (Command::Monitor { key: a, grant: c }, Command::Monitor { key: b, grant: d }) => a == b
-            && c == d,
+        (
+            Command::Monitor {
+                key: a,
+                grant: c,
+                level: e,
+            },
+            Command::Monitor {
+                key: b,
+                grant: d,
+                level: f,
+            },
+        ) => a == b && c == d && e == f,
         (Command::Triggers(a), Command::Triggers(b)) => a == b,
         (Command::Notice { kind: a, value: c }, Command::Notice { kind: b, value: d }) => a == b
             && c == d,
@@ -488,6 +498,7 @@ fn command(alloc: Global, place: u8) -> Result<Command, Fail> {
         3 => Command::Monitor {
             key: KeyName::known("minutes"),
             grant: 1000,
+            level: Level::Rule,
         },
         4 => Command::Stop(KeyName::known("minutes")),
         5 => Command::ReportNow(KeyName::known("minutes")),

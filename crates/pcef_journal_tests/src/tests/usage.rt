@@ -4,10 +4,10 @@ ghost use Rattle.std.specs.Prelude.{◌≡◌, ◌<◌, ◌+◌, ◌^◌, ◌==�
 ghost use Rattle.pcef_model.specs.Commands.{is_among};
 ghost use Rattle.pcef_usage.specs.Keys.{FitsMore, keys_of};
 
-use pcef_model::{Body, Cause, Command, Entry, PendingReport, Report, Row, Verdict};
+use pcef_model::{Body, Cause, Command, Entry, Level, PendingReport, Report, Row, Verdict};
 use pcef_packet::{Addr, Dir, Header};
 use pcef_rule::{KeyName, Slot};
-use pcef_usage::{CountedJournal, KeysFull, MAX_KEYS, Usage};
+use pcef_usage::{CountedJournal, MAX_KEYS, SlotFault, Usage};
 use std::alloc::{AllocError, Global};
 use std::process::Abort;
 use std::test::Fail;
@@ -62,9 +62,10 @@ fn monitor(
     counted.enter(Entry::Command(Command::Monitor {
         key: key.copy(),
         grant,
+        level: Level::Rule,
     }));
     assert!(rt; counted.usage().states().len() < MAX_KEYS);
-    counted.keep_slot(Some(key));
+    counted.keep_slot(Some(key), Level::Rule);
     expect_slot(rt, counted, key);
     counted.start(key, grant);
     Ok(())
@@ -312,7 +313,7 @@ fn a_row_counts_for_two_keys(rt: HostRuntime) {
 /// Gives each of these keys a slot.
 fn add_keys(usage: &mut Usage, names: &[&str]) -> Result<(), Fail> {
     for name in names {
-        let _slot = usage.slot(&KeyName::new(name)?)?;
+        let _slot = usage.slot(&KeyName::new(name)?, Level::Rule)?;
     }
     Ok(())
 }
@@ -368,9 +369,9 @@ fn figures(rt: &impl Abort, usage: &Usage, slot: Slot) -> (bool, u64, u64) {
 const EIGHT: [&str; 8] = ["k0", "k1", "k2", "k3", "k4", "k5", "k6", "k7"];
 
 /// The slot that a key gets, and the one that is then found, where the text is a name.
-fn slots_of(usage: &mut Usage, name: &str) -> Option<(Result<Slot, KeysFull>, Option<Slot>)> {
+fn slots_of(usage: &mut Usage, name: &str) -> Option<(Result<Slot, SlotFault>, Option<Slot>)> {
     let key = KeyName::new(name).ok()?;
-    Some((usage.slot(&key), usage.find(&key)))
+    Some((usage.slot(&key, Level::Rule), usage.find(&key)))
 }
 
 /// How many of the eight keys have the slot of their place.
@@ -393,7 +394,7 @@ fn eight_keys_have_slots(rt: HostRuntime) -> Result<(), Fail> {
     let ninth = slots_of(&mut usage, "k8");
     let after = usage.states().len();
     let found = (before, in_place, ninth, after);
-    assert_eq!(rt; found, (8, 8, Some((Err(KeysFull), None)), 8));
+    assert_eq!(rt; found, (8, 8, Some((Err(SlotFault::KeysFull), None)), 8));
     Ok(())
 }
 

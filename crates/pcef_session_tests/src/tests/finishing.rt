@@ -8,7 +8,7 @@ use pcef_core::Session;
 use pcef_model::{Command, FlushRefusal, Judged, Profile, Refusal, Row, Verdict, Verdicts};
 use pcef_packet::{Addr, Dir, Header};
 use pcef_profile::read_profile;
-use pcef_session::{Batch, Item, slots_for};
+use pcef_session::{Batch, Item};
 use pcef_test_scripts::PROFILE;
 use std::alloc::{AllocError, Global};
 use std::sync::Arc;
@@ -50,7 +50,7 @@ fn unmatched_item(number: u64) -> Item
             },
             verdict: Verdict::Unmatched,
         },
-        slots: slots_for(None),
+        slots: ArrayVec::new(),
     }
 }
 

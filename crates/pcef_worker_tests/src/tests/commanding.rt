@@ -1,7 +1,7 @@
 //! Commands of the desk, and the reports that it collects.
 
 use super::*;
-use pcef_model::{Accepted, Body, Refusal, Report};
+use pcef_model::{Accepted, Body, Level, Refusal, Report};
 use pcef_rule::{KeyName, RuleName};
 
 // What a step of the desk tells.
@@ -27,6 +27,7 @@ fn command_of(step: Step, install: &Command) -> Option<Command> {
         Step::Monitor => Some(Command::Monitor {
             key: KeyName::known("vid"),
             grant: 1_000_000,
+            level: Level::Rule,
         }),
         Step::Remove => Some(Command::Remove(RuleName::known("web"))),
         Step::Close => Some(Command::Close),

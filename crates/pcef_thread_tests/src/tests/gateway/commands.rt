@@ -1,7 +1,7 @@
 //! Commands that are given while packets come, their answers and their reports.
 
 use super::*;
-use pcef_model::{Accepted, Body, Cause, Refusal, Report, TriggerSet};
+use pcef_model::{Accepted, Body, Cause, Level, Refusal, Report, TriggerSet};
 use pcef_rule::RuleName;
 use pcef_worker::OpenGate;
 use std::process::Abort;
@@ -68,6 +68,7 @@ fn refused_but_the_last(alloc: Global) -> Result<Vec<Command>, Fail> {
     let zero = Command::Monitor {
         key: vid()?,
         grant: 0,
+        level: Level::Rule,
     };
     let usage_reports = TriggerSet {
         usage_report: true,
