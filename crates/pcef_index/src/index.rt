@@ -96,7 +96,7 @@ impl Index {
     }
 
     /// The first entry of the table that fits.
-    fn first_fitting<'a, C: Detects>(
+    pub(crate) fn first_fitting<'a, C: Detects>(
         &self,
         table: &'a Table,
         catalog: &C,

@@ -1,15 +1,19 @@
 //! A table with its index.
 
-ghost use Rattle.std.specs.Prelude.{◌≡◌, [], IfOk, map};
-ghost use Rattle.pcef_table.specs.SessionSlots.{no_slots};
+ghost use Rattle.std.specs.Prelude.{◌≡◌, [], IfOk, IfSome, find, map};
+ghost use Rattle.std.specs.Option.{option_copied};
+ghost use Rattle.pcef_table.specs.SessionSlots.{no_slots, slots_counted};
+ghost use Rattle.pcef_table.specs.Sources.{IsKnown, fits};
 ghost use Rattle.pcef_table.specs.Tables.{IsTable};
 ghost use Rattle.pcef_table.specs.Verdicts.{IsVerdict};
 
 use crate::index::{Index, index_of};
+use arrayvec::ArrayVec;
 use pcef_catalog::{Detects, Offers};
 use pcef_model::Verdict;
 use pcef_packet::{Addr, Header};
-use pcef_table::Table;
+use pcef_rule::Slot;
+use pcef_table::{Entry, Table, is_own, judged_by};
 use std::alloc::{AllocError, Global};
 use std::marker::Model;
 
@@ -88,6 +92,46 @@ impl Indexed {
             self.table.classify(catalog, ue, header)
         } else {
             self.index.classify(&self.table, catalog, ue, header)
+        }
+    }
+
+    /// The first entry that fits.
+    fn first_fitting<C: Detects>(&self, catalog: &C, ue: Addr, header: &Header) -> Option<&Entry>
+        requires { IsTable (C.offers catalog.now) self.now.entries }
+        ensures known { IfSome result (λ e. IsKnown (C.offers catalog.now) e.now.source) }
+        ensures first { option_copied result
+            ≡ find (λ e. fits (C.offers catalog.now) ue header.now e.source) self.now.entries }
+    {
+        if self.table.len() <= 1 {
+            self.table.first_fitting(catalog, ue, header)
+        } else {
+            self.index.first_fitting(&self.table, catalog, ue, header)
+        }
+    }
+
+    /// What the generation decides of a packet, for a session with this address (TS 23.203,
+    /// clause 6.2.2), and the slots that the packet counts for, in slot order, by one look-up. Takes no
+    /// memory.
+    pub fn judged<C: Detects>(
+        &self,
+        catalog: &C,
+        ue: Addr,
+        header: &Header,
+    ) -> (Verdict, ArrayVec<Slot, 8>)
+        requires { IsTable (C.offers catalog.now) self.now.entries }
+        ensures verdict { IsVerdict (C.offers catalog.now) self.now.entries ue header.now result.0 }
+        ensures slots { result.1.items ≡ slots_counted (C.offers catalog.now) self.now result.0 }
+    {
+        if !is_own(header, ue) {
+            return (Verdict::Stray, ArrayVec::new());
+        }
+        match self.first_fitting(catalog, ue, header) {
+            None => (Verdict::Unmatched, ArrayVec::new()),
+            Some(entry) => {
+                let (verdict, slot) = judged_by(catalog, entry, header.dir);
+                let slots = self.table.slots_beside(&verdict, slot);
+                (verdict, slots)
+            }
         }
     }
 }

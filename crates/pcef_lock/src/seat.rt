@@ -33,8 +33,7 @@ impl<N: Naming> Seat<N> {
             self.now.subscriber header.now result }
     {
         let (generation, held) = self.subscriber.current();
-        let verdict = held.classify(catalog, self.ue, header);
-        let slots = held.table().slots_counted(catalog, &verdict);
+        let (verdict, slots) = held.judged(catalog, self.ue, header);
         Item {
             row: Row {
                 worker: self.worker,

@@ -1,7 +1,12 @@
 -- From the first entry that fits to the verdict.
-use Rattle.std.proofs.Common.{◌≡◌, List, Some, find, refl, sym, subst, true, AllPairs}
+use Rattle.std.proofs.Common.{◌≡◌, ◌∙◌, ◌⊎◌, ℕ, List, [], Some, None, find, ap, inl, inr, refl, sym, subst, true, AllPairs, Contains}
+use Rattle.std.specs.Prelude.{Option}
+use Rattle.std.specs.Option.{option_map, option_map_or}
 use Rattle.std.proofs.lemmas.Bool.{cond_both}
+use Rattle.std.proofs.lemmas.List.Elements.{All-contains}
+use Rattle.std.proofs.lemmas.Slice.Eq.{bytes_eq-Decides}
 use Rattle.pcef_packet.specs.declared.header.Addr.{Addr}
+use Rattle.pcef_packet.specs.declared.header.Dir.{Dir}
 use Rattle.pcef_packet.specs.declared.header.Header.{Header}
 use Rattle.pcef_packet.specs.Addresses.{is_assigned, ue_side}
 use Rattle.pcef_rule.specs.declared.rule.Properties.{Properties}
@@ -9,11 +14,13 @@ use Rattle.pcef_rule.specs.Gate.{opens}
 use Rattle.pcef_table.specs.declared.entry.Entry.{Entry}
 use Rattle.pcef_catalog.specs.declared.listing.Offer.{Offer}
 use Rattle.pcef_model.specs.declared.verdict.Verdict.{Verdict}
-use Rattle.pcef_model.specs.declared.verdict.Verdict.TheVariants.{Gated, Passed}
-use Rattle.pcef_table.specs.Sources.{fits, properties_of}
-use Rattle.pcef_table.specs.Tables.{GoesBefore}
-use Rattle.pcef_table.specs.Verdicts.{IsDecisive, IsVerdict, gate_verdict}
+use Rattle.pcef_model.specs.declared.verdict.Verdict.TheVariants.{Gated, Passed, Stray, Unmatched}
+use Rattle.pcef_table.specs.Sources.{fits, is_named, name_of, properties_of}
+use Rattle.pcef_table.specs.Tables.{AreNamedApart, GoesBefore, TableValue}
+use Rattle.pcef_table.specs.SessionSlots.{slots_beside, slots_counted}
+use Rattle.pcef_table.specs.Verdicts.{IsDecisive, IsVerdict, counted_slot, gate_verdict, slot_by, slot_for, verdict_by}
 use Rattle.pcef_lists.proofs.Foremost.{found_is_foremost}
+use Rattle.pcef_lists.proofs.Found.{find_some}
 
 -- the first entry that fits is decisive
 first_is_decisive : (offers : List Offer) (entries : List Entry) (ue : Addr) (header : Header) (e : Entry) (p : Properties) → AllPairs (GoesBefore offers) entries → find (λ (f : Entry). fits offers ue header f.source) entries ≡ Some e → properties_of offers e.source ≡ Some p → IsDecisive offers entries ue header e p
@@ -34,3 +41,59 @@ gate_decides offers entries ue header e p verdict own ordered found known is =
     (cond_both (opens p.gate header.dir) (Passed p.name e.bearer) (Gated p.name) (IsVerdict offers entries ue header)
     (λ opening. (own, e, p, decisive, opening, refl, refl))
     (λ closing. (own, e, p, decisive, closing, refl)))
+
+-- ---- the slot
+-- where no two entries have one name, an entry is the first of its name
+named_is_found : (offers : List Offer) (entries : List Entry) (e : Entry) → AllPairs (AreNamedApart offers) entries → Contains entries e → find (λ (f : Entry). is_named offers (name_of offers e.source) f.source) entries ≡ Some e
+named_is_found offers entries e apart there =
+    let named = λ (f : Entry). is_named offers (name_of offers e.source) f.source in
+    let own : named e ≡ true = (bytes_eq-Decides (name_of offers e.source) (name_of offers e.source)).1 refl in
+    let some = find_some named entries e there own in
+    let foremost = found_is_foremost (AreNamedApart offers) named entries some.0 apart some.1 in
+    elim (All-contains (λ (y : Entry). named y ≡ true → (y ≡ some.0) ⊎ AreNamedApart offers some.0 y) entries e foremost.first there own) [
+      | inl same ↦ some.1 ∙ ap (λ y. Some y) (sym same)
+      | inr differs ↦ absurd (differs ((bytes_eq-Decides (name_of offers some.0.source) (name_of offers e.source)).0 foremost.passes))
+    ]
+
+-- the slot of what an entry's gate decides is that of the entry
+pub entry_counts : (offers : List Offer) (entries : List Entry) (e : Entry) (dir : Dir) (verdict : Verdict) → AllPairs (AreNamedApart offers) entries → Contains entries e → verdict_by offers dir e ≡ Some verdict → slot_by e verdict ≡ slot_for offers entries verdict
+entry_counts offers entries e dir verdict apart there by = from (properties_of offers e.source) refl
+  where
+    passing : (p : Properties) → properties_of offers e.source ≡ Some p → find (λ (f : Entry). is_named offers p.name f.source) entries ≡ Some e
+    passing p known = subst (λ (n : List ℕ). find (λ (f : Entry). is_named offers n f.source) entries ≡ Some e) (ap (λ o. option_map_or (λ (q : Properties). q.name) o []) known) (named_is_found offers entries e apart there)
+
+    counts : (p : Properties) → properties_of offers e.source ≡ Some p → slot_by e (gate_verdict p e.bearer dir) ≡ slot_for offers entries (gate_verdict p e.bearer dir)
+    counts p known =
+        cond_both (opens p.gate dir) (Passed p.name e.bearer) (Gated p.name) (λ v. slot_by e v ≡ slot_for offers entries v)
+        (λ _. ap (λ o. option_map_or counted_slot o None) (sym (passing p known)))
+        (λ _. refl)
+
+    from : (o : Option Properties) → properties_of offers e.source ≡ o → slot_by e verdict ≡ slot_for offers entries verdict
+    from None none = let e : None ≡ Some verdict = sym (ap (option_map (λ (p : Properties). gate_verdict p e.bearer dir)) none) ∙ by in absurd cc
+    from (Some p) known =
+        let is : Some (gate_verdict p e.bearer dir) ≡ Some verdict = sym (ap (option_map (λ (q : Properties). gate_verdict q e.bearer dir)) known) ∙ by in
+        let same : gate_verdict p e.bearer dir ≡ verdict = cc in
+        subst (λ v. slot_by e v ≡ slot_for offers entries v) same (counts p known)
+
+-- where the first entry that fits is known, what its gate decides is the verdict
+pub entry_decides : (offers : List Offer) (entries : List Entry) (ue : Addr) (header : Header) (e : Entry) (verdict : Verdict) → is_assigned (ue_side header) ue ≡ true → AllPairs (GoesBefore offers) entries → find (λ (f : Entry). fits offers ue header f.source) entries ≡ Some e → verdict_by offers header.dir e ≡ Some verdict → IsVerdict offers entries ue header verdict
+entry_decides offers entries ue header e verdict own ordered found by = from (properties_of offers e.source) refl
+  where
+    from : (o : Option Properties) → properties_of offers e.source ≡ o → IsVerdict offers entries ue header verdict
+    from None none = let e : None ≡ Some verdict = sym (ap (option_map (λ (p : Properties). gate_verdict p e.bearer header.dir)) none) ∙ by in absurd cc
+    from (Some p) known =
+        let is : Some (gate_verdict p e.bearer header.dir) ≡ Some verdict = sym (ap (option_map (λ (q : Properties). gate_verdict q e.bearer header.dir)) known) ∙ by in
+        let same : verdict ≡ gate_verdict p e.bearer header.dir = cc in
+        gate_decides offers entries ue header e p verdict own ordered found known same
+
+-- what is found is there
+pub found_there : (offers : List Offer) (entries : List Entry) (ue : Addr) (header : Header) (e : Entry) → AllPairs (GoesBefore offers) entries → find (λ (f : Entry). fits offers ue header f.source) entries ≡ Some e → Contains entries e
+found_there offers entries ue header e ordered found =
+    (found_is_foremost (GoesBefore offers) (λ (f : Entry). fits offers ue header f.source) entries e ordered found).there
+
+-- the slots of a verdict are its own slot and those of the keys of session level
+pub beside_counted : (offers : List Offer) (t : TableValue) (v : Verdict) → slots_beside (slot_for offers t.entries v) t.session v ≡ slots_counted offers t v
+beside_counted offers t Stray = refl
+beside_counted offers t Unmatched = refl
+beside_counted offers t (Gated rule) = refl
+beside_counted offers t (Passed rule bearer) = refl

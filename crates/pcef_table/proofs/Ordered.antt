@@ -1,9 +1,9 @@
 -- Entries in precedence order.
-use Rattle.std.proofs.Common.{◌≡◌, ◌<◌, ◌≤◌, ◌+◌, ◌∙◌, List, [], ◌∷◌, ◌++◌, length, filter, map, Bool, true, false, IsTrue, All, AllPairs, ap, arith, length-append, refl}
+use Rattle.std.proofs.Common.{◌≡◌, ◌≢◌, ◌<◌, ◌≤◌, ◌+◌, ◌∙◌, List, [], ◌∷◌, ◌++◌, length, filter, map, Bool, true, false, IsTrue, All, AllPairs, ap, arith, inl, inr, length-append, not, refl, sym}
 use Rattle.std.specs.Ordering.{is_lt, ordering_reverse}
 use Rattle.std.specs.declared.cmp.Ordering.{Ordering}
 use Rattle.std.specs.declared.cmp.Ordering.TheVariants.{Less, Equal, Greater}
-use Rattle.std.proofs.lemmas.Bool.{cond_both}
+use Rattle.std.proofs.lemmas.Bool.{cases_Bool, cond_both}
 use Rattle.std.proofs.lemmas.List.Elements.{All-nil, All-append, All-cons, All-filter, All-head, All-map, All-tail, All-weaker, filter_passes}
 use Rattle.std.proofs.lemmas.List.Kept.{AllPairs-cons, AllPairs-filter}
 use Rattle.pcef_rule.proofs.OrderOfRules.{rank_total}
@@ -12,8 +12,10 @@ use Rattle.pcef_rule.specs.declared.quantity.Slot.{Slot}
 use Rattle.pcef_table.specs.declared.entry.Entry.{Entry}
 use Rattle.pcef_table.specs.declared.entry.Source.{Source}
 use Rattle.pcef_catalog.specs.declared.listing.Offer.{Offer}
-use Rattle.pcef_table.specs.Sources.{IsKnown, name_of, rank_of}
-use Rattle.pcef_table.specs.Tables.{GoesBefore, IsTable, has_other_name, is_before, is_behind, is_slot, most_entries, placed, with_counting, without}
+use Rattle.pcef_table.specs.Sources.{IsKnown, is_named, name_of, rank_of}
+use Rattle.pcef_table.specs.Tables.{AreNamedApart, GoesBefore, IsTable, has_other_name, is_before, is_behind, is_slot, most_entries, placed, with_counting, without}
+use Rattle.std.proofs.lemmas.Slice.Eq.{bytes_eq-Decides}
+use Rattle.pcef_lists.proofs.Tests.{contrary}
 use Rattle.pcef_lists.proofs.Keeping.{filter_length, filters_apart}
 use Rattle.pcef_lists.proofs.Foremost.{ordered_head, ordered_tail}
 
@@ -38,12 +40,70 @@ ordered_around R chain (a ∷ front) x back front_ordered below back_ordered abo
     (All-cons (R a) x back a_below (All-weaker (R x) (R a) (λ b above_x. chain a x b a_below above_x) back above)))
     (ordered_around R chain front x back (ordered_tail R a front front_ordered) (All-tail (λ b. R b x) a front below) back_ordered above)
 
+-- ---- names
+-- an entry that has another name than x is named apart from it
+other_is_apart : (offers : List Offer) (x e : Entry) → has_other_name offers (name_of offers x.source) e ≡ true → AreNamedApart offers x e
+other_is_apart offers x e other same =
+    contrary (is_named offers (name_of offers x.source) e.source) ((bytes_eq-Decides (name_of offers e.source) (name_of offers x.source)).1 (sym same)) (not_true (is_named offers (name_of offers x.source) e.source) other)
+  where
+    not_true : (b : Bool) → not b ≡ true → b ≡ false
+    not_true true e = absurd cc
+    not_true false e = refl
+
+-- what stands between each of some elements and x, and between each of them and each of a list
+one_more_apart : {X : Type 0} (R : X → X → Type 0) (x : X) (l ys : List X) → All (λ a. R a x) ys → All (λ a. All (R a) l) ys → All (λ a. All (R a) (x ∷ l)) ys
+one_more_apart R x l [] first others = All-nil (λ a. All (R a) (x ∷ l))
+one_more_apart R x l (y ∷ ys) first others =
+    All-cons (λ a. All (R a) (x ∷ l)) y ys
+    (All-cons (R y) x l (All-head (λ a. R a x) y ys first) (All-head (λ a. All (R a) l) y ys others))
+    (one_more_apart R x l ys (All-tail (λ a. R a x) y ys first) (All-tail (λ a. All (R a) l) y ys others))
+
+-- where no element passes both filters, what stands between any two of a list stands between what they keep
+kept_apart : {X : Type 0} (R : X → X → Type 0) → ((a b : X) → R a b → R b a) → (p q : X → Bool) → ((x : X) → p x ≡ true → q x ≡ false) → (xs : List X) → AllPairs R xs → All (λ a. All (R a) (filter q xs)) (filter p xs)
+kept_apart R turned p q apart [] pairs = All-nil (λ a. All (R a) [])
+kept_apart R turned p q apart (x ∷ xs) pairs =
+    let head : All (R x) xs = ordered_head R x xs pairs in
+    let rest : All (λ a. All (R a) (filter q xs)) (filter p xs) = kept_apart R turned p q apart xs (ordered_tail R x xs pairs) in
+    elim (cases_Bool (p x)) [
+      | inl passes ↦ rw (passes, apart x passes) (All-cons (λ a. All (R a) (filter q xs)) x (filter p xs) (All-filter q (R x) xs head) rest)
+      | inr fails ↦
+          rw fails (cond_both (q x) (x ∷ filter q xs) (filter q xs) (λ l. All (λ a. All (R a) l) (filter p xs))
+          (λ _. one_more_apart R x (filter q xs) (filter p xs) (All-filter p (λ a. R a x) xs (All-weaker (R x) (λ a. R a x) (turned x) xs head)) rest)
+          (λ _. rest))
+    ]
+
+-- what stands between any two of each of two lists, and between each of the first and each of the second
+pairs_around : {X : Type 0} (R : X → X → Type 0) (front back : List X) → AllPairs R front → AllPairs R back → All (λ a. All (R a) back) front → AllPairs R (front ++ back)
+pairs_around R [] back front_pairs back_pairs between = back_pairs
+pairs_around R (a ∷ front) back front_pairs back_pairs between =
+    AllPairs-cons R a (front ++ back)
+    (All-append (R a) front back (ordered_head R a front front_pairs) (All-head (λ b. All (R b) back) a front between))
+    (pairs_around R front back (ordered_tail R a front front_pairs) back_pairs (All-tail (λ b. All (R b) back) a front between))
+
 -- some entries of a table are a table
 pub part_is_table : (offers : List Offer) (test : Entry → Bool) (entries : List Entry) → IsTable offers entries → IsTable offers (filter test entries)
 part_is_table offers test entries table = record {
   known = All-filter test (λ e. IsKnown offers e.source) entries table.known;
   ordered = AllPairs-filter (GoesBefore offers) test entries table.ordered;
+  names = AllPairs-filter (AreNamedApart offers) test entries table.names;
 }
+
+-- what goes before x doesn't go behind it
+pub apart : (a x : Rank) → goes_before a x ≡ true → goes_before x a ≡ false
+apart a x before = ap is_lt (rank_total.antisymm x a ∙ ap ordering_reverse (less_if (rank_cmp a x) before))
+
+-- an entry in its place among those of other names leaves the names apart
+placed_names : (offers : List Offer) (x : Entry) (others : List Entry) → All (AreNamedApart offers x) others → AllPairs (AreNamedApart offers) others →
+    AllPairs (AreNamedApart offers) (filter (is_before offers x) others ++ x ∷ filter (is_behind offers x) others)
+placed_names offers x others other pairs =
+    let front = filter (is_before offers x) others in
+    let back = filter (is_behind offers x) others in
+    pairs_around (AreNamedApart offers) front (x ∷ back)
+    (AllPairs-filter (AreNamedApart offers) (is_before offers x) others pairs)
+    (AllPairs-cons (AreNamedApart offers) x back (All-filter (is_behind offers x) (AreNamedApart offers x) others other) (AllPairs-filter (AreNamedApart offers) (is_behind offers x) others pairs))
+    (one_more_apart (AreNamedApart offers) x back front
+    (All-filter (is_before offers x) (λ a. AreNamedApart offers a x) others (All-weaker (AreNamedApart offers x) (λ a. AreNamedApart offers a x) (λ a differs same. differs (sym same)) others other))
+    (kept_apart (AreNamedApart offers) (λ a b differs same. differs (sym same)) (is_before offers x) (is_behind offers x) (λ e. apart (rank_of offers e.source) (rank_of offers x.source)) others pairs))
 
 -- a table with an entry in its place is a table
 pub placed_is_table : (offers : List Offer) (x : Entry) (entries : List Entry) → IsKnown offers x.source → IsTable offers entries → IsTable offers (placed offers x entries)
@@ -61,6 +121,7 @@ placed_is_table offers x entries x_known table =
           front x back
           (AllPairs-filter (GoesBefore offers) (is_before offers x) others rest.ordered) (filter_passes (is_before offers x) others)
           (AllPairs-filter (GoesBefore offers) (is_behind offers x) others rest.ordered) (filter_passes (is_behind offers x) others);
+      names = placed_names offers x others (All-weaker (λ e. has_other_name offers (name_of offers x.source) e ≡ true) (AreNamedApart offers x) (other_is_apart offers x) others (filter_passes (has_other_name offers (name_of offers x.source)) entries)) rest.names;
     }
 
 -- what holds of an entry's rule still holds where its slot is counted or not
@@ -84,11 +145,11 @@ counting_is_table offers slot on entries table = record {
       (λ a b before. counted_keeps (λ s. IsTrue (goes_before (rank_of offers s) (rank_of offers (with_counting slot on b).source))) slot on a
       (counted_keeps (λ s. IsTrue (goes_before (rank_of offers a.source) (rank_of offers s))) slot on b before))
       entries table.ordered;
+  names = ordered_after (AreNamedApart offers) (with_counting slot on)
+      (λ a b apart. counted_keeps (λ s. name_of offers s ≢ name_of offers (with_counting slot on b).source) slot on a
+      (counted_keeps (λ s. name_of offers a.source ≢ name_of offers s) slot on b apart))
+      entries table.names;
 }
-
--- what goes before x doesn't go behind it
-pub apart : (a x : Rank) → goes_before a x ≡ true → goes_before x a ≡ false
-apart a x before = ap is_lt (rank_total.antisymm x a ∙ ap ordering_reverse (less_if (rank_cmp a x) before))
 
 -- an entry in its place makes a table longer by one at most
 pub placed_length : (offers : List Offer) (x : Entry) (entries : List Entry) → length (placed offers x entries) ≤ length entries + 1
@@ -113,4 +174,5 @@ pub empty_is_table : (offers : List Offer) (entries : List Entry) → entries �
 empty_is_table offers entries empty = rw empty (record {
   known = All-nil (λ e. IsKnown offers e.source);
   ordered = λ i j d below within. absurd (omega arith);
+  names = λ i j d below within. absurd (omega arith);
 })

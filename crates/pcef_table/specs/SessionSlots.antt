@@ -29,3 +29,8 @@ with_slot (Some slot) flags = set flags slot.0 true
 abbrev pub slots_counted : List Offer → TableValue → Verdict → List Slot
 slots_counted offers t (Passed rule bearer) = slots_up (with_slot (slot_for offers t.entries (Passed rule bearer)) t.session)
 slots_counted offers t _ = []
+
+-- the same, where the counted slot of the rule that let it pass is known
+abbrev pub slots_beside : Option Slot → List Bool → Verdict → List Slot
+slots_beside slot flags (Passed rule bearer) = slots_up (with_slot slot flags)
+slots_beside slot flags _ = []

@@ -1,5 +1,5 @@
 -- A generation, and what its operations make of its entries.
-use Rattle.std.specs.Prelude.{ℕ, ◌==◌, Bool, false, not, List, ◌∷◌, ◌++◌, Option, Some, None, All, AllPairs, filter, if◌then◌else◌, IsTrue}
+use Rattle.std.specs.Prelude.{ℕ, ◌==◌, ◌≢◌, Bool, false, not, List, ◌∷◌, ◌++◌, Option, Some, None, All, AllPairs, filter, if◌then◌else◌, IsTrue}
 use Rattle.pcef_rule.specs.declared.quantity.Slot.{Slot}
 use Rattle.pcef_rule.specs.Precedence.{goes_before}
 use Rattle.pcef_catalog.specs.declared.listing.Offer.{Offer}
@@ -23,10 +23,16 @@ most_entries = 64
 abbrev pub GoesBefore : List Offer → Entry → Entry → Type 0
 GoesBefore offers a b = IsTrue (goes_before (rank_of offers a.source) (rank_of offers b.source))
 
--- the entries of a table over these offers: each rule is known, and goes before all after it
+-- two entries' rules have different names
+abbrev pub AreNamedApart : List Offer → Entry → Entry → Type 0
+AreNamedApart offers a b = name_of offers a.source ≢ name_of offers b.source
+
+-- the entries of a table over these offers: each rule is known, and goes before all after it, and no two
+-- have one name
 pub record IsTable (offers : List Offer) (entries : List Entry) : Type 0 where
   pub known : All (λ e. IsKnown offers e.source) entries
   pub ordered : AllPairs (GoesBefore offers) entries
+  pub names : AllPairs (AreNamedApart offers) entries
 
 -- what is a table over some offers stays one
 abbrev pub StaysTable : List Entry → List Entry → Type 0

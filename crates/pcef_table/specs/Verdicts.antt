@@ -1,6 +1,6 @@
 -- What a generation decides of a packet (TS 23.203, clause 6.2.2).
 use Rattle.std.specs.Prelude.{◌≡◌, ◌⊎◌, true, false, List, Option, Some, None, All, Contains, find, if◌then◌else◌}
-use Rattle.std.specs.Option.{option_map_or}
+use Rattle.std.specs.Option.{option_map, option_map_or}
 use Rattle.pcef_packet.specs.declared.header.Addr.{Addr}
 use Rattle.pcef_packet.specs.declared.header.Dir.{Dir}
 use Rattle.pcef_packet.specs.declared.header.Header.{Header}
@@ -42,6 +42,15 @@ IsVerdict offers entries ue header (Passed rule bearer) =
 
 abbrev pub counted_slot : Entry → Option Slot
 counted_slot e = if e.counted then e.slot else None
+
+-- what the gate of an entry's rule decides of a packet of this direction
+abbrev pub verdict_by : List Offer → Dir → Entry → Option Verdict
+verdict_by offers dir e = option_map (λ p. gate_verdict p e.bearer dir) (properties_of offers e.source)
+
+-- the slot that a packet counts for of which this entry decided so
+abbrev pub slot_by : Entry → Verdict → Option Slot
+slot_by e (Passed rule bearer) = counted_slot e
+slot_by e _ = None
 
 -- the slot that a packet with this verdict counts for: that of the rule that let it pass, where the
 -- slot is counted

@@ -1,10 +1,10 @@
 //! What entries decide of a packet.
 
-ghost use Rattle.std.specs.Prelude.{◌≡◌, All, IfSome, find, None};
+ghost use Rattle.std.specs.Prelude.{◌≡◌, All, IfSome, find, Some, None};
 ghost use Rattle.std.specs.Option.{option_copied, option_map_or};
 ghost use Rattle.pcef_packet.specs.Addresses.{is_assigned, ue_side};
 ghost use Rattle.pcef_table.specs.Sources.{IsKnown, fits, is_named};
-ghost use Rattle.pcef_table.specs.Verdicts.{counted_slot, gate_verdict};
+ghost use Rattle.pcef_table.specs.Verdicts.{counted_slot, gate_verdict, slot_by, verdict_by};
 
 use crate::entry::Entry;
 use pcef_catalog::{Detects, Offers};
@@ -56,6 +56,29 @@ fn counted_slot(entry: &Entry) -> Option<Slot>
     ensures { result ≡ counted_slot entry.now }
 {
     if entry.counted { entry.slot } else { None }
+}
+
+/// The slot that a packet counts for of which this entry decided so.
+fn slot_by(entry: &Entry, verdict: &Verdict) -> Option<Slot>
+    ensures { result ≡ slot_by entry.now verdict.now }
+{
+    match verdict {
+        Verdict::Passed { .. } => counted_slot(entry),
+        _ => None,
+    }
+}
+
+/// What the gate of an entry's rule decides of a packet of this direction, and the slot that the packet
+/// counts for.
+pub fn judged_by<C: Offers>(catalog: &C, entry: &Entry, dir: Dir) -> (Verdict, Option<Slot>)
+    requires { IsKnown (C.offers catalog.now) entry.now.source }
+    ensures verdict { verdict_by (C.offers catalog.now) dir entry.now ≡ Some result.0 }
+    ensures slot { result.1 ≡ slot_by entry.now result.0 }
+{
+    let properties = entry.source.properties(catalog);
+    let verdict = gate_verdict(properties, entry.bearer, dir);
+    let slot = slot_by(entry, &verdict);
+    (verdict, slot)
 }
 
 /// The slot of the entry of a name, where it is counted.

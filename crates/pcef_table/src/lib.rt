@@ -8,6 +8,6 @@ mod session_slots;
 mod source;
 mod table;
 
-pub use deciding::{gate_verdict, is_own};
+pub use deciding::{gate_verdict, is_own, judged_by};
 pub use entry::{Entry, Source};
 pub use table::{MAX_ENTRIES, Table};

@@ -1,9 +1,9 @@
 //! The table of a generation.
 
-ghost use Rattle.std.specs.Prelude.{◌≡◌, ◌≤◌, ◌<◌, ◌+◌, ◌^◌, [], IfOk, length, map, set, slice_get};
+ghost use Rattle.std.specs.Prelude.{◌≡◌, ◌≤◌, ◌<◌, ◌+◌, ◌^◌, [], IfOk, IfSome, find, length, map, set, slice_get};
 ghost use Rattle.std.specs.Option.{option_copied};
-ghost use Rattle.pcef_table.specs.SessionSlots.{no_slots, slots_counted, slots_up};
-ghost use Rattle.pcef_table.specs.Sources.{IsKnown};
+ghost use Rattle.pcef_table.specs.SessionSlots.{no_slots, slots_beside, slots_counted, slots_up};
+ghost use Rattle.pcef_table.specs.Sources.{IsKnown, fits};
 ghost use Rattle.pcef_table.specs.Tables.{IsTable, StaysTable, most_entries, placed, with_counting, without, without_bearer, without_taken};
 ghost use Rattle.pcef_table.specs.Verdicts.{IsVerdict, slot_for};
 
@@ -237,6 +237,21 @@ impl Table {
         slots_up(&self.session)
     }
 
+    /// The first entry that fits a packet, for a session with this address.
+    pub fn first_fitting<C: Detects>(
+        &self,
+        catalog: &C,
+        ue: Addr,
+        header: &Header,
+    ) -> Option<&Entry>
+        requires { IsTable (C.offers catalog.now) self.now.entries }
+        ensures known { IfSome result (λ e. IsKnown (C.offers catalog.now) e.now.source) }
+        ensures first { option_copied result
+            ≡ find (λ e. fits (C.offers catalog.now) ue header.now e.source) self.now.entries }
+    {
+        first_fitting(catalog, self.entries(), ue, header)
+    }
+
     /// What the generation decides of a packet, for a session with this address
     /// (TS 23.203, clause 6.2.2). Takes no memory.
     pub fn classify<C: Detects>(&self, catalog: &C, ue: Addr, header: &Header) -> Verdict
@@ -272,8 +287,16 @@ impl Table {
         requires { IsTable (C.offers catalog.now) self.now.entries }
         ensures { result.items ≡ slots_counted (C.offers catalog.now) self.now verdict.now }
     {
+        self.slots_beside(verdict, self.counts(catalog, verdict))
+    }
+
+    /// The slots that a packet with this verdict counts for, where this one is that of the rule that let it
+    /// pass, in slot order. Takes no memory.
+    pub fn slots_beside(&self, verdict: &Verdict, slot: Option<Slot>) -> ArrayVec<Slot, 8>
+        ensures { result.items ≡ slots_beside slot self.now.session verdict.now }
+    {
         match verdict {
-            Verdict::Passed { .. } => slots_up(&with_slot(self.counts(catalog, verdict), self.session)),
+            Verdict::Passed { .. } => slots_up(&with_slot(slot, self.session)),
             _ => ArrayVec::new(),
         }
     }

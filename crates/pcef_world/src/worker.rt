@@ -31,8 +31,7 @@ impl Worker {
         requires few { handed_over ≤ 4294967295 }
         ensures { IsJudged (C.offers catalog.now) ue header.now handed_over self.now result }
     {
-        let verdict = self.held.classify(catalog, ue, header);
-        let slots = self.held.table().slots_counted(catalog, &verdict);
+        let (verdict, slots) = self.held.judged(catalog, ue, header);
         Item {
             row: Row {
                 worker: self.number,

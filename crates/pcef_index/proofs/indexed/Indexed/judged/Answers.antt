@@ -1,0 +1,33 @@
+use Rattle.std.proofs.Common.{◌∙◌, ap, sym}
+use Rattle.pcef_table.specs.declared.entry.Entry.{Entry}
+use Rattle.pcef_table.specs.SessionSlots.{slots_beside}
+use Rattle.pcef_table.specs.Sources.{fits}
+use Rattle.pcef_table.specs.Tables.{TableValue}
+use Rattle.pcef_table.proofs.Decided.{beside_counted, entry_counts, entry_decides, found_there}
+use Rattle.pcef_lists.proofs.Foremost.{none_passes}
+use Rattle.pcef_index.proofs.indexed.Indexed.judged.Goals as goal
+
+pub returns-in-None-clause-verdict : goal.returns-in-None-clause-verdict
+returns-in-None-clause-verdict g c =
+    let offers = g.C.Offers.offers c.args.catalog.now in
+    let passes = λ (e : Entry). fits offers c.args.ue c.args.header.now e.source in
+    (sym c.is_own.ensures ∙ c.if-not-is_own.false, none_passes passes c.args.self.now.entries (sym c.in-None.ensures.first))
+
+pub returns-in-Some-clause-verdict : goal.returns-in-Some-clause-verdict
+returns-in-Some-clause-verdict g c =
+    let offers = g.C.Offers.offers c.args.catalog.now in
+    entry_decides offers c.args.self.now.entries c.args.ue c.args.header.now c.in-Some.entry.now c.judged_by-verdict.result.0
+    (sym c.is_own.ensures ∙ c.if-not-is_own.false) c.requires.ordered (sym c.in-Some.ensures.first) c.judged_by-verdict.ensures.verdict
+
+pub returns-in-Some-clause-slots : goal.returns-in-Some-clause-slots
+returns-in-Some-clause-slots g c =
+    let offers = g.C.Offers.offers c.args.catalog.now in
+    let entries = c.args.self.now.entries in
+    let entry = c.in-Some.entry.now in
+    let own = c.judged_by-verdict.ensures.slot
+    ∙ entry_counts offers entries entry c.args.header.now.dir c.judged_by-verdict.result.0 c.requires.names
+    (found_there offers entries c.args.ue c.args.header.now entry c.requires.ordered (sym c.in-Some.ensures.first)) c.judged_by-verdict.ensures.verdict in
+    c.slots_beside-slots.ensures
+    ∙ ap (λ (t : TableValue). slots_beside c.judged_by-verdict.result.1 t.session c.judged_by-verdict.result.0) c.self.view_is
+    ∙ ap (λ o. slots_beside o c.args.self.now.session c.judged_by-verdict.result.0) own
+    ∙ beside_counted offers c.args.self.now c.judged_by-verdict.result.0
