@@ -188,9 +188,9 @@ other_key p j key (Some other) clash session =
     elim (cases_Bool (same_name key other)) [
       | inr differs ↦ differs
       | inl same ↦ absurd (
-        let is : is_among other (now p j).session ≡ true = ap (λ k. is_among k (now p j).session) (sym (same_name_is key other same)) ∙ session in
-        let there : is_among other (slots p j) ≡ true = session_has_slot p j other is in
-        let clashing : true ≡ false = rw (there, is) at clash in cc)
+          let is : is_among other (now p j).session ≡ true = ap (λ k. is_among k (now p j).session) (sym (same_name_is key other same)) ∙ session in
+          let there : is_among other (slots p j) ≡ true = session_has_slot p j other is in
+          let clashing : true ≡ false = rw (there, is) at clash in cc)
     ]
 
 rules_without : (p : Setting) (j : Journal) (c : Command) (key : List ℕ) → first_of (refusals p j c) ≡ None → changes p j c ≡ true → is_among key (now p j).session ≡ true →

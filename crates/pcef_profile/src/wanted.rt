@@ -68,7 +68,9 @@ impl Wanted {
 impl Display for Wanted {
     fn fmt<W: Write>(&self, f: &mut Formatter<W>) -> fmt::Result {
         match self {
-            Wanted::Address => f.write_str("an address in quotes, as \"10.0.0.2\" or \"2001:db8::2\","),
+            Wanted::Address => f.write_str(
+                "an address in quotes, as \"10.0.0.2\" or \"2001:db8::2\",",
+            ),
             Wanted::Number(least, most) => write!(f, "a whole number from {least} to {most}"),
             Wanted::Flag => f.write_str("true or false"),
             Wanted::Kind => f.write_str("\"GBR\" or \"NON-GBR\""),

@@ -228,7 +228,7 @@ agrees_commanded p j c x old new bearer agrees is =
     let told : now p (told_by (subscribed_by c old.triggers).usage_report (plan p j c) (entered p c old.keys) (entry.Command c ∷ j)) ≡ now p (entry.Command c ∷ j) =
     ap (now p) journal ∙ now_after p j c in
     let levels : AllByRecursion (λ (s : KeyState). s.level ≡ level_of (now p (told_by (subscribed_by c old.triggers).usage_report (plan p j c) (entered p c old.keys) (entry.Command c ∷ j))) s.key)
-        (left_by (subscribed_by c old.triggers).usage_report (plan p j c) (entered p c old.keys)) =
+    (left_by (subscribed_by c old.triggers).usage_report (plan p j c) (entered p c old.keys)) =
     subst (λ (g : Generation). AllByRecursion (λ (s : KeyState). s.level ≡ level_of g s.key) (left_by (subscribed_by c old.triggers).usage_report (plan p j c) (entered p c old.keys))) (sym told)
     (levels_commanded p j c old (subscribed_by c old.triggers).usage_report agrees is.accepted (ended.keys_are ∙ ap (slots p) journal ∙ slots_after p j c)) in
     record {
