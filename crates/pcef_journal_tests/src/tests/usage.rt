@@ -398,6 +398,30 @@ fn eight_keys_have_slots(rt: HostRuntime) -> Result<(), Fail> {
     Ok(())
 }
 
+/// What a key is answered that is named at session level, at rule level and at session level again, and its level, where
+/// the text is a name.
+fn levels_of(usage: &mut Usage, name: &str) -> Option<([Result<Slot, SlotFault>; 3], Level)> {
+    let key = KeyName::new(name).ok()?;
+    let first = usage.slot(&key, Level::Session);
+    let other = usage.slot(&key, Level::Rule);
+    let again = usage.slot(&key, Level::Session);
+    if usage.states().is_empty() {
+        return None;
+    }
+    Some(([first, other, again], usage.level(Slot(0))))
+}
+
+#[test]
+fn a_key_keeps_its_level(rt: HostRuntime) {
+    let mut usage = Usage::new();
+    let slot = Ok(Slot(0));
+    let answers = [slot, Err(SlotFault::LevelClash), slot];
+    assert_eq!(rt;
+        levels_of(&mut usage, "all"),
+        Some((answers, Level::Session))
+    );
+}
+
 /// The figures of the second key: when it is new, after it was switched on and counted, after a report and three octets
 /// more, and after it was switched off; then those of the first key, and the octets of the report.
 fn switched_and_counted(

@@ -10,7 +10,7 @@ use pcef_model::Verdict;
 use pcef_packet::{Dir, Header};
 use pcef_rule::{BearerId, Gate, RuleName, Slot};
 use pcef_table::Table;
-use std::alloc::Global;
+use std::alloc::{AllocError, Global};
 use std::process::Abort;
 
 /// What is expected of a packet.
@@ -295,6 +295,33 @@ const DECIDED_BESIDE_A: [Row; 3] = [
         Want::Passed("b", 5),
     ),
 ];
+
+/// Whether a table has these slots of session level and no others, in slot order.
+fn has_session_slots(table: &Table, slots: &[Slot]) -> bool {
+    table.session_slots().as_slice() == slots
+}
+
+/// Whether a table without rules has the slots of session level that are due: none; 0 and 2, where 2 was named first; 0,
+/// once 2 is off; and 0 again in the generation without rules after it.
+fn session_slots_come_and_go(alloc: Global) -> Result<[bool; 4], AllocError> {
+    let empty = Table::empty(alloc, 0)?;
+    let both = empty
+        .counting_session(Slot(2), true)?
+        .counting_session(Slot(0), true)?;
+    let first = both.counting_session(Slot(2), false)?;
+    let cleared = first.cleared()?;
+    Ok([
+        has_session_slots(&empty, &[]),
+        has_session_slots(&both, &[Slot(0), Slot(2)]),
+        has_session_slots(&first, &[Slot(0)]),
+        has_session_slots(&cleared, &[Slot(0)]),
+    ])
+}
+
+#[test]
+fn slots_of_session_level(rt: HostRuntime) {
+    assert_eq!(rt; session_slots_come_and_go(rt.alloc()), Ok([true; 4]));
+}
 
 #[test]
 fn an_installed_rule_goes_before_a_predefined_one_of_its_precedence(rt: HostRuntime) {
