@@ -1,13 +1,13 @@
 //! `pcef_capture`: writes the packets of a capture file as lines of a script.
 //!
 //! `pcef_capture --ue ADDRESS [--workers N] [--pad] FILE` writes a `take` line for each packet that goes
-//! from the address or to it, and a `flush` line after every 32 and at the end. What was counted is told on
-//! standard error.
+//! from the session of the address or to it, and a `flush` line after every 32 and at the end. What was
+//! counted is told on standard error.
 #![tactic(auto)]
 
 use clap::{Error, error};
 use pcef_capture_file::{Capture, CaptureFault, read_capture};
-use pcef_capture_script::{Counts, End, Options, asked, write_takes};
+use pcef_capture_script::{Counts, End, Options, Request, asked, write_takes};
 use std::io::{self, BufWriter, ErrorKind, Write};
 use std::process::ExitCode;
 use std::{env, fs};
@@ -23,8 +23,8 @@ fn end_of(error: io::Error, other: End) -> End {
 /// Tells what was counted. That it can't be told changes nothing.
 fn tell(rt: &HostRuntime, counts: &Counts) {
     let _ = eprintln!(rt;
-        "read {}, taken {}, not IPv4 {}, cut {}, on neither side {}",
-        counts.read, counts.taken, counts.not_ipv4, counts.cut, counts.neither
+        "read {}, taken {}, not IP {}, cut {}, on neither side {}",
+        counts.read, counts.taken, counts.not_ip, counts.cut, counts.neither
     );
 }
 
@@ -133,12 +133,18 @@ fn status(rt: &HostRuntime) -> u8 {
         Err(_) => return told(rt, "", &End::NoMemory),
     };
     match asked(rt.alloc(), words.as_slice()) {
-        Ok(Some(options)) => {
+        Ok(Some(Request::Options(options))) => {
             let end = run(rt, &options);
             told(rt, options.file, &end)
         }
+        Ok(Some(Request::NoAddress(text))) => {
+            let _ = eprintln!(rt;
+                "usage: --ue {text:?}: an address is expected, as 10.0.0.2 or 2001:db8::2"
+            );
+            2
+        }
         Ok(None) => {
-            let _ = eprintln!(rt; "usage: --ue wants an IPv4 address");
+            let _ = eprintln!(rt; "usage: an option has no value");
             2
         }
         Err(error) => told_by(rt, &error),

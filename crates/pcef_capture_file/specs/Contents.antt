@@ -7,9 +7,10 @@ use Rattle.pcef_capture_file.specs.Captured.{Captured}
 use Rattle.pcef_capture_file.specs.Directions.{direction_in}
 use Rattle.pcef_capture_file.specs.Frames.{ip_in}
 use Rattle.pcef_capture_file.specs.declared.content.Content.{Content}
-use Rattle.pcef_capture_file.specs.declared.content.Content.TheVariants.{Packet, Neither, Cut, NotIpv4}
+use Rattle.pcef_capture_file.specs.declared.content.Content.TheVariants.{Packet, Neither, Cut, NotIp}
 
--- these octets stand in the frame where IPv4 is said to
+-- These octets stand in the frame where an IP packet is said to. Of which version it is, its own first octet tells,
+-- whatever version the type or family before it is of (own choice).
 abbrev pub Holds : Captured → List ℕ → Type 0
 Holds p octets = ip_in p.link p.endianness p.octets ≡ Some octets
 
@@ -22,5 +23,5 @@ IsContent ue p (Packet dir octets) = Holds p octets.now × (direction_in ue octe
 IsContent ue p Neither = (octets : List ℕ) × Holds p octets × (direction_in ue octets ≡ Ok None)
 IsContent ue p (Cut octets) =
     IsCut p × Holds p octets.now × (f : PacketFault) × (direction_in ue octets.now ≡ Err f) × (f ≢ fault.Version)
-IsContent ue p NotIpv4 =
+IsContent ue p NotIp =
     (octets : List ℕ) → Holds p octets → (f : PacketFault) × (direction_in ue octets ≡ Err f) × ((f ≡ fault.Version) ⊎ (p.original ≤ length p.octets))

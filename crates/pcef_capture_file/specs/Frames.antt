@@ -33,7 +33,8 @@ behind_type octets place =
     then behind octets (past_tag octets (past_tag octets place) + 2)
     else None
 
--- the protocol family of IPv4, which is 2 on every system, or one of those of IPv6
+-- The protocol family of IPv4 is 2 on every system. That of IPv6 is 24 on NetBSD and OpenBSD, 28 on FreeBSD, 30 on
+-- Darwin (the page of link type 0 in the registry of the tcpdump group); a file doesn't tell the system.
 unfoldable pub is_ip_family : ℕ → Bool
 is_ip_family family = (family == 2) || ((family == 24) || ((family == 28) || (family == 30)))
 
@@ -42,7 +43,7 @@ unfoldable pub behind_family : Endianness → List ℕ → Option (List ℕ)
 behind_family e octets = if nat_le 4 (length octets) && is_ip_family (number e octets 0 4) then behind octets 4 else None
 
 -- The type stands behind two addresses of six octets in Ethernet, at octets 14 and 15 of the first cooked
--- header, and in front of the second one, which has 20 octets.
+-- header, and in front of the second one, which has 20 octets (the pages of link types 1, 113 and 276 there).
 unfoldable pub ip_in : Link → Endianness → List ℕ → Option (List ℕ)
 ip_in Ethernet e octets = behind_type octets 12
 ip_in Raw e octets = Some octets

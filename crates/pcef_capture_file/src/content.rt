@@ -12,33 +12,35 @@ use pcef_packet::{Addr, Dir, PacketFault};
 /// What a frame is for the session of an address.
 #[derive(Clone, Copy, Debug, PartialEq, Eq)]
 pub enum Content<'a> {
-    /// It has a whole packet, which goes from the address (up) or to it (down).
+    /// It has a whole packet, which goes from the session (up) or to it (down).
     Packet(Dir, &'a [u8]),
-    /// It has a whole packet, with the address on neither side.
+    /// It has a whole packet, with the session on neither side.
     Neither,
     /// It was recorded in part, and so is the packet in it.
     Cut(&'a [u8]),
     /// It has no packet, or one whose header is wrong.
-    NotIpv4,
+    NotIp,
 }
 
-/// What a frame is for the session of an address. Takes no memory.
+/// What a frame is for the session of an address, whose side of a packet is the address itself in
+/// version 4 and any address of its /64 in version 6. Of which version a packet is, its own first octet
+/// tells: a type before it that says the other version changes nothing. Takes no memory.
 pub fn content_of<'a>(ue: Addr, packet: &Packet<'a>) -> Content<'a>
     ensures { IsContent ue (captured packet.now) result }
 {
     let is_cut = packet.octets.len() < packet.original as usize;
     let Some(octets) = ip_of(packet) else {
-        return Content::NotIpv4;
+        return Content::NotIp;
     };
     match direction_of(ue, octets) {
         Ok(Some(dir)) => Content::Packet(dir, octets),
         Ok(None) => Content::Neither,
-        Err(PacketFault::Version) => Content::NotIpv4,
+        Err(PacketFault::Version) => Content::NotIp,
         Err(_) => {
             if is_cut {
                 Content::Cut(octets)
             } else {
-                Content::NotIpv4
+                Content::NotIp
             }
         }
     }

@@ -68,7 +68,8 @@ fn is_ip_at(octets: &[u8], place: usize) -> bool
     is_type_at(octets, place, IPV4_TYPE) || is_type_at(octets, place, IPV6_TYPE)
 }
 
-/// Whether a protocol family of the loopback headers is that of IPv4 or one of those that systems have for IPv6.
+/// Whether a protocol family of the loopback headers is that of IPv4, or the one that a system has for
+/// IPv6: NetBSD and OpenBSD 24, FreeBSD 28, Darwin 30.
 #[tactic(auto, unfolding(crate::specs::Frames::is_ip_family))]
 fn is_ip_family(family: u32) -> bool
     ensures { result ≡ is_ip_family family }
@@ -102,9 +103,9 @@ fn behind_family(endianness: Endianness, octets: &[u8]) -> Option<&[u8]>
     }
 }
 
-/// The octets of a frame behind its link header, where that header says that an IP packet comes, or
-/// none. Raw frames have no header: all of them is given, whatever its version. Behind a packet padding
-/// may stand. Takes no memory.
+/// The octets of a frame behind its link header, where that header says that a packet of IPv4 or IPv6
+/// comes, or none. That the packet is of the version that the header says isn't looked at. Raw frames have
+/// no header: all of them is given. Behind a packet padding may stand. Takes no memory.
 #[tactic(auto, unfolding(crate::specs::Frames::ip_in))]
 pub fn ip_of<'a>(packet: &Packet<'a>) -> Option<&'a [u8]>
     ensures { option_map (λ o. o.now) result

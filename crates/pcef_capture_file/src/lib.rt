@@ -1,4 +1,4 @@
-//! Reads capture files: the packets that were recorded, and the IPv4 packets in them.
+//! Reads capture files: the frames that were recorded, and the IPv4 and IPv6 packets in them.
 #![tactic(auto)]
 
 mod block_packet;

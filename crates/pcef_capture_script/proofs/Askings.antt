@@ -4,7 +4,7 @@ use Rattle.std.specs.Prelude.{Option, None, Some, is_some, Result, Ok}
 use Rattle.std.proofs.lemmas.Bool.{false≢true}
 use Rattle.clap.specs.Words.{ReadsOne}
 
-none_differs : {T : Type 0} (v : T) → None ≡ Some v → ⊥
+pub none_differs : {T : Type 0} (v : T) → None ≡ Some v → ⊥
 none_differs v is = false≢true (ap is_some is)
 
 -- a value that was read has a text, which it is read of

@@ -2,13 +2,13 @@
 -- is which words are right; what the options mean is own choice.
 use Rattle.std.specs.Prelude.{◌≡◌, pos, true, false, List, [], ◌∷◌, Option, Some, codes}
 use Rattle.std.specs.Str.Parse.{digits_value, without_leading_plus}
-use Rattle.std.specs.Net.Addr.{ipv4_bits}
-use Rattle.std.specs.Net.Grammar.{IsIpv4Text}
-use Rattle.std.specs.declared.net.ipv4_addr.Ipv4Addr.{Ipv4Addr}
 use Rattle.clap.specs.Words.{App, Rule, Text, first_of, matches_of, new_app, new_rule, one_of, with_rule}
 use Rattle.clap.specs.declared.builder.action.ArgAction.TheVariants.{Set, SetTrue}
 use Rattle.clap.specs.declared.builder.value_parser.ValueParser.TheVariants.{Signed}
-use Rattle.pcef_packet.specs.declared.header.Addr.TheVariants.{V4}
+use Rattle.pcef_packet.specs.AddressTexts.{WritesAddress}
+use Rattle.pcef_packet.specs.declared.header.Addr.{Addr}
+use Rattle.pcef_capture_script.specs.declared.options.Request.{Request}
+use Rattle.pcef_capture_script.specs.declared.options.Request.TheVariants as request
 use Rattle.pcef_capture_script.specs.declared.options.Options.{Options}
 
 -- ---- the options: --ue ADDRESS, --workers N from 1 to 16, --pad; and FILE
@@ -38,17 +38,27 @@ command_line = with_rule (with_rule (with_rule (with_rule (new_app (codes "pcef_
 abbrev pub given : List Text → Text → Option Text
 given words name = one_of name (matches_of command_line words)
 
--- the address is the one that is written, and so is the number of workers; packets are padded where that is
--- asked for; the file is the one that is named
+-- the same, as it is written
+abbrev pub written : List Text → Text → Option Text
+written words name = first_of name (matches_of command_line words)
+
+-- the address is the one that is written, of either version, as a profile writes it, and the number of workers is
+-- the one that is written; packets are padded where that is asked for; the file is the one that is named
 pub record Asks (words : List Text) (o : Options) : Type 0 where
   pub address_text : Text
-  pub address : Ipv4Addr
-  pub ue_given : given words (codes "ue") ≡ Some address_text
-  pub ue_written : IsIpv4Text address_text address
-  pub ue : o.ue ≡ V4 (ipv4_bits address)
+  pub ue_given : written words (codes "ue") ≡ Some address_text
+  pub ue_written : WritesAddress address_text o.ue
   pub workers_text : Text
   pub workers_given : given words (codes "workers") ≡ Some workers_text
   pub workers : o.workers ≡ digits_value 10 (without_leading_plus workers_text)
   pub pads : given words (codes "pad") ≡ Some (codes "true") → o.pads ≡ true
   pub pads_not : given words (codes "pad") ≡ Some (codes "false") → o.pads ≡ false
-  pub file : first_of (codes "file") (matches_of command_line words) ≡ Some o.file.now
+  pub file : written words (codes "file") ≡ Some o.file.now
+
+-- the text that is given for the address writes none
+abbrev pub GivesNoAddress : List Text → Text → Type 0
+GivesNoAddress words text = (written words (codes "ue") ≡ Some text) × ((address : Addr) → ¬ WritesAddress text address)
+
+abbrev pub IsRequest : List Text → Request → Type 0
+IsRequest words (request.Options o) = Asks words o
+IsRequest words (request.NoAddress text) = GivesNoAddress words text.now

@@ -2,7 +2,7 @@
 use Rattle.std.specs.Prelude.{ℕ, ◌+◌, ◌-◌, ◌^◌, min, List, fold}
 use Rattle.pcef_capture_script.specs.declared.counts.Counts.{Counts}
 use Rattle.pcef_capture_script.specs.declared.counts.Outcome.{Outcome}
-use Rattle.pcef_capture_script.specs.declared.counts.Outcome.TheVariants.{Taken, NotIpv4, Cut, Neither}
+use Rattle.pcef_capture_script.specs.declared.counts.Outcome.TheVariants.{Taken, NotIp, Cut, Neither}
 
 -- one more, up to the greatest number
 abbrev pub more : ℕ → ℕ
@@ -10,12 +10,12 @@ more n = min (n + 1) (2 ^ 64 - 1)
 
 abbrev pub counted : Outcome → Counts → Counts
 counted Taken c = record c { read = more c.read; taken = more c.taken }
-counted NotIpv4 c = record c { read = more c.read; not_ipv4 = more c.not_ipv4 }
+counted NotIp c = record c { read = more c.read; not_ip = more c.not_ip }
 counted Cut c = record c { read = more c.read; cut = more c.cut }
 counted Neither c = record c { read = more c.read; neither = more c.neither }
 
 abbrev pub no_counts : Counts
-no_counts = record { read = 0; taken = 0; not_ipv4 = 0; cut = 0; neither = 0 }
+no_counts = record { read = 0; taken = 0; not_ip = 0; cut = 0; neither = 0 }
 
 -- the counts of all outcomes
 abbrev pub counts_of : List Outcome → Counts

@@ -9,7 +9,7 @@ use Rattle.pcef_capture_file.specs.Contents.{IsContent}
 use Rattle.pcef_capture_file.specs.Directions.{direction_in}
 use Rattle.pcef_capture_file.specs.Padding.{padded}
 use Rattle.pcef_capture_file.specs.declared.content.Content.{Content}
-use Rattle.pcef_capture_file.specs.declared.content.Content.TheVariants.{Packet, Neither, Cut, NotIpv4}
+use Rattle.pcef_capture_file.specs.declared.content.Content.TheVariants.{Packet, Neither, Cut, NotIp}
 use Rattle.pcef_capture_script.specs.Lines.{Item}
 use Rattle.pcef_capture_script.specs.declared.counts.Outcome.{Outcome}
 use Rattle.pcef_capture_script.specs.declared.counts.Outcome.TheVariants as outcome
@@ -31,7 +31,7 @@ fate_of ue pads Neither = (outcome.Neither, None)
 fate_of ue pads (Cut octets) =
     if pads then filled_fate (padded octets.now) (direction_in ue (padded octets.now))
     else (outcome.Cut, None)
-fate_of ue pads NotIpv4 = (outcome.NotIpv4, None)
+fate_of ue pads NotIp = (outcome.NotIp, None)
 
 abbrev pub IsFate : Addr → Bool → Captured → Fate → Type 0
 IsFate ue pads frame fate = (content : Content) × IsContent ue frame content × (fate ≡ fate_of ue pads content)

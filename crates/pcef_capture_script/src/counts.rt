@@ -8,11 +8,11 @@ ghost use Rattle.pcef_capture_script.specs.Counting.{counted};
 pub enum Outcome {
     /// Its packet has a line.
     Taken,
-    /// It has no packet of version 4, or one whose header is wrong.
-    NotIpv4,
+    /// It has no packet of IPv4 or IPv6, or one whose header is wrong.
+    NotIp,
     /// It was recorded in part, and its packet is left out.
     Cut,
-    /// The session's address is on neither side of its packet.
+    /// The session is on neither side of its packet.
     Neither,
 }
 
@@ -23,8 +23,8 @@ pub struct Counts {
     pub read: u64,
     /// Those of [`Outcome::Taken`].
     pub taken: u64,
-    /// Those of [`Outcome::NotIpv4`].
-    pub not_ipv4: u64,
+    /// Those of [`Outcome::NotIp`].
+    pub not_ip: u64,
     /// Those of [`Outcome::Cut`].
     pub cut: u64,
     /// Those of [`Outcome::Neither`].
@@ -39,7 +39,7 @@ impl Counts {
         self.read = self.read.saturating_add(1);
         match outcome {
             Outcome::Taken => self.taken = self.taken.saturating_add(1),
-            Outcome::NotIpv4 => self.not_ipv4 = self.not_ipv4.saturating_add(1),
+            Outcome::NotIp => self.not_ip = self.not_ip.saturating_add(1),
             Outcome::Cut => self.cut = self.cut.saturating_add(1),
             Outcome::Neither => self.neither = self.neither.saturating_add(1),
         }

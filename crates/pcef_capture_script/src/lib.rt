@@ -9,5 +9,5 @@ mod turn;
 
 pub use counts::{Counts, Outcome};
 pub use end::End;
-pub use options::{Options, asked, command};
+pub use options::{Options, Request, asked, command};
 pub use takes::write_takes;

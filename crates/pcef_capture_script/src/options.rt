@@ -3,17 +3,16 @@
 ghost use Rattle.std.specs.Prelude.{◌≡◌, ℕ, List, IfErr, IfOk, IfSome, false, map, string_bytes, true};
 ghost use Rattle.clap.specs.Words.{app_of, found_of, kind_of, matches_of, rows_of, rule_of, takes};
 ghost use Rattle.clap.specs.declared.error.kind.ErrorKind.TheVariants.{OutOfMemory};
-ghost use Rattle.pcef_capture_script.specs.CommandLine.{Asks, command_line, file_rule, pad_rule, ue_rule, workers_rule};
+ghost use Rattle.pcef_capture_script.specs.CommandLine.{command_line, file_rule, IsRequest, pad_rule, ue_rule, workers_rule};
 
 use clap::{Arg, ArgAction, ArgMatches, Command, Error, value_parser};
 use pcef_packet::Addr;
 use std::alloc::{AllocError, Global};
-use std::net::Ipv4Addr;
 
 /// What the program is asked for.
 #[derive(Clone, Copy)]
 pub struct Options<'a> {
-    /// The session's address.
+    /// The session's address, of either version.
     pub ue: Addr,
     /// How many workers take packets in turn: 1 to 16.
     pub workers: u8,
@@ -21,6 +20,15 @@ pub struct Options<'a> {
     pub pads: bool,
     /// The path of the capture file.
     pub file: &'a str,
+}
+
+/// What the words come to.
+#[derive(Clone, Copy)]
+pub enum Request<'a> {
+    /// They ask for this.
+    Options(Options<'a>),
+    /// They give this text as the session's address, and it writes none.
+    NoAddress(&'a str),
 }
 
 fn ue<'a>(alloc: Global) -> Arg<'a>
@@ -32,7 +40,7 @@ fn ue<'a>(alloc: Global) -> Arg<'a>
         .value_name("ADDRESS")
         .required(true)
         .action(ArgAction::Set)
-        .help("The session's IPv4 address: its side of a packet gives the direction")
+        .help("The session's IPv4 or IPv6 address; an IPv6 session has all addresses of its /64")
 }
 
 fn workers<'a>(alloc: Global) -> Arg<'a>
@@ -81,28 +89,32 @@ pub fn command<'a>(alloc: Global) -> Result<Command<'a>, AllocError>
         .arg(file(alloc))
 }
 
-/// The options of a command line that clap took, or none where the address isn't one.
-fn found<'a>(matches: &ArgMatches<'a>) -> Option<Options<'a>>
+/// What a command line that clap took comes to, or none where an option has no value.
+fn found<'a>(matches: &ArgMatches<'a>) -> Option<Request<'a>>
     ensures { (words : List (List ℕ)) →
         rows_of (found_of matches.now) ≡ matches_of command_line words
-        → IfSome result (Asks words) }
+        → IfSome result (IsRequest words) }
 {
-    let ue = matches.get_one::<Ipv4Addr>("ue")?;
+    let text = matches.get_str("ue")?;
+    let Some(ue) = Addr::from_text(text.as_bytes()) else {
+        return Some(Request::NoAddress(text));
+    };
     let workers = matches.get_one::<u8>("workers")?;
     let file = matches.get_str("file")?;
-    Some(Options {
-        ue: Addr::V4(ue.to_bits()),
+    Some(Request::Options(Options {
+        ue,
         workers,
         pads: matches.get_flag("pad"),
         file,
-    })
+    }))
 }
 
-/// What the words ask for, of which the first is the program's name; or none where the address isn't one. Other wrong
-/// words are clap's error, and so are the questions for help and for the version; want of memory too. Takes memory.
-pub fn asked<'a>(alloc: Global, words: &'a [String]) -> Result<Option<Options<'a>>, Error>
+/// What the words come to, of which the first is the program's name. Other wrong words than an address that isn't one
+/// are clap's error, and so are the questions for help and for the version; want of memory too. None would be an option
+/// without a value, which clap doesn't pass. Takes memory.
+pub fn asked<'a>(alloc: Global, words: &'a [String]) -> Result<Option<Request<'a>>, Error>
     ensures asks { IfOk result
-        (λ options. IfSome options (Asks (map string_bytes words.entry.now))) }
+        (λ request. IfSome request (IsRequest (map string_bytes words.entry.now))) }
     ensures takes { IfErr result (λ error.
         takes command_line (map string_bytes words.entry.now) ≡ true →
         kind_of error ≡ OutOfMemory) }

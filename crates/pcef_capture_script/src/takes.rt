@@ -131,7 +131,7 @@ fn write_packet<W: Write>(
             }
         }
         Content::Neither => Ok(Outcome::Neither),
-        Content::NotIpv4 => Ok(Outcome::NotIpv4),
+        Content::NotIp => Ok(Outcome::NotIp),
     }
 }
 

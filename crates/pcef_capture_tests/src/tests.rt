@@ -3,5 +3,6 @@
 mod classic;
 mod frames;
 mod packets;
+mod packets_v6;
 mod pcapng;
 mod script;

@@ -1,10 +1,10 @@
-//! Frames of every link, with and without IPv4 in them.
+//! Frames of every link, with and without a packet in them.
 use pcef_capture_file::{Endianness, Link, Packet, ip_of};
 
 /// How many octets stand behind the link header, and the first.
 type Inside = (usize, Option<u8>);
 
-/// What stands behind the link header, where this is IPv4.
+/// What stands behind the link header, where a packet is said to.
 fn inside(link: Link, endianness: Endianness, octets: &[u8]) -> Option<Inside> {
     let packet = Packet {
         link,
@@ -13,7 +13,7 @@ fn inside(link: Link, endianness: Endianness, octets: &[u8]) -> Option<Inside> {
         octets,
     };
     match ip_of(&packet) {
-        Some(ipv4) => Some((ipv4.len(), ipv4.first().copied())),
+        Some(ip) => Some((ip.len(), ip.first().copied())),
         None => None,
     }
 }
@@ -109,4 +109,62 @@ fn linux_cooked(rt: HostRuntime) {
         inside(Link::LinuxCooked2, order, &COOKED),
     ];
     assert_eq!(rt; told, [TOLD, TOLD, None, TOLD, None, None]);
+}
+
+/// What is told of two octets of version 6.
+const TOLD_6: Option<Inside> = Some((2, Some(0x60)));
+
+const PLAIN_6: [u8; 16] = [1, 2, 3, 4, 5, 6, 7, 8, 9, 10, 11, 12, 0x86, 0xdd, 0x60, 1];
+
+const TAGGED_6: [u8; 20] = [
+    1, 2, 3, 4, 5, 6, 7, 8, 9, 10, 11, 12, 0x81, 0, 0, 5, 0x86, 0xdd, 0x60, 1,
+];
+
+const NEXT_TYPE: [u8; 16] = [1, 2, 3, 4, 5, 6, 7, 8, 9, 10, 11, 12, 0x86, 0xde, 0x60, 1];
+
+/// IPv4's type before a packet of version 6, and IPv6's before one of version 4.
+const MISTYPED_6: [u8; 16] = [1, 2, 3, 4, 5, 6, 7, 8, 9, 10, 11, 12, 8, 0, 0x60, 1];
+
+const MISTYPED_4: [u8; 16] = [1, 2, 3, 4, 5, 6, 7, 8, 9, 10, 11, 12, 0x86, 0xdd, 0x45, 1];
+
+const COOKED_6: [u8; 18] = [
+    0, 0, 0, 1, 0, 6, 1, 2, 3, 4, 5, 6, 0, 0, 0x86, 0xdd, 0x60, 1,
+];
+
+const COOKED_2_6: [u8; 22] = [
+    0x86, 0xdd, 0, 0, 0, 0, 0, 3, 0, 1, 0, 6, 1, 2, 3, 4, 5, 6, 0, 0, 0x60, 1,
+];
+
+#[test]
+fn version_6_behind_its_type(rt: HostRuntime) {
+    let order = Endianness::Little;
+    let told = [
+        ethernet(&PLAIN_6),
+        ethernet(&TAGGED_6),
+        ethernet(&NEXT_TYPE),
+        inside(Link::LinuxCooked, order, &COOKED_6),
+        inside(Link::LinuxCooked2, order, &COOKED_2_6),
+        inside(Link::Raw, order, &[0x60, 1]),
+        // The packet is what it is, whatever its type says.
+        ethernet(&MISTYPED_6),
+        ethernet(&MISTYPED_4),
+    ];
+    assert_eq!(rt;
+        told,
+        [TOLD_6, TOLD_6, None, TOLD_6, TOLD_6, TOLD_6, TOLD_6, TOLD]
+    );
+}
+
+#[test]
+fn version_6_behind_the_family_of_each_system(rt: HostRuntime) {
+    let told = [
+        inside(Link::Null, Endianness::Big, &[0, 0, 0, 24, 0x60, 1]),
+        inside(Link::Null, Endianness::Little, &[28, 0, 0, 0, 0x60, 1]),
+        inside(Link::Null, Endianness::Little, &[30, 0, 0, 0, 0x60, 1]),
+        inside(Link::Loop, Endianness::Little, &[0, 0, 0, 24, 0x60, 1]),
+        inside(Link::Loop, Endianness::Little, &[30, 0, 0, 0, 0x60, 1]),
+        inside(Link::Null, Endianness::Big, &[0, 0, 0, 10, 0x60, 1]),
+        inside(Link::Null, Endianness::Big, &[0, 0, 0, 29, 0x60, 1]),
+    ];
+    assert_eq!(rt; told, [TOLD_6, TOLD_6, TOLD_6, TOLD_6, None, None, None]);
 }

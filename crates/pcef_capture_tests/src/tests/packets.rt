@@ -39,10 +39,10 @@ fn each_side_and_neither(rt: HostRuntime) {
 fn a_packet_in_part(rt: HostRuntime) {
     let filled = [
         filled_to(rt.alloc(), &PACKET[..24], &FILLED),
-        // Of three octets, no length is known.
-        filled_to(rt.alloc(), &PACKET[..3], &PACKET[..3]),
+        // Where the header wasn't recorded, nothing is filled in.
+        filled_to(rt.alloc(), &PACKET[..19], &PACKET[..19]),
     ];
-    assert_eq!(rt; filled, [Some((28, true)), Some((3, true))]);
+    assert_eq!(rt; filled, [Some((28, true)), Some((19, true))]);
 }
 
 /// How many octets there are once those that lack are filled in, and whether they are these.
@@ -67,7 +67,7 @@ fn what_a_raw_frame_is(rt: HostRuntime) {
         content_of(Addr::V4(1), &raw(28, &PACKET)),
         content_of(UE, &raw(28, &PACKET[..24])),
         content_of(UE, &raw(24, &PACKET[..24])),
-        content_of(UE, &raw(60, [0x20, 0].as_slice())),
+        content_of(UE, &raw(60, [0x50, 0].as_slice())),
     ];
     assert_eq!(rt;
         contents,
@@ -75,8 +75,8 @@ fn what_a_raw_frame_is(rt: HostRuntime) {
             Content::Packet(Dir::Down, PACKET.as_slice()),
             Content::Neither,
             Content::Cut(&PACKET[..24]),
-            Content::NotIpv4,
-            Content::NotIpv4,
+            Content::NotIp,
+            Content::NotIp,
         ]
     );
 }
@@ -89,5 +89,5 @@ fn an_ip_packet_is_no_ethernet_frame(rt: HostRuntime) {
         original: 28,
         octets: PACKET.as_slice(),
     };
-    assert_eq!(rt; content_of(UE, &other), Content::NotIpv4);
+    assert_eq!(rt; content_of(UE, &other), Content::NotIp);
 }

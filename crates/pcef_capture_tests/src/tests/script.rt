@@ -1,6 +1,6 @@
 //! Lines for frames that were worked out by hand.
 use pcef_capture_file::{Endianness, Link, Packet};
-use pcef_capture_script::{Counts, Options, asked, write_takes};
+use pcef_capture_script::{Counts, Options, Request, asked, write_takes};
 use pcef_packet::Addr;
 use std::alloc::Global;
 use std::process::Abort;
@@ -15,6 +15,15 @@ const DOWN: [u8; 28] = [
 const ROUTER: Addr = Addr::V4(0x0a00_0001);
 
 const UE: Addr = Addr::V4(0x0a00_0002);
+
+/// The address 2001:db8::2.
+const UE_6: Addr = Addr::V6(0x2001_0db8_0000_0000_0000_0000_0000_0002);
+
+/// A UDP packet of 48 octets from port 53 of 2001:db8:1::53 to port 5000 of 2001:db8::77.
+const DOWN_6: [u8; 48] = [
+    0x60, 0, 0, 0, 0, 8, 17, 64, 0x20, 0x01, 0x0d, 0xb8, 0, 1, 0, 0, 0, 0, 0, 0, 0, 0, 0, 0x53,
+    0x20, 0x01, 0x0d, 0xb8, 0, 0, 0, 0, 0, 0, 0, 0, 0, 0, 0, 0x77, 0, 0x35, 0x13, 0x88, 0, 8, 0, 0,
+];
 
 fn raw(octets: &[u8]) -> Packet<'_> {
     Packet {
@@ -57,6 +66,27 @@ fn the_line_of_a_packet(rt: HostRuntime) {
 }
 
 #[test]
+fn lines_of_a_session_of_version_6(rt: HostRuntime) {
+    let cut = Packet {
+        original: 48,
+        ..raw(&DOWN_6[..46])
+    };
+    let header_cut = Packet {
+        original: 48,
+        ..raw(&DOWN_6[..39])
+    };
+    let packets = [raw(&DOWN_6), raw(&DOWN), cut, header_cut];
+    let (lines, counts) = written(&rt, rt.alloc(), UE_6, 1, true, packets.as_slice());
+    let due =
+        b"{\"do\":\"take\",\"worker\":0,\"dir\":\"down\",\"packet\":\"600000000008114020010db800010000000000000000005320010db80000000000000000000000770035138800080000\"}\n{\"do\":\"take\",\"worker\":0,\"dir\":\"down\",\"packet\":\"600000000008114020010db800010000000000000000005320010db80000000000000000000000770035138800080000\"}\n{\"do\":\"flush\",\"worker\":0}\n";
+    assert_eq!(rt; lines.as_slice(), due.as_slice());
+    assert_eq!(rt;
+        (counts.read, counts.taken, counts.neither, counts.cut),
+        (4, 2, 1, 1)
+    );
+}
+
+#[test]
 fn a_packet_in_part_is_left_out_or_padded(rt: HostRuntime) {
     let packets = [raw(&DOWN[..26])];
     let (lines, counts) = written(&rt, rt.alloc(), UE, 1, false, packets.as_slice());
@@ -77,7 +107,7 @@ fn frames_without_a_line(rt: HostRuntime) {
     let (lines, counts) = written(&rt, rt.alloc(), ROUTER, 1, false, packets.as_slice());
     assert!(rt; lines.is_empty());
     assert_eq!(rt; (counts.read, counts.taken, counts.neither), (2, 0, 1));
-    assert_eq!(rt; (counts.not_ipv4, counts.cut), (1, 0));
+    assert_eq!(rt; (counts.not_ip, counts.cut), (1, 0));
 }
 
 /// The octet behind the text `"worker":` in a line, and whether the line is a flush.
@@ -114,22 +144,52 @@ fn workers_in_turn(rt: HostRuntime) {
 /// What some words ask for: the address, the number of workers, whether packets are padded, and the file.
 fn asked_by<'a>(alloc: Global, words: &'a [String]) -> Option<(Addr, u8, bool, &'a str)> {
     match asked(alloc, words) {
-        Ok(Some(options)) => Some((options.ue, options.workers, options.pads, options.file)),
+        Ok(Some(Request::Options(options))) => {
+            Some((options.ue, options.workers, options.pads, options.file))
+        }
+        _ => None,
+    }
+}
+
+/// The text of some words that is given as the session's address and writes none.
+fn no_address_in<'a>(alloc: Global, words: &'a [String]) -> Option<&'a str> {
+    match asked(alloc, words) {
+        Ok(Some(Request::NoAddress(text))) => Some(text),
         _ => None,
     }
 }
 
 #[test]
+fn a_text_that_is_no_address(rt: HostRuntime) -> Result<(), Fail> {
+    let texts = [
+        "2001:db8::2::",
+        "2001:db8::2/64",
+        "::10.0.0.2",
+        "10.0.0",
+        "",
+    ];
+    for text in texts {
+        let words = line_of(rt.alloc(), &["a.pcap", "--ue", text])?;
+        assert!(rt; no_address_in(rt.alloc(), &words) == Some(text));
+    }
+    Ok(())
+}
+
+#[test]
 fn what_words_ask_for(rt: HostRuntime) -> Result<(), Fail> {
-    let whole: [&[&str]; 3] = [
+    let whole: [&[&str]; 5] = [
         &["--ue", "10.0.0.2", "a.pcap"],
         &["a.pcap", "--workers=16", "--ue=10.0.0.1", "--pad"],
         &["--ue", "10.0.0.2", "--workers", "3", "--", "--pad"],
+        &["--ue", "2001:DB8::2", "a.pcap"],
+        &["--ue", "010.0.0.2", "a.pcap"],
     ];
     let due = [
         (UE, 1u8, false, "a.pcap"),
         (ROUTER, 16, true, "a.pcap"),
         (UE, 3, false, "--pad"),
+        (UE_6, 1, false, "a.pcap"),
+        (UE, 1, false, "a.pcap"),
     ];
     for (line, due) in whole.iter().zip(due) {
         let words = line_of(rt.alloc(), *line)?;
@@ -139,7 +199,7 @@ fn what_words_ask_for(rt: HostRuntime) -> Result<(), Fail> {
         &[],
         &["a.pcap"],
         &["--ue", "10.0.0.2"],
-        &["--ue", "10.0.0", "a.pcap"],
+        &["--ue", "2001:db8::g", "a.pcap"],
         &["--ue", "10.0.0.2", "--workers", "0", "a.pcap"],
         &["--ue", "10.0.0.2", "--workers", "17", "a.pcap"],
         &["--ue", "10.0.0.2", "a.pcap", "b.pcap"],

@@ -2,7 +2,7 @@ use Rattle.std.proofs.Common.{◌≡◌, ◌∙◌, refl, sym, ap, None, Some, R
 use Rattle.std.proofs.KnownBytes.{Appends-nil}
 use Rattle.pcef_capture_script.specs.Fates.{fate_of}
 use Rattle.pcef_capture_script.specs.declared.counts.Outcome.{Outcome}
-use Rattle.pcef_capture_script.specs.declared.counts.Outcome.TheVariants.{Taken, Neither, Cut, NotIpv4}
+use Rattle.pcef_capture_script.specs.declared.counts.Outcome.TheVariants.{Taken, Neither, Cut, NotIp}
 use Rattle.pcef_capture_script.proofs.takes.write_packet.Goals as goal
 
 -- what is known where a call succeeds holds of its result
@@ -29,7 +29,7 @@ returns-in-Neither g c =
     let options = c.args.options.now in
     ((Neither, None), (c.content_of.result, c.content_of.ensures, sym (ap (fate_of options.ue options.pads) c.in-Neither.is)), (refl, refl, Appends-nil _))
 
-pub returns-in-NotIpv4 : goal.returns-in-NotIpv4
-returns-in-NotIpv4 g c =
+pub returns-in-NotIp : goal.returns-in-NotIp
+returns-in-NotIp g c =
     let options = c.args.options.now in
-    ((NotIpv4, None), (c.content_of.result, c.content_of.ensures, sym (ap (fate_of options.ue options.pads) c.in-NotIpv4.is)), (refl, refl, Appends-nil _))
+    ((NotIp, None), (c.content_of.result, c.content_of.ensures, sym (ap (fate_of options.ue options.pads) c.in-NotIp.is)), (refl, refl, Appends-nil _))
