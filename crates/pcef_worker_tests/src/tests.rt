@@ -50,6 +50,10 @@ enum Step {
     Monitor,
     /// The same, once more where it finds no memory.
     MonitorAtLast,
+    /// The desk monitors the whole session by the key `all`, with a grant of 50 octets: 1, and the generation after it.
+    MonitorSession,
+    /// The desk subscribes to usage reports: 1, and the generation after it.
+    Subscribe,
     /// The desk removes the rule: 1, and the generation after it.
     Remove,
     /// The desk closes the session: 1, and the generation after it.
@@ -243,6 +247,8 @@ fn kind_of(step: Step) -> Kind {
     match step {
         Step::Install
         | Step::Monitor
+        | Step::MonitorSession
+        | Step::Subscribe
         | Step::Remove
         | Step::Close
         | Step::Terminate

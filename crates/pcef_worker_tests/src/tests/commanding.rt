@@ -1,8 +1,17 @@
 //! Commands of the desk, and the reports that it collects.
 
 use super::*;
-use pcef_model::{Accepted, Body, Level, Refusal, Report};
+use pcef_model::{Accepted, Body, Level, Refusal, Report, TriggerSet};
 use pcef_rule::{KeyName, RuleName};
+
+/// Of all event triggers that of usage reports alone.
+const USAGE_REPORTS: TriggerSet = TriggerSet {
+    usage_report: true,
+    rat_change: false,
+    plmn_change: false,
+    user_location_change: false,
+    ue_time_zone_change: false,
+};
 
 // What a step of the desk tells.
 pub fn seen<C: Offers + Drop, N: Naming, W: Board<Slot<N>> + Drop, R: Wait>(
@@ -29,6 +38,12 @@ fn command_of(step: Step, install: &Command) -> Option<Command> {
             grant: 1_000_000,
             level: Level::Rule,
         }),
+        Step::MonitorSession => Some(Command::Monitor {
+            key: KeyName::known("all"),
+            grant: 50,
+            level: Level::Session,
+        }),
+        Step::Subscribe => Some(Command::Triggers(USAGE_REPORTS)),
         Step::Remove => Some(Command::Remove(RuleName::known("web"))),
         Step::Close => Some(Command::Close),
         Step::Ask => Some(Command::ReportNow(KeyName::known("vid"))),

@@ -15,7 +15,7 @@ struct Story {
     end: [u64; 7],
 }
 
-static STORIES: [Story; 14] = [
+static STORIES: [Story; 16] = [
     // The session takes one row, and two wait. Nothing of them comes to it, since a later worker's row is taken.
     Story {
         name: "a refused flush keeps the rows",
@@ -210,6 +210,48 @@ static STORIES: [Story; 14] = [
             (Abandon, [1, 0, 2, 0]),
         ],
         end: [1, 2, 0, 628, 0, 628, 1],
+    },
+    // The grant of the session's key is reached by the second worker's packet, and that of the rule's key isn't.
+    Story {
+        name: "a key of the session counts beside the rule's key for two workers",
+        rows: 100,
+        places: 3,
+        steps: &[
+            (Subscribe, [1, 0, 0, 0]),
+            (MonitorSession, [1, 1, 0, 0]),
+            (Install, [1, 2, 0, 0]),
+            (Monitor, [1, 3, 0, 0]),
+            (Come, [1, 0, 3, 0]),
+            (Take(28), [1, 1, 0, 3]),
+            (Come, [1, 1, 3, 0]),
+            (Take(28), [1, 1, 0, 3]),
+            (Flush, [1, 0, 1, 3]),
+            (Collect(Cause::Threshold), [0, 0, 0, 0]),
+            (Turn, [1, 0, 0, 0]),
+            (Flush, [1, 0, 1, 3]),
+            (Collect(Cause::Threshold), [0, 0, 0, 1]),
+            (AskForReport, [0, 1, 1, 56]),
+            (Abandon, [1, 0, 1, 0]),
+            (Abandon, [1, 1, 1, 0]),
+        ],
+        end: [1, 2, 0, 56, 56, 0, 2],
+    },
+    // The rule's key isn't monitored. A packet counts once for the session's key, whatever worker took it.
+    Story {
+        name: "a key of the session counts what two workers pass",
+        rows: 100,
+        places: 3,
+        steps: &[
+            (MonitorSession, [1, 1, 0, 0]),
+            (Install, [1, 2, 0, 0]),
+            (Come, [1, 0, 2, 0]),
+            (Take(28), [1, 1, 0, 2]),
+            (Come, [1, 1, 2, 0]),
+            (Take(28), [1, 1, 0, 2]),
+            (Finish, [1, 1, 1, 0]),
+            (Finish, [1, 0, 1, 0]),
+        ],
+        end: [1, 2, 0, 56, 0, 56, 2],
     },
     Story {
         name: "a worker that is held up hands over later",
