@@ -32,7 +32,7 @@ fn is_as_it_stands(plan: &Plan) -> bool {
         plan.later.as_slice(),
     ) {
         ([Command::Monitor { .. }], [first, second], [Command::Stop(_), Command::Monitor { .. }]) =>
-            first.worker == 0 && second.worker == 1 && second.header.octets == 28,
+            first.worker == 0 && second.worker == 1 && second.header.header().octets == 28,
         _ => false,
     }
 }

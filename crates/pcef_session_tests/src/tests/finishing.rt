@@ -3,6 +3,7 @@
 ghost use Rattle.std.specs.Prelude.{◌≡◌, ◌≤◌, ◌∷◌, [], IfOk};
 ghost use Rattle.pcef_session_tests.specs.UnmatchedRows.{ue, unmatched_item};
 
+use arrayvec::ArrayVec;
 use pcef_catalog::Catalog;
 use pcef_core::Session;
 use pcef_model::{Command, FlushRefusal, Judged, Profile, Refusal, Row, Verdict, Verdicts};

@@ -10,6 +10,7 @@ mod workers;
 use pcef_catalog::Catalog;
 use pcef_gateway::{Arrival, Ended, RunFault, run_session};
 use pcef_model::Command;
+use pcef_packet::PackedHeader;
 use pcef_session::SessionState;
 use pcef_test_sessions::{monitor, packet, session, vid, web};
 use pcef_worker::Gate;
@@ -55,10 +56,8 @@ fn packets(alloc: Global, each: u32, workers: u8) -> Result<Vec<Arrival>, Fail> 
     let mut arrivals = Vec::new(alloc);
     for _ in 0..each {
         for worker in 0..workers {
-            arrivals.push(Arrival {
-                worker,
-                header: packet(28),
-            })?;
+            let header = PackedHeader::new(&packet(28));
+            arrivals.push(Arrival { header, worker })?;
         }
     }
     Ok(arrivals)
