@@ -65,7 +65,7 @@ two_follow p j items h alone is =
 
 counts_for_none : (p : Setting) (n : ℕ) → p.ue ≡ ue → CountsFor p attached (unmatched_item n).row (unmatched_item n).slots.items
 unfolding made_by oldest
-counts_for_none p n h key = ap (λ a. passed_for key (if is_assigned ue a then unmatched else stray) && is_among key []) h
+counts_for_none p n h key = ap (λ a. passed_for at_first key (if is_assigned ue a then unmatched else stray) && is_among key []) h
 
 both_slots : (p : Setting) → p.ue ≡ ue → HasItsSlots p attached two
 both_slots p h =
