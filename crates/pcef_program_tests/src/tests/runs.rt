@@ -24,6 +24,9 @@ const VOICE: &str =
 
 const MONITOR: &str = "{\"do\":\"monitor\",\"key\":\"vid\",\"grant\":1000}";
 
+const MONITOR_SESSION: &str =
+    "{\"do\":\"monitor\",\"key\":\"all\",\"grant\":1000,\"level\":\"session\"}";
+
 /// A packet of 28 octets from 198.51.100.7, port 53, for each of two workers.
 const FIRST: &str =
     "{\"do\":\"take\",\"worker\":0,\"dir\":\"down\",\"packet\":\"4500001c0000000040110000c63364070a0000020035138800080000\"}";
@@ -57,11 +60,12 @@ fn run_ends<T: Threads + Wait + Sync>(
     Ok(got == status && wrote.as_str() == written && is_said)
 }
 
+/// Each packet counts once for the rule's key, and once for the session's.
 #[test]
 fn two_workers_with_a_packet_each(rt: HostRuntime) -> Result<(), Fail> {
-    let lines = [INSTALL, MONITOR, FIRST, SECOND];
+    let lines = [INSTALL, MONITOR, MONITOR_SESSION, FIRST, SECOND];
     let written =
-        "rows 2 abandoned 0 dropped 0\ncommands 2 refused 0\nreports usage 0 access 0 inactive 0\nkey vid counted 56 reported 0 unreported 56\n";
+        "rows 2 abandoned 0 dropped 0\ncommands 3 refused 0\nreports usage 0 access 0 inactive 0\nkey vid counted 56 reported 0 unreported 56\nkey all counted 56 reported 0 unreported 56\n";
     assert!(rt; run_ends(&rt, rt.alloc(), "2", &lines, (0, written, ""))?);
     Ok(())
 }
