@@ -1,6 +1,7 @@
 pub mod AddressTextLaws
 pub mod CarryingLaws
 pub mod Cuts
+pub mod Differences
 pub mod DottedLaws
 pub mod ExtensionLaws
 pub mod GroupNumbers

@@ -98,15 +98,14 @@ fn is_same_wide_front(bits: u8, a: u128, b: u128) -> bool
     ensures { result ≡ same_front 128 bits a b }
 {
     let rest = 128u8.saturating_sub(bits);
-    rest == 128 || a >> rest == b >> rest
+    rest == 128 || (a ^ b) >> rest == 0
 }
 
 /// Whether two numbers of 32 bits agree in their first bits.
 fn is_same_front(bits: u8, a: u32, b: u32) -> bool
     ensures { result ≡ same_front 32 bits a b }
 {
-    let rest = 32u8.saturating_sub(bits);
-    u64::from(a) >> rest == u64::from(b) >> rest
+    u64::from(a ^ b) >> 32u8.saturating_sub(bits) == 0
 }
 
 impl Addr {

@@ -50,7 +50,9 @@ fn fields(dir: Dir, octets: &[u8], volume: u32, payload: &Payload<'_>) -> Header
     }
 }
 
-/// The header at the front of the octets, or its first fault after the version.
+/// The header at the front of the octets, or its first fault after the version. It isn't inlined, so that the reader of
+/// both versions stays small enough to be.
+#[inline(never)]
 #[tactic(auto, unfolding(crate::specs::HeaderOf::reading_v6, crate::specs::HeaderOf::behind_fixed))]
 pub(crate) fn read_v6(dir: Dir, octets: &[u8]) -> Result<Header, PacketFault>
     ensures { result ≡ reading_v6 dir octets.now }

@@ -17,6 +17,7 @@ use crate::ipv6::read_v6;
 /// of version 6 the extension headers 0, 43, 44 and 60 are passed over; the protocol is what the last
 /// one names. Ports are read for protocols 6, 17 and 132, at fragment offset 0, where the payload has four
 /// octets or more. Takes no memory.
+#[inline]
 pub fn read_header(dir: Dir, octets: &[u8]) -> Result<Header, PacketFault>
     ensures reading { result ≡ header_of dir octets.now }
     // Of version 6, what is answered is the header or the fault of the octets.
