@@ -58,8 +58,8 @@ fn proto_difference(wanted: Option<u8>, proto: u8) -> u8
 }
 
 impl Place {
-    fn fits(&self, ue: &Addr, addr: Addr) -> bool
-        ensures { result ≡ place_fits self.now ue.now addr }
+    fn fits(&self, ue: &Addr, addr: &Addr) -> bool
+        ensures { result ≡ place_fits self.now ue.now addr.now }
     {
         match self {
             Place::Any => true,
@@ -91,18 +91,20 @@ fn fails_early(applies: bool, proto_difference: u8) -> bool
 
 /// Whether one endpoint fits the packet's source, and the other its destination. The addresses come first,
 /// since few fit by them. The session's address comes by reference: by value its 32 octets were written to
-/// memory again for each filter of a scan.
+/// memory again for each filter of a scan. It isn't inlined, so that the tests before it are, which most filters fail.
+#[inline(never)]
 fn fit(source: &Endpoint, target: &Endpoint, ue: &Addr, header: &Header) -> bool
     ensures { result ≡ endpoints_fit source.now target.now ue.now header.now }
 {
-    source.place.fits(ue, header.src)
-        && target.place.fits(ue, header.dst)
+    source.place.fits(ue, &header.src)
+        && target.place.fits(ue, &header.dst)
         && ports_fit(&source.ports, src_of(header.ports))
         && ports_fit(&target.ports, dst_of(header.ports))
 }
 
 impl Filter {
     /// Whether the filter matches an uplink packet.
+    #[inline]
     fn matches_uplink(&self, ue: &Addr, header: &Header) -> bool
         requires { header.now.dir ≡ Dir.Up }
         ensures { result ≡ matches self.now ue.now header.now }
@@ -121,6 +123,7 @@ impl Filter {
     }
 
     /// Whether the filter matches a downlink packet.
+    #[inline]
     fn matches_downlink(&self, ue: &Addr, header: &Header) -> bool
         requires { header.now.dir ≡ Dir.Down }
         ensures { result ≡ matches self.now ue.now header.now }
@@ -136,9 +139,17 @@ impl Filter {
     pub fn matches(&self, ue: Addr, header: &Header) -> bool
         ensures { result ≡ matches self.now ue header.now }
     {
+        self.matches_for(&ue, header)
+    }
+
+    /// The same as `matches`, by a reference to the session's address, which callers that try many filters needn't
+    /// copy for each.
+    pub fn matches_for(&self, ue: &Addr, header: &Header) -> bool
+        ensures { result ≡ matches self.now ue.now header.now }
+    {
         match header.dir {
-            Dir::Up => self.matches_uplink(&ue, header),
-            Dir::Down => self.matches_downlink(&ue, header),
+            Dir::Up => self.matches_uplink(ue, header),
+            Dir::Down => self.matches_downlink(ue, header),
         }
     }
 }
@@ -162,11 +173,11 @@ fn any_matches_downlink(filters: &[Filter], ue: &Addr, header: &Header) -> bool
 }
 
 /// Whether one of the filters matches a header.
-pub fn any_matches(filters: &[Filter], ue: Addr, header: &Header) -> bool
-    ensures { result ≡ list_any (λ f. matches f ue header.now) filters.now }
+pub fn any_matches(filters: &[Filter], ue: &Addr, header: &Header) -> bool
+    ensures { result ≡ list_any (λ f. matches f ue.now header.now) filters.now }
 {
     match header.dir {
-        Dir::Up => any_matches_uplink(filters, &ue, header),
-        Dir::Down => any_matches_downlink(filters, &ue, header),
+        Dir::Up => any_matches_uplink(filters, ue, header),
+        Dir::Down => any_matches_downlink(filters, ue, header),
     }
 }
