@@ -1,5 +1,6 @@
 -- Flags of slots, and the slots whose flags are up.
-use Rattle.std.proofs.Common.{◌≡◌, ◌∙◌, ◌<◌, ◌+◌, ◌++◌, ℕ, suc, Bool, List, [], ◌∷◌, get_or, length, take, refl, sym, ap, arith, inl, inr, if◌then◌else◌}
+use Rattle.std.proofs.Common.{◌≡◌, ◌∙◌, ◌<◌, ◌+◌, ◌++◌, ℕ, suc, Bool, true, false, List, replicate, [], ◌∷◌, get_or, length, take, refl, sym, ap, arith, inl, inr, if◌then◌else◌}
+use Rattle.std.specs.List.{list_any}
 use Rattle.std.proofs.lemmas.Bool.{cases_Bool}
 use Rattle.std.proofs.lemmas.List.{length-take-le, take_more}
 use Rattle.pcef_rule.specs.declared.quantity.Slot.{Slot}
@@ -28,3 +29,9 @@ up_step flags i d old new up place within before is placed pushed =
     ∙ ap (λ (b : Bool). slots_up (take i flags) ++ (if b then record { 0 = place } ∷ [] else [])) is
     ∙ ap (λ (m : ℕ). slots_up (take i flags) ++ (if get_or flags i d then record { 0 = m } ∷ [] else [])) (placed ∙ sym many)
     ∙ sym (ap slots_up (take_more flags i d within) ∙ up_push 0 (take i flags) (get_or flags i d))
+
+-- flags of which none is up
+pub none_up : (flags : List Bool) → list_any (λ up. up) flags ≡ false → flags ≡ replicate (length flags) false
+none_up [] none = refl
+none_up (true ∷ flags) none = absurd (cc)
+none_up (false ∷ flags) none = ap (λ (fs : List Bool). false ∷ fs) (none_up flags none)

@@ -19,17 +19,18 @@ pub fn is_own(header: &Header, ue: Addr) -> bool
     header.ue_side().is_assigned(ue)
 }
 
-/// The first entry that fits.
+/// The first entry that fits. Always inlined: of a table of one rule the call itself would be a good part.
+#[inline(always)]
 pub(crate) fn first_fitting<'a, C: Detects>(
     catalog: &C,
     entries: &'a [Entry],
-    ue: Addr,
+    ue: &Addr,
     header: &Header,
 ) -> Option<&'a Entry>
     requires { All (λ e. IsKnown (C.offers catalog.now) e.source) entries.now }
     ensures known { IfSome result (λ e. IsKnown (C.offers catalog.now) e.now.source) }
     ensures first { option_copied result
-        ≡ find (λ e. fits (C.offers catalog.now) ue header.now e.source) entries.now }
+        ≡ find (λ e. fits (C.offers catalog.now) ue.now header.now e.source) entries.now }
 {
     for entry in entries {
         if entry.source.fits(catalog, ue, header) {
@@ -43,11 +44,14 @@ pub(crate) fn first_fitting<'a, C: Detects>(
 pub fn gate_verdict(properties: &Properties, bearer: BearerId, dir: Dir) -> Verdict
     ensures { result ≡ gate_verdict properties.now bearer dir }
 {
-    let rule = properties.name.copy();
-    if properties.gate.opens(dir) {
-        Verdict::Passed { rule, bearer }
-    } else {
-        Verdict::Gated { rule }
+    if !properties.gate.opens(dir) {
+        return Verdict::Gated {
+            rule: properties.name.copy(),
+        };
+    }
+    Verdict::Passed {
+        rule: properties.name.copy(),
+        bearer,
     }
 }
 

@@ -1,6 +1,7 @@
 //! The slots of keys of session level.
 
 ghost use Rattle.std.specs.Prelude.{◌≡◌, ◌≤◌, ◌<◌, ◌+◌, ◌++◌, ◌∷◌, [], length, set, true, if◌then◌else◌};
+ghost use Rattle.std.specs.List.{list_any};
 ghost use Rattle.pcef_table.specs.SessionSlots as flag;
 
 use arrayvec::ArrayVec;
@@ -21,12 +22,44 @@ fn set_up(flags: Flags, place: usize) -> Flags
 }
 
 /// The flags with that of this slot up.
-pub(crate) fn with_slot(slot: Option<Slot>, flags: Flags) -> Flags
+fn with_slot(slot: Option<Slot>, flags: Flags) -> Flags
     ensures { result ≡ flag.with_slot slot flags }
 {
     match slot {
         None => flags,
         Some(slot) => set_up(flags, slot.0 as usize),
+    }
+}
+
+/// Whether a flag is up.
+fn any_up(flags: &Flags) -> bool
+    ensures { result ≡ list_any (λ up. up) flags.now }
+{
+    flags.iter().any(|up| *up)
+}
+
+/// A slot alone, where it is one of the eight.
+fn alone(slot: Option<Slot>) -> ArrayVec<Slot, 8>
+    ensures { result.items ≡ flag.slots_up (flag.with_slot slot flag.no_slots) }
+{
+    let mut slots = ArrayVec::new();
+    if let Some(slot) = slot {
+        if slot.0 < 8 {
+            slots.push(slot);
+        }
+    }
+    slots
+}
+
+/// The slots whose flags are up where that of this slot is up, too, in order. Most sessions have no key of session
+/// level: then no flag is looked at by itself.
+pub(crate) fn slots_with(slot: Option<Slot>, flags: &Flags) -> ArrayVec<Slot, 8>
+    ensures { result.items ≡ flag.slots_up (flag.with_slot slot flags.now) }
+{
+    if any_up(flags) {
+        slots_up(&with_slot(slot, *flags))
+    } else {
+        alone(slot)
     }
 }
 

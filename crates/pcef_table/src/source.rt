@@ -44,8 +44,8 @@ impl Source {
     }
 
     /// Whether the rule fits a packet.
-    pub(crate) fn fits<C: Detects>(&self, catalog: &C, ue: Addr, header: &Header) -> bool
-        ensures { result ≡ fits (C.offers catalog.now) ue header.now self.now }
+    pub(crate) fn fits<C: Detects>(&self, catalog: &C, ue: &Addr, header: &Header) -> bool
+        ensures { result ≡ fits (C.offers catalog.now) ue.now header.now self.now }
     {
         match self {
             Source::Dynamic(rule) => any_matches(rule.filters(), ue, header),

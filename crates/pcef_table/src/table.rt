@@ -10,7 +10,7 @@ ghost use Rattle.pcef_table.specs.Verdicts.{IsVerdict, slot_for};
 use crate::change::{copy_all, copy_counting, copy_with, copy_without_taken};
 use crate::deciding::{first_fitting, gate_verdict, is_own, slot_of};
 use crate::entry::Entry;
-use crate::session_slots::{Flags, slots_up, with_slot};
+use crate::session_slots::{Flags, slots_up, slots_with};
 use arrayvec::ArrayVec;
 use pcef_catalog::{Detects, Offers};
 use pcef_model::{Command, Verdict};
@@ -241,13 +241,13 @@ impl Table {
     pub fn first_fitting<C: Detects>(
         &self,
         catalog: &C,
-        ue: Addr,
+        ue: &Addr,
         header: &Header,
     ) -> Option<&Entry>
         requires { IsTable (C.offers catalog.now) self.now.entries }
         ensures known { IfSome result (λ e. IsKnown (C.offers catalog.now) e.now.source) }
         ensures first { option_copied result
-            ≡ find (λ e. fits (C.offers catalog.now) ue header.now e.source) self.now.entries }
+            ≡ find (λ e. fits (C.offers catalog.now) ue.now header.now e.source) self.now.entries }
     {
         first_fitting(catalog, self.entries(), ue, header)
     }
@@ -261,7 +261,7 @@ impl Table {
         if !is_own(header, ue) {
             return Verdict::Stray;
         }
-        match first_fitting(catalog, self.entries(), ue, header) {
+        match first_fitting(catalog, self.entries(), &ue, header) {
             None => Verdict::Unmatched,
             Some(entry) => {
                 let properties = entry.source.properties(catalog);
@@ -296,7 +296,7 @@ impl Table {
         ensures { result.items ≡ slots_beside slot self.now.session verdict.now }
     {
         match verdict {
-            Verdict::Passed { .. } => slots_up(&with_slot(slot, self.session)),
+            Verdict::Passed { .. } => slots_with(slot, &self.session),
             _ => ArrayVec::new(),
         }
     }
