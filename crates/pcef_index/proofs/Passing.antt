@@ -1,8 +1,8 @@
 -- A filter that matches a packet lets each of its cells pass.
-use Rattle.std.proofs.Common.{◌≡◌, ◌==◌, ◌<◌, ◌≤◌, ◌+◌, ◌-◌, ◌*◌, ◌/◌, ◌%◌, ◌^◌, ◌&&◌, ◌||◌, ◌∙◌, ◌⊎◌, ℕ, Bool, true, false, List, [], ◌∷◌, Option, Some, None, All, nat_le, ap, refl, sym, arith, inl, inr}
+use Rattle.std.proofs.Common.{◌≡◌, ◌==◌, ◌<◌, ◌≤◌, ◌+◌, ◌-◌, ◌*◌, ◌/◌, ◌%◌, ◌^◌, ◌&&◌, ◌||◌, ◌∙◌, ◌⊎◌, ℕ, zero, suc, Bool, true, false, List, [], ◌∷◌, Option, Some, None, All, nat_le, nat_lt, ap, refl, sym, arith, inl, inr}
 use Rattle.std.proofs.Math.Nat.{div-div-eq-div-mul}
 use Rattle.std.proofs.lemmas.Nat.{pow-add}
-use Rattle.std.proofs.lemmas.Bool.{and_parts, cases_Bool, cond_both, eqb-true, le-leb, leb-true, or_left, or_right}
+use Rattle.std.proofs.lemmas.Bool.{and_parts, cases_Bool, cond_both, eqb-true, le-leb, leb-true, ltb-true, or_left, or_right}
 use Rattle.std.proofs.lemmas.List.Elements.{All-cons, All-nil}
 use Rattle.pcef_packet.specs.declared.header.Addr.{Addr}
 use Rattle.pcef_packet.specs.declared.header.Addr.TheVariants.{V4, V6}
@@ -24,7 +24,7 @@ use Rattle.pcef_filter.specs.Matching.{dst_port, endpoint_fits, in_ranges, match
 use Rattle.pcef_index.specs.declared.cells.Cells.{Cells}
 use Rattle.pcef_index.specs.declared.cells.Half.{Half}
 use Rattle.pcef_index.specs.declared.cells.Half.TheVariants.{High, Low}
-use Rattle.pcef_index.specs.private.Cells.{are_whole, filter_passes, half_cells, header_cells, high_cells, is_in, local_end, local_in, octet_of, only, place_cells, place_passes, port_cells, ports_pass, proto_cells, ranges_pass, remote_end, remote_in, rest_of, shift_of, wide_shift, way_cell, way_in, whole}
+use Rattle.pcef_index.specs.private.Cells.{are_whole, block, filter_passes, half_cells, header_cells, high_cells, is_in, local_end, local_in, loose_of, octet_of, only, place_cells, place_passes, port_cells, ports_pass, proto_cells, ranges_pass, remote_end, remote_in, rest_of, shift_of, wide_shift, way_cell, way_in, whole}
 use Rattle.pcef_index.specs.private.Marks.{ArePortsRanged, IsRanged}
 
 inside : (k : ℕ) (c : Cells) → c.first ≤ k → k ≤ c.last → is_in k c ≡ true
@@ -52,20 +52,57 @@ octet_small : (shift : ℕ) (addr : Addr) → octet_of shift addr < 256
 octet_small shift (V4 a) = omega arith
 octet_small shift (V6 a) = omega arith
 
-octets_agree : (bits shift : ℕ) (a b : Addr) → width_of b - bits ≤ shift_of shift b → agrees_in bits a b ≡ true → octet_of shift a ≡ octet_of shift b
-octets_agree bits shift (V4 a) (V6 b) less agrees = absurd (cc)
-octets_agree bits shift (V6 a) (V4 b) less agrees = absurd (cc)
-octets_agree bits shift (V6 a) (V6 b) less agrees =
-    ap (λ (n : ℕ). n % 256) (front_agrees a b (128 - bits) (wide_shift shift) less (eqb-true (a / 2 ^ (128 - bits)) (b / 2 ^ (128 - bits)) agrees))
-octets_agree bits shift (V4 a) (V4 b) less agrees =
-    ap (λ (n : ℕ). n % 256) (front_agrees a b (32 - bits) shift less (eqb-true (a / 2 ^ (32 - bits)) (b / 2 ^ (32 - bits)) agrees))
+-- two numbers agree above their lowest bits, so many of them, if those above so many and a shift agree
+parts_agree : (a b rest shift loose : ℕ) → rest ≤ shift + loose → a / 2 ^ rest ≡ b / 2 ^ rest → a / 2 ^ shift / 2 ^ loose ≡ b / 2 ^ shift / 2 ^ loose
+parts_agree a b rest shift loose less same =
+    let one : (n : ℕ) → n / 2 ^ shift / 2 ^ loose ≡ n / 2 ^ (shift + loose) = λ n. div-div-eq-div-mul n (2 ^ shift) (2 ^ loose) ∙ ap (λ (m : ℕ). n / m) (sym (pow-add 2 shift loose)) in
+    one a ∙ front_agrees a b rest (shift + loose) less same ∙ sym (one b)
+
+-- what holds of each number below eight
+pub below_eight : (P : ℕ → Type 0) → P 0 → P 1 → P 2 → P 3 → P 4 → P 5 → P 6 → P 7 → (n : ℕ) → n < 8 → P n
+below_eight P p0 p1 p2 p3 p4 p5 p6 p7 zero small = p0
+below_eight P p0 p1 p2 p3 p4 p5 p6 p7 (suc zero) small = p1
+below_eight P p0 p1 p2 p3 p4 p5 p6 p7 (suc (suc zero)) small = p2
+below_eight P p0 p1 p2 p3 p4 p5 p6 p7 (suc (suc (suc zero))) small = p3
+below_eight P p0 p1 p2 p3 p4 p5 p6 p7 (suc (suc (suc (suc zero)))) small = p4
+below_eight P p0 p1 p2 p3 p4 p5 p6 p7 (suc (suc (suc (suc (suc zero))))) small = p5
+below_eight P p0 p1 p2 p3 p4 p5 p6 p7 (suc (suc (suc (suc (suc (suc zero)))))) small = p6
+below_eight P p0 p1 p2 p3 p4 p5 p6 p7 (suc (suc (suc (suc (suc (suc (suc zero))))))) small = p7
+below_eight P p0 p1 p2 p3 p4 p5 p6 p7 (suc (suc (suc (suc (suc (suc (suc (suc n)))))))) small = absurd (omega arith)
+
+-- the lowest octet of a number that agrees with another but for some low bits is in the block of the other's
+abbrev IsInBlock : ℕ → Type 0
+IsInBlock loose =
+    (x y : ℕ) → x / 2 ^ loose ≡ y / 2 ^ loose → (y % 256 / 2 ^ loose * 2 ^ loose ≤ x % 256) × (x % 256 ≤ y % 256 / 2 ^ loose * 2 ^ loose + (2 ^ loose - 1))
+
+is_in_block : (loose : ℕ) → loose < 8 → IsInBlock loose
+is_in_block =
+    below_eight IsInBlock
+    (λ x y same. (omega arith, omega arith)) (λ x y same. (omega arith, omega arith)) (λ x y same. (omega arith, omega arith)) (λ x y same. (omega arith, omega arith))
+    (λ x y same. (omega arith, omega arith)) (λ x y same. (omega arith, omega arith)) (λ x y same. (omega arith, omega arith)) (λ x y same. (omega arith, omega arith))
+
+block_holds : (base x y loose : ℕ) → loose < 8 → x / 2 ^ loose ≡ y / 2 ^ loose → is_in (base + x % 256) (block base (y % 256) loose) ≡ true
+block_holds base x y loose few same =
+    let within = is_in_block loose few x y same in
+    inside (base + x % 256) (block base (y % 256) loose) (omega (arith, within.0)) (omega (arith, within.1))
+
+octets_agree : (base bits shift loose : ℕ) (a b : Addr) → width_of b - bits ≤ shift_of shift b + loose → loose < 8 → agrees_in bits a b ≡ true
+    → is_in (base + octet_of shift a) (block base (octet_of shift b) loose) ≡ true
+octets_agree base bits shift loose (V4 a) (V6 b) less few agrees = absurd (cc)
+octets_agree base bits shift loose (V6 a) (V4 b) less few agrees = absurd (cc)
+octets_agree base bits shift loose (V6 a) (V6 b) less few agrees =
+    block_holds base (a / 2 ^ wide_shift shift) (b / 2 ^ wide_shift shift) loose few
+    (parts_agree a b (128 - bits) (wide_shift shift) loose less (eqb-true (a / 2 ^ (128 - bits)) (b / 2 ^ (128 - bits)) agrees))
+octets_agree base bits shift loose (V4 a) (V4 b) less few agrees =
+    block_holds base (a / 2 ^ shift) (b / 2 ^ shift) loose few
+    (parts_agree a b (32 - bits) shift loose less (eqb-true (a / 2 ^ (32 - bits)) (b / 2 ^ (32 - bits)) agrees))
 
 place_in : (base shift : ℕ) (place : Place) (ue addr : Addr) → place_fits place ue addr ≡ true → is_in (base + octet_of shift addr) (place_cells base shift place) ≡ true
 place_in base shift Any ue addr fits = in_whole base (octet_of shift addr) (octet_small shift addr)
 place_in base shift Assigned ue addr fits = in_whole base (octet_of shift addr) (octet_small shift addr)
 place_in base shift (Net net) ue addr fits =
-    cond_both (nat_le (rest_of net) (shift_of shift net.addr)) (only (base + octet_of shift net.addr)) (whole base) (λ (c : Cells). is_in (base + octet_of shift addr) c ≡ true)
-    (λ counts. rw (octets_agree net.bits shift addr net.addr (leb-true (rest_of net) (shift_of shift net.addr) counts) fits) (in_only (base + octet_of shift net.addr)))
+    cond_both (nat_lt (loose_of shift net) 8) (block base (octet_of shift net.addr) (loose_of shift net)) (whole base) (λ (c : Cells). is_in (base + octet_of shift addr) c ≡ true)
+    (λ few. octets_agree base net.bits shift (loose_of shift net) addr net.addr (omega arith) (ltb-true (loose_of shift net) 8 few) fits)
     (λ _. in_whole base (octet_of shift addr) (octet_small shift addr))
 
 -- an octet of a port, and the cell of one

@@ -1,9 +1,10 @@
 -- What the words of a sieve say of the lines.
-use Rattle.std.proofs.Common.{◌≡◌, ◌<◌, ◌≤◌, ◌+◌, ◌*◌, ◌/◌, ◌%◌, ◌∙◌, ℕ, Bool, true, false, Option, Some, None, List, drop, find, All, refl, sym, ap, subst, arith}
+use Rattle.std.proofs.Common.{◌≡◌, ◌<◌, ◌≤◌, ◌+◌, ◌-◌, ◌*◌, ◌/◌, ◌%◌, ◌∙◌, ℕ, Bool, true, false, Option, Some, None, List, drop, take, length, find, All, refl, sym, ap, subst, arith}
 use Rattle.std.specs.Prelude.{slice_get}
 use Rattle.std.specs.Int.{bit_at}
 use Rattle.std.specs.Option.{option_map, option_map_or}
 use Rattle.std.proofs.lemmas.Bool.{le-leb}
+use Rattle.std.proofs.lemmas.List.{get_or-drop, take_rest}
 use Rattle.std.proofs.lemmas.List.Elements.{All-weaker}
 use Rattle.pcef_packet.specs.declared.header.Addr.{Addr}
 use Rattle.pcef_packet.specs.declared.header.Header.{Header}
@@ -47,6 +48,11 @@ block_sieved offers ue h lines words block word ranged sieve told i small fits =
     (λ k passes. has_in_block words lines block i k sieve small passes)
     (header_cells h)
     (line_lets offers ue h (slice_get lines (block * 64 + i)) ranged fits))
+
+-- what words from a place on have, they have where they are cut there
+pub from_there : (words : List ℕ) (at i : ℕ) (cells : List ℕ) → All (λ k. Has words (at + k) i) cells → All (λ k. Has (take (length words - at) (drop at words)) k i) cells
+from_there words at i cells =
+    All-weaker (λ k. Has words (at + k) i) (λ k. Has (take (length words - at) (drop at words)) k i) (λ k has. rw (take_rest words at, get_or-drop at words k 0) has) cells
 
 -- the place that is found in a block is that of the first line that fits
 pub some_found : (test : Line → Bool) (lines : List Line) (from place : ℕ) → IsFirstIn test lines from (Some place) → find test (drop from lines) ≡ find test lines → Some place ≡ option_map (λ (l : Line). l.place) (find test lines)

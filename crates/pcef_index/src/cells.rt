@@ -1,7 +1,7 @@
 //! The cells that a filter lets pass: one cell for each octet of each field that filters look at.
 
 ghost use Rattle.std.specs.Prelude.{◌≡◌, ◌<◌, ◌≤◌, ◌+◌};
-ghost use Rattle.pcef_index.specs.private.Cells.{half_cells, high_cells, local_end, low_cells, net_cells, octet_of, place_cells, proto_cells, remote_end, rest_of, shift_of, way_in, whole, wide_shift};
+ghost use Rattle.pcef_index.specs.private.Cells.{block, half_cells, high_cells, local_end, low_cells, net_cells, octet_of, place_cells, proto_cells, remote_end, rest_of, shift_of, way_in, whole, wide_shift};
 
 use pcef_filter::{Direction, Endpoint, Filter, Flow, Net, Place, PortRange};
 use pcef_packet::Addr;
@@ -148,15 +148,32 @@ fn rest_of(net: Net) -> u8
     net.addr.width().saturating_sub(net.bits)
 }
 
-/// The octets of a network's addresses at this shift: one where all its bits count, else all.
+/// The octets that agree with one but for so many low bits.
+fn block(base: u16, octet: u16, loose: u8) -> Cells
+    requires low { base ≤ 2048 }
+    requires octet { octet < 256 }
+    requires loose { loose < 8 }
+    ensures is { result ≡ block base octet loose }
+    ensures within { result.last ≤ 2305 }
+{
+    let size = 1u16 << loose;
+    let first = base + octet / size * size;
+    Cells {
+        first,
+        last: first + (size - 1),
+    }
+}
+
+/// The octets of a network's addresses at this shift: those that agree in the bits that count.
 fn net_cells(base: u16, shift: u8, net: Net) -> Cells
     requires low { base ≤ 2048 }
     requires shift { shift < 32 }
     ensures is { result ≡ net_cells base shift net }
     ensures within { result.last ≤ 2305 }
 {
-    if rest_of(net) <= shift_of(shift, net.addr) {
-        only(base + octet_of(shift, net.addr))
+    let loose = rest_of(net).saturating_sub(shift_of(shift, net.addr));
+    if loose < 8 {
+        block(base, octet_of(shift, net.addr), loose)
     } else {
         whole(base)
     }

@@ -48,7 +48,7 @@ fn local_port(dir: Dir, ports: Ports) -> u16
 }
 
 /// The cells of a header.
-pub(crate) fn header_cells(header: &Header) -> [u16; 10]
+pub(crate) fn header_cells(header: &Header) -> [usize; 10]
     ensures is { result ≡ header_cells header.now }
     ensures ranged { IsRanged header.now }
 {
@@ -58,18 +58,18 @@ pub(crate) fn header_cells(header: &Header) -> [u16; 10]
         ports,
         ..
     } = *header;
-    let way = way_cell(dir);
+    let way = usize::from(way_cell(dir));
     let remote = remote_side(header);
-    let proto = PROTO + u16::from(proto);
-    let first = 256 + octet_of(24, remote);
-    let second = 512 + octet_of(16, remote);
-    let third = 768 + octet_of(8, remote);
-    let fourth = 1024 + octet_of(0, remote);
+    let proto = usize::from(PROTO) + usize::from(proto);
+    let first = 256 + usize::from(octet_of(24, remote));
+    let second = 512 + usize::from(octet_of(16, remote));
+    let third = 768 + usize::from(octet_of(8, remote));
+    let fourth = 1024 + usize::from(octet_of(0, remote));
     match ports {
         None => [way, proto, first, second, third, fourth, way, way, way, way],
         Some(ports) => {
-            let far = remote_port(dir, ports);
-            let near = local_port(dir, ports);
+            let far = usize::from(remote_port(dir, ports));
+            let near = usize::from(local_port(dir, ports));
             [
                 way,
                 proto,
@@ -77,10 +77,10 @@ pub(crate) fn header_cells(header: &Header) -> [u16; 10]
                 second,
                 third,
                 fourth,
-                REMOTE_HIGH + far / 256,
-                REMOTE_LOW + far % 256,
-                LOCAL_HIGH + near / 256,
-                LOCAL_LOW + near % 256,
+                usize::from(REMOTE_HIGH) + far / 256,
+                usize::from(REMOTE_LOW) + far % 256,
+                usize::from(LOCAL_HIGH) + near / 256,
+                usize::from(LOCAL_LOW) + near % 256,
             ]
         }
     }

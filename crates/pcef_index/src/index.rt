@@ -100,14 +100,14 @@ impl Index {
         &self,
         table: &'a Table,
         catalog: &C,
-        ue: Addr,
+        ue: &Addr,
         header: &Header,
     ) -> Option<&'a Entry>
         requires table { IsTable (C.offers catalog.now) table.now.entries }
         requires index { self.now ≡ map (λ e. e.source) table.now.entries }
         ensures known { IfSome result (λ e. IsKnown (C.offers catalog.now) e.now.source) }
         ensures first { option_copied result
-            ≡ find (λ e. fits (C.offers catalog.now) ue header.now e.source) table.now.entries }
+            ≡ find (λ e. fits (C.offers catalog.now) ue.now header.now e.source) table.now.entries }
     {
         let Some(place) = first_place(&self.lines, &self.words, catalog, ue, header) else {
             return None;
@@ -131,7 +131,7 @@ impl Index {
         if !is_own(header, ue) {
             return Verdict::Stray;
         }
-        match self.first_fitting(table, catalog, ue, header) {
+        match self.first_fitting(table, catalog, &ue, header) {
             None => Verdict::Unmatched,
             Some(entry) => {
                 let properties = entry.source.properties(catalog);

@@ -13,7 +13,7 @@ use pcef_catalog::{Detects, Offers};
 use pcef_model::Verdict;
 use pcef_packet::{Addr, Header};
 use pcef_rule::Slot;
-use pcef_table::{Entry, Table, is_own, judged_by};
+use pcef_table::{Entry, Table, gate_verdict, is_own, judged_by};
 use std::alloc::{AllocError, Global};
 use std::marker::Model;
 
@@ -88,19 +88,22 @@ impl Indexed {
         requires { IsTable (C.offers catalog.now) self.now.entries }
         ensures { IsVerdict (C.offers catalog.now) self.now.entries ue header.now result }
     {
-        if self.table.len() <= 1 {
-            self.table.classify(catalog, ue, header)
-        } else {
-            self.index.classify(&self.table, catalog, ue, header)
+        if !is_own(header, ue) {
+            return Verdict::Stray;
         }
+        let Some(entry) = self.first_fitting(catalog, &ue, header) else {
+            return Verdict::Unmatched;
+        };
+        let properties = entry.source.properties(catalog);
+        gate_verdict(properties, entry.bearer, header.dir)
     }
 
     /// The first entry that fits.
-    fn first_fitting<C: Detects>(&self, catalog: &C, ue: Addr, header: &Header) -> Option<&Entry>
+    fn first_fitting<C: Detects>(&self, catalog: &C, ue: &Addr, header: &Header) -> Option<&Entry>
         requires { IsTable (C.offers catalog.now) self.now.entries }
         ensures known { IfSome result (λ e. IsKnown (C.offers catalog.now) e.now.source) }
         ensures first { option_copied result
-            ≡ find (λ e. fits (C.offers catalog.now) ue header.now e.source) self.now.entries }
+            ≡ find (λ e. fits (C.offers catalog.now) ue.now header.now e.source) self.now.entries }
     {
         if self.table.len() <= 1 {
             self.table.first_fitting(catalog, ue, header)
@@ -125,7 +128,7 @@ impl Indexed {
         if !is_own(header, ue) {
             return (Verdict::Stray, ArrayVec::new());
         }
-        match self.first_fitting(catalog, ue, header) {
+        match self.first_fitting(catalog, &ue, header) {
             None => (Verdict::Unmatched, ArrayVec::new()),
             Some(entry) => {
                 let (verdict, slot) = judged_by(catalog, entry, header.dir);

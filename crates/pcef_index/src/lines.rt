@@ -29,11 +29,11 @@ pub(crate) struct Line {
 
 impl Line {
     /// Whether the part fits a packet.
-    pub(crate) fn fits<C: Detects>(&self, catalog: &C, ue: Addr, header: &Header) -> bool
-        ensures { result ≡ line_fits (C.offers catalog.now) ue header.now self.now }
+    pub(crate) fn fits<C: Detects>(&self, catalog: &C, ue: &Addr, header: &Header) -> bool
+        ensures { result ≡ line_fits (C.offers catalog.now) ue.now header.now self.now }
     {
         match &self.part {
-            Part::Filter(filter) => filter.matches(ue, header),
+            Part::Filter(filter) => filter.matches_for(ue, header),
             Part::Offer(index) => catalog.detects(*index, header),
         }
     }

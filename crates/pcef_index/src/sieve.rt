@@ -43,15 +43,14 @@ fn mark_lines(words: &mut [u64], lines: &[Line])
     }
 }
 
-/// The lines, from the 64 whose words begin at a place, that let all these cells pass.
-fn word_of(words: &[u64], at: usize, cells: &[u16; 10]) -> u64
-    requires within { All (λ k. at + k < length words.now) cells.now }
-    ensures { (i : ℕ) → i < 64 → All (λ k. Has words.now (at + k) i) cells.now →
-        bit_at result i ≡ 1 }
+/// The lines, of the 64 whose words stand in front, that let all these cells pass.
+fn word_of(words: &[u64], cells: &[usize; 10]) -> u64
+    requires within { All (λ k. k < length words.now) cells.now }
+    ensures { (i : ℕ) → i < 64 → All (λ k. Has words.now k i) cells.now → bit_at result i ≡ 1 }
 {
     let mut word = u64::MAX;
     for cell in cells {
-        word &= words[at + usize::from(*cell)];
+        word &= words[*cell];
     }
     word
 }
@@ -62,13 +61,13 @@ fn first_in<C: Detects>(
     from: usize,
     word: u64,
     catalog: &C,
-    ue: Addr,
+    ue: &Addr,
     header: &Header,
 ) -> Option<u8>
     requires few { from + 64 < 2 ^ 64 }
-    requires sieved { AreSieved (line_fits (C.offers catalog.now) ue header.now)
+    requires sieved { AreSieved (line_fits (C.offers catalog.now) ue.now header.now)
         lines.now from word }
-    ensures { IsFirstIn (line_fits (C.offers catalog.now) ue header.now) lines.now from result }
+    ensures { IsFirstIn (line_fits (C.offers catalog.now) ue.now header.now) lines.now from result }
 {
     let mut left = word;
     while left != 0 {
@@ -88,16 +87,16 @@ pub(crate) fn first_place<C: Detects>(
     lines: &[Line],
     words: &[u64],
     catalog: &C,
-    ue: Addr,
+    ue: &Addr,
     header: &Header,
 ) -> Option<u8>
     requires { IsSieve lines.now words.now }
     ensures { result ≡ option_map (λ (l : Line). l.place)
-        (find (line_fits (C.offers catalog.now) ue header.now) lines.now) }
+        (find (line_fits (C.offers catalog.now) ue.now header.now) lines.now) }
 {
     let cells = header_cells(header);
     for block in 0..lines.len().div_ceil(64) {
-        let word = word_of(words, block * CELLS, &cells);
+        let word = word_of(&words[block * CELLS..], &cells);
         if let Some(place) = first_in(lines, block * 64, word, catalog, ue, header) {
             return Some(place);
         }

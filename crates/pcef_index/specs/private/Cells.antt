@@ -1,5 +1,5 @@
 -- The cells that a filter lets pass, and those of a header: one cell for each octet of each field.
-use Rattle.std.specs.Prelude.{ℕ, ◌+◌, ◌-◌, ◌*◌, ◌/◌, ◌%◌, ◌^◌, ◌==◌, nat_le, Bool, not, length, Option, Some, None, List, [], ◌∷◌, if◌then◌else◌, ◌&&◌, ◌||◌}
+use Rattle.std.specs.Prelude.{ℕ, ◌+◌, ◌-◌, ◌*◌, ◌/◌, ◌%◌, ◌^◌, ◌==◌, nat_le, nat_lt, Bool, not, length, Option, Some, None, List, [], ◌∷◌, if◌then◌else◌, ◌&&◌, ◌||◌}
 use Rattle.std.specs.List.{list_any}
 use Rattle.pcef_packet.specs.declared.header.Addr.{Addr}
 use Rattle.pcef_packet.specs.declared.header.Addr.TheVariants.{V4, V6}
@@ -77,8 +77,16 @@ shift_of shift (V6 a) = wide_shift shift
 abbrev pub rest_of : Net → ℕ
 rest_of net = width_of net.addr - net.bits
 
+-- how many bits don't count of the octet that a shift leaves lowest, where these are fewer than eight
+abbrev pub loose_of : ℕ → Net → ℕ
+loose_of shift net = rest_of net - shift_of shift net.addr
+
+-- the octets that agree with one but for so many low bits
+abbrev pub block : ℕ → ℕ → ℕ → Cells
+block base octet loose = record { first = base + octet / 2 ^ loose * 2 ^ loose; last = base + octet / 2 ^ loose * 2 ^ loose + (2 ^ loose - 1) }
+
 abbrev pub net_cells : ℕ → ℕ → Net → Cells
-net_cells base shift net = if nat_le (rest_of net) (shift_of shift net.addr) then only (base + octet_of shift net.addr) else whole base
+net_cells base shift net = if nat_lt (loose_of shift net) 8 then block base (octet_of shift net.addr) (loose_of shift net) else whole base
 
 abbrev pub place_cells : ℕ → ℕ → Place → Cells
 place_cells base shift place.Any = whole base

@@ -10,7 +10,7 @@ use Rattle.pcef_index.proofs.sieve.first_in.Goals.{in-Some+else-fits, in_default
 
 pub returns-then-fits : goal.returns-then-fits
 returns-then-fits g c =
-    let test = line_fits (g.C.Offers.offers c.args.catalog.now) c.args.ue c.args.header.now in
+    let test = line_fits (g.C.Offers.offers c.args.catalog.now) c.args.ue.now c.args.header.now in
     let left = c.loop-left.left in (
       trailing_zeros w64 left,
       c.in-Some.line.now,
@@ -26,7 +26,7 @@ loop-left-smaller g c = lowest_smaller c.loop-left.left (omega arith) (omega ari
 
 pub loop-left-preserved : goal.loop-left-preserved
 loop-left-preserved g c =
-    let test = line_fits (g.C.Offers.offers c.args.catalog.now) c.args.ue c.args.header.now in
+    let test = line_fits (g.C.Offers.offers c.args.catalog.now) c.args.ue.now c.args.header.now in
     let left = c.loop-left.left in
     let fails : fits_at test c.args.lines.now (c.args.from + trailing_zeros w64 left) ≡ false =
     elim c.match-get.branch [

@@ -12,9 +12,9 @@ returns-in_default-clause-first g c =
     let entries = c.args.table.now.entries in
     let lines : c.deref.result.now ≡ lines_from 0 (sources_of entries) =
     c.deref.ensures.value ∙ c.self.invariant.lines_are ∙ ap (λ (ss : List Source). lines_from 0 ss) (c.self.view_is ∙ c.requires.index) in
-    let none : place_of (find (line_fits offers c.args.ue c.args.header.now) (lines_from 0 (sources_of entries))) ≡ None =
-    ap (λ (ls : List Line). place_of (find (line_fits offers c.args.ue c.args.header.now) ls)) (sym lines) ∙ sym c.first_place.ensures ∙ c.in_default.is in
-    sym (no_entry offers c.args.ue c.args.header.now 0 entries none)
+    let none : place_of (find (line_fits offers c.args.ue.now c.args.header.now) (lines_from 0 (sources_of entries))) ≡ None =
+    ap (λ (ls : List Line). place_of (find (line_fits offers c.args.ue.now c.args.header.now) ls)) (sym lines) ∙ sym c.first_place.ensures ∙ c.in_default.is in
+    sym (no_entry offers c.args.ue.now c.args.header.now 0 entries none)
 
 pub returns-clause-known : goal.returns-clause-known
 returns-clause-known g c =
@@ -26,6 +26,6 @@ returns-clause-first g c =
     let entries = c.args.table.now.entries in
     let lines : c.deref.result.now ≡ lines_from 0 (sources_of entries) =
     c.deref.ensures.value ∙ c.self.invariant.lines_are ∙ ap (λ (ss : List Source). lines_from 0 ss) (c.self.view_is ∙ c.requires.index) in
-    let some : place_of (find (line_fits offers c.args.ue c.args.header.now) (lines_from 0 (sources_of entries))) ≡ Some c.in-Some.place =
-    ap (λ (ls : List Line). place_of (find (line_fits offers c.args.ue c.args.header.now) ls)) (sym lines) ∙ sym c.first_place.ensures ∙ c.in-Some.is in
-    c.entry.ensures ∙ ap (slice_get entries) c.from.ensures ∙ entry_at offers c.args.ue c.args.header.now c.in-Some.place entries some
+    let some : place_of (find (line_fits offers c.args.ue.now c.args.header.now) (lines_from 0 (sources_of entries))) ≡ Some c.in-Some.place =
+    ap (λ (ls : List Line). place_of (find (line_fits offers c.args.ue.now c.args.header.now) ls)) (sym lines) ∙ sym c.first_place.ensures ∙ c.in-Some.is in
+    c.entry.ensures ∙ ap (slice_get entries) c.from.ensures ∙ entry_at offers c.args.ue.now c.args.header.now c.in-Some.place entries some
