@@ -84,6 +84,8 @@ plain_refusal refusal.RatesNotWanted = refl
 plain_refusal refusal.TooManyBearers = refl
 plain_refusal refusal.OverCapacityUp = refl
 plain_refusal refusal.OverCapacityDown = refl
+plain_refusal refusal.PoolUp = refl
+plain_refusal refusal.PoolDown = refl
 plain_refusal refusal.NoMemory = refl
 
 pub plain_cause : (c : Cause) → escape (cause_text c) ≡ cause_text c

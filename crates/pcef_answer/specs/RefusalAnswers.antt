@@ -8,7 +8,7 @@ use Rattle.pcef_model.specs.declared.answer.AttachFault.TheVariants as attach
 use Rattle.pcef_model.specs.declared.answer.FlushRefusal.{FlushRefusal}
 use Rattle.pcef_model.specs.declared.answer.FlushRefusal.TheVariants as flush
 use Rattle.pcef_model.specs.declared.answer.Refusal.{Refusal}
-use Rattle.pcef_model.specs.declared.answer.Refusal.TheVariants.{Terminated, Closed, CommandsFull, NameIsPredefined, UnknownRule, UnknownKey, ZeroGrant, UnknownBearer, DefaultBearer, WorkersAttached, RulesFull, LevelClash, KeysFull, UnknownQci, RatesMissing, RatesNotWanted, TooManyBearers, OverCapacityUp, OverCapacityDown, NoMemory}
+use Rattle.pcef_model.specs.declared.answer.Refusal.TheVariants.{Terminated, Closed, CommandsFull, NameIsPredefined, UnknownRule, UnknownKey, ZeroGrant, UnknownBearer, DefaultBearer, WorkersAttached, RulesFull, LevelClash, KeysFull, UnknownQci, RatesMissing, RatesNotWanted, TooManyBearers, OverCapacityUp, OverCapacityDown, PoolUp, PoolDown, NoMemory}
 use Rattle.pcef_answer.specs.FaultAnswers.{count}
 
 abbrev pub refused_data : List ℕ → ℕ → Data
@@ -40,6 +40,8 @@ refusal_number RatesNotWanted = 15
 refusal_number TooManyBearers = 16
 refusal_number OverCapacityUp = 17
 refusal_number OverCapacityDown = 18
+refusal_number PoolUp = 21
+refusal_number PoolDown = 22
 refusal_number NoMemory = 19
 
 abbrev pub refusal_name : Refusal → List ℕ
@@ -62,6 +64,8 @@ refusal_name RatesNotWanted = codes "RatesNotWanted"
 refusal_name TooManyBearers = codes "TooManyBearers"
 refusal_name OverCapacityUp = codes "OverCapacityUp"
 refusal_name OverCapacityDown = codes "OverCapacityDown"
+refusal_name PoolUp = codes "PoolUp"
+refusal_name PoolDown = codes "PoolDown"
 refusal_name NoMemory = codes "NoMemory"
 
 -- how many workers are still attached, where that is why

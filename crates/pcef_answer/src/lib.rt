@@ -11,4 +11,4 @@ mod written;
 
 pub use fault::fault_text;
 pub use show::show_answer;
-pub use step::step_answer;
+pub use step::{command_answer, step_answer};

@@ -128,6 +128,8 @@ fn name_of_refusal(refusal: Refusal) -> (&'static str, u8)
         Refusal::TooManyBearers => ("TooManyBearers", 16),
         Refusal::OverCapacityUp => ("OverCapacityUp", 17),
         Refusal::OverCapacityDown => ("OverCapacityDown", 18),
+        Refusal::PoolUp => ("PoolUp", 21),
+        Refusal::PoolDown => ("PoolDown", 22),
         Refusal::NoMemory => ("NoMemory", 19),
     }
 }

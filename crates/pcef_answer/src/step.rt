@@ -38,8 +38,8 @@ pub fn step_answer(
     }
 }
 
-// What the session answered, with the reports that its journal has for it.
-fn command_answer(
+/// What a session answered to a command, with the reports that its journal has for it.
+pub fn command_answer(
     alloc: Global,
     journal: &Journal,
     answer: &Result<Accepted, Refusal>,

@@ -30,12 +30,12 @@ use Rattle.pcef_model.proofs.JournalExtends.{tables_after_flush}
 
 -- ---- sums
 -- fewer rules have no higher sum
-fewer_up : (t : Active → Bool) (rules : List Active) → total_up (filter t rules) ≤ total_up rules
+pub fewer_up : (t : Active → Bool) (rules : List Active) → total_up (filter t rules) ≤ total_up rules
 unfolding sum_up
 fewer_up t [] = omega arith
 fewer_up t (r ∷ rules) = let rest = fewer_up t rules in elim (cases_Bool (t r)) [ inl is ↦ rw is (omega (arith, rest)) | inr isnt ↦ rw isnt (omega (arith, rest)) ]
 
-fewer_down : (t : Active → Bool) (rules : List Active) → total_down (filter t rules) ≤ total_down rules
+pub fewer_down : (t : Active → Bool) (rules : List Active) → total_down (filter t rules) ≤ total_down rules
 unfolding sum_down
 fewer_down t [] = omega arith
 fewer_down t (r ∷ rules) = let rest = fewer_down t rules in elim (cases_Bool (t r)) [ inl is ↦ rw is (omega (arith, rest)) | inr isnt ↦ rw isnt (omega (arith, rest)) ]
@@ -44,7 +44,7 @@ stay : (new r : Active) (rules : List Active) → is_named new.properties.name r
 stay new r rules is once = without_none (λ (r : Active). r.properties.name) new.properties.name rules (subst (λ name. list_any (is_named name) rules ≡ false) (same_name_is r.properties.name new.properties.name is) once)
 
 -- a rule that is put in adds its rates to those of the others
-put_up : (new : Active) (rules : List Active) → NamesOnce rules → total_up (put new rules) ≡ total_up (without new.properties.name rules) + rate_up new.properties.rates
+pub put_up : (new : Active) (rules : List Active) → NamesOnce rules → total_up (put new rules) ≡ total_up (without new.properties.name rules) + rate_up new.properties.rates
 unfolding sum_up Once
 put_up new [] once = omega arith
 put_up new (r ∷ rules) once =
@@ -53,7 +53,7 @@ put_up new (r ∷ rules) once =
       | inr isnt ↦ let rest = put_up new rules once.1 in rw isnt (omega (arith, rest))
     ]
 
-put_down : (new : Active) (rules : List Active) → NamesOnce rules → total_down (put new rules) ≡ total_down (without new.properties.name rules) + rate_down new.properties.rates
+pub put_down : (new : Active) (rules : List Active) → NamesOnce rules → total_down (put new rules) ≡ total_down (without new.properties.name rules) + rate_down new.properties.rates
 unfolding sum_down Once
 put_down new [] once = omega arith
 put_down new (r ∷ rules) once =

@@ -22,6 +22,7 @@ pub mod Names
 pub mod NewLanes
 pub mod JournalExtends
 pub mod Reports
+pub mod Rooms
 pub mod RowsLater
 pub mod RulesAfter
 pub mod RulesNow

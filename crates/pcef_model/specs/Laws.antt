@@ -26,7 +26,9 @@ use Rattle.pcef_model.specs.Journals.{at, counted, counts_in, gen, level_of, now
 use Rattle.pcef_model.specs.Commands.{is_table}
 use Rattle.pcef_rule.specs.declared.quantity.Qos.{Qos}
 use Rattle.pcef_rule.specs.declared.quantity.Slot.{Slot}
-use Rattle.pcef_model.specs.Refusals.{total_down, total_up}
+use Rattle.pcef_model.specs.Refusals.{refusals_within, total_down, total_now, total_up}
+use Rattle.pcef_model.specs.Outcomes.{changes}
+use Rattle.pcef_rule.specs.declared.quantity.Sums.{Sums}
 use Rattle.pcef_model.specs.Slots.{CountsFor, IsWithin}
 use Rattle.pcef_model.specs.Lawful.{BatchFollows, Lawful}
 
@@ -101,6 +103,15 @@ SessionKeysHaveNoRule = (p : Setting) (j : Journal) → Lawful p j → (key : Li
 abbrev pub RatesAreWithinCapacity : Type 0
 RatesAreWithinCapacity = (p : Setting) (j : Journal) → Lawful p j →
     (total_up (now p j).rules ≤ p.capacity.up) × (total_down (now p j).rules ≤ p.capacity.down)
+
+-- a command that is accepted in a room leaves the rates within it, where they were within it (own choice)
+pub record IsInRoom (rates room : Sums) : Type 0 where
+  pub up : rates.up ≤ room.up
+  pub down : rates.down ≤ room.down
+
+abbrev pub RatesStayInTheRoom : Type 0
+RatesStayInTheRoom = (p : Setting) (j : Journal) (c : Command) (room : Sums) → first_of (refusals_within p j c (Some room)) ≡ None → changes p j c ≡ true →
+    IsInRoom (total_now p j) room → IsInRoom (total_now p (after_command p j c)) room
 
 -- ---- the end of a session (TS 29.212, clauses 4.5.16 and 4.5.17; own choice)
 -- after a Terminate no key that has a slot has unreported octets

@@ -1,6 +1,7 @@
 -- What a session answers to an event, and the journal after it (own choice).
 use Rattle.std.specs.Prelude.{ℕ, ◌≡◌, ◌⊎◌, Bool, true, false, not, List, Option, Some, None, Result, Ok, Err, find, length, map, if◌then◌else◌}
 use Rattle.pcef_rule.specs.declared.quantity.BearerId.{BearerId}
+use Rattle.pcef_rule.specs.declared.quantity.Sums.{Sums}
 use Rattle.pcef_model.specs.declared.command.Command.{Command}
 use Rattle.pcef_model.specs.declared.command.Command.TheVariants.{Install, Activate}
 use Rattle.pcef_model.specs.declared.row.Row.{Row}
@@ -21,7 +22,7 @@ use Rattle.pcef_model.specs.declared.answer.OpenFault.TheVariants as opening
 use Rattle.pcef_model.specs.declared.answer.Verdicts.{Verdicts}
 use Rattle.pcef_model.specs.declared.answer.Refusal.{Refusal}
 use Rattle.pcef_model.specs.declared.answer.Refusal.TheVariants as refusal
-use Rattle.pcef_model.specs.Refusals.{attach_faults, first_of, flush_refusals, is_active, is_attached, open_faults, refusals}
+use Rattle.pcef_model.specs.Refusals.{attach_faults, first_of, flush_refusals, is_active, is_attached, open_faults, refusals, refusals_within}
 
 -- an answer, and the journal after it
 abbrev pub Outcome : Type 0 → Type 0 → Type 0
@@ -60,6 +61,10 @@ command_outcome_by p j c None =
 
 unfoldable pub command_outcome : Setting → Journal → Command → Outcome Accepted Refusal
 command_outcome p j c = command_outcome_by p j c (first_of (refusals p j c))
+
+-- the same in a room, where the session has one
+unfoldable pub command_outcome_within : Setting → Journal → Command → Option Sums → Outcome Accepted Refusal
+command_outcome_within p j c room = command_outcome_by p j c (first_of (refusals_within p j c room))
 
 -- ---- workers
 abbrev pub attach_outcome_by : Journal → Option AttachFault → Outcome ℕ AttachFault
@@ -122,6 +127,9 @@ Opens p (Some f) = TellsFault (first_of (open_faults p)) opening.NoMemory f
 abbrev pub IsRefused : Setting → Journal → Command → Refusal → Type 0
 IsRefused p j c r = TellsFault (first_of (refusals p j c)) refusal.NoMemory r
 
+abbrev pub IsRefusedWithin : Setting → Journal → Command → Option Sums → Refusal → Type 0
+IsRefusedWithin p j c room r = TellsFault (first_of (refusals_within p j c room)) refusal.NoMemory r
+
 -- what was answered, and the journal after it, are as due
 abbrev pub Gives : {A R : Type 0} → Outcome A R → Result A R → Journal → Type 0
 Gives due result after = (result ≡ due.0) × (after ≡ due.1)
@@ -134,6 +142,11 @@ GivesOrLacks first want due before result after =
 abbrev pub CommandStep : Setting → Command → Journal → Result Accepted Refusal → Journal → Type 0
 CommandStep p c before result after =
     GivesOrLacks (first_of (refusals p before c)) refusal.NoMemory (command_outcome p before c) before result after
+
+-- the same in a room, where the session has one
+abbrev pub CommandStepWithin : Setting → Option Sums → Command → Journal → Result Accepted Refusal → Journal → Type 0
+CommandStepWithin p room c before result after =
+    GivesOrLacks (first_of (refusals_within p before c room)) refusal.NoMemory (command_outcome_within p before c room) before result after
 
 abbrev pub AttachStep : Journal → Result ℕ AttachFault → Journal → Type 0
 AttachStep before result after =

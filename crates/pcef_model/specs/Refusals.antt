@@ -18,7 +18,7 @@ use Rattle.pcef_model.specs.declared.entry.Entry.TheVariants as entry
 use Rattle.pcef_model.specs.Setting.{Setting, most_keys, most_rules, offer_named, same_level, same_qos}
 use Rattle.pcef_model.specs.Bearers.{default_id, is_gbr, is_non_gbr, rate_down, rate_up, sum_down, sum_up}
 use Rattle.pcef_model.specs.ActiveRules.{Active, is_named, without}
-use Rattle.pcef_model.specs.Generations.{Generation, free_id, has_bearer}
+use Rattle.pcef_model.specs.Generations.{Generation, free_id, has_bearer, rules_after}
 use Rattle.pcef_model.specs.Commands.{is_among}
 use Rattle.pcef_model.specs.Entries.{Journal, rows}
 use Rattle.pcef_model.specs.Journals.{attach_count, attached, level_of, now, slots}
@@ -89,6 +89,14 @@ total_up rules = sum_up (λ r. r.properties.rates) rules
 
 abbrev pub total_down : List Active → ℕ
 total_down rules = sum_down (λ r. r.properties.rates) rules
+
+-- both directions
+abbrev pub total : List Active → Sums
+total rules = record { up = total_up rules; down = total_down rules }
+
+-- what the guaranteed rates of all rules of a session sum up to now
+abbrev pub total_now : Setting → Journal → Sums
+total_now p j = total (now p j).rules
 
 -- what the bearer of a pair guarantees: the sums over the active rules with that pair (TS 23.203, clause 6.1.1.4)
 abbrev pub rate_of : Generation → Qos → Sums
@@ -168,6 +176,26 @@ own_refusals p j _ = []
 
 abbrev pub refusals : Setting → Journal → Command → Conditions Refusal
 refusals p j c = first_refusals p j c ++ own_refusals p j c
+
+-- ---- rooms (own choice): a session may share a pool of rates with others, which then leaves room for so much
+-- rates that are over a room
+abbrev pub over_room : Sums → Sums → Conditions Refusal
+over_room room rates = (nat_lt room.up rates.up, refusal.PoolUp) ∷ (nat_lt room.down rates.down, refusal.PoolDown) ∷ []
+
+-- what the rates of a session would sum up to after a command
+abbrev pub total_after : Setting → Journal → Command → Sums
+total_after p j c = total (rules_after p (now p j) c)
+
+-- a command that makes a rule active is refused where the rates would then be over the room
+abbrev pub room_refusals : Setting → Journal → Command → Sums → Conditions Refusal
+room_refusals p j (Install rule) room = over_room room (total_after p j (Install rule))
+room_refusals p j (Activate name) room = if is_active p j name then [] else over_room room (total_after p j (Activate name))
+room_refusals p j _ room = []
+
+-- all refusals, of a session that has a room or has none
+abbrev pub refusals_within : Setting → Journal → Command → Option Sums → Conditions Refusal
+refusals_within p j c None = refusals p j c
+refusals_within p j c (Some room) = refusals p j c ++ room_refusals p j c room
 
 -- ---- workers (own choice)
 abbrev pub is_attached : Journal → ℕ → Bool

@@ -61,6 +61,10 @@ pub enum Refusal {
     OverCapacityUp,
     /// The sum of downlink rates would be over the capacity.
     OverCapacityDown,
+    /// The session's uplink rates would be over the room that its pool has for them.
+    PoolUp,
+    /// The session's downlink rates would be over the room that its pool has for them.
+    PoolDown,
     /// There is no memory left.
     NoMemory,
 }
@@ -88,6 +92,8 @@ impl Refusal {
             Refusal::TooManyBearers => "no more bearers can be established",
             Refusal::OverCapacityUp => "the uplink rates are over the capacity",
             Refusal::OverCapacityDown => "the downlink rates are over the capacity",
+            Refusal::PoolUp => "the uplink rates are over the room in the pool",
+            Refusal::PoolDown => "the downlink rates are over the room in the pool",
             Refusal::NoMemory => "there is no memory left",
         }
     }

@@ -1,6 +1,6 @@
 //! Laws of the definitions, proved for whoever reads them.
 
-ghost use Rattle.pcef_model.specs.Laws.{CommandsAreWithinTheProfile, EarlierGenerationsStay, IdsAreDistinct, IdsAreInRange, KeysAreFew, NothingFollowsTheEnd, NothingIsLost, NothingIsReportedTwice, NothingIsUnreportedAtTheEnd, LanesAreNumbered, LevelsStay, RatesAreWithinCapacity, ReportsLeaveGenerations, RowsAreWithinTheProfile, RowsCountByTheirOwnGeneration, RowsHaveTheirVerdicts, RowsLeaveGenerations, SessionKeysHaveNoRule, SlotsStay, TableCommandsMakeTheNext, WaitingRowsStay, WaitingRowsStayBesideOthers};
+ghost use Rattle.pcef_model.specs.Laws.{CommandsAreWithinTheProfile, EarlierGenerationsStay, IdsAreDistinct, IdsAreInRange, KeysAreFew, NothingFollowsTheEnd, NothingIsLost, NothingIsReportedTwice, NothingIsUnreportedAtTheEnd, LanesAreNumbered, LevelsStay, RatesAreWithinCapacity, RatesStayInTheRoom, ReportsLeaveGenerations, RowsAreWithinTheProfile, RowsCountByTheirOwnGeneration, RowsHaveTheirVerdicts, RowsLeaveGenerations, SessionKeysHaveNoRule, SlotsStay, TableCommandsMakeTheNext, WaitingRowsStay, WaitingRowsStayBesideOthers};
 
 /// How journals grow: earlier generations stay, and each row counts by its own.
 pub fn journals_grow()
@@ -18,11 +18,12 @@ pub fn usage_is_exact()
 {}
 
 /// The ids of bearers: 5 to 15, and no two bearers have the same. The guaranteed rates of all rules are within
-/// the capacity.
+/// the capacity, and stay within the room that a pool leaves.
 pub fn bearers_have_their_own_ids()
     ensures distinct { IdsAreDistinct }
     ensures in_range { IdsAreInRange }
     ensures capacity { RatesAreWithinCapacity }
+    ensures room { RatesStayInTheRoom }
 {}
 
 /// Rows that wait lose nothing while they do: they may still come next, and count for the same keys.
