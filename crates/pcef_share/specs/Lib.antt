@@ -1,3 +1,4 @@
 pub mod Amounts
 pub mod Names
+pub mod Rates
 pub mod private

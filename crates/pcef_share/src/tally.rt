@@ -1,6 +1,6 @@
 //! A ledger's book and a part of it, each beside the number that it stands for.
 
-ghost use Rattle.std.specs.Prelude.{◌≡◌, ℕ, ◌+◌, ◌<◌, ◌≤◌, ◌^◌};
+ghost use Rattle.std.specs.Prelude.{◌≡◌, ℕ, ◌+◌, ◌-◌, ◌<◌, ◌≤◌, ◌^◌};
 ghost use Rattle.pcef_share.specs.private.Standings.{Standing};
 
 use std::marker::Model;
@@ -35,6 +35,30 @@ impl<L: Ledger> Model for Tally<L> {
     ghost view = { λ t. record { total = t.total; parts = t.kept.parts; amount = t.kept.amount } };
 
     ghost invariant = { λ t. t.total ≡ t.book.total };
+}
+
+/// A part of a ledger that keeps the number that it stands for.
+#[derive(Drop)]
+pub struct Portion<L: Ledger> {
+    held: u64,
+    part: Part<L>,
+}
+
+impl<L: Ledger> Model for Portion<L> {
+    ghost Value = { ℕ };
+
+    ghost view = { λ p. p.held };
+
+    ghost invariant = { λ p. p.part ≡ p.held };
+}
+
+impl<L: Ledger> Portion<L> {
+    /// What it stands for.
+    pub fn held(&self) -> u64
+        ensures { result ≡ self.now }
+    {
+        self.held
+    }
 }
 
 impl<L: Ledger> Tally<L> {
@@ -82,6 +106,18 @@ impl<L: Ledger> Tally<L> {
         self.total += amount;
     }
 
+    /// Takes from a part and from the total.
+    pub fn take(&mut self, part: &mut Part<L>, amount: u64)
+        requires { amount ≤ part.old }
+        ensures part { part.new ≡ part.old - amount }
+        ensures tally { self.new ≡ record self.old { total = self.old.total - amount } }
+        ensures bound { part.old ≤ self.old.total }
+    {
+        self.book.audit(&mut part.share);
+        self.book.sub(&mut part.share, amount);
+        self.total -= amount;
+    }
+
     /// A part comes back, with what was added to it.
     pub fn take_back(&mut self, part: Part<L>)
         ensures total { self.new.total ≡ self.old.total }
@@ -91,6 +127,52 @@ impl<L: Ledger> Tally<L> {
     {
         let Part { share } = part;
         self.kept.merge(share);
+    }
+
+    /// One part less here, which keeps its number, 0.
+    pub fn issue_portion(&mut self) -> Portion<L>
+        requires { (0 < self.old.parts) × (self.old.amount ≡ 0) }
+        ensures part { result ≡ 0 }
+        ensures total { self.new.total ≡ self.old.total }
+        ensures parts { self.new.parts + 1 ≡ self.old.parts }
+        ensures amount { self.new.amount ≡ 0 }
+    {
+        Portion {
+            held: 0,
+            part: self.issue(),
+        }
+    }
+
+    /// Sets a portion to a number, and moves the total by the difference.
+    pub fn change(&mut self, portion: &mut Portion<L>, to: u64)
+        requires { self.old.total - portion.old + to < 2 ^ 64 }
+        ensures portion { portion.new ≡ to }
+        ensures tally { self.new
+            ≡ record self.old { total = self.old.total - portion.old + to } }
+        ensures bound { portion.old ≤ self.old.total }
+    {
+        self.take(&mut portion.part, portion.held);
+        self.add(&mut portion.part, to);
+        portion.held = to;
+    }
+
+    /// Shows that a portion has no more than the total, and changes nothing.
+    pub fn compare(&mut self, portion: &mut Portion<L>)
+        ensures same { (self.new ≡ self.old) × (portion.new ≡ portion.old) }
+        ensures bound { portion.old ≤ self.old.total }
+    {
+        self.book.audit(&mut portion.part.share);
+    }
+
+    /// A portion comes back, with its number.
+    pub fn take_portion_back(&mut self, portion: Portion<L>)
+        ensures total { self.new.total ≡ self.old.total }
+        ensures parts { self.new.parts ≡ self.old.parts + 1 }
+        ensures amount { self.new.amount ≡ self.old.amount + portion }
+        ensures bound { self.new.parts ≤ L.parts }
+    {
+        let Portion { held: _, part } = portion;
+        self.take_back(part);
     }
 
     /// The total where all parts are here: it is what was added to them.
