@@ -1,10 +1,11 @@
 -- Sums of guaranteed rates over part of the rules.
-use Rattle.std.proofs.Common.{◌≡◌, ◌≤◌, ◌<◌, ◌+◌, ℕ, zero, suc, Bool, List, [], ◌∷◌, refl, arith, inl, inr, drop, length, get_or, filter, add-one}
+use Rattle.std.proofs.Common.{◌≡◌, ◌∙◌, ◌≤◌, ◌<◌, ◌+◌, ℕ, zero, suc, Bool, true, List, [], ◌∷◌, refl, sym, ap, arith, inl, inr, drop, length, get_or, filter, add-one}
 use Rattle.std.specs.Prelude.{if◌then◌else◌}
 use Rattle.std.proofs.lemmas.Bool.{cases_Bool}
 use Rattle.pcef_bearer.specs.declared.bearers.Bound.{Bound}
 use Rattle.pcef_model.specs.Bearers.{rate_down, rate_up, sum_up, sum_down}
 use Rattle.pcef_bearer.specs.Bindings.{total_down, total_up}
+use Rattle.pcef_model.proofs.RulesAfter.{filter_all}
 
 -- one rule more or less
 cons_up : (p : Bound → Bool) (b : Bound) (bound : List Bound) →
@@ -97,3 +98,22 @@ pub on_down : (p : Bound → Bool) (bound : List Bound) (i : ℕ) (b : Bound) (s
 on_down p bound i b sum more within is sofar adds =
     let step : total_down (filter p (drop i bound)) ≡ more + total_down (filter p (drop (suc i) bound)) = rw adds (step_down p bound i b within is) in
     rw add-one (omega (arith, step, sofar))
+
+-- ---- all rules
+pub all_up : (bound : List Bound) (i : ℕ) (b : Bound) (sum more : ℕ) → i < length bound → b ≡ get_or bound i b →
+    sum + total_up (drop i bound) ≡ total_up bound → more ≡ rate_up b.rates → sum + more + total_up (drop (i + 1) bound) ≡ total_up bound
+all_up bound i b sum more within is sofar adds =
+    let on = on_up (λ (x : Bound). true) bound i b sum more within is (ap (λ xs. sum + total_up xs) (filter_all (drop i bound)) ∙ sofar ∙ ap (λ xs. total_up xs) (sym (filter_all bound))) adds in
+    ap (λ xs. sum + more + total_up xs) (sym (filter_all (drop (i + 1) bound))) ∙ on ∙ ap (λ xs. total_up xs) (filter_all bound)
+
+pub all_down : (bound : List Bound) (i : ℕ) (b : Bound) (sum more : ℕ) → i < length bound → b ≡ get_or bound i b →
+    sum + total_down (drop i bound) ≡ total_down bound → more ≡ rate_down b.rates → sum + more + total_down (drop (i + 1) bound) ≡ total_down bound
+all_down bound i b sum more within is sofar adds =
+    let on = on_down (λ (x : Bound). true) bound i b sum more within is (ap (λ xs. sum + total_down xs) (filter_all (drop i bound)) ∙ sofar ∙ ap (λ xs. total_down xs) (sym (filter_all bound))) adds in
+    ap (λ xs. sum + more + total_down xs) (sym (filter_all (drop (i + 1) bound))) ∙ on ∙ ap (λ xs. total_down xs) (filter_all bound)
+
+pub none_up : (bound : List Bound) (i : ℕ) → length bound ≤ i → total_up (drop i bound) ≡ 0
+none_up bound i past = ap (λ xs. total_up xs) (sym (filter_all (drop i bound))) ∙ past_up (λ (x : Bound). true) bound i past
+
+pub none_down : (bound : List Bound) (i : ℕ) → length bound ≤ i → total_down (drop i bound) ≡ 0
+none_down bound i past = ap (λ xs. total_down xs) (sym (filter_all (drop i bound))) ∙ past_down (λ (x : Bound). true) bound i past

@@ -1,5 +1,5 @@
 -- Which bearers rules are bound to, and what may be bound (TS 23.203, clauses 6.1.1.4 and 6.2.2.2).
-use Rattle.std.specs.Prelude.{ℕ, ◌≡◌, ◌≤◌, ◌<◌, ◌==◌, Bool, true, false, ◌&&◌, ◌||◌, not, List, [], Option, Some, None, Result, Ok, Err, All, AllPairs, filter, find, is_none, length, if◌then◌else◌}
+use Rattle.std.specs.Prelude.{ℕ, ◌≡◌, ◌≤◌, ◌<◌, ◌+◌, ◌==◌, Bool, true, false, ◌&&◌, ◌||◌, not, List, [], Option, Some, None, Result, Ok, Err, All, AllPairs, filter, find, is_none, length, if◌then◌else◌}
 use Rattle.std.specs.List.{list_any}
 use Rattle.pcef_rule.specs.declared.qci.Kind.{Kind}
 use Rattle.pcef_rule.specs.declared.qci.Kind.TheVariants.{NonGbr}
@@ -8,7 +8,7 @@ use Rattle.pcef_rule.specs.declared.quantity.Rates.{Rates}
 use Rattle.pcef_rule.specs.declared.quantity.Sums.{Sums}
 use Rattle.pcef_rule.specs.QciKinds.{kind_of}
 use Rattle.pcef_model.specs.Setting.{same_name, same_qos}
-use Rattle.pcef_model.specs.Bearers.{default_id, has_pair, least_free as free, sum_down, sum_up}
+use Rattle.pcef_model.specs.Bearers.{default_id, has_pair, least_free as free, rate_down, rate_up, sum_down, sum_up}
 use Rattle.pcef_model.specs.Refusals.{Conditions, bind_refusals, first_of}
 use Rattle.pcef_model.specs.declared.answer.Refusal.{Refusal}
 use Rattle.pcef_model.specs.declared.command.Command.{Command}
@@ -64,6 +64,17 @@ total_up bound = sum_up (λ b. b.rates) bound
 
 abbrev pub total_down : List Bound → ℕ
 total_down bound = sum_down (λ b. b.rates) bound
+
+-- both directions
+abbrev pub total : List Bound → Sums
+total bound = record { up = total_up bound; down = total_down bound }
+
+-- what the rates would sum up to with a rule of this name and these rates
+abbrev pub total_with : Binding → List ℕ → Option Rates → Sums
+total_with v name rates = record {
+  up = total_up (without name v.bound) + rate_up rates;
+  down = total_down (without name v.bound) + rate_down rates;
+}
 
 -- the bearer of a rule
 abbrev pub bearer_in : Option Bound → Option BearerId

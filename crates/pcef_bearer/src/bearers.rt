@@ -5,12 +5,13 @@ ghost use Rattle.std.specs.List.{list_any};
 ghost use Rattle.pcef_rule.specs.declared.qci.Kind.TheVariants as kind;
 ghost use Rattle.pcef_rule.specs.QciKinds.{kind_of};
 ghost use Rattle.pcef_model.specs.declared.answer.OpenFault.TheVariants as fault;
-ghost use Rattle.pcef_bearer.specs.Bindings.{bearer_of, bound_with, empty_binding, first_refusal, guaranteed, id_for, is_named, kept_by, left_by, number_of, refusal_in, rules_on, with_rules, without, GetsId, HasRoom, IsAccepted, IsBinding};
+ghost use Rattle.pcef_bearer.specs.Bindings.{bearer_of, bound_with, empty_binding, first_refusal, guaranteed, id_for, is_named, kept_by, left_by, number_of, refusal_in, rules_on, total, total_with, with_rules, without, GetsId, HasRoom, IsAccepted, IsBinding};
 ghost use Rattle.pcef_model.specs.Bearers.{is_gbr, is_non_gbr};
+ghost use Rattle.pcef_model.specs.Refusals.{first_of, over_room};
 
 use crate::ids::{count_on, finds_no_bearer, id_excluding, is_present};
 use crate::lookup::{drop_named, drop_taken, has_name, named, put};
-use crate::rates::{is_over, sums_excluding, sums_of, sums_on};
+use crate::rates::{is_over, is_over_room, sums_excluding, sums_of, sums_of_all, sums_on};
 use crate::vacant::{BoundRules, Vacant};
 use arrayvec::ArrayVec;
 use pcef_model::{Command, OpenFault, Refusal};
@@ -161,6 +162,29 @@ impl Bearers {
         ensures { result ≡ first_refusal self.now name.now qos rates }
     {
         self.refusal_excluding(name, &qos, rates)
+    }
+
+    /// Why the rates of all rules would be over a room with a rule of this name and these rates, if they would. What is
+    /// bound under its name doesn't count.
+    pub fn room_refusal(&self, name: &RuleName, rates: Option<Rates>, room: Sums) -> Option<Refusal>
+        ensures { result ≡ first_of (over_room room (total_with self.now name.now rates)) }
+    {
+        let rest = sums_excluding(name, &self.bound);
+        let own = sums_of(rates);
+        if is_over_room(room.up, rest.up, own.up) {
+            return Some(Refusal::PoolUp);
+        }
+        if is_over_room(room.down, rest.down, own.down) {
+            return Some(Refusal::PoolDown);
+        }
+        None
+    }
+
+    /// The sums of the guaranteed rates of all rules.
+    pub fn total(&self) -> Sums
+        ensures { result ≡ total self.now.bound }
+    {
+        sums_of_all(&self.bound)
     }
 
     /// The bearer that a rule of this name gets by this pair: the one of the pair, or else the least id

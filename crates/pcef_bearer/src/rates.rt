@@ -68,6 +68,33 @@ pub(crate) fn sums_on(id: BearerId, bound: &[Bound]) -> Sums
     Sums { up, down }
 }
 
+/// The sums over all rules.
+pub(crate) fn sums_of_all(bound: &[Bound]) -> Sums
+    requires up { total_up bound.now < 2 ^ 64 }
+    requires down { total_down bound.now < 2 ^ 64 }
+    ensures up { result.up ≡ total_up bound.now }
+    ensures down { result.down ≡ total_down bound.now }
+{
+    let mut up: u64 = 0;
+    let mut down: u64 = 0;
+    for b in bound {
+        let more = sums_of(b.rates);
+        up += more.up;
+        down += more.down;
+    }
+    Sums { up, down }
+}
+
+/// Whether a sum with some more is over a room.
+pub(crate) fn is_over_room(room: u64, sum: u64, more: u64) -> bool
+    ensures { result ≡ nat_lt room (sum + more) }
+{
+    if room < sum {
+        return true;
+    }
+    room - sum < more
+}
+
 /// Whether a sum with some more is over the capacity.
 pub(crate) fn is_over(capacity: u64, sum: u64, more: u64) -> bool
     requires { sum ≤ capacity }
