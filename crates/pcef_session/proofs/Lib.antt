@@ -12,6 +12,7 @@ pub mod Leaving
 pub mod NextTables
 pub mod PlacedRules
 pub mod Refused
+pub mod RoomRates
 pub mod RowLoops
 pub mod SessionFlags
 pub mod ShownChanges

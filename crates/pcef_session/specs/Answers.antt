@@ -1,10 +1,11 @@
 -- What a session answers to an event, and the session after it, each in one fact.
-use Rattle.std.specs.Prelude.{ℕ, ◌≡◌, ◌≤◌, ◌<◌, List, [], Option, Result, Ok, MatchOption, map}
+use Rattle.std.specs.Prelude.{ℕ, ◌≡◌, ◌≤◌, ◌<◌, List, [], Option, None, Result, Ok, MatchOption, map}
 use Rattle.std.specs.Result.{result_map_both}
 use Rattle.pcef_bearer.specs.Bindings.{Binding}
 use Rattle.pcef_bearer.specs.Standing.{binding_of}
 use Rattle.pcef_lane.specs.declared.lanes.LaneEnd.{LaneEnd}
 use Rattle.pcef_lane.specs.Lanes.{lane_end}
+use Rattle.pcef_rule.specs.declared.quantity.Sums.{Sums}
 use Rattle.pcef_model.specs.declared.answer.Accepted.{Accepted}
 use Rattle.pcef_model.specs.declared.answer.FlushRefusal.{FlushRefusal}
 use Rattle.pcef_model.specs.declared.answer.Refusal.{Refusal}
@@ -13,7 +14,8 @@ use Rattle.pcef_model.specs.declared.command.Command.{Command}
 use Rattle.pcef_model.specs.Entries.{Journal}
 use Rattle.pcef_model.specs.Journals.{attach_count, gen, now}
 use Rattle.pcef_model.specs.Lawful.{BatchFollows}
-use Rattle.pcef_model.specs.Outcomes.{CommandStep, FinishStep, FlushAnswer, FlushStep, Gives, IsRefused, command_outcome, finish_answer_of, flush_answer_of}
+use Rattle.pcef_model.specs.Outcomes.{CommandStep, CommandStepWithin, FinishStep, FlushAnswer, FlushStep, Gives, IsRefused, IsRefusedWithin, command_outcome, finish_answer_of, flush_answer_of}
+use Rattle.pcef_model.specs.Refusals.{first_of, refusals_within}
 use Rattle.pcef_model.specs.Setting.{Setting}
 use Rattle.pcef_table.specs.declared.entry.Source.{Source}
 use Rattle.pcef_table.specs.Tables.{TableValue}
@@ -35,6 +37,14 @@ IsOpened p s = (s.setting ≡ p) × (s.journal ≡ [])
 abbrev pub Refuses : SessionModel → Command → Refusal → Type 0
 Refuses s command refusal = IsRefused s.setting s.journal command refusal
 
+-- the same in a room, where the session has one
+abbrev pub RefusesWithin : SessionModel → Command → Option Sums → Refusal → Type 0
+RefusesWithin s command room refusal = IsRefusedWithin s.setting s.journal command room refusal
+
+-- nothing refuses a command in a room, where the session has one
+abbrev pub AcceptsWithin : SessionModel → Command → Option Sums → Type 0
+AcceptsWithin s command room = first_of (refusals_within s.setting s.journal command room) ≡ None
+
 -- what was prepared for the session before is prepared for the session after, too
 abbrev pub KeepsPrepared : SessionModel → SessionModel → Type 0
 KeepsPrepared before after = (d : Prepared) → IsPreparedFor before d → IsPreparedFor after d
@@ -51,6 +61,10 @@ Settles before prepared told after = DoesCommand before (command_of prepared) to
 -- a command is answered as due, or for want of memory refused
 abbrev pub AnswersCommand : SessionModel → Command → Result Accepted Refusal → SessionModel → Type 0
 AnswersCommand before command result after = CommandStep before.setting command before.journal result after.journal
+
+-- the same in a room, where the session has one
+abbrev pub AnswersCommandWithin : SessionModel → Command → Option Sums → Result Accepted Refusal → SessionModel → Type 0
+AnswersCommandWithin before command room result after = CommandStepWithin before.setting room command before.journal result after.journal
 
 -- ---- rows that are handed over
 -- the rows of these items may come next from a worker

@@ -9,7 +9,7 @@ ghost use Rattle.pcef_model.specs.Entries.{lane};
 ghost use Rattle.pcef_model.specs.Generations.{at_first};
 ghost use Rattle.pcef_model.specs.Journals.{gen};
 ghost use Rattle.pcef_model.specs.Lawful.{Lawful};
-ghost use Rattle.pcef_model.specs.Refusals.{attach_faults, first_of, open_faults, was_closed, was_terminated};
+ghost use Rattle.pcef_model.specs.Refusals.{attach_faults, first_of, open_faults, total_now, was_closed, was_terminated};
 ghost use Rattle.pcef_model.specs.ProfileModel.{setting_of};
 ghost use Rattle.pcef_table.specs.SessionSlots.{no_slots};
 ghost use Rattle.pcef_session.specs.Agreement.{KeysAgree};
@@ -22,7 +22,7 @@ use pcef_index::Indexed;
 use pcef_journal::Journal;
 use pcef_lane::{Lanes, MAX_WORKERS};
 use pcef_model::{AttachFault, Entry, OpenFault, Profile, TriggerSet};
-use pcef_rule::{Kind, RuleName};
+use pcef_rule::{Kind, RuleName, Sums};
 use pcef_table::Source;
 use pcef_usage::{CountedJournal, Usage};
 use std::alloc::{AllocError, Global};
@@ -205,6 +205,13 @@ impl SessionState {
         ensures { result.now ≡ binding_now self.now }
     {
         &self.bearers
+    }
+
+    /// What the guaranteed rates of all active rules sum up to, in bit/s.
+    pub fn rates(&self) -> Sums
+        ensures { result ≡ total_now self.now.setting self.now.journal }
+    {
+        self.bearers.total()
     }
 
     /// The keys that have a slot, with their usage: reported and unreported octets are together those that

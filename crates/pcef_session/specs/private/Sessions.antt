@@ -1,15 +1,17 @@
 -- What is asked of a session, in its own words.
-use Rattle.std.specs.Prelude.{ℕ, ◌≡◌, ◌∷◌, ◌&&◌, Bool, false, true, not, List, Option, None, is_some, length, nat_le}
+use Rattle.std.specs.Prelude.{ℕ, ◌≡◌, ◌+◌, ◌∷◌, ◌&&◌, Bool, false, true, not, List, Option, None, is_some, length, nat_le}
 use Rattle.std.specs.Option.{option_map}
 use Rattle.pcef_rule.specs.declared.rule.Properties.{Properties}
 use Rattle.pcef_model.specs.declared.answer.Refusal.{Refusal}
 use Rattle.pcef_model.specs.declared.answer.Refusal.TheVariants as refusal
 use Rattle.pcef_model.specs.declared.command.Command.{Command}
 use Rattle.pcef_model.specs.declared.command.Command.TheVariants.{Activate}
-use Rattle.pcef_model.specs.ActiveRules.{predefined, without}
+use Rattle.pcef_model.specs.ActiveRules.{Active, predefined, without}
+use Rattle.pcef_model.specs.Bearers.{rate_down, rate_up}
+use Rattle.pcef_rule.specs.declared.quantity.Sums.{Sums}
 use Rattle.pcef_model.specs.Commands.{activated}
 use Rattle.pcef_model.specs.Journals.{now}
-use Rattle.pcef_model.specs.Refusals.{becoming_active, bindings, first_of, flush_refusals, is_active, limited_count, own_refusals, refusals, was_closed, was_terminated}
+use Rattle.pcef_model.specs.Refusals.{becoming_active, bindings, first_of, flush_refusals, is_active, limited_count, over_room, own_refusals, refusals, total_down, total_up, was_closed, was_terminated}
 use Rattle.pcef_model.specs.Reports.{after_command}
 use Rattle.pcef_model.specs.Setting.{most_rules, offer_named}
 use Rattle.pcef_table.specs.Tables.{TableValue}
@@ -35,6 +37,16 @@ install_refusal s rule =
 abbrev pub binding_refusal : SessionModel → Properties → Option Refusal
 binding_refusal s rule =
     first_of (bindings s.setting (now s.setting s.journal) rule (without rule.name (now s.setting s.journal).rules))
+
+-- why the rates of all rules would be over a room with a rule
+abbrev pub rates_with : Properties → List Active → Sums
+rates_with rule rules = record {
+  up = total_up (without rule.name rules) + rate_up rule.rates;
+  down = total_down (without rule.name rules) + rate_down rule.rates;
+}
+
+abbrev pub room_refusal : SessionModel → Properties → Sums → Option Refusal
+room_refusal s rule room = first_of (over_room room (rates_with rule (now s.setting s.journal).rules))
 
 -- a rule is new, and there is no place for one more
 abbrev pub finds_no_place : SessionModel → List ℕ → Bool

@@ -7,7 +7,7 @@ ghost use Rattle.pcef_model.specs.Outcomes.{changes};
 ghost use Rattle.pcef_model.specs.Commands.{activated, is_table};
 ghost use Rattle.pcef_model.specs.Journals.{attached, now};
 ghost use Rattle.pcef_model.specs.Reports.{inactive, keys_ended, plan};
-ghost use Rattle.pcef_session.specs.Answers.{KeepsPrepared, Refuses};
+ghost use Rattle.pcef_session.specs.Answers.{AcceptsWithin, KeepsPrepared, Refuses, RefusesWithin};
 ghost use Rattle.pcef_session.specs.Preparing.{GetsBearer, IsPreparedFor, IsReady, command_of};
 ghost use Rattle.pcef_session.specs.private.Entries.{ShowsNext};
 ghost use Rattle.pcef_session.specs.private.Keys.{key_switched};
@@ -25,7 +25,7 @@ use crate::prepared::{Activation, Prepared, PreparedChange};
 use pcef_catalog::Listing;
 use pcef_index::Indexed;
 use pcef_model::{Command, PendingReport, Refusal};
-use pcef_rule::{BearerId, KeyName, RuleName};
+use pcef_rule::{BearerId, KeyName, RuleName, Sums};
 use pcef_table::{Source, Table};
 use std::alloc::{AllocError, Global};
 use std::sync::Arc;
@@ -301,6 +301,29 @@ impl SessionState {
         }
     }
 
+    /// Prepares a command, in a room where the session has one.
+    fn prepare_in(&mut self, command: Command, room: Option<Sums>) -> Result<Prepared, Refusal>
+        ensures setting { self.new.setting ≡ self.old.setting }
+        ensures journal { self.new.journal ≡ self.old.journal }
+        ensures room { HasAtLeast self.old.room self.new.room }
+        ensures refused { IfErr result (RefusesWithin self.old command room) }
+        ensures accepted { OnOk result (AcceptsWithin self.old command room) }
+        ensures ready { IfOk result (λ d. IsPreparedFor self.new d) }
+        ensures command { IfOk result (λ d. command_of d ≡ command) }
+        ensures others { KeepsPrepared self.old self.new }
+    {
+        if let Some(refusal) = self.refusal_within(&command, room) {
+            return Err(refusal);
+        }
+        if let Some(name) = self.active_already(&command) {
+            return Ok(Prepared::Unchanged(name));
+        }
+        match self.ready(command) {
+            Ok(change) => Ok(Prepared::Changing(change)),
+            Err(_) => Err(Refusal::NoMemory),
+        }
+    }
+
     /// Looks whether a command is accepted, and takes all memory that it needs, or answers the first
     /// refusal in the order of [`Refusal`]. Changes nothing that can be seen, and leaves no less room: what
     /// was prepared before can still be settled.
@@ -313,15 +336,22 @@ impl SessionState {
         ensures command { IfOk result (λ d. command_of d ≡ command) }
         ensures others { KeepsPrepared self.old self.new }
     {
-        if let Some(refusal) = self.refusal(&command) {
-            return Err(refusal);
-        }
-        if let Some(name) = self.active_already(&command) {
-            return Ok(Prepared::Unchanged(name));
-        }
-        match self.ready(command) {
-            Ok(change) => Ok(Prepared::Changing(change)),
-            Err(_) => Err(Refusal::NoMemory),
-        }
+        self.prepare_in(command, None)
+    }
+
+    /// The same for a session whose pool leaves it this room, in bit/s, for the guaranteed rates of all its rules. An
+    /// Install or an Activate that would bring them over it is refused: uplink with [`Refusal::PoolUp`], and then
+    /// downlink with [`Refusal::PoolDown`], after every other refusal and before want of memory.
+    pub fn prepare_within(&mut self, command: Command, room: Sums) -> Result<Prepared, Refusal>
+        ensures setting { self.new.setting ≡ self.old.setting }
+        ensures journal { self.new.journal ≡ self.old.journal }
+        ensures room { HasAtLeast self.old.room self.new.room }
+        ensures refused { IfErr result (RefusesWithin self.old command (Some room)) }
+        ensures accepted { OnOk result (AcceptsWithin self.old command (Some room)) }
+        ensures ready { IfOk result (λ d. IsPreparedFor self.new d) }
+        ensures command { IfOk result (λ d. command_of d ≡ command) }
+        ensures others { KeepsPrepared self.old self.new }
+    {
+        self.prepare_in(command, Some(room))
     }
 }

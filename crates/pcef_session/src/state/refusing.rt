@@ -1,20 +1,20 @@
 //! Why commands are refused.
 
-ghost use Rattle.std.specs.Prelude.{◌≡◌, ◌==◌};
+ghost use Rattle.std.specs.Prelude.{◌≡◌, ◌==◌, None};
 ghost use Rattle.std.specs.List.{list_any};
 ghost use Rattle.std.specs.Option.{option_copied};
 ghost use Rattle.pcef_model.specs.Journals.{now, slots};
 ghost use Rattle.pcef_usage.specs.Keys.{clashes as key_clashes, finds_no_slot as slotless, has_slot};
 ghost use Rattle.pcef_model.specs.Commands.{is_among};
 ghost use Rattle.pcef_model.specs.declared.command.Command.TheVariants as of;
-ghost use Rattle.pcef_model.specs.Refusals.{becoming_active, clashes, common_refusals, end_refusals, finds_no_slot, first_of, first_refusals, is_active, is_bearer, refusals};
-ghost use Rattle.pcef_session.specs.private.Sessions.{TellsFull, binding_refusal, finds_no_place, install_refusal, own_refusal};
+ghost use Rattle.pcef_model.specs.Refusals.{becoming_active, clashes, common_refusals, end_refusals, finds_no_slot, first_of, first_refusals, is_active, is_bearer, refusals, refusals_within, room_refusals};
+ghost use Rattle.pcef_session.specs.private.Sessions.{TellsFull, binding_refusal, finds_no_place, install_refusal, own_refusal, room_refusal};
 
 use super::{MAX_RULES, SessionState};
 use crate::keys::{is_on, level_of};
 use pcef_bearer::{Bound, DEFAULT_BEARER};
 use pcef_model::{Command, Level, Profile, Refusal};
-use pcef_rule::{BearerId, KeyName, Properties, RuleName};
+use pcef_rule::{BearerId, KeyName, Properties, RuleName, Sums};
 use pcef_usage::{MAX_KEYS, Usage, is_same_level};
 
 /// How many commands a journal takes.
@@ -299,5 +299,55 @@ impl SessionState {
             return Some(refusal);
         }
         self.own_refusal(command)
+    }
+
+    /// Why the rates of all rules would be over a room with a rule, if they would.
+    fn over_room(&self, rule: &Properties, room: Sums) -> Option<Refusal>
+        ensures { result ≡ room_refusal self.now rule.now room }
+    {
+        self.bearers.room_refusal(&rule.name, rule.rates, room)
+    }
+
+    /// Why a command that nothing else refuses is refused in a room.
+    fn room_refusal(&self, command: &Command, room: Sums) -> Option<Refusal>
+        requires { first_of (refusals self.now.setting self.now.journal command.now) ≡ None }
+        ensures { result
+            ≡ first_of (room_refusals self.now.setting self.now.journal command.now room) }
+    {
+        match command {
+            Command::Install(rule) => self.over_room(rule.properties(), room),
+            Command::Activate(name) => {
+                if self.is_active(name) {
+                    return None;
+                }
+                match self.offered(name) {
+                    Some(rule) => self.over_room(&rule.properties, room),
+                    None => unreachable!(),
+                }
+            }
+            Command::Remove(_)
+            | Command::Monitor { .. }
+            | Command::Stop(_)
+            | Command::ReportNow(_)
+            | Command::LoseBearer(_)
+            | Command::Terminate
+            | Command::Triggers(_)
+            | Command::Notice { .. }
+            | Command::Close => None,
+        }
+    }
+
+    /// The same, in a room where the session has one.
+    pub(crate) fn refusal_within(&self, command: &Command, room: Option<Sums>) -> Option<Refusal>
+        ensures { result
+            ≡ first_of (refusals_within self.now.setting self.now.journal command.now room) }
+    {
+        if let Some(refusal) = self.refusal(command) {
+            return Some(refusal);
+        }
+        match room {
+            Some(room) => self.room_refusal(command, room),
+            None => None,
+        }
     }
 }
