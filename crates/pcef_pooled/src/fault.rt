@@ -1,0 +1,23 @@
+//! Why sessions can't be opened on a pool.
+
+use pcef_model::OpenFault;
+use pcef_pool::PoolFault;
+use thiserror::Error;
+
+/// Why sessions can't be opened on a pool. Of several faults the first in this order is answered.
+#[derive(Clone, Copy, Debug, PartialEq, Eq, Error)]
+pub enum PooledFault {
+    /// There is to be no session, or more than sixty-four.
+    #[error("a pool has one to sixty-four sessions")]
+    Sessions,
+    /// The session of this number, counted from 0, can't be opened. Want of memory is told as
+    /// [`PooledFault::NoMemory`].
+    #[error("session {0} can't be opened: {1}")]
+    Session(u8, OpenFault),
+    /// The pool can't be made.
+    #[error("{0}")]
+    Pool(PoolFault),
+    /// There is no memory left.
+    #[error("there is no memory left")]
+    NoMemory,
+}
