@@ -101,7 +101,8 @@ impl From<SharedFault> for Failure {
     fn from(fault: SharedFault) -> Failure {
         match fault {
             SharedFault::NoMemory => Failure::NoMemory,
-            SharedFault::Places | SharedFault::ReaderRefused => Failure::Shared,
+            SharedFault::Places | SharedFault::PoolPlaces | SharedFault::ReaderRefused =>
+                Failure::Shared,
         }
     }
 }

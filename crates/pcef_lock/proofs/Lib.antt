@@ -10,6 +10,7 @@ pub mod Keeps
 pub mod Ledgers
 pub mod Loops
 pub mod Numbers
+pub mod PoolShares
 pub mod Publications
 pub mod Seats
 pub mod Told

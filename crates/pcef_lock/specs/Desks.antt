@@ -1,9 +1,12 @@
 -- What the one who gives commands has of a session.
-use Rattle.std.specs.Prelude.{ℕ, Bool, true, false, ◌++◌, ◌∷◌, [], List, Result, Ok, Err, length}
+use Rattle.std.specs.Prelude.{ℕ, ◌≡◌, Bool, true, false, ◌++◌, ◌∷◌, [], List, Option, Result, Ok, Err, is_some, length}
 use Rattle.pcef_model.specs.declared.answer.Accepted.{Accepted}
 use Rattle.pcef_model.specs.declared.answer.Refusal.{Refusal}
 use Rattle.pcef_model.specs.declared.command.Command.{Command}
 use Rattle.pcef_model.specs.Entries.{Journal, commands}
+use Rattle.pcef_model.specs.Outcomes.{CommandStepWithin}
+use Rattle.pcef_model.specs.Setting.{Setting}
+use Rattle.pcef_rule.specs.declared.quantity.Sums.{Sums}
 use Rattle.pcef_share.specs.Amounts.{Account, command_ledger, plus, zeros}
 
 -- the commands that were accepted, and how many reports were collected
@@ -28,3 +31,8 @@ desk_shares j = plus zeros command_ledger (length (commands j))
 -- the books of a session to which no worker ever came: its commands, and the share of its desk
 abbrev pub first_books : Journal → Account
 first_books j = record { totals = desk_shares j; issued = 1 }
+
+-- an answer to a command is one that is due: after some journal, and of a session on a pool in some room
+abbrev pub IsDue : Setting → Bool → Command → Result Accepted Refusal → Type 0
+IsDue p is_there command result =
+    (room : Option Sums) × (is_some room ≡ is_there) × (before : Journal) × (after : Journal) × CommandStepWithin p room command before result after

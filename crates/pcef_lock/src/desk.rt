@@ -1,9 +1,10 @@
 //! Who gives commands to a session that threads share.
 
-ghost use Rattle.std.specs.Prelude.{◌≡◌, ◌+◌, IfOk, OnErr, length, reverse};
+ghost use Rattle.std.specs.Prelude.{◌≡◌, ◌+◌, ◌⊎◌, Err, IfOk, OnErr, length, reverse};
 ghost use Rattle.pcef_model.specs.Entries.{commands};
+ghost use Rattle.pcef_model.specs.declared.answer.Refusal.TheVariants.{NoMemory};
 ghost use Rattle.pcef_share.specs.Amounts.{command_ledger, plus, zeros};
-ghost use Rattle.pcef_lock.specs.Desks.{listed};
+ghost use Rattle.pcef_lock.specs.Desks.{IsDue, listed};
 ghost use Rattle.pcef_lock.specs.Reports.{AreNumbered};
 
 use crate::shared::Shared;
@@ -12,7 +13,7 @@ use pcef_journal::Commands;
 use pcef_model::{Accepted, Command, Refusal, Report};
 use pcef_publish::{Board, Slot};
 use pcef_session::SessionState;
-use pcef_share::{Naming, Shares};
+use pcef_share::{Naming, Pooling, Shares};
 use std::alloc::{AllocError, Global};
 use std::marker::Model;
 use std::sync::Wait;
@@ -98,16 +99,18 @@ impl<N: Naming> Desk<N> {
         shares
     }
 
-    /// Gives a command, as [`crate::State::command`] answers it. One that is accepted and changes something comes to
+    /// Gives a command, as [`crate::State::command`] answers it, or, for a session on a pool,
+    /// [`crate::State::command_within`]. One that is accepted and changes something comes to
     /// the desk's list and into its share. Takes memory, and may meet want of it before another refusal is seen.
-    pub fn command<C: Offers + Drop, W: Board<Slot<N>> + Drop, R: Wait>(
+    pub fn command<C: Offers + Drop, W: Board<Slot<N>> + Drop, P: Pooling, R: Wait>(
         &mut self,
         rt: &R,
-        shared: &Shared<C, N, W>,
+        shared: &Shared<C, N, W, P>,
         command: Command,
     ) -> Result<Accepted, Refusal>
         ensures list { self.new.commands ≡ listed result command self.old.commands }
         ensures collected { self.new.collected ≡ self.old.collected }
+        ensures due { (result ≡ Err NoMemory) ⊎ IsDue N.setting P.is_there command result }
     {
         let Ok(copy) = command.copy() else {
             return Err(Refusal::NoMemory);
@@ -128,10 +131,10 @@ impl<N: Naming> Desk<N> {
 
     /// The reports since those that were collected before, in order, without a gap. Takes memory for them; where there
     /// is none, they can be collected again.
-    pub fn collect<C: Offers + Drop, W: Board<Slot<N>> + Drop, R: Wait>(
+    pub fn collect<C: Offers + Drop, W: Board<Slot<N>> + Drop, P: Pooling, R: Wait>(
         &mut self,
         rt: &R,
-        shared: &Shared<C, N, W>,
+        shared: &Shared<C, N, W, P>,
     ) -> Result<Vec<Report>, AllocError>
         ensures numbered { IfOk result (λ v. AreNumbered self.old.collected v.items) }
         ensures collected { IfOk result (λ v.

@@ -12,7 +12,7 @@ use crate::sameness::{is_same_command, is_same_row};
 use pcef_journal::{Commands, Journal, Lane};
 use pcef_model::Command;
 use pcef_session::{Item, SessionState};
-use pcef_share::Naming;
+use pcef_share::{Naming, NoPool, Pooling, RateShares};
 use thiserror::Error;
 
 /// Why no totals were had. The reasons are looked for in this order.
@@ -31,7 +31,7 @@ pub enum GatherFault {
 
 /// What a session adds up to when all its workers have left.
 #[derive(Drop)]
-pub struct Totals {
+pub struct Totals<P: Pooling = NoPool> {
     /// The session.
     pub session: SessionState,
     /// How many rows its journal has.
@@ -40,6 +40,8 @@ pub struct Totals {
     pub abandoned: u64,
     /// The keys that have a slot, in slot order.
     pub keys: KeyTotals,
+    /// The session's share of a pool, where there is one.
+    pub rates: Option<RateShares<P>>,
 }
 
 /// Whether these are the commands of a journal.

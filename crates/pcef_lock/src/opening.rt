@@ -1,24 +1,29 @@
 //! Sessions that come behind a lock.
 
-ghost use Rattle.std.specs.Prelude.{◌≡◌, ◌≤◌, ◌<◌, ◌⊎◌, ◌↔◌, [], ◌∷◌, All, IfErr, IfOk, length, reverse};
+ghost use Rattle.std.specs.Prelude.{◌≡◌, ◌≢◌, ◌≤◌, ◌<◌, ◌⊎◌, ◌↔◌, [], ◌∷◌, All, IfErr, IfOk, IsOk, IsTrue, OnErr, OnOk, length, reverse, true};
 ghost use Rattle.std.specs.Arc.{arc_value};
 ghost use Rattle.pcef_model.specs.Entries.{commands};
 ghost use Rattle.pcef_model.specs.Journals.{attach_count, gen};
 ghost use Rattle.pcef_session.specs.Answers.{ShowsNewest};
+ghost use Rattle.pcef_model.specs.Refusals.{total_now};
 ghost use Rattle.pcef_share.specs.Names.{name_at};
+ghost use Rattle.pcef_share.specs.Rates.{no_rates};
+ghost use Rattle.pcef_pool.specs.Pools.{with_rate_share};
 ghost use Rattle.pcef_table.specs.Tables.{IsTable};
 ghost use Rattle.pcef_lock.specs.Desks.{desk_shares};
-ghost use Rattle.pcef_lock.specs.Opening.{IsPlacesFault};
-ghost use Rattle.pcef_lock.specs.declared.opening.SharedFault.TheVariants.{Places};
+ghost use Rattle.pcef_lock.specs.Opening.{IsPlacesFault, IsPoolFull};
+ghost use Rattle.pcef_lock.specs.declared.opening.SharedFault.TheVariants.{Places, PoolPlaces};
 
 use crate::desk::{Desk, commands_so_far};
+use crate::pool::Pool;
 use crate::shared::Shared;
 use crate::state::State;
 use pcef_catalog::Offers;
 use pcef_lane::MAX_WORKERS;
+use pcef_pool::PoolState;
 use pcef_publish::{Opened, PublishFault, Publisher, Subscriber, Writer};
 use pcef_session::SessionState;
-use pcef_share::{Blanks, Naming, Shares};
+use pcef_share::{Blanks, Naming, Pooling, Shares};
 use std::alloc::{AllocError, Global};
 use std::sync::{Arc, Wait};
 use thiserror::Error;
@@ -35,6 +40,9 @@ pub enum SharedFault {
     /// There is no memory left.
     #[error("there is no memory left")]
     NoMemory,
+    /// All shares of the pool were issued.
+    #[error("all shares of the pool were issued")]
+    PoolPlaces,
 }
 
 /// A history that begins with the table of a session's newest generation. It takes its name where the session does.
@@ -59,12 +67,20 @@ fn published<N: Naming, R: Wait + Drop>(
     ensures list { IfOk result (λ r. r.0 ≡ opened.table ∷ []) }
     ensures many { IfOk result (λ r. length r.1.items ≡ places) }
     ensures fault { IfErr result (λ f. f ≡ Places → ⊥) }
+    ensures pool { IfErr result (λ f. f ≡ PoolPlaces → ⊥) }
 {
     match Publisher::new(rt, alloc, opened, usize::from(places)) {
         Ok(made) => Ok(made),
         Err(PublishFault::ReaderRefused) => Err(SharedFault::ReaderRefused),
         Err(PublishFault::NoMemory) => Err(SharedFault::NoMemory),
     }
+}
+
+/// Whether so many places can be made.
+fn are_places(places: u8) -> bool
+    ensures { IsTrue result ↔ ((0 < places) × (places ≤ 16)) }
+{
+    places > 0 && usize::from(places) <= MAX_WORKERS
 }
 
 impl<N: Naming, R: Wait + Drop> State<N, Writer<N, R>> {
@@ -93,14 +109,67 @@ impl<N: Naming, R: Wait + Drop> State<N, Writer<N, R>> {
         ensures fault { IsPlacesFault result ↔ ((places ≡ 0) ⊎ (16 < places)) }
         ensures back { IfErr result (λ e. e.0 ≡ session) }
     {
-        if places == 0 || usize::from(places) > MAX_WORKERS {
+        if !are_places(places) {
             return Err((session, SharedFault::Places));
         }
         let (publisher, subscribers) = match published(rt, alloc, opened, places) {
             Ok(made) => made,
             Err(fault) => return Err((session, fault)),
         };
-        Ok(State::new(alloc, session, publisher, subscribers, blanks, places))
+        Ok(State::new(alloc, session, publisher, subscribers, blanks, None, places))
+    }
+}
+
+impl<N: Naming, R: Wait + Drop, P: Pooling> State<N, Writer<N, R>, P> {
+    /// The same for a session without guaranteed rates, which gets a share of a pool, or the fault `PoolPlaces` where
+    /// all sixty-four were issued. The share is issued last, so that no fault loses one.
+    pub fn open_within(
+        rt: R,
+        alloc: Global,
+        session: SessionState,
+        opened: Opened,
+        blanks: Blanks,
+        places: u8,
+        pool: &mut PoolState<P>,
+    ) -> Result<(State<N, Writer<N, R>, P>, Shares<N>), (SessionState, SharedFault)>
+        requires there { P.is_there ≡ true }
+        requires rates { total_now session.setting session.journal ≡ no_rates }
+        requires name { N.ledger ≡ name_at blanks }
+        requires setting { session.setting ≡ N.setting }
+        requires first { N.first ≡ gen session.journal }
+        requires fresh { attach_count session.journal ≡ 0 }
+        requires table { ShowsNewest session opened.table }
+        requires book { (opened.book ≡ N.book) × (opened.root ≡ N.root) }
+        ensures session { IfOk result (λ r. r.0.session ≡ session) }
+        ensures tables { IfOk result (λ r. r.0.tables ≡ opened.table ∷ []) }
+        ensures places { IfOk result (λ r. (r.0.places ≡ places) × (r.0.books.issued ≡ 1)) }
+        ensures shares { IfOk result (λ r. r.1 ≡ desk_shares session.journal) }
+        ensures fault { IsPlacesFault result ↔ ((places ≡ 0) ⊎ (16 < places)) }
+        ensures full { IsPoolFull result → pool.old.books.issued ≡ 64 }
+        ensures room { IsOk result → pool.old.books.issued ≢ 64 }
+        ensures back { IfErr result (λ e. e.0 ≡ session) }
+        ensures issued { OnOk result (pool.new ≡ with_rate_share pool.old) }
+        ensures kept { OnErr result (pool.new ≡ pool.old) }
+    {
+        if !are_places(places) {
+            return Err((session, SharedFault::Places));
+        }
+        let (publisher, subscribers) = match published(rt, alloc, opened, places) {
+            Ok(made) => made,
+            Err(fault) => return Err((session, fault)),
+        };
+        let Some(rates) = pool.issue() else {
+            return Err((session, SharedFault::PoolPlaces));
+        };
+        Ok(State::new(
+            alloc,
+            session,
+            publisher,
+            subscribers,
+            blanks,
+            Some(rates),
+            places,
+        ))
     }
 }
 
@@ -119,14 +188,14 @@ pub struct Unopened<C: Drop> {
 fn lacks_memory(places: u8) -> SharedFault
     ensures { (result ≡ Places) ↔ ((places ≡ 0) ⊎ (16 < places)) }
 {
-    if places == 0 || usize::from(places) > MAX_WORKERS {
-        SharedFault::Places
-    } else {
+    if are_places(places) {
         SharedFault::NoMemory
+    } else {
+        SharedFault::Places
     }
 }
 
-impl<C: Offers + Drop, N: Naming, R: Wait + Drop> Shared<C, N, Writer<N, R>> {
+impl<C: Offers + Drop, N: Naming, R: Wait + Drop> Shared<'_, C, N, Writer<N, R>> {
     /// Puts a session behind its lock, with so many places for workers, beside a desk that has the session's commands
     /// so far. The conditions of the caller are those of [`State::open`], and the catalog is that of the session.
     /// Catalog and session come back with a fault; the opened history is then lost. Takes memory. May wait for readers.
@@ -138,7 +207,7 @@ impl<C: Offers + Drop, N: Naming, R: Wait + Drop> Shared<C, N, Writer<N, R>> {
         opened: Opened,
         blanks: Blanks,
         places: u8,
-    ) -> Result<(Shared<C, N, Writer<N, R>>, Desk<N>), Unopened<C>>
+    ) -> Result<(Shared<'static, C, N, Writer<N, R>>, Desk<N>), Unopened<C>>
         requires name { N.ledger ≡ name_at blanks }
         requires setting { session.setting ≡ N.setting }
         requires first { N.first ≡ gen session.journal }
@@ -163,9 +232,74 @@ impl<C: Offers + Drop, N: Naming, R: Wait + Drop> Shared<C, N, Writer<N, R>> {
             }
         };
         match State::open(rt, alloc, session, opened, blanks, places) {
-            Ok((state, shares)) => Ok((Shared::new(catalog, state), Desk::new(commands, shares))),
+            Ok((state, shares)) => {
+                Ok((
+                    Shared::new(catalog, state, None),
+                    Desk::new(commands, shares),
+                ))
+            }
             Err((session, fault)) => Err(Unopened {
                 fault,
+                catalog,
+                session,
+            }),
+        }
+    }
+}
+
+impl<'p, C: Offers + Drop, N: Naming, R: Wait + Drop, P: Pooling> Shared<
+    'p,
+    C,
+    N,
+    Writer<N, R>,
+    P,
+> {
+    /// The same for a session without guaranteed rates that gets a share of a pool. The conditions of the caller are
+    /// those of [`State::open_within`]. Holds the pool's lock while the first table is published: no reader of it is
+    /// there yet, so this waits for none.
+    pub fn open_within(
+        rt: R,
+        alloc: Global,
+        catalog: Arc<C>,
+        session: SessionState,
+        opened: Opened,
+        blanks: Blanks,
+        places: u8,
+        pool: &'p Pool<P>,
+    ) -> Result<(Shared<'p, C, N, Writer<N, R>, P>, Desk<N>), Unopened<C>>
+        requires there { P.is_there ≡ true }
+        requires rates { total_now session.setting session.journal ≡ no_rates }
+        requires name { N.ledger ≡ name_at blanks }
+        requires setting { session.setting ≡ N.setting }
+        requires first { N.first ≡ gen session.journal }
+        requires fresh { attach_count session.journal ≡ 0 }
+        requires offers { C.offers (arc_value catalog) ≡ session.setting.catalog }
+        requires table { ShowsNewest session opened.table }
+        requires book { (opened.book ≡ N.book) × (opened.root ≡ N.root) }
+        ensures commands { IfOk result (λ r. r.1.commands ≡ reverse (commands session.journal)) }
+        ensures collected { IfOk result (λ r. r.1.collected ≡ 0) }
+        ensures places { IfOk result (λ r. (0 < places) × (places ≤ 16)) }
+        ensures fault { IfErr result (λ e. (e.fault ≡ Places) ↔ ((places ≡ 0) ⊎ (16 < places))) }
+        ensures back { IfErr result (λ e. (e.catalog ≡ catalog) × (e.session ≡ session)) }
+    {
+        let commands = match commands_so_far(alloc, &session) {
+            Ok(commands) => commands,
+            Err(_) => {
+                return Err(Unopened {
+                    fault: lacks_memory(places),
+                    catalog,
+                    session,
+                });
+            }
+        };
+        let mut state = pool.state.lock(&rt);
+        match State::open_within(rt, alloc, session, opened, blanks, places, &mut state) {
+            Ok((state, shares)) => Ok((
+                Shared::new(catalog, state, Some(pool)),
+                Desk::new(commands, shares),
+            )),
+            Err((session, why)) => Err(Unopened {
+                fault: why,
                 catalog,
                 session,
             }),

@@ -1,14 +1,16 @@
 //! The lock of a session.
 
-ghost use Rattle.std.specs.Prelude.{◌≡◌, ◌≤◌, ◌+◌, ◌<◌, ◌^◌, All, IfErr, IfOk, length, reverse};
+ghost use Rattle.std.specs.Prelude.{◌≡◌, ◌≤◌, ◌+◌, ◌<◌, ◌^◌, All, IfErr, IfOk, is_some, length, reverse};
 ghost use Rattle.std.specs.Arc.{arc_value};
 ghost use Rattle.pcef_model.specs.Entries.{commands, rows};
 ghost use Rattle.pcef_model.specs.Journals.{attach_count};
 ghost use Rattle.pcef_share.specs.Amounts.{zeros};
 ghost use Rattle.pcef_lock.specs.Counting.{with_command, with_taken};
+ghost use Rattle.pcef_lock.specs.Desks.{IsDue};
 ghost use Rattle.pcef_lock.specs.Gathering.{AreGathered, HaveLanes, key_totals, rows_abandoned};
 ghost use Rattle.pcef_lock.specs.Judging.{AllJudged};
 ghost use Rattle.pcef_lock.specs.Outcomes.{judged_rows};
+ghost use Rattle.pcef_pool.specs.Pools.{rates_due};
 ghost use Rattle.pcef_lock.specs.Reports.{AreNumbered};
 ghost use Rattle.pcef_lock.specs.Seats.{ChangesOnlyShares, ChangesOnlySubscriber};
 ghost use mathlib.Core.List.{IsPrefix};
@@ -16,36 +18,41 @@ ghost use mathlib.Core.List.{IsPrefix};
 use crate::desk::Desk;
 use crate::finished::Finished;
 use crate::gathering::{GatherFault, Totals};
+use crate::pool::Pool;
 use crate::seat::Seat;
 use crate::state::{State, StateUngathered};
 use pcef_catalog::Offers;
 use pcef_model::{Accepted, AttachFault, Command, FlushRefusal, Refusal, Report, Verdicts};
 use pcef_publish::{Board, Slot};
 use pcef_session::Batch;
-use pcef_share::{Naming, Shares};
+use pcef_share::{Naming, NoPool, Pooling, Shares};
 use std::alloc::AllocError;
 use std::marker::Model;
 use std::sync::{Arc, Mutex, Wait};
 
 /// A session that threads share: its catalog, and the lock of all else. Each call takes the lock once and makes one
 /// call of the [`State`] behind it, as which it answers. Contracts see what the catalog offers.
-pub struct Shared<C: Offers + Drop, N: Naming, W: Board<Slot<N>> + Drop> {
+pub struct Shared<'p, C: Offers + Drop, N: Naming, W: Board<Slot<N>> + Drop, P: Pooling = NoPool> {
     catalog: Arc<C>,
-    state: Mutex<State<N, W>>,
+    state: Mutex<State<N, W, P>>,
+    pool: Option<&'p Pool<P>>,
 }
 
 // Written out, so that an owner proves one call at each way out.
-impl<C: Offers + Drop, N: Naming, W: Board<Slot<N>> + Drop> Drop for Shared<C, N, W> {
+impl<'p, C: Offers + Drop, N: Naming, W: Board<Slot<N>> + Drop, P: Pooling> Drop
+    for Shared<'p, C, N, W, P> {
     fn drop(self) {
         let Shared {
             catalog: _,
             state: _,
+            pool: _,
         } = self;
     }
 }
 
-impl<C: Offers + Drop, N: Naming, W: Board<Slot<N>> + Drop> Model for Shared<C, N, W> {
-    ghost use Rattle.std.specs.Prelude.{◌≡◌, List};
+impl<'p, C: Offers + Drop, N: Naming, W: Board<Slot<N>> + Drop, P: Pooling> Model
+    for Shared<'p, C, N, W, P> {
+    ghost use Rattle.std.specs.Prelude.{◌≡◌, List, is_some};
     ghost use Rattle.std.specs.Arc.{arc_value};
     ghost use Rattle.pcef_catalog.specs.declared.listing.Offer.{Offer};
 
@@ -53,31 +60,44 @@ impl<C: Offers + Drop, N: Naming, W: Board<Slot<N>> + Drop> Model for Shared<C, 
 
     ghost view = { λ s. C.offers (arc_value s.catalog) };
 
-    ghost invariant = { λ s. C.offers (arc_value s.catalog) ≡ N.setting.catalog };
+    ghost invariant = { λ s. (C.offers (arc_value s.catalog) ≡ N.setting.catalog)
+        × (is_some s.pool ≡ P.is_there) };
 }
 
 /// What is handed back where no totals were had: the reason, and all that was handed in.
 #[derive(Drop)]
-pub struct Ungathered<C: Offers + Drop, N: Naming, W: Board<Slot<N>> + Drop> {
+pub struct Ungathered<
+    'p,
+    C: Offers + Drop,
+    N: Naming,
+    W: Board<Slot<N>> + Drop,
+    P: Pooling = NoPool,
+> {
     /// Why.
     pub fault: GatherFault,
     /// The session behind its lock.
-    pub shared: Shared<C, N, W>,
+    pub shared: Shared<'p, C, N, W, P>,
     /// The desk.
     pub desk: Desk<N>,
     /// What the workers handed in.
     pub finished: Vec<Finished<N>>,
 }
 
-impl<C: Offers + Drop, N: Naming, W: Board<Slot<N>> + Drop> Shared<C, N, W> {
+impl<'p, C: Offers + Drop, N: Naming, W: Board<Slot<N>> + Drop, P: Pooling> Shared<'p, C, N, W, P> {
     /// Puts the value behind a lock. The catalog has to be that of the session.
-    pub fn new(catalog: Arc<C>, state: State<N, W>) -> Shared<C, N, W>
-        requires { C.offers (arc_value catalog) ≡ N.setting.catalog }
+    pub fn new(
+        catalog: Arc<C>,
+        state: State<N, W, P>,
+        pool: Option<&'p Pool<P>>,
+    ) -> Shared<'p, C, N, W, P>
+        requires offers { C.offers (arc_value catalog) ≡ N.setting.catalog }
+        requires pool { is_some pool ≡ P.is_there }
         ensures { result ≡ N.setting.catalog }
     {
         Shared {
             catalog,
             state: Mutex::new(state),
+            pool,
         }
     }
 
@@ -88,16 +108,22 @@ impl<C: Offers + Drop, N: Naming, W: Board<Slot<N>> + Drop> Shared<C, N, W> {
         Arc::try_clone(&self.catalog)
     }
 
-    /// As [`State::command`].
+    /// As [`State::command`], or, for a session on a pool, as [`State::command_within`], with the pool's lock taken
+    /// inside the hold and kept to its end.
     pub fn command<R: Wait>(
         &self,
         rt: &R,
         shares: &mut Shares<N>,
         command: Command,
     ) -> Result<Accepted, Refusal>
-        ensures { shares.new ≡ with_command result shares.old }
+        ensures shares { shares.new ≡ with_command result shares.old }
+        ensures due { IsDue N.setting P.is_there command result }
     {
-        self.state.lock(rt).command(shares, command)
+        let mut state = self.state.lock(rt);
+        match self.pool {
+            Some(pool) => state.command_within(shares, command, &mut pool.state.lock(rt)),
+            None => state.command(shares, command),
+        }
     }
 
     /// As [`State::attach`].
@@ -168,7 +194,7 @@ impl<C: Offers + Drop, N: Naming, W: Board<Slot<N>> + Drop> Shared<C, N, W> {
         rt: &R,
         desk: Desk<N>,
         finished: Vec<Finished<N>>,
-    ) -> Result<Totals, Ungathered<C, N, W>>
+    ) -> Result<Totals<P>, Ungathered<'p, C, N, W, P>>
         requires { length finished.items ≤ 16 }
         ensures setting { IfOk result (λ t. t.session.setting ≡ N.setting) }
         ensures workers { IfOk result (λ t.
@@ -180,9 +206,15 @@ impl<C: Offers + Drop, N: Naming, W: Board<Slot<N>> + Drop> Shared<C, N, W> {
         ensures sums { IfOk result (λ t. All (λ k. k.counted ≡ k.reported + k.unreported) t.keys) }
         ensures rows { IfOk result (λ t. t.rows ≡ length (rows t.session.journal)) }
         ensures abandoned { IfOk result (λ t. t.abandoned ≡ rows_abandoned finished.items) }
+        ensures rates { IfOk result (λ t.
+            t.rates ≡ rates_due P.is_there N.setting t.session.journal) }
         ensures back { IfErr result (λ e. (e.desk ≡ desk) × (e.finished.items ≡ finished.items)) }
     {
-        let Shared { catalog, state } = self;
+        let Shared {
+            catalog,
+            state,
+            pool,
+        } = self;
         match state.into_inner().gather(desk, finished) {
             Ok(totals) => Ok(totals),
             Err(ungathered) => {
@@ -194,7 +226,7 @@ impl<C: Offers + Drop, N: Naming, W: Board<Slot<N>> + Drop> Shared<C, N, W> {
                 } = ungathered;
                 Err(Ungathered {
                     fault,
-                    shared: Shared::new(catalog, state),
+                    shared: Shared::new(catalog, state, pool),
                     desk,
                     finished,
                 })

@@ -1,7 +1,8 @@
 //! The value behind the lock of a session.
 
-ghost use Rattle.std.specs.Prelude.{◌≡◌, ◌≤◌, ◌+◌, IfErr, IfOk, length};
-ghost use Rattle.pcef_model.specs.Outcomes.{CommandStep};
+ghost use Rattle.std.specs.Prelude.{◌≡◌, ◌≤◌, ◌+◌, IfErr, IfOk, OnErr, OnOk, Some, false, length, true};
+ghost use Rattle.pcef_model.specs.Outcomes.{CommandStep, CommandStepWithin};
+ghost use Rattle.pcef_model.specs.Refusals.{total_now};
 ghost use Rattle.pcef_model.specs.Entries.{commands};
 ghost use Rattle.pcef_model.specs.Journals.{attach_count};
 ghost use Rattle.pcef_model.specs.Lawful.{Lawful};
@@ -10,17 +11,21 @@ ghost use Rattle.pcef_lock.specs.Outcomes.{AnswersSeat, with_share};
 ghost use Rattle.pcef_lock.specs.Counting.{books_with_command, with_command};
 ghost use Rattle.pcef_lock.specs.Desks.{desk_shares, first_books};
 ghost use Rattle.pcef_lock.specs.Kept.{Kept};
+ghost use Rattle.pcef_pool.specs.Pools.{pool_with, rates_due, room_beside};
 ghost use Rattle.pcef_lock.specs.Published.{ArePublished};
 ghost use Rattle.pcef_lock.specs.Seats.{ChangesOnlySubscriber, HasSeenAll, IsNewSeat};
 ghost use mathlib.Core.List.{IsPrefix};
 
+use crate::pooled_share::{give_rates, held_in, room_in};
 use crate::publishing::{make_ready, next_subscriber, publish};
 use crate::seat::Seat;
 use pcef_model::{Accepted, AttachFault, Command, Refusal};
 use pcef_packet::Addr;
+use pcef_pool::PoolState;
 use pcef_publish::{Board, Publisher, Slot, Subscriber};
+use pcef_rule::Sums;
 use pcef_session::SessionState;
-use pcef_share::{Blanks, Books, Naming, Shares};
+use pcef_share::{Blanks, Books, Naming, NoPool, Pooling, RateShares, Shares};
 use std::alloc::{AllocError, Global};
 use std::marker::Model;
 
@@ -32,17 +37,18 @@ pub use gathering::StateUngathered;
 
 /// A session with the publisher of its tables, the subscribers that no worker has yet, and its books. It is the value
 /// behind a session's lock: what always holds of it, every hold of the lock finds.
-pub struct State<N: Naming, W: Board<Slot<N>> + Drop> {
+pub struct State<N: Naming, W: Board<Slot<N>> + Drop, P: Pooling = NoPool> {
     alloc: Global,
     session: SessionState,
     publisher: Publisher<N, W>,
     subscribers: Vec<Subscriber<N>>,
     books: Books<N>,
+    rates: Option<RateShares<P>>,
     places: u8,
 }
 
 // Written out, so that an owner proves one call at each way out.
-impl<N: Naming, W: Board<Slot<N>> + Drop> Drop for State<N, W> {
+impl<N: Naming, W: Board<Slot<N>> + Drop, P: Pooling> Drop for State<N, W, P> {
     fn drop(self) {
         let State {
             alloc: _,
@@ -50,13 +56,15 @@ impl<N: Naming, W: Board<Slot<N>> + Drop> Drop for State<N, W> {
             publisher: _,
             subscribers: _,
             books: _,
+            rates: _,
             places: _,
         } = self;
     }
 }
 
-impl<N: Naming, W: Board<Slot<N>> + Drop> Model for State<N, W> {
-    ghost use Rattle.std.specs.Prelude.{length};
+impl<N: Naming, W: Board<Slot<N>> + Drop, P: Pooling> Model for State<N, W, P> {
+    ghost use Rattle.std.specs.Prelude.{length, ◌≡◌};
+    ghost use Rattle.pcef_pool.specs.Pools.{rates_due};
     ghost use Rattle.pcef_lock.specs.Locked.{Locked};
     ghost use Rattle.pcef_lock.specs.private.Soundness.{IsSound};
 
@@ -74,7 +82,8 @@ impl<N: Naming, W: Board<Slot<N>> + Drop> Model for State<N, W> {
       tables = s.publisher;
       books = s.books;
       places = s.places;
-    }) (length s.subscribers.items) };
+    }) (length s.subscribers.items)
+        × (s.rates ≡ rates_due P.is_there s.session.setting s.session.journal) };
 }
 
 /// How many commands a session took. Its journal is lawful, and takes 4,294,967,295 rows at most.
@@ -93,7 +102,7 @@ fn ue_of(session: &SessionState) -> Addr
     session.profile().ue
 }
 
-impl<N: Naming, W: Board<Slot<N>> + Drop> State<N, W> {
+impl<N: Naming, W: Board<Slot<N>> + Drop, P: Pooling> State<N, W, P> {
     /// The value behind the lock, of a session to which no worker ever came and whose tables are published, and the
     /// shares of the desk, which hold the session's commands so far. A subscriber is there for each place.
     pub(crate) fn new(
@@ -102,12 +111,14 @@ impl<N: Naming, W: Board<Slot<N>> + Drop> State<N, W> {
         publisher: Publisher<N, W>,
         subscribers: Vec<Subscriber<N>>,
         blanks: Blanks,
+        rates: Option<RateShares<P>>,
         places: u8,
-    ) -> (State<N, W>, Shares<N>)
+    ) -> (State<N, W, P>, Shares<N>)
         requires name { N.ledger ≡ name_at blanks }
         requires setting { session.setting ≡ N.setting }
         requires fresh { attach_count session.journal ≡ 0 }
         requires published { ArePublished N.setting session.journal N.first publisher }
+        requires rates { rates ≡ rates_due P.is_there session.setting session.journal }
         requires places { places ≤ 16 }
         requires subscribers { length subscribers.items ≡ places }
         ensures session { result.0.session ≡ session }
@@ -126,6 +137,7 @@ impl<N: Naming, W: Board<Slot<N>> + Drop> State<N, W> {
             publisher,
             subscribers,
             books,
+            rates,
             places,
         };
         (state, shares)
@@ -139,6 +151,13 @@ impl<N: Naming, W: Board<Slot<N>> + Drop> State<N, W> {
         &self.session
     }
 
+    /// What the session's share of a pool has, where there is a pool: what its own rules' guaranteed rates sum up to.
+    pub fn rates(&self) -> Option<Sums>
+        ensures { result ≡ rates_due P.is_there N.setting self.now.session.journal }
+    {
+        held_in(&self.rates)
+    }
+
     /// What was added to each book: octets of slots 0 to 7, rows, commands.
     pub fn totals(&self) -> [u64; 10]
         ensures { result ≡ self.now.books.totals }
@@ -150,6 +169,7 @@ impl<N: Naming, W: Board<Slot<N>> + Drop> State<N, W> {
     /// who gives it, unless it changed nothing; or answers the first refusal in the order of [`Refusal`], which
     /// changes nothing. Takes memory. May wait for readers of the publication.
     pub fn command(&mut self, shares: &mut Shares<N>, command: Command) -> Result<Accepted, Refusal>
+        requires { P.is_there ≡ false }
         ensures answer { CommandStep N.setting command
             self.old.session.journal result self.new.session.journal }
         ensures tables { IsPrefix self.old.tables self.new.tables }
@@ -169,6 +189,44 @@ impl<N: Naming, W: Board<Slot<N>> + Drop> State<N, W> {
         let accepted = self.session.settle(prepared);
         let gained = commands_of(&self.session) - before;
         self.books.add_commands(shares, gained);
+        Ok(accepted)
+    }
+
+    /// The same for a session that has a share of a pool. A command that makes a rule active is refused where all
+    /// shares would then be over the pool's capacity. The share is given what the session's rules sum up to then.
+    pub fn command_within(
+        &mut self,
+        shares: &mut Shares<N>,
+        command: Command,
+        pool: &mut PoolState<P>,
+    ) -> Result<Accepted, Refusal>
+        requires { P.is_there ≡ true }
+        ensures answer { CommandStepWithin N.setting
+            (Some (room_beside pool.old (total_now N.setting self.old.session.journal))) command
+            self.old.session.journal result self.new.session.journal }
+        ensures tables { IsPrefix self.old.tables self.new.tables }
+        ensures refused { IfErr result (λ _. self.new.tables ≡ self.old.tables) }
+        ensures books { self.new.books ≡ books_with_command result self.old.books }
+        ensures places { self.new.places ≡ self.old.places }
+        ensures shares { shares.new ≡ with_command result shares.old }
+        ensures granted { OnOk result (pool.new
+            ≡ pool_with pool.old (total_now N.setting self.old.session.journal)
+            (total_now N.setting self.new.session.journal)) }
+        ensures pool { OnErr result (pool.new ≡ pool.old) }
+    {
+        let room = room_in(&mut self.rates, pool);
+        let prepared = match self.session.prepare_within(command, room) {
+            Ok(prepared) => prepared,
+            Err(refusal) => return Err(refusal),
+        };
+        let before = commands_of(&self.session);
+        if publish(&mut self.publisher, &prepared).is_err() {
+            return Err(Refusal::NoMemory);
+        }
+        let accepted = self.session.settle(prepared);
+        let more = commands_of(&self.session) - before;
+        self.books.add_commands(shares, more);
+        give_rates(&mut self.rates, pool, self.session.rates());
         Ok(accepted)
     }
 

@@ -11,7 +11,7 @@ use pcef_lock::{Finished, Shared};
 use pcef_model::{FlushRefusal, Verdicts};
 use pcef_publish::{Board, Slot};
 use pcef_session::{Item, MAX_WAITING};
-use pcef_share::Naming;
+use pcef_share::{Naming, Pooling};
 use std::sync::Wait;
 
 /// Adds copies of rows to a list that has the room.
@@ -26,10 +26,10 @@ fn keep_all(rows: &mut Vec<Item>, items: &[Item])
 
 impl<C: Detects + Drop, N: Naming, G: Gate + Drop> Worker<C, N, G> {
     /// Hands the waiting rows over in one hold of the lock, and keeps them in the worker's own list.
-    fn hand_over<W: Board<Slot<N>> + Drop, R: Wait>(
+    fn hand_over<W: Board<Slot<N>> + Drop, P: Pooling, R: Wait>(
         &mut self,
         rt: &R,
-        shared: &Shared<C, N, W>,
+        shared: &Shared<C, N, W, P>,
     ) -> Result<Verdicts, FlushRefusal>
         ensures told { IfOk result (λ v. v.rows.items ≡ judged_rows self.old.waiting) }
         ensures flushed { OnOk result (self.new ≡ flushed self.old) }
@@ -48,10 +48,10 @@ impl<C: Detects + Drop, N: Naming, G: Gate + Drop> Worker<C, N, G> {
     }
 
     /// Hands the waiting rows over and leaves, in one hold of the lock.
-    fn hand_last<W: Board<Slot<N>> + Drop, R: Wait>(
+    fn hand_last<W: Board<Slot<N>> + Drop, P: Pooling, R: Wait>(
         &mut self,
         rt: &R,
-        shared: &Shared<C, N, W>,
+        shared: &Shared<C, N, W, P>,
     ) -> Result<Verdicts, FlushRefusal>
         ensures told { IfOk result (λ v. v.rows.items ≡ judged_rows self.old.waiting) }
         ensures flushed { OnOk result (self.new ≡ flushed self.old) }
@@ -72,10 +72,10 @@ impl<C: Detects + Drop, N: Naming, G: Gate + Drop> Worker<C, N, G> {
     /// Hands the waiting rows over, all or none, in one hold of the lock, and gives their verdicts; or answers the
     /// first refusal in the order of [`FlushRefusal`], which changes nothing. The gate is called before and after, with
     /// no lock held. Takes memory, and may meet want of it before another refusal is seen. Waits for the lock.
-    pub fn flush<W: Board<Slot<N>> + Drop, R: Wait>(
+    pub fn flush<W: Board<Slot<N>> + Drop, P: Pooling, R: Wait>(
         &mut self,
         rt: &R,
-        shared: &Shared<C, N, W>,
+        shared: &Shared<C, N, W, P>,
     ) -> Result<Verdicts, FlushRefusal>
         ensures told { IfOk result (λ v. v.rows.items ≡ judged_rows self.old.waiting) }
         ensures flushed { OnOk result (self.new ≡ flushed self.old) }
@@ -90,10 +90,10 @@ impl<C: Detects + Drop, N: Naming, G: Gate + Drop> Worker<C, N, G> {
     /// Hands the waiting rows over, as [`Worker::flush`] does, and leaves, both in one hold of the lock: what it hands
     /// in, and the verdicts of its last rows. After a refusal, which changes nothing, the worker comes back and is
     /// there as before. The gate is called before and after, with no lock held. Takes memory. Waits for the lock.
-    pub fn finish<W: Board<Slot<N>> + Drop, R: Wait>(
+    pub fn finish<W: Board<Slot<N>> + Drop, P: Pooling, R: Wait>(
         self,
         rt: &R,
-        shared: &Shared<C, N, W>,
+        shared: &Shared<C, N, W, P>,
     ) -> Result<(Finished<N>, Verdicts), (Worker<C, N, G>, FlushRefusal)>
         ensures left { IfOk result (λ r. r.0 ≡ finished self) }
         ensures told { IfOk result (λ r. r.1.rows.items ≡ judged_rows self.waiting) }
@@ -111,10 +111,10 @@ impl<C: Detects + Drop, N: Naming, G: Gate + Drop> Worker<C, N, G> {
 
     /// Leaves in one hold of the lock. The rows that wait get no verdict and never reach the session: they are only
     /// counted. Takes no memory. Waits for the lock.
-    pub fn abandon<W: Board<Slot<N>> + Drop, R: Wait>(
+    pub fn abandon<W: Board<Slot<N>> + Drop, P: Pooling, R: Wait>(
         self,
         rt: &R,
-        shared: &Shared<C, N, W>,
+        shared: &Shared<C, N, W, P>,
     ) -> Finished<N>
         ensures { result ≡ abandoned self }
     {

@@ -11,7 +11,7 @@ use pcef_model::AttachFault;
 use pcef_packet::Header;
 use pcef_publish::{Board, Slot};
 use pcef_session::{Batch, BatchFull, Item, MAX_WAITING};
-use pcef_share::Naming;
+use pcef_share::{Naming, Pooling};
 use std::alloc::{AllocError, Global};
 use std::marker::Model;
 use std::sync::{Arc, Wait};
@@ -67,10 +67,10 @@ impl<C: Detects + Drop, N: Naming, G: Gate + Drop> Worker<C, N, G> {
     /// Attaches a worker, in one hold of the lock: it then holds the newest table, and no row waits. Or answers the
     /// first fault in the order of [`AttachFault`], which leaves the session as it was; there is no place too where as
     /// many workers came as the lock was made for. Takes memory, which may be refused before another fault is seen.
-    pub fn attach<W: Board<Slot<N>> + Drop, R: Wait>(
+    pub fn attach<W: Board<Slot<N>> + Drop, P: Pooling, R: Wait>(
         rt: &R,
         alloc: Global,
-        shared: &Shared<C, N, W>,
+        shared: &Shared<C, N, W, P>,
         gate: G,
     ) -> Result<Worker<C, N, G>, AttachFault>
         ensures waiting { IfOk result (λ w. w.waiting ≡ []) }
@@ -152,10 +152,10 @@ impl<C: Detects + Drop, N: Naming, G: Gate + Drop> Worker<C, N, G> {
 
     /// Takes the newest table in one hold of the lock, and answers its generation. Where a further owner of the table
     /// is refused, nothing changes. Waits for the lock.
-    pub fn meet<W: Board<Slot<N>> + Drop, R: Wait>(
+    pub fn meet<W: Board<Slot<N>> + Drop, P: Pooling, R: Wait>(
         &mut self,
         rt: &R,
-        shared: &Shared<C, N, W>,
+        shared: &Shared<C, N, W, P>,
     ) -> Result<u32, AllocError>
         ensures grows { IsPrefix self.old.seen self.new.seen }
         ensures number { IfOk result (λ g. g + 1 ≡ N.first + length self.new.seen) }

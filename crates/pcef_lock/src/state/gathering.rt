@@ -7,6 +7,7 @@ ghost use Rattle.pcef_model.specs.Lawful.{Lawful};
 ghost use Rattle.pcef_share.specs.Amounts.{zeros};
 ghost use Rattle.pcef_lock.specs.Counting.{slot_total, with_items};
 ghost use Rattle.pcef_lock.specs.Gathering.{AreGathered, CanGather, HaveLanes, IsAtFault, key_totals, rows_abandoned};
+ghost use Rattle.pcef_pool.specs.Pools.{rates_due};
 
 use super::State;
 use crate::desk::Desk;
@@ -16,15 +17,15 @@ use crate::key_totals::{KeyTotal, KeyTotals};
 use arrayvec::ArrayVec;
 use pcef_publish::{Board, Slot};
 use pcef_session::SessionState;
-use pcef_share::{Naming, Shares};
+use pcef_share::{Naming, NoPool, Pooling, Shares};
 
 /// What is handed back where no totals were had: the reason, and all that was handed in.
 #[derive(Drop)]
-pub struct StateUngathered<N: Naming, W: Board<Slot<N>> + Drop> {
+pub struct StateUngathered<N: Naming, W: Board<Slot<N>> + Drop, P: Pooling = NoPool> {
     /// Why.
     pub fault: GatherFault,
     /// The value behind the lock.
-    pub state: State<N, W>,
+    pub state: State<N, W, P>,
     /// The desk.
     pub desk: Desk<N>,
     /// What the workers handed in.
@@ -67,7 +68,7 @@ fn totals_of(session: &SessionState, amounts: &[u64; 10]) -> KeyTotals
     totals
 }
 
-impl<N: Naming, W: Board<Slot<N>> + Drop> State<N, W> {
+impl<N: Naming, W: Board<Slot<N>> + Drop, P: Pooling> State<N, W, P> {
     /// How many workers ever came.
     fn workers(&self) -> u8
         ensures number { result ≡ attach_count self.now.session.journal }
@@ -111,7 +112,7 @@ impl<N: Naming, W: Board<Slot<N>> + Drop> State<N, W> {
         self,
         desk: Desk<N>,
         finished: Vec<Finished<N>>,
-    ) -> Result<Totals, StateUngathered<N, W>>
+    ) -> Result<Totals<P>, StateUngathered<N, W, P>>
         requires { length finished.items ≤ 16 }
         ensures session { IfOk result (λ t. t.session ≡ self.session) }
         ensures setting { IfOk result (λ t. t.session.setting ≡ N.setting) }
@@ -124,6 +125,8 @@ impl<N: Naming, W: Board<Slot<N>> + Drop> State<N, W> {
         ensures sums { IfOk result (λ t. All (λ k. k.counted ≡ k.reported + k.unreported) t.keys) }
         ensures rows { IfOk result (λ t. t.rows ≡ length (rows self.session.journal)) }
         ensures abandoned { IfOk result (λ t. t.abandoned ≡ rows_abandoned finished.items) }
+        ensures rates { IfOk result (λ t.
+            t.rates ≡ rates_due P.is_there N.setting self.session.journal) }
         ensures fault { IfErr result (λ e.
             IsAtFault self.session.journal desk.commands finished.items e.fault) }
         ensures back { IfErr result (λ e. (e.state ≡ self)
@@ -145,6 +148,7 @@ impl<N: Naming, W: Board<Slot<N>> + Drop> State<N, W> {
             publisher: _,
             subscribers: _,
             books,
+            rates,
             places: _,
         } = self;
         let Ok(amounts) = books.gather(shares) else {
@@ -156,6 +160,7 @@ impl<N: Naming, W: Board<Slot<N>> + Drop> State<N, W> {
             rows: amounts[8],
             abandoned,
             keys,
+            rates,
         })
     }
 }

@@ -10,6 +10,8 @@ use Rattle.pcef_lock.specs.Locked.{Locked}
 use Rattle.pcef_lock.specs.declared.key_totals.KeyTotal.{KeyTotal}
 use Rattle.pcef_lock.proofs.Gathered.{gathered_all, share_of, shares_there}
 use Rattle.pcef_lock.proofs.TotalsOfKeys.{totals_exact, totals_gathered}
+use Rattle.pcef_pool.specs.Pools.{rates_due}
+use Rattle.pcef_model.specs.Setting.{Setting}
 use Rattle.pcef_lock.proofs.state.State.gather.Goals as goal
 
 pub unreachable-requires : goal.unreachable-requires
@@ -19,7 +21,7 @@ unreachable-requires g c =
     ap (count_by is_some) c.all_shares-shares.ensures ∙ shares_there c.args.finished.items c.into_shares.result in
     let out = c.in_default-gather.ensures in
     let came : attach_count c.self.inside.session.journal ≡ attach_count c.args.self.session.journal = ap (λ v. attach_count v.session.journal) c.self.view_is in
-    omega (arith, here, can.0, came, c.self.invariant.issued_is, out.missing, out.some)
+    omega (arith, here, can.0, came, c.self.invariant.0.issued_is, out.missing, out.some)
 
 pub returns-clause-workers : goal.returns-clause-workers
 returns-clause-workers g c =
@@ -27,16 +29,16 @@ returns-clause-workers g c =
     ap (count_by is_some) c.all_shares-shares.ensures ∙ shares_there c.args.finished.items c.into_shares.result in
     let all : count_by is_some c.all_shares-shares.result.items ≡ c.self.inside.books.issued = c.in-Ok.ensures.all.0 (search rules) in
     let came : attach_count c.self.inside.session.journal ≡ attach_count c.args.self.session.journal = ap (λ v. attach_count v.session.journal) c.self.view_is in
-    omega (arith, here, all, came, c.self.invariant.issued_is)
+    omega (arith, here, all, came, c.self.invariant.0.issued_is)
 
 pub returns-clause-gathered : goal.returns-clause-gathered
 returns-clause-gathered g c =
     let p = g.N.Naming.setting in
     let j = c.self.inside.session.journal in
-    let keys : c.totals_of-keys.result ≡ key_totals p j = c.totals_of-keys.ensures.keys ∙ ap (λ q. key_totals q j) c.self.invariant.kept.setting_is in
+    let keys : c.totals_of-keys.result ≡ key_totals p j = c.totals_of-keys.ensures.keys ∙ ap (λ q. key_totals q j) c.self.invariant.0.kept.setting_is in
     let few : length (slots p j) ≤ 8 = omega (arith, ap length keys, length-map (slots p j) (total_of p j), c.totals_of-keys.ensures.few) in
     let books : (n : ℕ) → n < 8 → slice_index c.in-Ok.amounts n ≡ slot_total p j n =
-    λ n below. ap (λ (xs : List ℕ). slice_index xs n) c.in-Ok.ensures.totals ∙ c.self.invariant.kept.counted.slots_are n below in
+    λ n below. ap (λ (xs : List ℕ). slice_index xs n) c.in-Ok.ensures.totals ∙ c.self.invariant.0.kept.counted.slots_are n below in
     let shares : (n : ℕ) → n < 8 → slice_index c.in-Ok.amounts n ≡ gathered n c.args.finished.items =
     λ n below. ap (λ (xs : List ℕ). slice_index xs n)
     (c.in-Ok.ensures.sums ∙ ap (sums zeros) (c.all_shares-shares.ensures ∙ ap (λ (s : List ℕ). Some s ∷ map share_of c.args.finished.items) c.into_shares.ensures))
@@ -49,3 +51,8 @@ returns-clause-sums g c =
     subst (λ (v : Locked). Lawful v.session.setting v.session.journal) (sym c.self.view_is) c.gather_fault.ensures.lawful in
     subst (λ (ks : List KeyTotal). All (λ (k : KeyTotal). k.counted ≡ k.reported + k.unreported) ks) (sym c.totals_of-keys.ensures.keys)
     (totals_exact c.self.inside.session.setting c.self.inside.session.journal lawful)
+
+pub returns-clause-rates : goal.returns-clause-rates
+returns-clause-rates g c =
+    subst (λ (v : Locked). c.self.inside.rates ≡ rates_due g.P.Pooling.is_there g.N.Naming.setting v.session.journal) c.self.view_is
+    (c.self.invariant.1 ∙ ap (λ (q : Setting). rates_due g.P.Pooling.is_there q c.self.inside.session.journal) c.self.invariant.0.kept.setting_is)

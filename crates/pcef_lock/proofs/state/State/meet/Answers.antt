@@ -11,4 +11,4 @@ returns-clause-seen g c =
 
 pub returns-clause-number : goal.returns-clause-number
 returns-clause-number g c =
-    omega (arith, c.generation.ensures, ap length c.in_ok-meet.ensures.newest, ap length c.compare.ensures.publisher, c.self.invariant.kept.published.through)
+    omega (arith, c.generation.ensures, ap length c.in_ok-meet.ensures.newest, ap length c.compare.ensures.publisher, c.self.invariant.0.kept.published.through)

@@ -1,0 +1,64 @@
+//! The lock of a pool.
+
+ghost use Rattle.std.specs.Prelude.{◌≡◌, ◌≤◌, ◌<◌, ◌↔◌, IfOk, IfErr, IsOk};
+ghost use Rattle.pcef_share.specs.Names.{name_at};
+ghost use Rattle.pcef_share.specs.Rates.{no_rates, sum_of_rates};
+ghost use Rattle.pcef_pool.specs.declared.pool_state.PoolFault.TheVariants.{OutOfRange};
+
+use pcef_pool::{PoolFault, PoolState};
+use pcef_rule::Sums;
+use pcef_share::{Pooling, RateBlanks, RateShares, SharesOut};
+use std::sync::Mutex;
+
+/// A pool of guaranteed rates that sessions of several threads share. Its lock is taken inside the hold of a session's
+/// lock, and no other lock inside it.
+pub struct Pool<P: Pooling> {
+    pub(crate) state: Mutex<PoolState<P>>,
+}
+
+// Written out, so that an owner proves one call at each way out.
+impl<P: Pooling> Drop for Pool<P> {
+    fn drop(self) {
+        let Pool { state: _ } = self;
+    }
+}
+
+impl<P: Pooling> Pool<P> {
+    /// As [`PoolState::new`], behind a lock. Takes no memory.
+    pub fn new(capacity: Sums, blanks: RateBlanks) -> Result<Pool<P>, PoolFault>
+        requires { P.ledger ≡ name_at blanks }
+        ensures within { IsOk result
+            ↔ ((capacity.up ≤ 1099511627775) × (capacity.down ≤ 1099511627775)) }
+        ensures fault { IfErr result (λ f. f ≡ OutOfRange) }
+    {
+        match PoolState::new(capacity, blanks) {
+            Ok(state) => Ok(Pool {
+                state: Mutex::new(state),
+            }),
+            Err(fault) => Err(fault),
+        }
+    }
+
+    /// As [`PoolState::gather`], of the value behind the lock, which ends with it: what the pool has granted is the sum
+    /// of the shares that its sessions hand in. No session is behind a lock on the pool any more. A share that was let
+    /// go stays missing. Takes no memory.
+    pub fn gather(
+        self,
+        shares: Vec<RateShares<P>>,
+    ) -> Result<Sums, (Pool<P>, Vec<RateShares<P>>, SharesOut)>
+        ensures sums { IfOk result (λ s. s ≡ sum_of_rates no_rates shares.items) }
+        ensures back { IfErr result (λ e. e.1 ≡ shares) }
+        ensures some { IfErr result (λ e. 0 < e.2.0) }
+    {
+        let Pool { state } = self;
+        match state.into_inner().gather(shares) {
+            Ok(granted) => Ok(granted),
+            Err((state, shares, missing)) => {
+                let pool = Pool {
+                    state: Mutex::new(state),
+                };
+                Err((pool, shares, missing))
+            }
+        }
+    }
+}
