@@ -1,5 +1,5 @@
 -- The share that a session has of a pool.
-use Rattle.std.proofs.Common.{◌≡◌, ◌∙◌, true, false, refl, sym, ap, subst, Some, None, Ok}
+use Rattle.std.proofs.Common.{◌≡◌, ◌∙◌, true, false, sym, ap, subst, Some, None, Ok}
 use Rattle.std.specs.Prelude.{Bool, Option, is_some, IfSome}
 use Rattle.pcef_rule.specs.declared.quantity.Sums.{Sums}
 use Rattle.pcef_model.specs.Entries.{Journal}

@@ -4,7 +4,6 @@ use Rattle.std.proofs.lemmas.Bool.{le-ltb, lt-ltb}
 use Rattle.pcef_rule.specs.declared.quantity.Sums.{Sums}
 use Rattle.pcef_model.specs.Laws.{IsInRoom}
 use Rattle.pcef_model.specs.Refusals.{first_of}
-use Rattle.pcef_share.specs.Rates.{granted_with}
 use Rattle.pcef_pool.specs.Pools.{IsPart, IsPool, PoolModel, pool_faults, pool_with, room_beside}
 use Rattle.pcef_pool.specs.declared.pool_state.PoolFull.TheVariants as full
 

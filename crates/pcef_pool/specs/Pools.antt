@@ -1,5 +1,5 @@
 -- Pools of guaranteed rates that sessions share, in bit/s (own choice).
-use Rattle.std.specs.Prelude.{ℕ, ◌≡◌, ◌≤◌, ◌+◌, ◌-◌, Bool, true, false, List, [], ◌∷◌, Option, Some, None, nat_lt}
+use Rattle.std.specs.Prelude.{◌≤◌, ◌+◌, ◌-◌, Bool, true, false, [], ◌∷◌, Option, Some, None, nat_lt}
 use Rattle.pcef_rule.specs.declared.quantity.Sums.{Sums}
 use Rattle.pcef_model.specs.Setting.{Setting}
 use Rattle.pcef_model.specs.Entries.{Journal}

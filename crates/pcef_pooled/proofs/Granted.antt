@@ -1,5 +1,5 @@
 -- What is granted to sessions.
-use Rattle.std.proofs.Common.{◌≡◌, ◌∙◌, ◌≢◌, ◌≤◌, ◌<◌, ◌+◌, ◌-◌, ℕ, zero, suc, List, [], ◌∷◌, ◌++◌, length, refl, sym, ap, subst, arith, None, Some, Ok, Err}
+use Rattle.std.proofs.Common.{◌≡◌, ◌∙◌, ◌≢◌, ◌≤◌, ◌<◌, ◌+◌, ◌-◌, ℕ, zero, suc, List, [], ◌∷◌, ◌++◌, length, refl, sym, ap, arith, None, Some, Ok, Err}
 use Rattle.std.specs.Prelude.{OnErr, OnOk, Result, slice_get, slice_index_or, slice_set}
 use Rattle.pcef_rule.specs.declared.quantity.Sums.{Sums}
 use Rattle.pcef_model.specs.Refusals.{first_of, total_now}
@@ -11,7 +11,7 @@ use Rattle.pcef_session.specs.Answers.{AnswersCommandWithin}
 use Rattle.pcef_pool.specs.Pools.{IsPart, PoolModel, pool_faults, pool_with, room_beside}
 use Rattle.pcef_pool.specs.declared.pool_state.PoolFull.{PoolFull}
 use Rattle.pcef_session.specs.SessionModel.{SessionModel}
-use Rattle.pcef_share.specs.Rates.{granted_with, no_rates, with_rates}
+use Rattle.pcef_share.specs.Rates.{granted_with, no_rates}
 use Rattle.pcef_pooled.specs.Granting.{AnswersAt, PooledModel, granted_to, rates_of}
 
 -- one session more, at the end

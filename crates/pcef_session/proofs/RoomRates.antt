@@ -1,6 +1,6 @@
 -- A session that has a room in a pool.
-use Rattle.std.proofs.Common.{◌≡◌, ◌∙◌, ◌+◌, ℕ, true, false, List, refl, sym, ap, subst, inl, inr, Some, None, Err, Ok}
-use Rattle.std.specs.Prelude.{Option, Result}
+use Rattle.std.proofs.Common.{◌≡◌, ◌∙◌, ℕ, true, false, List, refl, sym, ap, inl, inr, Some, None, Err, Ok}
+use Rattle.std.specs.Prelude.{Option}
 use Rattle.std.specs.Option.{option_map}
 use Rattle.pcef_rule.specs.declared.quantity.Sums.{Sums}
 use Rattle.pcef_rule.specs.declared.rule.Properties.{Properties}
@@ -12,15 +12,13 @@ use Rattle.pcef_model.specs.declared.answer.Refusal.TheVariants as refusal
 use Rattle.pcef_model.specs.declared.command.Command.{Command}
 use Rattle.pcef_model.specs.declared.command.Command.TheVariants.{Activate, Install}
 use Rattle.pcef_model.specs.ActiveRules.{dynamic, predefined, without}
-use Rattle.pcef_model.specs.Bearers.{rate_down, rate_up}
 use Rattle.pcef_model.specs.Commands.{activated}
 use Rattle.pcef_model.specs.Entries.{Journal}
 use Rattle.pcef_model.specs.Generations.{Generation}
 use Rattle.pcef_model.specs.Journals.{now}
 use Rattle.pcef_model.specs.Outcomes.{CommandStepWithin, Gives, IsRefusedWithin, command_outcome, command_outcome_by, command_outcome_within}
-use Rattle.pcef_model.specs.Refusals.{first_of, is_active, over_room, refusals, refusals_within, room_refusals, total, total_after, total_down, total_now, total_up}
+use Rattle.pcef_model.specs.Refusals.{first_of, is_active, over_room, refusals, refusals_within, room_refusals, total, total_down, total_now, total_up}
 use Rattle.pcef_model.specs.Setting.{Setting, offer_named}
-use Rattle.pcef_model.proofs.Acceptance.{activate_named}
 use Rattle.pcef_model.specs.Laws.{IsInRoom}
 use Rattle.pcef_model.proofs.Rooms.{accepted_within, total_fits, total_put}
 use Rattle.pcef_bearer.specs.Bindings.{total_with, total as bound_total, total_down as bound_down, total_up as bound_up, without as bound_without}

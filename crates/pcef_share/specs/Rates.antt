@@ -7,12 +7,6 @@ pub record RateAccount : Type 0 where
   pub granted : Sums
   pub issued : ℕ
 
-abbrev pub up_ledger : ℕ
-up_ledger = 0
-
-abbrev pub down_ledger : ℕ
-down_ledger = 1
-
 abbrev pub no_rates : Sums
 no_rates = record { up = 0; down = 0 }
 

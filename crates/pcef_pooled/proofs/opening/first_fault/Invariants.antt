@@ -1,4 +1,4 @@
-use Rattle.std.proofs.Common.{◌≡◌, ◌≤◌, drop}
+use Rattle.std.proofs.Common.{◌≡◌, drop}
 use Rattle.pcef_model.specs.Refusals.{first_of}
 use Rattle.pcef_pooled.specs.Opening.{list_faults}
 use Rattle.pcef_pooled.proofs.opening.first_fault.Given as goal

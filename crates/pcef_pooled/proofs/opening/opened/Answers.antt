@@ -1,4 +1,3 @@
-use Rattle.std.proofs.Common.{◌≡◌}
 use Rattle.pcef_pooled.proofs.Opened.{opened_more, pool_more}
 use Rattle.pcef_pooled.proofs.opening.opened.Goals as goal
 

@@ -1,14 +1,14 @@
-use Rattle.std.proofs.Common.{◌≡◌, ap, refl, subst, sym, Err, None, Ok, Some}
+use Rattle.std.proofs.Common.{◌≡◌, refl, subst, sym, Err, None, Ok, Some}
 use Rattle.pcef_rule.specs.declared.quantity.Sums.{Sums}
 use Rattle.pcef_model.specs.Laws.{IsInRoom}
-use Rattle.pcef_model.specs.Refusals.{first_of, total_now}
+use Rattle.pcef_model.specs.Refusals.{first_of}
 use Rattle.pcef_session.specs.Answers.{AnswersCommandWithin}
 use Rattle.pcef_session.specs.SessionModel.{SessionModel}
 use Rattle.pcef_session.proofs.RoomRates.{does_not_within, does_within, settled_fits}
 use Rattle.pcef_pool.specs.Pools.{IsPart, pool_faults, room_beside}
 use Rattle.pcef_pool.proofs.Within.{held_fits, pool_gives}
 use Rattle.pcef_pooled.specs.Granting.{rates_of}
-use Rattle.pcef_pooled.proofs.Granted.{never_full, rates_stay, room_is}
+use Rattle.pcef_pooled.proofs.Granted.{never_full, room_is}
 use Rattle.pcef_pooled.proofs.member.Member.command.Goals as goal
 
 pub returns-in-Err-clause-answer : goal.returns-in-Err-clause-answer

@@ -1,4 +1,4 @@
-use Rattle.std.proofs.Common.{◌∙◌, sym}
+use Rattle.std.proofs.Common.{◌∙◌}
 use Rattle.pcef_session.proofs.RoomRates.{within_after, within_before}
 use Rattle.pcef_session.proofs.state.SessionState.refusal_within.Goals as goal
 
