@@ -16,7 +16,7 @@ use Rattle.pcef_gateway.specs.declared.ended.Ended.{Ended}
 use Rattle.pcef_gateway.specs.declared.fault.RunFault.{RunFault}
 
 -- what the desk and the workers handed in agrees with the journal, and adds up to this
-pub record AddUpTo (p : Setting) (listed : List Command) (handed : List HandedIn) (t : Totals) : Type 0 where
+pub record AddUpTo {l : Type 0} (p : Setting) (listed : List Command) (handed : List HandedIn) (t : Totals l) : Type 0 where
   pub setting_is : t.session.setting ≡ p
   pub many : length handed ≡ attach_count t.session.journal
   pub lanes : HaveLanes t.session.journal handed
@@ -28,7 +28,7 @@ pub record AddUpTo (p : Setting) (listed : List Command) (handed : List HandedIn
   pub abandoned_are : t.abandoned ≡ rows_abandoned handed
 
 -- by these lists of the workers: each of its lane, and together they have what was counted for each key
-pub record AreGatheredFrom (t : Totals) : Type 0 where
+pub record AreGatheredFrom {l : Type 0} (t : Totals l) : Type 0 where
   pub handed : List HandedIn
   pub many : length handed ≡ attach_count t.session.journal
   pub lanes : HaveLanes t.session.journal handed

@@ -34,7 +34,7 @@ struct Told {
     /// What each was answered.
     answers: Vec<Result<Accepted, Refusal>>,
     /// The number of each session's newest generation then.
-    generations: [u32; 2],
+    generations: (u32, u32),
     /// What the pool has granted then.
     granted: Sums,
 }
@@ -139,10 +139,10 @@ fn tell_named<P: Pooling>(
     }
     Ok(Told {
         answers,
-        generations: [
+        generations: (
             pooled.session(0).generation(),
             pooled.session(1).generation(),
-        ],
+        ),
         granted: pooled.granted(),
     })
 }

@@ -48,7 +48,7 @@ struct Side {
 }
 
 /// A new session that offers no rules, or nothing for want of memory.
-fn side(alloc: Global) -> Option<Side>
+fn new_side(alloc: Global) -> Option<Side>
     ensures fresh { IfSome result (λ s. s.session.journal ≡ []) }
     ensures offers { IfSome result (λ s. arc_value s.catalog ≡ s.session.setting.catalog) }
     ensures table { IfSome result (λ s. ShowsNewest s.session s.opened.table) }
@@ -56,12 +56,14 @@ fn side(alloc: Global) -> Option<Side>
     let (profile, listing) = asked(alloc, 9)?;
     let catalog = Arc::new(alloc, listing.share().ok()?).ok()?;
     let session = SessionState::open(alloc, profile, listing).ok()?;
-    let opened = opened(&session).ok()?;
-    Some(Side {
-        catalog,
-        session,
-        opened,
-    })
+    match opened(&session).ok() {
+        Some(opened) => Some(Side {
+            catalog,
+            session,
+            opened,
+        }),
+        None => None,
+    }
 }
 
 /// A session behind its lock, on a pool.
@@ -150,7 +152,7 @@ fn installed<N: Naming, W: Board<Slot<N>> + Drop, P: Pooling, R: Wait>(
 }
 
 /// What two desks are told.
-fn seen<
+fn do_task<
     A: Naming + Send + Sync,
     B: Naming + Send + Sync,
     V: Board<Slot<A>> + Drop + Send,
@@ -193,7 +195,7 @@ fn seen<
 }
 
 /// What a session has at its end.
-fn left<N: Naming, W: Board<Slot<N>> + Drop, P: Pooling, R: Wait>(
+fn end_of<N: Naming, W: Board<Slot<N>> + Drop, P: Pooling, R: Wait>(
     rt: &R,
     alloc: Global,
     shared: Shared<'_, Listing, N, W, P>,
@@ -232,9 +234,9 @@ fn seen_and_left<
     let (other, second) = other;
     let mut first = first;
     let mut second = second;
-    let seen = seen(rt, alloc, task, &one, &mut first, &other, &mut second)?;
-    let here = left(rt, alloc, one, first)?;
-    let there = left(rt, alloc, other, second)?;
+    let seen = do_task(rt, alloc, task, &one, &mut first, &other, &mut second)?;
+    let here = end_of(rt, alloc, one, first)?;
+    let there = end_of(rt, alloc, other, second)?;
     Some((seen, here, there))
 }
 
@@ -286,7 +288,7 @@ fn first_named<A: Naming + Send + Sync, P: Pooling + Send + Sync, R: Threads + W
     requires table { ShowsNewest side.session side.opened.table }
 {
     let one = behind_lock::<A, P, _>(rt, alloc, pool, side, blanks)?;
-    let side = self::side(alloc)?;
+    let side = new_side(alloc)?;
     second_named::<A, Brand, _, P, R>(rt, alloc, task, pool, one, side, Blanks::new())
 }
 
@@ -297,12 +299,12 @@ fn pool_named<P: Pooling + Send + Sync, R: Threads + Wait + Sync>(
     task: Task<'_>,
     capacity: Sums,
     blanks: RateBlanks,
-) -> Option<(Seen, [u32; 2], Sums)>
+) -> Option<(Seen, (u32, u32), Sums)>
     requires there { P.is_there ≡ true }
     requires name { P.ledger ≡ name_at blanks }
 {
     let pool = Pool::<P>::new(capacity, blanks).ok()?;
-    let side = side(alloc)?;
+    let side = new_side(alloc)?;
     let (seen, here, there) = first_named::<Brand, P, R>(
         rt,
         alloc,
@@ -311,7 +313,7 @@ fn pool_named<P: Pooling + Send + Sync, R: Threads + Wait + Sync>(
         side,
         Blanks::new(),
     )?;
-    let generations = [here.generation, there.generation];
+    let generations = (here.generation, there.generation);
     let mut shares = Vec::with_capacity(alloc, 2).ok()?;
     shares.push(here.rates).ok()?;
     shares.push(there.rates).ok()?;
@@ -326,6 +328,6 @@ pub fn tell_desks<R: Threads + Wait + Sync>(
     alloc: Global,
     capacity: Sums,
     task: Task<'_>,
-) -> Option<(Seen, [u32; 2], Sums)> {
+) -> Option<(Seen, (u32, u32), Sums)> {
     pool_named::<Brand, R>(rt, alloc, task, capacity, RateBlanks::new())
 }

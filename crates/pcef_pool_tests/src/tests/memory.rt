@@ -119,7 +119,7 @@ fn desks_on_a_pool_that_find_no_memory_can_go_on(rt: HostRuntime) -> Result<(), 
         return Err("two desks found no memory twice")?;
     };
     assert!(rt; seen.answers.iter().all(|answer| answer.is_ok()));
-    assert_eq!(rt; generations, [4, 1]);
+    assert_eq!(rt; generations, (4, 1));
     assert_eq!(rt; granted, capacity);
     Ok(())
 }

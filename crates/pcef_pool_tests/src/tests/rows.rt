@@ -23,7 +23,7 @@ struct Due<'a> {
     /// The answers.
     answers: &'a [Result<Accepted, Refusal>],
     /// The number of each session's newest generation then.
-    generations: [u32; 2],
+    generations: (u32, u32),
     /// What the pool has granted then, in each direction.
     granted: u64,
 }
@@ -79,7 +79,7 @@ fn a_removed_rule_leaves_its_rates_to_the_other_session(rt: HostRuntime) -> Resu
     ];
     let due = Due {
         answers: answers.as_slice(),
-        generations: [2, 1],
+        generations: (2, 1),
         granted: 64_000,
     };
     assert!(rt; comes(&rt, rt.alloc(), both(100_000), steps.as_slice(), &due)?);
@@ -95,7 +95,7 @@ fn a_refused_rule_leaves_generation_and_pool(rt: HostRuntime) -> Result<(), Fail
     let answers = [accepted(Some(6), 1), Err(Refusal::PoolUp)];
     let due = Due {
         answers: answers.as_slice(),
-        generations: [1, 0],
+        generations: (1, 0),
         granted: 64_000,
     };
     assert!(rt; comes(&rt, rt.alloc(), both(100_000), steps.as_slice(), &due)?);
@@ -107,7 +107,7 @@ fn downlink_rates_are_looked_at_after_uplink_rates(rt: HostRuntime) -> Result<()
     let steps = [Step::Install(0, 64_000, 64_000)];
     let due = Due {
         answers: &[Err(Refusal::PoolDown)],
-        generations: [0, 0],
+        generations: (0, 0),
         granted: 0,
     };
     let less = Sums {
@@ -117,7 +117,7 @@ fn downlink_rates_are_looked_at_after_uplink_rates(rt: HostRuntime) -> Result<()
     assert!(rt; comes(&rt, rt.alloc(), less, steps.as_slice(), &due)?);
     let due = Due {
         answers: &[Err(Refusal::PoolUp)],
-        generations: [0, 0],
+        generations: (0, 0),
         granted: 0,
     };
     assert!(rt; comes(&rt, rt.alloc(), both(63_999), steps.as_slice(), &due)?);
@@ -138,7 +138,7 @@ fn a_modified_rule_may_take_all_that_is_there(rt: HostRuntime) -> Result<(), Fai
     ];
     let due = Due {
         answers: answers.as_slice(),
-        generations: [2, 0],
+        generations: (2, 0),
         granted: 100_000,
     };
     assert!(rt; comes(&rt, rt.alloc(), both(100_000), steps.as_slice(), &due)?);
@@ -150,7 +150,7 @@ fn the_sessions_own_capacity_is_looked_at_first(rt: HostRuntime) -> Result<(), F
     let steps = [Step::Install(0, 1_000_001, 1)];
     let due = Due {
         answers: &[Err(Refusal::OverCapacityUp)],
-        generations: [0, 0],
+        generations: (0, 0),
         granted: 0,
     };
     assert!(rt; comes(&rt, rt.alloc(), both(1_000_000), steps.as_slice(), &due)?);

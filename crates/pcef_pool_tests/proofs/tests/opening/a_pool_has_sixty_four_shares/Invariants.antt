@@ -4,4 +4,4 @@ use Rattle.pcef_pool_tests.proofs.tests.opening.a_pool_has_sixty_four_shares.Giv
 
 -- the name of the pool and of its blanks
 abbrev pub ghosts-issued_named : goal.ghosts-issued_named
-ghosts-issued_named a = record { ledger = name_at a.blanks; is_there = true }
+ghosts-issued_named g a = record { ledger = name_at a.blanks; is_there = true }
