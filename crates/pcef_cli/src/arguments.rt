@@ -1,4 +1,4 @@
-//! The arguments, and the file that they name.
+//! The arguments, and the files that they name.
 
 use pcef_program::words::path_of;
 use std::alloc::{AllocError, Global};
@@ -44,10 +44,14 @@ fn text_of(rt: &HostRuntime, path: &[u8]) -> io::Result<String> {
     }
 }
 
-/// The text of the profile that the arguments ask for. No file is read where they ask for none.
-pub(crate) fn profile_of(rt: &HostRuntime, words: &[Vec<u8>]) -> Option<io::Result<String>> {
-    match path_of(words) {
-        Some(path) => Some(text_of(rt, path)),
-        None => None,
+/// The texts of the profiles that the arguments ask for. No file is read where they ask for none. Takes memory for them.
+pub(crate) fn profiles_of(
+    rt: &HostRuntime,
+    words: &[Vec<u8>],
+) -> Result<Vec<io::Result<String>>, AllocError> {
+    let mut profiles = Vec::new(rt.alloc());
+    if let Some(path) = path_of(words) {
+        profiles.push(text_of(rt, path))?;
     }
+    Ok(profiles)
 }

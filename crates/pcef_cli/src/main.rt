@@ -9,7 +9,7 @@ ghost use Rattle.pcef_catalog.specs.Catalogs.{offers_of};
 ghost use Rattle.pcef_catalog.specs.Shapes.{shape_holds};
 ghost use Rattle.pcef_program.specs.BuiltIn.{built_in_offers, dns_shape, expedited_shape, remaining_shape};
 
-use arguments::{profile_of, words};
+use arguments::{profiles_of, words};
 use pcef_catalog::{Catalog, Detect, Predefined};
 use pcef_packet::Header;
 use pcef_program::built_in::{
@@ -31,7 +31,7 @@ fn run_telling<T: Threads + Wait + Sync>(
     rt: &HostRuntime,
     catalog: Arc<Catalog>,
     words: &[Vec<u8>],
-    profile: &Option<io::Result<String>>,
+    profiles: &[io::Result<String>],
     outlet: Outlet,
     taken: &Taken,
 ) -> io::Result<u8>
@@ -46,7 +46,7 @@ fn run_telling<T: Threads + Wait + Sync>(
         threads,
         alloc,
         words,
-        profile,
+        profiles,
         catalog,
         outlet,
         taken,
@@ -62,7 +62,7 @@ fn run_storing<T: Threads + Wait + Sync>(
     rt: &HostRuntime,
     catalog: Arc<Catalog>,
     words: &[Vec<u8>],
-    profile: &Option<io::Result<String>>,
+    profiles: &[io::Result<String>],
     taken: &Arc<Taken>,
 ) -> io::Result<u8>
     requires { offers_of (arc_value catalog) ≡ built_in_offers }
@@ -76,7 +76,7 @@ fn run_storing<T: Threads + Wait + Sync>(
         reporters.push((kind, reporter))?;
     }
     match Outlet::new(reporters) {
-        Ok(outlet) => run_telling(threads, rt, catalog, words, profile, outlet, taken),
+        Ok(outlet) => run_telling(threads, rt, catalog, words, profiles, outlet, taken),
         Err(_) => Err(AllocError.into()),
     }
 }
@@ -92,9 +92,9 @@ fn run_with<T: Threads + Wait + Sync>(
 {
     let alloc = rt.alloc();
     let words = words(alloc, rt)?;
-    let profile = profile_of(rt, &words);
+    let profiles = profiles_of(rt, &words)?;
     let taken = Arc::new(alloc, Taken::new())?;
-    run_storing(threads, rt, catalog, &words, &profile, &taken)
+    run_storing(threads, rt, catalog, &words, &profiles, &taken)
 }
 
 /// Makes the built-in catalog, and runs the program with it.

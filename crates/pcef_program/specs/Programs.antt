@@ -1,6 +1,6 @@
--- What the program does with its words and its profile, from a reader with `before` still to come and a writer
+-- What the program does with its words and its profiles, from a reader with `before` still to come and a writer
 -- with `old` written, to `left` and `new` (own choice).
-use Rattle.std.specs.Prelude.{ℕ, ◌≡◌, ◌⊎◌, List, String, Vec, string_bytes, Option, Some, None, is_some, Result, Ok, Err, if◌then◌else◌}
+use Rattle.std.specs.Prelude.{ℕ, ◌≡◌, ◌⊎◌, List, [], ◌∷◌, String, Vec, string_bytes, Option, Some, None, is_some, Result, Ok, Err, if◌then◌else◌}
 use Rattle.std.specs.declared.alloc.Global.{Global}
 use Rattle.std.specs.Io.KnownBytes.{Consumes, IsAtEnd, Keeps}
 use Rattle.std.specs.IoError.{error_kind}
@@ -24,9 +24,10 @@ use Rattle.pcef_program.specs.Words.{path_of}
 abbrev pub Text : Type 0
 Text = Result (String Global) Error
 
--- that of the profile that is named
-abbrev pub asked : List (Vec ℕ Global) → Option Text → Option Text
-asked words profile = if is_some (path_of words) then profile else None
+-- that of the profile that is named, where it is the only one
+abbrev pub asked : List (Vec ℕ Global) → List Text → Option Text
+asked words (profile ∷ []) = if is_some (path_of words) then Some profile else None
+asked words profiles = None
 
 -- ---- what is done
 abbrev pub IsUntouched : Option (List ℕ) → Option (List ℕ) → Option (List ℕ) → Option (List ℕ) → Type 0

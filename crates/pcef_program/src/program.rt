@@ -98,16 +98,13 @@ fn with_profile<T: Threads + Wait + Sync, R: Read, W: Write>(
 /// The profile of the script or the run that the arguments ask for, if they do.
 fn asked<'a>(
     words: &[Vec<u8>],
-    profile: &'a Option<io::Result<String>>,
+    profiles: &'a [io::Result<String>],
 ) -> Option<&'a io::Result<String>>
-    ensures { option_map (λ p. p.now) result ≡ asked words.now profile.now }
+    ensures { option_map (λ p. p.now) result ≡ asked words.now profiles.now }
 {
-    if path_of(words).is_none() {
-        return None;
-    }
-    match profile {
-        Some(profile) => Some(profile),
-        None => None,
+    match profiles {
+        [profile] if path_of(words).is_some() => Some(profile),
+        _ => None,
     }
 }
 
@@ -138,8 +135,9 @@ fn end_of<T: Threads + Wait + Sync, R: Read, W: Write>(
 /// Runs the program and gives its exit status: 0; 1 for a profile fault or a line at fault; 2 for wrong
 /// arguments; 3 for want of memory; 4 for a failing end or a run that came to no end.
 ///
-/// `words` are the arguments after the program's name, `profile` is the text of the file that they name as the
-/// profile, or why it can't be read; where they name none, it isn't looked at. `catalog` has the predefined rules.
+/// `words` are the arguments after the program's name, `profiles` are the texts of the files that they name as
+/// profiles, in their order, or why these can't be read. Where there are more or fewer of them than are named, the
+/// arguments are wrong. `catalog` has the predefined rules.
 /// `faults` is told why the program ends early: a line, and below it what a person needs to know. That it fails
 /// changes nothing else. A script is run as `run_script` does, and the writer is flushed at its end. A run reads the
 /// whole input first, starts a thread for each worker and waits for them; its reports go to `outlet`, whose reporters
@@ -148,7 +146,7 @@ pub fn program<T: Threads + Wait + Sync, R: Read, W: Write, E: Write>(
     rt: &T,
     alloc: Global,
     words: &[Vec<u8>],
-    profile: &Option<io::Result<String>>,
+    profiles: &[io::Result<String>],
     catalog: Arc<Catalog>,
     outlet: Outlet,
     taken: &Taken,
@@ -160,21 +158,21 @@ pub fn program<T: Threads + Wait + Sync, R: Read, W: Write, E: Write>(
     ensures ends { (end : End) × (result ≡ end_status end)
         × IsTold end (E.contents faults.old) (E.contents faults.new)
         × Ends (offers_of (arc_value catalog)) (workers_of words.now)
-        (asked words.now profile.now) end
+        (asked words.now profiles.now) end
         (R.remaining reader.old) (R.remaining reader.new)
         (W.contents writer.old) (W.contents writer.new) }
     ensures most { result ≤ 4 }
     // Status 0 comes only where the whole input was read and all that is due is written.
     ensures whole { result ≡ 0 →
-        IsWhole (offers_of (arc_value catalog)) (workers_of words.now) (asked words.now profile.now)
+        IsWhole (offers_of (arc_value catalog)) (workers_of words.now) (asked words.now profiles.now)
         (R.remaining reader.old) (R.remaining reader.new)
         (W.contents writer.old) (W.contents writer.new) }
 {
     let workers = workers_of(words);
-    let asked = asked(words, profile);
+    let asked = asked(words, profiles);
     let end = end_of(
         rt, alloc, asked, workers, catalog, outlet, taken, reader, writer,
     );
-    tell(alloc, &end, words, profile, faults);
+    tell(alloc, &end, words, profiles, faults);
     end.status()
 }

@@ -15,15 +15,15 @@ fn profile_line(
     alloc: Global,
     end: &End,
     words: &[Vec<u8>],
-    profile: &Option<io::Result<String>>,
+    profiles: &[io::Result<String>],
 ) -> Result<String, AllocError> {
-    match (end, profile) {
-        (End::Profile(fault), Some(Ok(text))) => {
+    match (end, profiles) {
+        (End::Profile(fault), [Ok(text)]) => {
             let mut line = explain(alloc, text.as_str(), *fault)?;
             line.push('\n')?;
             Ok(line)
         }
-        (End::NoProfile, Some(Err(error))) => {
+        (End::NoProfile, [Err(error)]) => {
             let path = String::from_utf8_lossy(alloc, path_of(words).unwrap_or_default())?;
             format!(in alloc; "{path}: {error}\n")
         }
@@ -36,7 +36,7 @@ fn put_details<E: Write>(
     alloc: Global,
     end: &End,
     words: &[Vec<u8>],
-    profile: &Option<io::Result<String>>,
+    profiles: &[io::Result<String>],
     faults: &mut E,
 )
     ensures { AppendsSome (E.contents faults.old) (E.contents faults.new) }
@@ -44,7 +44,7 @@ fn put_details<E: Write>(
     if put_all(faults, end.note().as_bytes()).is_err() {
         return;
     }
-    if let Ok(line) = profile_line(alloc, end, words, profile) {
+    if let Ok(line) = profile_line(alloc, end, words, profiles) {
         let _ = put_all(faults, line.as_bytes());
     }
 }
@@ -55,7 +55,7 @@ pub(crate) fn tell<E: Write>(
     alloc: Global,
     end: &End,
     words: &[Vec<u8>],
-    profile: &Option<io::Result<String>>,
+    profiles: &[io::Result<String>],
     faults: &mut E,
 )
     ensures { IsTold end.now (E.contents faults.old) (E.contents faults.new) }
@@ -65,7 +65,7 @@ pub(crate) fn tell<E: Write>(
         return;
     }
     match put_all(faults, line.as_bytes()) {
-        Ok(()) => put_details(alloc, end, words, profile, faults),
+        Ok(()) => put_details(alloc, end, words, profiles, faults),
         Err(_) => {}
     }
 }

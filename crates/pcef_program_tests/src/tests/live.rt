@@ -64,7 +64,7 @@ fn ask<T: Threads + Wait + Sync>(
     can_flush: bool,
 ) -> Result<(u8, u64, String), Fail> {
     let words = octets(alloc, &["script", "profile.toml"])?;
-    let profile = Some(Ok(String::from_str(alloc, PROFILE)?));
+    let profiles = [Ok(String::from_str(alloc, PROFILE)?)];
     let flushed = Rc::new(alloc, Cell::new(0u64))?;
     let mut input = Asking {
         lines: 0,
@@ -80,7 +80,7 @@ fn ask<T: Threads + Wait + Sync>(
         rt,
         alloc,
         &words,
-        &profile,
+        &profiles,
         &mut input,
         &mut output,
         &mut faults,

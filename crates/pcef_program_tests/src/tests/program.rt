@@ -44,7 +44,7 @@ pub(crate) fn program_on<T: Threads + Wait + Sync, R: Read, W: Write, E: Write>(
     rt: &T,
     alloc: Global,
     words: &[Vec<u8>],
-    profile: &Option<io::Result<String>>,
+    profiles: &[io::Result<String>],
     reader: &mut R,
     writer: &mut W,
     faults: &mut E,
@@ -53,7 +53,7 @@ pub(crate) fn program_on<T: Threads + Wait + Sync, R: Read, W: Write, E: Write>(
     let taken = Arc::new(alloc, Taken::new())?;
     let outlet = storing_outlet(alloc, &taken)?;
     Ok(program(
-        rt, alloc, words, profile, catalog, outlet, &taken, reader, writer, faults,
+        rt, alloc, words, profiles, catalog, outlet, &taken, reader, writer, faults,
     ))
 }
 
@@ -76,7 +76,7 @@ pub(crate) fn run<T: Threads + Wait + Sync>(
         rt,
         alloc,
         words,
-        &Some(profile),
+        &[profile],
         &mut input.as_bytes(),
         &mut answers,
         &mut faults,
@@ -198,13 +198,13 @@ fn a_file_too_large_for_memory(rt: HostRuntime) -> Result<(), Fail> {
     let words = octets(alloc, &["script", "profile.toml"])?;
     let mut answers = Vec::new(alloc);
     let mut faults = Vec::new(alloc);
-    let profile = Some(Err(io::Error::from(io::ErrorKind::OutOfMemory)));
+    let profiles = [Err(io::Error::from(io::ErrorKind::OutOfMemory))];
     let mut input = "".as_bytes();
     let status = program_on(
         &rt,
         alloc,
         &words,
-        &profile,
+        &profiles,
         &mut input,
         &mut answers,
         &mut faults,
@@ -449,13 +449,13 @@ fn ends_between<T: Threads + Wait + Sync>(
     (status, flushes, answers, said): (u8, u64, &str, &str),
 ) -> Result<bool, Fail> {
     let words = octets(alloc, SCRIPT)?;
-    let profile = Some(Ok(String::from_str(alloc, PROFILE)?));
+    let profiles = [Ok(String::from_str(alloc, PROFILE)?)];
     let mut faults = Vec::new(alloc);
     let got = program_on(
         rt,
         alloc,
         &words,
-        &profile,
+        &profiles,
         &mut input,
         &mut output,
         &mut faults,

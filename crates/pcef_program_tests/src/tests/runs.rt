@@ -232,9 +232,9 @@ fn run_between<T: Threads + Wait + Sync, R: Read, W: Write>(
     said: &str,
 ) -> Result<(u8, bool), Fail> {
     let words = octets(alloc, &["run", "profile.toml", "1"])?;
-    let profile = Some(Ok(String::from_str(alloc, PROFILE)?));
+    let profiles = [Ok(String::from_str(alloc, PROFILE)?)];
     let mut faults = Vec::new(alloc);
-    let status = program_on(rt, alloc, &words, &profile, reader, writer, &mut faults)?;
+    let status = program_on(rt, alloc, &words, &profiles, reader, writer, &mut faults)?;
     Ok((status, faults.as_slice().starts_with(said.as_bytes())))
 }
 
@@ -269,7 +269,7 @@ impl Reporter for Refusing {
 fn a_reporter_that_refuses_ends_the_program(rt: HostRuntime) -> Result<(), Fail> {
     let alloc = rt.alloc();
     let words = octets(alloc, &["run", "profile.toml", "1"])?;
-    let profile = Some(Ok(String::from_str(alloc, PROFILE)?));
+    let profiles = [Ok(String::from_str(alloc, PROFILE)?)];
     let catalog = Arc::new(alloc, Catalog::new(alloc, Vec::new(alloc))?)?;
     let mut reporters = Vec::new(alloc);
     let refusing: Box<dyn Reporter + Send> = Box::new(alloc, Refusing)?;
@@ -285,7 +285,7 @@ fn a_reporter_that_refuses_ends_the_program(rt: HostRuntime) -> Result<(), Fail>
         &rt,
         alloc,
         &words,
-        &profile,
+        &profiles,
         catalog,
         outlet,
         &Taken::new(),

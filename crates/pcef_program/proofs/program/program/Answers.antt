@@ -14,7 +14,7 @@ returns-clause-ends g c =
       end,
       c.status.ensures,
       c.tell.ensures,
-      subst (λ w. Ends (offers_of (arc_value c.args.catalog)) w (asked c.args.words.now c.args.profile.now) end (remaining c.args.reader.now) (remaining c.end_of-end.new.reader)
+      subst (λ w. Ends (offers_of (arc_value c.args.catalog)) w (asked c.args.words.now c.args.profiles.now) end (remaining c.args.reader.now) (remaining c.end_of-end.new.reader)
           (contents c.args.writer.now) (contents c.end_of-end.new.writer)) c.workers_of-workers.ensures
           (subst (λ a. Ends (offers_of (arc_value c.args.catalog)) c.workers_of-workers.result a end (remaining c.args.reader.now) (remaining c.end_of-end.new.reader)
           (contents c.args.writer.now) (contents c.end_of-end.new.writer)) c.asked-asked.ensures c.end_of-end.ensures),
@@ -30,9 +30,9 @@ returns-clause-whole g c = λ zero.
     let offers = offers_of (arc_value c.args.catalog) in
     let end = c.end_of-end.result in
     let workers = workers_of c.args.words.now in
-    let ended = subst (λ w. Ends offers w (asked c.args.words.now c.args.profile.now) end (remaining c.args.reader.now) (remaining c.end_of-end.new.reader) (contents c.args.writer.now)
+    let ended = subst (λ w. Ends offers w (asked c.args.words.now c.args.profiles.now) end (remaining c.args.reader.now) (remaining c.end_of-end.new.reader) (contents c.args.writer.now)
     (contents c.end_of-end.new.writer)) c.workers_of-workers.ensures
     (subst (λ a. Ends offers c.workers_of-workers.result a end (remaining c.args.reader.now) (remaining c.end_of-end.new.reader) (contents c.args.writer.now) (contents c.end_of-end.new.writer))
     c.asked-asked.ensures c.end_of-end.ensures) in
-    whole_ended offers workers (asked c.args.words.now c.args.profile.now) end (remaining c.args.reader.now) (remaining c.end_of-end.new.reader) (contents c.args.writer.now) (contents c.end_of-end.new.writer)
+    whole_ended offers workers (asked c.args.words.now c.args.profiles.now) end (remaining c.args.reader.now) (remaining c.end_of-end.new.reader) (contents c.args.writer.now) (contents c.end_of-end.new.writer)
     ended (sym c.status.ensures ∙ zero)
