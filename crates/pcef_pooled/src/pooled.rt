@@ -60,6 +60,7 @@ impl<P: Pooling> Pooled<P> {
         ensures sessions { IfOk result (λ p. AreOpened profiles.items p.sessions) }
         ensures many { IfOk result (λ p. length p.sessions ≡ length profiles.items) }
         ensures capacity { IfOk result (λ p. p.pool.capacity ≡ capacity) }
+        ensures granted { IfOk result (λ p. p.pool.books.granted ≡ granted_to p.sessions) }
     {
         if profiles.is_empty() || profiles.len() > MAX_RATE_SHARES {
             return Err(PooledFault::Sessions);
@@ -104,6 +105,7 @@ impl<P: Pooling> Pooled<P> {
         ensures others { KeepsOthers n self.old self.new }
         ensures many { length self.new.sessions ≡ length self.old.sessions }
         ensures capacity { self.new.pool.capacity ≡ self.old.pool.capacity }
+        ensures granted { self.new.pool.books.granted ≡ granted_to self.new.sessions }
     {
         self.members[n].command(command, &mut self.pool)
     }

@@ -23,3 +23,10 @@ returns-clause-answer g c =
 pub returns-clause-others : goal.returns-clause-others
 returns-clause-others g c = λ m other.
     set_there c.self.inside.members.items c.args.n m c.command.new.self other ∙ ap (λ (b : PooledModel). slice_get b.sessions m) c.self.view_is
+
+pub returns-clause-granted : goal.returns-clause-granted
+returns-clause-granted g c =
+    let at : slice_get c.self.inside.members.items c.args.n ≡ Some c.index_mut.result.now =
+    stands c.self.inside.members.items c.args.n c.index_mut.result.now (omega (arith, c.requires, ap (λ (b : PooledModel). length b.sessions) c.self.view_is)) c.index_mut.ensures.value in
+    command_granted c.command.result c.self.inside.members.items c.args.n c.index_mut.result.now c.command.new.self c.self.inside.pool c.command.new.pool at c.self.invariant c.command.ensures.part c.command.ensures.granted
+    c.command.ensures.refused c.command.ensures.kept

@@ -38,3 +38,6 @@ returns-in-Err-opened-clause-answer g c =
 
 pub returns-in-Ok-opened-clause-many : goal.returns-in-Ok-opened-clause-many
 returns-in-Ok-opened-clause-many g c = as_many c.args.profiles.items c.in-Ok-opened.members.items c.in-Ok-opened.ensures.sessions
+
+pub returns-in-Ok-opened-clause-granted : goal.returns-in-Ok-opened-clause-granted
+returns-in-Ok-opened-clause-granted g c = ap (λ (v : PoolModel). v.books.granted) c.in-Ok-opened.ensures.pool ∙ nothing_granted c.args.profiles.items c.in-Ok-opened.members.items c.in-Ok-opened.ensures.sessions
