@@ -64,6 +64,11 @@ pub record IsPlanOf (asked : List Line) (plan : Plan) : Type 0 where
   pub later : plan.later.items ≡ commands_in (from_packets asked)
 
 -- ---- inputs
+-- the first line of an input, and what follows the line feed that ends it
+abbrev pub IsFirstLine : List ℕ → List ℕ → Option (List ℕ) → Type 0
+IsFirstLine input first None = all_lines input ≡ first ∷ []
+IsFirstLine input first (Some rest) = (all_lines input ≡ first ∷ all_lines rest) × (length rest + 1 ≤ length input)
+
 -- a line that is read and fits
 abbrev pub Asks : ℕ → List ℕ → Line → Type 0
 Asks workers bytes asked = LineDue bytes (Ok asked) × (fits workers asked ≡ true)
@@ -103,11 +108,6 @@ abbrev pub FailsIn : ℕ → List (List ℕ) → PlanFault → Type 0
 FailsIn workers lines (fault.Line number) = FirstUnfit workers lines number
 FailsIn workers lines fault.NoMemory = Unit {0}
 FailsIn workers lines other = ⊥
-
--- the first line of an input, and what its line feed ends
-abbrev pub IsFirstLine : List ℕ → List ℕ → Option (List ℕ) → Type 0
-IsFirstLine input first None = all_lines input ≡ first ∷ []
-IsFirstLine input first (Some rest) = (all_lines input ≡ first ∷ all_lines rest) × (length rest + 1 ≤ length input)
 
 -- a line more is planned, whatever lines were planned before
 abbrev pub AddsLine : {A E : Type 0} → Line → Plan → Result A E → Plan → Type 0

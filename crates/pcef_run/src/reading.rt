@@ -31,15 +31,15 @@ fn is_space(bytes: &[u8]) -> bool
         .all(|byte| *byte == b' ' || *byte == b'\t' || *byte == b'\r')
 }
 
-/// Whether a line is passed over: it is within the limit and holds only spaces, tabs and CR.
-fn is_blank(line: &[u8]) -> bool
+/// Whether a line is passed over: it is within the limit of 262,144 bytes and holds only spaces, tabs and CR.
+pub fn is_blank(line: &[u8]) -> bool
     ensures { result ≡ is_blank line.now }
 {
     line.len() <= MAX_LINE && is_space(line)
 }
 
 /// The first line of an input, and what follows its line feed, if one ends it.
-fn first_line(input: &[u8]) -> (&[u8], Option<&[u8]>)
+pub fn first_line(input: &[u8]) -> (&[u8], Option<&[u8]>)
     ensures { IsFirstLine input.now result.0.now (option_map (λ rest. rest.now) result.1) }
 {
     let Some(place) = memchr(b'\n', input) else {
@@ -49,8 +49,9 @@ fn first_line(input: &[u8]) -> (&[u8], Option<&[u8]>)
     (line, Some(rest.split_at(1).1))
 }
 
-/// What a line is, or its first fault.
-fn line_of(alloc: Global, reader: &mut LineReader, bytes: &[u8]) -> Result<Line, LineFault>
+/// What a line is, or its first fault: that it has more than 262,144 bytes, that it isn't UTF-8 (RFC 3629), or that of
+/// the reader of lines. Takes memory for it, and may answer want of it.
+pub fn line_of(alloc: Global, reader: &mut LineReader, bytes: &[u8]) -> Result<Line, LineFault>
     ensures { (due : Result Line LineFault) × LineDue bytes.now due × Gives (λ l. l) result due }
 {
     if bytes.len() > MAX_LINE {
