@@ -1,0 +1,2 @@
+pub mod OrderLines
+pub mod PoolAnswers

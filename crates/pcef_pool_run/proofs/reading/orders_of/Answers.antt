@@ -1,0 +1,51 @@
+use Rattle.std.proofs.Common.{rules, ◌≡◌, ◌∙◌, ◌+◌, ◌++◌, ◌∷◌, [], List, ℕ, length, length-append, append_assoc, ap, arith, refl, subst, sym}
+use Rattle.std.specs.Prelude.{Some, None, option_map}
+use Rattle.pcef_script.specs.Scripts.{all_lines}
+use Rattle.pcef_run.specs.Plans.{IsFirstLine}
+use Rattle.pcef_run.proofs.FirstLines.{first_then}
+use Rattle.pcef_pool_run.specs.Orders.{AreOrdered}
+use Rattle.pcef_pool_run.proofs.reading.orders_of.Goals as goal
+
+pub loop-reader-init : goal.loop-reader-init
+loop-reader-init c = record { lines = []; whole = refl; ordered = c.new-orders.ensures.items; number = refl; room = omega arith }
+
+pub overflow_add-number : goal.overflow_add-number
+overflow_add-number c = let room = c.loop-reader.invariant.room in search rules
+
+pub returns-in-Err-AtFault-clause-fault : goal.returns-in-Err-AtFault-clause-fault
+returns-in-Err-AtFault-clause-fault c =
+    let i = c.loop-reader.invariant in
+    let line = c.first_line.result.0.now in
+    let then = first_then c.loop-reader.rest.now line _ c.first_line.ensures in
+    (i.lines, line, then.0, c.loop-reader.orders.items, i.whole ∙ ap (λ t. i.lines ++ t) then.1, ap (λ n. n + 1) i.number, i.ordered, c.in-Err-AtFault.ensures.wrong c.in-Err-AtFault.field-0-is)
+
+pub loop-reader-smaller : goal.loop-reader-smaller
+loop-reader-smaller c =
+    let first : IsFirstLine c.loop-reader.rest.now c.first_line.result.0.now (Some c.in-Some.later.now) =
+    subst (λ o. IsFirstLine c.loop-reader.rest.now c.first_line.result.0.now (option_map (λ r. r.now) o)) c.in-Some.is c.first_line.ensures in
+    omega (arith, first.1)
+
+pub loop-reader-preserved : goal.loop-reader-preserved
+loop-reader-preserved c =
+    let i = c.loop-reader.invariant in
+    let line = c.first_line.result.0.now in
+    let later = c.in-Some.later.now in
+    let first : IsFirstLine c.loop-reader.rest.now line (Some later) =
+    subst (λ o. IsFirstLine c.loop-reader.rest.now line (option_map (λ r. r.now) o)) c.in-Some.is c.first_line.ensures in
+    let longer : length (i.lines ++ line ∷ []) ≡ length i.lines + 1 = length-append i.lines (line ∷ []) in
+    record {
+      lines = i.lines ++ line ∷ [];
+      whole = i.whole ∙ ap (λ t. i.lines ++ t) first.0 ∙ sym (append_assoc i.lines (line ∷ []) (all_lines later));
+      ordered = c.in-Ok.ensures.taken i.lines i.ordered;
+      number = ap (λ n. n + 1) i.number ∙ sym longer;
+      room = omega (arith, i.room, first.1);
+    }
+
+pub returns-in-None-clause-orders : goal.returns-in-None-clause-orders
+returns-in-None-clause-orders c =
+    let i = c.loop-reader.invariant in
+    let line = c.first_line.result.0.now in
+    let first : IsFirstLine c.loop-reader.rest.now line None =
+    subst (λ o. IsFirstLine c.loop-reader.rest.now line (option_map (λ r. r.now) o)) c.in-None.is c.first_line.ensures in
+    let whole : all_lines c.args.input.now ≡ i.lines ++ line ∷ [] = i.whole ∙ ap (λ t. i.lines ++ t) first in
+    subst (λ ls. AreOrdered c.args.sessions ls c.take_line.new.orders.items) (sym whole) (c.in-Ok.ensures.taken i.lines i.ordered)

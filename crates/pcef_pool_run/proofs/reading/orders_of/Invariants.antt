@@ -1,0 +1,17 @@
+use Rattle.std.proofs.Common.{◌≡◌, ◌≤◌, ◌+◌, ◌++◌, List, ℕ, length}
+use Rattle.pcef_script.specs.Scripts.{all_lines}
+use Rattle.pcef_pool_run.specs.Orders.{AreOrdered}
+use Rattle.pcef_pool_run.proofs.reading.orders_of.Given as goal
+
+-- the lines so far are orders
+abbrev pub invariant-loop-reader : goal.invariant-loop-reader
+invariant-loop-reader l = record {
+  lines : List (List ℕ);
+  whole : all_lines l.fn.input ≡ lines ++ all_lines l.rest;
+  ordered : AreOrdered l.fn.sessions lines l.orders.items;
+  number : l.number ≡ length lines;
+  room : l.number + length l.rest ≤ length l.fn.input;
+}
+
+abbrev pub decreases-loop-reader : goal.decreases-loop-reader
+decreases-loop-reader l = length l.rest

@@ -1,0 +1,87 @@
+//! What a line asks of sessions on a pool.
+
+ghost use Rattle.std.specs.Prelude.{◌≡◌, ◌∷◌, ◌++◌, [], IfErr, IfOk, OnOk, option_map};
+ghost use Rattle.pcef_pool_run.specs.Orders.{IsOrder, IsWrong, IsWrongLine, TakesLine, session_in};
+ghost use Rattle.pcef_pool_run.specs.declared.fault.Unfit.TheVariants.{AtFault, NoMemory as LacksMemory};
+
+use crate::fault::Unfit;
+use pcef_line::{Line, LineFault, LineReader};
+use pcef_model::{Command, Step};
+use pcef_run::{is_blank, line_of};
+use std::alloc::Global;
+
+/// A command for one of several sessions.
+#[derive(Drop)]
+pub struct Order {
+    /// The number of the session, from 0.
+    pub session: u8,
+    /// The command.
+    pub command: Command,
+}
+
+/// The session number of one or two digits at the front of a line, and what follows the one space behind it.
+fn session_in(bytes: &[u8]) -> Option<(u8, &[u8])>
+    ensures { option_map (λ p. (p.0, p.1.now)) result ≡ session_in bytes.now }
+{
+    match bytes {
+        [digit @ b'0'..=b'9', b' ', rest @ ..] => Some((*digit - b'0', rest)),
+        [ten @ b'1'..=b'9', digit @ b'0'..=b'9', b' ', rest @ ..] => {
+            Some(((*ten - b'0') * 10 + (*digit - b'0'), rest))
+        }
+        _ => None,
+    }
+}
+
+/// The order that a line is, if it is one for one of so many sessions.
+fn order_of(
+    alloc: Global,
+    reader: &mut LineReader,
+    bytes: &[u8],
+    sessions: usize,
+) -> Result<Order, Unfit>
+    ensures order { IfOk result (λ o. IsOrder sessions bytes.now o) }
+    ensures wrong { IfErr result (λ e. e ≡ AtFault → IsWrong sessions bytes.now) }
+{
+    let Some((session, rest)) = session_in(bytes) else {
+        return Err(Unfit::AtFault);
+    };
+    if usize::from(session) >= sessions {
+        return Err(Unfit::AtFault);
+    }
+    match line_of(alloc, reader, rest) {
+        Ok(Line::Step(Step::Command(command))) => Ok(Order { session, command }),
+        Ok(_) => Err(Unfit::AtFault),
+        Err(LineFault::NoMemory) => Err(Unfit::NoMemory),
+        Err(_) => Err(Unfit::AtFault),
+    }
+}
+
+fn push_order(orders: &mut Vec<Order>, order: Order) -> Result<(), Unfit>
+    ensures pushed { OnOk result (orders.new.items ≡ orders.old.items ++ order ∷ []) }
+    ensures lacks { IfErr result (λ e. e ≡ LacksMemory) }
+{
+    match orders.push(order) {
+        Ok(()) => Ok(()),
+        Err(_) => Err(Unfit::NoMemory),
+    }
+}
+
+/// Adds the order that a line is to those of the lines before it. A blank line is passed over.
+pub(crate) fn take_line(
+    alloc: Global,
+    reader: &mut LineReader,
+    orders: &mut Vec<Order>,
+    bytes: &[u8],
+    sessions: usize,
+) -> Result<(), Unfit>
+    ensures taken { OnOk result (TakesLine sessions bytes.now orders.old.items orders.new.items) }
+    ensures wrong { IfErr result (λ e. e ≡ AtFault → IsWrongLine sessions bytes.now) }
+{
+    if is_blank(bytes) {
+        return Ok(());
+    }
+    match order_of(alloc, reader, bytes, sessions) {
+        Ok(order) => push_order(orders, order),
+        Err(unfit) => Err(unfit),
+    }
+}

@@ -1,0 +1,55 @@
+//! Reads what is asked of sessions on a pool.
+
+ghost use Rattle.std.specs.Prelude.{IfErr, IfOk};
+ghost use Rattle.pcef_script.specs.Scripts.{all_lines};
+ghost use Rattle.pcef_pool_run.specs.Orders.{AreOrdered, FailsIn, ReadsOrders};
+
+use crate::fault::Unfit;
+use crate::order::{Order, take_line};
+use pcef_line::LineReader;
+use pcef_run::{PlanFault, first_line, read_all};
+use std::alloc::Global;
+use std::io::Read;
+
+/// The orders that the lines of an input are.
+fn orders_of(alloc: Global, input: &[u8], sessions: usize) -> Result<Vec<Order>, PlanFault>
+    ensures orders { IfOk result (λ v. AreOrdered sessions (all_lines input.now) v.items) }
+    ensures fault { IfErr result (λ e. FailsIn sessions (all_lines input.now) e) }
+{
+    let mut orders = Vec::new(alloc);
+    let mut reader = LineReader::new(alloc);
+    let mut number = 0u64;
+    let mut rest = input;
+    loop {
+        let (line, later) = first_line(rest);
+        number += 1;
+        match take_line(alloc, &mut reader, &mut orders, line, sessions) {
+            Ok(()) => {}
+            Err(Unfit::AtFault) => return Err(PlanFault::Line(number)),
+            Err(Unfit::NoMemory) => return Err(PlanFault::NoMemory),
+        }
+        match later {
+            Some(later) => rest = later,
+            None => return Ok(orders),
+        }
+    }
+}
+
+/// Reads an input to its end, and gives the orders that its lines are for so many sessions, which are numbered from 0:
+/// the number of a session in decimal digits without zeros before it, one space, and a line of a script that is a
+/// command. Blank lines are passed over. Keeps the whole input, at most 1,073,741,824 bytes, until all lines are read.
+/// Takes memory for it and for the orders.
+///
+/// Answers the first [`PlanFault`] that it meets: that of the reader, an input that is too long, want of memory, or,
+/// once all is read, the first line that isn't of this form, names a session that there isn't, is at fault, or is no
+/// command.
+pub fn read_orders<R: Read>(
+    alloc: Global,
+    reader: &mut R,
+    sessions: usize,
+) -> Result<Vec<Order>, PlanFault>
+    ensures { ReadsOrders sessions result (R.remaining reader.old) (R.remaining reader.new) }
+{
+    let input = read_all(alloc, reader)?;
+    orders_of(alloc, &input, sessions)
+}
