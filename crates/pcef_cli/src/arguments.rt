@@ -1,6 +1,6 @@
 //! The arguments, and the files that they name.
 
-use pcef_program::words::path_of;
+use pcef_program::words::paths_of;
 use std::alloc::{AllocError, Global};
 use std::env::{Env, FillError};
 use std::io::{self, ErrorKind};
@@ -50,8 +50,8 @@ pub(crate) fn profiles_of(
     words: &[Vec<u8>],
 ) -> Result<Vec<io::Result<String>>, AllocError> {
     let mut profiles = Vec::new(rt.alloc());
-    if let Some(path) = path_of(words) {
-        profiles.push(text_of(rt, path))?;
+    for path in paths_of(words) {
+        profiles.push(text_of(rt, path.as_slice()))?;
     }
     Ok(profiles)
 }

@@ -1,3 +1,4 @@
 pub mod Endings
+pub mod PoolProfiles
 pub mod Tellings
 pub mod RunEnds

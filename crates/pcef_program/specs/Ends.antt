@@ -15,6 +15,11 @@ use Rattle.pcef_run.specs.declared.fault.PlanFault.{PlanFault}
 use Rattle.pcef_run.specs.declared.fault.PlanFault.TheVariants as plan
 use Rattle.pcef_run.specs.declared.fault.RunEnd.{RunEnd}
 use Rattle.pcef_run.specs.declared.fault.RunEnd.TheVariants as run
+use Rattle.pcef_pool.specs.declared.pool_state.PoolFault.TheVariants as of_pool
+use Rattle.pcef_pooled.specs.declared.fault.PooledFault.{PooledFault}
+use Rattle.pcef_pooled.specs.declared.fault.PooledFault.TheVariants as pooled
+use Rattle.pcef_pool_run.specs.declared.fault.PoolEnd.{PoolEnd}
+use Rattle.pcef_pool_run.specs.declared.fault.PoolEnd.TheVariants as pool
 use Rattle.pcef_program.specs.declared.end.End.{End}
 use Rattle.pcef_program.specs.declared.end.End.TheVariants as end
 
@@ -36,7 +41,7 @@ abbrev pub end_text : End → List ℕ
 end_text end.Done = []
 end_text end.LinesAtFault = []
 end_text (end.Profile fault) = codes "profile fault " ++ (48 + fault_number fault) ∷ 10 ∷ []
-end_text end.Usage = codes "usage: pcef script PROFILE | pcef run PROFILE WORKERS" ++ 10 ∷ []
+end_text end.Usage = codes "usage: pcef script PROFILE | pcef run PROFILE WORKERS | pcef pool UP DOWN PROFILE..." ++ 10 ∷ []
 end_text end.NoMemory = codes "want of memory" ++ 10 ∷ []
 end_text end.NoProfile = codes "read fault" ++ 10 ∷ []
 end_text end.Read = codes "read fault" ++ 10 ∷ []
@@ -89,3 +94,18 @@ abbrev pub run_end : RunEnd → End
 run_end (run.Open fault) = open_end fault
 run_end (run.Run fault) = end.Run fault
 run_end run.NoMemory = end.NoMemory
+
+-- ---- a pool
+-- one without sessions, with too many or with too much capacity is nothing that words ask for
+abbrev pub pooled_end : PooledFault → End
+pooled_end pooled.Sessions = end.Usage
+pooled_end (pooled.Session number fault) = open_end fault
+pooled_end (pooled.Pool of_pool.OutOfRange) = end.Usage
+pooled_end (pooled.Pool of_pool.NoMemory) = end.NoMemory
+pooled_end pooled.NoMemory = end.NoMemory
+
+abbrev pub pool_end : Result (Unit {0}) PoolEnd → End
+pool_end (Ok done) = end.Done
+pool_end (Err (pool.Open fault)) = pooled_end fault
+pool_end (Err pool.Write) = end.Write
+pool_end (Err pool.NoMemory) = end.NoMemory

@@ -1,6 +1,7 @@
 pub mod BuiltIn
 pub mod Ends
 pub mod PlanRuns
+pub mod PoolEnds
 pub mod Programs
 pub mod Telling
 pub mod Words

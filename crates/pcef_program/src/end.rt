@@ -2,21 +2,31 @@
 
 ghost use Rattle.std.specs.Prelude.{◌≡◌, Err, IfOk, string_bytes};
 ghost use Rattle.pcef_program.specs.declared.end.End.TheVariants.{Profile, Run};
-ghost use Rattle.pcef_program.specs.Ends.{IsPlanEnd, end_status, end_text, line_text, open_end, profile_end, run_end, script_end, unread_end};
+ghost use Rattle.pcef_program.specs.Ends.{IsPlanEnd, end_status, end_text, line_text, open_end, pool_end, pooled_end, profile_end, run_end, script_end, unread_end};
 
 use pcef_gateway::RunFault;
 use pcef_model::OpenFault;
+use pcef_pool::PoolFault;
+use pcef_pool_run::PoolEnd;
+use pcef_pooled::PooledFault;
 use pcef_profile::ReadProfileFault;
 use pcef_run::{PlanFault, RunEnd};
 use pcef_script::ScriptFault;
 use std::alloc::{AllocError, Global};
 use std::io::ErrorKind;
 
+const USAGE: &str =
+    "usage: pcef script PROFILE | pcef run PROFILE WORKERS | pcef pool UP DOWN PROFILE...\n";
+
 const USAGE_NOTE: &str = "
   script PROFILE       opens a session by the file PROFILE, and answers each line of standard input with a
                        line on standard output, as soon as it can
   run PROFILE WORKERS  reads all commands and packets from standard input, runs them through so many workers, 1 to
                        16, each in a thread of its own, and prints what it came to
+  pool UP DOWN PROFILE...
+                       reads all lines of standard input, each the number of a session, from 0, a space and a
+                       command; opens a session for each of 1 to 64 profiles on a pool of so many guaranteed bit/s,
+                       answers each command with a line, and prints what the pool has granted
 
 Example: pcef script examples/profile.toml < examples/tutorial.jsonl
 Exit status: 0, 1 a profile or a line at fault, 2 usage, 3 want of memory, 4 a read, write or run fault
@@ -28,7 +38,8 @@ const TOO_MUCH_NOTE: &str =
     "Standard input has more than 1,073,741,824 bytes; the whole lines of a script within are answered.\n";
 
 const LINE_NOTE: &str =
-    "A run takes commands and `take` lines of workers from 0 up to one below WORKERS; nothing was run.\n";
+    "A run takes commands and `take` lines of workers from 0 up to one below WORKERS, and a pool the number of a session, \
+a space and a command; nothing was run.\n";
 
 /// How the program ends.
 #[derive(Drop)]
@@ -51,8 +62,8 @@ pub enum End {
     TooMuch,
     /// What is due can't be written.
     Write,
-    /// A line of a run's input is at fault, is neither a command nor a packet, or names a worker that there isn't: the
-    /// text that names it.
+    /// A line of the input of a run or of a pool is at fault, is nothing that these take, or names a worker or a session
+    /// that there isn't: the text that names it.
     Line(String),
     /// The run came to no end.
     Run(RunFault),
@@ -78,7 +89,7 @@ impl End {
     {
         match self {
             End::Done | End::LinesAtFault => "",
-            End::Usage => "usage: pcef script PROFILE | pcef run PROFILE WORKERS\n",
+            End::Usage => USAGE,
             End::Profile(fault) => profile_text(*fault),
             End::NoMemory => "want of memory\n",
             End::NoProfile | End::Read | End::TooMuch => "read fault\n",
@@ -93,7 +104,7 @@ impl End {
         match self {
             End::Done | End::LinesAtFault | End::Profile(_) | End::NoProfile => "",
             End::Usage => USAGE_NOTE,
-            End::NoMemory => "The lines of a script before that are answered.\n",
+            End::NoMemory => "The lines of a script or of a pool before that are answered.\n",
             End::Read =>
                 "Standard input fails; the whole lines of a script before that are answered.\n",
             End::TooMuch => TOO_MUCH_NOTE,
@@ -200,7 +211,7 @@ fn line_text(alloc: Global, number: u64) -> Result<String, AllocError>
     format!(in alloc; "line {number} fault\n")
 }
 
-/// The end of a program that can't read the input of a run.
+/// The end of a program that can't read the input of a run or of a pool.
 pub fn plan_end(alloc: Global, fault: PlanFault) -> End
     ensures { IsPlanEnd fault result }
 {
@@ -233,5 +244,27 @@ pub fn run_end(end: RunEnd) -> End
         RunEnd::Open(fault) => open_end(fault),
         RunEnd::Run(fault) => End::Run(fault),
         RunEnd::NoMemory => End::NoMemory,
+    }
+}
+
+fn pooled_end(fault: PooledFault) -> End
+    ensures { result ≡ pooled_end fault }
+{
+    match fault {
+        PooledFault::Sessions | PooledFault::Pool(PoolFault::OutOfRange) => End::Usage,
+        PooledFault::Session(_, fault) => open_end(fault),
+        PooledFault::Pool(PoolFault::NoMemory) | PooledFault::NoMemory => End::NoMemory,
+    }
+}
+
+/// The end of a program whose sessions on a pool answered all orders, or why they didn't.
+pub fn pool_end(ended: Result<(), PoolEnd>) -> End
+    ensures { result ≡ pool_end ended }
+{
+    match ended {
+        Ok(()) => End::Done,
+        Err(PoolEnd::Open(fault)) => pooled_end(fault),
+        Err(PoolEnd::Write) => End::Write,
+        Err(PoolEnd::NoMemory) => End::NoMemory,
     }
 }

@@ -5,6 +5,7 @@
 pub mod built_in;
 pub mod end;
 mod plan_run;
+mod pool_run;
 pub mod program;
 mod telling;
 pub mod words;

@@ -6,17 +6,18 @@ ghost use Rattle.pcef_catalog.specs.Catalogs.{offers_of};
 ghost use Rattle.pcef_model.specs.ProfileModel.{setting_of};
 ghost use Rattle.pcef_program.specs.declared.end.End.{End};
 ghost use Rattle.pcef_program.specs.Ends.{end_status};
-ghost use Rattle.pcef_program.specs.Programs.{Ends, IsWhole, Ran, RanScript, asked};
+ghost use Rattle.pcef_program.specs.Programs.{Ends, EndsOne, IsWhole, Ran, RanScript, asked, asked_pool};
 ghost use Rattle.pcef_program.specs.Telling.{IsTold};
-ghost use Rattle.pcef_program.specs.Words.{workers_of};
 
 use crate::end::{End, profile_end, script_end, unread_end};
 use crate::plan_run::run_input;
+use crate::pool_run::run_on_pool;
 use crate::telling::tell;
-use crate::words::{path_of, workers_of};
+use crate::words::{path_of, paths_of, pool_of, workers_of};
 use pcef_catalog::Catalog;
 use pcef_model::Profile;
 use pcef_profile::read_profile;
+use pcef_rule::Sums;
 use pcef_run::Taken;
 use pcef_script::run_script;
 use pcef_trigger::Outlet;
@@ -79,7 +80,7 @@ fn with_profile<T: Threads + Wait + Sync, R: Read, W: Write>(
     reader: &mut R,
     writer: &mut W,
 ) -> End
-    ensures { Ends (offers_of (arc_value catalog)) workers (Some profile.now) result
+    ensures { EndsOne (offers_of (arc_value catalog)) workers (Some profile.now) result
         (R.remaining reader.old) (R.remaining reader.new)
         (W.contents writer.old) (W.contents writer.new) }
 {
@@ -108,7 +109,8 @@ fn asked<'a>(
     }
 }
 
-fn end_of<T: Threads + Wait + Sync, R: Read, W: Write>(
+/// Runs the script or the run that the arguments ask for, if they do.
+fn one_end<T: Threads + Wait + Sync, R: Read, W: Write>(
     rt: &T,
     alloc: Global,
     asked: Option<&io::Result<String>>,
@@ -119,7 +121,7 @@ fn end_of<T: Threads + Wait + Sync, R: Read, W: Write>(
     reader: &mut R,
     writer: &mut W,
 ) -> End
-    ensures { Ends (offers_of (arc_value catalog)) workers
+    ensures { EndsOne (offers_of (arc_value catalog)) workers
         (option_map (λ p. p.now) asked.entry) result
         (R.remaining reader.old) (R.remaining reader.new)
         (W.contents writer.old) (W.contents writer.new) }
@@ -132,6 +134,48 @@ fn end_of<T: Threads + Wait + Sync, R: Read, W: Write>(
     }
 }
 
+/// The capacity of the pool that the arguments ask for, if they do, and each profile that they name is there.
+fn asked_pool(words: &[Vec<u8>], profiles: &[io::Result<String>]) -> Option<Sums>
+    ensures { result ≡ asked_pool words.now profiles.now }
+{
+    if profiles.len() == paths_of(words).len() {
+        pool_of(words)
+    } else {
+        None
+    }
+}
+
+fn end_of<T: Threads + Wait + Sync, R: Read, W: Write>(
+    rt: &T,
+    alloc: Global,
+    words: &[Vec<u8>],
+    profiles: &[io::Result<String>],
+    catalog: Arc<Catalog>,
+    outlet: Outlet,
+    taken: &Taken,
+    reader: &mut R,
+    writer: &mut W,
+) -> End
+    ensures { Ends (offers_of (arc_value catalog)) words.now profiles.now result
+        (R.remaining reader.old) (R.remaining reader.new)
+        (W.contents writer.old) (W.contents writer.new) }
+{
+    match asked_pool(words, profiles) {
+        Some(capacity) => run_on_pool(alloc, capacity, profiles, &*catalog, reader, writer),
+        None => one_end(
+            rt,
+            alloc,
+            asked(words, profiles),
+            workers_of(words),
+            catalog,
+            outlet,
+            taken,
+            reader,
+            writer,
+        ),
+    }
+}
+
 /// Runs the program and gives its exit status: 0; 1 for a profile fault or a line at fault; 2 for wrong
 /// arguments; 3 for want of memory; 4 for a failing end or a run that came to no end.
 ///
@@ -141,7 +185,8 @@ fn end_of<T: Threads + Wait + Sync, R: Read, W: Write>(
 /// `faults` is told why the program ends early: a line, and below it what a person needs to know. That it fails
 /// changes nothing else. A script is run as `run_script` does, and the writer is flushed at its end. A run reads the
 /// whole input first, starts a thread for each worker and waits for them; its reports go to `outlet`, whose reporters
-/// count them in `taken`, and one that refuses ends the program as want of memory does.
+/// count them in `taken`, and one that refuses ends the program as want of memory does. Sessions on a pool read the whole
+/// input first, too, and are run as `run_pool` does; the writer is flushed at its end.
 pub fn program<T: Threads + Wait + Sync, R: Read, W: Write, E: Write>(
     rt: &T,
     alloc: Global,
@@ -157,21 +202,18 @@ pub fn program<T: Threads + Wait + Sync, R: Read, W: Write, E: Write>(
     // The status and what is said are those of the end to which the words, the profile and the input come.
     ensures ends { (end : End) × (result ≡ end_status end)
         × IsTold end (E.contents faults.old) (E.contents faults.new)
-        × Ends (offers_of (arc_value catalog)) (workers_of words.now)
-        (asked words.now profiles.now) end
+        × Ends (offers_of (arc_value catalog)) words.now profiles.now end
         (R.remaining reader.old) (R.remaining reader.new)
         (W.contents writer.old) (W.contents writer.new) }
     ensures most { result ≤ 4 }
     // Status 0 comes only where the whole input was read and all that is due is written.
     ensures whole { result ≡ 0 →
-        IsWhole (offers_of (arc_value catalog)) (workers_of words.now) (asked words.now profiles.now)
+        IsWhole (offers_of (arc_value catalog)) words.now profiles.now
         (R.remaining reader.old) (R.remaining reader.new)
         (W.contents writer.old) (W.contents writer.new) }
 {
-    let workers = workers_of(words);
-    let asked = asked(words, profiles);
     let end = end_of(
-        rt, alloc, asked, workers, catalog, outlet, taken, reader, writer,
+        rt, alloc, words, profiles, catalog, outlet, taken, reader, writer,
     );
     tell(alloc, &end, words, profiles, faults);
     end.status()

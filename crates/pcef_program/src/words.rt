@@ -1,7 +1,10 @@
 //! What the arguments ask for.
 
 ghost use Rattle.std.specs.Prelude.{◌≡◌, option_map};
-ghost use Rattle.pcef_program.specs.Words.{path_of, workers_in, workers_of};
+ghost use Rattle.pcef_program.specs.Words.{has_zero_first, path_of, paths_of, pool_of, rate_in, workers_in, workers_of};
+
+use pcef_model::MAX_CAPACITY;
+use pcef_rule::Sums;
 
 /// A number of workers: 1 to 16, in decimal digits.
 fn workers_in(word: &[u8]) -> Option<u8>
@@ -35,4 +38,62 @@ pub fn path_of(words: &[Vec<u8>]) -> Option<&[u8]>
         [_, path, _] if workers_of(words).is_some() => Some(path.as_slice()),
         _ => None,
     }
+}
+
+/// Whether a zero stands before other digits.
+fn has_zero_first(word: &[u8]) -> bool
+    ensures { result ≡ has_zero_first word.now }
+{
+    match word {
+        [b'0', _, ..] => true,
+        _ => false,
+    }
+}
+
+/// A rate of a pool in bit/s: 0 to 1,099,511,627,775, in decimal digits.
+#[tactic(auto, unfolding(crate::specs::Words::rate_in))]
+fn rate_in(word: &[u8]) -> Option<u64>
+    ensures { result ≡ rate_in word.now }
+{
+    if word.is_empty() || word.len() > 13 || has_zero_first(word) {
+        return None;
+    }
+    let mut number = 0;
+    for digit in word {
+        if !digit.is_ascii_digit() {
+            return None;
+        }
+        number = number * 10 + u64::from(*digit - b'0');
+    }
+    if number > MAX_CAPACITY {
+        return None;
+    }
+    Some(number)
+}
+
+/// The capacity of the pool that the arguments ask for, in bit/s, if they do.
+pub fn pool_of(words: &[Vec<u8>]) -> Option<Sums>
+    ensures { result ≡ pool_of words.now }
+{
+    match words {
+        [word, up, down, _, ..] if words.len() <= 67 && word.as_slice() == b"pool".as_slice() => {
+            let up = rate_in(up.as_slice())?;
+            let down = rate_in(down.as_slice())?;
+            Some(Sums { up, down })
+        }
+        _ => None,
+    }
+}
+
+/// The paths of the profiles that the arguments name, in their order; none where they ask for nothing.
+pub fn paths_of(words: &[Vec<u8>]) -> &[Vec<u8>]
+    ensures { result.now ≡ paths_of words.now }
+{
+    if pool_of(words).is_some() {
+        return &words[3..];
+    }
+    if path_of(words).is_some() {
+        return &words[1..2];
+    }
+    &words[..0]
 }
