@@ -3,5 +3,6 @@
 mod built_in;
 mod live;
 mod plans;
+mod pools;
 mod program;
 mod runs;

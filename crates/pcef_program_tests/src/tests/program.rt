@@ -144,7 +144,8 @@ fn statuses_and_faults(rt: HostRuntime) -> Result<(), Fail> {
 fn is_usage<T: Threads + Wait + Sync>(rt: &T, alloc: Global, words: &[&str]) -> Result<bool, Fail> {
     let words = octets(alloc, words)?;
     let (status, answers, said) = run(rt, alloc, &words, Some(PROFILE), "x")?;
-    let usage = "usage: pcef script PROFILE | pcef run PROFILE WORKERS\n";
+    let usage =
+        "usage: pcef script PROFILE | pcef run PROFILE WORKERS | pcef pool UP DOWN PROFILE...\n";
     let proved_by = "rattle-kit-13f logic dac8208d650f15bf\n";
     let is_told = said.as_str().starts_with(usage) && said.as_str().contains(proved_by);
     Ok(status == 2 && answers.is_empty() && is_told)
@@ -383,7 +384,8 @@ fn the_other_ends_have_their_status_and_text(rt: HostRuntime) -> Result<(), Fail
         let end = unread_end(kind);
         assert_eq!(rt; (end.status(), end.text()), (status, text));
     }
-    let usage = "usage: pcef script PROFILE | pcef run PROFILE WORKERS\n";
+    let usage =
+        "usage: pcef script PROFILE | pcef run PROFILE WORKERS | pcef pool UP DOWN PROFILE...\n";
     assert_eq!(rt; (End::Usage.status(), End::Usage.text()), (2, usage));
     Ok(())
 }

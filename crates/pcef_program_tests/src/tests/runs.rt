@@ -169,7 +169,8 @@ static OTHER_NUMBERS: [&str; 8] = [
 
 #[test]
 fn other_numbers_of_workers_are_usage(rt: HostRuntime) -> Result<(), Fail> {
-    let usage = "usage: pcef script PROFILE | pcef run PROFILE WORKERS\n";
+    let usage =
+        "usage: pcef script PROFILE | pcef run PROFILE WORKERS | pcef pool UP DOWN PROFILE...\n";
     for &workers in &OTHER_NUMBERS {
         assert!(rt;
             run_ends(&rt, rt.alloc(), workers, &[FIRST], (2, "", usage))?,
