@@ -236,7 +236,7 @@ fn the_first_line_that_is_no_order_is_told(rt: HostRuntime) -> Result<(), Fail> 
     let alloc = rt.alloc();
     let first = voice(alloc, 0, 1, 1)?;
     for &wrong in &WRONG {
-        let input = script_of(alloc, &[first.as_str(), "", wrong, "y"])?;
+        let input = format!(in alloc; "{first}\n\n{wrong}\ny")?;
         let due = (1, "", "line 3 fault\n");
         assert!(rt;
             ends_so(&rt, alloc, ("9", "9"), 2, input.as_str(), due)?,
