@@ -128,13 +128,11 @@ impl Indexed {
         if !is_own(header, ue) {
             return (Verdict::Stray, ArrayVec::new());
         }
-        match self.first_fitting(catalog, &ue, header) {
-            None => (Verdict::Unmatched, ArrayVec::new()),
-            Some(entry) => {
-                let (verdict, slot) = judged_by(catalog, entry, header.dir);
-                let slots = self.table.slots_beside(&verdict, slot);
-                (verdict, slots)
-            }
-        }
+        let Some(entry) = self.first_fitting(catalog, &ue, header) else {
+            return (Verdict::Unmatched, ArrayVec::new());
+        };
+        let (verdict, slot) = judged_by(catalog, entry, header.dir);
+        let slots = self.table.slots_beside(&verdict, slot);
+        (verdict, slots)
     }
 }

@@ -31,11 +31,13 @@ fn with_slot(slot: Option<Slot>, flags: Flags) -> Flags
     }
 }
 
-/// Whether a flag is up.
+/// Whether a flag is up. All eight are joined at once: every packet that passes comes here, and none is to branch at each
+/// flag.
 fn any_up(flags: &Flags) -> bool
     ensures { result ≡ list_any (λ up. up) flags.now }
 {
-    flags.iter().any(|up| *up)
+    let [a, b, c, d, e, f, g, h] = *flags;
+    a | b | c | d | e | f | g | h
 }
 
 /// A slot alone, where it is one of the eight.

@@ -7,20 +7,20 @@ use Rattle.pcef_table.proofs.Decided.{beside_counted, entry_counts, entry_decide
 use Rattle.pcef_lists.proofs.Foremost.{none_passes}
 use Rattle.pcef_index.proofs.indexed.Indexed.judged.Goals as goal
 
-pub returns-in-None-clause-verdict : goal.returns-in-None-clause-verdict
-returns-in-None-clause-verdict g c =
+pub returns-in_default-clause-verdict : goal.returns-in_default-clause-verdict
+returns-in_default-clause-verdict g c =
     let offers = g.C.Offers.offers c.args.catalog.now in
     let passes = λ (e : Entry). fits offers c.args.ue c.args.header.now e.source in
-    (sym c.is_own.ensures ∙ c.if-not-is_own.false, none_passes passes c.args.self.now.entries (sym c.in-None.ensures.first))
+    (sym c.is_own.ensures ∙ c.if-not-is_own.false, none_passes passes c.args.self.now.entries (sym c.in_default.ensures.first))
 
-pub returns-in-Some-clause-verdict : goal.returns-in-Some-clause-verdict
-returns-in-Some-clause-verdict g c =
+pub returns-clause-verdict : goal.returns-clause-verdict
+returns-clause-verdict g c =
     let offers = g.C.Offers.offers c.args.catalog.now in
     entry_decides offers c.args.self.now.entries c.args.ue c.args.header.now c.in-Some.entry.now c.judged_by-verdict.result.0
     (sym c.is_own.ensures ∙ c.if-not-is_own.false) c.requires.ordered (sym c.in-Some.ensures.first) c.judged_by-verdict.ensures.verdict
 
-pub returns-in-Some-clause-slots : goal.returns-in-Some-clause-slots
-returns-in-Some-clause-slots g c =
+pub returns-clause-slots : goal.returns-clause-slots
+returns-clause-slots g c =
     let offers = g.C.Offers.offers c.args.catalog.now in
     let entries = c.args.self.now.entries in
     let entry = c.in-Some.entry.now in
