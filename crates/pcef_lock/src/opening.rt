@@ -88,6 +88,8 @@ impl<N: Naming, R: Wait + Drop> State<N, Writer<N, R>> {
     /// the session's commands so far. The condition of the caller: no worker ever came to the session, and the name is
     /// that of the session, of the blanks and of a history that was opened with the session's newest table. The session
     /// comes back with a fault; the opened history is then lost. Takes memory. May wait for readers.
+    // Apart, for inlined into `Shared::open` it takes LLVM a minute: the value is large, and is moved several times.
+    #[inline(never)]
     pub fn open(
         rt: R,
         alloc: Global,
@@ -123,6 +125,8 @@ impl<N: Naming, R: Wait + Drop> State<N, Writer<N, R>> {
 impl<N: Naming, R: Wait + Drop, P: Pooling> State<N, Writer<N, R>, P> {
     /// The same for a session without guaranteed rates, which gets a share of a pool, or the fault `PoolPlaces` where
     /// all sixty-four were issued. The share is issued last, so that no fault loses one.
+    // Apart, for the same reason.
+    #[inline(never)]
     pub fn open_within(
         rt: R,
         alloc: Global,
