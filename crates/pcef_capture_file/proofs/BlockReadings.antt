@@ -21,7 +21,7 @@ ReadSoFar octets packets s rest =
 pub none_so_far : (octets : List ℕ) → ReadSoFar octets [] at_start octets
 none_so_far octets found fault read = (found, read, refl)
 
-among-cons : (p : Option Captured) (ps : List (Option Captured)) → packets_among (p ∷ ps) ≡ packets_among (p ∷ []) ++ packets_among ps
+pub among-cons : (p : Option Captured) (ps : List (Option Captured)) → packets_among (p ∷ ps) ≡ packets_among (p ∷ []) ++ packets_among ps
 among-cons None ps = refl
 among-cons (Some p) ps = refl
 

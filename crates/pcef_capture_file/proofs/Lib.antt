@@ -1,2 +1,5 @@
 pub mod BlockReadings
+pub mod Growth
 pub mod Readings
+pub mod Streams
+pub mod Totality

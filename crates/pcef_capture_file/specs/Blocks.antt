@@ -40,11 +40,16 @@ total_of e octets = number e octets 4 4
 unfoldable pub is_block_len : ℕ → Bool
 is_block_len total = nat_le 12 total && (total % 4 == 0)
 
+-- the most octets of a block: libpcap and Wireshark read no longer ones
+abbrev pub most_block : ℕ
+most_block = 16777216
+
 -- the last four octets of the block say the same
 unfoldable pub len_of : Endianness → List ℕ → Result ℕ CaptureFault
 len_of e octets =
     if is_block_len (total_of e octets)
-    then if nat_lt (length octets) (total_of e octets) then Err fault.CutBlock
+    then if nat_lt most_block (total_of e octets) then Err fault.TooLong
+    else if nat_lt (length octets) (total_of e octets) then Err fault.CutBlock
     else if number e octets (total_of e octets - 4) 4 == total_of e octets then Ok (total_of e octets)
     else Err fault.BlockLength
     else Err fault.BlockLength

@@ -48,8 +48,13 @@ recorded_len e octets = number e octets 8 4
 unfoldable pub line_len : Endianness → List ℕ → ℕ
 line_len e octets = number e octets 12 4
 
+-- the most octets of a packet: as many as tcpdump ever records of one, and a longer one is no packet to it either
+abbrev pub most_packet : ℕ
+most_packet = 262144
+
 -- a record: a header of 16 octets, and the packet
 unfoldable pub record_of : FileHeader → List ℕ → Result (Captured × List ℕ) CaptureFault
 record_of header octets =
     if nat_lt (length octets) 16 then Err fault.CutRecord
+    else if nat_lt most_packet (recorded_len header.endianness octets) then Err fault.TooLong
     else packet_front header.link header.endianness (recorded_len header.endianness octets) (line_len header.endianness octets) (drop 16 octets)

@@ -6,10 +6,14 @@ pub mod Classic
 pub mod Contents
 pub mod Directions
 pub mod Faults
+pub mod Formats
 pub mod Frames
 pub mod Laws
 pub mod Links
 pub mod Numbers
 pub mod Padding
+pub mod Pauses
 pub mod PcapNg
+pub mod Places
 pub mod Sections
+pub mod Streams

@@ -2,19 +2,25 @@
 use Rattle.std.specs.Prelude.{◌≡◌, ◌<◌, ℕ, List, [], ◌∷◌, length, Option, Some, None, Result, Ok, Err}
 use Rattle.std.specs.List.{filter_map}
 use Rattle.pcef_decoding.specs.Readings.{◌>>=◌}
-use Rattle.pcef_capture_file.specs.Blocks.{block_of}
+use Rattle.pcef_capture_file.specs.Blocks.{block_of, Framed}
 use Rattle.pcef_capture_file.specs.BlockPackets.{packet_of}
 use Rattle.pcef_capture_file.specs.Captured.{Captured}
 use Rattle.pcef_capture_file.specs.Sections.{Standing, at_start, section_after}
 use Rattle.pcef_capture_file.specs.declared.fault.CaptureFault.{CaptureFault}
 
--- how the section stands behind the block at the front, the packet in the block, and the octets behind it
+-- how the section stands behind a block, and the packet in the block
+unfoldable pub taken_of : Standing → Framed → Result (Standing × Option Captured) CaptureFault
+taken_of s block =
+    section_after s block
+    >>= (λ after. packet_of s.interfaces block
+    >>= (λ packet. Ok (after, packet)))
+
+-- the same of the block at the front, and the octets behind it
 unfoldable pub step_of : Standing → List ℕ → Result (Standing × (Option Captured × List ℕ)) CaptureFault
 step_of s octets =
     block_of s.endianness octets
-    >>= (λ found. section_after s found.0
-    >>= (λ after. packet_of s.interfaces found.0
-    >>= (λ packet. Ok (after, (packet, found.1)))))
+    >>= (λ found. taken_of s found.0
+    >>= (λ taken. Ok (taken.0, (taken.1, found.1))))
 
 -- The octets are blocks one after another, with these packets or none in them: up to the end where there is
 -- no fault, else up to a block at fault.

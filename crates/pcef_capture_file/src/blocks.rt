@@ -12,6 +12,9 @@ pub(crate) const SECTION_HEADER: u32 = 0x0a0d_0d0a;
 /// What tells the order of a section.
 const BYTE_ORDER: u32 = 0x1a2b_3c4d;
 
+/// The most octets of a block that are read.
+const MAX_BLOCK: u32 = 16_777_216;
+
 /// How many octets a block has beside its body: type and length before it, and the length behind it.
 const FRAME_LEN: usize = 12;
 
@@ -82,6 +85,9 @@ fn len_of(endianness: Endianness, octets: &[u8]) -> Result<usize, CaptureFault>
     if !is_block_len(total) {
         return Err(CaptureFault::BlockLength);
     }
+    if total > MAX_BLOCK {
+        return Err(CaptureFault::TooLong);
+    }
     let len = total as usize;
     if octets.len() < len {
         return Err(CaptureFault::CutBlock);
@@ -128,7 +134,7 @@ fn block_in<'a>(
 }
 
 /// The block at the front, in a section of this order, and the octets behind it; else `CutBlock` where
-/// the octets end within it, `ByteOrder` or `BlockLength`.
+/// the octets end within it, `ByteOrder`, `BlockLength`, or `TooLong` beyond 16,777,216 octets.
 #[tactic(auto, unfolding(crate::specs::Blocks::block_of))]
 pub(crate) fn read_block<'a>(
     endianness: Endianness,

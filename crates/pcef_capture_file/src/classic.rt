@@ -13,10 +13,13 @@ use crate::packet::{Capture, Packet, packet_at_front};
 use std::alloc::{AllocError, Global};
 
 /// The length of the header of a file, in octets.
-const FILE_HEADER_LEN: usize = 24;
+pub(crate) const FILE_HEADER_LEN: usize = 24;
 
 /// The length of the header of a record, in octets.
 const RECORD_HEADER_LEN: usize = 16;
+
+/// The most octets of a packet that are read.
+const MAX_PACKET: u32 = 262_144;
 
 /// The first four octets of a file whose times are in microseconds.
 const MICROSECONDS: u32 = 0xa1b2_c3d4;
@@ -121,8 +124,8 @@ fn record_lengths(endianness: Endianness, octets: &[u8]) -> (u32, u32)
 }
 
 /// The packet of the record at the front of the octets, and the octets behind the record; `CutRecord`
-/// where there are fewer than 16 octets, `CutPacket` where the packet goes on beyond them. Takes no
-/// memory.
+/// where there are fewer than 16 octets, `TooLong` where the packet has more than 262,144, `CutPacket`
+/// where it goes on beyond the octets. Takes no memory.
 #[tactic(auto, unfolding(crate::specs::Classic::record_of))]
 pub fn read_record<'a>(
     header: FileHeader,
@@ -137,6 +140,9 @@ pub fn read_record<'a>(
         return Err(CaptureFault::CutRecord);
     }
     let (recorded, line) = record_lengths(header.endianness, octets);
+    if recorded > MAX_PACKET {
+        return Err(CaptureFault::TooLong);
+    }
     let behind = octets.split_at(RECORD_HEADER_LEN).1;
     packet_at_front(header.link, header.endianness, recorded, line, behind)
 }

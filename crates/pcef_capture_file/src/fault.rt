@@ -31,6 +31,8 @@ pub enum CaptureFault {
     ByteOrder,
     /// A packet names an interface that its section didn't describe before.
     UnknownInterface,
+    /// A record has a packet of more than 262,144 octets, or a block has more than 16,777,216.
+    TooLong,
     /// There is no memory left. It may come before any other.
     NoMemory,
 }
@@ -49,6 +51,7 @@ impl CaptureFault {
             CaptureFault::BlockLength => "the length of a block is wrong",
             CaptureFault::ByteOrder => "the order of the numbers of a section is unknown",
             CaptureFault::UnknownInterface => "the interface of a packet isn't described",
+            CaptureFault::TooLong => "a record or a block is longer than is read",
             CaptureFault::NoMemory => "there is no memory left",
         }
     }
@@ -78,7 +81,8 @@ impl CaptureFault {
             CaptureFault::BlockLength => 8,
             CaptureFault::ByteOrder => 9,
             CaptureFault::UnknownInterface => 10,
-            CaptureFault::NoMemory => 11,
+            CaptureFault::TooLong => 11,
+            CaptureFault::NoMemory => 12,
         }
     }
 }

@@ -16,6 +16,8 @@ mod packet;
 mod padding;
 mod pcapng;
 mod section;
+mod stop;
+mod stream;
 
 pub use capture::read_capture;
 pub use classic::{FileHeader, TimeScale, read_classic, read_file_header, read_record};
@@ -29,3 +31,5 @@ pub use link::Link;
 pub use packet::{Capture, Packet};
 pub use padding::padded;
 pub use pcapng::read_pcapng;
+pub use stop::Stop;
+pub use stream::CaptureStream;

@@ -2,18 +2,35 @@
 
 ghost use Rattle.std.specs.Prelude.{◌≡◌, ◌≢◌, ◌<◌, ◌⊎◌, ◌++◌, ◌∷◌, [], IfErr, IfOk, IsTrue, OnOk, Ok as DueOk, Err as DueErr, length, map, option_map};
 ghost use Rattle.pcef_capture_file.specs.declared.fault.CaptureFault.TheVariants.{NoMemory, NotACapture};
-ghost use Rattle.pcef_capture_file.specs.Blocks.{begins_section};
+ghost use Rattle.pcef_capture_file.specs.Blocks.{begins_section, framed};
 ghost use Rattle.pcef_capture_file.specs.Captured.{captured};
-ghost use Rattle.pcef_capture_file.specs.PcapNg.{packets_among, ReadsFile, step_of};
+ghost use Rattle.pcef_capture_file.specs.PcapNg.{packets_among, ReadsFile, step_of, taken_of};
 ghost use Rattle.pcef_capture_file.specs.Sections.{standing};
 
 use crate::block_packet::packet_of;
-use crate::blocks::{begins_section, read_block};
+use crate::blocks::{Block, begins_section, read_block};
 use crate::endianness::Endianness;
 use crate::fault::CaptureFault;
 use crate::packet::{Capture, Packet};
 use crate::section::Section;
 use std::alloc::{AllocError, Global};
+
+/// Takes in what a block says of the section, and gives its packet, if it has one. An `Err` is the block's
+/// fault, or `NoMemory`.
+#[tactic(auto, unfolding(crate::specs::PcapNg::taken_of))]
+pub(crate) fn take_block<'a>(
+    section: &mut Section,
+    block: &Block<'a>,
+) -> Result<Option<Packet<'a>>, CaptureFault>
+    ensures ok { IfOk result (λ packet. taken_of (standing section.old) (framed block.now)
+        ≡ DueOk (standing section.new, option_map captured packet)) }
+    ensures fault { IfErr result (λ fault. (fault ≡ NoMemory)
+        ⊎ (taken_of (standing section.old) (framed block.now) ≡ DueErr fault)) }
+{
+    let packet = packet_of(&section.interfaces, block);
+    section.take_in(block)?;
+    packet
+}
 
 /// Reads the block at the front: takes in what it says of the section, and gives its packet, if it has one,
 /// and the octets behind it. An `Err` is the block's fault, or `NoMemory`.
@@ -29,9 +46,8 @@ fn read_step<'a>(
     ensures shorter { IfOk result (λ found. length found.1.now < length octets.now) }
 {
     let (block, rest) = read_block(section.endianness, octets)?;
-    let packet = packet_of(&section.interfaces, &block);
-    section.take_in(&block)?;
-    Ok((packet?, rest))
+    let packet = take_block(section, &block)?;
+    Ok((packet, rest))
 }
 
 /// Notes a packet, if there is one.

@@ -1,0 +1,15 @@
+//! Why the reading of a capture stops.
+
+use crate::fault::CaptureFault;
+
+/// Why nothing more is read of the octets at hand.
+#[derive(Clone, Copy, Debug, PartialEq, Eq)]
+pub enum Stop {
+    /// They are read, or end within a record or a block: more octets are wanted. If there are none, the
+    /// capture ends with this fault, or well.
+    Waits(Option<CaptureFault>),
+    /// What stands here is at fault, whatever follows.
+    Fault(CaptureFault),
+    /// There is no memory left.
+    NoMemory,
+}
