@@ -1,16 +1,21 @@
-//! `pcef_capture`: writes the packets of a capture file as lines of a script.
+//! `pcef_capture`: writes the packets of a capture as lines of a script, while it reads it.
 //!
-//! `pcef_capture --ue ADDRESS [--workers N] [--pad] FILE` writes a `take` line for each packet that goes
-//! from the session of the address or to it, and a `flush` line after every 32 and at the end. What was
-//! counted is told on standard error.
+//! `pcef_capture --ue ADDRESS [--workers N] [--batch N] [--pad] FILE` writes a `take` line for each packet that
+//! goes from the session of the address or to it, and a `flush` line after each batch and at the end. FILE `-` is
+//! standard input. What was counted is told on standard error.
 #![tactic(auto)]
 
+mod hint;
+
+ghost use Rattle.std.specs.Prelude.{◌≡◌, []};
+
 use clap::{Error, error};
-use pcef_capture_file::{Capture, CaptureFault, read_capture};
-use pcef_capture_script::{Counts, End, Options, Request, asked, write_takes};
-use std::io::{self, BufWriter, ErrorKind, Write};
+use hint::hint_of;
+use pcef_capture_script::{Counts, End, Options, Request, asked, write_capture};
+use std::env;
+use std::fs::File;
+use std::io::{self, BufWriter, ErrorKind, Read, Write};
 use std::process::ExitCode;
-use std::{env, fs};
 
 /// Where an error of the system ends the program.
 fn end_of(error: io::Error, other: End) -> End {
@@ -28,65 +33,68 @@ fn tell(rt: &HostRuntime, counts: &Counts) {
     );
 }
 
-/// The least length of a file whose reading is told as it goes on.
-const LARGE: usize = 16_777_216;
-
-/// Whether standard error is a terminal, by the name that Linux has for it.
-fn is_terminal(rt: &HostRuntime) -> bool {
-    match fs::read_link(rt, "/proc/self/fd/2") {
-        Ok(name) => name.as_str().starts_with("/dev/pts/") || name.as_str().starts_with("/dev/tty"),
-        Err(_) => false,
+/// Tells where every packet is one of others: the address may be wrong.
+fn tell_strangers(rt: &HostRuntime, counts: &Counts) {
+    if counts.taken == 0 && counts.cut == 0 && counts.neither > 0 {
+        let _ = eprintln!(rt; "no packet has the session's address: is --ue right?");
     }
 }
 
-/// Writes the lines of a capture.
-fn write(rt: &HostRuntime, options: &Options<'_>, capture: &Capture<'_>) -> End {
+/// Writes the lines of what is read, and leaves the octets that have none.
+fn write<R: Read>(
+    rt: &HostRuntime,
+    options: &Options<'_>,
+    waiting: &mut Vec<u8>,
+    reader: &mut R,
+) -> End
+    requires { waiting.old.items ≡ [] }
+{
     let Ok(mut writer) = BufWriter::new(rt.alloc(), io::writer(rt)) else {
         return End::NoMemory;
     };
-    let counts = match write_takes(rt.alloc(), options, &capture.packets, &mut writer) {
-        Ok(counts) => counts,
-        Err(error) => return end_of(error, End::Write(error)),
-    };
+    let told = write_capture(rt.alloc(), options, waiting, reader, &mut writer);
     if let Err(error) = writer.flush() {
         return end_of(error, End::Write(error));
     }
-    tell(rt, &counts);
-    match capture.fault {
-        Some(fault) => End::Capture(fault),
-        None => End::Done,
+    match told {
+        Ok((counts, fault)) => {
+            tell(rt, &counts);
+            tell_strangers(rt, &counts);
+            match fault {
+                Some(fault) => End::Capture(fault),
+                None => End::Done,
+            }
+        }
+        Err(end) => end,
     }
 }
 
-/// Writes the lines of a file. How far it is is told where the file is large and somebody looks.
-fn run(rt: &HostRuntime, options: &Options<'_>) -> End {
-    let file = match fs::read(rt, options.file) {
-        Ok(file) => file,
-        Err(error) => return end_of(error, End::Read(error)),
-    };
-    let is_watched = file.len() >= LARGE && is_terminal(rt);
-    if is_watched {
-        let _ = eprintln!(rt; "{} octets are read", file.len());
+/// Writes the lines of a file, or of standard input.
+fn run(rt: &HostRuntime, options: &Options<'_>, waiting: &mut Vec<u8>) -> End
+    requires { waiting.old.items ≡ [] }
+{
+    if options.file == "-" {
+        return write(rt, options, waiting, &mut rt.stdin());
     }
-    let capture = match read_capture(rt.alloc(), &file) {
-        Ok(capture) => capture,
-        Err(CaptureFault::NoMemory) => return End::NoMemory,
-        Err(fault) => return End::Capture(fault),
-    };
-    if is_watched {
-        let count = capture.packets.len();
-        let _ = eprintln!(rt; "{count} frames are found, and their lines are written now");
+    match File::open(rt, options.file) {
+        Ok(file) => {
+            let mut file = file;
+            write(rt, options, waiting, &mut file)
+        }
+        Err(error) => end_of(error, End::Read(error)),
     }
-    write(rt, options, &capture)
 }
 
-/// Tells why the program ends early, and gives its exit status. That it can't be told changes nothing.
-fn told(rt: &HostRuntime, file: &str, end: &End) -> u8 {
+/// Tells why the program ends early, and what the octets at a fault say, and gives the exit status. That it can't be told changes nothing.
+fn told(rt: &HostRuntime, file: &str, end: &End, octets: &[u8]) -> u8 {
     match end {
         End::Done => {}
         End::Capture(fault) => {
             let number = fault.number();
             let _ = eprintln!(rt; "capture fault {number}\n{fault}");
+            if let Ok(Some(hint)) = hint_of(rt.alloc(), *fault, octets) {
+                let _ = eprintln!(rt; "{hint}");
+            }
         }
         End::NoMemory => {
             let _ = eprintln!(rt; "want of memory");
@@ -104,7 +112,7 @@ fn told(rt: &HostRuntime, file: &str, end: &End) -> u8 {
 /// The exit status of wrong arguments, of want of memory, or of a question for help or for the version.
 fn told_by(rt: &HostRuntime, error: &Error) -> u8 {
     if error.kind() == error::ErrorKind::OutOfMemory {
-        return told(rt, "", &End::NoMemory);
+        return told(rt, "", &End::NoMemory, &[]);
     }
     match error.print(rt) {
         Ok(()) if error.use_stderr() => 2,
@@ -130,12 +138,18 @@ fn status(rt: &HostRuntime) -> u8 {
             let _ = eprintln!(rt; "usage: an argument isn't UTF-8");
             return 2;
         }
-        Err(_) => return told(rt, "", &End::NoMemory),
+        Err(_) => return told(rt, "", &End::NoMemory, &[]),
     };
     match asked(rt.alloc(), words.as_slice()) {
         Ok(Some(Request::Options(options))) => {
-            let end = run(rt, &options);
-            told(rt, options.file, &end)
+            let mut waiting = Vec::new(rt.alloc());
+            let end = run(rt, &options, &mut waiting);
+            let file = if options.file == "-" {
+                "Standard input"
+            } else {
+                options.file
+            };
+            told(rt, file, &end, waiting.as_slice())
         }
         Ok(Some(Request::NoAddress(text))) => {
             let _ = eprintln!(rt;

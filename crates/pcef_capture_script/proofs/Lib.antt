@@ -1,4 +1,5 @@
 pub mod Askings
 pub mod Fates
 pub mod Fronts
+pub mod Progress
 pub mod Writings

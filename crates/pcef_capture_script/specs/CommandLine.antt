@@ -11,7 +11,7 @@ use Rattle.pcef_capture_script.specs.declared.options.Request.{Request}
 use Rattle.pcef_capture_script.specs.declared.options.Request.TheVariants as request
 use Rattle.pcef_capture_script.specs.declared.options.Options.{Options}
 
--- ---- the options: --ue ADDRESS, --workers N from 1 to 16, --pad; and FILE
+-- ---- the options: --ue ADDRESS, --workers N from 1 to 16, --batch N from 1 to 32, --pad; and FILE
 abbrev pub ue_rule : Rule
 ue_rule = record (new_rule (codes "ue")) { long = Some (codes "ue"); value_names = 1; required = true; action = Some Set }
 
@@ -24,6 +24,15 @@ workers_rule = record (new_rule (codes "workers")) {
   defaults = codes "1" ∷ [];
 }
 
+abbrev pub batch_rule : Rule
+batch_rule = record (new_rule (codes "batch")) {
+  long = Some (codes "batch");
+  value_names = 1;
+  action = Some Set;
+  parser = Some (Signed (pos 1) (pos 32));
+  defaults = codes "32" ∷ [];
+}
+
 abbrev pub pad_rule : Rule
 pad_rule = record (new_rule (codes "pad")) { long = Some (codes "pad"); action = Some SetTrue }
 
@@ -31,7 +40,8 @@ abbrev pub file_rule : Rule
 file_rule = record (new_rule (codes "file")) { value_names = 1; required = true; action = Some Set }
 
 abbrev pub command_line : App
-command_line = with_rule (with_rule (with_rule (with_rule (new_app (codes "pcef_capture")) ue_rule) workers_rule) pad_rule) file_rule
+command_line =
+    with_rule (with_rule (with_rule (with_rule (with_rule (new_app (codes "pcef_capture")) ue_rule) workers_rule) batch_rule) pad_rule) file_rule
 
 -- ---- what right words ask for
 -- the value of an option in the words
@@ -42,8 +52,8 @@ given words name = one_of name (matches_of command_line words)
 abbrev pub written : List Text → Text → Option Text
 written words name = first_of name (matches_of command_line words)
 
--- the address is the one that is written, of either version, as a profile writes it, and the number of workers is
--- the one that is written; packets are padded where that is asked for; the file is the one that is named
+-- the address is the one that is written, of either version, as a profile writes it, and so are the numbers of workers
+-- and of packets in a batch; packets are padded where that is asked for; the file is the one that is named
 pub record Asks (words : List Text) (o : Options) : Type 0 where
   pub address_text : Text
   pub ue_given : written words (codes "ue") ≡ Some address_text
@@ -51,6 +61,9 @@ pub record Asks (words : List Text) (o : Options) : Type 0 where
   pub workers_text : Text
   pub workers_given : given words (codes "workers") ≡ Some workers_text
   pub workers : o.workers ≡ digits_value 10 (without_leading_plus workers_text)
+  pub batch_text : Text
+  pub batch_given : given words (codes "batch") ≡ Some batch_text
+  pub batch : o.batch ≡ digits_value 10 (without_leading_plus batch_text)
   pub pads : given words (codes "pad") ≡ Some (codes "true") → o.pads ≡ true
   pub pads_not : given words (codes "pad") ≡ Some (codes "false") → o.pads ≡ false
   pub file : written words (codes "file") ≡ Some o.file.now

@@ -3,6 +3,8 @@ pub mod Counting
 pub mod Ends
 pub mod Fates
 pub mod Lines
+pub mod Progress
 pub mod Scripts
+pub mod Streams
 pub mod Turns
 pub mod Writing

@@ -3,23 +3,35 @@ use Rattle.std.specs.Prelude.{ℕ, ◌+◌, ◌/◌, ◌%◌, ◌==◌, max, Lis
 use Rattle.std.specs.List.{enumerate_from, flat_map}
 use Rattle.pcef_capture_script.specs.Lines.{Item, flush_line, take_line}
 
--- workers in turn take 32 packets each; no workers are as one
-abbrev pub worker_of : ℕ → ℕ → ℕ
-worker_of workers n = (n / 32) % max workers 1
+-- how many workers there are, and how many packets each takes in its turn
+pub record Rota : Type 0 where
+  pub workers : ℕ
+  pub batch : ℕ
+
+-- no packets are as one
+abbrev pub batch_of : Rota → ℕ
+batch_of rota = max rota.batch 1
+
+-- workers in turn take a batch each; no workers are as one
+abbrev pub worker_of : Rota → ℕ → ℕ
+worker_of rota n = (n / batch_of rota) % max rota.workers 1
 
 -- a flush stands behind the last packet of a batch
-abbrev pub flush_behind : ℕ → ℕ → List ℕ
-flush_behind workers n = if (n + 1) % 32 == 0 then flush_line (worker_of workers n) else []
+abbrev pub flush_behind : Rota → ℕ → List ℕ
+flush_behind rota n = if (n + 1) % batch_of rota == 0 then flush_line (worker_of rota n) else []
 
 -- the lines for the packet of this number
-abbrev pub numbered_lines : ℕ → ℕ × Item → List ℕ
-numbered_lines workers numbered =
-    take_line (worker_of workers numbered.0) numbered.1 ++ flush_behind workers numbered.0
+abbrev pub numbered_lines : Rota → ℕ × Item → List ℕ
+numbered_lines rota numbered =
+    take_line (worker_of rota numbered.0) numbered.1 ++ flush_behind rota numbered.0
 
 -- and a flush at the end, where packets wait
-abbrev pub last_flush : ℕ → ℕ → List ℕ
-last_flush workers count = if count % 32 == 0 then [] else flush_line (worker_of workers count)
+abbrev pub last_flush : Rota → ℕ → List ℕ
+last_flush rota count = if count % batch_of rota == 0 then [] else flush_line (worker_of rota count)
 
-abbrev pub script_of : ℕ → List Item → List ℕ
-script_of workers items =
-    flat_map (numbered_lines workers) (enumerate_from 0 items) ++ last_flush workers (length items)
+-- the lines for packets after which more may come
+abbrev pub lines_of : Rota → List Item → List ℕ
+lines_of rota items = flat_map (numbered_lines rota) (enumerate_from 0 items)
+
+abbrev pub script_of : Rota → List Item → List ℕ
+script_of rota items = lines_of rota items ++ last_flush rota (length items)

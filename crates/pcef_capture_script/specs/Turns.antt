@@ -1,18 +1,16 @@
 -- Whose turn it is: for private clauses.
-use Rattle.std.specs.Prelude.{◌≡◌, ℕ, Bool, ◌+◌, ◌%◌, ◌==◌, ◌++◌, nat_lt, List, [], Option, Some, None, if◌then◌else◌}
+use Rattle.std.specs.Prelude.{◌≡◌, ℕ, Bool, ◌+◌, ◌%◌, ◌==◌, ◌++◌, nat_lt, max, List, length, [], Option, Some, None, if◌then◌else◌}
 use Rattle.std.specs.Io.KnownBytes.{Appends}
 use Rattle.pcef_packet.specs.declared.header.Addr.{Addr}
 use Rattle.pcef_capture_file.specs.Captured.{Captured}
-use Rattle.pcef_capture_script.specs.Fates.{Fate, IsFate}
+use Rattle.pcef_capture_script.specs.Counting.{counts_of}
+use Rattle.pcef_capture_script.specs.Fates.{AreFates, Fate, IsFate, items_of, outcomes_of}
 use Rattle.pcef_capture_script.specs.Lines.{Item, flush_line, take_line}
-use Rattle.pcef_capture_script.specs.Scripts.{worker_of}
+use Rattle.pcef_capture_script.specs.Scripts.{Rota, batch_of, lines_of, worker_of}
 use Rattle.pcef_writing.specs.Writing.{AppendsFront}
+use Rattle.pcef_capture_script.specs.declared.counts.Counts.{Counts}
 use Rattle.pcef_capture_script.specs.declared.counts.Outcome.{Outcome}
 use Rattle.pcef_capture_script.specs.declared.turn.Turn.{Turn}
-
--- how many packets may wait at a worker
-abbrev pub batch_len : ℕ
-batch_len = 32
 
 -- the worker behind this one, and the first behind the last
 abbrev pub next_worker : ℕ → ℕ → ℕ
@@ -20,18 +18,18 @@ next_worker workers worker = if nat_lt (worker + 1) workers then worker + 1 else
 
 -- the worker that is to flush, once its batch is full
 abbrev pub full_after : Turn → Option ℕ
-full_after turn = if nat_lt (turn.waiting + 1) batch_len then None else Some turn.worker
+full_after turn = if nat_lt (turn.waiting + 1) (max turn.batch 1) then None else Some turn.worker
 
 -- and the turn after a packet was taken
 abbrev pub taken_after : Turn → Turn
 taken_after turn =
-    if nat_lt (turn.waiting + 1) batch_len
-    then record { workers = turn.workers; worker = turn.worker; waiting = turn.waiting + 1 }
-    else record { workers = turn.workers; worker = next_worker turn.workers turn.worker; waiting = 0 }
+    if nat_lt (turn.waiting + 1) (max turn.batch 1)
+    then record { workers = turn.workers; batch = turn.batch; worker = turn.worker; waiting = turn.waiting + 1 }
+    else record { workers = turn.workers; batch = turn.batch; worker = next_worker turn.workers turn.worker; waiting = 0 }
 
 -- the turn when so many packets were taken
-abbrev pub turn_at : ℕ → ℕ → Turn
-turn_at workers n = record { workers = workers; worker = worker_of workers n; waiting = n % 32 }
+abbrev pub turn_at : Rota → ℕ → Turn
+turn_at rota n = record { workers = rota.workers; batch = rota.batch; worker = worker_of rota n; waiting = n % batch_of rota }
 
 abbrev pub flush_if : Option ℕ → List ℕ
 flush_if None = []
@@ -66,3 +64,9 @@ WroteFrameFront ue pads frame before old new =
 -- where packets wait
 abbrev pub rest_flush : Turn → List ℕ
 rest_flush turn = if turn.waiting == 0 then [] else flush_line turn.worker
+
+-- what was written when these frames were done
+abbrev pub WroteSoFar : Addr → Bool → Rota → List Captured → Option (List ℕ) → Option (List ℕ) → Turn → Counts → Type 0
+WroteSoFar ue pads rota frames old now turn counts =
+    (fates : List Fate) × AreFates ue pads frames fates × (turn ≡ turn_at rota (length (items_of fates)))
+    × Appends old now (lines_of rota (items_of fates)) × (counts ≡ counts_of (outcomes_of fates))

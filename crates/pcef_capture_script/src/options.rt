@@ -1,9 +1,9 @@
 //! What the program is asked for.
 
 ghost use Rattle.std.specs.Prelude.{◌≡◌, ℕ, List, IfErr, IfOk, IfSome, false, map, string_bytes, true};
-ghost use Rattle.clap.specs.Words.{app_of, found_of, kind_of, matches_of, rows_of, rule_of, takes};
+ghost use Rattle.clap.specs.Words.{app_of, found_of, kind_of, matches_of, rows_of, rule_of, takes, with_rule};
 ghost use Rattle.clap.specs.declared.error.kind.ErrorKind.TheVariants.{OutOfMemory};
-ghost use Rattle.pcef_capture_script.specs.CommandLine.{command_line, file_rule, IsRequest, pad_rule, ue_rule, workers_rule};
+ghost use Rattle.pcef_capture_script.specs.CommandLine.{batch_rule, command_line, file_rule, IsRequest, pad_rule, ue_rule, workers_rule};
 
 use clap::{Arg, ArgAction, ArgMatches, Command, Error, value_parser};
 use pcef_packet::Addr;
@@ -16,9 +16,11 @@ pub struct Options<'a> {
     pub ue: Addr,
     /// How many workers take packets in turn: 1 to 16.
     pub workers: u8,
+    /// How many packets a worker takes before it flushes: 1 to 32.
+    pub batch: u8,
     /// Whether packets that were recorded in part are padded, in place of left out.
     pub pads: bool,
-    /// The path of the capture file.
+    /// The path of the capture file; `-` is standard input.
     pub file: &'a str,
 }
 
@@ -53,7 +55,20 @@ fn workers<'a>(alloc: Global) -> Arg<'a>
         .action(ArgAction::Set)
         .value_parser(value_parser!(u8).range(1..=16))
         .default_value("1")
-        .help("How many workers take packets in turn, 32 each")
+        .help("How many workers take packets in turn")
+}
+
+fn batch<'a>(alloc: Global) -> Arg<'a>
+    ensures rule { rule_of result ≡ batch_rule }
+    ensures place { result.global ≡ false }
+{
+    Arg::new(alloc, "batch")
+        .long("batch")
+        .value_name("N")
+        .action(ArgAction::Set)
+        .value_parser(value_parser!(u8).range(1..=32))
+        .default_value("32")
+        .help("How many packets a worker takes before it flushes")
 }
 
 fn pad<'a>(alloc: Global) -> Arg<'a>
@@ -74,17 +89,25 @@ fn file<'a>(alloc: Global) -> Arg<'a>
         .value_name("FILE")
         .required(true)
         .action(ArgAction::Set)
-        .help("A capture file: classic pcap, or pcapng")
+        .help("A capture file: classic pcap, or pcapng; - is standard input")
+}
+
+/// The command line with the options of who takes what.
+fn with_turns<'a>(alloc: Global, command: Command<'a>) -> Result<Command<'a>, AllocError>
+    ensures { IfOk result (λ more. app_of more
+        ≡ with_rule (with_rule (app_of command.entry) workers_rule) batch_rule) }
+{
+    command.arg(workers(alloc))?.arg(batch(alloc))
 }
 
 /// The command line.
 pub fn command<'a>(alloc: Global) -> Result<Command<'a>, AllocError>
     ensures { IfOk result (λ command. app_of command ≡ command_line) }
 {
-    Command::new(alloc, "pcef_capture")
-        .about("Writes the packets of a capture file as lines of a script of pcef")
-        .arg(ue(alloc))?
-        .arg(workers(alloc))?
+    let command = Command::new(alloc, "pcef_capture")
+        .about("Writes the packets of a capture as lines of a script of pcef")
+        .arg(ue(alloc))?;
+    with_turns(alloc, command)?
         .arg(pad(alloc))?
         .arg(file(alloc))
 }
@@ -100,10 +123,12 @@ fn found<'a>(matches: &ArgMatches<'a>) -> Option<Request<'a>>
         return Some(Request::NoAddress(text));
     };
     let workers = matches.get_one::<u8>("workers")?;
+    let batch = matches.get_one::<u8>("batch")?;
     let file = matches.get_str("file")?;
     Some(Request::Options(Options {
         ue,
         workers,
+        batch,
         pads: matches.get_flag("pad"),
         file,
     }))

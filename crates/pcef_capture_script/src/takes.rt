@@ -1,6 +1,6 @@
 //! Lines for packets.
 
-ghost use Rattle.std.specs.Prelude.{◌≡◌, IfOk, OnErr, OnOk, codes, map, string_bytes};
+ghost use Rattle.std.specs.Prelude.{◌≡◌, IfOk, OnErr, OnOk, codes, string_bytes};
 ghost use Rattle.std.specs.Io.KnownBytes.{Appends};
 ghost use Rattle.pcef_capture_file.specs.Captured.{captured};
 ghost use Rattle.pcef_capture_script.specs.declared.counts.Outcome.TheVariants.{Taken};
@@ -9,10 +9,9 @@ ghost use Rattle.pcef_capture_file.specs.Padding.{padded};
 ghost use Rattle.pcef_capture_script.specs.Fates.{filled_fate};
 ghost use Rattle.pcef_capture_script.specs.Lines.{dir_word, flush_line, take_line};
 ghost use Rattle.pcef_capture_script.specs.Turns.{flush_if, lines_at, rest_flush, taken_after, WroteFate, WroteFrame, WroteFrameFront};
-ghost use Rattle.pcef_capture_script.specs.Writing.{WritesFront, WritesTakes};
 ghost use Rattle.pcef_writing.specs.Writing.{AppendsFront};
 
-use crate::counts::{Counts, Outcome};
+use crate::counts::Outcome;
 use crate::options::Options;
 use crate::turn::Turn;
 use pcef_capture_file::{Content, Packet, content_of, direction_of, padded};
@@ -71,7 +70,7 @@ fn write_line<W: Write>(
     )
 }
 
-/// Writes the line of a packet, and that of a flush where 32 wait.
+/// Writes the line of a packet, and that of a flush where it is the last of a batch.
 fn write_take<W: Write>(
     alloc: Global,
     writer: &mut W,
@@ -148,7 +147,7 @@ fn write_rest<W: Write>(writer: &mut W, turn: &Turn) -> io::Result<()>
 }
 
 /// Puts the lines for a frame, if it has any, or a front of them.
-fn put_packet<W: Write>(
+pub(crate) fn put_packet<W: Write>(
     alloc: Global,
     writer: &mut W,
     turn: &mut Turn,
@@ -169,7 +168,7 @@ fn put_packet<W: Write>(
 }
 
 /// Puts the line of a flush where packets wait, or a front of it.
-fn put_rest<W: Write>(alloc: Global, writer: &mut W, turn: &Turn) -> io::Result<()>
+pub(crate) fn put_rest<W: Write>(alloc: Global, writer: &mut W, turn: &Turn) -> io::Result<()>
     ensures lines { OnOk result (
         Appends (W.contents writer.old) (W.contents writer.new) (rest_flush turn.now)) }
     ensures front { OnErr result (
@@ -178,29 +177,4 @@ fn put_rest<W: Write>(alloc: Global, writer: &mut W, turn: &Turn) -> io::Result<
     let mut line = Vec::new(alloc);
     write_rest(&mut line, turn)?;
     put_all(writer, line.as_slice())
-}
-
-/// Puts a `take` line for each packet with the session's address on one side, workers in turn, a
-/// `flush` line after every 32, and one at the end where packets wait; or a front of these, and the
-/// writer's error or want of memory. What is put isn't flushed.
-pub fn write_takes<W: Write>(
-    alloc: Global,
-    options: &Options<'_>,
-    packets: &[Packet<'_>],
-    writer: &mut W,
-) -> io::Result<Counts>
-    ensures lines { IfOk result (λ counts.
-        WritesTakes options.now.ue options.now.pads options.now.workers (map captured packets.now)
-        (W.contents writer.old) (W.contents writer.new) counts) }
-    ensures front { OnErr result (
-        WritesFront options.now.ue options.now.pads options.now.workers (map captured packets.now)
-        (W.contents writer.old) (W.contents writer.new)) }
-{
-    let mut turn = Turn::first(options.workers);
-    let mut counts = Counts::default();
-    for packet in packets {
-        counts.count(put_packet(alloc, writer, &mut turn, options, packet)?);
-    }
-    put_rest(alloc, writer, &turn)?;
-    Ok(counts)
 }

@@ -3,27 +3,27 @@
 ghost use Rattle.std.specs.Prelude.{◌≡◌, ◌<◌, Some as DueSome, None as DueNone};
 ghost use Rattle.pcef_capture_script.specs.Turns.{full_after, taken_after};
 
-/// How many packets may wait at a worker.
-const BATCH_LEN: u8 = 32;
-
 /// Which worker takes the next packet, and how many wait there.
 #[derive(Clone, Copy, Debug, PartialEq, Eq)]
 pub struct Turn {
     /// How many workers there are.
     pub workers: u8,
+    /// How many packets a worker takes before it flushes; 0 is as 1.
+    pub batch: u8,
     /// The worker that takes the next packet, numbered from 0.
     pub worker: u8,
-    /// How many packets wait there: fewer than 32.
+    /// How many packets wait there: fewer than it takes.
     pub waiting: u8,
 }
 
 impl Turn {
-    /// The first worker of so many, where nothing waits.
-    pub fn first(workers: u8) -> Turn
-        ensures { result ≡ record { workers = workers; worker = 0; waiting = 0 } }
+    /// The first worker of so many, where nothing waits, and each takes so many packets in its turn.
+    pub fn first(workers: u8, batch: u8) -> Turn
+        ensures { result ≡ record { workers = workers; batch = batch; worker = 0; waiting = 0 } }
     {
         Turn {
             workers,
+            batch,
             worker: 0,
             waiting: 0,
         }
@@ -37,7 +37,7 @@ impl Turn {
     {
         let worker = self.worker;
         let waiting = u16::from(self.waiting) + 1;
-        if waiting < u16::from(BATCH_LEN) {
+        if waiting < u16::from(self.batch.max(1)) {
             self.waiting = waiting as u8;
             return None;
         }

@@ -6,3 +6,4 @@ mod packets;
 mod packets_v6;
 mod pcapng;
 mod script;
+mod stream;

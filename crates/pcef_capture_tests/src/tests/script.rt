@@ -1,8 +1,8 @@
 //! Lines for frames that were worked out by hand.
 use pcef_capture_file::{Endianness, Link, Packet};
-use pcef_capture_script::{Counts, Options, Request, asked, write_takes};
+use pcef_capture_script::{Counts, Options, Request, asked, write_capture};
 use pcef_packet::Addr;
-use std::alloc::Global;
+use std::alloc::{AllocError, Global};
 use std::process::Abort;
 use std::test::Fail;
 
@@ -34,6 +34,21 @@ fn raw(octets: &[u8]) -> Packet<'_> {
     }
 }
 
+/// A classic capture of raw frames in big endian.
+fn capture_of(alloc: Global, packets: &[Packet<'_>]) -> Result<Vec<u8>, AllocError> {
+    let mut capture = Vec::new(alloc);
+    capture.extend_from_slice(&[0xa1, 0xb2, 0xc3, 0xd4, 0, 2, 0, 4, 0, 0, 0, 0])?;
+    capture.extend_from_slice(&[0, 0, 0, 0, 0, 4, 0, 0, 0, 0, 0, 101])?;
+    for packet in packets {
+        let recorded = u32::try_from(packet.octets.len()).unwrap_or(0);
+        capture.extend_from_slice(&[0; 8])?;
+        capture.extend_from_slice(&recorded.to_be_bytes())?;
+        capture.extend_from_slice(&packet.original.to_be_bytes())?;
+        capture.extend_from_slice(packet.octets)?;
+    }
+    Ok(capture)
+}
+
 /// The lines for some packets, and the counts.
 fn written(
     rt: &impl Abort,
@@ -46,13 +61,19 @@ fn written(
     let options = Options {
         ue,
         workers,
+        batch: 32,
         pads,
         file: "",
     };
     let mut lines = Vec::new(alloc);
-    match write_takes(alloc, &options, packets, &mut lines) {
-        Ok(counts) => (lines, counts),
-        Err(_) => rt.abort(),
+    let mut waiting = Vec::new(alloc);
+    let Ok(capture) = capture_of(alloc, packets) else {
+        rt.abort()
+    };
+    let mut reader = capture.as_slice();
+    match write_capture(alloc, &options, &mut waiting, &mut reader, &mut lines) {
+        Ok((counts, None)) => (lines, counts),
+        _ => rt.abort(),
     }
 }
 
@@ -141,11 +162,18 @@ fn workers_in_turn(rt: HostRuntime) {
     assert_eq!(rt; place, 74);
 }
 
-/// What some words ask for: the address, the number of workers, whether packets are padded, and the file.
-fn asked_by<'a>(alloc: Global, words: &'a [String]) -> Option<(Addr, u8, bool, &'a str)> {
+/// What some words ask for: the address, the number of workers, that of packets in a batch, whether packets are padded,
+/// and the file.
+fn asked_by<'a>(alloc: Global, words: &'a [String]) -> Option<(Addr, u8, u8, bool, &'a str)> {
     match asked(alloc, words) {
         Ok(Some(Request::Options(options))) => {
-            Some((options.ue, options.workers, options.pads, options.file))
+            Some((
+                options.ue,
+                options.workers,
+                options.batch,
+                options.pads,
+                options.file,
+            ))
         }
         _ => None,
     }
@@ -182,26 +210,27 @@ fn what_words_ask_for(rt: HostRuntime) -> Result<(), Fail> {
         &["a.pcap", "--workers=16", "--ue=10.0.0.1", "--pad"],
         &["--ue", "10.0.0.2", "--workers", "3", "--", "--pad"],
         &["--ue", "2001:DB8::2", "a.pcap"],
-        &["--ue", "010.0.0.2", "a.pcap"],
+        &["--ue", "010.0.0.2", "--batch=1", "-"],
     ];
     let due = [
-        (UE, 1u8, false, "a.pcap"),
-        (ROUTER, 16, true, "a.pcap"),
-        (UE, 3, false, "--pad"),
-        (UE_6, 1, false, "a.pcap"),
-        (UE, 1, false, "a.pcap"),
+        (UE, 1u8, 32u8, false, "a.pcap"),
+        (ROUTER, 16, 32, true, "a.pcap"),
+        (UE, 3, 32, false, "--pad"),
+        (UE_6, 1, 32, false, "a.pcap"),
+        (UE, 1, 1, false, "-"),
     ];
     for (line, due) in whole.iter().zip(due) {
         let words = line_of(rt.alloc(), *line)?;
         assert!(rt; asked_by(rt.alloc(), &words) == Some(due));
     }
-    let wrong: [&[&str]; 7] = [
+    let wrong: [&[&str]; 8] = [
         &[],
         &["a.pcap"],
         &["--ue", "10.0.0.2"],
         &["--ue", "2001:db8::g", "a.pcap"],
         &["--ue", "10.0.0.2", "--workers", "0", "a.pcap"],
         &["--ue", "10.0.0.2", "--workers", "17", "a.pcap"],
+        &["--ue", "10.0.0.2", "--batch", "33", "a.pcap"],
         &["--ue", "10.0.0.2", "a.pcap", "b.pcap"],
     ];
     for line in wrong {

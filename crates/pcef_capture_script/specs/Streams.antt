@@ -1,0 +1,47 @@
+-- What is written for a capture that is read as it comes (own choice).
+use Rattle.std.specs.Prelude.{◌<◌, ◌⊎◌, ℕ, Bool, List, [], ◌++◌, length, Option, Result, Ok, Err}
+use Rattle.std.specs.Io.KnownBytes.{Appends, Consumes, IsAtEnd}
+use Rattle.pcef_packet.specs.declared.header.Addr.{Addr}
+use Rattle.pcef_capture_file.specs.Captured.{Captured}
+use Rattle.pcef_capture_file.specs.Captures.{ReadsCapture}
+use Rattle.pcef_capture_file.specs.Streams.{IsRefused}
+use Rattle.pcef_capture_file.specs.declared.fault.CaptureFault.{CaptureFault}
+use Rattle.pcef_capture_script.specs.Scripts.{Rota}
+use Rattle.pcef_capture_script.specs.Writing.{WritesFront, WritesLines, WritesTakes}
+use Rattle.pcef_capture_script.specs.declared.counts.Counts.{Counts}
+use Rattle.pcef_capture_script.specs.declared.end.End.{End}
+use Rattle.pcef_capture_script.specs.declared.end.End.TheVariants as «end»
+
+-- It is so of the octets that were read, and what is left changes nothing: there is nothing left, or it is so
+-- whatever follows.
+abbrev pub Lasts : Option (List ℕ) → (List ℕ → Type 0) → List ℕ → Type 0
+Lasts left P input = P input × (IsAtEnd left ⊎ ((more : List ℕ) → P (input ++ more)))
+
+-- the frames of the octets so far have their lines, and no other has; within the header of a file there are none
+abbrev pub WroteSoMuch : Addr → Bool → Rota → List ℕ → Option (List ℕ) → Option (List ℕ) → Type 0
+WroteSoMuch ue pads rota input old new =
+    ((frames : List Captured) × (fault : Option CaptureFault) × ReadsCapture input frames fault × WritesLines ue pads rota frames old new)
+    ⊎ ((length input < 24) × Appends old new [])
+
+-- a front of the script for these frames, or nothing
+abbrev pub WroteFrontOf : Addr → Bool → Rota → List ℕ → Option (List ℕ) → Option (List ℕ) → Type 0
+WroteFrontOf ue pads rota input old new =
+    ((frames : List Captured) × (fault : Option CaptureFault) × ReadsCapture input frames fault × WritesFront ue pads rota frames old new)
+    ⊎ Appends old new []
+
+-- What was written for the octets that were read. At the end of the capture, or at its fault, it is the script for its
+-- frames. Where the header of a classic file is at fault, nothing is written. Where the reader fails, the lines of all
+-- frames so far are; it may fail at any time, so they always are before more is read. Where the writer fails or memory
+-- runs out, a front of the script is.
+abbrev pub Wrote : Addr → Bool → Rota → Result (Counts × Option CaptureFault) End → Option (List ℕ) → List ℕ → Option (List ℕ) → Option (List ℕ) → Type 0
+Wrote ue pads rota (Ok told) left input old new =
+    (frames : List Captured) × Lasts left (λ octets. ReadsCapture octets frames told.1) input × WritesTakes ue pads rota frames old new told.0
+Wrote ue pads rota (Err («end».Capture fault)) left input old new =
+    Lasts left (λ octets. IsRefused octets fault) input × Appends old new []
+Wrote ue pads rota (Err («end».Read error)) left input old new = WroteSoMuch ue pads rota input old new
+Wrote ue pads rota (Err other) left input old new = WroteFrontOf ue pads rota input old new
+
+-- from a reader with `before` still to come and a writer with `old` written, to `left` and `new`
+abbrev pub WritesCapture : Addr → Bool → Rota → Result (Counts × Option CaptureFault) End → Option (List ℕ) → Option (List ℕ) → Option (List ℕ) → Option (List ℕ) → Type 0
+WritesCapture ue pads rota result before left old new =
+    (input : List ℕ) × Consumes before left input × Wrote ue pads rota result left input old new

@@ -1,0 +1,284 @@
+//! Lines for a capture, written as it is read.
+
+ghost use Rattle.std.specs.Prelude.{◌≡◌, ◌≤◌, [], ◌∷◌, ◌++◌, IfErr, IfOk, List, OnErr, OnOk, Option, drop, length, option_map, ℕ};
+ghost use Rattle.pcef_capture_file.specs.Captured.{Captured, captured};
+ghost use Rattle.pcef_capture_file.specs.PcapNg.{packets_among};
+ghost use Rattle.pcef_capture_file.specs.Streams.{StandsBehind};
+ghost use Rattle.std.specs.Io.KnownBytes.{Appends, Consumes};
+ghost use Rattle.pcef_capture_script.specs.Progress.{FailsInFront, FailsToRead, IsAfter, IsWriteEnd, Paused, Reached, ReadsFront, ReadsMore, WroteFront, rota_of};
+ghost use Rattle.pcef_capture_script.specs.Scripts.{Rota};
+ghost use Rattle.pcef_capture_script.specs.Streams.{WritesCapture};
+ghost use Rattle.pcef_capture_script.specs.Turns.{WroteSoFar, rest_flush};
+ghost use Rattle.pcef_writing.specs.Writing.{AppendsFront};
+ghost use Rattle.pcef_capture_script.specs.Writing.{WritesFront};
+
+use crate::counts::Counts;
+use crate::end::End;
+use crate::options::Options;
+use crate::takes::{put_packet, put_rest};
+use crate::turn::Turn;
+use pcef_capture_file::{CaptureFault, CaptureStream, Packet, Stop};
+use std::alloc::{AllocError, Global};
+use std::io::{self, ErrorKind, Read, Write};
+
+/// How many octets are read at a time.
+const BLOCK_LEN: usize = 8192;
+
+/// How many octets tell a capture's format, and whether a classic file's header is at fault.
+const FRONT_LEN: usize = 24;
+
+/// What was written so far.
+#[derive(Clone, Copy)]
+pub(crate) struct Written {
+    /// Whose turn it is.
+    pub turn: Turn,
+    /// What became of the frames.
+    pub counts: Counts,
+}
+
+/// How the program ends where the writer fails, or memory runs out while lines are made.
+fn write_end(error: io::Error) -> End
+    ensures { IsWriteEnd result }
+{
+    match error.kind() {
+        ErrorKind::OutOfMemory => End::NoMemory,
+        _ => End::Write(error),
+    }
+}
+
+/// Puts the lines for a frame, if there is one, and counts it.
+fn put_frame<W: Write>(
+    alloc: Global,
+    options: &Options<'_>,
+    written: &mut Written,
+    packet: Option<Packet<'_>>,
+    writer: &mut W,
+) -> io::Result<()>
+    ensures lines { (frames : List Captured) (start : Option (List ℕ)) (rota : Rota)
+        → WroteSoFar options.now.ue options.now.pads rota frames start (W.contents writer.old)
+        written.old.turn written.old.counts
+        → OnOk result (WroteSoFar options.now.ue options.now.pads rota
+        (frames ++ packets_among (option_map captured packet.entry ∷ [])) start
+        (W.contents writer.new) written.new.turn written.new.counts) }
+    ensures front { (frames rest : List Captured) (start : Option (List ℕ)) (rota : Rota)
+        → WroteSoFar options.now.ue options.now.pads rota frames start (W.contents writer.old)
+        written.old.turn written.old.counts
+        → OnErr result (WritesFront options.now.ue options.now.pads rota
+        (frames ++ (packets_among (option_map captured packet.entry ∷ []) ++ rest)) start
+        (W.contents writer.new)) }
+{
+    match packet {
+        Some(packet) => {
+            let outcome = put_packet(alloc, writer, &mut written.turn, options, &packet)?;
+            written.counts.count(outcome);
+            Ok(())
+        }
+        None => Ok(()),
+    }
+}
+
+/// Puts the lines for all whole records or blocks at the front of the octets at hand; gives the octets behind
+/// them, and why nothing more is read of these.
+fn put_whole<'a, W: Write>(
+    alloc: Global,
+    options: &Options<'_>,
+    stream: &mut CaptureStream,
+    written: &mut Written,
+    octets: &'a [u8],
+    writer: &mut W,
+) -> io::Result<(&'a [u8], Stop)>
+    ensures lines { (start : Option (List ℕ)) (rota : Rota) (input : List ℕ)
+        → IsAfter options.now.ue options.now.pads rota start (W.contents writer.old) written.old
+        stream.old octets.entry.now input
+        → IfOk result (λ found. Paused options.now.ue options.now.pads rota start
+        (W.contents writer.new) written.new stream.new found.1 found.0.now input) }
+    ensures front { (start : Option (List ℕ)) (rota : Rota) (input : List ℕ)
+        → IsAfter options.now.ue options.now.pads rota start (W.contents writer.old) written.old
+        stream.old octets.entry.now input
+        → OnErr result (WroteFront options.now.ue options.now.pads rota start
+        (W.contents writer.new) input) }
+    ensures behind { IfOk result (λ found. StandsBehind octets.entry.now found.0.now) }
+{
+    let mut rest = octets;
+    loop {
+        match stream.step(rest) {
+            Ok((packet, others)) => {
+                put_frame(alloc, options, written, packet, writer)?;
+                rest = others;
+            }
+            Err(stop) => return Ok((rest, stop)),
+        }
+    }
+}
+
+/// Lets octets at the front go.
+fn forget(octets: &mut Vec<u8>, taken: usize) -> Result<(), AllocError>
+    requires { taken ≤ length octets.old.items }
+    ensures { OnOk result (octets.new.items ≡ drop taken octets.old.items) }
+{
+    if taken > 0 {
+        *octets = octets.split_off(taken)?;
+    }
+    Ok(())
+}
+
+/// Puts the lines for all whole records or blocks at hand and flushes the writer; keeps the octets behind them,
+/// and tells why nothing more is read of these.
+fn put_waiting<W: Write>(
+    alloc: Global,
+    options: &Options<'_>,
+    stream: &mut CaptureStream,
+    written: &mut Written,
+    waiting: &mut Vec<u8>,
+    writer: &mut W,
+) -> Result<Stop, End>
+    ensures lines { (start : Option (List ℕ)) (rota : Rota) (input : List ℕ)
+        → IsAfter options.now.ue options.now.pads rota start (W.contents writer.old) written.old
+        stream.old waiting.old.items input
+        → IfOk result (λ stop. Paused options.now.ue options.now.pads rota start
+        (W.contents writer.new) written.new stream.new stop waiting.new.items input) }
+    ensures front { (start : Option (List ℕ)) (rota : Rota) (input : List ℕ)
+        → IsAfter options.now.ue options.now.pads rota start (W.contents writer.old) written.old
+        stream.old waiting.old.items input
+        → OnErr result (WroteFront options.now.ue options.now.pads rota start
+        (W.contents writer.new) input) }
+    ensures end { IfErr result (λ end. IsWriteEnd end) }
+{
+    let octets = waiting.as_slice();
+    let len = octets.len();
+    let (kept, stop) = match put_whole(alloc, options, stream, written, octets, writer) {
+        Ok((rest, stop)) => (rest.len(), stop),
+        Err(error) => return Err(write_end(error)),
+    };
+    if let Err(error) = writer.flush() {
+        return Err(write_end(error));
+    }
+    match forget(waiting, len.saturating_sub(kept)) {
+        Ok(()) => Ok(stop),
+        Err(_) => Err(End::NoMemory),
+    }
+}
+
+/// Reads some octets behind those that wait, and gives how many: none at the end of the input.
+fn read_more<R: Read>(reader: &mut R, waiting: &mut Vec<u8>) -> Result<usize, End>
+    ensures more { ReadsMore result (R.remaining reader.old) (R.remaining reader.new)
+        waiting.old.items waiting.new.items }
+    ensures end { IfErr result (λ end.
+        FailsToRead end (R.remaining reader.old) (R.remaining reader.new)) }
+{
+    let mut block = [0u8; BLOCK_LEN];
+    match reader.read(&mut block) {
+        Ok(n) => match waiting.extend_from_slice(&block[..n]) {
+            Ok(()) => Ok(n),
+            Err(_) => Err(End::NoMemory),
+        },
+        Err(error) => match error.kind() {
+            ErrorKind::OutOfMemory => Err(End::NoMemory),
+            _ => Err(End::Read(error)),
+        },
+    }
+}
+
+/// Reads octets until those that wait tell the format and a header's fault, or the input ends.
+fn read_front<R: Read>(reader: &mut R, waiting: &mut Vec<u8>) -> Result<(), End>
+    requires { waiting.old.items ≡ [] }
+    ensures front { OnOk result
+        (ReadsFront (R.remaining reader.old) (R.remaining reader.new) waiting.new.items) }
+    ensures end { IfErr result (λ end.
+        FailsInFront end (R.remaining reader.old) (R.remaining reader.new)) }
+{
+    while waiting.len() < FRONT_LEN {
+        if read_more(reader, waiting)? == 0 {
+            return Ok(());
+        }
+    }
+    Ok(())
+}
+
+/// Puts the line of a flush where packets wait; tells what was counted, and the fault.
+fn finish<W: Write>(
+    alloc: Global,
+    written: &Written,
+    fault: Option<CaptureFault>,
+    writer: &mut W,
+) -> Result<(Counts, Option<CaptureFault>), End>
+    ensures lines { IfOk result (λ told. (told ≡ (written.now.counts, fault)) × Appends
+        (W.contents writer.old) (W.contents writer.new) (rest_flush written.now.turn)) }
+    ensures front { IfErr result (λ end. IsWriteEnd end × AppendsFront
+        (W.contents writer.old) (W.contents writer.new) (rest_flush written.now.turn)) }
+{
+    match put_rest(alloc, writer, &written.turn) {
+        Ok(()) => Ok((written.counts, fault)),
+        Err(error) => Err(write_end(error)),
+    }
+}
+
+/// Writes the lines for a capture from these octets on, up to its end or its fault.
+fn write_rest<R: Read, W: Write>(
+    alloc: Global,
+    options: &Options<'_>,
+    stream: &mut CaptureStream,
+    waiting: &mut Vec<u8>,
+    reader: &mut R,
+    writer: &mut W,
+) -> Result<(Counts, Option<CaptureFault>), End>
+    ensures { (before : Option (List ℕ)) (input : List ℕ)
+        → Consumes before (R.remaining reader.old) input
+        → Reached input [] stream.old waiting.old.items
+        → WritesCapture options.now.ue options.now.pads (rota_of options.now) result before
+        (R.remaining reader.new) (W.contents writer.old) (W.contents writer.new) }
+{
+    let mut written = Written {
+        turn: Turn::first(options.workers, options.batch),
+        counts: Counts::default(),
+    };
+    for _ in 0..u64::MAX {
+        match put_waiting(alloc, options, stream, &mut written, waiting, writer)? {
+            Stop::Waits(fault) => {
+                if read_more(reader, waiting)? == 0 {
+                    return finish(alloc, &written, fault, writer);
+                }
+            }
+            Stop::Fault(fault) => return finish(alloc, &written, Some(fault), writer),
+            Stop::NoMemory => return Err(End::NoMemory),
+        }
+    }
+    Err(End::NoMemory)
+}
+
+/// Writes the lines for a capture while it is read: a `take` line for each packet with the session's address on one
+/// side, workers in turn, a `flush` line after each batch, and one at the end where packets wait. Before it reads more,
+/// the lines of all frames that were read whole are written and the writer is flushed. Gives what was counted, and the
+/// fault up to which the capture was read, or none at its end.
+///
+/// An `Err` is `Capture`, where the header of a classic file is at fault and nothing is written; the reader's error; or
+/// the writer's or want of memory, where a front of the lines is written. That it ends after 2 ^ 64 - 1 reads, with
+/// `NoMemory`, never comes to pass.
+///
+/// `waiting` has the octets that were read and have no lines yet, and so takes memory: those of the record or the block
+/// that isn't whole, at most 16,777,216, and the 8,192 that are read at once. At a fault they begin with what is at
+/// fault.
+pub fn write_capture<R: Read, W: Write>(
+    alloc: Global,
+    options: &Options<'_>,
+    waiting: &mut Vec<u8>,
+    reader: &mut R,
+    writer: &mut W,
+) -> Result<(Counts, Option<CaptureFault>), End>
+    requires { waiting.old.items ≡ [] }
+    ensures { WritesCapture options.now.ue options.now.pads (rota_of options.now) result
+        (R.remaining reader.old) (R.remaining reader.new)
+        (W.contents writer.old) (W.contents writer.new) }
+{
+    read_front(reader, waiting)?;
+    let octets = waiting.as_slice();
+    let len = octets.len();
+    let (mut stream, kept) = match CaptureStream::open(alloc, octets) {
+        Ok((stream, rest)) => (stream, rest.len()),
+        Err(fault) => return Err(End::Capture(fault)),
+    };
+    match forget(waiting, len.saturating_sub(kept)) {
+        Ok(()) => write_rest(alloc, options, &mut stream, waiting, reader, writer),
+        Err(_) => Err(End::NoMemory),
+    }
+}
