@@ -257,7 +257,7 @@ fn write_rest<R: Read, W: Write>(
 ///
 /// `waiting` has the octets that were read and have no lines yet, and so takes memory: those of the record or the block
 /// that isn't whole, at most 16,777,216, and the 8,192 that are read at once. At a fault they begin with what is at
-/// fault.
+/// fault. Beside them the interfaces of a pcapng section take memory.
 pub fn write_capture<R: Read, W: Write>(
     alloc: Global,
     options: &Options<'_>,
