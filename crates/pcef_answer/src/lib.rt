@@ -10,5 +10,6 @@ mod step;
 mod written;
 
 pub use fault::fault_text;
+pub use report::reports_answer;
 pub use show::show_answer;
 pub use step::{command_answer, step_answer};

@@ -1,9 +1,10 @@
 //! Reports in answers.
 
-ghost use Rattle.std.specs.Prelude.{◌≡◌, ◌++◌, OnOk, codes, decimal};
+ghost use Rattle.std.specs.Prelude.{◌≡◌, ◌++◌, IfOk, OnOk, codes, decimal, drop, reverse, string_bytes};
 ghost use Rattle.json.specs.Print.{escape};
 ghost use Rattle.serde_json.specs.Written.{comma_if, compact_text};
 ghost use Rattle.pcef_rule.specs.Name.{IsName};
+ghost use Rattle.pcef_model.specs.Entries.{reports};
 ghost use Rattle.pcef_model.specs.declared.report.Body.TheVariants.{Access, Inactive, Usage};
 ghost use Rattle.pcef_answer.specs.ReportAnswers.{body_data, cause_text, kind_text, inactive_text, report_data, reports_data, reports_text};
 ghost use Rattle.pcef_answer.specs.Written.{GoesOn};
@@ -146,4 +147,14 @@ pub(crate) fn push_reports(
     } else {
         text.push_str("[]")
     }
+}
+
+/// The reports of a journal from this number on, the oldest first: a JSON array. Takes memory for the text.
+pub fn reports_answer(alloc: Global, journal: &Journal, first: u64) -> Result<String, AllocError>
+    ensures { IfOk result (λ text. string_bytes text
+        ≡ compact_text (reports_data (drop first (reverse (reports journal.now.entries))))) }
+{
+    let mut text = String::new(alloc);
+    push_list(&mut text, journal.reports_from(first))?;
+    Ok(text)
 }

@@ -1,4 +1,5 @@
 pub mod LineAnswers
+pub mod LoneLines
 pub mod Running
 pub mod Runs
 pub mod ScriptAnswers

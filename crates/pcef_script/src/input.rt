@@ -53,7 +53,8 @@ fn keep(bytes: &mut Vec<u8>, is_too_long: &mut bool, byte: u8) -> Result<(), Scr
     }
 }
 
-fn is_space(bytes: &[u8]) -> bool
+/// Whether all bytes are spaces, tabs and CR.
+pub(crate) fn is_space(bytes: &[u8]) -> bool
     ensures { result ≡ list_all is_space bytes.now }
 {
     bytes

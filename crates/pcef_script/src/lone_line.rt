@@ -1,0 +1,72 @@
+//! A line that comes without a script around it.
+
+ghost use Rattle.std.specs.Prelude.{◌≡◌, IfOk};
+ghost use Rattle.std.specs.Option.{option_map};
+ghost use Rattle.pcef_script.specs.LineAnswers.{AnswersBy};
+ghost use Rattle.pcef_script.specs.LoneLines.{AnswersAlone};
+ghost use Rattle.pcef_script.specs.ScriptAnswers.{LineDue};
+ghost use Rattle.pcef_script.specs.ScriptLines.{is_blank, within_limit};
+
+use crate::input::{MAX_LINE, is_space};
+use crate::step::{Answer, answer_line, answer_too_long};
+use pcef_catalog::Detects;
+use pcef_line::LineReader;
+use pcef_world::WorldState;
+use std::alloc::{AllocError, Global};
+
+/// The line, unless it is too long.
+fn within_limit(line: &[u8]) -> Option<&[u8]>
+    ensures { option_map (λ b. b.now) result ≡ within_limit line.now }
+{
+    if line.len() > MAX_LINE {
+        None
+    } else {
+        Some(line)
+    }
+}
+
+/// Whether a script leaves the line without an answer.
+fn is_blank(line: &[u8]) -> bool
+    ensures { result ≡ is_blank line.now }
+{
+    line.len() <= MAX_LINE && is_space(line)
+}
+
+fn answer_of<C: Detects>(
+    alloc: Global,
+    catalog: &C,
+    world: &mut WorldState,
+    lines: &mut LineReader,
+    line: &[u8],
+) -> Result<Answer, AllocError>
+    requires { C.offers catalog.now ≡ world.old.session.setting.catalog }
+    ensures answer { IfOk result (λ a. AnswersBy (LineDue line.now) world.old a world.new) }
+    ensures setting { world.new.session.setting ≡ world.old.session.setting }
+{
+    match within_limit(line) {
+        None => answer_too_long(alloc),
+        Some(bytes) => answer_line(alloc, catalog, world, lines, bytes),
+    }
+}
+
+/// Does what a line of a script asks for, and gives the answer that a script writes for it, without the line
+/// feed; none for a line of spaces, tabs and CR alone, which changes nothing. A line of more than 262,144 bytes
+/// is at fault. Takes memory for the answer and for what the session keeps. For want of it the line may be done
+/// or not.
+pub fn answer_alone<C: Detects>(
+    alloc: Global,
+    catalog: &C,
+    world: &mut WorldState,
+    lines: &mut LineReader,
+    line: &[u8],
+) -> Result<Option<Answer>, AllocError>
+    requires { C.offers catalog.now ≡ world.old.session.setting.catalog }
+    ensures answer { IfOk result (λ a. AnswersAlone line.now world.old a world.new) }
+    ensures setting { world.new.session.setting ≡ world.old.session.setting }
+{
+    if is_blank(line) {
+        return Ok(None);
+    }
+    let answer = answer_of(alloc, catalog, world, lines, line)?;
+    Ok(Some(answer))
+}
