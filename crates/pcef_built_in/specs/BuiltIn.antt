@@ -1,4 +1,4 @@
--- The predefined rules of the program (own choice; DNS: RFC 1035, clause 4.2; DSCP 46: RFC 3246).
+-- The predefined rules of the program and of the C library (own choice; DNS: RFC 1035, clause 4.2; DSCP 46: RFC 3246).
 use Rattle.std.specs.Prelude.{ℕ, List, [], ◌∷◌, codes, Bool, true, false, None, Some}
 use Rattle.pcef_catalog.specs.declared.listing.Offer.{Offer}
 use Rattle.pcef_catalog.specs.declared.shape.Test.{Test}

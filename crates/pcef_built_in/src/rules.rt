@@ -1,12 +1,12 @@
-//! The predefined rules of the program (own choice). Their closures are made in `main`, and call the functions
-//! of this module.
+//! The rules (own choice). The program makes closures of them in its `main`, which call the functions of this
+//! module.
 
 ghost use Rattle.std.specs.Prelude.{◌≡◌, None};
 ghost use Rattle.pcef_catalog.specs.Shapes.{port_between, remote_port, shape_holds};
 ghost use Rattle.pcef_rule.specs.Name.{IsName};
 ghost use Rattle.pcef_rule.specs.Priority.{IsLevel};
 ghost use Rattle.pcef_rule.specs.declared.gate.Gate.TheVariants as gate;
-ghost use Rattle.pcef_program.specs.BuiltIn.{dns_properties, dns_shape, expedited_properties, expedited_shape, qos_of, remaining_properties, remaining_shape};
+ghost use Rattle.pcef_built_in.specs.BuiltIn.{dns_properties, dns_shape, expedited_properties, expedited_shape, qos_of, remaining_properties, remaining_shape};
 
 use arrayvec::ArrayVec;
 use pcef_catalog::{Alternative, Shape, Test};

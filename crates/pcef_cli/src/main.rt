@@ -7,12 +7,12 @@ ghost use Rattle.std.specs.Prelude.{◌≡◌, ◌≤◌, IfOk};
 ghost use Rattle.std.specs.Arc.{arc_value};
 ghost use Rattle.pcef_catalog.specs.Catalogs.{offers_of};
 ghost use Rattle.pcef_catalog.specs.Shapes.{shape_holds};
-ghost use Rattle.pcef_program.specs.BuiltIn.{built_in_offers, dns_shape, expedited_shape, remaining_shape};
+ghost use Rattle.pcef_built_in.specs.BuiltIn.{built_in_offers, dns_shape, expedited_shape, remaining_shape};
 
 use arguments::{profiles_of, words};
 use pcef_catalog::{Catalog, Detect, Predefined};
 use pcef_packet::Header;
-use pcef_program::built_in::{
+use pcef_built_in::{
     dns_properties, dns_shape, expedited_properties, expedited_shape, is_dns, is_expedited,
     is_remaining, remaining_properties, remaining_shape,
 };

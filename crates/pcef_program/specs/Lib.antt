@@ -1,4 +1,3 @@
-pub mod BuiltIn
 pub mod Ends
 pub mod PlanRuns
 pub mod PoolEnds

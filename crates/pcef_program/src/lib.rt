@@ -1,8 +1,7 @@
-//! The program `pcef`, without the process that it runs in: the built-in catalog, what the arguments ask for, and
+//! The program `pcef`, without the process that it runs in: what the arguments ask for, and
 //! what comes of it.
 #![tactic(auto)]
 
-pub mod built_in;
 pub mod end;
 mod plan_run;
 mod pool_run;

@@ -3,11 +3,11 @@
 
 ghost use Rattle.std.specs.Prelude.{◌≡◌};
 ghost use Rattle.pcef_catalog.specs.Shapes.{shape_holds};
-ghost use Rattle.pcef_program.specs.BuiltIn.{dns_shape, expedited_shape, remaining_shape};
+ghost use Rattle.pcef_built_in.specs.BuiltIn.{dns_shape, expedited_shape, remaining_shape};
 
 use pcef_catalog::{Catalog, Detect, Detects, Offers, Predefined};
 use pcef_packet::{Addr, Dir, Header, Ports};
-use pcef_program::built_in::{
+use pcef_built_in::{
     dns_properties, dns_shape, expedited_properties, expedited_shape, is_dns, is_expedited,
     is_remaining, remaining_properties, remaining_shape,
 };
