@@ -1,0 +1,35 @@
+-- What is written to a caller's buffer (own choice).
+use Rattle.std.specs.Prelude.{ℕ, ◌≡◌, List, length, min, take, Option, Some, None, Result, Ok, Err, string_bytes}
+use Rattle.pcef_script.specs.LoneLines.{AnswersAlone}
+use Rattle.pcef_script.specs.declared.step.Answer.{Answer}
+use Rattle.pcef_handle.specs.declared.held.Handle.{Handle}
+use Rattle.pcef_handle.specs.declared.held.OpenSession.{OpenSession}
+use Rattle.pcef_handle.specs.declared.line.CallRefusal.{CallRefusal}
+use Rattle.pcef_handle.specs.declared.line.CallRefusal.TheVariants.{NoMemory, NoSession}
+
+-- as much of a text as fits stands at the front of a buffer, whose length stays, and the length of the text is told
+abbrev pub CopiesFront : List ℕ → List ℕ → List ℕ → ℕ → Type 0
+CopiesFront text before after told =
+    (told ≡ length text) × (length after ≡ length before)
+    × (take (min (length text) (length before)) after ≡ take (min (length text) (length before)) text)
+
+-- so is it of an answer; where there is none, nothing is written, and 0 is told
+abbrev pub IsPut : Option Answer → List ℕ → List ℕ → ℕ → Type 0
+IsPut None before after told = (told ≡ 0) × (after ≡ before)
+IsPut (Some a) before after told = CopiesFront (string_bytes a.text) before after told
+
+-- a line is answered as in a script, into a buffer; for want of memory nothing is written
+abbrev pub AnswersInto : OpenSession → List ℕ → List ℕ → Result ℕ CallRefusal → OpenSession → List ℕ → Type 0
+AnswersInto old line before (Ok told) new after = (a : Option Answer) × AnswersAlone line old.world a new.world × IsPut a before after told
+AnswersInto old line before (Err NoMemory) new after = after ≡ before
+AnswersInto old line before (Err NoSession) new after = ⊥
+
+-- in the session of a handle, which stays open; this, where there is none
+abbrev pub InSession : Option OpenSession → Option OpenSession → (OpenSession → OpenSession → Type 0) → Type 0 → Type 0
+InSession (Some s) (Some t) P none = P s t
+InSession None None P none = none
+InSession s t P none = ⊥
+
+abbrev pub AnswersHandle : Handle → List ℕ → List ℕ → Result ℕ CallRefusal → Handle → List ℕ → Type 0
+AnswersHandle old line before result new after =
+    InSession old.session new.session (λ s t. AnswersInto s line before result t after) ((result ≡ Err NoSession) × (after ≡ before))

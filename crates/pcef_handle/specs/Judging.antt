@@ -1,0 +1,52 @@
+-- What the newest generation of a session decides of a packet (TS 23.203, clause 6.2.2).
+use Rattle.std.specs.Prelude.{ℕ, ◌≡◌, List, find, slice_get, Option, Some, None, Result, Ok, Err}
+use Rattle.std.specs.Option.{option_and_then}
+use Rattle.pcef_packet.specs.HeaderOf.{header_of}
+use Rattle.pcef_packet.specs.declared.header.Dir.{Dir}
+use Rattle.pcef_packet.specs.declared.header.Header.{Header}
+use Rattle.pcef_packet.specs.declared.header.PacketFault.{PacketFault}
+use Rattle.pcef_catalog.specs.declared.listing.Offer.{Offer}
+use Rattle.pcef_table.specs.declared.entry.Entry.{Entry}
+use Rattle.pcef_table.specs.Sources.{is_named}
+use Rattle.pcef_table.specs.Tables.{TableValue}
+use Rattle.pcef_model.specs.declared.verdict.Verdict.{Verdict}
+use Rattle.pcef_model.specs.declared.verdict.Verdict.TheVariants.{Gated, Passed}
+use Rattle.pcef_model.specs.Journals.{at, counts_in, gen, slots, verdict_at}
+use Rattle.pcef_model.specs.Slots.{has_one_of}
+use Rattle.pcef_session.specs.Answers.{ShowsNewest}
+use Rattle.pcef_session.specs.SessionModel.{SessionModel}
+use Rattle.pcef_handle.specs.declared.held.Handle.{Handle}
+use Rattle.pcef_handle.specs.declared.held.OpenSession.{OpenSession}
+use Rattle.pcef_handle.specs.declared.judging.JudgeRefusal.{JudgeRefusal}
+use Rattle.pcef_handle.specs.declared.judging.JudgeRefusal.TheVariants.{NoPacket, NoSession}
+use Rattle.pcef_handle.specs.declared.judging.Judgement.{Judgement}
+
+-- the place of the entry of a name; no two entries of a table have one name
+abbrev pub IsPlaceOf : List Offer → List Entry → List ℕ → Option ℕ → Type 0
+IsPlaceOf offers entries name place =
+    option_and_then (λ n. slice_get entries n) place ≡ find (λ e. is_named offers name e.source) entries
+
+-- the place of the entry whose rule a verdict names
+abbrev pub IsPlaced : List Offer → List Entry → Verdict → Option ℕ → Type 0
+IsPlaced offers entries (Passed rule bearer) place = IsPlaceOf offers entries rule place
+IsPlaced offers entries (Gated rule) place = IsPlaceOf offers entries rule place
+IsPlaced offers entries other place = place ≡ None
+
+-- what the newest generation decides of a header: its verdict, the place of the rule in its table, and exactly the slots of
+-- the keys that the packet counts for
+pub record IsJudged (s : SessionModel) (header : Header) (d : Judgement) : Type 0 where
+  pub generation_is : d.generation ≡ gen s.journal
+  pub verdict_is : d.verdict ≡ verdict_at s.setting (at s.setting s.journal (gen s.journal)) header
+  pub counts_is : (key : List ℕ) →
+      counts_in s.setting (at s.setting s.journal (gen s.journal)) key header ≡ has_one_of (slots s.setting s.journal) d.slots.items key
+  pub placed : (t : TableValue) × ShowsNewest s t × IsPlaced s.setting.catalog t.entries d.verdict d.place
+
+abbrev pub JudgesIn : Option OpenSession → Result Header PacketFault → Result Judgement JudgeRefusal → Type 0
+JudgesIn None read result = result ≡ Err NoSession
+JudgesIn (Some s) (Ok header) (Ok d) = IsJudged s.world.session header d
+JudgesIn (Some s) (Err fault) result = result ≡ Err (NoPacket fault)
+JudgesIn (Some s) (Ok header) (Err refusal) = ⊥
+
+-- the packet at the front of some octets is judged, where the handle has a session
+abbrev pub JudgesHandle : Handle → Dir → List ℕ → Result Judgement JudgeRefusal → Type 0
+JudgesHandle h dir octets result = JudgesIn h.session (header_of dir octets) result

@@ -1,0 +1,4 @@
+pub mod Answering
+pub mod Judging
+pub mod Opening
+pub mod Reporting

@@ -1,0 +1,105 @@
+//! What the newest generation decides of a packet.
+
+ghost use Rattle.std.specs.Prelude.{◌≡◌, ◌≤◌, All, find, length, slice_get};
+ghost use Rattle.std.specs.Option.{option_and_then};
+ghost use Rattle.pcef_table.specs.Sources.{IsKnown, is_named};
+ghost use Rattle.pcef_handle.specs.Judging.{IsJudged, IsPlaced, JudgesHandle};
+
+use crate::held::{Handle, OpenSession};
+use arrayvec::ArrayVec;
+use pcef_built_in::ShapedCatalog;
+use pcef_index::Indexed;
+use pcef_model::Verdict;
+use pcef_packet::{Dir, Header, PacketFault, read_header};
+use pcef_rule::{RuleName, Slot};
+use pcef_table::Entry;
+
+/// What the newest generation decides of a packet.
+#[derive(Debug, Drop)]
+pub struct Judgement {
+    /// The number of the generation.
+    pub generation: u32,
+    /// The verdict.
+    pub verdict: Verdict,
+    /// The place of the rule that decided, where one did: how many of the active rules go before it.
+    pub place: Option<u8>,
+    /// The slots that the packet counts for, in slot order.
+    pub slots: ArrayVec<Slot, 8>,
+}
+
+/// Why a packet isn't judged.
+#[derive(Clone, Copy, Debug, PartialEq, Eq)]
+pub enum JudgeRefusal {
+    /// The handle has no session.
+    NoSession,
+    /// The octets are no packet.
+    NoPacket(PacketFault),
+}
+
+/// Whether an entry's rule has this name.
+fn has_name(catalog: &ShapedCatalog, entry: &Entry, name: &RuleName) -> bool
+    requires { IsKnown catalog.now entry.now.source }
+    ensures { result ≡ is_named catalog.now name.now entry.now.source }
+{
+    entry.source.properties(catalog).name == *name
+}
+
+/// The first place of a rule's name among entries.
+fn place_of(catalog: &ShapedCatalog, entries: &[Entry], name: &RuleName) -> Option<u8>
+    requires known { All (λ e. IsKnown catalog.now e.source) entries.now }
+    requires few { length entries.now ≤ 64 }
+    ensures { option_and_then (λ place. slice_get entries.now place) result
+        ≡ find (λ e. is_named catalog.now name.now e.source) entries.now }
+{
+    for (place, entry) in entries.iter().enumerate() {
+        if has_name(catalog, entry, name) {
+            return Some(place as u8);
+        }
+    }
+    None
+}
+
+/// The place of the rule that a verdict names.
+fn place_by(catalog: &ShapedCatalog, entries: &[Entry], verdict: &Verdict) -> Option<u8>
+    requires known { All (λ e. IsKnown catalog.now e.source) entries.now }
+    requires few { length entries.now ≤ 64 }
+    ensures { IsPlaced catalog.now entries.now verdict.now result }
+{
+    match verdict {
+        Verdict::Passed { rule, .. } => place_of(catalog, entries, rule),
+        Verdict::Gated { rule } => place_of(catalog, entries, rule),
+        Verdict::Stray | Verdict::Unmatched => None,
+    }
+}
+
+/// Judges a packet by the newest generation of a session.
+fn judge_header(session: &OpenSession, header: &Header) -> Judgement
+    ensures { IsJudged session.now.world.session header.now result }
+{
+    let state = session.world.session();
+    let newest: &Indexed = state.indexed();
+    let (verdict, slots) = newest.judged(&session.catalog, state.profile().ue, header);
+    let place = place_by(&session.catalog, newest.table().entries(), &verdict);
+    Judgement {
+        generation: newest.generation(),
+        verdict,
+        place,
+        slots,
+    }
+}
+
+impl Handle {
+    /// What the newest generation decides of the packet at the front of some octets. Nothing is counted, and no row
+    /// is kept. Takes no memory.
+    pub fn judge(&self, dir: Dir, octets: &[u8]) -> Result<Judgement, JudgeRefusal>
+        ensures { JudgesHandle self.now dir octets.now result }
+    {
+        let Some(session) = &self.session else {
+            return Err(JudgeRefusal::NoSession);
+        };
+        match read_header(dir, octets) {
+            Ok(header) => Ok(judge_header(session, &header)),
+            Err(fault) => Err(JudgeRefusal::NoPacket(fault)),
+        }
+    }
+}

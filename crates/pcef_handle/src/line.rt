@@ -1,0 +1,64 @@
+//! Answers a line of a script.
+
+ghost use Rattle.std.specs.Prelude.{◌≡◌};
+ghost use Rattle.pcef_handle.specs.Answering.{AnswersHandle, AnswersInto, IsPut};
+
+use crate::held::{Handle, OpenSession};
+use crate::text::copy_front;
+use pcef_script::{Answer, answer_alone};
+use std::alloc::Global;
+
+/// Why a call on a handle gives no text.
+#[derive(Clone, Copy, Debug, PartialEq, Eq)]
+pub enum CallRefusal {
+    /// The handle has no session.
+    NoSession,
+    /// There is no memory left.
+    NoMemory,
+}
+
+/// Writes as much of an answer as fits, and gives how long it is: 0 where there is none.
+fn put(answer: &Option<Answer>, buffer: &mut [u8]) -> usize
+    ensures { IsPut answer.now buffer.old buffer.new result }
+{
+    match answer {
+        Some(answer) => copy_front(answer.text.as_bytes(), buffer),
+        None => 0,
+    }
+}
+
+fn answer_into(
+    alloc: Global,
+    session: &mut OpenSession,
+    line: &[u8],
+    buffer: &mut [u8],
+) -> Result<usize, CallRefusal>
+    ensures { AnswersInto session.old line.now buffer.old result session.new buffer.new }
+{
+    match answer_alone(
+        alloc,
+        &session.catalog,
+        &mut session.world,
+        &mut session.lines,
+        line,
+    ) {
+        Ok(answer) => Ok(put(&answer, buffer)),
+        Err(_) => Err(CallRefusal::NoMemory),
+    }
+}
+
+impl Handle {
+    /// Does what a line of a script asks for, and gives how long the answer is, of which as much as fits is written
+    /// to the front of a buffer: the text that `pcef script` writes for the line, without its line feed. A line of
+    /// spaces, tabs and CR alone has no answer and gives 0. Takes memory for the answer and for what the session
+    /// keeps; for want of it the line may be done or not.
+    pub fn line(&mut self, line: &[u8], buffer: &mut [u8]) -> Result<usize, CallRefusal>
+        ensures { AnswersHandle self.old line.now buffer.old result self.new buffer.new }
+    {
+        let alloc = self.alloc;
+        match &mut self.session {
+            Some(session) => answer_into(alloc, session, line, buffer),
+            None => Err(CallRefusal::NoSession),
+        }
+    }
+}

@@ -1,0 +1,107 @@
+//! Opens a session by the text of a profile.
+
+ghost use Rattle.std.specs.Prelude.{◌≡◌};
+ghost use Rattle.pcef_model.specs.ProfileModel.{setting_of};
+ghost use Rattle.pcef_built_in.specs.BuiltIn.{built_in_offers};
+ghost use Rattle.pcef_handle.specs.Opening.{OpensHandle, OpensText, ReadsProfile, Starts, StartsSession};
+
+use crate::held::{Handle, OpenSession};
+use pcef_built_in::ShapedCatalog;
+use pcef_catalog::Offers;
+use pcef_line::LineReader;
+use pcef_model::{OpenFault, Profile};
+use pcef_profile::{ReadProfileFault, read_profile};
+use pcef_world::WorldState;
+use std::alloc::Global;
+use std::str;
+
+/// Why no session is opened. Of several reasons the first in this order is answered, but for want of memory, which
+/// may come at any time.
+#[derive(Clone, Copy, Debug, PartialEq, Eq)]
+pub enum OpenRefusal {
+    /// The handle has a session, which stays.
+    AlreadyOpen,
+    /// The text isn't UTF-8.
+    NotUtf8,
+    /// The text is no profile.
+    Profile(ReadProfileFault),
+    /// No session can have the profile.
+    Session(OpenFault),
+    /// There is no memory left.
+    NoMemory,
+}
+
+/// The profile that octets spell.
+fn profile_of(alloc: Global, text: &[u8]) -> Result<Profile, OpenRefusal>
+    ensures { ReadsProfile text.now result }
+{
+    match str::from_utf8(text) {
+        Err(_) => Err(OpenRefusal::NotUtf8),
+        Ok(text) => match read_profile(alloc, text) {
+            Ok(profile) => Ok(profile),
+            Err(fault) => Err(OpenRefusal::Profile(fault)),
+        },
+    }
+}
+
+/// The session of a profile and its workers.
+fn world_of(
+    alloc: Global,
+    profile: Profile,
+    catalog: &ShapedCatalog,
+) -> Result<WorldState, OpenRefusal>
+    ensures { Starts (setting_of profile catalog.now) result }
+{
+    let Ok(listing) = catalog.listing().share() else {
+        return Err(OpenRefusal::NoMemory);
+    };
+    match WorldState::open(alloc, profile, listing) {
+        Ok(world) => Ok(world),
+        Err(fault) => Err(OpenRefusal::Session(fault)),
+    }
+}
+
+/// The session of a profile, over the built-in rules.
+fn session_of(alloc: Global, profile: Profile) -> Result<OpenSession, OpenRefusal>
+    ensures { StartsSession (setting_of profile built_in_offers) result }
+{
+    let Ok(catalog) = ShapedCatalog::built_in(alloc) else {
+        return Err(OpenRefusal::NoMemory);
+    };
+    match world_of(alloc, profile, &catalog) {
+        Err(refusal) => Err(refusal),
+        Ok(world) => Ok(OpenSession {
+            catalog,
+            world,
+            lines: LineReader::new(alloc),
+        }),
+    }
+}
+
+fn opened(alloc: Global, text: &[u8]) -> Result<OpenSession, OpenRefusal>
+    ensures { OpensText text.now result }
+{
+    match profile_of(alloc, text) {
+        Err(refusal) => Err(refusal),
+        Ok(profile) => session_of(alloc, profile),
+    }
+}
+
+impl Handle {
+    /// Opens a session by the text of a profile, over the built-in predefined rules: its journal is empty, and no
+    /// worker is attached. A refusal leaves the handle as it was. Takes memory for the session.
+    pub fn open(&mut self, text: &[u8]) -> Result<(), OpenRefusal>
+        ensures { OpensHandle text.now self.old result self.new }
+    {
+        if self.session.is_some() {
+            return Err(OpenRefusal::AlreadyOpen);
+        }
+        match opened(self.alloc, text) {
+            Err(refusal) => Err(refusal),
+            Ok(session) => {
+                self.session = Some(session);
+                Ok(())
+            }
+        }
+    }
+}

@@ -1,0 +1,13 @@
+//! Texts in a caller's buffer.
+
+ghost use Rattle.std.specs.Prelude.{◌≡◌};
+ghost use Rattle.pcef_handle.specs.Answering.{CopiesFront};
+
+/// Writes as much of a text as fits to the front of a buffer, and gives how long the text is.
+pub(crate) fn copy_front(text: &[u8], buffer: &mut [u8]) -> usize
+    ensures { CopiesFront text.now buffer.old buffer.new result }
+{
+    let fits = text.len().min(buffer.len());
+    buffer[..fits].copy_from_slice(&text[..fits]);
+    text.len()
+}
