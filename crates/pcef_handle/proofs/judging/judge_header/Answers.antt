@@ -1,4 +1,4 @@
-use Rattle.std.proofs.Common.{◌≡◌, ◌∙◌, ap, subst, sym}
+use Rattle.std.proofs.Common.{◌∙◌, ap, subst, sym}
 use Rattle.std.specs.Arc.{arc_value}
 use Rattle.pcef_session.specs.Answers.{ShowsNewest}
 use Rattle.pcef_handle.proofs.Judged.{judged_newest}

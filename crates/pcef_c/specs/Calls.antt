@@ -1,0 +1,27 @@
+-- What a call does to what lies at a handle, and the number that it tells (own choice).
+use Rattle.std.specs.Prelude.{ℕ, ◌≡◌, List, None, Result, is_some}
+use Rattle.pcef_handle.specs.Answering.{AnswersHandle}
+use Rattle.pcef_handle.specs.Opening.{OpensHandle}
+use Rattle.pcef_handle.specs.Reporting.{ReportsHandle}
+use Rattle.pcef_handle.specs.declared.held.Handle.{Handle}
+use Rattle.pcef_handle.specs.declared.line.CallRefusal.{CallRefusal}
+use Rattle.pcef_handle.specs.declared.opening.OpenRefusal.{OpenRefusal}
+use Rattle.pcef_c.specs.Numbers.{length_number, number_of, open_number}
+
+-- the session is what the text says, or there is a reason why it isn't opened
+abbrev pub OpenTold : Handle → List ℕ → Handle → ℕ → Type 0
+OpenTold old text new told = (r : Result (Unit {0}) OpenRefusal) × OpensHandle text old r new × (told ≡ open_number r)
+
+-- the line is answered as in a script, or there is a reason why it isn't
+abbrev pub LineTold : Handle → List ℕ → List ℕ → Handle → List ℕ → ℕ → Type 0
+LineTold old line before new after told =
+    (r : Result ℕ CallRefusal) × AnswersHandle old line before r new after × (told ≡ length_number r)
+
+-- the reports from a number on are told, or there is a reason why they aren't; the handle stays as it is
+abbrev pub ReportsTold : Handle → ℕ → List ℕ → Handle → List ℕ → ℕ → Type 0
+ReportsTold old first before new after told =
+    (new ≡ old) × (r : Result ℕ CallRefusal) × ReportsHandle old first before r after × (told ≡ length_number r)
+
+-- there is no session any more, and whether there was one is told
+abbrev pub Closes : Handle → Handle → ℕ → Type 0
+Closes old new told = (new.session ≡ None) × (told ≡ number_of (is_some old.session))

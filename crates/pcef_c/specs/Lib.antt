@@ -1,0 +1,4 @@
+pub mod Calls
+pub mod Handles
+pub mod Judging
+pub mod Numbers

@@ -1,0 +1,62 @@
+//! What C calls, behind its pointers: each call on a handle, with its answer as a number.
+
+ghost use Rattle.std.specs.Prelude.{◌≡◌, None};
+ghost use Rattle.pcef_c.specs.Calls.{Closes, LineTold, OpenTold, ReportsTold};
+ghost use Rattle.pcef_c.specs.Judging.{JudgesAll};
+
+use crate::judging::{CPacket, CVerdict, judge_all};
+use crate::numbers::{length_number, open_number};
+use pcef_handle::Handle;
+use std::alloc::Global;
+
+/// A handle without a session.
+pub(crate) fn empty(alloc: Global) -> Handle
+    ensures { result.session ≡ None }
+{
+    Handle::new(alloc)
+}
+
+/// Opens a session by the text of a profile: 0, or why there is none.
+pub(crate) fn open(handle: &mut Handle, profile: &[u8]) -> u8
+    ensures { OpenTold handle.old profile.now handle.new result }
+{
+    let opened = handle.open(profile);
+    open_number(opened)
+}
+
+/// Answers a line: how long the answer is, or why there is none.
+pub(crate) fn line(handle: &mut Handle, line: &[u8], answer: &mut [u8]) -> usize
+    ensures { LineTold handle.old line.now answer.old handle.new answer.new result }
+{
+    let told = handle.line(line, answer);
+    length_number(told)
+}
+
+/// Judges packets, and gives how many. The handle stands last, so that the lifetimes before it have the places that they
+/// have in the call from C.
+pub(crate) fn judge(
+    packets: &[CPacket<'_>],
+    verdicts: &mut [CVerdict],
+    handle: &mut Handle,
+) -> usize
+    ensures { JudgesAll handle.old packets.now verdicts.old handle.new verdicts.new result }
+{
+    judge_all(handle, packets, verdicts)
+}
+
+/// Tells the reports from a number on: how long their text is, or why there is none.
+pub(crate) fn reports(handle: &mut Handle, first: u64, answer: &mut [u8]) -> usize
+    ensures { ReportsTold handle.old first answer.old handle.new answer.new result }
+{
+    let told = handle.reports(first, answer);
+    length_number(told)
+}
+
+/// Lets the session go: 1, or 0 where there was none.
+pub(crate) fn close(handle: &mut Handle) -> u8
+    ensures { Closes handle.old handle.new result }
+{
+    let was_open = handle.session.is_some();
+    handle.close();
+    if was_open { 1 } else { 0 }
+}

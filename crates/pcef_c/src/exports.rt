@@ -1,0 +1,92 @@
+//! What C calls: each is one call of a safe function, by a pointer to a handle. `include/pcef.h` says what the caller
+//! owes.
+
+ghost use Rattle.std.specs.Prelude.{◌≡◌, None};
+ghost use Rattle.std.specs.Borrow.{sem};
+ghost use Rattle.pcef_handle.specs.declared.held.Handle.{Handle};
+ghost use Rattle.pcef_c.specs.Calls.{Closes, LineTold, OpenTold, ReportsTold};
+ghost use Rattle.pcef_c.specs.Handles.{lies, room};
+ghost use Rattle.pcef_c.specs.Judging.{JudgesAll};
+
+use crate::calls::{close, empty, judge, line, open, reports};
+use crate::judging::{CPacket, CVerdict};
+use pcef_handle::Handle;
+use std::alloc::Global;
+use std::mem::size_of;
+
+/// How many octets of room a handle needs. They are aligned to 16.
+#[unsafe(no_mangle)]
+pub extern "C" fn pcef_size() -> usize {
+    size_of::<Handle>()
+}
+
+/// Makes the room at an address a handle without a session. Takes no memory.
+#[unsafe(no_mangle)]
+pub unsafe extern "C" fn pcef_room(alloc: Global, at: *mut u8)
+    requires* { sem 𝓛 (room at) }
+    ensures* { ∃ₛ (λ (new : Handle). sem 𝓛 (lies at new) ∗ ⌜ new.session ≡ None ⌝) }
+{
+    std::ptr::write(at as *mut Handle, empty(alloc));
+}
+
+/// Opens a session by the text of a profile (TOML v1.0.0), over the predefined rules that `pcef` has: 0, or why there is
+/// none. A refusal leaves the handle as it was. Takes memory for the session.
+#[unsafe(no_mangle)]
+pub unsafe extern "C" fn pcef_open(at: *mut u8, profile: &[u8]) -> u8
+    ghost old: { Handle }
+    requires* { sem 𝓛 (lies at old) }
+    ensures* { ∃ₛ (λ (new : Handle). sem 𝓛 (lies at new)
+        ∗ ⌜ OpenTold old profile.now new result ⌝) }
+{
+    open(&mut *(at as *mut Handle), profile)
+}
+
+/// Answers a line of a script as `pcef script` does: how long the answer is, of which as much as fits is written, or why
+/// there is none. Takes memory for the answer and for what the session keeps.
+#[unsafe(no_mangle)]
+pub unsafe extern "C" fn pcef_line(at: *mut u8, text: &[u8], answer: &mut [u8]) -> usize
+    ghost old: { Handle }
+    requires* { sem 𝓛 (lies at old) }
+    ensures* { ∃ₛ (λ (new : Handle). sem 𝓛 (lies at new)
+        ∗ ⌜ LineTold old text.now answer.old new answer.new result ⌝) }
+{
+    line(&mut *(at as *mut Handle), text, answer)
+}
+
+/// Judges as many packets as there are verdicts by the newest generation, and gives how many these are. Nothing is
+/// counted, and no row is kept. Takes no memory.
+#[unsafe(no_mangle)]
+pub unsafe extern "C" fn pcef_judge(
+    at: *mut u8,
+    packets: &[CPacket<'_>],
+    verdicts: &mut [CVerdict],
+) -> usize
+    ghost old: { Handle }
+    requires* { sem 𝓛 (lies at old) }
+    ensures* { ∃ₛ (λ (new : Handle). sem 𝓛 (lies at new)
+        ∗ ⌜ JudgesAll old packets.now verdicts.old new verdicts.new result ⌝) }
+{
+    judge(packets, verdicts, &mut *(at as *mut Handle))
+}
+
+/// Tells the reports of the session from a number on: how long their text is, of which as much as fits is written, or
+/// why there is none. Takes memory for the text.
+#[unsafe(no_mangle)]
+pub unsafe extern "C" fn pcef_reports(at: *mut u8, first: u64, answer: &mut [u8]) -> usize
+    ghost old: { Handle }
+    requires* { sem 𝓛 (lies at old) }
+    ensures* { ∃ₛ (λ (new : Handle). sem 𝓛 (lies at new)
+        ∗ ⌜ ReportsTold old first answer.old new answer.new result ⌝) }
+{
+    reports(&mut *(at as *mut Handle), first, answer)
+}
+
+/// Lets the session go, if there is one, and all its memory but the handle's own: 1, or 0 where there was none.
+#[unsafe(no_mangle)]
+pub unsafe extern "C" fn pcef_close(at: *mut u8) -> u8
+    ghost old: { Handle }
+    requires* { sem 𝓛 (lies at old) }
+    ensures* { ∃ₛ (λ (new : Handle). sem 𝓛 (lies at new) ∗ ⌜ Closes old new result ⌝) }
+{
+    close(&mut *(at as *mut Handle))
+}

@@ -1,0 +1,142 @@
+//! Packets as C hands them over, and their verdicts as C is told them.
+
+ghost use Rattle.std.specs.Prelude.{◌≡◌};
+ghost use Rattle.pcef_c.specs.Judging.{AreJudged, IsVerdictOn, bearer_of, dir_of, flag_of, flags_of, place_of, status_of, told_of};
+
+use crate::numbers::packet_number;
+use pcef_handle::{Handle, JudgeRefusal, Judgement};
+use pcef_model::Verdict;
+use pcef_packet::Dir;
+use pcef_rule::Slot;
+
+/// A packet, with its direction.
+#[repr(C)]
+pub struct CPacket<'a> {
+    /// The octets of the packet, from the first octet of its IP header on.
+    pub octets: &'a [u8],
+    /// 0 for a packet to the user equipment, any other number for one from it.
+    pub up: u8,
+}
+
+/// A verdict on a packet, as numbers.
+#[derive(Clone, Copy)]
+#[repr(C)]
+pub struct CVerdict {
+    /// The number of the generation that judged.
+    pub generation: u32,
+    /// What was decided, or why the packet wasn't judged.
+    pub status: u8,
+    /// The bearer on which the packet passes, else 0.
+    pub bearer: u8,
+    /// The place of the rule that decided, else 255.
+    pub place: u8,
+    /// Bit n is up where the packet counts for slot n.
+    pub slots: u8,
+}
+
+fn dir_of(up: u8) -> Dir
+    ensures { result ≡ dir_of up }
+{
+    if up == 0 { Dir::Down } else { Dir::Up }
+}
+
+fn status_of(verdict: &Verdict) -> u8
+    ensures { result ≡ status_of verdict.now }
+{
+    match verdict {
+        Verdict::Passed { .. } => 0,
+        Verdict::Gated { .. } => 1,
+        Verdict::Unmatched => 2,
+        Verdict::Stray => 3,
+    }
+}
+
+fn bearer_of(verdict: &Verdict) -> u8
+    ensures { result ≡ bearer_of verdict.now }
+{
+    match verdict {
+        Verdict::Passed { bearer, .. } => bearer.0,
+        _ => 0,
+    }
+}
+
+fn place_of(place: Option<u8>) -> u8
+    ensures { result ≡ place_of place }
+{
+    match place {
+        Some(place) => place,
+        None => 255,
+    }
+}
+
+/// The flags of slots 0 to 7.
+const FLAGS: [u8; 8] = [1, 2, 4, 8, 16, 32, 64, 128];
+
+fn flag_of(slot: Slot) -> u8
+    ensures { result ≡ flag_of slot.0 }
+{
+    match FLAGS.get(usize::from(slot.0)) {
+        Some(flag) => *flag,
+        None => 0,
+    }
+}
+
+fn flags_of(slots: &[Slot]) -> u8
+    ensures { result ≡ flags_of slots.now 0 }
+{
+    let mut flags = 0u8;
+    for slot in slots {
+        flags |= flag_of(*slot);
+    }
+    flags
+}
+
+/// What is told where a packet wasn't judged.
+fn unjudged(status: u8) -> CVerdict
+    ensures { result ≡ record { generation = 0; status = status; bearer = 0; place = 255; slots = 0 } }
+{
+    CVerdict {
+        generation: 0,
+        status,
+        bearer: 0,
+        place: 255,
+        slots: 0,
+    }
+}
+
+fn told_of(judged: &Result<Judgement, JudgeRefusal>) -> CVerdict
+    ensures { result ≡ told_of judged.now }
+{
+    match judged {
+        Ok(judgement) => CVerdict {
+            generation: judgement.generation,
+            status: status_of(&judgement.verdict),
+            bearer: bearer_of(&judgement.verdict),
+            place: place_of(judgement.place),
+            slots: flags_of(&judgement.slots),
+        },
+        Err(JudgeRefusal::NoSession) => unjudged(4),
+        Err(JudgeRefusal::NoPacket(fault)) => unjudged(packet_number(*fault)),
+    }
+}
+
+fn verdict_on(handle: &Handle, packet: &CPacket<'_>) -> CVerdict
+    ensures { IsVerdictOn handle.now packet.now result }
+{
+    told_of(&handle.judge(dir_of(packet.up), packet.octets))
+}
+
+/// Judges as many packets as there are verdicts, and gives how many these are.
+pub(crate) fn judge_all(
+    handle: &Handle,
+    packets: &[CPacket<'_>],
+    verdicts: &mut [CVerdict],
+) -> usize
+    ensures { AreJudged handle.now packets.now verdicts.old verdicts.new result }
+{
+    let count = packets.len().min(verdicts.len());
+    for place in 0..count {
+        verdicts[place] = verdict_on(handle, &packets[place]);
+    }
+    count
+}

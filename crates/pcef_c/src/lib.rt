@@ -1,0 +1,8 @@
+//! A session behind a handle, for C. The room at a handle is the caller's; what lies there is this library's.
+//! `include/pcef.h` declares these calls, and says what the caller owes.
+#![tactic(auto)]
+
+mod calls;
+mod exports;
+mod judging;
+mod numbers;

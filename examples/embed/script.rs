@@ -1,0 +1,105 @@
+//! Answers the lines of standard input, as `pcef script PROFILE.toml` does, over the library for C.
+//!     script PROFILE.toml < LINES.jsonl
+use std::alloc::{Layout, alloc, dealloc, handle_alloc_error};
+use std::io::{self, BufRead, Write};
+
+mod sys {
+    unsafe extern "C" {
+        pub fn pcef_size() -> usize;
+        pub fn pcef_room(at: *mut u8);
+        pub fn pcef_open(at: *mut u8, profile: *const u8, length: usize) -> u8;
+        pub fn pcef_line(at: *mut u8, line: *const u8, length: usize, answer: *mut u8, room: usize) -> usize;
+        pub fn pcef_judge(
+            at: *mut u8,
+            packets: *const super::Packet,
+            packet_count: usize,
+            verdicts: *mut super::Verdict,
+            verdict_count: usize,
+        ) -> usize;
+        pub fn pcef_close(at: *mut u8) -> u8;
+    }
+}
+
+/// A packet, as the library takes it.
+#[repr(C)]
+pub struct Packet {
+    octets: *const u8,
+    length: usize,
+    up: u8,
+}
+
+/// A verdict, as the library tells it.
+#[repr(C)]
+#[derive(Clone, Copy, Debug, Default)]
+pub struct Verdict {
+    pub generation: u32,
+    pub status: u8,
+    pub bearer: u8,
+    pub place: u8,
+    pub slots: u8,
+}
+
+/// A session, which is closed when it is dropped. It holds a raw pointer, so it is neither `Send` nor `Sync`: it
+/// stays on its thread.
+pub struct Session {
+    at: *mut u8,
+    layout: Layout,
+}
+
+impl Session {
+    /// A session of this profile, or the number of the fault.
+    pub fn open(profile: &str) -> Result<Session, u8> {
+        let layout = Layout::from_size_align(unsafe { sys::pcef_size() }, 16).expect("a layout");
+        // Safe: the size isn't 0. The memory is this session's alone from here on, and is never moved.
+        let at = unsafe { alloc(layout) };
+        if at.is_null() {
+            handle_alloc_error(layout);
+        }
+        unsafe { sys::pcef_room(at) };
+        let session = Session { at, layout };
+        match unsafe { sys::pcef_open(at, profile.as_ptr(), profile.len()) } {
+            0 => Ok(session),
+            fault => Err(fault),
+        }
+    }
+
+    /// The answer to a line, which is empty where none is due; `None` for want of memory or room.
+    pub fn line<'a>(&mut self, line: &[u8], room: &'a mut [u8]) -> Option<&'a [u8]> {
+        let told =
+            unsafe { sys::pcef_line(self.at, line.as_ptr(), line.len(), room.as_mut_ptr(), room.len()) };
+        room.get(..told)
+    }
+
+    /// What the newest generation decides of a packet.
+    pub fn judge(&mut self, up: bool, octets: &[u8]) -> Verdict {
+        let packet = Packet { octets: octets.as_ptr(), length: octets.len(), up: u8::from(up) };
+        let mut verdict = Verdict::default();
+        unsafe { sys::pcef_judge(self.at, &packet, 1, &mut verdict, 1) };
+        verdict
+    }
+}
+
+impl Drop for Session {
+    fn drop(&mut self) {
+        unsafe {
+            sys::pcef_close(self.at);
+            dealloc(self.at, self.layout);
+        }
+    }
+}
+
+fn main() -> io::Result<()> {
+    let path = std::env::args().nth(1).expect("usage: script PROFILE.toml < LINES.jsonl");
+    let mut session = Session::open(&std::fs::read_to_string(path)?).expect("the profile isn't opened");
+    let mut room = vec![0; 1 << 20];
+    let mut out = io::stdout().lock();
+    for line in io::stdin().lock().split(b'\n') {
+        let answer = session.line(&line?, &mut room).expect("no memory, or more than the buffer holds");
+        if !answer.is_empty() {
+            out.write_all(answer)?;
+            out.write_all(b"\n")?;
+        }
+    }
+    eprintln!("{:?}", session.judge(false, &[0x45; 20]));
+    Ok(())
+}
