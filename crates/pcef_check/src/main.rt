@@ -1,0 +1,217 @@
+//! `pcef_check`: tells which lines of a script `pcef script` would answer by a fault or a refusal, and why.
+//!
+//! `pcef_check PROFILE [LINES]` plays the lines on a session of the profile and its own, with the built-in catalog.
+#![tactic(auto)]
+
+mod end;
+mod options;
+mod telling;
+
+ghost use Rattle.std.specs.Prelude.{◌≡◌, ◌≤◌, IfOk};
+ghost use Rattle.pcef_catalog.specs.Shapes.{shape_holds};
+ghost use Rattle.pcef_program.specs.BuiltIn.{dns_shape, expedited_shape, remaining_shape};
+
+use clap::{Error, error};
+use end::End;
+use options::{Options, asked};
+use pcef_catalog::{Catalog, Detect, Predefined};
+use pcef_findings::{FindFault, Finding, find};
+use pcef_model::Profile;
+use pcef_packet::Header;
+use pcef_profile::{ReadProfileFault, explain, read_profile};
+use pcef_program::built_in::{
+    dns_properties, dns_shape, expedited_properties, expedited_shape, is_dns, is_expedited,
+    is_remaining, remaining_properties, remaining_shape,
+};
+use std::alloc::AllocError;
+use std::io::{self, BufWriter, ErrorKind, Read, Write};
+use std::process::ExitCode;
+use std::{env, fs};
+use telling::tell_all;
+
+/// The most bytes of a script.
+const MAX_SCRIPT: usize = 1_073_741_824;
+
+/// Where an error of the system ends the program.
+fn end_of(error: io::Error, other: End) -> End {
+    match error.kind() {
+        ErrorKind::OutOfMemory => End::NoMemory,
+        _ => other,
+    }
+}
+
+/// The bytes of a file, or of standard input.
+fn read(rt: &HostRuntime, path: &str) -> io::Result<Vec<u8>> {
+    if path != "-" {
+        return fs::read(rt, path);
+    }
+    let mut bytes = Vec::new(rt.alloc());
+    rt.stdin().read_to_end(&mut bytes)?;
+    Ok(bytes)
+}
+
+/// Writes what was found in lines.
+fn write(rt: &HostRuntime, file: &str, input: &[u8], findings: &[Finding]) -> io::Result<()> {
+    let mut writer = BufWriter::new(rt.alloc(), io::writer(rt))?;
+    tell_all(rt.alloc(), &mut writer, file, input, findings)?;
+    writer.flush()
+}
+
+/// Finds and tells what is wrong in lines.
+fn check_lines(rt: &HostRuntime, catalog: &Catalog, profile: Profile, file: &str) -> End {
+    let input = match read(rt, file) {
+        Ok(input) => input,
+        Err(error) => return end_of(error, End::Read(error)),
+    };
+    if input.len() > MAX_SCRIPT {
+        let message = "there are more than 1073741824 bytes";
+        return End::Read(io::Error::new(ErrorKind::InvalidData, message));
+    }
+    let findings = match find(rt.alloc(), profile, catalog, &input) {
+        Ok(findings) => findings,
+        Err(_) => return End::NoMemory,
+    };
+    match write(rt, file, &input, &findings) {
+        Ok(()) if findings.is_empty() => End::Clean,
+        Ok(()) => End::Found,
+        Err(error) => end_of(error, End::Write(error)),
+    }
+}
+
+/// Tells the fault of a profile.
+fn tell_profile(
+    rt: &HostRuntime,
+    file: &str,
+    text: &str,
+    fault: ReadProfileFault,
+) -> io::Result<()> {
+    let number = fault.number();
+    let explanation = explain(rt.alloc(), text, fault)?;
+    println!(rt; "{file}: profile fault {number} {explanation}")
+}
+
+/// Finds and tells what is wrong in a profile, and then in lines.
+fn check(rt: &HostRuntime, catalog: &Catalog, options: Options<'_>) -> End {
+    let text = match fs::read_to_string(rt, options.profile) {
+        Ok(text) => text,
+        Err(error) => return end_of(error, End::Read(error)),
+    };
+    let profile = match read_profile(rt.alloc(), text.as_str()) {
+        Ok(profile) => profile,
+        Err(ReadProfileFault::NoMemory) => return End::NoMemory,
+        Err(fault) => {
+            return match tell_profile(rt, options.profile, text.as_str(), fault) {
+                Ok(()) => End::Found,
+                Err(error) => end_of(error, End::Write(error)),
+            };
+        }
+    };
+    match options.lines {
+        Some(lines) => check_lines(rt, catalog, profile, lines),
+        None => End::Clean,
+    }
+}
+
+/// Tells why the program ends early, and gives its exit status. That it can't be told changes nothing.
+fn told(rt: &HostRuntime, end: &End) -> u8
+    ensures { result ≤ 4 }
+{
+    match end {
+        End::Clean | End::Found => {}
+        End::NoMemory => {
+            let _ = eprintln!(rt; "want of memory");
+        }
+        End::Read(error) => {
+            let _ = eprintln!(rt; "read fault\n{error}");
+        }
+        End::Write(error) => {
+            let _ = eprintln!(rt; "write fault\nStandard output: {error}");
+        }
+    }
+    end.status()
+}
+
+/// The exit status of wrong arguments, of want of memory, or of a question for help or for the version.
+fn told_by(rt: &HostRuntime, error: &Error) -> u8
+    ensures { result ≤ 4 }
+{
+    if error.kind() == error::ErrorKind::OutOfMemory {
+        return told(rt, &End::NoMemory);
+    }
+    match error.print(rt) {
+        Ok(()) if error.use_stderr() => 2,
+        Ok(()) => 0,
+        Err(_) => 4,
+    }
+}
+
+/// The arguments, the program's name before them.
+fn words(rt: &HostRuntime) -> io::Result<Vec<String>> {
+    let mut words = Vec::new(rt.alloc());
+    for word in env::args(rt)? {
+        words.push(word)?;
+    }
+    Ok(words)
+}
+
+/// Does what the arguments ask for, and gives the exit status.
+fn status_with(rt: &HostRuntime, catalog: &Catalog) -> u8
+    ensures { result ≤ 4 }
+{
+    let words = match words(rt) {
+        Ok(words) => words,
+        Err(error) if error.kind() == ErrorKind::InvalidData => {
+            let _ = eprintln!(rt; "usage: an argument isn't UTF-8");
+            return 2;
+        }
+        Err(_) => return told(rt, &End::NoMemory),
+    };
+    match asked(rt.alloc(), words.as_slice()) {
+        Ok(Some(options)) => told(rt, &check(rt, catalog, options)),
+        Ok(None) => {
+            let _ = eprintln!(rt; "usage: an option has no value");
+            2
+        }
+        Err(error) => told_by(rt, &error),
+    }
+}
+
+/// Makes the built-in catalog, and does what the arguments ask for.
+fn run(rt: &HostRuntime) -> Result<u8, AllocError>
+    ensures { IfOk result (λ status. status ≤ 4) }
+{
+    let alloc = rt.alloc();
+    let dns: Detect = Box::new(
+        alloc,
+        |header: &Header| -> bool
+            ensures { result ≡ shape_holds dns_shape header.now }
+        { is_dns(header) },
+    )?;
+    let expedited: Detect = Box::new(
+        alloc,
+        |header: &Header| -> bool
+            ensures { result ≡ shape_holds expedited_shape header.now }
+        { is_expedited(header) },
+    )?;
+    let remaining: Detect = Box::new(
+        alloc,
+        |header: &Header| -> bool
+            ensures { result ≡ shape_holds remaining_shape header.now }
+        { is_remaining(header) },
+    )?;
+    let mut rules = Vec::with_capacity(alloc, 3)?;
+    rules.push(Predefined::new(dns_properties(), dns_shape(), dns))?;
+    rules.push(Predefined::new(expedited_properties(), expedited_shape(), expedited))?;
+    rules.push(Predefined::new(remaining_properties(), remaining_shape(), remaining))?;
+    match Catalog::new(alloc, rules) {
+        Ok(catalog) => Ok(status_with(rt, &catalog)),
+        Err(_) => Err(AllocError),
+    }
+}
+
+fn main(rt: HostRuntime) -> ExitCode {
+    ExitCode::from(match run(&rt) {
+        Ok(status) => status,
+        Err(_) => told(&rt, &End::NoMemory),
+    })
+}

@@ -1,0 +1,43 @@
+//! What the program is asked for.
+
+use clap::{Arg, ArgAction, Command, Error};
+use std::alloc::Global;
+
+/// What the program is asked for.
+#[derive(Clone, Copy)]
+pub(crate) struct Options<'a> {
+    /// The path of the profile.
+    pub profile: &'a str,
+    /// The path of the lines, or `-` for standard input, where they are to be checked too.
+    pub lines: Option<&'a str>,
+}
+
+/// What the words ask for, of which the first is the program's name. Wrong words are clap's error, and so are the
+/// questions for help and for the version; want of memory too. Takes memory.
+pub(crate) fn asked<'a>(alloc: Global, words: &'a [String]) -> Result<Option<Options<'a>>, Error> {
+    let profile = Arg::new(alloc, "profile")
+        .value_name("PROFILE")
+        .required(true)
+        .action(ArgAction::Set)
+        .help("The profile of the session, as of pcef script");
+    let lines = Arg::new(alloc, "lines")
+        .value_name("LINES")
+        .action(ArgAction::Set)
+        .help(
+            "The lines of a script, or - for standard input; without it only the profile is checked",
+        );
+    let command = Command::new(alloc, "pcef_check")
+        .about(
+            "Tells each line of a script of pcef that is answered by a fault or a refusal, and why",
+        )
+        .arg(profile)?
+        .arg(lines)?;
+    let matches = command.try_get_matches_from(words)?;
+    let Some(profile) = matches.get_str("profile") else {
+        return Ok(None);
+    };
+    Ok(Some(Options {
+        profile,
+        lines: matches.get_str("lines"),
+    }))
+}

@@ -1,0 +1,221 @@
+//! Says why a line can't be read.
+
+ghost use Rattle.std.specs.Prelude.{◌≡◌, ◌+◌, IfOk, Some, length, string_bytes};
+ghost use Rattle.pcef_explain.specs.Plain.{IsPlain};
+ghost use Rattle.pcef_line.specs.declared.fault.LineFault.TheVariants.{LineTooLong};
+
+use crate::column::column_of;
+use crate::filters::filter_told;
+use crate::parts::{field_in, field_told, unknown_told, word_told};
+use crate::place::Place;
+use crate::plain::plain;
+use crate::told::Told;
+use crate::wanted::Shown;
+use pcef_line::{Field, LineFault};
+use serde_json::{Error, Value};
+use std::alloc::{AllocError, Global};
+use std::str;
+
+/// The most bytes of a line.
+const MAX_LINE: usize = 262_144;
+
+/// What a person needs to know of a line at fault.
+#[derive(Drop)]
+pub struct Explanation {
+    /// The column of the line in which the fault is, from 1 and counted in octets, where it is known.
+    pub column: Option<usize>,
+    /// The place, what was found there and what is expected: printable ASCII, on one line.
+    pub text: String,
+}
+
+/// What the reader of JSON says, up to the place.
+fn without_place(message: &str) -> &str {
+    match message.split_once(" at line ") {
+        Some((front, _)) => front,
+        None => message,
+    }
+}
+
+/// What is told of a text that isn't JSON.
+fn not_json(alloc: Global, error: &Error) -> Result<Explanation, AllocError> {
+    let message = format!(in alloc; "{error}")?;
+    let message = without_place(message.as_str());
+    Ok(Explanation {
+        column: Some(error.column()),
+        text: format!(in alloc; "{message}: a JSON object is expected")?,
+    })
+}
+
+/// How many octets a text spells in hexadecimal.
+fn octets_in(found: Option<&Value>) -> usize {
+    match found.and_then(Value::as_str) {
+        Some(text) => text.len() / 2,
+        None => 0,
+    }
+}
+
+/// What is told of a text that isn't hexadecimal.
+fn hex_told(alloc: Global, place: Place<'static>, text: &str) -> Result<Told<'static>, AllocError> {
+    let number = text
+        .chars()
+        .position(|character| !character.is_ascii_hexdigit());
+    let text = match number {
+        Some(number) => {
+            let number = number.saturating_add(1);
+            format!(in alloc; "{place}: character {number} is no hexadecimal digit")?
+        }
+        None => {
+            let count = text.len();
+            format!(in alloc;
+                "{place}: an even number of digits is expected, and there are {count}"
+            )?
+        }
+    };
+    Ok(Told {
+        place: Some(place),
+        text,
+    })
+}
+
+/// What is told of a text that is no name.
+fn name_told(
+    alloc: Global,
+    place: Place<'static>,
+    found: &Value,
+) -> Result<Told<'static>, AllocError> {
+    let shown = Shown(found);
+    Ok(Told {
+        place: Some(place),
+        text: format!(in alloc;
+            "{place} is {shown}: 1 to 64 characters of ASCII without blanks are expected"
+        )?,
+    })
+}
+
+/// What is told of a rule with no filters or too many.
+fn rule_told(alloc: Global, line: &Value) -> Result<Told<'static>, AllocError> {
+    let (place, found) = field_in(line, Field::Filters);
+    let count = match found.and_then(Value::as_array) {
+        Some(filters) => filters.len(),
+        None => 0,
+    };
+    Ok(Told {
+        place: Some(place),
+        text: format!(in alloc; "{place} has {count} filters: 1 to 16 are expected")?,
+    })
+}
+
+/// What is told of a field's value that is of its kind, and still wrong.
+fn value_told(
+    alloc: Global,
+    line: &Value,
+    field: Field,
+    fault: LineFault,
+) -> Result<Told<'static>, AllocError> {
+    let (place, found) = field_in(line, field);
+    match (fault, found) {
+        (LineFault::BadName(_), Some(found)) => name_told(alloc, place, found),
+        (LineFault::BadHex(_), Some(Value::String(text))) => {
+            hex_told(alloc, place, text.as_str())
+        }
+        (LineFault::BadPacket(_, inner), _) => {
+            let count = octets_in(found);
+            Ok(Told {
+                place: Some(place),
+                text: format!(in alloc; "{place} has {count} octets: {inner}")?,
+            })
+        }
+        (LineFault::BadFilter(_, inner), _) => filter_told(alloc, found, inner),
+        (LineFault::BadRule(_, _), _) => rule_told(alloc, line),
+        _ => field_told(alloc, line, field),
+    }
+}
+
+fn object_told(alloc: Global, line: &Value) -> Result<Told<'static>, AllocError> {
+    let shown = Shown(line);
+    Ok(Told {
+        place: None,
+        text: format!(in alloc; "the line is {shown}: an object is expected")?,
+    })
+}
+
+/// What is told of a line that is JSON.
+fn told<'a>(alloc: Global, line: &'a Value, fault: LineFault) -> Result<Told<'a>, AllocError> {
+    match fault.field() {
+        Some(field) => value_told(alloc, line, field, fault),
+        None => match fault {
+            LineFault::UnknownDo => word_told(alloc, line),
+            LineFault::UnknownField => unknown_told(alloc, line),
+            _ => object_told(alloc, line),
+        },
+    }
+}
+
+fn of_value(
+    alloc: Global,
+    text: &str,
+    line: &Value,
+    fault: LineFault,
+) -> Result<Explanation, AllocError> {
+    let told = told(alloc, line, fault)?;
+    let column = match told.place {
+        Some(place) => column_of(alloc, text, place)?,
+        None => None,
+    };
+    Ok(Explanation {
+        column,
+        text: told.text,
+    })
+}
+
+fn of_text(alloc: Global, text: &str, fault: LineFault) -> Result<Explanation, AllocError> {
+    match Value::from_str(alloc, text) {
+        Ok(line) => of_value(alloc, text, &line, fault),
+        Err(error) if error.is_memory() => Err(AllocError),
+        Err(error) => not_json(alloc, &error),
+    }
+}
+
+/// The explanation as it is found, with all that stands in the line.
+fn found(alloc: Global, line: &[u8], fault: LineFault) -> Result<Explanation, AllocError> {
+    match str::from_utf8(line) {
+        Ok(text) => of_text(alloc, text, fault),
+        Err(error) => {
+            let octet = match line.get(error.valid_up_to()) {
+                Some(octet) => *octet,
+                None => 0,
+            };
+            Ok(Explanation {
+                column: Some(error.valid_up_to().saturating_add(1)),
+                text: format!(in alloc; "the octet {octet:#04x} stands where UTF-8 is expected")?,
+            })
+        }
+    }
+}
+
+fn too_long(alloc: Global, line: &[u8]) -> Result<Explanation, AllocError>
+    ensures { IfOk result (λ e. e.column ≡ Some (MAX_LINE + 1)) }
+{
+    let count = line.len();
+    Ok(Explanation {
+        column: Some(MAX_LINE + 1),
+        text: format!(in alloc; "the line has {count} octets: {MAX_LINE} at most are expected")?,
+    })
+}
+
+/// Says why a line has a fault: the column, the place as in `rule.filters[0].text`, what was found there and what is
+/// expected, and of an unknown word the nearest one. The text is for people: it may change. Takes memory for it, and for
+/// the line as JSON.
+pub fn explain(alloc: Global, line: &[u8], fault: LineFault) -> Result<Explanation, AllocError>
+    ensures plain { IfOk result (λ e. IsPlain (string_bytes e.text)) }
+    ensures long { fault ≡ LineTooLong → IfOk result (λ e. e.column ≡ Some 262145) }
+{
+    let found = match fault {
+        LineFault::LineTooLong => too_long(alloc, line)?,
+        _ => found(alloc, line, fault)?,
+    };
+    Ok(Explanation {
+        column: found.column,
+        text: plain(alloc, found.text.as_str())?,
+    })
+}

@@ -1,0 +1,4 @@
+pub mod Findings
+pub mod FirstLines
+pub mod LineDues
+pub mod LinesPlayed

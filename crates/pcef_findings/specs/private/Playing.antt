@@ -1,0 +1,44 @@
+-- What a world answers to a line that it plays: for private clauses.
+use Rattle.std.specs.Prelude.{ℕ, ◌≡◌, ◌++◌, List, Option, Ok, string_bytes}
+use Rattle.pcef_model.specs.Journals.{gen}
+use Rattle.pcef_model.specs.declared.step.Step.{Step}
+use Rattle.pcef_line.specs.declared.line.Line.{Line}
+use Rattle.pcef_line.specs.declared.line.Line.TheVariants as line
+use Rattle.pcef_line.specs.declared.fault.LineFault.{LineFault}
+use Rattle.pcef_answer.specs.FaultAnswers.{fault_text}
+use Rattle.pcef_answer.specs.StepAnswers.{step_text}
+use Rattle.pcef_world.specs.Steps.{Standing, reply_of, standing_of}
+use Rattle.pcef_world.specs.Worlds.{World}
+use Rattle.pcef_world.specs.declared.answer.StepAnswer.{StepAnswer}
+use Rattle.pcef_findings.specs.Findings.{Finds, FindsDue, FindsLine, Tells, as_list, found_in}
+use Rattle.pcef_findings.specs.declared.finding.Finding.{Finding}
+use Rattle.pcef_findings.specs.declared.finding.Found.TheVariants as found
+
+-- a fault is told
+abbrev pub IsOfFault : ℕ → LineFault → Finding → Type 0
+IsOfFault number f x = (x.line ≡ number) × (x.found ≡ found.Fault f) × (string_bytes x.answer ≡ fault_text f)
+
+-- an answer is told where it refuses
+abbrev pub TellsAnswer : World → ℕ → StepAnswer → Option Finding → Type 0
+TellsAnswer w number a told =
+    Tells number (found_in (reply_of a)) (step_text w.session.journal (gen w.session.journal) (reply_of a)) told
+
+-- a world does what a line asks for
+abbrev pub PlaysLine : World → ℕ → Line → Option Finding → World → Type 0
+PlaysLine before number l told after = FindsDue before.session.setting (standing_of before) number (Ok l) told (standing_of after)
+
+abbrev pub PlaysStep : World → ℕ → Step → Option Finding → World → Type 0
+PlaysStep before number s told after = PlaysLine before number (line.Step s) told after
+
+-- a world does what the bytes of a line ask for
+abbrev pub PlaysBytes : World → ℕ → List ℕ → Option Finding → World → Type 0
+PlaysBytes before number bytes told after = FindsLine before.session.setting (standing_of before) number bytes told (standing_of after)
+
+-- and what is found is told beside what was told before
+abbrev pub AddsLine : World → ℕ → List ℕ → List Finding → List Finding → World → Type 0
+AddsLine before number bytes old new after =
+    (told : Option Finding) × PlaysBytes before number bytes told after × (new ≡ old ++ as_list told)
+
+-- lines one after the other
+abbrev pub PlaysLines : World → List (List ℕ) → List Finding → Type 0
+PlaysLines before lines told = (after : Standing) × Finds before.session.setting (standing_of before) 1 lines told after
