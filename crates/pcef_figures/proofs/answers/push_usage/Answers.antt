@@ -1,0 +1,17 @@
+use Rattle.std.proofs.Common.{◌∙◌, ◌++◌, ap, arith, sym}
+use Rattle.std.proofs.lemmas.List.{take_all}
+use Rattle.std.specs.Prelude.{map}
+use Rattle.std.specs.List.{flat_map}
+use Rattle.serde_json.specs.View.{view}
+use Rattle.pcef_figures.specs.Usages.{told_in, told_in_all, told_of}
+use Rattle.pcef_figures.proofs.UsageLists.{told_flat}
+use Rattle.pcef_figures.proofs.answers.push_usage.Goals as goal
+
+pub returns : goal.returns
+returns c =
+    let list = c.list_at-report-items in
+    let reports = list.result.now in
+    c.loop-report.invariant
+    ∙ ap (λ t. map told_of c.args.usage.now.items ++ t)
+    (ap (λ xs. flat_map told_in (map view xs)) (take_all c.loop-report.report-index reports (omega (arith, c.loop-report-test.false)))
+    ∙ sym (told_flat (map view reports)) ∙ ap told_in_all list.ensures)

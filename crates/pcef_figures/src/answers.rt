@@ -1,0 +1,150 @@
+//! What the answer to a line tells.
+
+ghost use Rattle.std.specs.Prelude.{◌≡◌, ◌++◌, OnOk, map};
+ghost use Rattle.serde_json.specs.View.{view};
+ghost use Rattle.pcef_figures.specs.Usages.{told_in, told_of, usage_in};
+
+use crate::figures::{Grant, Handed, Judged, KeyState, Refused, Usage, Verdict};
+use crate::values::{list_at, number_at, owned, text_at};
+use serde_json::Value;
+use std::alloc::{AllocError, Global};
+
+/// A refusal or a fault, if the answer is one.
+pub(crate) fn refused_in(
+    alloc: Global,
+    line: u64,
+    answer: &Value,
+) -> Result<Option<Refused>, AllocError> {
+    let fault = number_at(answer, "fault");
+    let Some(number) = fault.or(number_at(answer, "refused")) else {
+        return Ok(None);
+    };
+    Ok(Some(Refused {
+        line,
+        name: owned(alloc, text_at(answer, "name"))?,
+        number,
+        is_fault: fault.is_some(),
+    }))
+}
+
+/// Adds a report, if it is one of usage.
+fn push_report(
+    alloc: Global,
+    usage: &mut Vec<Usage>,
+    line: u64,
+    report: &Value,
+) -> Result<(), AllocError>
+    ensures { OnOk result (map told_of usage.new.items
+        ≡ map told_of usage.old.items ++ told_in (view report.now)) }
+{
+    let (Some(key), Some(octets)) = (text_at(report, "key"), number_at(report, "octets")) else {
+        return Ok(());
+    };
+    let key = String::from_str(alloc, key)?;
+    let cause = owned(alloc, text_at(report, "cause"))?;
+    usage.push(Usage {
+        line,
+        key,
+        cause,
+        octets,
+    })?;
+    Ok(())
+}
+
+/// Adds the reports of usage that an answer has.
+pub(crate) fn push_usage(
+    alloc: Global,
+    usage: &mut Vec<Usage>,
+    line: u64,
+    answer: &Value,
+) -> Result<(), AllocError>
+    ensures { OnOk result (map told_of usage.new.items
+        ≡ map told_of usage.old.items ++ usage_in (view answer.now)) }
+{
+    for report in list_at(answer, "reports") {
+        push_report(alloc, usage, line, report)?;
+    }
+    Ok(())
+}
+
+/// Adds the grant of a `monitor` line.
+pub(crate) fn push_grant(
+    alloc: Global,
+    grants: &mut Vec<Grant>,
+    number: u64,
+    line: &Value,
+) -> Result<(), AllocError> {
+    if let (Some("monitor"), Some(key), Some(octets)) = (
+        text_at(line, "do"),
+        text_at(line, "key"),
+        number_at(line, "grant"),
+    ) {
+        grants.push(Grant {
+            line: number,
+            key: String::from_str(alloc, key)?,
+            octets,
+        })?;
+    }
+    Ok(())
+}
+
+/// The keys of an answer to `show`.
+pub(crate) fn keys_in(alloc: Global, answer: &Value) -> Result<Vec<KeyState>, AllocError> {
+    let mut keys = Vec::new(alloc);
+    for key in list_at(answer, "keys") {
+        keys.push(KeyState {
+            key: owned(alloc, text_at(key, "key"))?,
+            is_on: key.get("on").and_then(Value::as_bool) == Some(true),
+            reported: number_at(key, "reported").unwrap_or(0),
+            unreported: number_at(key, "unreported").unwrap_or(0),
+        })?;
+    }
+    Ok(keys)
+}
+
+/// Takes the first packet of a worker out of those that wait.
+fn take_waiting(waiting: &mut Vec<Handed>, worker: u64) -> Option<Handed> {
+    let place = waiting.iter().position(|packet| packet.worker == worker)?;
+    Some(waiting.remove(place))
+}
+
+/// A packet with a verdict, if the answer has one there.
+fn judged(
+    alloc: Global,
+    packet: Handed,
+    answered: u64,
+    told: &Value,
+) -> Result<Option<Judged>, AllocError> {
+    let Some(verdict) = text_at(told, "verdict").and_then(Verdict::from_text) else {
+        return Ok(None);
+    };
+    Ok(Some(Judged {
+        packet,
+        answered,
+        generation: number_at(told, "generation").unwrap_or(0),
+        verdict,
+        rule: owned(alloc, text_at(told, "rule"))?,
+        bearer: number_at(told, "bearer"),
+    }))
+}
+
+/// Adds the verdicts of an answer on the packets of a worker that wait, and tells whether there was a packet for each.
+pub(crate) fn push_judged(
+    alloc: Global,
+    all: &mut Vec<Judged>,
+    waiting: &mut Vec<Handed>,
+    worker: u64,
+    line: u64,
+    answer: &Value,
+) -> Result<bool, AllocError> {
+    for told in list_at(answer, "verdicts") {
+        let Some(packet) = take_waiting(waiting, worker) else {
+            return Ok(false);
+        };
+        match judged(alloc, packet, line, told)? {
+            Some(judged) => all.push(judged)?,
+            None => return Ok(false),
+        }
+    }
+    Ok(true)
+}

@@ -1,0 +1,14 @@
+//! What a script and its answers tell of a session: verdicts, octets of keys, guaranteed rates, refusals.
+#![tactic(auto)]
+
+mod answers;
+mod collecting;
+mod figures;
+mod lines;
+mod rates;
+mod sums;
+mod values;
+
+pub use collecting::{CollectFault, Collected, collect};
+pub use figures::{Figures, Grant, Handed, Judged, KeyState, Rates, Refused, Usage, Verdict};
+pub use sums::{octets_judged, octets_of};

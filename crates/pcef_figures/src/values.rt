@@ -1,0 +1,40 @@
+//! Members of JSON objects.
+
+ghost use Rattle.std.specs.Prelude.{◌≡◌, option_map};
+ghost use Rattle.serde_json.specs.View.{items_view, view};
+ghost use Rattle.pcef_figures.specs.Usages.{list_in, number_in, text_in};
+
+use serde_json::Value;
+use std::alloc::{AllocError, Global};
+
+/// A member's text.
+pub(crate) fn text_at<'a>(object: &'a Value, key: &str) -> Option<&'a str>
+    ensures { option_map (λ t. t.now) result ≡ text_in key.now (view object.now) }
+{
+    object.get(key).and_then(Value::as_str)
+}
+
+/// A member's whole number.
+pub(crate) fn number_at(object: &Value, key: &str) -> Option<u64>
+    ensures { result ≡ number_in key.now (view object.now) }
+{
+    object.get(key).and_then(Value::as_u64)
+}
+
+/// A member's list.
+pub(crate) fn list_at<'a>(object: &'a Value, key: &str) -> &'a [Value]
+    ensures { items_view result.now ≡ list_in key.now (view object.now) }
+{
+    match object.get(key).and_then(Value::as_array) {
+        Some(list) => list.as_slice(),
+        None => &[],
+    }
+}
+
+/// A text of its own, empty where there is none.
+pub(crate) fn owned(alloc: Global, text: Option<&str>) -> Result<String, AllocError> {
+    match text {
+        Some(text) => String::from_str(alloc, text),
+        None => Ok(String::new(alloc)),
+    }
+}

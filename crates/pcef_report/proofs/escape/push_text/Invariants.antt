@@ -1,0 +1,6 @@
+use Rattle.std.proofs.Common.{◌≡◌, ◌++◌, string_bytes, take}
+use Rattle.pcef_report.specs.Escaping.{escaped}
+use Rattle.pcef_report.proofs.escape.push_text.Given as goal
+
+abbrev pub invariant-loop-octet : goal.invariant-loop-octet
+invariant-loop-octet l = string_bytes l.page ≡ string_bytes l.fn.page ++ escaped (take l.octet-index l.octet-items)

@@ -1,0 +1,164 @@
+//! `pcef_report`: shows what a script of `pcef` and its answers tell of a session.
+//!
+//! `pcef_report [--format html|csv|openmetrics] LINES ANSWERS` writes a page of HTML in one file, a record of CSV for each
+//! packet with a verdict, or OpenMetrics text.
+#![tactic(auto)]
+
+mod chart;
+mod end;
+mod escape;
+mod keys;
+mod metrics;
+mod options;
+mod page;
+mod rates;
+mod table;
+
+ghost use Rattle.std.specs.Prelude.{◌≤◌};
+
+use clap::{Error, error};
+use end::End;
+use metrics::metrics_text;
+use options::{Format, Options, asked};
+use page::html_page;
+use pcef_figures::{CollectFault, Figures, collect};
+use std::io::{self, BufWriter, ErrorKind, Write};
+use std::process::ExitCode;
+use std::{env, fs};
+use table::write_table;
+
+/// Where an error of the system ends the program.
+fn end_of(error: io::Error, other: End) -> End {
+    match error.kind() {
+        ErrorKind::OutOfMemory => End::NoMemory,
+        _ => other,
+    }
+}
+
+/// Writes the table of verdicts.
+fn write_csv(rt: &HostRuntime, figures: &Figures) -> io::Result<()> {
+    let writer = BufWriter::new(rt.alloc(), io::writer(rt))?;
+    match write_table(writer, figures) {
+        Ok(()) => Ok(()),
+        Err(error) => Err(match error.into_kind() {
+            csv::ErrorKind::Io(error) => error,
+            _ => ErrorKind::OutOfMemory.into(),
+        }),
+    }
+}
+
+/// Writes a text.
+fn write_text(rt: &HostRuntime, text: &str) -> io::Result<()> {
+    let mut writer = BufWriter::new(rt.alloc(), io::writer(rt))?;
+    writer.write_all(text.as_bytes())?;
+    writer.flush()
+}
+
+/// Writes the figures.
+fn write(rt: &HostRuntime, format: Format, figures: &Figures) -> io::Result<()> {
+    match format {
+        Format::Html => write_text(rt, html_page(rt.alloc(), figures)?.as_str()),
+        Format::Csv => write_csv(rt, figures),
+        Format::OpenMetrics => write_text(rt, metrics_text(rt.alloc(), figures)?.as_str()),
+    }
+}
+
+/// Collects what the files tell.
+fn read(rt: &HostRuntime, options: Options<'_>) -> Result<Figures, End> {
+    let lines = match fs::read(rt, options.lines) {
+        Ok(lines) => lines,
+        Err(error) => return Err(end_of(error, End::Read(error))),
+    };
+    let answers = match fs::read(rt, options.answers) {
+        Ok(answers) => answers,
+        Err(error) => return Err(end_of(error, End::Read(error))),
+    };
+    match collect(rt.alloc(), &lines, &answers) {
+        Ok(figures) => Ok(figures),
+        Err(CollectFault::NoMemory) => Err(End::NoMemory),
+        Err(fault) => Err(End::Apart(fault)),
+    }
+}
+
+/// Shows what the files tell.
+fn report(rt: &HostRuntime, options: Options<'_>) -> End {
+    let figures = match read(rt, options) {
+        Ok(figures) => figures,
+        Err(end) => return end,
+    };
+    match write(rt, options.format, &figures) {
+        Ok(()) => End::Done,
+        Err(error) => end_of(error, End::Write(error)),
+    }
+}
+
+/// Tells why the program ends early, and gives its exit status. That it can't be told changes nothing.
+fn told(rt: &HostRuntime, end: &End) -> u8
+    ensures { result ≤ 4 }
+{
+    match end {
+        End::Done => {}
+        End::Apart(fault) => {
+            let _ = eprintln!(rt; "{fault}");
+        }
+        End::NoMemory => {
+            let _ = eprintln!(rt; "want of memory");
+        }
+        End::Read(error) => {
+            let _ = eprintln!(rt; "read fault\n{error}");
+        }
+        End::Write(error) => {
+            let _ = eprintln!(rt; "write fault\nStandard output: {error}");
+        }
+    }
+    end.status()
+}
+
+/// The exit status of wrong arguments, of want of memory, or of a question for help or for the version.
+fn told_by(rt: &HostRuntime, error: &Error) -> u8
+    ensures { result ≤ 4 }
+{
+    if error.kind() == error::ErrorKind::OutOfMemory {
+        return told(rt, &End::NoMemory);
+    }
+    match error.print(rt) {
+        Ok(()) if error.use_stderr() => 2,
+        Ok(()) => 0,
+        Err(_) => 4,
+    }
+}
+
+/// The arguments, the program's name before them.
+fn words(rt: &HostRuntime) -> io::Result<Vec<String>> {
+    let mut words = Vec::new(rt.alloc());
+    for word in env::args(rt)? {
+        words.push(word)?;
+    }
+    Ok(words)
+}
+
+/// Does what the arguments ask for, and gives the exit status.
+fn status(rt: &HostRuntime) -> u8
+    ensures { result ≤ 4 }
+{
+    let words = match words(rt) {
+        Ok(words) => words,
+        Err(error) if error.kind() == ErrorKind::InvalidData => {
+            let _ = eprintln!(rt; "usage: an argument isn't UTF-8");
+            return 2;
+        }
+        Err(_) => return told(rt, &End::NoMemory),
+    };
+    match asked(rt.alloc(), words.as_slice()) {
+        Ok(Some(options)) => told(rt, &report(rt, options)),
+        Ok(None) => {
+            let _ = eprintln!(rt; "usage: --format: html, csv or openmetrics is expected");
+            2
+        }
+        Err(error) => told_by(rt, &error),
+    }
+}
+
+fn main(rt: HostRuntime) -> ExitCode {
+    ExitCode::from(status(&rt))
+}

@@ -1,0 +1,79 @@
+//! What the program is asked for.
+
+use clap::{Arg, ArgAction, Command, Error};
+use std::alloc::Global;
+
+/// What is written.
+#[derive(Clone, Copy, PartialEq, Eq)]
+pub(crate) enum Format {
+    /// A page of HTML.
+    Html,
+    /// A record of CSV for each packet with a verdict.
+    Csv,
+    /// OpenMetrics text.
+    OpenMetrics,
+}
+
+/// What the program is asked for.
+#[derive(Clone, Copy)]
+pub(crate) struct Options<'a> {
+    /// What is written.
+    pub format: Format,
+    /// The path of the script.
+    pub lines: &'a str,
+    /// The path of its answers.
+    pub answers: &'a str,
+}
+
+fn format_of(text: &str) -> Option<Format> {
+    match text {
+        "html" => Some(Format::Html),
+        "csv" => Some(Format::Csv),
+        "openmetrics" => Some(Format::OpenMetrics),
+        _ => None,
+    }
+}
+
+/// The command line.
+fn command<'a>(alloc: Global) -> Result<Command<'a>, Error> {
+    let format = Arg::new(alloc, "format")
+        .long("format")
+        .value_name("FORMAT")
+        .action(ArgAction::Set)
+        .default_value("html")
+        .help("html: a page with pictures; csv: a record for each packet; openmetrics: counters");
+    let lines = Arg::new(alloc, "lines")
+        .value_name("LINES")
+        .required(true)
+        .action(ArgAction::Set)
+        .help("The lines of a script of pcef");
+    let answers = Arg::new(alloc, "answers")
+        .value_name("ANSWERS")
+        .required(true)
+        .action(ArgAction::Set)
+        .help("The answers of pcef script to them");
+    let command = Command::new(alloc, "pcef_report")
+        .about("Shows what a script of pcef and its answers tell of a session")
+        .arg(format)?
+        .arg(lines)?
+        .arg(answers)?;
+    Ok(command)
+}
+
+/// What the words ask for, of which the first is the program's name, or none where the format is none. Other wrong words
+/// are clap's error, and so are the questions for help and for the version; want of memory too. Takes memory.
+pub(crate) fn asked<'a>(alloc: Global, words: &'a [String]) -> Result<Option<Options<'a>>, Error> {
+    let matches = command(alloc)?.try_get_matches_from(words)?;
+    let (Some(format), Some(lines), Some(answers)) = (
+        matches.get_str("format").and_then(format_of),
+        matches.get_str("lines"),
+        matches.get_str("answers"),
+    ) else {
+        return Ok(None);
+    };
+    Ok(Some(Options {
+        format,
+        lines,
+        answers,
+    }))
+}
