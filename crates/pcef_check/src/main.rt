@@ -9,20 +9,20 @@ mod telling;
 
 ghost use Rattle.std.specs.Prelude.{◌≡◌, ◌≤◌, IfOk};
 ghost use Rattle.pcef_catalog.specs.Shapes.{shape_holds};
-ghost use Rattle.pcef_program.specs.BuiltIn.{dns_shape, expedited_shape, remaining_shape};
+ghost use Rattle.pcef_built_in.specs.BuiltIn.{dns_shape, expedited_shape, remaining_shape};
 
 use clap::{Error, error};
 use end::End;
 use options::{Options, asked};
+use pcef_built_in::{
+    dns_properties, dns_shape, expedited_properties, expedited_shape, is_dns, is_expedited,
+    is_remaining, remaining_properties, remaining_shape,
+};
 use pcef_catalog::{Catalog, Detect, Predefined};
 use pcef_findings::{FindFault, Finding, find};
 use pcef_model::Profile;
 use pcef_packet::Header;
 use pcef_profile::{ReadProfileFault, explain, read_profile};
-use pcef_program::built_in::{
-    dns_properties, dns_shape, expedited_properties, expedited_shape, is_dns, is_expedited,
-    is_remaining, remaining_properties, remaining_shape,
-};
 use std::alloc::AllocError;
 use std::io::{self, BufWriter, ErrorKind, Read, Write};
 use std::process::ExitCode;
