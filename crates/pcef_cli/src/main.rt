@@ -10,12 +10,12 @@ ghost use Rattle.pcef_catalog.specs.Shapes.{shape_holds};
 ghost use Rattle.pcef_built_in.specs.BuiltIn.{built_in_offers, dns_shape, expedited_shape, remaining_shape};
 
 use arguments::{profiles_of, words};
-use pcef_catalog::{Catalog, Detect, Predefined};
-use pcef_packet::Header;
 use pcef_built_in::{
     dns_properties, dns_shape, expedited_properties, expedited_shape, is_dns, is_expedited,
     is_remaining, remaining_properties, remaining_shape,
 };
+use pcef_catalog::{Catalog, Detect, Predefined};
+use pcef_packet::Header;
 use pcef_program::program::program;
 use pcef_run::{Storing, Taken};
 use pcef_trigger::{Outlet, ReportKind, Reporter};

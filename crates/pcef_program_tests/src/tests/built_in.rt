@@ -5,12 +5,12 @@ ghost use Rattle.std.specs.Prelude.{◌≡◌};
 ghost use Rattle.pcef_catalog.specs.Shapes.{shape_holds};
 ghost use Rattle.pcef_built_in.specs.BuiltIn.{dns_shape, expedited_shape, remaining_shape};
 
-use pcef_catalog::{Catalog, Detect, Detects, Offers, Predefined};
-use pcef_packet::{Addr, Dir, Header, Ports};
 use pcef_built_in::{
     dns_properties, dns_shape, expedited_properties, expedited_shape, is_dns, is_expedited,
     is_remaining, remaining_properties, remaining_shape,
 };
+use pcef_catalog::{Catalog, Detect, Detects, Offers, Predefined};
+use pcef_packet::{Addr, Dir, Header, Ports};
 use pcef_test_scripts::{PROFILE, run_on, script_of};
 use std::alloc::Global;
 use std::sync::Arc;
