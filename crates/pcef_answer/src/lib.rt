@@ -1,5 +1,8 @@
-//! The answers to script lines: compact JSON texts, whose keys stand in byte order, without the line
-//! feed.
+//! The texts of answers: compact JSON, whose keys stand in the order of their octets, without the line feed.
+//!
+//! Its contracts tell: the text of what was answered, of a fault and of how a session stands.
+//!
+//! In the order of reading: `report`, `written`, `fault`, `show`, `refusal`, `step`.
 #![tactic(auto)]
 
 mod fault;

@@ -1,4 +1,4 @@
-//! Judges recorded packets by a table of rules, again and again: what the index takes, and what a linear
+//! A program that judges recorded packets by a table of rules, again and again: what the index takes, and what a linear
 //! scan.
 //!
 //! `pcef_bench RULES PACKETS PASSES [ADDRESS] [scan]`. RULES has a line for each filter,

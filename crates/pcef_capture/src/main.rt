@@ -1,4 +1,4 @@
-//! `pcef_capture`: writes the packets of a capture as lines of a script, while it reads it.
+//! The program `pcef_capture`, which writes the packets of a capture as lines of a script, while it reads it.
 //!
 //! `pcef_capture --ue ADDRESS [--workers N] [--batch N] [--pad] FILE` writes a `take` line for each packet that
 //! goes from the session of the address or to it, and a `flush` line after each batch and at the end. FILE `-` is

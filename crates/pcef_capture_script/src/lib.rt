@@ -1,4 +1,9 @@
-//! The lines of a script for the packets of a capture, and what the program that writes them is asked for.
+//! The lines of a script for the packets of a capture, written while it is read, and what the program that writes them
+//! is asked for: `asked`, `write_capture`.
+//!
+//! Its contracts tell: which lines were written for the packets so far, or a front of them.
+//!
+//! In the order of reading: `counts`, `end`, `options`, `turn`, `takes`, `writing`.
 #![tactic(auto)]
 
 mod counts;

@@ -1,4 +1,9 @@
-//! The catalog of predefined rules: what each detects, with the closure that does it.
+//! The catalog of predefined rules: `Test`, `Shape`, `Predefined` with its closure, `Catalog`, `Listing`, and the
+//! traits `Offers` and `Detects`.
+//!
+//! Its contracts tell: what a catalog offers, and that a closure answers as its rule's shape.
+//!
+//! In the order of reading: `shape`, `predefined`, `listing`, `places`, `catalog`.
 #![tactic(auto)]
 
 mod catalog;

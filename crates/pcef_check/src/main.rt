@@ -1,4 +1,5 @@
-//! `pcef_check`: tells which lines of a script `pcef script` would answer by a fault or a refusal, and why.
+//! The program `pcef_check`, which tells which lines of a script `pcef script` would answer by a fault or a refusal,
+//! and why.
 //!
 //! `pcef_check PROFILE [LINES]` plays the lines on a session of the profile and its own, with the built-in catalog.
 #![tactic(auto)]

@@ -1,4 +1,5 @@
-//! `pcef`: the policy and charging enforcement function of a mobile packet gateway.
+//! The program `pcef`, the policy and charging enforcement function of a mobile packet gateway: its arguments, their
+//! files, its catalog and its reporters.
 #![tactic(auto)]
 
 mod arguments;

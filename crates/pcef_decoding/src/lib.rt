@@ -1,3 +1,4 @@
-//! Words for definitions of readers: reading one thing after another, and the first fault. The crate
-//! has definitions and lemmas, and no code.
+//! The words that definitions of readers share. The crate has definitions and lemmas, and no code.
+//!
+//! Its contracts tell: how one thing is read after another, and which fault is the first.
 #![tactic(auto)]

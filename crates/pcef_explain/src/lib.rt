@@ -1,4 +1,8 @@
 //! Says in words why a line of a script can't be read: where, what was found there, and what is expected. For people.
+//!
+//! Its contracts tell: that this stands on one line of printable ASCII.
+//!
+//! In the order of reading: `place`, `plain`, `wanted`, `column`, `nearest`, `told`, `filters`, `parts`, `explaining`.
 #![tactic(auto)]
 
 mod column;

@@ -1,4 +1,8 @@
 //! What a script and its answers tell of a session: verdicts, octets of keys, guaranteed rates, refusals.
+//!
+//! Its contracts tell: which reports of usage an answer tells, and exact sums of octets.
+//!
+//! In the order of reading: `figures`, `sums`, `values`, `answers`, `lines`, `rates`, `collecting`.
 #![tactic(auto)]
 
 mod answers;

@@ -1,5 +1,8 @@
-//! A compiled index of a table: the verdict of a packet by a few look-ups, and which entries stay in
-//! question where ports aren't looked at.
+//! A compiled index of a table: `Index`, made for fast look-ups, and `Indexed`, a table with its index.
+//!
+//! Its contracts tell: the same verdict and slots as the table's, by one look-up, and which entries may match a header.
+//!
+//! In the order of reading: `candidates`, `lines`, `cells`, `header_cells`, `marking`, `sieve`, `index`, `indexed`.
 #![tactic(auto)]
 
 mod candidates;

@@ -1,4 +1,8 @@
-//! The journal of a session, as it is kept.
+//! The journal of a session, as it is kept: `Journal`.
+//!
+//! Its contracts tell: an entry more, and walks over entries.
+//!
+//! In the order of reading: `names`, `kept_row`, `walk`, `journal`.
 #![tactic(auto)]
 
 mod journal;

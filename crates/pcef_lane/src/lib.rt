@@ -1,4 +1,7 @@
-//! Where the lanes of a session's workers end.
+//! Where each worker's lane ends, for all workers that ever came: `Lanes`.
+//!
+//! Its contracts tell: how many rows a worker has, of which generation the newest is, and whether the worker is
+//! attached.
 #![tactic(auto)]
 
 mod lanes;

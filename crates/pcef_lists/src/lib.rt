@@ -1,2 +1,2 @@
-//! Lemmas on lists.
+//! Lemmas on lists. The crate has no code.
 #![tactic(auto)]

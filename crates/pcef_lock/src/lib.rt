@@ -1,4 +1,11 @@
-//! A session behind a lock, its published tables and its books beside it.
+//! A session behind a lock: `State`, a session with its published tables, its books and its share of a pool, where it
+//! has one; `Shared`, the lock of one; `Pool`, the lock of a pool; `Seat`, `Desk`.
+//!
+//! Its contracts tell: what each hold of the lock finds, what each call in it answers and changes, and what all adds up
+//! to at the end.
+//!
+//! In the order of reading: `finished`, `key_totals`, `pool`, `seat`, `sameness`, `gathering`, `counting`, `lanes`,
+//! `pooled_share`, `publishing`, `state`, `shared`, `desk`, `opening`.
 #![tactic(auto)]
 
 mod counting;

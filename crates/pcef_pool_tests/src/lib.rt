@@ -1,4 +1,4 @@
-//! Tests of sessions on a pool of guaranteed rates.
+//! Tests of sessions that compete for the rates of a pool.
 #![tactic(auto)]
 
 #[cfg(test)]

@@ -1,5 +1,9 @@
-//! The program `pcef`, without the process that it runs in: what the arguments ask for, and
-//! what comes of it.
+//! The program `pcef` without the process that it runs in: `words`, `program`, `plan_run`, `pool_run`, `end`,
+//! `telling`.
+//!
+//! Its contracts tell: what the words of a call ask for, what comes of it, and the table of its ends.
+//!
+//! In the order of reading: `end`, `words`, `plan_run`, `pool_run`, `telling`, `program`.
 #![tactic(auto)]
 
 pub mod end;

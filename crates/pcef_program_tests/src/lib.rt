@@ -1,4 +1,5 @@
-//! Tests of plans of runs, and of the program. They stand above the crates that they test, which are then proved once.
+//! Tests of plans of runs, of the built-in catalog, and of the program over readers and writers. They stand above the
+//! crates that they test, which are then proved once.
 #![tactic(auto)]
 
 #[cfg(test)]

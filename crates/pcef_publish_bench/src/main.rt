@@ -1,4 +1,4 @@
-//! Publishes tables and refreshes subscribers, again and again: what a refresh takes.
+//! A program that publishes tables and refreshes subscribers, again and again: what a refresh takes.
 //!
 //! `pcef_publish_bench SUBSCRIBERS TABLES REFRESHES` publishes so many empty tables, one after the other,
 //! and after each lets each of so many subscribers refresh so many times. At the end the newest generation

@@ -1,4 +1,5 @@
-//! `pcef_report`: shows what a script of `pcef` and its answers tell of a session.
+//! The program `pcef_report`, which shows what a script and its answers tell of a session, as a page, as CSV or as
+//! OpenMetrics text.
 //!
 //! `pcef_report [--format html|csv|openmetrics] LINES ANSWERS` writes a page of HTML in one file, a record of CSV for each
 //! packet with a verdict, or OpenMetrics text.

@@ -1,4 +1,9 @@
-//! PCC rules: their names, their properties and their filters (TS 23.203, clause 6.3).
+//! PCC rules (TS 23.203, clause 6.3): names, ARP, QoS, rates, gates, QCI kinds, `Properties`, `Rule`, and the order of
+//! rules.
+//!
+//! Its contracts tell: what is accepted, and that copies are equal.
+//!
+//! In the order of reading: `gate`, `laws`, `name`, `priority`, `qci`, `quantity`, `rule`.
 #![tactic(auto)]
 
 mod gate;

@@ -1,4 +1,9 @@
-//! Runs a session over workers in threads, on commands and packets that are all read beforehand.
+//! Runs a session over workers in threads, on commands and packets that are all read beforehand: `read_plan`,
+//! `run_plan`, `summary_text`, and the stored reporters.
+//!
+//! Its contracts tell: the plan that an input asks for, what its run comes to, and the text that tells it.
+//!
+//! In the order of reading: `fault`, `taken`, `input`, `plan`, `reading`, `obeying`, `run`, `summary`.
 #![tactic(auto)]
 
 mod fault;

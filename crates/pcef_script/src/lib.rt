@@ -1,4 +1,10 @@
-//! Runs a script: reads lines, does what they ask for, and writes an answer for each.
+//! Runs a script: `run_script` reads lines, does what they ask for, and writes an answer for each; `answer_alone`
+//! answers a line without a script around it.
+//!
+//! Its contracts tell: what was written for what was read, and how many lines are at fault; the answer that a script
+//! gives to one line.
+//!
+//! In the order of reading: `fault`, `reading`, `step`, `writing`, `input`, `lone_line`, `running`, `run`.
 #![tactic(auto)]
 
 mod fault;

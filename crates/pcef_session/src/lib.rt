@@ -1,4 +1,11 @@
-//! A session of the gateway: its commands, its bearers, its usage and its journal.
+//! A session of the gateway, with its commands, its bearers, its usage and its journal: `SessionState`, and batches of
+//! rows.
+//!
+//! Its contracts tell: what each command and each step of a worker answers, and the journal after it; each getter says
+//! what the journal says.
+//!
+//! In the order of reading: `batch`, `laws`, `prepared`, `inactive`, `keys`, `next_tables`, `pending_reports`,
+//! `applying`, `ended_keys`, `rows`, `entries`, `state`.
 #![tactic(auto)]
 
 mod applying;

@@ -1,5 +1,10 @@
-//! What the rows and commands of a session add up to: ten books, and the shares of those who
-//! write into them.
+//! What the rows and commands of a session add up to: `Books` and `Shares` of ten ledgers under one name, and
+//! `RateBooks` and `RateShares` of a pool's two.
+//!
+//! Its contracts tell: a book is the exact sum of its shares, and gathering tells how many are missing.
+//!
+//! In the order of reading: `naming`, `pooling`, `tally`, `tallies`, `shares`, `books`, `blanks`, `rate_tallies`,
+//! `rate_books`.
 #![tactic(auto)]
 
 mod blanks;

@@ -1,5 +1,8 @@
-//! Makes the steps of a script through the public calls that `pcef` doesn't make: on a `World`, as the list of a run,
-//! and its commands on a `Session`. A call that finds no memory is made once more. The catalog has one predefined rule.
+//! A program that makes the steps of a script through the calls of `pcef_core`, each once more where it found no
+//! memory.
+//!
+//! Its contracts tell: nothing of its answers: it shows that a refused call leaves a world and a session as they were,
+//! with each allocation refused in turn.
 //!
 //! A refusal leaves a world and a session as they were. So with one allocation refused the program writes what it
 //! writes with memory, or, where its input, its writer or its catalog found none, nothing and ends with 3

@@ -1,5 +1,9 @@
-//! The journal of a session together with the counters of its monitoring keys: what is reported tells
-//! exactly what the counters hold.
+//! `Usage`, the counters of monitoring keys, and `CountedJournal`, a journal with them.
+//!
+//! Its contracts tell: what each call does to the counter of its slot and to no other; what is reported tells exactly
+//! what the counters hold.
+//!
+//! In the order of reading: `vacant`, `usage`, `counted`.
 #![tactic(auto)]
 
 mod counted;

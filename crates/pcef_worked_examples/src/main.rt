@@ -1,4 +1,7 @@
-//! Goes through the worked examples that its words name: scripts, files of lines and files of profiles.
+//! A program that goes through the worked examples that its words name: scripts, files of lines and files of profiles.
+//!
+//! Its contracts tell: nothing of its answers: the gate wants a line for each script, and what was worked out by hand
+//! for each line and profile.
 //!
 //! A word that ends in `.lines` or `.profiles` names a file. Any other names a script: `NAME.jsonl` has its lines, and
 //! `NAME.answers.jsonl` their answers, which were worked out by hand. The session's profile is `NAME.toml` where there

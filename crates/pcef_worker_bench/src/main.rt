@@ -1,4 +1,5 @@
-//! Workers of one session behind its lock, each in a thread of its own: how many packets they judge and hand over.
+//! A program whose workers, each in a thread of its own, judge packets and hand them over: what workers of one session
+//! reach, beside workers that share nothing.
 //!
 //! `pcef_worker_bench WORKERS BATCHES RULES` opens a session with 1 to 64 rules behind a lock. Each of 1 to 16 workers
 //! attaches, takes 32 packets and flushes, so many times, and finishes. Then all is gathered, and the rows of the

@@ -1,4 +1,6 @@
-//! Writes bytes to a writer: all of them, or a front of them and the error.
+//! Writes octets to any writer: `put_all`.
+//!
+//! Its contracts tell: that all of some octets were written, or a front of them and the error.
 #![tactic(auto)]
 
 mod writing;
