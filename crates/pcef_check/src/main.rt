@@ -8,23 +8,15 @@ mod end;
 mod options;
 mod telling;
 
-ghost use Rattle.std.specs.Prelude.{◌≡◌, ◌≤◌, IfOk};
-ghost use Rattle.pcef_catalog.specs.Shapes.{shape_holds};
-ghost use Rattle.pcef_built_in.specs.BuiltIn.{dns_shape, expedited_shape, remaining_shape};
+ghost use Rattle.std.specs.Prelude.{◌≤◌};
 
 use clap::{Error, error};
 use end::End;
 use options::{Options, asked};
-use pcef_built_in::{
-    dns_properties, dns_shape, expedited_properties, expedited_shape, is_dns, is_expedited,
-    is_remaining, remaining_properties, remaining_shape,
-};
-use pcef_catalog::{Catalog, Detect, Predefined};
+use pcef_built_in::ShapedCatalog;
 use pcef_findings::{FindFault, Finding, find};
 use pcef_model::Profile;
-use pcef_packet::Header;
 use pcef_profile::{ReadProfileFault, explain, read_profile};
-use std::alloc::AllocError;
 use std::io::{self, BufWriter, ErrorKind, Read, Write};
 use std::process::ExitCode;
 use std::{env, fs};
@@ -59,7 +51,7 @@ fn write(rt: &HostRuntime, file: &str, input: &[u8], findings: &[Finding]) -> io
 }
 
 /// Finds and tells what is wrong in lines.
-fn check_lines(rt: &HostRuntime, catalog: &Catalog, profile: Profile, file: &str) -> End {
+fn check_lines(rt: &HostRuntime, catalog: &ShapedCatalog, profile: Profile, file: &str) -> End {
     let input = match read(rt, file) {
         Ok(input) => input,
         Err(error) => return end_of(error, End::Read(error)),
@@ -92,7 +84,7 @@ fn tell_profile(
 }
 
 /// Finds and tells what is wrong in a profile, and then in lines.
-fn check(rt: &HostRuntime, catalog: &Catalog, options: Options<'_>) -> End {
+fn check(rt: &HostRuntime, catalog: &ShapedCatalog, options: Options<'_>) -> End {
     let text = match fs::read_to_string(rt, options.profile) {
         Ok(text) => text,
         Err(error) => return end_of(error, End::Read(error)),
@@ -156,7 +148,7 @@ fn words(rt: &HostRuntime) -> io::Result<Vec<String>> {
 }
 
 /// Does what the arguments ask for, and gives the exit status.
-fn status_with(rt: &HostRuntime, catalog: &Catalog) -> u8
+fn status_with(rt: &HostRuntime, catalog: &ShapedCatalog) -> u8
     ensures { result ≤ 4 }
 {
     let words = match words(rt) {
@@ -177,42 +169,9 @@ fn status_with(rt: &HostRuntime, catalog: &Catalog) -> u8
     }
 }
 
-/// Makes the built-in catalog, and does what the arguments ask for.
-fn run(rt: &HostRuntime) -> Result<u8, AllocError>
-    ensures { IfOk result (λ status. status ≤ 4) }
-{
-    let alloc = rt.alloc();
-    let dns: Detect = Box::new(
-        alloc,
-        |header: &Header| -> bool
-            ensures { result ≡ shape_holds dns_shape header.now }
-        { is_dns(header) },
-    )?;
-    let expedited: Detect = Box::new(
-        alloc,
-        |header: &Header| -> bool
-            ensures { result ≡ shape_holds expedited_shape header.now }
-        { is_expedited(header) },
-    )?;
-    let remaining: Detect = Box::new(
-        alloc,
-        |header: &Header| -> bool
-            ensures { result ≡ shape_holds remaining_shape header.now }
-        { is_remaining(header) },
-    )?;
-    let mut rules = Vec::with_capacity(alloc, 3)?;
-    rules.push(Predefined::new(dns_properties(), dns_shape(), dns))?;
-    rules.push(Predefined::new(expedited_properties(), expedited_shape(), expedited))?;
-    rules.push(Predefined::new(remaining_properties(), remaining_shape(), remaining))?;
-    match Catalog::new(alloc, rules) {
-        Ok(catalog) => Ok(status_with(rt, &catalog)),
-        Err(_) => Err(AllocError),
-    }
-}
-
 fn main(rt: HostRuntime) -> ExitCode {
-    ExitCode::from(match run(&rt) {
-        Ok(status) => status,
+    ExitCode::from(match ShapedCatalog::built_in(rt.alloc()) {
+        Ok(catalog) => status_with(&rt, &catalog),
         Err(_) => told(&rt, &End::NoMemory),
     })
 }
