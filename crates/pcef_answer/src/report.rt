@@ -1,6 +1,6 @@
 //! Reports in answers.
 
-ghost use Rattle.std.specs.Prelude.{◌≡◌, ◌++◌, IfOk, OnOk, codes, decimal, drop, reverse, string_bytes};
+ghost use Rattle.std.specs.Prelude.{◌≡◌, ◌≤◌, ◌++◌, IfOk, OnOk, codes, decimal, drop, reverse, string_bytes};
 ghost use Rattle.json.specs.Print.{escape};
 ghost use Rattle.serde_json.specs.Written.{comma_if, compact_text};
 ghost use Rattle.pcef_rule.specs.Name.{IsName};
@@ -132,13 +132,14 @@ fn push_list(text: &mut String, reports: Reports<'_>) -> Result<(), AllocError>
     text.push_str("]")
 }
 
-/// The reports of a journal from a number on, if it is before the other one, else none.
+/// The reports of a journal from a number on, of which none is forgotten, if it is before the other one, else none.
 pub(crate) fn push_reports(
     text: &mut String,
     journal: &Journal,
     first: u64,
     past_last: u64,
 ) -> Result<(), AllocError>
+    requires { journal.now.forgotten ≤ first }
     ensures { OnOk result (GoesOn text.old text.new
         (reports_text journal.now.entries first past_last)) }
 {
@@ -149,8 +150,10 @@ pub(crate) fn push_reports(
     }
 }
 
-/// The reports of a journal from this number on, the oldest first: a JSON array. Takes memory for the text.
+/// The reports of a journal from this number on, of which none is forgotten, the oldest first: a JSON array. Takes
+/// memory for the text.
 pub fn reports_answer(alloc: Global, journal: &Journal, first: u64) -> Result<String, AllocError>
+    requires { journal.now.forgotten ≤ first }
     ensures { IfOk result (λ text. string_bytes text
         ≡ compact_text (reports_data (drop first (reverse (reports journal.now.entries))))) }
 {

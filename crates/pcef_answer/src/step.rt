@@ -1,8 +1,8 @@
 //! The answers to commands and to the steps of workers.
 
-ghost use Rattle.std.specs.Prelude.{◌≡◌, IfOk, string_bytes};
+ghost use Rattle.std.specs.Prelude.{◌≡◌, ◌≤◌, IfOk, string_bytes};
 ghost use Rattle.pcef_session.specs.Answers.{finished_of, flushed_of};
-ghost use Rattle.pcef_world.specs.Steps.{reply_of};
+ghost use Rattle.pcef_world.specs.Steps.{TellsKept, reply_of};
 ghost use Rattle.pcef_answer.specs.StepAnswers.{command_text, attached_text, taken_text, finished_text, flushed_text, step_text};
 
 use crate::refusal::{
@@ -15,14 +15,15 @@ use pcef_session::BatchFull;
 use pcef_world::StepAnswer;
 use std::alloc::{AllocError, Global};
 
-/// The answer to a step that was made: what was answered, with the reports that the journal after it has for it, and
-/// the number of the newest generation where a worker came.
+/// The answer to a step that was made: what was answered, with the reports that the journal after it has for it, of
+/// which none is forgotten, and the number of the newest generation where a worker came.
 pub fn step_answer(
     alloc: Global,
     journal: &Journal,
     generation: u32,
     answer: &StepAnswer,
 ) -> Result<String, AllocError>
+    requires { TellsKept journal.now.forgotten (reply_of answer.now) }
     ensures { IfOk result (λ text. string_bytes text
         ≡ step_text journal.now.entries generation (reply_of answer.now)) }
 {
@@ -44,6 +45,7 @@ pub fn command_answer(
     journal: &Journal,
     answer: &Result<Accepted, Refusal>,
 ) -> Result<String, AllocError>
+    requires { IfOk answer.now (λ a. journal.now.forgotten ≤ a.first_report) }
     ensures { IfOk result (λ text. string_bytes text
         ≡ command_text journal.now.entries answer.now) }
 {
@@ -82,6 +84,7 @@ fn flushed_answer(
     journal: &Journal,
     answer: &Result<Verdicts, FlushRefusal>,
 ) -> Result<String, AllocError>
+    requires { IfOk (flushed_of answer.now) (λ told. journal.now.forgotten ≤ told.first_report) }
     ensures { IfOk result (λ text. string_bytes text
         ≡ flushed_text journal.now.entries (flushed_of answer.now)) }
 {
@@ -97,6 +100,8 @@ fn finished_answer(
     journal: &Journal,
     answer: &Result<(Verdicts, u64), FlushRefusal>,
 ) -> Result<String, AllocError>
+    requires { IfOk (finished_of answer.now) (λ told.
+        journal.now.forgotten ≤ told.0.first_report) }
     ensures { IfOk result (λ text. string_bytes text
         ≡ finished_text journal.now.entries (finished_of answer.now)) }
 {

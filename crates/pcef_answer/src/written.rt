@@ -25,6 +25,7 @@ pub(crate) fn accepted(
     journal: &Journal,
     accepted: Accepted,
 ) -> Result<String, AllocError>
+    requires { journal.now.forgotten ≤ accepted.first_report }
     ensures { IfOk result (λ text. string_bytes text
         ≡ compact_text (accepted_data journal.now.entries accepted)) }
 {
@@ -34,6 +35,7 @@ pub(crate) fn accepted(
 }
 
 fn push_accepted(text: &mut String, journal: &Journal, accepted: Accepted) -> Result<(), AllocError>
+    requires { journal.now.forgotten ≤ accepted.first_report }
     ensures { OnOk result (GoesOn text.old text.new
         (compact_text (accepted_data journal.now.entries accepted))) }
 {
@@ -52,6 +54,7 @@ fn push_change(
     journal: &Journal,
     accepted: Accepted,
 ) -> Result<(), AllocError>
+    requires { journal.now.forgotten ≤ accepted.first_report }
     ensures { OnOk result (GoesOn text.old text.new
         ((front.now ++ decimal accepted.generation) ++ (codes ",\"ok\":true,\"reports\":"
         ++ (reports_text journal.now.entries accepted.first_report accepted.past_last_report
@@ -126,6 +129,7 @@ pub(crate) fn flushed(
     journal: &Journal,
     verdicts: &Verdicts,
 ) -> Result<String, AllocError>
+    requires { journal.now.forgotten ≤ verdicts.now.first_report }
     ensures { IfOk result (λ text. string_bytes text
         ≡ compact_text (flushed_data journal.now.entries (flush_answer_of verdicts.now))) }
 {
@@ -151,6 +155,7 @@ pub(crate) fn finished(
     verdicts: &Verdicts,
     rows: u64,
 ) -> Result<String, AllocError>
+    requires { journal.now.forgotten ≤ verdicts.now.first_report }
     ensures { IfOk result (λ text. string_bytes text
         ≡ compact_text (finished_data journal.now.entries (flush_answer_of verdicts.now) rows)) }
 {

@@ -8,7 +8,7 @@ use Rattle.pcef_session.specs.SessionModel.{SessionModel}
 use Rattle.pcef_core.specs.declared.session.Session.{Session}
 
 abbrev pub state_of : {d h g : _} → Session d h g → SessionModel
-state_of s = s.state.value
+state_of s = s.state.value.session
 
 -- what is fixed for a session
 abbrev pub setting_in : {d h g : _} → Session d h g → Setting

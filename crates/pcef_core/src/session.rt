@@ -1,6 +1,6 @@
 //! A session with its catalog.
 
-ghost use Rattle.std.specs.Prelude.{◌≡◌, ◌≤◌, [], IfErr, IfNone, IfOk, OnErr, OnOk, true};
+ghost use Rattle.std.specs.Prelude.{◌≡◌, ◌≤◌, [], IfErr, IfNone, IfOk, OnErr, OnOk, reverse, true};
 ghost use Rattle.std.specs.Arc.{arc_value};
 ghost use Rattle.std.specs.Result.{result_err};
 ghost use Rattle.pcef_catalog.specs.Catalogs.{offers_of};
@@ -9,23 +9,25 @@ use pcef_bearer::Bearers;
 use pcef_catalog::{Catalog, Offers};
 use pcef_index::Indexed;
 use pcef_journal::Journal;
+use pcef_journaled::{Commands, JournaledCommand, JournaledState, Lane};
 use pcef_lane::LaneEnd;
 use pcef_model::{
     Accepted, AttachFault, Command, FlushRefusal, OpenFault, Profile, Refusal, Verdicts,
 };
 use pcef_rule::RuleName;
-use pcef_session::{Batch, Prepared, SessionState, open_fault};
+use pcef_session::{Batch, open_fault};
 use pcef_table::Source;
 use pcef_usage::Usage;
 use std::alloc::Global;
 use std::sync::Arc;
 
-/// A session and the catalog of its predefined rules.
+/// A session and the catalog of its predefined rules. All rows, commands and reports are kept.
 // In a box, so that whoever owns a session has one pointer to prove, and not each part of the state.
 pub struct Session {
     catalog: Arc<Catalog>,
-    state: Box<SessionState>,
-    ghost offered: { state.value.setting.catalog ≡ offers_of (arc_value catalog) },
+    state: Box<JournaledState>,
+    ghost offered: { state.value.session.setting.catalog ≡ offers_of (arc_value catalog) },
+    ghost kept: { state.value.keeps ≡ true },
 }
 
 // Written out, so that an owner proves one call at each way out.
@@ -41,7 +43,7 @@ impl Drop for Session {
 impl Session {
     ghost use Rattle.pcef_core.specs.Sessions.{journal_in, setting_in, setting_with, state_of};
     ghost use Rattle.pcef_model.specs.Outcomes.{AttachStep, Opens, abandon_outcome};
-    ghost use Rattle.pcef_model.specs.Entries.{lane};
+    ghost use Rattle.pcef_model.specs.Entries.{commands, lane};
     ghost use Rattle.pcef_model.specs.Journals.{gen};
     ghost use Rattle.pcef_model.specs.Lawful.{Lawful};
     ghost use Rattle.pcef_model.specs.Refusals.{is_attached};
@@ -70,15 +72,15 @@ impl Session {
         let Ok(listing) = catalog.listing().share() else {
             return Err(OpenFault::NoMemory);
         };
-        let state = SessionState::open(alloc, profile, listing)?;
+        let state = JournaledState::open(alloc, profile, listing)?;
         match Box::new(alloc, state) {
             Ok(state) => Ok(Session { catalog, state }),
             Err(_) => Err(OpenFault::NoMemory),
         }
     }
 
-    /// As [`SessionState::prepare`].
-    pub fn prepare(&mut self, command: Command) -> Result<Prepared, Refusal>
+    /// As [`JournaledState::prepare`].
+    pub fn prepare(&mut self, command: Command) -> Result<JournaledCommand, Refusal>
         ensures setting { setting_in self.new ≡ setting_in self.old }
         ensures journal { journal_in self.new ≡ journal_in self.old }
         ensures room { HasAtLeast (state_of self.old).room (state_of self.new).room }
@@ -90,8 +92,8 @@ impl Session {
         self.state.prepare(command)
     }
 
-    /// As [`SessionState::settle`].
-    pub fn settle(&mut self, prepared: Prepared) -> Accepted
+    /// As [`JournaledState::settle`].
+    pub fn settle(&mut self, prepared: JournaledCommand) -> Accepted
         requires { IsPreparedFor (state_of self.old) prepared }
         ensures answer { Settles (state_of self.old) prepared result (state_of self.new) }
         ensures setting { setting_in self.new ≡ setting_in self.old }
@@ -99,7 +101,7 @@ impl Session {
         self.state.settle(prepared)
     }
 
-    /// As [`SessionState::command`].
+    /// As [`JournaledState::command`].
     pub fn command(&mut self, command: Command) -> Result<Accepted, Refusal>
         ensures answer { AnswersCommand (state_of self.old) command result (state_of self.new) }
         ensures setting { setting_in self.new ≡ setting_in self.old }
@@ -108,7 +110,7 @@ impl Session {
         self.state.command(command)
     }
 
-    /// As [`SessionState::attach`].
+    /// As [`JournaledState::attach`].
     pub fn attach(&mut self) -> Result<u8, AttachFault>
         ensures answer { AttachStep (journal_in self.old) result (journal_in self.new) }
         ensures lane { IfOk result (λ worker. lane (journal_in self.old) worker ≡ []) }
@@ -118,7 +120,7 @@ impl Session {
         self.state.attach()
     }
 
-    /// As [`SessionState::flush`].
+    /// As [`JournaledState::flush`].
     pub fn flush(&mut self, worker: u8, batch: &Batch) -> Result<Verdicts, FlushRefusal>
         requires follow { MayFollow (state_of self.old) worker batch.now }
         requires slots { HasItsSlots (setting_in self.old) (journal_in self.old) batch.now }
@@ -131,15 +133,15 @@ impl Session {
         self.state.flush(worker, batch)
     }
 
-    /// As [`SessionState::lane_end`].
+    /// Where a worker's lane ends, and whether the worker is attached; or `None` of a worker that never came.
     pub fn lane_end(&self, worker: u8) -> Option<LaneEnd>
         ensures end { IsLaneEnd (journal_in self.now) worker result }
         ensures none { IfNone result (lane (journal_in self.now) worker ≡ []) }
     {
-        self.state.lane_end(worker)
+        self.state.session().lane_end(worker)
     }
 
-    /// As [`SessionState::detach`].
+    /// As [`JournaledState::detach`].
     pub fn detach(&mut self, worker: u8)
         requires { is_attached (journal_in self.old) worker ≡ true }
         ensures journal { journal_in self.new ≡ after_leave worker (journal_in self.old) }
@@ -148,7 +150,7 @@ impl Session {
         self.state.detach(worker);
     }
 
-    /// As [`SessionState::finish`].
+    /// As [`JournaledState::finish`].
     pub fn finish(&mut self, worker: u8, batch: &Batch) -> Result<(Verdicts, u64), FlushRefusal>
         requires follow { MayFollow (state_of self.old) worker batch.now }
         requires slots { HasItsSlots (setting_in self.old) (journal_in self.old) batch.now }
@@ -161,7 +163,7 @@ impl Session {
         self.state.finish(worker, batch)
     }
 
-    /// As [`SessionState::abandon`].
+    /// As [`JournaledState::abandon`].
     pub fn abandon(&mut self, worker: u8) -> u64
         ensures rows { result ≡ (abandon_outcome (journal_in self.old) worker).0 }
         ensures journal { journal_in self.new ≡ (abandon_outcome (journal_in self.old) worker).1 }
@@ -181,50 +183,65 @@ impl Session {
     pub fn indexed(&self) -> &Arc<Indexed>
         ensures { ShowsNewest (state_of self.now) (arc_value result.now) }
     {
-        self.state.indexed()
+        self.state.session().indexed()
     }
 
     /// The active rules by their names, in the order in which they became active.
     pub fn active(&self) -> &[(RuleName, Source)]
         ensures { AreActive (state_of self.now) result.now }
     {
-        self.state.active()
+        self.state.session().active()
     }
 
     /// The bearers.
     pub fn bearers(&self) -> &Bearers
         ensures { result.now ≡ binding_now (state_of self.now) }
     {
-        self.state.bearers()
+        self.state.session().bearers()
     }
 
     /// The keys that have a slot, with their usage.
     pub fn usage(&self) -> &Usage
         ensures { KeysAgree (setting_in self.now) (journal_in self.now) result.now }
     {
-        self.state.usage()
+        self.state.session().usage()
     }
 
     /// The number of the newest generation.
     pub fn generation(&self) -> u32
         ensures { result ≡ gen (journal_in self.now) }
     {
-        self.state.generation()
+        self.state.session().generation()
     }
 
-    /// The journal, which is lawful, and takes 4,294,967,295 rows at most.
+    /// The rows of a worker, from the oldest on.
+    pub fn lane(&self, worker: u8) -> Lane<'_>
+        ensures { result ≡ reverse (lane (journal_in self.now) worker) }
+    {
+        self.state.lane(worker)
+    }
+
+    /// The commands, from the oldest on.
+    pub fn commands(&self) -> Commands<'_>
+        ensures { result ≡ reverse (commands (journal_in self.now)) }
+    {
+        self.state.commands()
+    }
+
+    /// The journal, which is lawful, takes 4,294,967,295 rows at most, and has all of its reports.
     pub fn journal(&self) -> &Journal
         ensures journal { result.now.entries ≡ journal_in self.now }
+        ensures kept { result.now.forgotten ≡ 0 }
         ensures lawful { Lawful (setting_in self.now) (journal_in self.now) }
         ensures few_rows { (setting_in self.now).rows ≤ 4294967295 }
     {
-        self.state.journal()
+        self.state.session().journal()
     }
 
     /// What is fixed for the session.
     pub fn profile(&self) -> &Profile
         ensures { setting_of result.now (setting_in self.now).catalog ≡ setting_in self.now }
     {
-        self.state.profile()
+        self.state.session().profile()
     }
 }

@@ -18,6 +18,7 @@ pub struct World {
     catalog: Arc<Catalog>,
     state: Box<WorldState>,
     ghost offered: { state.value.session.setting.catalog ≡ offers_of (arc_value catalog) },
+    ghost kept: { state.value.session.forgotten ≡ 0 },
 }
 
 // Written out, so that an owner proves one call at each way out.
@@ -80,9 +81,10 @@ impl World {
         self.state.play(alloc, &*self.catalog, steps)
     }
 
-    /// The session, which agrees with its journal after every step.
+    /// The session, which agrees with its journal after every step. None of its reports is forgotten.
     pub fn session(&self) -> &SessionState
-        ensures { result.now ≡ (world_of self.now).session }
+        ensures session { result.now ≡ (world_of self.now).session }
+        ensures kept { result.now.forgotten ≡ 0 }
     {
         self.state.session()
     }

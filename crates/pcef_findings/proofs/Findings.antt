@@ -51,6 +51,6 @@ finds_added start before after number lines bytes old new setting count finds (t
 
 -- what a world finds that was just opened
 pub opened_finds : (p : Setting) (w : World) (lines : List (List ℕ)) (found : List Finding) → IsOpenedWorld p w → PlaysLines w lines found → FindsAll p lines found
-opened_finds p w lines found (setting, journal, workers) (after, finds) =
+opened_finds p w lines found (setting, journal, workers, kept) (after, finds) =
     let start : standing_of w ≡ at_start = rw (journal, workers) refl in
     (after, subst (λ s. Finds s at_start 1 lines found after) setting (subst (λ s. Finds w.session.setting s 1 lines found after) start finds))

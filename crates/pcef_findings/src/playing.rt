@@ -2,6 +2,7 @@
 
 ghost use Rattle.std.specs.Prelude.{◌≡◌, ◌≢◌, IfOk};
 ghost use Rattle.pcef_line.specs.declared.fault.LineFault.TheVariants.{NoMemory};
+ghost use Rattle.pcef_world.specs.Steps.{TellsKept, reply_of};
 ghost use Rattle.pcef_findings.specs.private.Playing.{IsOfFault, PlaysBytes, PlaysLine, PlaysStep, TellsAnswer};
 
 use crate::finding::{Finding, Found, found_in};
@@ -41,6 +42,7 @@ fn answer_found(
     number: u64,
     answer: &StepAnswer,
 ) -> Result<Option<Finding>, AllocError>
+    requires { TellsKept world.now.session.forgotten (reply_of answer.now) }
     ensures { IfOk result (TellsAnswer world.now number answer.now) }
 {
     let Some(found) = found_in(answer) else {
@@ -54,7 +56,7 @@ fn answer_found(
     }))
 }
 
-/// Makes a step, and finds whether it is refused.
+/// Makes a step, and finds whether it is refused. The reports of the steps before it are forgotten.
 fn step<C: Detects>(
     alloc: Global,
     catalog: &C,
@@ -66,6 +68,7 @@ fn step<C: Detects>(
     ensures found { IfOk result (λ told. PlaysStep world.old number step told world.new) }
     ensures setting { world.new.session.setting ≡ world.old.session.setting }
 {
+    world.forget();
     let answer = world.step(catalog, step)?;
     answer_found(alloc, world, number, &answer)
 }

@@ -1,5 +1,5 @@
 -- What a session's run comes to, by what was handed in.
-use Rattle.std.proofs.Common.{◌≡◌, ◌≢◌, ◌∙◌, ◌<◌, ◌+◌, ℕ, zero, suc, ◌==◌, List, [], ◌∷◌, ◌++◌, All, Some, find, length, filter, map, reverse, get_or, sum_by, refl, ap, sym, subst, arith}
+use Rattle.std.proofs.Common.{◌≡◌, ◌≢◌, ◌∙◌, ◌<◌, ◌+◌, ℕ, zero, suc, ◌==◌, true, List, [], ◌∷◌, ◌++◌, All, Some, find, length, filter, map, reverse, get_or, sum_by, refl, ap, sym, subst, arith}
 use Rattle.std.specs.Prelude.{IfOk, Result, Ok, Err}
 use Rattle.std.specs.Option.{option_map}
 use mathlib.Core.List.{IsPrefix}
@@ -81,7 +81,7 @@ runs_to : (p : Setting) (before : Journal) (arrivals : List Arrival) (given firs
     → e.reports.items ≡ reports_of e.totals.session.journal → RunsTo p before arrivals given workers e
 runs_to p before arrivals given first listed workers dropped handed e add_up hand_in lawful dropped_is have first_is reports_are =
     let j = e.totals.session.journal in
-    let d : HandedIn = record { worker = 0; items = []; abandoned = 0 } in
+    let d : HandedIn = record { worker = 0; keeps = true; items = []; abandoned = 0 } in
     let numbered : (n : ℕ) → n < length handed → (get_or handed n d).worker ≡ n = λ n below. hand_in.numbered n d below in
     let sum : sum_by (λ (h : HandedIn). length h.items) handed ≡ length (rows j) = rows_sum e.totals.session.setting j handed d lawful numbered add_up.many add_up.lanes in
     record {

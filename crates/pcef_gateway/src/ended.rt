@@ -25,8 +25,10 @@ pub struct Ended {
     pub reports: Vec<Report>,
 }
 
-/// The reports of a session, in order. Takes memory for them. The session's journal is lawful.
+/// The reports of a session, of which none is forgotten, in order. Takes memory for them. The session's journal is
+/// lawful.
 pub(crate) fn all_reports(alloc: Global, session: &SessionState) -> Result<Vec<Report>, AllocError>
+    requires { session.now.forgotten ≡ 0 }
     ensures reports { IfOk result (λ v. v.items ≡ reports_of session.now.journal) }
     ensures lawful { Lawful session.now.setting session.now.journal }
 {

@@ -22,11 +22,11 @@ use crate::fault::{Failure, RunFault};
 use crate::intake::{Handed, close_all, start_all, take_in};
 use crate::line::Line;
 use pcef_catalog::{Detects, Offers};
+use pcef_journaled::JournaledState;
 use pcef_lane::MAX_WORKERS;
 use pcef_lock::{Desk, Finished, Shared, Totals, opened};
 use pcef_model::Command;
 use pcef_publish::{Board, Opened, Slot};
-use pcef_session::SessionState;
 use pcef_share::{Blanks, Naming};
 use pcef_worker::Gate;
 use std::alloc::Global;
@@ -50,18 +50,18 @@ pub fn run_session<C: Detects + Drop + Send + Sync, G: Gate + Sync, R: Threads +
     rt: &R,
     alloc: Global,
     catalog: Arc<C>,
-    session: SessionState,
+    session: JournaledState,
     arrivals: Vec<Arrival>,
     commands: Vec<Command>,
     workers: u8,
     gate: &G,
 ) -> Result<Ended, RunFault>
-    requires fresh { attach_count session.journal ≡ 0 }
-    requires offers { C.offers (arc_value catalog) ≡ session.setting.catalog }
-    ensures setting { IfOk result (λ e. e.totals.session.setting ≡ session.setting) }
+    requires fresh { attach_count session.session.journal ≡ 0 }
+    requires offers { C.offers (arc_value catalog) ≡ session.session.setting.catalog }
+    ensures setting { IfOk result (λ e. e.totals.session.setting ≡ session.session.setting) }
     ensures attached { IfOk result (λ e. attach_count e.totals.session.journal ≡ workers) }
     ensures keys { IfOk result (λ e. e.totals.keys
-        ≡ key_totals session.setting e.totals.session.journal) }
+        ≡ key_totals session.session.setting e.totals.session.journal) }
     ensures sums { IfOk result (λ e.
         All (λ k. k.counted ≡ k.reported + k.unreported) e.totals.keys) }
     ensures gathered { IfOk result (λ e. AreGatheredFrom e.totals) }
@@ -73,7 +73,7 @@ pub fn run_session<C: Detects + Drop + Send + Sync, G: Gate + Sync, R: Threads +
     ensures answers { IfOk result (λ e. length e.answers.items ≡ length commands.items) }
     ensures memory { IfOk result (λ e. All FoundMemory e.answers.items) }
     ensures commands { IfOk result (λ e. commands_of e.totals.session.journal
-        ≡ commands_of session.journal ++ changing commands.items e.answers.items) }
+        ≡ commands_of session.session.journal ++ changing commands.items e.answers.items) }
     ensures reports { IfOk result (λ e. e.reports.items ≡ reports_of e.totals.session.journal) }
     ensures workers { FailsBy Workers result ↔ ((workers ≡ 0) ⊎ (16 < workers)) }
     ensures strange { FailsBy StrangeWorker result
@@ -98,7 +98,7 @@ fn run_known<C: Detects + Drop + Send + Sync, G: Gate + Sync, R: Threads + Wait 
     rt: &R,
     alloc: Global,
     catalog: Arc<C>,
-    session: SessionState,
+    session: JournaledState,
     arrivals: &[Arrival],
     commands: Vec<Command>,
     workers: u8,
@@ -106,10 +106,10 @@ fn run_known<C: Detects + Drop + Send + Sync, G: Gate + Sync, R: Threads + Wait 
 ) -> Result<Ended, Failure>
     requires few { workers ≤ 16 }
     requires known { All (λ a. a.worker < workers) arrivals.now }
-    requires fresh { attach_count session.journal ≡ 0 }
-    requires offers { C.offers (arc_value catalog) ≡ session.setting.catalog }
+    requires fresh { attach_count session.session.journal ≡ 0 }
+    requires offers { C.offers (arc_value catalog) ≡ session.session.setting.catalog }
     ensures { IfOk result (λ e.
-        RunsTo session.setting session.journal arrivals.now commands.items workers e) }
+        RunsTo session.session.setting session.session.journal arrivals.now commands.items workers e) }
 {
     let Ok(opened) = opened(&session) else {
         return Err(Failure::NoMemory);
@@ -138,7 +138,7 @@ fn run_named<
     rt: &R,
     alloc: Global,
     catalog: Arc<C>,
-    session: SessionState,
+    session: JournaledState,
     opened: Opened,
     blanks: Blanks,
     arrivals: &[Arrival],
@@ -149,14 +149,14 @@ fn run_named<
     requires few { workers ≤ 16 }
     requires known { All (λ a. a.worker < workers) arrivals.now }
     requires name { N.ledger ≡ name_at blanks }
-    requires setting { session.setting ≡ N.setting }
-    requires first { N.first ≡ gen session.journal }
-    requires fresh { attach_count session.journal ≡ 0 }
-    requires offers { C.offers (arc_value catalog) ≡ session.setting.catalog }
-    requires table { Shows session.setting session.journal (gen session.journal) opened.table }
+    requires setting { session.session.setting ≡ N.setting }
+    requires first { N.first ≡ gen session.session.journal }
+    requires fresh { attach_count session.session.journal ≡ 0 }
+    requires offers { C.offers (arc_value catalog) ≡ session.session.setting.catalog }
+    requires table { Shows session.session.setting session.session.journal (gen session.session.journal) opened.table }
     requires book { (opened.book ≡ N.book) × (opened.root ≡ N.root) }
     ensures { IfOk result (λ e.
-        RunsTo session.setting session.journal arrivals.now commands.items workers e) }
+        RunsTo session.session.setting session.session.journal arrivals.now commands.items workers e) }
 {
     match Shared::<C, N, _>::open(rt, alloc, catalog, session, opened, blanks, workers) {
         Ok((shared, desk)) => {
@@ -272,7 +272,7 @@ fn lead<C: Offers + Drop, N: Naming + Send + Sync, W: Board<Slot<N>> + Drop, R: 
     })
 }
 
-/// Gathers what was handed in.
+/// Gathers what was handed in, and compared with the journal: session and workers of a run store their rows.
 fn gathered<C: Offers + Drop, N: Naming, W: Board<Slot<N>> + Drop, R: Wait>(
     rt: &R,
     shared: Shared<C, N, W>,
@@ -280,10 +280,17 @@ fn gathered<C: Offers + Drop, N: Naming, W: Board<Slot<N>> + Drop, R: Wait>(
     finished: Vec<Finished<N>>,
 ) -> Result<Totals, Failure>
     requires { length finished.items ≤ 16 }
-    ensures { IfOk result (λ t. AddUpTo N.setting desk.commands finished.items t) }
+    ensures add_up { IfOk result (λ t. AddUpTo N.setting desk.commands finished.items t) }
+    ensures reports { IfOk result (λ t. t.session.forgotten ≡ 0) }
 {
     match shared.gather(rt, desk, finished) {
-        Ok(totals) => Ok(totals),
+        Ok(totals) => {
+            if totals.compared {
+                Ok(totals)
+            } else {
+                Err(Failure::Gather)
+            }
+        }
         Err(_) => Err(Failure::Gather),
     }
 }

@@ -1,50 +1,37 @@
 //! The journal.
 
 ghost use Rattle.std.specs.Prelude.{◌≡◌, ◌<◌, ◌≤◌, ◌+◌, [], ◌∷◌, drop, length, reverse, OnOk};
-ghost use Rattle.pcef_model.specs.Entries.{commands, lane, reports, rows};
+ghost use Rattle.pcef_model.specs.Entries.{commands, reports, rows};
 
-use crate::kept_row::KeptRow;
-use crate::names::Names;
-use crate::walk::{Commands, Lane, Reports};
-use pcef_model::{Command, Entry, Report};
+use crate::walk::Reports;
+use pcef_history::History;
+use pcef_model::{Entry, Report};
 use std::alloc::{AllocError, Global};
 use std::marker::Model;
 
-/// What an entry is. Commands, rows and reports stand in lists of their own, each in order.
-#[derive(Clone, Copy)]
-enum Mark {
-    /// The next command.
-    Command,
-    /// A worker was attached.
-    Attach(u8),
-    /// A worker left.
-    Leave(u8),
-    /// The next row.
-    Row,
-    /// The next report.
-    Report,
-}
-
 /// What happened in a session, entry by entry. Entries are added and never changed.
 ///
-/// A row takes 82 octets, two of them for its mark, and no copy of the name of its rule.
+/// The entries themselves are not stored: only how many commands, rows and reports there are, and the reports that weren't
+/// forgotten yet. The entries stand in the contracts, as a history that takes no memory.
 pub struct Journal {
-    marks: Vec<Mark>,
-    commands: Vec<Command>,
-    rows: Vec<KeptRow>,
+    history: History<Entry>,
+    commands: u64,
+    rows: u64,
+    told: u64,
+    forgotten: u64,
     reports: Vec<Report>,
-    names: Names,
 }
 
 // Written out, so that an owner proves one call at each way out.
 impl Drop for Journal {
     fn drop(self) {
         let Journal {
-            marks: _,
+            history: _,
             commands: _,
             rows: _,
+            told: _,
+            forgotten: _,
             reports: _,
-            names: _,
         } = self;
     }
 }
@@ -55,59 +42,58 @@ impl Model for Journal {
     ghost Value = { KeptJournal };
 
     ghost use Rattle.pcef_journal.specs.JournalView.{kept_of};
-    ghost use Rattle.pcef_journal.specs.JournalView.{ListsAgree};
+    ghost use Rattle.pcef_journal.specs.JournalView.{CountsAgree};
 
     ghost view = { kept_of };
 
-    ghost invariant = { ListsAgree };
+    ghost invariant = { CountsAgree };
 }
 
 impl Journal {
     /// A journal without entries. Takes no memory.
     pub fn new(alloc: Global) -> Journal
-        ensures { result.entries ≡ [] }
+        ensures entries { result.entries ≡ [] }
+        ensures forgotten { result.forgotten ≡ 0 }
     {
         Journal {
-            marks: Vec::new(alloc),
-            commands: Vec::new(alloc),
-            rows: Vec::new(alloc),
+            history: History::new(),
+            commands: 0,
+            rows: 0,
+            told: 0,
+            forgotten: 0,
             reports: Vec::new(alloc),
-            names: Names::new(alloc),
         }
     }
 
     /// Takes memory for so many more entries, or finds none, and then nothing has changed but the room.
     pub fn reserve(&mut self, additional: usize) -> Result<(), AllocError>
         ensures entries { self.new.entries ≡ self.old.entries }
+        ensures forgotten { self.new.forgotten ≡ self.old.forgotten }
         ensures room { OnOk result (additional ≤ self.new.room) }
         ensures kept { self.old.room ≤ self.new.room }
     {
-        self.marks.reserve(additional)?;
-        self.commands.reserve(additional)?;
-        self.rows.reserve(additional)?;
-        self.reports.reserve(additional)?;
-        self.names.reserve(additional)
+        let most = self.commands.max(self.rows).max(self.told);
+        if u64::MAX - most < additional as u64 {
+            return Err(AllocError);
+        }
+        self.reports.reserve(additional)
     }
 
     /// Adds an entry. Takes no memory.
     pub fn append(&mut self, entry: Entry)
         requires { 0 < self.old.room }
         ensures entries { self.new.entries ≡ entry ∷ self.old.entries }
+        ensures forgotten { self.new.forgotten ≡ self.old.forgotten }
         ensures room { self.old.room ≤ self.new.room + 1 }
     {
+        self.history = self.history.then(&entry);
         match entry {
-            Entry::Command(command) => {
-                self.marks.push_reserved(Mark::Command);
-                self.commands.push_reserved(command);
-            }
-            Entry::Attach(worker) => self.marks.push_reserved(Mark::Attach(worker)),
-            Entry::Leave(worker) => self.marks.push_reserved(Mark::Leave(worker)),
-            Entry::Row(row) => {
-                self.marks.push_reserved(Mark::Row);
-                self.rows.push_reserved(KeptRow::new(&row, &mut self.names));
-            }
+            Entry::Command(_command) => self.commands += 1,
+            Entry::Attach(_worker) => {}
+            Entry::Leave(_worker) => {}
+            Entry::Row(_row) => self.rows += 1,
             Entry::Report(report) => {
-                self.marks.push_reserved(Mark::Report);
+                self.told += 1;
                 self.reports.push_reserved(report);
             }
         }
@@ -117,46 +103,46 @@ impl Journal {
     pub fn rows_len(&self) -> u64
         ensures { result ≡ length (rows self.now.entries) }
     {
-        self.rows.len() as u64
+        self.rows
     }
 
     /// How many commands there are.
     pub fn commands_len(&self) -> u64
         ensures { result ≡ length (commands self.now.entries) }
     {
-        self.commands.len() as u64
+        self.commands
     }
 
     /// How many reports there are, which is the number of the next one.
     pub fn reports_len(&self) -> u64
         ensures { result ≡ length (reports self.now.entries) }
     {
-        self.reports.len() as u64
+        self.told
     }
 
-    /// The rows of a worker, from the oldest on.
-    pub fn lane(&self, worker: u8) -> Lane<'_>
-        ensures { result ≡ reverse (lane self.now.entries worker) }
+    /// How many of the oldest reports are forgotten.
+    pub fn forgotten(&self) -> u64
+        ensures { result ≡ self.now.forgotten }
     {
-        Lane::new(self.rows.as_slice(), self.names.as_slice(), worker)
+        self.forgotten
     }
 
-    /// The commands, from the oldest on.
-    pub fn commands(&self) -> Commands<'_>
-        ensures { result ≡ reverse (commands self.now.entries) }
-    {
-        Commands::new(self.commands.as_slice())
-    }
-
-    /// The reports from this number on, in order.
+    /// The reports from this number on, in order. None of them may be forgotten.
     pub fn reports_from(&self, number: u64) -> Reports<'_>
+        requires { self.now.forgotten ≤ number }
         ensures { result ≡ drop number (reverse (reports self.now.entries)) }
     {
-        Reports::new(
-            self.reports
-                .as_slice()
-                .get(number as usize..)
-                .unwrap_or(&[]),
-        )
+        let after = (number - self.forgotten) as usize;
+        Reports::new(self.reports.as_slice().get(after..).unwrap_or(&[]))
+    }
+
+    /// Forgets all reports, which are still counted. The memory that they took serves for the next ones.
+    pub fn forget(&mut self)
+        ensures entries { self.new.entries ≡ self.old.entries }
+        ensures forgotten { self.new.forgotten ≡ length (reports self.old.entries) }
+        ensures room { self.old.room ≤ self.new.room }
+    {
+        self.forgotten = self.told;
+        self.reports.clear();
     }
 }

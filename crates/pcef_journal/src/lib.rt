@@ -1,14 +1,13 @@
-//! The journal of a session, as it is kept: `Journal`.
+//! The journal of a session, of which counts and the newest reports are kept, and the rest is known to contracts alone:
+//! `Journal`.
 //!
-//! Its contracts tell: an entry more, and walks over entries.
+//! Its contracts tell: an entry more, counts, and walks over reports.
 //!
-//! In the order of reading: `names`, `kept_row`, `walk`, `journal`.
+//! In the order of reading: `walk`, `journal`.
 #![tactic(auto)]
 
 mod journal;
-mod kept_row;
-mod names;
 mod walk;
 
 pub use journal::Journal;
-pub use walk::{Commands, Lane, Reports};
+pub use walk::Reports;

@@ -115,6 +115,6 @@ pub sound_finished : (p : Setting) (first : ℕ) (s t : SessionModel) (ts : List
     first_of (flush_refusals s.setting s.journal worker (length (map row_of items))) ≡ None → t.journal ≡ after_leave worker (after_flush s.setting s.journal (map row_of items)) → t.setting ≡ s.setting →
     c ≡ record b { totals = with_items b.totals items } → IsSound p first (locked s ts b places) free → IsSound p first (locked t ts c places) free
 sound_finished p first s t ts b c places free worker items few has small accepted journal setting books is =
-    let m : SessionModel = record { setting = s.setting; journal = after_flush s.setting s.journal (map row_of items); room = s.room } in
+    let m : SessionModel = record { setting = s.setting; journal = after_flush s.setting s.journal (map row_of items); forgotten = s.forgotten; room = s.room } in
     sound_left p first m t ts c places free worker journal setting
     (sound_taken p first s m ts b c places free worker items few has small accepted refl refl books is)

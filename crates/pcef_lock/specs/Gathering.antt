@@ -1,5 +1,5 @@
 -- What is handed in when all workers have left, and what it adds up to (TS 29.212, clause 4.5.16).
-use Rattle.std.specs.Prelude.{ℕ, ◌≡◌, ◌+◌, ◌≤◌, ◌<◌, ◌==◌, List, Option, Some, find, length, map, reverse, slice_get, sum_by, if◌then◌else◌}
+use Rattle.std.specs.Prelude.{ℕ, ◌≡◌, ◌+◌, ◌≤◌, ◌<◌, ◌==◌, All, Bool, true, List, Option, Some, find, length, map, reverse, slice_get, sum_by, if◌then◌else◌}
 use Rattle.std.specs.Option.{option_map}
 use Rattle.pcef_model.specs.declared.command.Command.{Command}
 use Rattle.pcef_model.specs.declared.row.Row.{Row}
@@ -60,9 +60,17 @@ abbrev pub AreGathered : List KeyTotal → List HandedIn → Type 0
 AreGathered keys handed = (n : ℕ) (k : KeyTotal) → slice_get keys n ≡ Some k → k.counted ≡ gathered n handed
 
 -- ---- whether totals are had
--- as many are handed in as workers came, each worker with its lane, and the desk with the journal's commands
-abbrev pub CanGather : Journal → List Command → List HandedIn → Type 0
-CanGather j listed handed = (attach_count j ≤ length handed) × HaveLanes j handed × (listed ≡ reverse (commands j))
+-- the session stores its rows, and each worker its own list: so lists are compared
+abbrev pub AreCompared : Bool → List HandedIn → Type 0
+AreCompared keeps handed = (keeps ≡ true) × All (λ h. h.keeps ≡ true) handed
+
+-- each worker has its lane, and the desk the journal's commands
+abbrev pub AgreeWith : Journal → List Command → List HandedIn → Type 0
+AgreeWith j listed handed = HaveLanes j handed × (listed ≡ reverse (commands j))
+
+-- as many are handed in as workers came, and what is compared agrees with the journal
+abbrev pub CanGather : Bool → Journal → List Command → List HandedIn → Type 0
+CanGather compared j listed handed = (attach_count j ≤ length handed) × (compared ≡ true → AgreeWith j listed handed)
 
 -- So many workers weren't handed in, no two that were being one. Else: the lane of this worker differs. Else: the list
 -- of the desk does.

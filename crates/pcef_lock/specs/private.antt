@@ -1,1 +1,2 @@
+pub mod OwnView
 pub mod Soundness

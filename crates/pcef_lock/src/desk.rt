@@ -9,10 +9,9 @@ ghost use Rattle.pcef_lock.specs.Reports.{AreNumbered};
 
 use crate::shared::Shared;
 use pcef_catalog::Offers;
-use pcef_journal::Commands;
+use pcef_journaled::{Commands, JournaledState};
 use pcef_model::{Accepted, Command, Refusal, Report};
 use pcef_publish::{Board, Slot};
-use pcef_session::SessionState;
 use pcef_share::{Naming, Pooling, Shares};
 use std::alloc::{AllocError, Global};
 use std::marker::Model;
@@ -61,10 +60,10 @@ fn copies(alloc: Global, commands: Commands<'_>) -> Result<Vec<Command>, AllocEr
 }
 
 /// The commands of a session so far, in order. Takes memory for them.
-pub fn commands_so_far(alloc: Global, session: &SessionState) -> Result<Vec<Command>, AllocError>
-    ensures { IfOk result (λ v. v.items ≡ reverse (commands session.now.journal)) }
+pub fn commands_so_far(alloc: Global, session: &JournaledState) -> Result<Vec<Command>, AllocError>
+    ensures { IfOk result (λ v. v.items ≡ reverse (commands session.now.session.journal)) }
 {
-    copies(alloc, session.journal().commands())
+    copies(alloc, session.commands())
 }
 
 impl<N: Naming> Desk<N> {

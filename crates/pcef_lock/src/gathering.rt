@@ -1,15 +1,17 @@
 //! What the workers of a session and its desk hand in at the end, compared with its journal.
 
-ghost use Rattle.std.specs.Prelude.{◌≡◌, ◌↔◌, ◌<◌, ◌≤◌, ◌+◌, ◌*◌, ◌==◌, ℕ, IfSome, IsTrue, None, find, length, map, reverse, slice_get};
+ghost use Rattle.std.specs.Prelude.{◌≡◌, ◌↔◌, ◌<◌, ◌≤◌, ◌+◌, ◌*◌, ◌==◌, ℕ, All, IfSome, IsTrue, None, find, length, map, reverse, slice_get, true};
 ghost use Rattle.std.specs.Option.{option_map};
 ghost use Rattle.pcef_model.specs.Entries.{lane};
 ghost use Rattle.pcef_session.specs.Following.{row_of};
-ghost use Rattle.pcef_lock.specs.Gathering.{HasLane, rows_abandoned};
+ghost use Rattle.pcef_model.specs.Journals.{attach_count};
+ghost use Rattle.pcef_model.specs.Lawful.{Lawful};
+ghost use Rattle.pcef_lock.specs.Gathering.{AgreeWith, AreCompared, CanGather, HasLane, IsAtFault, rows_abandoned};
 
 use crate::finished::Finished;
 use crate::key_totals::KeyTotals;
 use crate::sameness::{is_same_command, is_same_row};
-use pcef_journal::{Commands, Journal, Lane};
+use pcef_journaled::{Archive, Commands, JournaledState, Lane};
 use pcef_model::Command;
 use pcef_session::{Item, SessionState};
 use pcef_share::{Naming, NoPool, Pooling, RateShares};
@@ -32,8 +34,12 @@ pub enum GatherFault {
 /// What a session adds up to when all its workers have left.
 #[derive(Drop)]
 pub struct Totals<P: Pooling = NoPool> {
-    /// The session.
+    /// The session, with all of its reports.
     pub session: SessionState,
+    /// Its commands, and its rows, which are stored or not.
+    pub archive: Archive,
+    /// Whether all rows were stored, with the session and with each worker, so that lists were compared.
+    pub compared: bool,
     /// How many rows its journal has.
     pub rows: u64,
     /// How many waiting rows workers abandoned.
@@ -72,38 +78,115 @@ fn is_lane(items: &[Item], lane: Lane<'_>) -> bool
     lane.next().is_none()
 }
 
+/// Whether the own lists of all workers are stored.
+fn are_stored<N: Naming>(finished: &[Finished<N>]) -> bool
+    ensures { IsTrue result ↔ All (λ h. h.keeps ≡ true) finished.now }
+{
+    finished.iter().all(|f| f.keeps_rows())
+}
+
+/// Whether the rows of the session and the own lists of all workers are stored.
+pub(crate) fn are_compared<N: Naming>(session: &JournaledState, finished: &[Finished<N>]) -> bool
+    ensures { IsTrue result ↔ AreCompared session.now.keeps finished.now }
+{
+    session.keeps_rows() && are_stored(finished)
+}
+
 /// What a worker handed in.
 fn handed_in<N: Naming>(finished: &[Finished<N>], worker: u8) -> Option<&Finished<N>>
-    ensures { option_map (λ f. f.now) result ≡ find (λ h. h.worker == worker) finished.now }
+    requires { All (λ h. h.keeps ≡ true) finished.now }
+    ensures stored { IfSome result (λ f. f.now.keeps ≡ true) }
+    ensures found { option_map (λ f. f.now) result ≡ find (λ h. h.worker == worker) finished.now }
 {
     finished.iter().find(|f| f.worker() == worker)
 }
 
 /// Whether a worker is handed in, and its own list is its lane.
-fn has_lane<N: Naming>(journal: &Journal, finished: &[Finished<N>], worker: u8) -> bool
-    ensures { IsTrue result ↔ HasLane journal.now.entries finished.now worker }
+fn has_lane<N: Naming>(session: &JournaledState, finished: &[Finished<N>], worker: u8) -> bool
+    requires session { session.now.keeps ≡ true }
+    requires lists { All (λ h. h.keeps ≡ true) finished.now }
+    ensures { IsTrue result ↔ HasLane session.now.session.journal finished.now worker }
 {
     match handed_in(finished, worker) {
-        Some(own) => is_lane(own.items(), journal.lane(worker)),
+        Some(own) => match own.items() {
+            Some(items) => is_lane(items, session.lane(worker)),
+            None => unreachable!(),
+        },
         None => false,
     }
 }
 
 /// The first of so many workers whose lane differs.
 pub(crate) fn differing<N: Naming>(
-    journal: &Journal,
+    session: &JournaledState,
     finished: &[Finished<N>],
     workers: u8,
 ) -> Option<u8>
+    requires session { session.now.keeps ≡ true }
+    requires lists { All (λ h. h.keeps ≡ true) finished.now }
     ensures none { result ≡ None → (w : ℕ) → w < workers →
-        HasLane journal.now.entries finished.now w }
+        HasLane session.now.session.journal finished.now w }
     ensures some { IfSome result (λ w. (w < workers)
-        × (HasLane journal.now.entries finished.now w → ⊥)) }
+        × (HasLane session.now.session.journal finished.now w → ⊥)) }
 {
     for worker in 0..workers {
-        if !has_lane(journal, finished, worker) {
+        if !has_lane(session, finished, worker) {
             return Some(worker);
         }
+    }
+    None
+}
+
+/// The first of what is stored that isn't as the journal has it: the own list of one of so many workers, or the list of
+/// the desk.
+fn difference<N: Naming>(
+    session: &JournaledState,
+    listed: &[Command],
+    finished: &[Finished<N>],
+    workers: u8,
+) -> Option<GatherFault>
+    requires session { session.now.keeps ≡ true }
+    requires lists { All (λ h. h.keeps ≡ true) finished.now }
+    requires workers { workers ≡ attach_count session.now.session.journal }
+    requires here { workers ≤ length finished.now }
+    ensures none { result ≡ None → AgreeWith session.now.session.journal listed.now finished.now }
+    ensures some { IfSome result
+        (IsAtFault session.now.session.journal listed.now finished.now) }
+{
+    if let Some(worker) = differing(session, finished, workers) {
+        return Some(GatherFault::LaneDiffers(worker));
+    }
+    if !are_commands(listed, session.commands()) {
+        return Some(GatherFault::DeskDiffers);
+    }
+    None
+}
+
+/// Why no totals can be had of a session to which so many workers came, if they can't. The session's journal is lawful.
+pub(crate) fn gather_fault<N: Naming>(
+    session: &JournaledState,
+    listed: &[Command],
+    finished: &[Finished<N>],
+    workers: u8,
+    compared: bool,
+) -> Option<GatherFault>
+    requires few { length finished.now ≤ 16 }
+    requires workers { workers ≡ attach_count session.now.session.journal }
+    requires compared { IsTrue compared → AreCompared session.now.keeps finished.now }
+    ensures none { result ≡ None →
+        CanGather compared session.now.session.journal listed.now finished.now }
+    ensures some { IfSome result
+        (IsAtFault session.now.session.journal listed.now finished.now) }
+    ensures lawful { Lawful session.now.session.setting session.now.session.journal }
+{
+    // For what it says of the journal: that it is lawful.
+    let _journal = session.session().journal();
+    let here = finished.len() as u8;
+    if here < workers {
+        return Some(GatherFault::WorkersOut(workers - here));
+    }
+    if compared {
+        return difference(session, listed, finished, workers);
     }
     None
 }

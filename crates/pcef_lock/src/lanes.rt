@@ -6,17 +6,18 @@ ghost use Rattle.pcef_model.specs.Journals.{lane_len};
 ghost use Rattle.pcef_model.specs.Lawful.{newest_generation};
 ghost use Rattle.pcef_lock.specs.Lanes.{continues, is_next};
 
+use pcef_journaled::JournaledState;
 use pcef_lane::LaneEnd;
 use pcef_model::Row;
-use pcef_session::{Item, SessionState};
+use pcef_session::Item;
 
 /// Where the lane of a worker ends. A worker that never came has no rows.
-pub(crate) fn end_of(session: &SessionState, worker: u8) -> LaneEnd
-    ensures rows { result.rows ≡ lane_len session.now.journal worker }
+pub(crate) fn end_of(session: &JournaledState, worker: u8) -> LaneEnd
+    ensures rows { result.rows ≡ lane_len session.now.session.journal worker }
     ensures generation { result.newest_generation
-        ≡ newest_generation (lane session.now.journal worker) }
+        ≡ newest_generation (lane session.now.session.journal worker) }
 {
-    match session.lane_end(worker) {
+    match session.session().lane_end(worker) {
         Some(end) => end,
         None => LaneEnd {
             rows: 0,

@@ -4,7 +4,7 @@
 //! Its contracts tell: what each hold of the lock finds, what each call in it answers and changes, and what all adds up
 //! to at the end.
 //!
-//! In the order of reading: `finished`, `key_totals`, `pool`, `seat`, `sameness`, `gathering`, `counting`, `lanes`,
+//! In the order of reading: `own_rows`, `finished`, `key_totals`, `pool`, `seat`, `sameness`, `gathering`, `counting`, `lanes`,
 //! `pooled_share`, `publishing`, `state`, `shared`, `desk`, `opening`.
 #![tactic(auto)]
 
@@ -15,6 +15,7 @@ mod gathering;
 mod key_totals;
 mod lanes;
 mod opening;
+mod own_rows;
 mod pool;
 mod pooled_share;
 mod publishing;
@@ -28,6 +29,7 @@ pub use finished::Finished;
 pub use gathering::{GatherFault, Totals};
 pub use key_totals::{KeyTotal, KeyTotals};
 pub use opening::{SharedFault, Unopened, opened};
+pub use own_rows::OwnRows;
 pub use pool::Pool;
 pub use seat::Seat;
 pub use shared::{Shared, Ungathered};

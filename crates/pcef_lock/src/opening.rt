@@ -19,10 +19,10 @@ use crate::pool::Pool;
 use crate::shared::Shared;
 use crate::state::State;
 use pcef_catalog::Offers;
+use pcef_journaled::JournaledState;
 use pcef_lane::MAX_WORKERS;
 use pcef_pool::PoolState;
 use pcef_publish::{Opened, PublishFault, Publisher, Subscriber, Writer};
-use pcef_session::SessionState;
 use pcef_share::{Blanks, Naming, Pooling, Shares};
 use std::alloc::{AllocError, Global};
 use std::sync::{Arc, Wait};
@@ -47,10 +47,10 @@ pub enum SharedFault {
 
 /// A history that begins with the table of a session's newest generation. It takes its name where the session does.
 /// Fails where a further owner of the table is refused.
-pub fn opened(session: &SessionState) -> Result<Opened, AllocError>
-    ensures { IfOk result (λ o. ShowsNewest session.now o.table) }
+pub fn opened(session: &JournaledState) -> Result<Opened, AllocError>
+    ensures { IfOk result (λ o. ShowsNewest session.now.session o.table) }
 {
-    Ok(Opened::new(Arc::try_clone(session.indexed())?))
+    Ok(Opened::new(Arc::try_clone(session.session().indexed())?))
 }
 
 /// Publishes the table of an opened history, with a subscriber for each place.
@@ -93,21 +93,21 @@ impl<N: Naming, R: Wait + Drop> State<N, Writer<N, R>> {
     pub fn open(
         rt: R,
         alloc: Global,
-        session: SessionState,
+        session: JournaledState,
         opened: Opened,
         blanks: Blanks,
         places: u8,
-    ) -> Result<(State<N, Writer<N, R>>, Shares<N>), (SessionState, SharedFault)>
+    ) -> Result<(State<N, Writer<N, R>>, Shares<N>), (JournaledState, SharedFault)>
         requires name { N.ledger ≡ name_at blanks }
-        requires setting { session.setting ≡ N.setting }
-        requires first { N.first ≡ gen session.journal }
-        requires fresh { attach_count session.journal ≡ 0 }
-        requires table { ShowsNewest session opened.table }
+        requires setting { session.session.setting ≡ N.setting }
+        requires first { N.first ≡ gen session.session.journal }
+        requires fresh { attach_count session.session.journal ≡ 0 }
+        requires table { ShowsNewest session.session opened.table }
         requires book { (opened.book ≡ N.book) × (opened.root ≡ N.root) }
-        ensures session { IfOk result (λ r. r.0.session ≡ session) }
+        ensures session { IfOk result (λ r. r.0.session ≡ session.session) }
         ensures tables { IfOk result (λ r. r.0.tables ≡ opened.table ∷ []) }
         ensures places { IfOk result (λ r. (r.0.places ≡ places) × (r.0.books.issued ≡ 1)) }
-        ensures shares { IfOk result (λ r. r.1 ≡ desk_shares session.journal) }
+        ensures shares { IfOk result (λ r. r.1 ≡ desk_shares session.session.journal) }
         ensures fault { IsPlacesFault result ↔ ((places ≡ 0) ⊎ (16 < places)) }
         ensures back { IfErr result (λ e. e.0 ≡ session) }
     {
@@ -130,24 +130,24 @@ impl<N: Naming, R: Wait + Drop, P: Pooling> State<N, Writer<N, R>, P> {
     pub fn open_within(
         rt: R,
         alloc: Global,
-        session: SessionState,
+        session: JournaledState,
         opened: Opened,
         blanks: Blanks,
         places: u8,
         pool: &mut PoolState<P>,
-    ) -> Result<(State<N, Writer<N, R>, P>, Shares<N>), (SessionState, SharedFault)>
+    ) -> Result<(State<N, Writer<N, R>, P>, Shares<N>), (JournaledState, SharedFault)>
         requires there { P.is_there ≡ true }
-        requires rates { total_now session.setting session.journal ≡ no_rates }
+        requires rates { total_now session.session.setting session.session.journal ≡ no_rates }
         requires name { N.ledger ≡ name_at blanks }
-        requires setting { session.setting ≡ N.setting }
-        requires first { N.first ≡ gen session.journal }
-        requires fresh { attach_count session.journal ≡ 0 }
-        requires table { ShowsNewest session opened.table }
+        requires setting { session.session.setting ≡ N.setting }
+        requires first { N.first ≡ gen session.session.journal }
+        requires fresh { attach_count session.session.journal ≡ 0 }
+        requires table { ShowsNewest session.session opened.table }
         requires book { (opened.book ≡ N.book) × (opened.root ≡ N.root) }
-        ensures session { IfOk result (λ r. r.0.session ≡ session) }
+        ensures session { IfOk result (λ r. r.0.session ≡ session.session) }
         ensures tables { IfOk result (λ r. r.0.tables ≡ opened.table ∷ []) }
         ensures places { IfOk result (λ r. (r.0.places ≡ places) × (r.0.books.issued ≡ 1)) }
-        ensures shares { IfOk result (λ r. r.1 ≡ desk_shares session.journal) }
+        ensures shares { IfOk result (λ r. r.1 ≡ desk_shares session.session.journal) }
         ensures fault { IsPlacesFault result ↔ ((places ≡ 0) ⊎ (16 < places)) }
         ensures full { IsPoolFull result → pool.old.books.issued ≡ 64 }
         ensures room { IsOk result → pool.old.books.issued ≢ 64 }
@@ -185,7 +185,7 @@ pub struct Unopened<C: Drop> {
     /// The catalog.
     pub catalog: Arc<C>,
     /// The session, as it was.
-    pub session: SessionState,
+    pub session: JournaledState,
 }
 
 /// The fault where there is no memory: `Places` goes before it.
@@ -207,19 +207,19 @@ impl<C: Offers + Drop, N: Naming, R: Wait + Drop> Shared<'_, C, N, Writer<N, R>>
         rt: R,
         alloc: Global,
         catalog: Arc<C>,
-        session: SessionState,
+        session: JournaledState,
         opened: Opened,
         blanks: Blanks,
         places: u8,
     ) -> Result<(Shared<'static, C, N, Writer<N, R>>, Desk<N>), Unopened<C>>
         requires name { N.ledger ≡ name_at blanks }
-        requires setting { session.setting ≡ N.setting }
-        requires first { N.first ≡ gen session.journal }
-        requires fresh { attach_count session.journal ≡ 0 }
-        requires offers { C.offers (arc_value catalog) ≡ session.setting.catalog }
-        requires table { ShowsNewest session opened.table }
+        requires setting { session.session.setting ≡ N.setting }
+        requires first { N.first ≡ gen session.session.journal }
+        requires fresh { attach_count session.session.journal ≡ 0 }
+        requires offers { C.offers (arc_value catalog) ≡ session.session.setting.catalog }
+        requires table { ShowsNewest session.session opened.table }
         requires book { (opened.book ≡ N.book) × (opened.root ≡ N.root) }
-        ensures commands { IfOk result (λ r. r.1.commands ≡ reverse (commands session.journal)) }
+        ensures commands { IfOk result (λ r. r.1.commands ≡ reverse (commands session.session.journal)) }
         ensures collected { IfOk result (λ r. r.1.collected ≡ 0) }
         ensures places { IfOk result (λ r. (0 < places) × (places ≤ 16)) }
         ensures fault { IfErr result (λ e. (e.fault ≡ Places) ↔ ((places ≡ 0) ⊎ (16 < places))) }
@@ -265,22 +265,22 @@ impl<'p, C: Offers + Drop, N: Naming, R: Wait + Drop, P: Pooling> Shared<
         rt: R,
         alloc: Global,
         catalog: Arc<C>,
-        session: SessionState,
+        session: JournaledState,
         opened: Opened,
         blanks: Blanks,
         places: u8,
         pool: &'p Pool<P>,
     ) -> Result<(Shared<'p, C, N, Writer<N, R>, P>, Desk<N>), Unopened<C>>
         requires there { P.is_there ≡ true }
-        requires rates { total_now session.setting session.journal ≡ no_rates }
+        requires rates { total_now session.session.setting session.session.journal ≡ no_rates }
         requires name { N.ledger ≡ name_at blanks }
-        requires setting { session.setting ≡ N.setting }
-        requires first { N.first ≡ gen session.journal }
-        requires fresh { attach_count session.journal ≡ 0 }
-        requires offers { C.offers (arc_value catalog) ≡ session.setting.catalog }
-        requires table { ShowsNewest session opened.table }
+        requires setting { session.session.setting ≡ N.setting }
+        requires first { N.first ≡ gen session.session.journal }
+        requires fresh { attach_count session.session.journal ≡ 0 }
+        requires offers { C.offers (arc_value catalog) ≡ session.session.setting.catalog }
+        requires table { ShowsNewest session.session opened.table }
         requires book { (opened.book ≡ N.book) × (opened.root ≡ N.root) }
-        ensures commands { IfOk result (λ r. r.1.commands ≡ reverse (commands session.journal)) }
+        ensures commands { IfOk result (λ r. r.1.commands ≡ reverse (commands session.session.journal)) }
         ensures collected { IfOk result (λ r. r.1.collected ≡ 0) }
         ensures places { IfOk result (λ r. (0 < places) × (places ≤ 16)) }
         ensures fault { IfErr result (λ e. (e.fault ≡ Places) ↔ ((places ≡ 0) ⊎ (16 < places))) }

@@ -5,8 +5,8 @@ ghost use Rattle.std.specs.Option.{option_to_list};
 ghost use Rattle.pcef_session.specs.Preparing.{table_made};
 ghost use Rattle.pcef_lock.specs.Published.{MayBeNext, with_last};
 
+use pcef_journaled::JournaledCommand;
 use pcef_publish::{Board, Publisher, Slot, Subscriber};
-use pcef_session::Prepared;
 use pcef_share::Naming;
 use std::alloc::AllocError;
 use std::sync::Arc;
@@ -14,14 +14,14 @@ use std::sync::Arc;
 /// Publishes the table of a prepared command, if it makes one.
 pub(crate) fn publish<N: Naming, W: Board<Slot<N>> + Drop>(
     publisher: &mut Publisher<N, W>,
-    prepared: &Prepared,
+    prepared: &JournaledCommand,
 ) -> Result<(), AllocError>
     requires { IfSome (table_made prepared.now) (MayBeNext N.setting N.first publisher.old) }
     ensures published { OnOk result (publisher.new
         ≡ publisher.old ++ option_to_list (table_made prepared.now)) }
     ensures refused { OnErr result (publisher.new ≡ publisher.old) }
 {
-    match prepared.indexed() {
+    match prepared.prepared().indexed() {
         Some(table) => publisher.publish(Arc::try_clone(table)?),
         None => Ok(()),
     }

@@ -1,15 +1,16 @@
 //! The lock of a session.
 
-ghost use Rattle.std.specs.Prelude.{◌≡◌, ◌≤◌, ◌+◌, ◌<◌, ◌^◌, All, IfErr, IfOk, is_some, length, reverse};
+ghost use Rattle.std.specs.Prelude.{◌≡◌, ◌≤◌, ◌+◌, ◌<◌, ◌^◌, All, IfErr, IfOk, is_some, length, reverse, ◌↔◌, true};
 ghost use Rattle.std.specs.Arc.{arc_value};
 ghost use Rattle.pcef_model.specs.Entries.{commands, rows};
 ghost use Rattle.pcef_model.specs.Journals.{attach_count};
 ghost use Rattle.pcef_share.specs.Amounts.{zeros};
 ghost use Rattle.pcef_lock.specs.Counting.{with_command, with_taken};
 ghost use Rattle.pcef_lock.specs.Desks.{IsDue};
-ghost use Rattle.pcef_lock.specs.Gathering.{AreGathered, HaveLanes, key_totals, rows_abandoned};
+ghost use Rattle.pcef_lock.specs.Gathering.{AreCompared, AreGathered, HaveLanes, key_totals, rows_abandoned};
 ghost use Rattle.pcef_lock.specs.Judging.{AllJudged};
 ghost use Rattle.pcef_lock.specs.Outcomes.{judged_rows};
+ghost use Rattle.pcef_journaled.specs.Archiving.{Archives};
 ghost use Rattle.pcef_pool.specs.Pools.{rates_due};
 ghost use Rattle.pcef_lock.specs.Reports.{AreNumbered};
 ghost use Rattle.pcef_lock.specs.Seats.{ChangesOnlyShares, ChangesOnlySubscriber};
@@ -188,7 +189,7 @@ impl<'p, C: Offers + Drop, N: Naming, W: Board<Slot<N>> + Drop, P: Pooling> Shar
 
     /// As [`State::gather`], of the value behind the lock, which ends with it. For each monitoring key the octets that
     /// the journal's rows passed for it, those of all workers' lists, and those that were reported and that weren't are
-    /// one number; each row stands in one worker's list, once.
+    /// one number. Where lists are compared, each row stands in one worker's list, once.
     pub fn gather<R: Wait>(
         self,
         rt: &R,
@@ -199,8 +200,14 @@ impl<'p, C: Offers + Drop, N: Naming, W: Board<Slot<N>> + Drop, P: Pooling> Shar
         ensures setting { IfOk result (λ t. t.session.setting ≡ N.setting) }
         ensures workers { IfOk result (λ t.
             length finished.items ≡ attach_count t.session.journal) }
-        ensures lanes { IfOk result (λ t. HaveLanes t.session.journal finished.items) }
-        ensures desk { IfOk result (λ t. desk.commands ≡ reverse (commands t.session.journal)) }
+        ensures lanes { IfOk result (λ t. t.compared ≡ true →
+            HaveLanes t.session.journal finished.items) }
+        ensures desk { IfOk result (λ t. t.compared ≡ true →
+            desk.commands ≡ reverse (commands t.session.journal)) }
+        ensures compared { IfOk result (λ t. (t.compared ≡ true)
+            ↔ AreCompared t.archive.keeps finished.items) }
+        ensures archive { IfOk result (λ t. Archives t.session.journal t.archive) }
+        ensures reports { IfOk result (λ t. t.session.forgotten ≡ 0) }
         ensures keys { IfOk result (λ t. t.keys ≡ key_totals N.setting t.session.journal) }
         ensures gathered { IfOk result (λ t. AreGathered t.keys finished.items) }
         ensures sums { IfOk result (λ t. All (λ k. k.counted ≡ k.reported + k.unreported) t.keys) }

@@ -19,12 +19,12 @@ ghost use mathlib.Core.List.{IsPrefix};
 use crate::pooled_share::{give_rates, held_in, room_in};
 use crate::publishing::{make_ready, next_subscriber, publish};
 use crate::seat::Seat;
+use pcef_journaled::JournaledState;
 use pcef_model::{Accepted, AttachFault, Command, Refusal};
 use pcef_packet::Addr;
 use pcef_pool::PoolState;
 use pcef_publish::{Board, Publisher, Slot, Subscriber};
 use pcef_rule::Sums;
-use pcef_session::SessionState;
 use pcef_share::{Blanks, Books, Naming, NoPool, Pooling, RateShares, Shares};
 use std::alloc::{AllocError, Global};
 use std::marker::Model;
@@ -39,7 +39,7 @@ pub use gathering::StateUngathered;
 /// behind a session's lock: what always holds of it, every hold of the lock finds.
 pub struct State<N: Naming, W: Board<Slot<N>> + Drop, P: Pooling = NoPool> {
     alloc: Global,
-    session: SessionState,
+    session: JournaledState,
     publisher: Publisher<N, W>,
     subscribers: Vec<Subscriber<N>>,
     books: Books<N>,
@@ -71,35 +71,35 @@ impl<N: Naming, W: Board<Slot<N>> + Drop, P: Pooling> Model for State<N, W, P> {
     ghost Value = { Locked };
 
     ghost view = { λ s. record {
-      session = s.session;
+      session = s.session.session;
       tables = s.publisher;
       books = s.books;
       places = s.places;
     } };
 
     ghost invariant = { λ s. IsSound N.setting N.first (record {
-      session = s.session;
+      session = s.session.session;
       tables = s.publisher;
       books = s.books;
       places = s.places;
     }) (length s.subscribers.items)
-        × (s.rates ≡ rates_due P.is_there s.session.setting s.session.journal) };
+        × (s.rates ≡ rates_due P.is_there s.session.session.setting s.session.session.journal) };
 }
 
 /// How many commands a session took. Its journal is lawful, and takes 4,294,967,295 rows at most.
-fn commands_of(session: &SessionState) -> u64
-    ensures commands { result ≡ length (commands session.now.journal) }
-    ensures lawful { Lawful session.now.setting session.now.journal }
-    ensures few_rows { session.now.setting.rows ≤ 4294967295 }
+fn commands_of(session: &JournaledState) -> u64
+    ensures commands { result ≡ length (commands session.now.session.journal) }
+    ensures lawful { Lawful session.now.session.setting session.now.session.journal }
+    ensures few_rows { session.now.session.setting.rows ≤ 4294967295 }
 {
-    session.journal().commands_len()
+    session.session().journal().commands_len()
 }
 
 /// The address of the user equipment of a session.
-fn ue_of(session: &SessionState) -> Addr
-    ensures { result ≡ session.now.setting.ue }
+fn ue_of(session: &JournaledState) -> Addr
+    ensures { result ≡ session.now.session.setting.ue }
 {
-    session.profile().ue
+    session.session().profile().ue
 }
 
 impl<N: Naming, W: Board<Slot<N>> + Drop, P: Pooling> State<N, W, P> {
@@ -107,7 +107,7 @@ impl<N: Naming, W: Board<Slot<N>> + Drop, P: Pooling> State<N, W, P> {
     /// shares of the desk, which hold the session's commands so far. A subscriber is there for each place.
     pub(crate) fn new(
         alloc: Global,
-        session: SessionState,
+        session: JournaledState,
         publisher: Publisher<N, W>,
         subscribers: Vec<Subscriber<N>>,
         blanks: Blanks,
@@ -115,17 +115,17 @@ impl<N: Naming, W: Board<Slot<N>> + Drop, P: Pooling> State<N, W, P> {
         places: u8,
     ) -> (State<N, W, P>, Shares<N>)
         requires name { N.ledger ≡ name_at blanks }
-        requires setting { session.setting ≡ N.setting }
-        requires fresh { attach_count session.journal ≡ 0 }
-        requires published { ArePublished N.setting session.journal N.first publisher }
-        requires rates { rates ≡ rates_due P.is_there session.setting session.journal }
+        requires setting { session.session.setting ≡ N.setting }
+        requires fresh { attach_count session.session.journal ≡ 0 }
+        requires published { ArePublished N.setting session.session.journal N.first publisher }
+        requires rates { rates ≡ rates_due P.is_there session.session.setting session.session.journal }
         requires places { places ≤ 16 }
         requires subscribers { length subscribers.items ≡ places }
-        ensures session { result.0.session ≡ session }
+        ensures session { result.0.session ≡ session.session }
         ensures tables { result.0.tables ≡ publisher }
         ensures places { result.0.places ≡ places }
-        ensures books { result.0.books ≡ first_books session.journal }
-        ensures shares { result.1 ≡ desk_shares session.journal }
+        ensures books { result.0.books ≡ first_books session.session.journal }
+        ensures shares { result.1 ≡ desk_shares session.session.journal }
     {
         let commands = commands_of(&session);
         let mut books = Books::new(blanks);
@@ -144,8 +144,8 @@ impl<N: Naming, W: Board<Slot<N>> + Drop, P: Pooling> State<N, W, P> {
     }
 
     /// The session. Its published tables show its generations, and its books hold what its journal counts.
-    pub fn session(&self) -> &SessionState
-        ensures session { result.now ≡ self.now.session }
+    pub fn session(&self) -> &JournaledState
+        ensures session { result.now.session ≡ self.now.session }
         ensures kept { Kept N.setting N.first self.now }
     {
         &self.session
@@ -226,7 +226,7 @@ impl<N: Naming, W: Board<Slot<N>> + Drop, P: Pooling> State<N, W, P> {
         let accepted = self.session.settle(prepared);
         let more = commands_of(&self.session) - before;
         self.books.add_commands(shares, more);
-        give_rates(&mut self.rates, pool, self.session.rates());
+        give_rates(&mut self.rates, pool, self.session.session().rates());
         Ok(accepted)
     }
 
@@ -243,7 +243,7 @@ impl<N: Naming, W: Board<Slot<N>> + Drop, P: Pooling> State<N, W, P> {
         if self.books.issued() > self.places {
             return Err(AttachFault::NoPlace);
         }
-        if let Some(fault) = self.session.attach_fault() {
+        if let Some(fault) = self.session.session().attach_fault() {
             return Err(fault);
         }
         if make_ready(&mut self.subscribers, &mut self.publisher).is_err() {
@@ -274,6 +274,6 @@ impl<N: Naming, W: Board<Slot<N>> + Drop, P: Pooling> State<N, W, P> {
     {
         seat.subscriber.compare(&mut self.publisher);
         seat.subscriber.meet(&mut self.publisher)?;
-        Ok(self.session.generation())
+        Ok(self.session.session().generation())
     }
 }

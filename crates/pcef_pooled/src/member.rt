@@ -40,7 +40,8 @@ impl<P: Pooling> Model for Member<P> {
 
     ghost view = { λ m. m.session };
 
-    ghost invariant = { λ m. m.rates ≡ rates_of m.session };
+    // Its reports are all kept.
+    ghost invariant = { λ m. (m.rates ≡ rates_of m.session) × (m.session.forgotten ≡ 0) };
 }
 
 impl<P: Pooling> Member<P> {
@@ -67,9 +68,10 @@ impl<P: Pooling> Member<P> {
         }
     }
 
-    /// The session.
+    /// The session, of which no report is forgotten.
     pub fn session(&self) -> &SessionState
-        ensures { result.now ≡ self.now }
+        ensures session { result.now ≡ self.now }
+        ensures kept { self.now.forgotten ≡ 0 }
     {
         &self.session
     }

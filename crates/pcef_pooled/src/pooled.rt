@@ -78,10 +78,11 @@ impl<P: Pooling> Pooled<P> {
         }
     }
 
-    /// The session of a number, which is below the number of sessions.
+    /// The session of a number, which is below the number of sessions. None of its reports is forgotten.
     pub fn session(&self, n: usize) -> &SessionState
         requires { n < length self.now.sessions }
-        ensures { slice_get self.now.sessions n ≡ Some result.now }
+        ensures session { slice_get self.now.sessions n ≡ Some result.now }
+        ensures kept { result.now.forgotten ≡ 0 }
     {
         self.members[n].session()
     }

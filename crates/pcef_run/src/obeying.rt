@@ -6,19 +6,20 @@ ghost use Rattle.pcef_gateway.specs.Commanding.{FoundMemory};
 ghost use Rattle.pcef_run.specs.Runs.{ObeyedBy, is_accepted};
 
 use pcef_gateway::Answer;
+use pcef_journaled::JournaledState;
 use pcef_model::{Command, Refusal};
-use pcef_session::SessionState;
 use std::alloc::{AllocError, Global};
 
 /// Gives commands to a session, and keeps the answers. Fails for want of memory, which a command may meet too.
 pub(crate) fn obey(
     alloc: Global,
-    session: &mut SessionState,
+    session: &mut JournaledState,
     commands: Vec<Command>,
 ) -> Result<Vec<Answer>, AllocError>
-    ensures answers { IfOk result (λ v. ObeyedBy session.old commands.items v.items session.new) }
+    ensures answers { IfOk result (λ v. ObeyedBy session.old.session commands.items v.items
+        session.new.session) }
     ensures memory { IfOk result (λ v. All FoundMemory v.items) }
-    ensures setting { session.new.setting ≡ session.old.setting }
+    ensures setting { session.new.session.setting ≡ session.old.session.setting }
 {
     let mut answers = Vec::new(alloc);
     for command in commands {

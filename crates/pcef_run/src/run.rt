@@ -14,8 +14,8 @@ use crate::obeying::{accepted_among, obey};
 use crate::plan::Plan;
 use pcef_catalog::{Detects, Offers};
 use pcef_gateway::{Answer, Ended, RunFault, run_session};
+use pcef_journaled::JournaledState;
 use pcef_model::{OpenFault, Profile};
-use pcef_session::SessionState;
 use pcef_worker::OpenGate;
 use std::alloc::Global;
 use std::sync::{Arc, Wait};
@@ -46,14 +46,15 @@ impl Ran {
     }
 }
 
-fn open<C: Offers>(alloc: Global, profile: Profile, catalog: &C) -> Result<SessionState, RunEnd>
-    ensures made { IfOk result (IsOpened (setting_of profile (C.offers catalog.now))) }
+fn open<C: Offers>(alloc: Global, profile: Profile, catalog: &C) -> Result<JournaledState, RunEnd>
+    ensures made { IfOk result (λ s.
+        IsOpened (setting_of profile (C.offers catalog.now)) s.session) }
     ensures fault { IfErr result (OpensNot (setting_of profile (C.offers catalog.now))) }
 {
     let Ok(listing) = catalog.listing().share() else {
         return Err(RunEnd::NoMemory);
     };
-    match SessionState::open(alloc, profile, listing) {
+    match JournaledState::open(alloc, profile, listing) {
         Ok(session) => Ok(session),
         Err(OpenFault::NoMemory) => Err(RunEnd::NoMemory),
         Err(fault) => Err(RunEnd::Open(fault)),

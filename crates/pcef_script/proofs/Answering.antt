@@ -70,6 +70,13 @@ answer_ends p v w line text at_fault faults n a b filled h count wrote =
       wrote,
     )
 
+-- the answer to a line is that of any world that stands so
+pub answers_same : (u v w : World) (line text : List ℕ) (at_fault : Bool) → u.session.setting ≡ v.session.setting → standing_of u ≡ standing_of v
+    → AnswersLine u.session.setting (standing_of u) line text at_fault (standing_of w) → AnswersLine v.session.setting (standing_of v) line text at_fault (standing_of w)
+answers_same u v w line text at_fault setting standing h =
+    subst (λ (p : Setting). AnswersLine p (standing_of v) line text at_fault (standing_of w)) setting
+    (subst (λ (s : Standing). AnswersLine u.session.setting s line text at_fault (standing_of w)) standing h)
+
 pub told_ends : (r : Result ℕ ScriptFault) (p : Setting) (v w : World) (line text : List ℕ) (at_fault : Bool) (faults : ℕ) (a b : Option (List ℕ)) → is_blank line ≡ false
     → AnswersLine p (standing_of v) line text at_fault (standing_of w) → IfOk r (λ n. n ≡ faults + number_of at_fault) → OnOk r (Appends a b (text ++ 10 ∷ [])) → IfOk r (λ n. EndsLine p v w line faults n a b)
 told_ends (Ok n) p v w line text at_fault faults a b filled h count wrote = answer_ends p v w line text at_fault faults n a b filled h count wrote

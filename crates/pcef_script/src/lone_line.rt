@@ -1,7 +1,8 @@
 //! A line that comes without a script around it.
 
-ghost use Rattle.std.specs.Prelude.{◌≡◌, IfOk};
+ghost use Rattle.std.specs.Prelude.{◌≡◌, ◌≤◌, IfOk};
 ghost use Rattle.std.specs.Option.{option_map};
+ghost use Rattle.pcef_model.specs.Journals.{report_count};
 ghost use Rattle.pcef_script.specs.LineAnswers.{AnswersBy};
 ghost use Rattle.pcef_script.specs.LoneLines.{AnswersAlone};
 ghost use Rattle.pcef_script.specs.ScriptAnswers.{LineDue};
@@ -39,9 +40,11 @@ fn answer_of<C: Detects>(
     lines: &mut LineReader,
     line: &[u8],
 ) -> Result<Answer, AllocError>
-    requires { C.offers catalog.now ≡ world.old.session.setting.catalog }
+    requires offered { C.offers catalog.now ≡ world.old.session.setting.catalog }
+    requires kept { world.old.session.forgotten ≤ report_count world.old.session.journal }
     ensures answer { IfOk result (λ a. AnswersBy (LineDue line.now) world.old a world.new) }
     ensures setting { world.new.session.setting ≡ world.old.session.setting }
+    ensures forgotten { world.new.session.forgotten ≡ world.old.session.forgotten }
 {
     match within_limit(line) {
         None => answer_too_long(alloc),
@@ -60,9 +63,11 @@ pub fn answer_alone<C: Detects>(
     lines: &mut LineReader,
     line: &[u8],
 ) -> Result<Option<Answer>, AllocError>
-    requires { C.offers catalog.now ≡ world.old.session.setting.catalog }
+    requires offered { C.offers catalog.now ≡ world.old.session.setting.catalog }
+    requires kept { world.old.session.forgotten ≤ report_count world.old.session.journal }
     ensures answer { IfOk result (λ a. AnswersAlone line.now world.old a world.new) }
     ensures setting { world.new.session.setting ≡ world.old.session.setting }
+    ensures forgotten { world.new.session.forgotten ≡ world.old.session.forgotten }
 {
     if is_blank(line) {
         return Ok(None);

@@ -2,6 +2,7 @@
 
 ghost use Rattle.std.specs.Prelude.{◌≡◌, ◌<◌, ◌≤◌, ◌+◌, ◌∷◌, ◌^◌, [], IfErr, IfOk, OnOk, length};
 ghost use Rattle.std.specs.Io.KnownBytes.{Appends};
+ghost use Rattle.pcef_model.specs.Journals.{report_count};
 ghost use Rattle.pcef_script.specs.LineAnswers.{AnswersKept, answer_bytes};
 ghost use Rattle.pcef_script.specs.ScriptAnswers.{number_of};
 ghost use Rattle.pcef_script.specs.ScriptLines.{WritesFront, has_feed, kept_of};
@@ -48,7 +49,8 @@ fn answer_of<C: Detects>(
     lines: &mut LineReader,
     line: &Pending,
 ) -> Result<Answer, AllocError>
-    requires { C.offers catalog.now ≡ world.old.session.setting.catalog }
+    requires offered { C.offers catalog.now ≡ world.old.session.setting.catalog }
+    requires kept { world.old.session.forgotten ≤ report_count world.old.session.journal }
     ensures answer { AnswersKept line.now world.old result world.new }
     ensures setting { world.new.session.setting ≡ world.old.session.setting }
 {
@@ -75,7 +77,8 @@ fn tell<W: Write>(writer: &mut W, answer: &Answer, faults: u64) -> Result<u64, S
     }
 }
 
-/// Answers a line that has ended, and gives how many lines are at fault then.
+/// Answers a line that has ended, and gives how many lines are at fault then. The reports of the lines before it were
+/// told, and are forgotten.
 pub(crate) fn end_line<C: Detects, W: Write>(
     alloc: Global,
     catalog: &C,
@@ -95,6 +98,7 @@ pub(crate) fn end_line<C: Detects, W: Write>(
     if line.is_blank() {
         return Ok(faults);
     }
+    world.forget();
     match answer_of(alloc, catalog, world, lines, line) {
         Ok(answer) => tell(writer, &answer, faults),
         Err(_) => Err(ScriptFault::NoMemory),

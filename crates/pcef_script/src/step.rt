@@ -1,7 +1,8 @@
 //! What a line does.
 
-ghost use Rattle.std.specs.Prelude.{◌≡◌, IfOk, Some, false, string_bytes};
+ghost use Rattle.std.specs.Prelude.{◌≡◌, ◌≤◌, IfOk, Some, false, string_bytes};
 ghost use Rattle.pcef_line.specs.LineOf.{LineOf};
+ghost use Rattle.pcef_model.specs.Journals.{report_count};
 ghost use Rattle.pcef_line.specs.declared.fault.LineFault.TheVariants.{LineTooLong};
 ghost use Rattle.pcef_line.specs.declared.line.Line.TheVariants.{Show};
 ghost use Rattle.pcef_script.specs.LineAnswers.{AnswersBy, AnswersFault, AnswersReadFault, TellsLine, TellsStep};
@@ -45,9 +46,11 @@ fn step<C: Detects>(
     world: &mut WorldState,
     step: Step,
 ) -> Result<String, AllocError>
-    requires { C.offers catalog.now ≡ world.old.session.setting.catalog }
+    requires offered { C.offers catalog.now ≡ world.old.session.setting.catalog }
+    requires kept { world.old.session.forgotten ≤ report_count world.old.session.journal }
     ensures answer { IfOk result (λ text. TellsStep world.old step (string_bytes text) world.new) }
     ensures setting { world.new.session.setting ≡ world.old.session.setting }
+    ensures forgotten { world.new.session.forgotten ≡ world.old.session.forgotten }
 {
     let answer = world.step(catalog, step)?;
     let session = world.session();
@@ -60,9 +63,11 @@ fn line_text<C: Detects>(
     world: &mut WorldState,
     line: Line,
 ) -> Result<String, AllocError>
-    requires { C.offers catalog.now ≡ world.old.session.setting.catalog }
+    requires offered { C.offers catalog.now ≡ world.old.session.setting.catalog }
+    requires kept { world.old.session.forgotten ≤ report_count world.old.session.journal }
     ensures answer { IfOk result (λ text. TellsLine world.old line (string_bytes text) world.new) }
     ensures setting { world.new.session.setting ≡ world.old.session.setting }
+    ensures forgotten { world.new.session.forgotten ≡ world.old.session.forgotten }
 {
     match line {
         Line::Step(asked) => step(alloc, catalog, world, asked),
@@ -76,10 +81,12 @@ fn done<C: Detects>(
     world: &mut WorldState,
     line: Line,
 ) -> Result<Answer, AllocError>
-    requires { C.offers catalog.now ≡ world.old.session.setting.catalog }
+    requires offered { C.offers catalog.now ≡ world.old.session.setting.catalog }
+    requires kept { world.old.session.forgotten ≤ report_count world.old.session.journal }
     ensures text { IfOk result (λ a. TellsLine world.old line (string_bytes a.text) world.new) }
     ensures counts { IfOk result (λ a. a.is_fault ≡ false) }
     ensures setting { world.new.session.setting ≡ world.old.session.setting }
+    ensures forgotten { world.new.session.forgotten ≡ world.old.session.forgotten }
 {
     Ok(Answer {
         text: line_text(alloc, catalog, world, line)?,
@@ -104,9 +111,11 @@ fn answer_text<C: Detects>(
     lines: &mut LineReader,
     text: &str,
 ) -> Result<Answer, AllocError>
-    requires { C.offers catalog.now ≡ world.old.session.setting.catalog }
+    requires offered { C.offers catalog.now ≡ world.old.session.setting.catalog }
+    requires kept { world.old.session.forgotten ≤ report_count world.old.session.journal }
     ensures answer { IfOk result (λ a. AnswersBy (LineOf text.now) world.old a world.new) }
     ensures setting { world.new.session.setting ≡ world.old.session.setting }
+    ensures forgotten { world.new.session.forgotten ≡ world.old.session.forgotten }
 {
     match lines.read(alloc, text) {
         Ok(line) => done(alloc, catalog, world, line),
@@ -122,10 +131,12 @@ pub(crate) fn answer_line<C: Detects>(
     lines: &mut LineReader,
     line: &[u8],
 ) -> Result<Answer, AllocError>
-    requires { C.offers catalog.now ≡ world.old.session.setting.catalog }
+    requires offered { C.offers catalog.now ≡ world.old.session.setting.catalog }
+    requires kept { world.old.session.forgotten ≤ report_count world.old.session.journal }
     ensures answer { IfOk result (λ a.
         AnswersBy (DueWithin (Some line.now)) world.old a world.new) }
     ensures setting { world.new.session.setting ≡ world.old.session.setting }
+    ensures forgotten { world.new.session.forgotten ≡ world.old.session.forgotten }
 {
     match str::from_utf8(line) {
         Ok(text) => answer_text(alloc, catalog, world, lines, text),

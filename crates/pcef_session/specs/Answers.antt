@@ -28,9 +28,9 @@ use Rattle.pcef_session.specs.SessionModel.{SessionModel}
 use Rattle.pcef_session.specs.Shown.{Shows}
 
 -- ---- opening
--- a session that was just opened: this is fixed for it, and its journal is empty
+-- a session that was just opened: this is fixed for it, its journal is empty, and nothing is forgotten
 abbrev pub IsOpened : Setting → SessionModel → Type 0
-IsOpened p s = (s.setting ≡ p) × (s.journal ≡ [])
+IsOpened p s = (s.setting ≡ p) × (s.journal ≡ []) × (s.forgotten ≡ 0)
 
 -- ---- commands
 -- the session refuses a command, for this reason

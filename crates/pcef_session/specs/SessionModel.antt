@@ -1,4 +1,5 @@
--- What callers see of a session: what is fixed for it, its journal, and the room that it has.
+-- What callers see of a session: what is fixed for it, its journal, how many of its oldest reports are forgotten, and the
+-- room that it has.
 use Rattle.std.specs.Prelude.{ℕ, ◌≤◌}
 use Rattle.pcef_model.specs.Entries.{Journal}
 use Rattle.pcef_model.specs.Setting.{Setting}
@@ -11,6 +12,7 @@ pub record Room : Type 0 where
 pub record SessionModel : Type 0 where
   pub setting : Setting
   pub journal : Journal
+  pub forgotten : ℕ
   pub room : Room
 
 -- no less room

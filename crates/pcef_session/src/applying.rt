@@ -38,6 +38,7 @@ fn enter_key(counted: &mut CountedJournal, command: &Command, of_rule: Option<&K
     requires slot { finds_no_slot (key_of (option_copied of_rule) command.now)
         counted.old.states ≡ false }
     ensures journal { counted.new.journal ≡ counted.old.journal }
+    ensures forgotten { counted.new.forgotten ≡ counted.old.forgotten }
     ensures states { counted.new.states
         ≡ entered_by (option_copied of_rule.entry) command.now counted.old.states }
     ensures room { counted.new.room ≡ counted.old.room }
@@ -58,6 +59,7 @@ pub(crate) fn enter(counted: &mut CountedJournal, command: Command, of_rule: Opt
     requires slot { finds_no_slot (key_of of_rule command) counted.old.states ≡ false }
     requires room { 0 < counted.old.room }
     ensures journal { counted.new.journal ≡ Entry.Command command ∷ counted.old.journal }
+    ensures forgotten { counted.new.forgotten ≡ counted.old.forgotten }
     ensures states { counted.new.states ≡ entered_by of_rule command counted.old.states }
     ensures room { counted.old.room ≤ counted.new.room + 1 }
 {
@@ -70,6 +72,7 @@ pub(crate) fn tell(counted: &mut CountedJournal, all_pending: &[PendingReport], 
     requires known { KnowsAll (keys_of counted.old.states) all_pending.now }
     requires room { length all_pending.now + length counted.old.states ≤ counted.old.room }
     ensures journal { counted.new.journal ≡ journal_told subscribed all_pending.now counted.old }
+    ensures forgotten { counted.new.forgotten ≡ counted.old.forgotten }
     ensures states { counted.new.states
         ≡ counters_told subscribed all_pending.now counted.old.states }
     ensures room { counted.old.room

@@ -33,6 +33,7 @@ pub(crate) fn take_rows(counted: &mut CountedJournal, items: &[Item])
     requires room { length items.now ≤ counted.old.room }
     requires fits { CanCountAll items.now counted.old.states }
     ensures journal { counted.new.journal ≡ with_rows (map row_of items.now) counted.old.journal }
+    ensures forgotten { counted.new.forgotten ≡ counted.old.forgotten }
     ensures states { counted.new.states
         ≡ rows_counted row_of row_slots items.now counted.old.states }
     ensures room { counted.old.room ≤ counted.new.room + length items.now }
@@ -60,6 +61,7 @@ pub(crate) fn take_all(counted: &mut CountedJournal, items: &[Item], subscribed:
     requires few { length counted.old.states ≤ 8 }
     requires fits { CanCountAll items.now counted.old.states }
     ensures taken { IsTaken subscribed items.now counted.old counted.new }
+    ensures forgotten { counted.new.forgotten ≡ counted.old.forgotten }
     ensures room { counted.old.room ≤ counted.new.room + length items.now + 8 }
 {
     if items.is_empty() {

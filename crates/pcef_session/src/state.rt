@@ -31,6 +31,7 @@ use std::sync::Arc;
 
 mod commands;
 mod flushing;
+mod forgetting;
 mod leaving;
 mod preparing;
 mod refusing;
@@ -178,6 +179,7 @@ impl SessionState {
         ensures answer { AttachStep self.old.journal result self.new.journal }
         ensures lane { IfOk result (λ worker. lane self.old.journal worker ≡ []) }
         ensures setting { self.new.setting ≡ self.old.setting }
+        ensures forgotten { self.new.forgotten ≡ self.old.forgotten }
         ensures room { OnErr result (HasAtLeast self.old.room self.new.room) }
     {
         if let Some(fault) = self.attach_fault() {
@@ -232,6 +234,7 @@ impl SessionState {
     /// The journal, which is lawful, and takes 4,294,967,295 rows at most.
     pub fn journal(&self) -> &Journal
         ensures journal { result.now.entries ≡ self.now.journal }
+        ensures forgotten { result.now.forgotten ≡ self.now.forgotten }
         ensures lawful { Lawful self.now.setting self.now.journal }
         ensures few_rows { self.now.setting.rows ≤ 4294967295 }
     {

@@ -1,5 +1,7 @@
 //! The calls, each made once more where it finds no memory.
 
+ghost use Rattle.std.specs.Prelude.{◌≡◌};
+
 use pcef_answer::step_answer;
 use pcef_catalog::Catalog;
 use pcef_core::{Session, World, run};
@@ -69,7 +71,9 @@ fn text_of(
     journal: &Journal,
     generation: u32,
     answer: &StepAnswer,
-) -> Result<String, AllocError> {
+) -> Result<String, AllocError>
+    requires { journal.now.forgotten ≡ 0 }
+{
     match step_answer(alloc, journal, generation, answer) {
         Ok(text) => Ok(text),
         Err(_) => step_answer(alloc, journal, generation, answer),

@@ -6,10 +6,10 @@ ghost use Rattle.pcef_model.specs.Journals.{attach_count};
 
 use pcef_catalog::Listing;
 use pcef_filter::read_filter;
+use pcef_journaled::JournaledState;
 use pcef_model::{Command, Level, Profile};
 use pcef_packet::{Addr, Dir, Header, Ports};
 use pcef_rule::{Arp, Gate, KeyName, Properties, Qci, QciTable, Qos, Rule, RuleName, Sums};
-use pcef_session::SessionState;
 use std::alloc::Global;
 use std::test::Fail;
 
@@ -27,10 +27,10 @@ pub fn vid() -> Result<KeyName, Fail> {
 }
 
 /// A session of 10.0.0.2 that takes so many rows and 1000 commands, and offers no rules.
-pub fn session(alloc: Global, rows: u32) -> Result<SessionState, Fail>
-    ensures journal { IfOk result (λ s. s.journal ≡ []) }
-    ensures fresh { IfOk result (λ s. attach_count s.journal ≡ 0) }
-    ensures catalog { IfOk result (λ s. s.setting.catalog ≡ []) }
+pub fn session(alloc: Global, rows: u32) -> Result<JournaledState, Fail>
+    ensures journal { IfOk result (λ s. s.session.journal ≡ []) }
+    ensures fresh { IfOk result (λ s. attach_count s.session.journal ≡ 0) }
+    ensures catalog { IfOk result (λ s. s.session.setting.catalog ≡ []) }
 {
     if rows == 0 {
         return Err("a session takes rows")?;
@@ -47,7 +47,7 @@ pub fn session(alloc: Global, rows: u32) -> Result<SessionState, Fail>
         commands: 1000,
     };
     let listing = Listing::new(alloc, Vec::new(alloc))?;
-    Ok(SessionState::open(alloc, profile, listing)?)
+    Ok(JournaledState::open(alloc, profile, listing)?)
 }
 
 /// The rule `web` with the key `vid`: what comes from port 53.

@@ -5,9 +5,11 @@ use Rattle.pcef_model.specs.declared.entry.Entry.TheVariants as entry
 use Rattle.pcef_model.specs.Entries.{Journal}
 use Rattle.pcef_usage.specs.declared.usage.KeyState.{KeyState}
 
--- the entries, the newest first, the counters in slot order, and how many more entries there is memory for
+-- the entries, the newest first, how many of the oldest reports are forgotten, the counters in slot order, and how many more
+-- entries there is memory for
 pub record Counted : Type 0 where
   pub journal : Journal
+  pub forgotten : ℕ
   pub states : List KeyState
   pub room : ℕ
 

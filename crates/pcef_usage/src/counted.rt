@@ -3,6 +3,7 @@
 ghost use Rattle.std.specs.Prelude.{◌≡◌, ◌<◌, ◌≤◌, ◌+◌, [], ◌∷◌, length, false, true, OnOk, Some, All};
 ghost use Rattle.std.specs.Option.{option_copied};
 ghost use Rattle.pcef_model.specs.Commands.{is_among};
+ghost use Rattle.pcef_model.specs.Entries.{reports};
 ghost use Rattle.pcef_model.specs.Journals.{ends_grant};
 ghost use Rattle.pcef_usage.specs.Counted.{IsEvent};
 ghost use Rattle.pcef_usage.specs.Keys.{CanCount, at_place, clashes, finds_no_slot, keys_of, place_of, reported_on, started, state_at, stopped, with_octets, with_slot, with_started};
@@ -45,6 +46,7 @@ impl CountedJournal {
     /// An empty journal in which no key has a slot. Takes no memory.
     pub fn new(alloc: Global) -> CountedJournal
         ensures journal { result.journal ≡ [] }
+        ensures forgotten { result.forgotten ≡ 0 }
         ensures states { result.states ≡ [] }
     {
         CountedJournal {
@@ -56,6 +58,7 @@ impl CountedJournal {
     /// Takes memory for so many more entries, or answers want of it.
     pub fn reserve(&mut self, additional: usize) -> Result<(), AllocError>
         ensures journal { self.new.journal ≡ self.old.journal }
+        ensures forgotten { self.new.forgotten ≡ self.old.forgotten }
         ensures states { self.new.states ≡ self.old.states }
         ensures room { OnOk result (additional ≤ self.new.room) }
         ensures kept { self.old.room ≤ self.new.room }
@@ -68,6 +71,7 @@ impl CountedJournal {
         requires event { IsEvent entry }
         requires room { 0 < self.old.room }
         ensures journal { self.new.journal ≡ entry ∷ self.old.journal }
+        ensures forgotten { self.new.forgotten ≡ self.old.forgotten }
         ensures states { self.new.states ≡ self.old.states }
         ensures room { self.old.room ≤ self.new.room + 1 }
     {
@@ -79,6 +83,7 @@ impl CountedJournal {
         requires fits { CanCount slots.now row.header.octets self.old.states }
         requires room { 0 < self.old.room }
         ensures journal { self.new.journal ≡ Entry.Row row ∷ self.old.journal }
+        ensures forgotten { self.new.forgotten ≡ self.old.forgotten }
         ensures states { self.new.states
             ≡ with_octets slots.now row.header.octets self.old.states }
         ensures room { self.old.room ≤ self.new.room + 1 }
@@ -92,6 +97,7 @@ impl CountedJournal {
         requires clash { clashes (option_copied key) level self.old.states ≡ false }
         requires slot { finds_no_slot (option_copied key) self.old.states ≡ false }
         ensures journal { self.new.journal ≡ self.old.journal }
+        ensures forgotten { self.new.forgotten ≡ self.old.forgotten }
         ensures states { self.new.states
             ≡ with_slot (option_copied key.entry) level self.old.states }
         ensures room { self.new.room ≡ self.old.room }
@@ -105,6 +111,7 @@ impl CountedJournal {
     pub fn start(&mut self, key: &KeyName, amount: u64)
         requires { is_among key.now (keys_of self.old.states) ≡ true }
         ensures journal { self.new.journal ≡ self.old.journal }
+        ensures forgotten { self.new.forgotten ≡ self.old.forgotten }
         ensures states { self.new.states ≡ with_started key.now amount self.old.states }
         ensures room { self.new.room ≡ self.old.room }
     {
@@ -115,6 +122,7 @@ impl CountedJournal {
     pub fn switch_off_reported(&mut self, all_pending: &[PendingReport])
         requires known { KnowsAll (keys_of self.old.states) all_pending.now }
         ensures journal { self.new.journal ≡ self.old.journal }
+        ensures forgotten { self.new.forgotten ≡ self.old.forgotten }
         ensures states { self.new.states ≡ states_stopped all_pending.now self.old.states }
         ensures room { self.new.room ≡ self.old.room }
     {
@@ -129,6 +137,7 @@ impl CountedJournal {
         requires room { length all_pending.now ≤ self.old.room }
         ensures journal { self.new.journal
             ≡ appended all_pending.now self.old.states self.old.journal }
+        ensures forgotten { self.new.forgotten ≡ self.old.forgotten }
         ensures states { self.new.states ≡ states_told all_pending.now self.old.states }
         ensures room { self.old.room ≤ self.new.room + length all_pending.now }
     {
@@ -143,6 +152,7 @@ impl CountedJournal {
         requires { length self.old.states ≤ self.old.room }
         ensures journal { self.new.journal
             ≡ with_thresholds subscribed self.old.states self.old.journal }
+        ensures forgotten { self.new.forgotten ≡ self.old.forgotten }
         ensures states { self.new.states ≡ thresholds_told subscribed self.old.states }
         ensures room { self.old.room ≤ self.new.room + length self.old.states }
     {
@@ -150,9 +160,20 @@ impl CountedJournal {
         self.tell_reached(reached.as_slice());
     }
 
+    /// Forgets all reports, which are still counted. Room stays.
+    pub fn forget(&mut self)
+        ensures journal { self.new.journal ≡ self.old.journal }
+        ensures forgotten { self.new.forgotten ≡ length (reports self.old.journal) }
+        ensures states { self.new.states ≡ self.old.states }
+        ensures room { self.old.room ≤ self.new.room }
+    {
+        self.journal.forget();
+    }
+
     /// The journal.
     pub fn journal(&self) -> &Journal
-        ensures { result.now.entries ≡ self.now.journal }
+        ensures entries { result.now.entries ≡ self.now.journal }
+        ensures forgotten { result.now.forgotten ≡ self.now.forgotten }
     {
         &self.journal
     }
@@ -169,6 +190,7 @@ impl CountedJournal {
         requires room { 0 < self.old.room }
         ensures journal { self.new.journal
             ≡ with_report pending.now self.old.states self.old.journal }
+        ensures forgotten { self.new.forgotten ≡ self.old.forgotten }
         ensures states { self.new.states ≡ after_report pending.now self.old.states }
         ensures room { self.old.room ≤ self.new.room + 1 }
     {
@@ -182,6 +204,7 @@ impl CountedJournal {
         requires room { length reached.now ≤ self.old.room }
         ensures journal { self.new.journal ≡ appended
             (thresholds_at reached.now self.old.states) self.old.states self.old.journal }
+        ensures forgotten { self.new.forgotten ≡ self.old.forgotten }
         ensures states { self.new.states
             ≡ states_told (thresholds_at reached.now self.old.states) self.old.states }
         ensures room { self.old.room ≤ self.new.room + length reached.now }
@@ -195,6 +218,7 @@ impl CountedJournal {
     fn stop_if(&mut self, pending: &PendingReport)
         requires known { Knows (keys_of self.old.states) pending.now }
         ensures journal { self.new.journal ≡ self.old.journal }
+        ensures forgotten { self.new.forgotten ≡ self.old.forgotten }
         ensures states { self.new.states ≡ after_stop pending.now self.old.states }
         ensures room { self.new.room ≡ self.old.room }
     {

@@ -1,5 +1,5 @@
 -- What contracts see of a worker (own choice).
-use Rattle.std.specs.Prelude.{ℕ, ◌≡◌, ◌+◌, List, [], ◌∷◌, ◌++◌, length}
+use Rattle.std.specs.Prelude.{ℕ, ◌≡◌, ◌+◌, Bool, List, [], ◌∷◌, ◌++◌, length}
 use Rattle.pcef_packet.specs.declared.header.Header.{Header}
 use Rattle.pcef_table.specs.Tables.{TableValue}
 use Rattle.pcef_model.specs.Setting.{Setting}
@@ -8,12 +8,13 @@ use Rattle.pcef_lock.specs.HandedIn.{HandedIn}
 use Rattle.pcef_lock.specs.Judging.{IsTaken}
 
 -- its number, the tables that it has seen, of which it holds the last, the rows that wait, and the rows that it
--- handed over, each in the order in which they were taken
+-- handed over, each in the order in which they were taken; and whether the latter are stored
 pub record WorkerModel : Type 0 where
   pub worker : ℕ
   pub seen : List TableValue
   pub waiting : List Item
   pub rows : List Item
+  pub keeps : Bool
 
 -- a packet is judged by the table that is held, and its row waits; the rows of a worker are numbered from 0 on
 pub record Takes (p : Setting) (first : ℕ) (header : Header) (old new : WorkerModel) : Type 0 where
@@ -27,8 +28,8 @@ flushed w = record w { waiting = []; rows = w.rows ++ w.waiting }
 
 -- what a worker hands in that left with its last flush
 abbrev pub finished : WorkerModel → HandedIn
-finished w = record { worker = w.worker; items = w.rows ++ w.waiting; abandoned = 0 }
+finished w = record { worker = w.worker; items = w.rows ++ w.waiting; keeps = w.keeps; abandoned = 0 }
 
 -- what a worker hands in that left with rows waiting
 abbrev pub abandoned : WorkerModel → HandedIn
-abandoned w = record { worker = w.worker; items = w.rows; abandoned = length w.waiting }
+abandoned w = record { worker = w.worker; items = w.rows; keeps = w.keeps; abandoned = length w.waiting }

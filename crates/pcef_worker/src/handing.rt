@@ -1,26 +1,27 @@
 //! Rows that a worker hands over, and how it leaves.
 
-ghost use Rattle.std.specs.Prelude.{◌≡◌, ◌++◌, ◌≤◌, ◌+◌, IfErr, IfOk, OnErr, OnOk, length, vec_capacity, vec_len};
+ghost use Rattle.std.specs.Prelude.{◌≡◌, ◌++◌, ◌≤◌, ◌+◌, IfErr, IfOk, OnErr, OnOk, length};
 ghost use Rattle.pcef_lock.specs.Outcomes.{judged_rows};
 ghost use Rattle.pcef_worker.specs.Working.{abandoned, finished, flushed};
 
 use crate::gate::{Gate, Point};
 use crate::worker::Worker;
 use pcef_catalog::Detects;
-use pcef_lock::{Finished, Shared};
+use pcef_lock::{Finished, OwnRows, Shared};
 use pcef_model::{FlushRefusal, Verdicts};
 use pcef_publish::{Board, Slot};
 use pcef_session::{Item, MAX_WAITING};
 use pcef_share::{Naming, Pooling};
 use std::sync::Wait;
 
-/// Adds copies of rows to a list that has the room.
-fn keep_all(rows: &mut Vec<Item>, items: &[Item])
-    requires { vec_len rows.old + length items.now ≤ vec_capacity rows.old }
-    ensures { rows.new.items ≡ rows.old.items ++ items.now }
+/// Adds rows to a worker's own list, which has the room.
+fn keep_all(rows: &mut OwnRows, items: &[Item])
+    requires { length items.now ≤ rows.old.room }
+    ensures items { rows.new.items ≡ rows.old.items ++ items.now }
+    ensures keeps { rows.new.keeps ≡ rows.old.keeps }
 {
     for item in items {
-        rows.push_reserved(item.copy());
+        rows.add(item);
     }
 }
 

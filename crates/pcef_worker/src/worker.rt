@@ -1,12 +1,12 @@
 //! Workers, with the rows that wait and those that they handed over.
 
-ghost use Rattle.std.specs.Prelude.{◌≡◌, ◌≤◌, ◌+◌, [], IfErr, IfOk, OnErr, OnOk, length};
+ghost use Rattle.std.specs.Prelude.{◌≡◌, ◌≤◌, ◌+◌, [], IfErr, IfOk, IfSome, OnErr, OnOk, false, is_some, length, true};
 ghost use mathlib.Core.List.{IsPrefix};
 ghost use Rattle.pcef_worker.specs.Working.{Takes};
 
 use crate::gate::Gate;
 use pcef_catalog::{Detects, Offers};
-use pcef_lock::{Finished, Seat, Shared};
+use pcef_lock::{Finished, OwnRows, Seat, Shared};
 use pcef_model::AttachFault;
 use pcef_packet::Header;
 use pcef_publish::{Board, Slot};
@@ -17,14 +17,14 @@ use std::marker::Model;
 use std::sync::{Arc, Wait};
 
 /// A worker of a session: its seat, what is offered, the rows that wait, and its own list of those that it handed
-/// over. Its shares hold what that list counts. It is used with the [`Shared`] that it was attached to: that is the
-/// caller's condition.
+/// over, which is stored or only counted. Its shares hold what that list counts. It is used with the [`Shared`] that it
+/// was attached to: that is the caller's condition.
 pub struct Worker<C: Offers + Drop, N: Naming, G: Gate + Drop> {
     pub(crate) seat: Seat<N>,
     pub(crate) catalog: Arc<C>,
     pub(crate) gate: G,
     pub(crate) waiting: Batch,
-    pub(crate) rows: Vec<Item>,
+    pub(crate) rows: OwnRows,
 }
 
 // Written out, so that an owner proves one call at each way out.
@@ -55,6 +55,7 @@ impl<C: Offers + Drop, N: Naming, G: Gate + Drop> Model for Worker<C, N, G> {
       seen = w.seat.subscriber;
       waiting = w.waiting;
       rows = w.rows.items;
+      keeps = w.rows.keeps;
     } };
 
     ghost invariant = { λ w. (w.seat.shares ≡ with_items zeros w.rows.items)
@@ -66,7 +67,8 @@ impl<C: Offers + Drop, N: Naming, G: Gate + Drop> Model for Worker<C, N, G> {
 impl<C: Detects + Drop, N: Naming, G: Gate + Drop> Worker<C, N, G> {
     /// Attaches a worker, in one hold of the lock: it then holds the newest table, and no row waits. Or answers the
     /// first fault in the order of [`AttachFault`], which leaves the session as it was; there is no place too where as
-    /// many workers came as the lock was made for. Takes memory, which may be refused before another fault is seen.
+    /// many workers came as the lock was made for. The rows that it hands over are stored with it, so that they can be
+    /// compared at the end. Takes memory, which may be refused before another fault is seen.
     pub fn attach<W: Board<Slot<N>> + Drop, P: Pooling, R: Wait>(
         rt: &R,
         alloc: Global,
@@ -75,6 +77,38 @@ impl<C: Detects + Drop, N: Naming, G: Gate + Drop> Worker<C, N, G> {
     ) -> Result<Worker<C, N, G>, AttachFault>
         ensures waiting { IfOk result (λ w. w.waiting ≡ []) }
         ensures rows { IfOk result (λ w. w.rows ≡ []) }
+        ensures keeps { IfOk result (λ w. w.keeps ≡ true) }
+    {
+        Worker::come(rt, alloc, shared, gate, OwnRows::new(alloc))
+    }
+
+    /// The same, of a worker that stores none of the rows that it hands over: it takes no memory for packets. Its shares
+    /// hold what they count all the same.
+    pub fn attach_without_rows<W: Board<Slot<N>> + Drop, P: Pooling, R: Wait>(
+        rt: &R,
+        alloc: Global,
+        shared: &Shared<C, N, W, P>,
+        gate: G,
+    ) -> Result<Worker<C, N, G>, AttachFault>
+        ensures waiting { IfOk result (λ w. w.waiting ≡ []) }
+        ensures rows { IfOk result (λ w. w.rows ≡ []) }
+        ensures keeps { IfOk result (λ w. w.keeps ≡ false) }
+    {
+        Worker::come(rt, alloc, shared, gate, OwnRows::counted())
+    }
+
+    /// Attaches a worker with this list, which has no rows.
+    fn come<W: Board<Slot<N>> + Drop, P: Pooling, R: Wait>(
+        rt: &R,
+        alloc: Global,
+        shared: &Shared<C, N, W, P>,
+        gate: G,
+        rows: OwnRows,
+    ) -> Result<Worker<C, N, G>, AttachFault>
+        requires { rows.items ≡ [] }
+        ensures waiting { IfOk result (λ w. w.waiting ≡ []) }
+        ensures rows { IfOk result (λ w. w.rows ≡ []) }
+        ensures keeps { IfOk result (λ w. w.keeps ≡ rows.keeps) }
     {
         let Ok(waiting) = Batch::new(alloc) else {
             return Err(AttachFault::NoMemory);
@@ -91,7 +125,7 @@ impl<C: Detects + Drop, N: Naming, G: Gate + Drop> Worker<C, N, G> {
             catalog,
             gate,
             waiting,
-            rows: Vec::new(alloc),
+            rows,
         })
     }
 
@@ -117,11 +151,19 @@ impl<C: Detects + Drop, N: Naming, G: Gate + Drop> Worker<C, N, G> {
         self.waiting.items()
     }
 
-    /// The rows that were handed over, in order.
-    pub fn rows(&self) -> &[Item]
-        ensures { result.now ≡ self.now.rows }
+    /// How many rows were handed over.
+    pub fn handed_over(&self) -> u64
+        ensures { result ≡ length self.now.rows }
     {
-        self.rows.as_slice()
+        self.rows.len()
+    }
+
+    /// The rows that were handed over, in order, where they are stored.
+    pub fn rows(&self) -> Option<&[Item]>
+        ensures items { IfSome result (λ rows. rows.now ≡ self.now.rows) }
+        ensures stored { is_some result ≡ self.now.keeps }
+    {
+        self.rows.items()
     }
 
     /// Judges a packet by the table that is held, and lets its row wait; or refuses it where 32 rows wait, which
@@ -134,7 +176,7 @@ impl<C: Detects + Drop, N: Naming, G: Gate + Drop> Worker<C, N, G> {
         if self.waiting.len() >= MAX_WAITING {
             return Err(BatchFull);
         }
-        let seq = self.rows.len() as u64 + self.waiting.len() as u64;
+        let seq = self.rows.len() + self.waiting.len() as u64;
         let item = self.seat.judge(&*self.catalog, seq, header);
         self.waiting.push(item);
         Ok(())
@@ -167,8 +209,12 @@ impl<C: Detects + Drop, N: Naming, G: Gate + Drop> Worker<C, N, G> {
 
     /// What it hands in that left with so many rows waiting.
     pub(crate) fn into_finished(self, abandoned: u8) -> Finished<N>
-        ensures { result
-            ≡ record { worker = self.worker; items = self.rows; abandoned = abandoned } }
+        ensures { result ≡ record {
+          worker = self.worker;
+          items = self.rows;
+          keeps = self.keeps;
+          abandoned = abandoned;
+        } }
     {
         let Worker {
             seat,

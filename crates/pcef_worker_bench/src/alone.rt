@@ -6,7 +6,7 @@ ghost use Rattle.pcef_share.specs.Amounts.{zeros};
 use crate::opening::packets_of;
 use crate::working::Left;
 use pcef_catalog::Detects;
-use pcef_lock::{Finished, Seat, Shared};
+use pcef_lock::{Finished, OwnRows, Seat, Shared};
 use pcef_packet::Header;
 use pcef_publish::{Board, Slot};
 use pcef_session::{Batch, MAX_WAITING};
@@ -69,7 +69,7 @@ fn judge_batches<C: Detects, N: Naming>(
 fn without_rows<N: Naming>(alloc: Global, worker: u8, shares: Shares<N>) -> Finished<N>
     requires { shares ≡ zeros }
 {
-    Finished::new(worker, Vec::new(alloc), shares, 0)
+    Finished::new(worker, OwnRows::new(alloc), shares, 0)
 }
 
 /// A worker attaches, judges packets for itself alone and leaves.

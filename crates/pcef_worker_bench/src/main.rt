@@ -7,6 +7,7 @@
 //!
 //! With a fourth word the workers do something else:
 //!
+//! - `counted`: as without a word, but neither the session nor a worker stores the rows.
 //! - `times`: each flush is timed, and on standard error stand the least, the median and the ninetieth of a hundred.
 //! - `own`: each judges 32 packets by the table that it holds and lets their rows go. Nothing is shared.
 //! - `read`: as `own`, and each refreshes before it judges 32 packets.
@@ -28,10 +29,10 @@ ghost use Rattle.pcef_share.specs.Names.{name_at};
 
 use opening::{packets, session};
 use pcef_catalog::{Catalog, Detects};
+use pcef_journaled::JournaledState;
 use pcef_lock::{Shared, opened};
 use pcef_packet::Header;
 use pcef_publish::Opened;
-use pcef_session::SessionState;
 use pcef_share::{Blanks, Naming};
 use std::alloc::Global;
 use std::marker::Brand;
@@ -47,6 +48,8 @@ use working::{Reached, outcome_of};
 pub enum Work {
     /// Take and flush.
     Flush,
+    /// Take and flush, with rows that are counted and not stored.
+    CountedFlush,
     /// Take and flush, each flush timed.
     TimedFlush,
     /// Judge by the table that is held.
@@ -71,6 +74,7 @@ pub struct Load {
 /// The work that a word names.
 fn work_named(word: &str) -> Option<Work> {
     match word {
+        "counted" => Some(Work::CountedFlush),
         "times" => Some(Work::TimedFlush),
         "own" => Some(Work::Own),
         "read" => Some(Work::Read),
@@ -148,18 +152,18 @@ fn behind_its_lock<
     clock: &K,
     alloc: Global,
     catalog: Arc<C>,
-    session: SessionState,
+    session: JournaledState,
     opened: Opened,
     blanks: Blanks,
     packets: &[Header],
     load: Load,
 ) -> Option<Reached>
     requires name { N.ledger ≡ name_at blanks }
-    requires setting { session.setting ≡ N.setting }
-    requires fresh { session.journal ≡ [] }
-    requires offers { C.offers (arc_value catalog) ≡ session.setting.catalog }
-    requires first { N.first ≡ gen session.journal }
-    requires table { Shows session.setting session.journal (gen session.journal) opened.table }
+    requires setting { session.session.setting ≡ N.setting }
+    requires fresh { session.session.journal ≡ [] }
+    requires offers { C.offers (arc_value catalog) ≡ session.session.setting.catalog }
+    requires first { N.first ≡ gen session.session.journal }
+    requires table { Shows session.session.setting session.session.journal (gen session.session.journal) opened.table }
     requires book { (opened.book ≡ N.book) × (opened.root ≡ N.root) }
 {
     match Shared::<C, N, _>::open(rt, alloc, catalog, session, opened, blanks, load.workers) {

@@ -2,15 +2,16 @@
 
 ghost use Rattle.std.specs.Prelude.{◌≡◌, [], IfSome};
 
-use crate::Load;
+use crate::{Load, Work};
 use pcef_catalog::{Listing, Offers};
 use pcef_filter::read_filter;
+use pcef_journaled::JournaledState;
 use pcef_lock::{Desk, Shared};
 use pcef_model::{Command, Level, Profile};
 use pcef_packet::{Addr, Dir, Header, Ports};
 use pcef_publish::{Board, Slot};
 use pcef_rule::{Arp, Gate, KeyName, Properties, Qci, QciTable, Qos, Rule, RuleName, Sums};
-use pcef_session::{MAX_WAITING, SessionState};
+use pcef_session::MAX_WAITING;
 use pcef_share::Naming;
 use std::alloc::Global;
 use std::sync::Wait;
@@ -37,9 +38,10 @@ fn rows(load: Load) -> Option<u32> {
     Some(flushes.checked_mul(MAX_WAITING as u32)?.max(1))
 }
 
-/// A session of 10.0.0.2 that takes all rows of the load and 100 commands, and offers no rules.
-pub fn session(alloc: Global, load: Load) -> Option<SessionState>
-    ensures { IfSome result (λ s. (s.journal ≡ []) × (s.setting.catalog ≡ [])) }
+/// A session of 10.0.0.2 that takes all rows of the load and 100 commands, and offers no rules. It
+/// stores the rows, or counts them.
+pub fn session(alloc: Global, load: Load) -> Option<JournaledState>
+    ensures { IfSome result (λ s. (s.session.journal ≡ []) × (s.session.setting.catalog ≡ [])) }
 {
     let rows = rows(load)?;
     if rows == 0 {
@@ -54,7 +56,10 @@ pub fn session(alloc: Global, load: Load) -> Option<SessionState>
         commands: 100,
     };
     let listing = Listing::new(alloc, Vec::new(alloc)).ok()?;
-    SessionState::open(alloc, profile, listing).ok()
+    if load.work == Work::CountedFlush {
+        return JournaledState::open_without_rows(alloc, profile, listing).ok();
+    }
+    JournaledState::open(alloc, profile, listing).ok()
 }
 
 /// The remote port of a rule.

@@ -92,15 +92,21 @@ fn time_each<C: Detects + Drop, N: Naming, W: Board<Slot<N>> + Drop, R: Wait, K:
     Some(())
 }
 
-/// A worker attaches, takes packets, flushes and finishes.
+/// A worker attaches, takes packets, flushes and finishes. It stores the rows, or counts them.
 fn handed_over<C: Detects + Drop, N: Naming, W: Board<Slot<N>> + Drop, R: Wait>(
     rt: &R,
     alloc: Global,
     shared: &Shared<C, N, W>,
     packets: &[Header],
     batches: u32,
+    stores: bool,
 ) -> Option<Left<N>> {
-    let mut worker = Worker::attach(rt, alloc, shared, OpenGate).ok()?;
+    let attached = if stores {
+        Worker::attach(rt, alloc, shared, OpenGate)
+    } else {
+        Worker::attach_without_rows(rt, alloc, shared, OpenGate)
+    };
+    let mut worker = attached.ok()?;
     flush_each(rt, shared, &mut worker, packets, batches);
     finished(rt, shared, worker, Vec::new(alloc))
 }
@@ -153,7 +159,8 @@ fn worked<C: Detects + Drop, N: Naming, W: Board<Slot<N>> + Drop, R: Wait, K: Cl
     load: Load,
 ) -> Option<Left<N>> {
     match load.work {
-        Work::Flush => handed_over(rt, alloc, shared, packets, load.batches),
+        Work::Flush => handed_over(rt, alloc, shared, packets, load.batches, true),
+        Work::CountedFlush => handed_over(rt, alloc, shared, packets, load.batches, false),
         Work::TimedFlush => timed(rt, clock, alloc, shared, packets, load.batches),
         Work::Own => judged_alone(rt, alloc, shared, packets, load.batches, false),
         Work::Read => judged_alone(rt, alloc, shared, packets, load.batches, true),

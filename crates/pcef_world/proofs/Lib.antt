@@ -1,4 +1,5 @@
 pub mod StepsMore
+pub mod ToldReports
 pub mod WantOfMemory
 pub mod WorkersWait
 pub mod WorldAnswers

@@ -57,6 +57,14 @@ all_set p j k workers i new within all here others = λ m w there.
       | inr differs ↦ others m w differs (all m w (sym (get_beside workers i m new differs) ∙ there))
     ]
 
+-- a session that forgets reports
+pub sound_forgotten : (s t : SessionModel) (workers : List (Option Worker)) → t.setting ≡ s.setting → t.journal ≡ s.journal → IsSoundWith s workers → IsSoundWith t workers
+sound_forgotten s t workers setting journal sound = record {
+  counted = rw journal sound.counted;
+  few_rows = rw setting sound.few_rows;
+  wait = rw (setting, journal) sound.wait;
+}
+
 -- a worker comes
 all_push : (p : Setting) (k : Journal) (workers : List (Option Worker)) (new : Worker) → AllWait p k workers → Waits p k (length workers) new → AllWait p k (workers ++ Some new ∷ [])
 all_push p k workers new all here = λ m w there.

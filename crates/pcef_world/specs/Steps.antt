@@ -1,5 +1,5 @@
 -- What the steps of a session and its workers answer, and how these stand after them (own choice).
-use Rattle.std.specs.Prelude.{ℕ, ◌≡◌, ◌+◌, Bool, true, false, List, [], ◌∷◌, ◌++◌, Option, Some, None, Result, Ok, Err, length, map, nat_le, slice_set, if◌then◌else◌}
+use Rattle.std.specs.Prelude.{ℕ, ◌≡◌, ◌≤◌, ◌+◌, IfOk, Bool, true, false, List, [], ◌∷◌, ◌++◌, Option, Some, None, Result, Ok, Err, length, map, nat_le, slice_set, if◌then◌else◌}
 use Rattle.std.specs.Result.{result_map_both}
 use Rattle.pcef_packet.specs.declared.header.Header.{Header}
 use Rattle.pcef_model.specs.declared.answer.Accepted.{Accepted}
@@ -59,6 +59,13 @@ reply_of (answer.Flush r) = flush_reply (result_map_both flush_answer_of (λ e. 
 reply_of (answer.Finish r) = finish_reply (result_map_both finish_answer_of (λ e. e) r)
 reply_of (answer.Abandon abandoned) = abandon_reply abandoned
 reply_of answer.NoWorker = no_worker
+
+-- no report that a reply may tell of is among so many that are forgotten
+abbrev pub TellsKept : ℕ → Reply → Type 0
+TellsKept forgotten (command_reply r) = IfOk r (λ a. forgotten ≤ a.first_report)
+TellsKept forgotten (flush_reply r) = IfOk r (λ told. forgotten ≤ told.first_report)
+TellsKept forgotten (finish_reply r) = IfOk r (λ told. forgotten ≤ told.0.first_report)
+TellsKept forgotten other = Unit {0}
 
 abbrev pub is_error : {A E : Type 0} → Result A E → Bool
 is_error (Ok a) = false

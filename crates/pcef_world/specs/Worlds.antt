@@ -40,6 +40,7 @@ AreInTurn p j workers = (number : ℕ) (w : Waiting) → worker_at workers numbe
 abbrev pub HasWorkersInTurn : World → Type 0
 HasWorkersInTurn w = AreInTurn w.session.setting w.session.journal w.workers
 
--- a world that was just opened: this is fixed for its session, its journal is empty, and no worker ever came
+-- a world that was just opened: this is fixed for its session, its journal is empty, no worker ever came, and nothing is
+-- forgotten
 abbrev pub IsOpenedWorld : Setting → World → Type 0
-IsOpenedWorld p w = (w.session.setting ≡ p) × (w.session.journal ≡ []) × (w.workers ≡ [])
+IsOpenedWorld p w = (w.session.setting ≡ p) × (w.session.journal ≡ []) × (w.workers ≡ []) × (w.session.forgotten ≡ 0)

@@ -59,6 +59,7 @@ pub(crate) fn flush_at(
     requires { IfSome place.old (MayHandOver session.old.setting session.old.journal) }
     ensures answer { HandsOverAt session.old place.old result session.new place.new }
     ensures setting { session.new.setting ≡ session.old.setting }
+    ensures forgotten { session.new.forgotten ≡ session.old.forgotten }
 {
     match place {
         None => Ok(StepAnswer::NoWorker),
@@ -74,6 +75,7 @@ pub(crate) fn finish_at(
     requires { IfSome place.old (MayHandOver session.old.setting session.old.journal) }
     ensures answer { LeavesAt session.old place.old result session.new place.new }
     ensures setting { session.new.setting ≡ session.old.setting }
+    ensures forgotten { session.new.forgotten ≡ session.old.forgotten }
 {
     let answer = match &*place {
         None => return Ok(StepAnswer::NoWorker),
@@ -93,6 +95,7 @@ pub(crate) fn abandon_at(place: &mut Option<Worker>, session: &mut SessionState)
     requires { IfSome place.old (λ w. is_attached session.old.journal w.number ≡ true) }
     ensures answer { AbandonsAt session.old.journal place.old result session.new.journal place.new }
     ensures setting { session.new.setting ≡ session.old.setting }
+    ensures forgotten { session.new.forgotten ≡ session.old.forgotten }
 {
     let abandoned = match &*place {
         None => return StepAnswer::NoWorker,

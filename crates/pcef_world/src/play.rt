@@ -23,6 +23,7 @@ impl WorldState {
         ensures answers { IfOk result (λ v. MakesSteps self.old steps.items v.items self.new) }
         ensures front { OnErr result (MakesFront self.old steps.items self.new) }
         ensures setting { self.new.session.setting ≡ self.old.session.setting }
+        ensures forgotten { self.new.session.forgotten ≡ self.old.session.forgotten }
     {
         let mut answers = Vec::with_capacity(alloc, steps.len())?;
         for step in steps {

@@ -73,6 +73,7 @@ impl Worker {
             result session.new }
         ensures worker { self.new ≡ after_flushing result self.old }
         ensures setting { session.new.setting ≡ session.old.setting }
+        ensures forgotten { session.new.forgotten ≡ session.old.forgotten }
     {
         let verdicts = session.flush(self.number, &self.waiting)?;
         self.waiting.clear();
@@ -86,6 +87,7 @@ impl Worker {
         ensures answer { AnswersFinish session.old self.now.number self.now.waiting
             result session.new }
         ensures setting { session.new.setting ≡ session.old.setting }
+        ensures forgotten { session.new.forgotten ≡ session.old.forgotten }
     {
         session.finish(self.number, &self.waiting)
     }

@@ -4,12 +4,12 @@ ghost use Rattle.std.specs.Prelude.{◌≡◌, ◌≤◌, [], IfErr, IfOk, lengt
 ghost use Rattle.std.specs.Arc.{arc_value};
 ghost use Rattle.std.specs.Result.{result_err};
 ghost use Rattle.pcef_model.specs.Outcomes.{AttachStep, Opens};
-ghost use Rattle.pcef_model.specs.Journals.{attach_count};
+ghost use Rattle.pcef_model.specs.Journals.{attach_count, report_count};
 ghost use Rattle.pcef_model.specs.ProfileModel.{setting_of};
 ghost use Rattle.pcef_model.specs.declared.step.Step.{Step};
 ghost use Rattle.pcef_model.specs.declared.step.Step.TheVariants as of;
 ghost use Rattle.pcef_session.specs.Answers.{ShowsNewest};
-ghost use Rattle.pcef_world.specs.Steps.{LacksForStep, MakesStep};
+ghost use Rattle.pcef_world.specs.Steps.{LacksForStep, MakesStep, standing_of};
 ghost use Rattle.pcef_world.specs.Worlds.{HasWorkersInTurn, IsOpenedWorld};
 ghost use Rattle.pcef_world.specs.private.Places.{after_coming};
 
@@ -99,6 +99,7 @@ impl WorldState {
         ensures answer { IfOk result (λ a. MakesStep self.old step a self.new) }
         ensures lacks { IfErr result (λ _. LacksForStep self.old step self.new) }
         ensures setting { self.new.session.setting ≡ self.old.session.setting }
+        ensures forgotten { self.new.session.forgotten ≡ self.old.session.forgotten }
     {
         match step {
             Step::Command(command) => self.command(command),
@@ -111,10 +112,20 @@ impl WorldState {
         }
     }
 
+    /// Forgets the reports that were made so far, as [`SessionState::forget`]. Takes no memory.
+    pub fn forget(&mut self)
+        ensures standing { standing_of self.new ≡ standing_of self.old }
+        ensures setting { self.new.session.setting ≡ self.old.session.setting }
+        ensures forgotten { self.new.session.forgotten ≡ report_count self.old.session.journal }
+    {
+        self.session.forget();
+    }
+
     fn command(&mut self, command: Command) -> Result<StepAnswer, AllocError>
         ensures answer { IfOk result (λ a. MakesStep self.old (of.Command command) a self.new) }
         ensures lacks { IfErr result (λ _. LacksForStep self.old (of.Command command) self.new) }
         ensures setting { self.new.session.setting ≡ self.old.session.setting }
+        ensures forgotten { self.new.session.forgotten ≡ self.old.session.forgotten }
     {
         command_told(self.session.command(command))
     }
@@ -125,6 +136,7 @@ impl WorldState {
         ensures workers { self.new.workers
             ≡ after_coming self.old.session.journal result self.old.workers }
         ensures setting { self.new.session.setting ≡ self.old.session.setting }
+        ensures forgotten { self.new.session.forgotten ≡ self.old.session.forgotten }
     {
         if let Some(fault) = self.session.attach_fault() {
             return Err(fault);
@@ -151,6 +163,7 @@ impl WorldState {
         ensures answer { IfOk result (λ a. MakesStep self.old of.Attach a self.new) }
         ensures lacks { IfErr result (λ _. LacksForStep self.old of.Attach self.new) }
         ensures setting { self.new.session.setting ≡ self.old.session.setting }
+        ensures forgotten { self.new.session.forgotten ≡ self.old.session.forgotten }
     {
         attach_told(self.come())
     }
@@ -159,6 +172,7 @@ impl WorldState {
         requires { C.offers catalog.now ≡ self.old.session.setting.catalog }
         ensures answer { MakesStep self.old (of.Take worker header.now) result self.new }
         ensures setting { self.new.session.setting ≡ self.old.session.setting }
+        ensures forgotten { self.new.session.forgotten ≡ self.old.session.forgotten }
     {
         let ue = self.session.profile().ue;
         let handed_over = self.session.lane_len(worker);
@@ -172,6 +186,7 @@ impl WorldState {
         ensures answer { IfOk result (λ a. MakesStep self.old (of.Refresh worker) a self.new) }
         ensures lacks { IfErr result (λ _. LacksForStep self.old (of.Refresh worker) self.new) }
         ensures setting { self.new.session.setting ≡ self.old.session.setting }
+        ensures forgotten { self.new.session.forgotten ≡ self.old.session.forgotten }
     {
         let Some(place) = self.workers.get_mut(usize::from(worker)) else {
             return Ok(StepAnswer::NoWorker);
@@ -183,6 +198,7 @@ impl WorldState {
         ensures answer { IfOk result (λ a. MakesStep self.old (of.Flush worker) a self.new) }
         ensures lacks { IfErr result (λ _. LacksForStep self.old (of.Flush worker) self.new) }
         ensures setting { self.new.session.setting ≡ self.old.session.setting }
+        ensures forgotten { self.new.session.forgotten ≡ self.old.session.forgotten }
     {
         match self.workers.get_mut(usize::from(worker)) {
             None => Ok(StepAnswer::NoWorker),
@@ -194,6 +210,7 @@ impl WorldState {
         ensures answer { IfOk result (λ a. MakesStep self.old (of.Finish worker) a self.new) }
         ensures lacks { IfErr result (λ _. LacksForStep self.old (of.Finish worker) self.new) }
         ensures setting { self.new.session.setting ≡ self.old.session.setting }
+        ensures forgotten { self.new.session.forgotten ≡ self.old.session.forgotten }
     {
         match self.workers.get_mut(usize::from(worker)) {
             None => Ok(StepAnswer::NoWorker),
@@ -204,6 +221,7 @@ impl WorldState {
     fn abandon(&mut self, worker: u8) -> StepAnswer
         ensures answer { MakesStep self.old (of.Abandon worker) result self.new }
         ensures setting { self.new.session.setting ≡ self.old.session.setting }
+        ensures forgotten { self.new.session.forgotten ≡ self.old.session.forgotten }
     {
         match self.workers.get_mut(usize::from(worker)) {
             None => StepAnswer::NoWorker,

@@ -1,9 +1,10 @@
-//! A small journal of two workers, whose lanes, commands and reports were written out by hand.
+//! A small journal of two workers, and an archive beside it: their lanes, commands and reports were written out by hand.
 
 ghost use Rattle.pcef_rule.specs.Name.{IsName};
 
 use pcef_filter::read_filter;
-use pcef_journal::{Commands, Journal, Lane, Reports};
+use pcef_journal::{Journal, Reports};
+use pcef_journaled::{Archive, Commands, Lane};
 use pcef_model::{
     AccessKind, Body, Cause, Command, Entry, InactiveCause, Level, NoticeValue, Report, Row,
     TriggerSet, Verdict,
@@ -85,6 +86,17 @@ fn add(journal: &mut Journal, entry: Entry) -> Result<(), AllocError> {
     }
 }
 
+/// Takes memory for a row or a command and keeps it.
+fn keep(archive: &mut Archive, entry: Entry) -> Result<(), AllocError> {
+    archive.reserve(1)?;
+    match entry {
+        Entry::Row(row) => archive.add_row(&row),
+        Entry::Command(command) => archive.add_command(command),
+        _other => {}
+    }
+    Ok(())
+}
+
 /// An entry of the small journal by its place, from 0 to 10.
 fn entry(alloc: Global, place: u8) -> Result<Entry, Fail> {
     Ok(match place {
@@ -110,15 +122,19 @@ fn fill(alloc: Global, journal: &mut Journal) -> Result<(), Fail> {
     Ok(())
 }
 
+/// Keeps the rows and commands of the small journal.
+fn keep_all(alloc: Global, archive: &mut Archive) -> Result<(), Fail> {
+    for place in 0..11u8 {
+        keep(archive, entry(alloc, place)?)?;
+    }
+    Ok(())
+}
+
 /// What is seen of the small journal.
 #[derive(Clone, Copy)]
 struct Seen {
     /// How many rows, commands and reports there are.
     counts: (u64, u64, u64),
-    /// The octets of the first three rows of workers 0, 1 and 2.
-    octets: [[Option<u32>; 3]; 3],
-    /// Whether the two commands are as expected, one by one, and whether no other follows them.
-    commands: [bool; 3],
     /// The numbers of the first four reports from 0, 1, 2, 3 and 9 on.
     numbers: [[Option<u64>; 4]; 5],
     /// Whether all reports are copied, then those after the first one, and then those after the last one.
@@ -130,12 +146,6 @@ fn filled_and_seen(alloc: Global, journal: &mut Journal) -> Result<Seen, Fail> {
     fill(alloc, journal)?;
     Ok(Seen {
         counts: counts(journal),
-        octets: [
-            octets_of(journal, 0),
-            octets_of(journal, 1),
-            octets_of(journal, 2),
-        ],
-        commands: are_commands(alloc, journal.commands())?,
         numbers: [
             numbers_from(journal, 0),
             numbers_from(journal, 1),
@@ -197,8 +207,19 @@ fn next_octets(lane: &mut Lane<'_>) -> Option<u32> {
     lane.next().map(|row| row.header.octets)
 }
 
-fn octets_of(journal: &Journal, worker: u8) -> [Option<u32>; 3] {
-    let mut lane = journal.lane(worker);
+/// The rows of a worker, where they are stored.
+fn lane_of(archive: &Archive, worker: u8) -> Option<Lane<'_>> {
+    if archive.keeps() {
+        Some(archive.lane(worker))
+    } else {
+        None
+    }
+}
+
+fn octets_of(archive: &Archive, worker: u8) -> [Option<u32>; 3] {
+    let Some(mut lane) = lane_of(archive, worker) else {
+        return [None; 3];
+    };
     [
         next_octets(&mut lane),
         next_octets(&mut lane),
@@ -206,9 +227,35 @@ fn octets_of(journal: &Journal, worker: u8) -> [Option<u32>; 3] {
     ]
 }
 
+/// What is seen of the small journal's archive.
+#[derive(Clone, Copy)]
+struct Kept {
+    /// The octets of the first three rows of workers 0, 1 and 2.
+    octets: [[Option<u32>; 3]; 3],
+    /// Whether the two commands are as expected, one by one, and whether no other follows them.
+    commands: [bool; 3],
+}
+
+fn kept_and_seen(alloc: Global, archive: &mut Archive) -> Result<Kept, Fail> {
+    keep_all(alloc, archive)?;
+    Ok(Kept {
+        octets: [
+            octets_of(archive, 0),
+            octets_of(archive, 1),
+            octets_of(archive, 2),
+        ],
+        commands: are_commands(alloc, archive.commands())?,
+    })
+}
+
+fn small_archive(alloc: Global) -> Result<Kept, Fail> {
+    let mut archive = Archive::new(alloc);
+    kept_and_seen(alloc, &mut archive)
+}
+
 #[test]
 fn lanes_of_workers(rt: HostRuntime) -> Result<(), Fail> {
-    let octets = small_journal(rt.alloc())?.octets;
+    let octets = small_archive(rt.alloc())?.octets;
     assert_eq!(rt;
         octets,
         [
@@ -252,10 +299,10 @@ fn verdict(place: u8) -> Verdict {
     }
 }
 
-/// Adds a row of each of the eight verdicts.
-fn add_verdicts(journal: &mut Journal) -> Result<(), AllocError> {
+/// Keeps a row of each of the eight verdicts.
+fn keep_verdicts(archive: &mut Archive) -> Result<(), AllocError> {
     for place in 0..8u8 {
-        add(journal, Entry::Row(row(0, 0, 40, verdict(place))))?;
+        keep(archive, Entry::Row(row(0, 0, 40, verdict(place))))?;
     }
     Ok(())
 }
@@ -279,15 +326,18 @@ fn verdicts_in(mut lane: Lane<'_>) -> (u8, bool) {
     (kept, lane.next().is_none())
 }
 
-fn added_and_kept(journal: &mut Journal) -> Result<(u8, bool), AllocError> {
-    add_verdicts(journal)?;
-    Ok(verdicts_in(journal.lane(0)))
+fn kept_and_found(archive: &mut Archive) -> Result<(u8, bool), AllocError> {
+    keep_verdicts(archive)?;
+    match lane_of(archive, 0) {
+        Some(lane) => Ok(verdicts_in(lane)),
+        None => Ok((0, false)),
+    }
 }
 
-/// What a journal keeps of the eight verdicts.
+/// What an archive keeps of the eight verdicts.
 fn kept_verdicts(alloc: Global) -> Result<(u8, bool), AllocError> {
-    let mut journal = Journal::new(alloc);
-    added_and_kept(&mut journal)
+    let mut archive = Archive::new(alloc);
+    kept_and_found(&mut archive)
 }
 
 #[test]
@@ -323,10 +373,10 @@ fn row_between(src: Addr, dst: Addr) -> Row {
     row
 }
 
-/// Adds a row for each of the addresses.
-fn add_addresses(journal: &mut Journal) -> Result<(), AllocError> {
+/// Keeps a row for each of the addresses.
+fn keep_addresses(archive: &mut Archive) -> Result<(), AllocError> {
     for (src, dst) in &ADDRESSES {
-        add(journal, Entry::Row(row_between(*src, *dst)))?;
+        keep(archive, Entry::Row(row_between(*src, *dst)))?;
     }
     Ok(())
 }
@@ -341,15 +391,18 @@ fn first_missing(mut lane: Lane<'_>) -> Option<(Addr, Addr)> {
     None
 }
 
-fn added_and_missing(journal: &mut Journal) -> Result<Option<(Addr, Addr)>, AllocError> {
-    add_addresses(journal)?;
-    Ok(first_missing(journal.lane(0)))
+fn kept_and_missing(archive: &mut Archive) -> Result<Option<(Addr, Addr)>, AllocError> {
+    keep_addresses(archive)?;
+    match lane_of(archive, 0) {
+        Some(lane) => Ok(first_missing(lane)),
+        None => Ok(Some((Addr::V4(0), Addr::V4(0)))),
+    }
 }
 
-/// The first of the addresses that a journal doesn't give back.
+/// The first of the addresses that an archive doesn't give back.
 fn missing_addresses(alloc: Global) -> Result<Option<(Addr, Addr)>, AllocError> {
-    let mut journal = Journal::new(alloc);
-    added_and_missing(&mut journal)
+    let mut archive = Archive::new(alloc);
+    kept_and_missing(&mut archive)
 }
 
 #[test]
@@ -377,7 +430,7 @@ fn are_commands(alloc: Global, mut commands: Commands<'_>) -> Result<[bool; 3], 
 
 #[test]
 fn commands_from_the_oldest_on(rt: HostRuntime) -> Result<(), Fail> {
-    let commands = small_journal(rt.alloc())?.commands;
+    let commands = small_archive(rt.alloc())?.commands;
     assert_eq!(rt; commands, [true; 3]);
     Ok(())
 }
@@ -386,7 +439,11 @@ fn next_number(reports: &mut Reports<'_>) -> Option<u64> {
     reports.next().map(|report| report.number)
 }
 
+/// The numbers of the first four reports from a number on, none where reports from there on are forgotten.
 fn numbers_from(journal: &Journal, first: u64) -> [Option<u64>; 4] {
+    if first < journal.forgotten() {
+        return [None; 4];
+    }
     let mut reports = journal.reports_from(first);
     [
         next_number(&mut reports),
@@ -412,6 +469,41 @@ fn reports_from_a_number_on(rt: HostRuntime) -> Result<(), Fail> {
     Ok(())
 }
 
+/// How many reports are forgotten, how many there are, and the numbers of those from 3 on: after the three of the small
+/// journal are forgotten, and then after one more.
+type Forgetting = [(u64, u64, [Option<u64>; 4]); 2];
+
+fn seen_from_three(journal: &Journal) -> (u64, u64, [Option<u64>; 4]) {
+    (
+        journal.forgotten(),
+        journal.reports_len(),
+        numbers_from(journal, 3),
+    )
+}
+
+fn filled_and_forgotten(alloc: Global, journal: &mut Journal) -> Result<Forgetting, Fail> {
+    fill(alloc, journal)?;
+    journal.forget();
+    let before = seen_from_three(journal);
+    add(journal, Entry::Report(report(3)))?;
+    Ok([before, seen_from_three(journal)])
+}
+
+fn forgetting_journal(alloc: Global) -> Result<Forgetting, Fail> {
+    let mut journal = Journal::new(alloc);
+    filled_and_forgotten(alloc, &mut journal)
+}
+
+#[test]
+fn reports_are_numbered_on_when_the_first_are_forgotten(rt: HostRuntime) -> Result<(), Fail> {
+    let seen = forgetting_journal(rt.alloc())?;
+    assert_eq!(rt;
+        seen,
+        [(3, 3, [None; 4]), (3, 4, [Some(3), None, None, None])]
+    );
+    Ok(())
+}
+
 /// Whether these are the reports of these numbers.
 fn are_reports(found: &[Report], numbers: &[u64]) -> bool {
     if found.len() != numbers.len() {
@@ -432,6 +524,9 @@ fn are_copied(alloc: Global, reports: &Reports<'_>, numbers: &[u64]) -> Option<b
 }
 
 fn are_copied_from(alloc: Global, journal: &Journal) -> [Option<bool>; 3] {
+    if journal.forgotten() > 0 {
+        return [None; 3];
+    }
     let mut reports = journal.reports_from(0);
     let all = are_copied(alloc, &reports, &[0, 1, 2]);
     let _ = reports.next();

@@ -165,7 +165,8 @@ fn is_first_report(counted: &CountedJournal, key: KeyName, octets: u64, cause: C
         number: 0,
         body: Body::Usage { key, octets, cause },
     };
-    counted.journal().reports_from(0).next() == Some(&expected)
+    let journal = counted.journal();
+    journal.forgotten() == 0 && journal.reports_from(0).next() == Some(&expected)
 }
 
 /// Whether memory is taken for three entries, what is then seen of a journal without entries, and the slot of a key

@@ -18,7 +18,7 @@ impl<N: Naming, W: Board<Slot<N>> + Drop, P: Pooling> State<N, W, P> {
         ensures numbered { IfOk result (λ v. AreNumbered from v.items) }
         ensures fits { IfOk result (λ v. from + length v.items < 2 ^ 64) }
     {
-        let journal = self.session.journal();
+        let journal = self.session.session().journal();
         if journal.reports_len() <= from {
             return Ok(Vec::new(self.alloc));
         }

@@ -1,18 +1,18 @@
 //! All books of a session, when its workers have left.
 
-ghost use Rattle.std.specs.Prelude.{◌≡◌, ◌≤◌, ◌<◌, ◌+◌, ◌∷◌, ℕ, All, IfErr, IfOk, IfSome, None, Some, length, map, reverse, slice_index};
+ghost use Rattle.std.specs.Prelude.{◌≡◌, ◌≤◌, ◌<◌, ◌+◌, ◌∷◌, ℕ, All, IfErr, IfOk, IfSome, None, Some, length, map, reverse, slice_index, ◌↔◌, true};
 ghost use Rattle.pcef_model.specs.Entries.{commands, rows};
 ghost use Rattle.pcef_model.specs.Journals.{attach_count};
-ghost use Rattle.pcef_model.specs.Lawful.{Lawful};
 ghost use Rattle.pcef_share.specs.Amounts.{zeros};
 ghost use Rattle.pcef_lock.specs.Counting.{slot_total, with_items};
-ghost use Rattle.pcef_lock.specs.Gathering.{AreGathered, CanGather, HaveLanes, IsAtFault, key_totals, rows_abandoned};
+ghost use Rattle.pcef_lock.specs.Gathering.{AreCompared, AreGathered, HaveLanes, IsAtFault, key_totals, rows_abandoned};
+ghost use Rattle.pcef_journaled.specs.Archiving.{Archives};
 ghost use Rattle.pcef_pool.specs.Pools.{rates_due};
 
 use super::State;
 use crate::desk::Desk;
 use crate::finished::Finished;
-use crate::gathering::{GatherFault, Totals, abandoned, are_commands, differing};
+use crate::gathering::{GatherFault, Totals, abandoned, are_compared, gather_fault};
 use crate::key_totals::{KeyTotal, KeyTotals};
 use arrayvec::ArrayVec;
 use pcef_publish::{Board, Slot};
@@ -77,35 +77,12 @@ impl<N: Naming, W: Board<Slot<N>> + Drop, P: Pooling> State<N, W, P> {
         self.books.issued() - 1
     }
 
-    /// Why no totals can be had, if they can't.
-    fn gather_fault(&self, desk: &Desk<N>, finished: &[Finished<N>]) -> Option<GatherFault>
-        requires { length finished.now ≤ 16 }
-        ensures none { result ≡ None →
-            CanGather self.now.session.journal desk.now.commands finished.now }
-        ensures some { IfSome result
-            (IsAtFault self.now.session.journal desk.now.commands finished.now) }
-        ensures lawful { Lawful self.now.session.setting self.now.session.journal }
-    {
-        let journal = self.session.journal();
-        let workers = self.workers();
-        let here = finished.len() as u8;
-        if here < workers {
-            return Some(GatherFault::WorkersOut(workers - here));
-        }
-        if let Some(worker) = differing(journal, finished, workers) {
-            return Some(GatherFault::LaneDiffers(worker));
-        }
-        if !are_commands(desk.commands(), journal.commands()) {
-            return Some(GatherFault::DeskDiffers);
-        }
-        None
-    }
-
-    /// The totals of the session when all its workers have left: each was handed in with its lane, and the desk with
-    /// the journal's commands. What is counted for a key is then what the own lists of the workers have for it, and it
-    /// is reported or unreported. Else all comes back with the first fault in the order of [`GatherFault`]. Takes no
-    /// memory. The conditions of the caller: the desk and the workers are those of this lock, and no two of them are of
-    /// one worker.
+    /// The totals of the session when all its workers have left and were handed in. What is counted for a key is then
+    /// what the own lists of the workers have for it, and it is reported or unreported. Where the session stores its
+    /// rows, and each worker its own list, lists are compared: each worker was handed in with its lane, and the desk
+    /// with the journal's commands. Else all comes back with the first fault in the order of [`GatherFault`].
+    /// Takes no memory. The conditions of the caller: the desk and the workers are those of this lock, and no two of
+    /// them are of one worker.
     // Apart, for inlined it takes LLVM a minute and a half: the value is large, and is moved three times.
     #[inline(never)]
     pub fn gather(
@@ -114,12 +91,18 @@ impl<N: Naming, W: Board<Slot<N>> + Drop, P: Pooling> State<N, W, P> {
         finished: Vec<Finished<N>>,
     ) -> Result<Totals<P>, StateUngathered<N, W, P>>
         requires { length finished.items ≤ 16 }
-        ensures session { IfOk result (λ t. t.session ≡ self.session) }
+        ensures session { IfOk result (λ t. t.session.journal ≡ self.session.journal) }
         ensures setting { IfOk result (λ t. t.session.setting ≡ N.setting) }
         ensures workers { IfOk result (λ _.
             length finished.items ≡ attach_count self.session.journal) }
-        ensures lanes { IfOk result (λ _. HaveLanes self.session.journal finished.items) }
-        ensures desk { IfOk result (λ _. desk.commands ≡ reverse (commands self.session.journal)) }
+        ensures lanes { IfOk result (λ t. t.compared ≡ true →
+            HaveLanes self.session.journal finished.items) }
+        ensures desk { IfOk result (λ t. t.compared ≡ true →
+            desk.commands ≡ reverse (commands self.session.journal)) }
+        ensures compared { IfOk result (λ t. (t.compared ≡ true)
+            ↔ AreCompared t.archive.keeps finished.items) }
+        ensures archive { IfOk result (λ t. Archives t.session.journal t.archive) }
+        ensures reports { IfOk result (λ t. t.session.forgotten ≡ 0) }
         ensures keys { IfOk result (λ t. t.keys ≡ key_totals N.setting self.session.journal) }
         ensures gathered { IfOk result (λ t. AreGathered t.keys finished.items) }
         ensures sums { IfOk result (λ t. All (λ k. k.counted ≡ k.reported + k.unreported) t.keys) }
@@ -132,7 +115,15 @@ impl<N: Naming, W: Board<Slot<N>> + Drop, P: Pooling> State<N, W, P> {
         ensures back { IfErr result (λ e. (e.state ≡ self)
             × (e.desk ≡ desk) × (e.finished.items ≡ finished.items)) }
     {
-        if let Some(fault) = self.gather_fault(&desk, finished.as_slice()) {
+        let workers = self.workers();
+        let compared = are_compared(&self.session, finished.as_slice());
+        if let Some(fault) = gather_fault(
+            &self.session,
+            desk.commands(),
+            finished.as_slice(),
+            workers,
+            compared,
+        ) {
             return Err(StateUngathered {
                 fault,
                 state: self,
@@ -154,9 +145,12 @@ impl<N: Naming, W: Board<Slot<N>> + Drop, P: Pooling> State<N, W, P> {
         let Ok(amounts) = books.gather(shares) else {
             unreachable!()
         };
+        let (session, archive) = session.into_parts();
         let keys = totals_of(&session, &amounts);
         Ok(Totals {
             session,
+            archive,
+            compared,
             rows: amounts[8],
             abandoned,
             keys,

@@ -94,7 +94,7 @@ impl<N: Naming, W: Board<Slot<N>> + Drop, P: Pooling> State<N, W, P> {
         ensures books { self.new.books ≡ self.old.books }
         ensures places { self.new.places ≡ self.old.places }
     {
-        if self.session.is_attached(seat.worker) {
+        if self.session.session().is_attached(seat.worker) {
             self.session.detach(seat.worker);
         }
     }

@@ -7,9 +7,9 @@ ghost use Rattle.pcef_session.specs.Answers.{ShowsNewest};
 ghost use Rattle.pcef_share.specs.Names.{name_at};
 
 use super::*;
+use pcef_journaled::JournaledState;
 use pcef_lock::{Desk, Pool, Shared, Totals, opened};
 use pcef_publish::{Board, Opened, Slot, Writer};
-use pcef_session::SessionState;
 use pcef_share::{Blanks, Naming, RateShares};
 use std::sync::{Arc, Wait};
 use std::thread::{Threads, join};
@@ -43,19 +43,19 @@ struct Left<P: Pooling> {
 #[derive(Drop)]
 struct Side {
     catalog: Arc<Listing>,
-    session: SessionState,
+    session: JournaledState,
     opened: Opened,
 }
 
 /// A new session that offers no rules, or nothing for want of memory.
 fn new_side(alloc: Global) -> Option<Side>
-    ensures fresh { IfSome result (λ s. s.session.journal ≡ []) }
-    ensures offers { IfSome result (λ s. arc_value s.catalog ≡ s.session.setting.catalog) }
-    ensures table { IfSome result (λ s. ShowsNewest s.session s.opened.table) }
+    ensures fresh { IfSome result (λ s. s.session.session.journal ≡ []) }
+    ensures offers { IfSome result (λ s. arc_value s.catalog ≡ s.session.session.setting.catalog) }
+    ensures table { IfSome result (λ s. ShowsNewest s.session.session s.opened.table) }
 {
     let (profile, listing) = asked(alloc, 9)?;
     let catalog = Arc::new(alloc, listing.share().ok()?).ok()?;
-    let session = SessionState::open(alloc, profile, listing).ok()?;
+    let session = JournaledState::open(alloc, profile, listing).ok()?;
     match opened(&session).ok() {
         Some(opened) => Some(Side {
             catalog,
@@ -76,12 +76,12 @@ fn behind_lock<'p, N: Naming, P: Pooling, R: Wait + Drop>(
 ) -> Option<(Shared<'p, Listing, N, Writer<N, R>, P>, Desk<N>)>
     requires there { P.is_there ≡ true }
     requires name { N.ledger ≡ name_at blanks }
-    requires setting { side.session.setting ≡ N.setting }
-    requires first { N.first ≡ gen side.session.journal }
+    requires setting { side.session.session.setting ≡ N.setting }
+    requires first { N.first ≡ gen side.session.session.journal }
     requires book { (side.opened.book ≡ N.book) × (side.opened.root ≡ N.root) }
-    requires fresh { side.session.journal ≡ [] }
-    requires offers { arc_value side.catalog ≡ side.session.setting.catalog }
-    requires table { ShowsNewest side.session side.opened.table }
+    requires fresh { side.session.session.journal ≡ [] }
+    requires offers { arc_value side.catalog ≡ side.session.session.setting.catalog }
+    requires table { ShowsNewest side.session.session side.opened.table }
 {
     let Side {
         catalog,
@@ -204,6 +204,8 @@ fn end_of<N: Naming, W: Board<Slot<N>> + Drop, P: Pooling, R: Wait>(
     let totals = shared.gather(rt, desk, Vec::new(alloc)).ok()?;
     let Totals {
         session,
+        archive: _,
+        compared: _,
         rows: _,
         abandoned: _,
         keys: _,
@@ -258,12 +260,12 @@ fn second_named<
 ) -> Option<(Seen, Left<P>, Left<P>)>
     requires there { P.is_there ≡ true }
     requires name { B.ledger ≡ name_at blanks }
-    requires setting { side.session.setting ≡ B.setting }
-    requires first { B.first ≡ gen side.session.journal }
+    requires setting { side.session.session.setting ≡ B.setting }
+    requires first { B.first ≡ gen side.session.session.journal }
     requires book { (side.opened.book ≡ B.book) × (side.opened.root ≡ B.root) }
-    requires fresh { side.session.journal ≡ [] }
-    requires offers { arc_value side.catalog ≡ side.session.setting.catalog }
-    requires table { ShowsNewest side.session side.opened.table }
+    requires fresh { side.session.session.journal ≡ [] }
+    requires offers { arc_value side.catalog ≡ side.session.session.setting.catalog }
+    requires table { ShowsNewest side.session.session side.opened.table }
 {
     let other = behind_lock::<B, P, _>(rt, alloc, pool, side, blanks)?;
     seen_and_left(rt, alloc, task, one, other)
@@ -280,12 +282,12 @@ fn first_named<A: Naming + Send + Sync, P: Pooling + Send + Sync, R: Threads + W
 ) -> Option<(Seen, Left<P>, Left<P>)>
     requires there { P.is_there ≡ true }
     requires name { A.ledger ≡ name_at blanks }
-    requires setting { side.session.setting ≡ A.setting }
-    requires first { A.first ≡ gen side.session.journal }
+    requires setting { side.session.session.setting ≡ A.setting }
+    requires first { A.first ≡ gen side.session.session.journal }
     requires book { (side.opened.book ≡ A.book) × (side.opened.root ≡ A.root) }
-    requires fresh { side.session.journal ≡ [] }
-    requires offers { arc_value side.catalog ≡ side.session.setting.catalog }
-    requires table { ShowsNewest side.session side.opened.table }
+    requires fresh { side.session.session.journal ≡ [] }
+    requires offers { arc_value side.catalog ≡ side.session.session.setting.catalog }
+    requires table { ShowsNewest side.session.session side.opened.table }
 {
     let one = behind_lock::<A, P, _>(rt, alloc, pool, side, blanks)?;
     let side = new_side(alloc)?;

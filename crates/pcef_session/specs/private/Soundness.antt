@@ -25,6 +25,7 @@ abbrev pub model_of : Inside → SessionModel
 model_of s = record {
   setting = setting_of s.profile s.listing;
   journal = s.counted.journal;
+  forgotten = s.counted.forgotten;
   room = record { entries = s.counted.room; rules = vec_capacity s.active - vec_len s.active };
 }
 

@@ -21,6 +21,7 @@ impl SessionState {
         requires { IsReady self.old change }
         ensures answer { DoesCommand self.old change.command result self.new }
         ensures setting { self.new.setting ≡ self.old.setting }
+        ensures forgotten { self.new.forgotten ≡ self.old.forgotten }
     {
         let PreparedChange {
             command,
@@ -67,6 +68,7 @@ impl SessionState {
         requires { IsPreparedFor self.old prepared }
         ensures answer { Settles self.old prepared result self.new }
         ensures setting { self.new.setting ≡ self.old.setting }
+        ensures forgotten { self.new.forgotten ≡ self.old.forgotten }
     {
         match prepared {
             Prepared::Changing(change) => self.change(change),
@@ -80,6 +82,7 @@ impl SessionState {
         ensures answer { CommandStep self.old.setting command
             self.old.journal result self.new.journal }
         ensures setting { self.new.setting ≡ self.old.setting }
+        ensures forgotten { self.new.forgotten ≡ self.old.forgotten }
         ensures room { OnErr result (HasAtLeast self.old.room self.new.room) }
     {
         match self.prepare(command) {

@@ -26,7 +26,7 @@ fn rows_of(profile: &Profile) -> u64
 
 impl SessionState {
     /// Why rows of a worker aren't taken over, want of memory aside.
-    fn flush_refusal(&self, worker: u8, count: usize) -> Option<FlushRefusal>
+    pub fn flush_refusal(&self, worker: u8, count: usize) -> Option<FlushRefusal>
         ensures { result
             ≡ first_of (flush_refusals self.now.setting self.now.journal worker count) }
     {
@@ -59,6 +59,7 @@ impl SessionState {
         ensures few_keys { OnOk result (HasFewKeys self.old.setting self.old.journal) }
         ensures kept { OnErr result (self.new.journal ≡ self.old.journal) }
         ensures setting { self.new.setting ≡ self.old.setting }
+        ensures forgotten { self.new.forgotten ≡ self.old.forgotten }
         ensures room { OnErr result (HasAtLeast self.old.room self.new.room) }
     {
         let judged = note_rows(self.alloc, items)?;
@@ -84,6 +85,7 @@ impl SessionState {
         ensures answer { AnswersFlush self.old worker batch.now result self.new }
         ensures few_keys { OnOk result (HasFewKeys self.old.setting self.old.journal) }
         ensures setting { self.new.setting ≡ self.old.setting }
+        ensures forgotten { self.new.forgotten ≡ self.old.forgotten }
         ensures room { OnErr result (HasAtLeast self.old.room self.new.room) }
     {
         if let Some(refusal) = self.flush_refusal(worker, batch.len()) {

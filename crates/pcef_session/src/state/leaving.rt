@@ -1,9 +1,9 @@
 //! Workers that leave.
 
-ghost use Rattle.std.specs.Prelude.{◌≡◌, [], IfNone, OnErr, OnOk, true};
+ghost use Rattle.std.specs.Prelude.{◌≡◌, ◌≤◌, [], IfNone, OnErr, OnOk, length, true};
 ghost use Rattle.pcef_model.specs.Entries.{lane};
 ghost use Rattle.pcef_model.specs.Outcomes.{abandon_outcome};
-ghost use Rattle.pcef_model.specs.Journals.{lane_len};
+ghost use Rattle.pcef_model.specs.Journals.{attached, lane_len};
 ghost use Rattle.pcef_model.specs.Refusals.{is_attached};
 ghost use Rattle.pcef_model.specs.Reports.{after_leave};
 ghost use Rattle.pcef_session.specs.Answers.{AnswersFinish, IsLaneEnd, MayFollow};
@@ -32,6 +32,14 @@ impl SessionState {
         self.lanes.is_attached(worker)
     }
 
+    /// How many workers are attached, at most 16.
+    pub fn attached(&self) -> usize
+        ensures number { result ≡ length (attached self.now.journal) }
+        ensures most { result ≤ 16 }
+    {
+        self.lanes.attached()
+    }
+
     /// How many rows of a worker the journal has.
     pub fn lane_len(&self, worker: u8) -> u64
         ensures { result ≡ lane_len self.now.journal worker }
@@ -44,6 +52,7 @@ impl SessionState {
         requires { is_attached self.old.journal worker ≡ true }
         ensures journal { self.new.journal ≡ after_leave worker self.old.journal }
         ensures setting { self.new.setting ≡ self.old.setting }
+        ensures forgotten { self.new.forgotten ≡ self.old.forgotten }
     {
         self.lanes.leave(worker);
         self.counted.enter(Entry::Leave(worker));
@@ -57,6 +66,7 @@ impl SessionState {
         ensures answer { AnswersFinish self.old worker batch.now result self.new }
         ensures few_keys { OnOk result (HasFewKeys self.old.setting self.old.journal) }
         ensures setting { self.new.setting ≡ self.old.setting }
+        ensures forgotten { self.new.forgotten ≡ self.old.forgotten }
         ensures room { OnErr result (HasAtLeast self.old.room self.new.room) }
     {
         match self.flush(worker, batch) {
@@ -75,6 +85,7 @@ impl SessionState {
         ensures rows { result ≡ (abandon_outcome self.old.journal worker).0 }
         ensures journal { self.new.journal ≡ (abandon_outcome self.old.journal worker).1 }
         ensures setting { self.new.setting ≡ self.old.setting }
+        ensures forgotten { self.new.forgotten ≡ self.old.forgotten }
     {
         let rows = self.lane_len(worker);
         if self.is_attached(worker) {

@@ -237,6 +237,7 @@ impl SessionState {
     /// leaving of each worker.
     fn take_room(&mut self, reports: &[PendingReport]) -> Result<(), AllocError>
         ensures setting { self.new.setting ≡ self.old.setting }
+        ensures forgotten { self.new.forgotten ≡ self.old.forgotten }
         ensures journal { self.new.journal ≡ self.old.journal }
         ensures room { HasAtLeast self.old.room self.new.room }
         ensures entries { OnOk result (length reports.now + 9 + length (attached self.old.journal)
@@ -260,6 +261,7 @@ impl SessionState {
         requires rule { MakesActive self.old command.now (option_copied rule) }
         requires bearer { GetsBearer self.old.setting self.old.journal (option_copied rule) bearer }
         ensures setting { self.new.setting ≡ self.old.setting }
+        ensures forgotten { self.new.forgotten ≡ self.old.forgotten }
         ensures journal { self.new.journal ≡ self.old.journal }
         ensures room { HasAtLeast self.old.room self.new.room }
         ensures table { IfOk result (λ r. IsNextTable self.old command.now
@@ -282,6 +284,7 @@ impl SessionState {
         requires accepted { Accepts self.old command }
         requires changing { changes self.old.setting self.old.journal command ≡ true }
         ensures setting { self.new.setting ≡ self.old.setting }
+        ensures forgotten { self.new.forgotten ≡ self.old.forgotten }
         ensures journal { self.new.journal ≡ self.old.journal }
         ensures room { HasAtLeast self.old.room self.new.room }
         ensures ready { IfOk result (λ d. IsReady self.new d) }
@@ -304,6 +307,7 @@ impl SessionState {
     /// Prepares a command, in a room where the session has one.
     fn prepare_in(&mut self, command: Command, room: Option<Sums>) -> Result<Prepared, Refusal>
         ensures setting { self.new.setting ≡ self.old.setting }
+        ensures forgotten { self.new.forgotten ≡ self.old.forgotten }
         ensures journal { self.new.journal ≡ self.old.journal }
         ensures room { HasAtLeast self.old.room self.new.room }
         ensures refused { IfErr result (RefusesWithin self.old command room) }
@@ -329,6 +333,7 @@ impl SessionState {
     /// was prepared before can still be settled.
     pub fn prepare(&mut self, command: Command) -> Result<Prepared, Refusal>
         ensures setting { self.new.setting ≡ self.old.setting }
+        ensures forgotten { self.new.forgotten ≡ self.old.forgotten }
         ensures journal { self.new.journal ≡ self.old.journal }
         ensures room { HasAtLeast self.old.room self.new.room }
         ensures refused { IfErr result (Refuses self.old command) }
@@ -344,6 +349,7 @@ impl SessionState {
     /// downlink with [`Refusal::PoolDown`], after every other refusal and before want of memory.
     pub fn prepare_within(&mut self, command: Command, room: Sums) -> Result<Prepared, Refusal>
         ensures setting { self.new.setting ≡ self.old.setting }
+        ensures forgotten { self.new.forgotten ≡ self.old.forgotten }
         ensures journal { self.new.journal ≡ self.old.journal }
         ensures room { HasAtLeast self.old.room self.new.room }
         ensures refused { IfErr result (RefusesWithin self.old command (Some room)) }

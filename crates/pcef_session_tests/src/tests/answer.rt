@@ -1,5 +1,7 @@
 //! Answers that were written by hand.
 
+ghost use Rattle.std.specs.Prelude.{◌≡◌, IfOk};
+
 use pcef_answer::{fault_text, step_answer};
 use pcef_filter::FilterFault;
 use pcef_journal::Journal;
@@ -42,7 +44,9 @@ fn answers_to_lines_at_fault(rt: HostRuntime) -> Result<(), AllocError> {
 }
 
 /// A journal with a report of each kind.
-fn told(alloc: Global) -> Result<Journal, Fail> {
+fn told(alloc: Global) -> Result<Journal, Fail>
+    ensures { IfOk result (λ j. j.forgotten ≡ 0) }
+{
     let mut journal = Journal::new(alloc);
     journal.reserve(3)?;
     journal.append(Entry::Report(Report {
@@ -155,12 +159,24 @@ static ACCEPTED: [(Accepted, &str); 5] = [
     ),
 ];
 
+/// The text of an answer by a journal that has all its reports.
+fn text_of(
+    alloc: Global,
+    journal: &Journal,
+    generation: u32,
+    answer: &StepAnswer,
+) -> Result<String, AllocError>
+    requires { journal.now.forgotten ≡ 0 }
+{
+    step_answer(alloc, journal, generation, answer)
+}
+
 #[test]
 fn answers_to_accepted_commands(rt: HostRuntime) -> Result<(), Fail> {
     let alloc = rt.alloc();
     let journal = told(alloc)?;
     for &(accepted, text) in &ACCEPTED {
-        let answer = step_answer(alloc, &journal, 1, &StepAnswer::Command(Ok(accepted)))?;
+        let answer = text_of(alloc, &journal, 1, &StepAnswer::Command(Ok(accepted)))?;
         assert_eq!(rt; answer.as_str(), text);
     }
     Ok(())
@@ -253,7 +269,7 @@ fn an_answer_without_a_worker(rt: HostRuntime) -> Result<(), AllocError> {
 /// Whether a flush that was answered so, after three reports, has this text.
 fn is_flushed_so(alloc: Global, verdicts: Verdicts, text: &str) -> Result<bool, Fail> {
     let journal = told(alloc)?;
-    let told = step_answer(alloc, &journal, 2, &StepAnswer::Flush(Ok(verdicts)))?;
+    let told = text_of(alloc, &journal, 2, &StepAnswer::Flush(Ok(verdicts)))?;
     Ok(told.as_str() == text)
 }
 

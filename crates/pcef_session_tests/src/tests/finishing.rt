@@ -6,6 +6,7 @@ ghost use Rattle.pcef_session_tests.specs.UnmatchedRows.{ue, unmatched_item};
 use arrayvec::ArrayVec;
 use pcef_catalog::Catalog;
 use pcef_core::Session;
+use pcef_journaled::{Commands, Lane};
 use pcef_model::{Command, FlushRefusal, Judged, Profile, Refusal, Row, Verdict, Verdicts};
 use pcef_packet::{Addr, Dir, Header};
 use pcef_profile::read_profile;
@@ -82,7 +83,8 @@ fn told(verdicts: &Verdicts) -> (usize, bool, u64, u64) {
 }
 
 /// What comes of a worker that finishes with two rows: its number, the verdicts and the length of its lane; why it
-/// can't finish once more; how many rows there are, and whether the session can then be terminated.
+/// can't finish once more; how many rows there are; the numbers of the first three rows that are kept of it; whether the
+/// session can then be terminated, and whether this is then the one command that is kept.
 #[derive(Debug, PartialEq, Eq, Drop)]
 struct Ending {
     worker: u8,
@@ -90,7 +92,27 @@ struct Ending {
     lane: u64,
     again: Option<FlushRefusal>,
     rows: u64,
+    kept: [Option<u64>; 3],
     ends: bool,
+    is_kept: bool,
+}
+
+fn next_number(lane: &mut Lane<'_>) -> Option<u64> {
+    lane.next().map(|row| row.seq)
+}
+
+/// The numbers of the first three rows of a lane.
+fn numbers_in(mut lane: Lane<'_>) -> [Option<u64>; 3] {
+    [
+        next_number(&mut lane),
+        next_number(&mut lane),
+        next_number(&mut lane),
+    ]
+}
+
+/// Whether a Terminate is the only command.
+fn is_terminate_alone(mut commands: Commands<'_>) -> bool {
+    matches!(commands.next(), Some(Command::Terminate)) && commands.next().is_none()
 }
 
 fn finished(
@@ -114,7 +136,9 @@ fn finished(
         lane,
         again,
         rows: session.journal().rows_len(),
+        kept: numbers_in(session.lane(0)),
         ends: session.command(Command::Terminate).is_ok(),
+        is_kept: is_terminate_alone(session.commands()),
     })
 }
 
@@ -133,7 +157,9 @@ fn a_worker_finishes_with_as_many_rows_as_there_may_be(rt: HostRuntime) -> Resul
             lane: 2,
             again: Some(FlushRefusal::NotAttached),
             rows: 2,
+            kept: [Some(0), Some(1), None],
             ends: true,
+            is_kept: true,
         }
     );
     Ok(())

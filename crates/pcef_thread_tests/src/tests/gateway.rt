@@ -9,9 +9,9 @@ mod workers;
 
 use pcef_catalog::Catalog;
 use pcef_gateway::{Arrival, Ended, RunFault, run_session};
+use pcef_journaled::JournaledState;
 use pcef_model::Command;
 use pcef_packet::PackedHeader;
-use pcef_session::SessionState;
 use pcef_test_sessions::{monitor, packet, session, vid, web};
 use pcef_worker::Gate;
 use std::alloc::Global;
@@ -34,9 +34,9 @@ struct Figures {
 }
 
 /// The session after a command that it accepts. No worker comes by it.
-fn accepted(session: SessionState, command: Command) -> Result<SessionState, Fail>
-    requires { (attach_count session.journal ≡ 0) × (session.setting.catalog ≡ []) }
-    ensures { IfOk result (λ s. (attach_count s.journal ≡ 0) × (s.setting.catalog ≡ [])) }
+fn accepted(session: JournaledState, command: Command) -> Result<JournaledState, Fail>
+    requires { (attach_count session.session.journal ≡ 0) × (session.session.setting.catalog ≡ []) }
+    ensures { IfOk result (λ s. (attach_count s.session.journal ≡ 0) × (s.session.setting.catalog ≡ [])) }
 {
     let mut session = session;
     session.command(command)?;
@@ -44,8 +44,8 @@ fn accepted(session: SessionState, command: Command) -> Result<SessionState, Fai
 }
 
 /// A session of 1000 rows that has installed the rule and monitors its key with a grant of 1000 octets.
-fn monitored(alloc: Global) -> Result<SessionState, Fail>
-    ensures { IfOk result (λ s. (attach_count s.journal ≡ 0) × (s.setting.catalog ≡ [])) }
+fn monitored(alloc: Global) -> Result<JournaledState, Fail>
+    ensures { IfOk result (λ s. (attach_count s.session.journal ≡ 0) × (s.session.setting.catalog ≡ [])) }
 {
     let installed = accepted(session(alloc, 1000)?, Command::Install(web(alloc)?))?;
     accepted(installed, monitor(1000)?)
@@ -67,13 +67,13 @@ fn packets(alloc: Global, each: u32, workers: u8) -> Result<Vec<Arrival>, Fail> 
 fn run<G: Gate + Sync, R: Threads + Wait + Sync>(
     rt: &R,
     alloc: Global,
-    session: SessionState,
+    session: JournaledState,
     arrivals: Vec<Arrival>,
     commands: Vec<Command>,
     workers: u8,
     gate: &G,
 ) -> Result<Result<Ended, RunFault>, Fail>
-    requires { (attach_count session.journal ≡ 0) × (session.setting.catalog ≡ []) }
+    requires { (attach_count session.session.journal ≡ 0) × (session.session.setting.catalog ≡ []) }
 {
     let catalog = Arc::new(alloc, Catalog::new(alloc, Vec::new(alloc))?)?;
     Ok(run_session(

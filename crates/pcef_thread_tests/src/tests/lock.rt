@@ -8,11 +8,12 @@ ghost use Rattle.pcef_share.specs.Names.{name_at};
 mod opening;
 
 use pcef_catalog::{Catalog, Detects, Offers};
+use pcef_journaled::JournaledState;
 use pcef_lock::{Desk, Seat, Shared, State, opened};
 use pcef_model::{Body, Command, Report};
 use pcef_packet::Header;
 use pcef_publish::{Board, Opened, Slot};
-use pcef_session::{Batch, SessionState};
+use pcef_session::Batch;
 use pcef_share::{Blanks, Naming, Shares};
 use pcef_test_sessions::{monitor, packet, packet_from, session, vid, web};
 use std::alloc::Global;
@@ -57,16 +58,16 @@ fn judged_and_flushed<C: Detects, N: Naming, R: Wait + Drop>(
     alloc: Global,
     commands: &[Command; 3],
     catalog: &C,
-    session: SessionState,
+    session: JournaledState,
     opened: Opened,
     blanks: Blanks,
 ) -> Option<([u64; 10], [u64; 10])>
     requires name { N.ledger ≡ name_at blanks }
-    requires setting { session.setting ≡ N.setting }
-    requires fresh { session.journal ≡ [] }
-    requires offers { C.offers catalog.now ≡ session.setting.catalog }
-    requires first { N.first ≡ gen session.journal }
-    requires table { Shows session.setting session.journal (gen session.journal) opened.table }
+    requires setting { session.session.setting ≡ N.setting }
+    requires fresh { session.session.journal ≡ [] }
+    requires offers { C.offers catalog.now ≡ session.session.setting.catalog }
+    requires first { N.first ≡ gen session.session.journal }
+    requires table { Shows session.session.setting session.session.journal (gen session.session.journal) opened.table }
     requires book { (opened.book ≡ N.book) × (opened.root ≡ N.root) }
 {
     match State::<N, _>::open(rt, alloc, session, opened, blanks, 2).ok() {
@@ -194,16 +195,16 @@ fn told_to_the_desk<C: Detects + Drop, N: Naming, R: Wait + Drop>(
     alloc: Global,
     commands: &[Command; 3],
     catalog: Arc<C>,
-    session: SessionState,
+    session: JournaledState,
     opened: Opened,
     blanks: Blanks,
 ) -> Option<[u64; 5]>
     requires name { N.ledger ≡ name_at blanks }
-    requires setting { session.setting ≡ N.setting }
-    requires fresh { session.journal ≡ [] }
-    requires offers { C.offers (arc_value catalog) ≡ session.setting.catalog }
-    requires first { N.first ≡ gen session.journal }
-    requires table { Shows session.setting session.journal (gen session.journal) opened.table }
+    requires setting { session.session.setting ≡ N.setting }
+    requires fresh { session.session.journal ≡ [] }
+    requires offers { C.offers (arc_value catalog) ≡ session.session.setting.catalog }
+    requires first { N.first ≡ gen session.session.journal }
+    requires table { Shows session.session.setting session.session.journal (gen session.session.journal) opened.table }
     requires book { (opened.book ≡ N.book) × (opened.root ≡ N.root) }
 {
     match Shared::<C, N, _>::open(rt, alloc, catalog, session, opened, blanks, 2) {

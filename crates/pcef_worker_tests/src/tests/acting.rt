@@ -30,7 +30,7 @@ fn seen_of<C: Detects + Drop, N: Naming, W: Board<Slot<N>> + Drop, R: Wait>(
             [
                 told,
                 worker.waiting().len() as u64,
-                worker.rows().len() as u64,
+                worker.handed_over(),
                 u64::from(worker.generation()),
             ]
         }

@@ -30,7 +30,7 @@ impl<C: Detects + Drop, N: Naming> Workers<C, N> {
         let (there, left) = (self.there.len() as u64, self.left.len() as u64);
         match self.there.last() {
             Some(worker) => {
-                let (waiting, rows) = (worker.waiting().len() as u64, worker.rows().len() as u64);
+                let (waiting, rows) = (worker.waiting().len() as u64, worker.handed_over());
                 [there, left, waiting, rows, u64::from(worker.generation())]
             }
             None => [there, left, 0, 0, 0],
@@ -139,7 +139,7 @@ fn kept<C: Detects + Drop, N: Naming>(
     before: u64,
     left: Finished<N>,
 ) -> Seen {
-    let (number, rows) = (u64::from(left.worker()), left.items().len() as u64);
+    let (number, rows) = (u64::from(left.worker()), left.handed_over());
     let given_up = u64::from(left.abandoned());
     workers.keep(left);
     [before, number, rows, given_up]
@@ -163,7 +163,10 @@ fn finished<C: Detects + Drop, N: Naming, W: Board<Slot<N>> + Drop, R: Wait>(
 
 fn handed_in<C: Detects + Drop, N: Naming>(workers: &Workers<C, N>, number: usize) -> Seen {
     match workers.left.get(number) {
-        Some(left) => octets_in_order(left.items()),
+        Some(left) => match left.items() {
+            Some(items) => octets_in_order(items),
+            None => NOT_DONE,
+        },
         None => NOT_DONE,
     }
 }

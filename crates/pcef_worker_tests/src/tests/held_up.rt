@@ -81,7 +81,7 @@ fn rows_kept<C: Detects + Drop, N: Naming>(
 ) -> u64 {
     match left {
         Some(left) => {
-            let rows = left.items().len() as u64;
+            let rows = left.handed_over();
             workers.keep(left);
             rows
         }

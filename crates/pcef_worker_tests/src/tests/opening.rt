@@ -9,9 +9,9 @@ ghost use Rattle.pcef_share.specs.Names.{name_at};
 
 use super::*;
 use pcef_catalog::Catalog;
+use pcef_journaled::JournaledState;
 use pcef_lock::{SharedFault, Unopened, opened};
 use pcef_publish::Opened;
-use pcef_session::SessionState;
 use pcef_share::Blanks;
 use pcef_test_sessions::{session, web};
 use std::marker::Brand;
@@ -62,13 +62,13 @@ fn tell_of_a_session<R: Threads + Wait + Sync>(
 fn tell_at_once<R: Threads + Wait + Sync>(
     rt: &R,
     alloc: Global,
-    session: SessionState,
+    session: JournaledState,
     lock: Lock,
     install: &Command,
     table: Table<'_>,
 ) -> Result<Told, &'static str>
-    requires fresh { session.journal ≡ [] }
-    requires catalog { session.setting.catalog ≡ [] }
+    requires fresh { session.session.journal ≡ [] }
+    requires catalog { session.session.setting.catalog ≡ [] }
 {
     match no_rules(alloc) {
         Some(catalog) => tell_of_its_catalog(rt, alloc, catalog, session, lock, install, table),
@@ -90,13 +90,13 @@ fn tell_of_its_catalog<R: Threads + Wait + Sync>(
     rt: &R,
     alloc: Global,
     catalog: Arc<Catalog>,
-    session: SessionState,
+    session: JournaledState,
     lock: Lock,
     install: &Command,
     table: Table<'_>,
 ) -> Result<Told, &'static str>
-    requires fresh { session.journal ≡ [] }
-    requires catalog { session.setting.catalog ≡ [] }
+    requires fresh { session.session.journal ≡ [] }
+    requires catalog { session.session.setting.catalog ≡ [] }
     requires offers { offers_of (arc_value catalog) ≡ [] }
 {
     match tell_once(rt, alloc, catalog, session, lock.places, install, table) {
@@ -115,8 +115,8 @@ fn tell_at_last<R: Threads + Wait + Sync>(
     install: &Command,
     table: Table<'_>,
 ) -> Result<Told, &'static str>
-    requires fresh { unopened.session.journal ≡ [] }
-    requires catalog { unopened.session.setting.catalog ≡ [] }
+    requires fresh { unopened.session.session.journal ≡ [] }
+    requires catalog { unopened.session.session.setting.catalog ≡ [] }
     requires offers { offers_of (arc_value unopened.catalog) ≡ [] }
 {
     if !lock.at_last || unopened.fault == SharedFault::Places {
@@ -138,13 +138,13 @@ fn tell_once<R: Threads + Wait + Sync>(
     rt: &R,
     alloc: Global,
     catalog: Arc<Catalog>,
-    session: SessionState,
+    session: JournaledState,
     places: u8,
     install: &Command,
     table: Table<'_>,
 ) -> Option<Result<Told, Unopened<Catalog>>>
-    requires fresh { session.journal ≡ [] }
-    requires catalog { session.setting.catalog ≡ [] }
+    requires fresh { session.session.journal ≡ [] }
+    requires catalog { session.session.setting.catalog ≡ [] }
     requires offers { offers_of (arc_value catalog) ≡ [] }
     ensures back { IfSome result (λ told.
         IfErr told (λ e. (e.catalog ≡ catalog) × (e.session ≡ session))) }
@@ -161,16 +161,16 @@ fn tell_of_opened<R: Threads + Wait + Sync>(
     rt: &R,
     alloc: Global,
     catalog: Arc<Catalog>,
-    session: SessionState,
+    session: JournaledState,
     opened: Opened,
     places: u8,
     install: &Command,
     table: Table<'_>,
 ) -> Result<Told, Unopened<Catalog>>
-    requires fresh { session.journal ≡ [] }
-    requires catalog { session.setting.catalog ≡ [] }
+    requires fresh { session.session.journal ≡ [] }
+    requires catalog { session.session.setting.catalog ≡ [] }
     requires offers { offers_of (arc_value catalog) ≡ [] }
-    requires table { Shows session.setting session.journal (gen session.journal) opened.table }
+    requires table { Shows session.session.setting session.session.journal (gen session.session.journal) opened.table }
     ensures back { IfErr result (λ e. (e.catalog ≡ catalog) × (e.session ≡ session)) }
 {
     let blanks = Blanks::new();
@@ -187,7 +187,7 @@ fn tell_behind_its_lock<
     rt: &R,
     alloc: Global,
     catalog: Arc<C>,
-    session: SessionState,
+    session: JournaledState,
     opened: Opened,
     blanks: Blanks,
     places: u8,
@@ -195,11 +195,11 @@ fn tell_behind_its_lock<
     table: Table<'_>,
 ) -> Result<Told, Unopened<C>>
     requires name { N.ledger ≡ name_at blanks }
-    requires setting { session.setting ≡ N.setting }
-    requires fresh { session.journal ≡ [] }
-    requires offers { C.offers (arc_value catalog) ≡ session.setting.catalog }
-    requires first { N.first ≡ gen session.journal }
-    requires table { Shows session.setting session.journal (gen session.journal) opened.table }
+    requires setting { session.session.setting ≡ N.setting }
+    requires fresh { session.session.journal ≡ [] }
+    requires offers { C.offers (arc_value catalog) ≡ session.session.setting.catalog }
+    requires first { N.first ≡ gen session.session.journal }
+    requires table { Shows session.session.setting session.session.journal (gen session.session.journal) opened.table }
     requires book { (opened.book ≡ N.book) × (opened.root ≡ N.root) }
     ensures back { IfErr result (λ e. (e.catalog ≡ catalog) × (e.session ≡ session)) }
 {

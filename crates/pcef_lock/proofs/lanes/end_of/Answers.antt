@@ -4,8 +4,8 @@ use Rattle.pcef_lock.proofs.lanes.end_of.Goals as goal
 
 pub returns-in-None-clause-rows : goal.returns-in-None-clause-rows
 returns-in-None-clause-rows c =
-    sym (ap length c.in-None.ensures.none)
+    rw (← c.session.ensures.journal) (sym (ap length c.in-None.ensures.none))
 
 pub returns-in-None-clause-generation : goal.returns-in-None-clause-generation
 returns-in-None-clause-generation c =
-    sym (ap newest_generation c.in-None.ensures.none)
+    rw (← c.session.ensures.journal) (sym (ap newest_generation c.in-None.ensures.none))

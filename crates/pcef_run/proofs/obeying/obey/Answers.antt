@@ -12,14 +12,14 @@ loop-command-init c = ((c.new-answers.ensures.items, refl), refl, subst (All Fou
 pub loop-command-preserved : goal.loop-command-preserved
 loop-command-preserved c =
     let at = c.loop-command in
-    let p = c.args.session.now.setting in
-    let before = c.args.session.now.journal in
+    let p = c.args.session.now.session.setting in
+    let before = c.args.session.now.session.journal in
     let command = c.in-Some.command in
     let answer = c.command.result in
-    let after = c.command.new.self.journal in
-    let step : CommandStep p command at.session.journal answer after = subst (λ q. CommandStep q command at.session.journal answer after) at.invariant.1 c.command.ensures.answer in
+    let after = c.command.new.self.session.journal in
+    let step : CommandStep p command at.session.session.journal answer after = subst (λ q. CommandStep q command at.session.session.journal answer after) at.invariant.1 c.command.ensures.answer in
     let more : Obeyed p before (at.yielded ++ command ∷ []) (at.answers.items ++ answer ∷ []) after =
-    obeyed_more p before at.session.journal after at.yielded at.answers.items command answer at.invariant.0 step in
+    obeyed_more p before at.session.session.journal after at.yielded at.answers.items command answer at.invariant.0 step in
     let found : FoundMemory answer = search rules in
     let pushed : c.push.new.self.items ≡ at.answers.items ++ answer ∷ [] = search rules in (
       subst (λ answers. Obeyed p before (at.yielded ++ command ∷ []) answers after) (sym pushed) more,

@@ -6,7 +6,7 @@ use Rattle.pcef_run.proofs.run.run_plan.Goals as goal
 
 pub run_session-requires-clause-fresh : goal.run_session-requires-clause-fresh
 run_session-requires-clause-fresh g c = λ κs within.
-    nobody_attached c.in-Ok.session.setting c.in-Ok.session.journal c.obey.new.session.journal c.args.plan.first.items c.in-Ok-obey.answers.items
+    nobody_attached c.in-Ok.session.session.setting c.in-Ok.session.session.journal c.obey.new.session.session.journal c.args.plan.first.items c.in-Ok-obey.answers.items
     c.in-Ok.ensures.made.1 c.in-Ok-obey.ensures.answers
 
 pub returns-in-Err-clause-fault : goal.returns-in-Err-clause-fault

@@ -1,7 +1,7 @@
 use Rattle.std.proofs.Common.{◌≡◌, ◌∙◌, false, true, string_bytes, sym}
 use Rattle.std.proofs.KnownBytes.{Appends-nil}
 use Rattle.pcef_script.specs.ScriptLines.{is_blank}
-use Rattle.pcef_script.proofs.Answering.{blank_ends, told_ends, told_fails}
+use Rattle.pcef_script.proofs.Answering.{answers_same, blank_ends, told_ends, told_fails}
 use Rattle.pcef_script.proofs.running.end_line.Goals as goal
 
 pub returns-then-is_blank-clause-ok : goal.returns-then-is_blank-clause-ok
@@ -16,7 +16,7 @@ returns-in-Ok-clause-ok g c = λ whole kept few.
     let contents = g.W.Write.contents in
     let filled : is_blank whole ≡ false = sym (c.is_blank.ensures whole kept) ∙ c.if-is_blank.false in
     told_ends c.tell.result world.session.setting world c.answer_of.new.world whole (string_bytes c.in-Ok.answer.text) c.in-Ok.answer.is_fault c.args.faults
-    (contents c.args.writer.now) (contents c.tell.new.writer) filled (c.in-Ok.ensures.answer whole kept) (c.tell.ensures.count few) c.tell.ensures.all
+    (contents c.args.writer.now) (contents c.tell.new.writer) filled (answers_same c.forget.new.self world c.answer_of.new.world whole (string_bytes c.in-Ok.answer.text) c.in-Ok.answer.is_fault c.forget.ensures.setting c.forget.ensures.standing (c.in-Ok.ensures.answer whole kept)) (c.tell.ensures.count few) c.tell.ensures.all
 
 pub returns-in-Ok-clause-err : goal.returns-in-Ok-clause-err
 returns-in-Ok-clause-err g c = λ whole kept.
@@ -24,7 +24,7 @@ returns-in-Ok-clause-err g c = λ whole kept.
     let contents = g.W.Write.contents in
     let filled : is_blank whole ≡ false = sym (c.is_blank.ensures whole kept) ∙ c.if-is_blank.false in
     told_fails c.tell.result world.session.setting world c.answer_of.new.world whole (string_bytes c.in-Ok.answer.text) c.in-Ok.answer.is_fault
-    (contents c.args.writer.now) (contents c.tell.new.writer) filled (c.in-Ok.ensures.answer whole kept) c.tell.ensures.front
+    (contents c.args.writer.now) (contents c.tell.new.writer) filled (answers_same c.forget.new.self world c.answer_of.new.world whole (string_bytes c.in-Ok.answer.text) c.in-Ok.answer.is_fault c.forget.ensures.setting c.forget.ensures.standing (c.in-Ok.ensures.answer whole kept)) c.tell.ensures.front
 
 pub returns-in-Err-clause-err : goal.returns-in-Err-clause-err
 returns-in-Err-clause-err g c = λ whole kept. Appends-nil (g.W.Write.contents c.args.writer.now)

@@ -1,4 +1,4 @@
-use Rattle.std.proofs.Common.{arith}
+use Rattle.std.proofs.Common.{◌∙◌, arith}
 use Rattle.pcef_session.proofs.RowLoops.{counted_end, counted_step, fits_here, fits_later, taken_end, taken_step}
 use Rattle.pcef_session.proofs.rows.take_rows.Goals as goal
 
@@ -15,6 +15,7 @@ loop-item-preserved c = record {
   fits = fits_later c.args.items.now c.loop-item.item-index c.item-item.result _ _ _ _ c.loop-item-test.true c.item-item.is c.copy.ensures c.as_slice.ensures.value c.take_row.ensures.states c.loop-item.invariant.fits;
   journal = taken_step c.args.items.now c.loop-item.item-index c.item-item.result _ _ _ _ c.loop-item-test.true c.item-item.is c.copy.ensures c.take_row.ensures.journal c.loop-item.invariant.journal;
   states = counted_step c.args.items.now c.loop-item.item-index c.item-item.result _ _ _ _ _ c.loop-item-test.true c.item-item.is c.copy.ensures c.as_slice.ensures.value c.take_row.ensures.states c.loop-item.invariant.states;
+  forgotten = c.take_row.ensures.forgotten ∙ c.loop-item.invariant.forgotten;
   room = omega (arith, c.loop-item.invariant.room, c.take_row.ensures.room);
 }
 
@@ -23,3 +24,6 @@ returns-clause-journal c = taken_end c.args.items.now c.loop-item.item-index _ _
 
 pub returns-clause-states : goal.returns-clause-states
 returns-clause-states c = counted_end c.args.items.now c.loop-item.item-index _ _ c.loop-item-test.false c.loop-item.invariant.states
+
+pub returns-clause-forgotten : goal.returns-clause-forgotten
+returns-clause-forgotten c = c.loop-item.invariant.forgotten

@@ -11,5 +11,6 @@ invariant-loop-item l = record {
   fits : CanCountAll (drop l.item-index l.items) l.counted.states;
   journal : with_rows (map row_of (drop l.item-index l.items)) l.counted.journal ≡ with_rows (map row_of l.items) l.initial.counted.journal;
   states : rows_counted row_of row_slots (drop l.item-index l.items) l.counted.states ≡ rows_counted row_of row_slots l.items l.initial.counted.states;
+  forgotten : l.counted.forgotten ≡ l.initial.counted.forgotten;
   room : l.initial.counted.room ≤ l.counted.room + l.item-index;
 }

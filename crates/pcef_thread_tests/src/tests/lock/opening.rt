@@ -36,16 +36,16 @@ fn tell_places<R: Threads + Wait + Sync>(
 fn refused_places<N: Naming, R: Wait + Drop>(
     rt: R,
     alloc: Global,
-    session: SessionState,
+    session: JournaledState,
     opened: Opened,
     blanks: Blanks,
     places: u8,
 ) -> Option<u64>
     requires name { N.ledger ≡ name_at blanks }
-    requires setting { session.setting ≡ N.setting }
-    requires fresh { session.journal ≡ [] }
-    requires first { N.first ≡ gen session.journal }
-    requires table { Shows session.setting session.journal (gen session.journal) opened.table }
+    requires setting { session.session.setting ≡ N.setting }
+    requires fresh { session.session.journal ≡ [] }
+    requires first { N.first ≡ gen session.session.journal }
+    requires table { Shows session.session.setting session.session.journal (gen session.session.journal) opened.table }
     requires book { (opened.book ≡ N.book) × (opened.root ≡ N.root) }
 {
     match State::<N, _>::open(rt, alloc, session, opened, blanks, places).err() {

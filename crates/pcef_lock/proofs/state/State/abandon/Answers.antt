@@ -6,7 +6,7 @@ use Rattle.pcef_lock.proofs.state.State.abandon.Goals as goal
 
 pub invariant_of-self : goal.invariant_of-self
 invariant_of-self g c = (
-  sound_left g.N.Naming.setting g.N.Naming.first c.self.inside.session c.detach.new.self c.self.inside.publisher c.self.inside.books c.self.inside.places (length c.self.inside.subscribers.items)
+  sound_left g.N.Naming.setting g.N.Naming.first c.self.inside.session.session c.detach.new.self.session c.self.inside.publisher c.self.inside.books c.self.inside.places (length c.self.inside.subscribers.items)
       c.args.seat.now.worker c.detach.ensures.journal c.detach.ensures.setting c.self.invariant.0,
-  due_same g.P.Pooling.is_there c.self.inside.session.setting c.detach.new.self.setting c.self.inside.session.journal c.detach.new.self.journal c.self.inside.rates c.detach.ensures.setting (ap tables c.detach.ensures.journal) c.self.invariant.1,
+  due_same g.P.Pooling.is_there c.self.inside.session.session.setting c.detach.new.self.session.setting c.self.inside.session.session.journal c.detach.new.self.session.journal c.self.inside.rates c.detach.ensures.setting (ap tables c.detach.ensures.journal) c.self.invariant.1,
 )

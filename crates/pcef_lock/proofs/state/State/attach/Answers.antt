@@ -17,16 +17,16 @@ returns-in-Some-clause-answer g c =
     let places = ap (λ v. v.places) c.self.view_is in
     rw (← ap (λ v. v.session.journal) c.self.view_is) (
       (λ full. absurd (omega (arith, room, issued, places, full))),
-      λ _. attach_refused c.self.inside.session.journal c.in-Some.fault (sym c.in-Some.ensures),
+      λ _. attach_refused c.self.inside.session.session.journal c.in-Some.fault (rw (← c.session.ensures.journal) (sym c.in-Some.ensures)),
     )
 
 pub invariant_of-self-in-Err : goal.invariant_of-self-in-Err
 invariant_of-self-in-Err g c = (
   rw (c.make_ready.ensures.publisher, c.make_ready.ensures.many)
-      (sound_same g.N.Naming.setting g.N.Naming.first c.self.inside.session c.attach.new.self c.self.inside.publisher c.self.inside.books c.self.inside.places (length c.self.inside.subscribers.items)
-      c.attach.ensures.setting (attached_not c.self.inside.session.journal c.attach.new.self.journal c.in-Err.fault c.in-Err.ensures.answer) c.self.invariant.0),
-  due_kept g.P.Pooling.is_there c.self.inside.session.setting c.attach.new.self.setting c.self.inside.session.journal c.attach.new.self.journal c.self.inside.rates c.attach.ensures.setting
-      (attached_not c.self.inside.session.journal c.attach.new.self.journal c.in-Err.fault c.in-Err.ensures.answer) c.self.invariant.1,
+      (sound_same g.N.Naming.setting g.N.Naming.first c.self.inside.session.session c.attach.new.self.session c.self.inside.publisher c.self.inside.books c.self.inside.places (length c.self.inside.subscribers.items)
+      c.attach.ensures.setting (attached_not c.self.inside.session.session.journal c.attach.new.self.session.journal c.in-Err.fault c.in-Err.ensures.answer) c.self.invariant.0),
+  due_kept g.P.Pooling.is_there c.self.inside.session.session.setting c.attach.new.self.session.setting c.self.inside.session.session.journal c.attach.new.self.session.journal c.self.inside.rates c.attach.ensures.setting
+      (attached_not c.self.inside.session.session.journal c.attach.new.self.session.journal c.in-Err.fault c.in-Err.ensures.answer) c.self.invariant.1,
 )
 
 pub invariant_of-self-2 : goal.invariant_of-self-2
@@ -34,10 +34,10 @@ invariant_of-self-2 g c =
     let one : length c.next_subscriber.new.subscribers.items + 1 ≡ length c.self.inside.subscribers.items =
     omega (arith, c.make_ready.ensures.many, ap length c.next_subscriber.ensures.items, length_push c.next_subscriber.new.subscribers.items c.next_subscriber.result) in (
       rw c.make_ready.ensures.publisher
-          (sound_attached g.N.Naming.setting g.N.Naming.first c.self.inside.session c.attach.new.self c.self.inside.publisher c.self.inside.books c.issue.new.self c.self.inside.places
+          (sound_attached g.N.Naming.setting g.N.Naming.first c.self.inside.session.session c.attach.new.self.session c.self.inside.publisher c.self.inside.books c.issue.new.self c.self.inside.places
           (length c.self.inside.subscribers.items) (length c.next_subscriber.new.subscribers.items) c.in-Ok.worker c.in-Ok.ensures.answer c.attach.ensures.setting c.issue.ensures.books one c.self.invariant.0),
-      due_same g.P.Pooling.is_there c.self.inside.session.setting c.attach.new.self.setting c.self.inside.session.journal c.attach.new.self.journal c.self.inside.rates c.attach.ensures.setting
-          (ap tables (attached_once c.self.inside.session.journal c.attach.new.self.journal c.in-Ok.worker c.in-Ok.ensures.answer).1) c.self.invariant.1,
+      due_same g.P.Pooling.is_there c.self.inside.session.session.setting c.attach.new.self.session.setting c.self.inside.session.session.journal c.attach.new.self.session.journal c.self.inside.rates c.attach.ensures.setting
+          (ap tables (attached_once c.self.inside.session.session.journal c.attach.new.self.session.journal c.in-Ok.worker c.in-Ok.ensures.answer).1) c.self.invariant.1,
     )
 
 pub returns-clause-seat : goal.returns-clause-seat

@@ -1,4 +1,5 @@
 use Rattle.std.proofs.Common.{ap, arith, length}
+use Rattle.pcef_model.specs.Journals.{gen}
 use Rattle.pcef_publish.proofs.Runs.{prefix_self}
 use Rattle.pcef_lock.proofs.state.State.meet.Goals as goal
 
@@ -11,4 +12,4 @@ returns-clause-seen g c =
 
 pub returns-clause-number : goal.returns-clause-number
 returns-clause-number g c =
-    omega (arith, c.generation.ensures, ap length c.in_ok-meet.ensures.newest, ap length c.compare.ensures.publisher, c.self.invariant.0.kept.published.through)
+    omega (arith, c.generation.ensures, ap gen c.session.ensures.journal, ap length c.in_ok-meet.ensures.newest, ap length c.compare.ensures.publisher, c.self.invariant.0.kept.published.through)

@@ -175,5 +175,5 @@ returns-clause-answer c =
     outcome_commanded p j command a c.tell.new.counted.journal ready.accepted ready.changing after
     (c.generation.ensures ∙ ap (λ (t : TableValue). t.number) (c.deref-2.ensures ∙ table) ∙ (table_after p j command (arc_value s.newest) (option_map (λ t. arc_value t) c.args.change.table) c.self.invariant.agrees.table_shows ready.table).number_is ∙ sym (ap gen after))
     (bearer_commanded p j command c.args.change.rule (parts_of s) parts c.args.change.bearer c.self.invariant.agrees is ∙ ap (λ (k : Journal). bearer_named (now p k) command) (sym after))
-    (c.reports_len-first_report.ensures ∙ ap report_count c.journal.ensures) (c.reports_len.ensures ∙ ap report_count c.journal-2.ensures) refl in
+    (c.reports_len-first_report.ensures ∙ ap report_count c.journal.ensures.entries) (c.reports_len.ensures ∙ ap report_count c.journal-2.ensures.entries) refl in
     subst (λ (v : SessionModel). Gives (command_outcome v.setting v.journal command) (Ok a) c.tell.new.counted.journal) c.self.view_is given

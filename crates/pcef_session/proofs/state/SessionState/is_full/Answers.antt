@@ -11,4 +11,4 @@ returns c =
     let s = c.self.inside in
     subst (λ (v : SessionModel). was_closed v.journal ≡ false → was_terminated v.journal ≡ false → nat_le c.commands_of.result c.commands_len.result ≡ nat_le v.setting.commands (limited_count v.journal)) c.self.view_is
     (λ unclosed living. full_is (setting_of s.profile s.listing) s.counted.journal c.commands_len.result c.commands_of.result _
-    (c.commands_len.ensures ∙ ap (λ (j : Journal). length (commands j)) c.journal.ensures) c.commands_of.ensures refl unclosed living)
+    (c.commands_len.ensures ∙ ap (λ (j : Journal). length (commands j)) c.journal.ensures.entries) c.commands_of.ensures refl unclosed living)

@@ -31,5 +31,5 @@ returns c =
     (outcome_idle p j c.args.name.now told idle.accepted idle.active
     (c.generation.ensures ∙ ap (λ (t : TableValue). t.number) c.deref.ensures ∙ agrees.table_shows.number_is)
     (c.bearer_of.ensures ∙ ap (λ (b : Binding). bearer_of c.args.name.now b.bound) agrees.binding_is ∙ bearer_bound c.args.name.now (now p j) (now p j).rules)
-    (c.reports_len-reports.ensures ∙ ap report_count c.journal.ensures)
-    (c.reports_len-reports.ensures ∙ ap report_count c.journal.ensures) refl)
+    (c.reports_len-reports.ensures ∙ ap report_count c.journal.ensures.entries)
+    (c.reports_len-reports.ensures ∙ ap report_count c.journal.ensures.entries) refl)

@@ -5,4 +5,4 @@ use Rattle.pcef_thread_tests.proofs.tests.lock.rows_count_for_the_keys_of_their_
 -- the name of the session, of the blanks and of the opened history
 abbrev pub ghosts-judged_and_flushed : goal.ghosts-judged_and_flushed
 ghosts-judged_and_flushed g a =
-    record { ledger = name_at a.blanks; setting = a.session.setting; book = a.opened.book; root = a.opened.root; first = gen a.session.journal }
+    record { ledger = name_at a.blanks; setting = a.session.session.setting; book = a.opened.book; root = a.opened.root; first = gen a.session.session.journal }

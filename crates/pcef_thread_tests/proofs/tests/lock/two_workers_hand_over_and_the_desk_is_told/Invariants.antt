@@ -5,4 +5,4 @@ use Rattle.pcef_thread_tests.proofs.tests.lock.two_workers_hand_over_and_the_des
 -- the name of the session, of the blanks and of the opened history
 abbrev pub ghosts-told_to_the_desk : goal.ghosts-told_to_the_desk
 ghosts-told_to_the_desk g a =
-    record { ledger = name_at a.blanks; setting = a.session.setting; book = a.opened.book; root = a.opened.root; first = gen a.session.journal }
+    record { ledger = name_at a.blanks; setting = a.session.session.setting; book = a.opened.book; root = a.opened.root; first = gen a.session.session.journal }

@@ -1,4 +1,4 @@
-use Rattle.std.proofs.Common.{arith}
+use Rattle.std.proofs.Common.{◌∙◌, arith}
 use Rattle.pcef_usage.proofs.Loops.{knows_here, told_step, states_step, keys_step, told_end, states_end}
 use Rattle.pcef_usage.proofs.counted.CountedJournal.append_reports.Goals as goal
 
@@ -13,6 +13,7 @@ pub loop-pending-preserved : goal.loop-pending-preserved
 loop-pending-preserved c = record {
   journal = told_step c.args.all_pending.now c.loop-pending.pending-index _ _ _ _ _ _ c.loop-pending-test.true c.pending-item.is c.loop-pending.invariant.journal c.tell.ensures.journal c.tell.ensures.states;
   states = states_step c.args.all_pending.now c.loop-pending.pending-index _ _ _ _ c.loop-pending-test.true c.pending-item.is c.loop-pending.invariant.states c.tell.ensures.states;
+  forgotten = c.tell.ensures.forgotten ∙ c.loop-pending.invariant.forgotten;
   keys = keys_step _ _ _ _ c.loop-pending.invariant.keys c.tell.ensures.states;
   left = omega (arith, c.loop-pending.invariant.left, c.tell.ensures.room);
   room = omega (arith, c.loop-pending.invariant.room, c.tell.ensures.room);

@@ -11,6 +11,7 @@ pub loop-pending-preserved : goal.loop-pending-preserved
 loop-pending-preserved c = record {
   journal = c.stop_if.ensures.journal ∙ c.loop-pending.invariant.journal;
   states = stop_step c.args.all_pending.now c.loop-pending.pending-index _ _ _ _ c.loop-pending-test.true c.pending-item.is c.loop-pending.invariant.states c.stop_if.ensures.states;
+  forgotten = c.stop_if.ensures.forgotten ∙ c.loop-pending.invariant.forgotten;
   keys = stop_keys _ _ _ _ c.loop-pending.invariant.keys c.stop_if.ensures.states;
   room = c.stop_if.ensures.room ∙ c.loop-pending.invariant.room;
 }

@@ -27,6 +27,7 @@ loop-slot-preserved c =
     (c.copy-key.ensures ∙ c.key.ensures ∙ ap (λ (v : Counted). (state_at (get_or c.args.reached.now c.loop-slot.slot-index (record { 0 = 0 })).0 v.states).key) c.self.view_is) in record {
       journal = told_step _ c.loop-slot.slot-index _ _ _ _ _ _ within is c.loop-slot.invariant.journal c.tell.ensures.journal c.tell.ensures.states;
       states = states_step _ c.loop-slot.slot-index _ _ _ _ within is c.loop-slot.invariant.states c.tell.ensures.states;
+      forgotten = c.tell.ensures.forgotten ∙ c.loop-slot.invariant.forgotten;
       keys = keys_step (threshold c.copy-key.result) _ _ _ c.loop-slot.invariant.keys c.tell.ensures.states;
       left = omega (arith, c.loop-slot.invariant.left, c.tell.ensures.room);
       room = omega (arith, c.loop-slot.invariant.room, c.tell.ensures.room);

@@ -10,6 +10,7 @@ invariant-loop-slot l = record {
       appended (map (threshold_at l.initial.self.states) l.reached) l.initial.self.states l.initial.self.journal;
   states : states_told (drop l.slot-index (map (threshold_at l.initial.self.states) l.reached)) l.self.states ≡
       states_told (map (threshold_at l.initial.self.states) l.reached) l.initial.self.states;
+  forgotten : l.self.forgotten ≡ l.initial.self.forgotten;
   keys : keys_of l.self.states ≡ keys_of l.initial.self.states;
   left : length l.reached ≤ l.self.room + l.slot-index;
   room : l.initial.self.room ≤ l.self.room + l.slot-index;

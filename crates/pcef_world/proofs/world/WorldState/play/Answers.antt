@@ -23,6 +23,7 @@ loop-step-preserved g c =
     let plays = subst (λ q. Plays q (standing_of c.loop-step.self) c.in-Some.step c.in_ok-answer.answer (standing_of c.step.new.self)) i.setting c.in_ok-answer.ensures.answer in
     record {
       setting = c.step.ensures.setting ∙ i.setting;
+      forgotten = c.step.ensures.forgotten ∙ i.forgotten;
       rest = one_less c.args.steps.items c.loop-step.yielded c.loop-step.step-iterator.rest.items c.next.new.self.rest.items c.in-Some.step i.rest c.in-Some.ensures.steps.0;
       played = subst (λ (answers : List StepAnswer). Played p (standing_of w) (c.loop-step.yielded ++ c.in-Some.step ∷ []) answers (standing_of c.step.new.self)) (sym c.in_ok-push.ensures.items)
           (played_more p (standing_of w) (standing_of c.loop-step.self) (standing_of c.step.new.self) c.loop-step.yielded c.loop-step.answers.items c.in-Some.step c.in_ok-answer.answer i.played plays);
@@ -32,6 +33,7 @@ pub loop-step-init : goal.loop-step-init
 loop-step-init g c =
     let w = c.args.self.now in record {
       setting = refl;
+      forgotten = refl;
       rest = sym c.into_iter-step-iterator.ensures.into_iter_gives.0;
       played = subst (λ (answers : List StepAnswer). Played w.session.setting (standing_of w) [] answers (standing_of w)) (sym c.in_ok-answers.ensures.items) (played_none w.session.setting (standing_of w));
     }

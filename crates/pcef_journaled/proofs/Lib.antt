@@ -1,0 +1,3 @@
+pub mod Archived
+pub mod Placed
+pub mod Walked
