@@ -1,7 +1,9 @@
--- The reports of usage that an answer tells (own choice).
-use Rattle.std.specs.Prelude.{ℕ, List, [], ◌∷◌, ◌++◌, Option, Some, None, codes, option_and_then, string_bytes}
+-- What the answer to a line tells (own choice).
+use Rattle.std.specs.Prelude.{ℕ, Bool, true, false, List, [], ◌∷◌, ◌++◌, Option, Some, None, codes, option_and_then, string_bytes}
+use Rattle.std.specs.Option.{option_to_list}
 use Rattle.serde_json.specs.Data.{Data, Items, item, no_items}
 use Rattle.serde_json.specs.Find.{as_array, as_number, as_str, as_u64, get}
+use Rattle.pcef_figures.specs.declared.figures.Refused.{Refused}
 use Rattle.pcef_figures.specs.declared.figures.Usage.{Usage}
 
 -- ---- members of objects
@@ -18,23 +20,59 @@ or_nothing (Some items) = items
 abbrev pub list_in : List ℕ → Data → Items
 list_in key d = or_nothing (option_and_then as_array (get key d))
 
+abbrev pub or_empty : Option (List ℕ) → List ℕ
+or_empty None = []
+or_empty (Some text) = text
+
 -- ---- reports
--- the key and the octets that a report of usage tells; other reports lack one of them
-abbrev pub told_by : Option (List ℕ) → Option ℕ → List (List ℕ × ℕ)
-told_by None octets = []
-told_by (Some key) None = []
-told_by (Some key) (Some octets) = (key, octets) ∷ []
+-- a report of usage that came with the answer to the line of this number
+pub record ToldUsage : Type 0 where
+  pub line : ℕ
+  pub key : List ℕ
+  pub cause : List ℕ
+  pub octets : ℕ
 
-abbrev pub told_in : Data → List (List ℕ × ℕ)
-told_in report = told_by (text_in (codes "key") report) (number_in (codes "octets") report)
+-- a report of usage has a key and octets; other reports lack one of them
+abbrev pub told_by : ℕ → List ℕ → Option (List ℕ) → Option ℕ → List ToldUsage
+told_by number cause None octets = []
+told_by number cause (Some key) None = []
+told_by number cause (Some key) (Some octets) = record { line = number; key = key; cause = cause; octets = octets } ∷ []
 
-abbrev pub told_in_all : Items → List (List ℕ × ℕ)
-told_in_all no_items = []
-told_in_all (item report reports) = told_in report ++ told_in_all reports
+abbrev pub told_in : ℕ → Data → List ToldUsage
+told_in number report =
+    told_by number (or_empty (text_in (codes "cause") report)) (text_in (codes "key") report) (number_in (codes "octets") report)
+
+abbrev pub told_in_all : ℕ → Items → List ToldUsage
+told_in_all number no_items = []
+told_in_all number (item report reports) = told_in number report ++ told_in_all number reports
 
 -- those that an answer has
-abbrev pub usage_in : Data → List (List ℕ × ℕ)
-usage_in answer = told_in_all (list_in (codes "reports") answer)
+abbrev pub usage_in : ℕ → Data → List ToldUsage
+usage_in number answer = told_in_all number (list_in (codes "reports") answer)
 
-abbrev pub told_of : Usage → List ℕ × ℕ
-told_of u = (string_bytes u.key, u.octets)
+abbrev pub told_of : Usage → ToldUsage
+told_of u = record { line = u.line; key = string_bytes u.key; cause = string_bytes u.cause; octets = u.octets }
+
+-- ---- refusals and faults
+-- the line of this number was refused or at fault
+pub record ToldRefusal : Type 0 where
+  pub line : ℕ
+  pub name : List ℕ
+  pub code : ℕ
+  pub is_fault : Bool
+
+-- by the numbers of the fault and of the refusal, where the answer has them
+abbrev pub refusal_by : ℕ → List ℕ → Option ℕ → Option ℕ → Option ToldRefusal
+refusal_by number name (Some fault) refused = Some (record { line = number; name = name; code = fault; is_fault = true })
+refusal_by number name None (Some refused) = Some (record { line = number; name = name; code = refused; is_fault = false })
+refusal_by number name None None = None
+
+abbrev pub refusal_in : ℕ → Data → Option ToldRefusal
+refusal_in number answer =
+    refusal_by number (or_empty (text_in (codes "name") answer)) (number_in (codes "fault") answer) (number_in (codes "refused") answer)
+
+abbrev pub refusals_in : ℕ → Data → List ToldRefusal
+refusals_in number answer = option_to_list (refusal_in number answer)
+
+abbrev pub refusal_of : Refused → ToldRefusal
+refusal_of r = record { line = r.line; name = string_bytes r.name; code = r.number; is_fault = r.is_fault }

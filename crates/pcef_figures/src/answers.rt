@@ -1,8 +1,8 @@
 //! What the answer to a line tells.
 
-ghost use Rattle.std.specs.Prelude.{◌≡◌, ◌++◌, OnOk, map};
+ghost use Rattle.std.specs.Prelude.{◌≡◌, ◌++◌, IfOk, OnOk, map, option_map};
 ghost use Rattle.serde_json.specs.View.{view};
-ghost use Rattle.pcef_figures.specs.Usages.{told_in, told_of, usage_in};
+ghost use Rattle.pcef_figures.specs.Usages.{refusal_in, refusal_of, told_in, told_of, usage_in};
 
 use crate::figures::{Grant, Handed, Judged, KeyState, Refused, Usage, Verdict};
 use crate::values::{list_at, number_at, owned, text_at};
@@ -14,7 +14,9 @@ pub(crate) fn refused_in(
     alloc: Global,
     line: u64,
     answer: &Value,
-) -> Result<Option<Refused>, AllocError> {
+) -> Result<Option<Refused>, AllocError>
+    ensures { IfOk result (λ refused. option_map refusal_of refused ≡ refusal_in line (view answer.now)) }
+{
     let fault = number_at(answer, "fault");
     let Some(number) = fault.or(number_at(answer, "refused")) else {
         return Ok(None);
@@ -35,7 +37,7 @@ fn push_report(
     report: &Value,
 ) -> Result<(), AllocError>
     ensures { OnOk result (map told_of usage.new.items
-        ≡ map told_of usage.old.items ++ told_in (view report.now)) }
+        ≡ map told_of usage.old.items ++ told_in line (view report.now)) }
 {
     let (Some(key), Some(octets)) = (text_at(report, "key"), number_at(report, "octets")) else {
         return Ok(());
@@ -59,7 +61,7 @@ pub(crate) fn push_usage(
     answer: &Value,
 ) -> Result<(), AllocError>
     ensures { OnOk result (map told_of usage.new.items
-        ≡ map told_of usage.old.items ++ usage_in (view answer.now)) }
+        ≡ map told_of usage.old.items ++ usage_in line (view answer.now)) }
 {
     for report in list_at(answer, "reports") {
         push_report(alloc, usage, line, report)?;

@@ -1,12 +1,16 @@
 //! Collects what a script and its answers tell.
 
-ghost use Rattle.std.specs.Prelude.{◌≡◌, ◌++◌, OnOk, map};
+ghost use Rattle.std.specs.Prelude.{◌≡◌, ◌≤◌, ◌+◌, ◌-◌, ◌^◌, ◌++◌, IfErr, IfOk, IsOk, OnOk, length, map, min, option_map, true};
 ghost use Rattle.serde_json.specs.View.{view};
-ghost use Rattle.pcef_figures.specs.Usages.{told_of, usage_in};
+ghost use Rattle.pcef_figures.specs.Collecting.{Fails, IsAtFault, IsBlank, IsUntold, Tells};
+ghost use Rattle.pcef_figures.specs.Pairing.{data_of, exchanges, filled, is_told};
+ghost use Rattle.pcef_figures.specs.Usages.{refusal_of, refusals_in, told_of, usage_in};
+ghost use Rattle.pcef_figures.specs.private.Steps.{IsOtherOrMemory, KeepsLines, TellsBeside, TellsNext, exchange_by};
 
 use crate::answers::{keys_in, push_grant, push_judged, push_usage, refused_in};
 use crate::figures::{Figures, Handed};
 use crate::lines::packet_of;
+use crate::pairing::{Filled, Lines};
 use crate::rates::ActiveRules;
 use crate::values::{number_at, text_at};
 use serde_json::Value;
@@ -32,12 +36,20 @@ pub enum CollectFault {
 }
 
 impl From<AllocError> for CollectFault {
+    ghost use Rattle.pcef_figures.specs.declared.collecting.CollectFault.TheVariants.{NoMemory};
+
+    ghost from_gives = { λ _ fault. fault ≡ NoMemory };
+
     fn from(_refused: AllocError) -> CollectFault {
         CollectFault::NoMemory
     }
 }
 
 impl<T: Drop> From<AllocFailed<T>> for CollectFault {
+    ghost use Rattle.pcef_figures.specs.declared.collecting.CollectFault.TheVariants.{NoMemory};
+
+    ghost from_gives = { λ _ fault. fault ≡ NoMemory };
+
     fn from(_refused: AllocFailed<T>) -> CollectFault {
         CollectFault::NoMemory
     }
@@ -52,14 +64,10 @@ pub struct Collected {
     active: ActiveRules,
 }
 
-/// Whether a line gets no answer.
-fn is_blank(line: &[u8]) -> bool {
-    line.iter()
-        .all(|octet| matches!(*octet, b' ' | b'\t' | b'\r'))
-}
-
 /// The JSON value of a line, if it is one.
-fn value_of(alloc: Global, line: &[u8]) -> Result<Option<Value>, AllocError> {
+fn value_of(alloc: Global, line: &[u8]) -> Result<Option<Value>, AllocError>
+    ensures { IfOk result (λ value. option_map view value ≡ data_of line.now) }
+{
     let Ok(text) = str::from_utf8(line) else {
         return Ok(None);
     };
@@ -72,7 +80,9 @@ fn value_of(alloc: Global, line: &[u8]) -> Result<Option<Value>, AllocError> {
 
 impl Collected {
     /// Nothing is collected yet. Takes no memory.
-    pub fn new(alloc: Global) -> Collected {
+    pub fn new(alloc: Global) -> Collected
+        ensures { IsBlank result.figures }
+    {
         Collected {
             figures: Figures::new(alloc),
             waiting: Vec::new(alloc),
@@ -80,7 +90,9 @@ impl Collected {
         }
     }
 
-    fn into_figures(self) -> Figures {
+    fn into_figures(self) -> Figures
+        ensures { result ≡ self.figures }
+    {
         let Collected {
             figures,
             waiting: _,
@@ -97,7 +109,7 @@ impl Collected {
         line: &Value,
         answer: &Value,
     ) -> Result<(), AllocError>
-        ensures { OnOk result (self.new.figures.usage ≡ self.old.figures.usage) }
+        ensures { OnOk result (TellsBeside self.old.figures self.new.figures) }
     {
         self.active.take(alloc, line, answer)?;
         if let Some(generation) = number_at(answer, "generation") {
@@ -116,7 +128,7 @@ impl Collected {
         line: &Value,
         answer: &Value,
     ) -> Result<bool, AllocError>
-        ensures { OnOk result (self.new.figures.usage ≡ self.old.figures.usage) }
+        ensures { OnOk result (TellsBeside self.old.figures self.new.figures) }
     {
         match text_at(line, "do") {
             Some("take") => {
@@ -149,7 +161,8 @@ impl Collected {
         line: &Value,
         answer: &Value,
     ) -> Result<(), CollectFault>
-        ensures { OnOk result (self.new.figures.usage ≡ self.old.figures.usage) }
+        ensures told { OnOk result (TellsBeside self.old.figures self.new.figures) }
+        ensures fault { IfErr result (IsOtherOrMemory number) }
     {
         if answer.get("keys").is_some() {
             self.figures.keys = keys_in(alloc, answer)?;
@@ -178,7 +191,11 @@ impl Collected {
         line: Option<&Value>,
         answer: &Value,
     ) -> Result<(), CollectFault>
-        ensures { OnOk result (self.new.figures.usage ≡ self.old.figures.usage) }
+        ensures refused { OnOk result (map refusal_of self.new.figures.refused.items
+            ≡ map refusal_of self.old.figures.refused.items ++ refusals_in number (view answer.now)) }
+        ensures beside { OnOk result (KeepsLines self.old.figures self.new.figures) }
+        ensures answered { OnOk result (is_told number (option_map (λ l. view l.now) line.entry) (view answer.now) ≡ true) }
+        ensures fault { IfErr result (IsUntold number (option_map (λ l. view l.now) line.entry) (view answer.now)) }
     {
         if let Some(refused) = refused_in(alloc, number, answer)? {
             self.figures.refused.push(refused)?;
@@ -190,8 +207,10 @@ impl Collected {
         }
     }
 
-    /// Takes the line of a number with its answer. A line that isn't JSON is none. Takes memory for what is told. Where it
-    /// fails, some of that may be told already.
+    /// Takes the line of a number with its answer, a JSON object. A line that isn't JSON is none. Takes memory for what is
+    /// told. Where it fails, some of that may be told already.
+    ///
+    /// Answers that the line can't have this answer, or want of memory.
     pub fn take(
         &mut self,
         alloc: Global,
@@ -199,8 +218,14 @@ impl Collected {
         line: Option<&Value>,
         answer: &Value,
     ) -> Result<(), CollectFault>
+        ensures lines { OnOk result (self.new.figures.lines ≡ min (self.old.figures.lines + 1) (2 ^ 64 - 1)) }
+        ensures last { OnOk result (self.new.figures.last ≡ number) }
         ensures usage { OnOk result (map told_of self.new.figures.usage.items
-            ≡ map told_of self.old.figures.usage.items ++ usage_in (view answer.now)) }
+            ≡ map told_of self.old.figures.usage.items ++ usage_in number (view answer.now)) }
+        ensures refused { OnOk result (map refusal_of self.new.figures.refused.items
+            ≡ map refusal_of self.old.figures.refused.items ++ refusals_in number (view answer.now)) }
+        ensures answered { OnOk result (is_told number (option_map (λ l. view l.now) line.entry) (view answer.now) ≡ true) }
+        ensures fault { IfErr result (IsUntold number (option_map (λ l. view l.now) line.entry) (view answer.now)) }
     {
         self.figures.lines = self.figures.lines.saturating_add(1);
         self.figures.last = number;
@@ -209,40 +234,41 @@ impl Collected {
     }
 }
 
-/// Takes the bytes of a line with those of its answer.
-fn take_bytes(
+/// Takes the octets of a line with those of its answer.
+fn take_octets(
     alloc: Global,
     collected: &mut Collected,
-    number: u64,
-    line: &[u8],
-    answer: &[u8],
-) -> Result<(), CollectFault> {
-    let answer = match value_of(alloc, answer)? {
+    line: Filled<'_>,
+    answer: Filled<'_>,
+) -> Result<(), CollectFault>
+    ensures told { OnOk result (TellsNext (exchange_by line.entry answer.entry) collected.old.figures collected.new.figures) }
+    ensures fault { IfErr result (λ fault. IsAtFault fault (exchange_by line.entry answer.entry)) }
+{
+    let answer = match value_of(alloc, answer.octets)? {
         Some(answer) if answer.is_object() => answer,
-        _ => return Err(CollectFault::NoAnswer(number)),
+        _ => return Err(CollectFault::NoAnswer(line.number)),
     };
-    let line = value_of(alloc, line)?;
-    collected.take(alloc, number, line.as_ref(), &answer)
+    let told = value_of(alloc, line.octets)?;
+    collected.take(alloc, line.number, told.as_ref(), &answer)
 }
 
 /// Collects what the lines of a script and its answers tell: the nth line that isn't blank has the nth answer. There may
 /// be fewer answers than lines. Takes memory for what is told.
 ///
 /// Answers the first fault in the order of the lines, or want of memory.
-pub fn collect(alloc: Global, lines: &[u8], answers: &[u8]) -> Result<Figures, CollectFault> {
+pub fn collect(alloc: Global, lines: &[u8], answers: &[u8]) -> Result<Figures, CollectFault>
+    ensures told { IfOk result (Tells (exchanges lines.now answers.now)) }
+    ensures all { IsOk result → length (filled answers.now) ≤ length (filled lines.now) }
+    ensures fault { IfErr result (λ fault. Fails fault lines.now answers.now) }
+{
     let mut collected = Collected::new(alloc);
-    let mut answers = answers
-        .split(|octet| *octet == b'\n')
-        .filter(|answer| !is_blank(answer));
-    for (before, line) in lines.split(|octet| *octet == b'\n').enumerate() {
-        if is_blank(line) {
-            continue;
-        }
+    let mut script = Lines::of(lines);
+    let mut answers = Lines::of(answers);
+    while let Some(line) = script.next() {
         let Some(answer) = answers.next() else {
             return Ok(collected.into_figures());
         };
-        let number = (before as u64).saturating_add(1);
-        take_bytes(alloc, &mut collected, number, line, answer)?;
+        take_octets(alloc, &mut collected, line, answer)?;
     }
     match answers.next() {
         Some(_) => Err(CollectFault::MoreAnswers),

@@ -1,5 +1,9 @@
 //! What is told of a session.
 
+ghost use Rattle.std.specs.Prelude.{◌≡◌, ◌≢◌, MatchOption};
+ghost use Rattle.pcef_figures.specs.Collecting.{IsBlank};
+ghost use Rattle.pcef_figures.specs.Verdicts.{verdict_name};
+
 use std::alloc::Global;
 
 /// What became of a packet.
@@ -17,7 +21,10 @@ pub enum Verdict {
 
 impl Verdict {
     /// The verdict that an answer names so.
-    pub(crate) fn from_text(text: &str) -> Option<Verdict> {
+    pub(crate) fn from_text(text: &str) -> Option<Verdict>
+        ensures { MatchOption result ((v : Verdict) → verdict_name v ≢ text.now)
+            (λ v. verdict_name v ≡ text.now) }
+    {
         match text {
             "Passed" => Some(Verdict::Passed),
             "Gated" => Some(Verdict::Gated),
@@ -28,7 +35,9 @@ impl Verdict {
     }
 
     /// Its name in an answer.
-    pub fn text(self) -> &'static str {
+    pub fn text(self) -> &'static str
+        ensures { result.now ≡ verdict_name self }
+    {
         match self {
             Verdict::Passed => "Passed",
             Verdict::Gated => "Gated",
@@ -156,7 +165,9 @@ pub struct Figures {
 
 impl Figures {
     /// Nothing is told yet. Takes no memory.
-    pub(crate) fn new(alloc: Global) -> Figures {
+    pub(crate) fn new(alloc: Global) -> Figures
+        ensures { IsBlank result }
+    {
         Figures {
             lines: 0,
             last: 0,

@@ -1,14 +1,16 @@
 //! What a script and its answers tell of a session: verdicts, octets of keys, guaranteed rates, refusals.
 //!
-//! Its contracts tell: which reports of usage an answer tells, and exact sums of octets.
+//! Its contracts tell: which line has which answer, which reports of usage, refusals and faults come with it, and exact
+//! sums of octets.
 //!
-//! In the order of reading: `figures`, `sums`, `values`, `answers`, `lines`, `rates`, `collecting`.
+//! In the order of reading: `figures`, `sums`, `values`, `answers`, `lines`, `pairing`, `rates`, `collecting`.
 #![tactic(auto)]
 
 mod answers;
 mod collecting;
 mod figures;
 mod lines;
+mod pairing;
 mod rates;
 mod sums;
 mod values;

@@ -1,8 +1,8 @@
 //! Members of JSON objects.
 
-ghost use Rattle.std.specs.Prelude.{◌≡◌, option_map};
+ghost use Rattle.std.specs.Prelude.{◌≡◌, IfOk, option_map, string_bytes};
 ghost use Rattle.serde_json.specs.View.{items_view, view};
-ghost use Rattle.pcef_figures.specs.Usages.{list_in, number_in, text_in};
+ghost use Rattle.pcef_figures.specs.Usages.{list_in, number_in, or_empty, text_in};
 
 use serde_json::Value;
 use std::alloc::{AllocError, Global};
@@ -32,7 +32,9 @@ pub(crate) fn list_at<'a>(object: &'a Value, key: &str) -> &'a [Value]
 }
 
 /// A text of its own, empty where there is none.
-pub(crate) fn owned(alloc: Global, text: Option<&str>) -> Result<String, AllocError> {
+pub(crate) fn owned(alloc: Global, text: Option<&str>) -> Result<String, AllocError>
+    ensures { IfOk result (λ t. string_bytes t ≡ or_empty (option_map (λ t. t.now) text.entry)) }
+{
     match text {
         Some(text) => String::from_str(alloc, text),
         None => Ok(String::new(alloc)),

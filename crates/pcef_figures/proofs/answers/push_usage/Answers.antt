@@ -13,5 +13,5 @@ returns c =
     let reports = list.result.now in
     c.loop-report.invariant
     ∙ ap (λ t. map told_of c.args.usage.now.items ++ t)
-    (ap (λ xs. flat_map told_in (map view xs)) (take_all c.loop-report.report-index reports (omega (arith, c.loop-report-test.false)))
-    ∙ sym (told_flat (map view reports)) ∙ ap told_in_all list.ensures)
+    (ap (λ xs. flat_map (told_in c.args.line) (map view xs)) (take_all c.loop-report.report-index reports (omega (arith, c.loop-report-test.false)))
+    ∙ sym (told_flat c.args.line (map view reports)) ∙ ap (told_in_all c.args.line) list.ensures)

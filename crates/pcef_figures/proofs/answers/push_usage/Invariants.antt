@@ -6,4 +6,4 @@ use Rattle.pcef_figures.specs.Usages.{told_in, told_of}
 use Rattle.pcef_figures.proofs.answers.push_usage.Given as goal
 
 abbrev pub invariant-loop-report : goal.invariant-loop-report
-invariant-loop-report l = map told_of l.usage.items ≡ map told_of l.fn.usage.items ++ flat_map told_in (map view (take l.report-index l.report-items))
+invariant-loop-report l = map told_of l.usage.items ≡ map told_of l.fn.usage.items ++ flat_map (told_in l.fn.line) (map view (take l.report-index l.report-items))

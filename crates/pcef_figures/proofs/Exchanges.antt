@@ -1,0 +1,56 @@
+-- Lines with their answers, one after the other.
+use Rattle.std.proofs.Common.{◌≡◌, ◌∙◌, ◌+◌, ◌^◌, ◌<◌, ℕ, Bool, true, false, List, [], ◌∷◌, ◌++◌, length, length-append, append-nil, refl, sym, ap, arith}
+use Rattle.std.specs.Prelude.{None, IsUtf8, map}
+use Rattle.std.specs.List.{zip}
+use Rattle.std.specs.Str.{is_utf8}
+use Rattle.std.proofs.lemmas.List.{flat_map_more}
+use Rattle.std.proofs.lemmas.List.Elements.{All-push}
+use Rattle.std.proofs.lemmas.Str.{IsUtf8-from_is_utf8, is_utf8-from_IsUtf8}
+use Rattle.serde_json.specs.Read.{read}
+use Rattle.pcef_figures.specs.declared.figures.Figures.{Figures}
+use Rattle.pcef_figures.specs.Collecting.{Tells, last_from}
+use Rattle.pcef_figures.specs.Pairing.{Exchange, data_of, exchange_of, is_answered}
+use Rattle.pcef_figures.specs.Usages.{refusals_in, usage_in}
+use Rattle.pcef_figures.specs.private.Steps.{TellsNext}
+
+-- ---- JSON
+pub data_read : (octets : List ℕ) → IsUtf8 octets → data_of octets ≡ read octets
+data_read octets holds = rw (is_utf8-from_IsUtf8 octets holds) refl
+
+other_by : (octets : List ℕ) (test : Bool) → is_utf8 octets ≡ test → ¬ (IsUtf8 octets) → None ≡ data_of octets
+other_by octets true is isnt = absurd (isnt (IsUtf8-from_is_utf8 octets is))
+other_by octets false is isnt = rw is refl
+
+pub other_none : (octets : List ℕ) → ¬ (IsUtf8 octets) → None ≡ data_of octets
+other_none octets isnt = other_by octets (is_utf8 octets) refl isnt
+
+-- ---- one line more
+last_more : (number : ℕ) (xs : List Exchange) (x : Exchange) → last_from number (xs ++ x ∷ []) ≡ x.number
+last_more number [] x = refl
+last_more number (y ∷ xs) x = last_more y.number xs x
+
+pub tells_more : (xs : List Exchange) (x : Exchange) (old new : Figures) → length xs + 1 < 2 ^ 64 → Tells xs old → TellsNext x old new → Tells (xs ++ x ∷ []) new
+tells_more xs x old new room tells next =
+    record {
+      lines = omega (arith, next.lines, tells.lines, room, length-append xs (x ∷ []));
+      last = next.last ∙ sym (last_more 0 xs x);
+      usage = next.usage ∙ ap (λ t. t ++ usage_in x.number x.answer) tells.usage ∙ flat_map_more (λ y. usage_in y.number y.answer) [] xs x;
+      refusals = next.refused ∙ ap (λ t. t ++ refusals_in x.number x.answer) tells.refusals ∙ flat_map_more (λ y. refusals_in y.number y.answer) [] xs x;
+      answered = All-push (λ y. is_answered y ≡ true) xs x tells.answered next.answered;
+    }
+
+-- a line with its answer comes first
+pub exchanges_next : (script answers script_later answers_later : List (ℕ × List ℕ)) (line answer : ℕ × List ℕ) → script ≡ line ∷ script_later → answers ≡ answer ∷ answers_later
+    → map exchange_of (zip script answers) ≡ exchange_of (line, answer) ∷ map exchange_of (zip script_later answers_later)
+exchanges_next script answers script_later answers_later line answer first second = rw (first, second) refl
+
+-- there are no more
+pub no_script : (told : List Exchange) (script answers : List (ℕ × List ℕ)) → script ≡ [] → told ++ map exchange_of (zip script answers) ≡ told
+no_script told script answers none = rw (none, append-nil told) refl
+
+zip_nothing : (script : List (ℕ × List ℕ)) → zip {X = ℕ × List ℕ} script [] ≡ []
+zip_nothing [] = refl
+zip_nothing (line ∷ script) = refl
+
+pub no_answers : (told : List Exchange) (script answers : List (ℕ × List ℕ)) → answers ≡ [] → told ++ map exchange_of (zip script answers) ≡ told
+no_answers told script answers none = rw (none, zip_nothing script, append-nil told) refl

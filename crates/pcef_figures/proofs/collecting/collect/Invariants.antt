@@ -1,0 +1,23 @@
+use Rattle.std.proofs.Common.{◌≡◌, ◌<◌, ◌^◌, ◌+◌, ◌++◌, List, length}
+use Rattle.std.specs.Prelude.{map}
+use Rattle.std.specs.List.{zip}
+use Rattle.pcef_figures.specs.Collecting.{Tells}
+use Rattle.pcef_figures.specs.Pairing.{Exchange, exchange_of, exchanges, filled}
+use Rattle.pcef_figures.specs.private.Lines.{HasRoom, left, size}
+use Rattle.pcef_figures.proofs.collecting.collect.Given as goal
+
+-- the lines so far are told
+abbrev pub invariant-loop-line : goal.invariant-loop-line
+invariant-loop-line l = record {
+  told : List Exchange;
+  whole : exchanges l.fn.lines l.fn.answers ≡ told ++ map exchange_of (zip (left l.script) (left l.answers));
+  tells : Tells told l.collected.figures;
+  lines : length (filled l.fn.lines) ≡ length told + length (left l.script);
+  answers : length (filled l.fn.answers) ≡ length told + length (left l.answers);
+  room : length told + size l.script < 2 ^ 64;
+  script_room : HasRoom l.script;
+  answers_room : HasRoom l.answers;
+}
+
+abbrev pub decreases-loop-line : goal.decreases-loop-line
+decreases-loop-line l = size l.script

@@ -1,0 +1,67 @@
+-- What is told of a script by its answers (own choice).
+use Rattle.std.specs.Prelude.{ℕ, ◌≡◌, ◌<◌, true, false, List, [], ◌∷◌, ◌++◌, length, map, is_some, Option, None}
+use Rattle.std.specs.List.{All, flat_map}
+use Rattle.serde_json.specs.Data.{Data}
+use Rattle.pcef_figures.specs.declared.collecting.CollectFault.{CollectFault}
+use Rattle.pcef_figures.specs.declared.collecting.CollectFault.TheVariants as fault
+use Rattle.pcef_figures.specs.declared.figures.Figures.{Figures}
+use Rattle.pcef_figures.specs.Pairing.{Exchange, exchanges, filled, is_answered, is_told}
+use Rattle.pcef_figures.specs.Usages.{ToldUsage, ToldRefusal, refusal_in, refusal_of, refusals_in, told_of, usage_in}
+
+-- the number of the last line of these, or else this one
+abbrev pub last_from : ℕ → List Exchange → ℕ
+last_from number [] = number
+last_from number (x ∷ xs) = last_from x.number xs
+
+abbrev pub usage_told : List Exchange → List ToldUsage
+usage_told xs = flat_map (λ x. usage_in x.number x.answer) xs
+
+abbrev pub refusals_told : List Exchange → List ToldRefusal
+refusals_told xs = flat_map (λ x. refusals_in x.number x.answer) xs
+
+-- these lines with their answers are told, and no others
+pub record Tells (xs : List Exchange) (f : Figures) : Type 0 where
+  pub lines : f.lines ≡ length xs
+  pub last : f.last ≡ last_from 0 xs
+  pub usage : map told_of f.usage.items ≡ usage_told xs
+  pub refusals : map refusal_of f.refused.items ≡ refusals_told xs
+  pub answered : All (λ x. is_answered x ≡ true) xs
+
+-- nothing is told
+pub record IsBlank (f : Figures) : Type 0 where
+  pub lines : f.lines ≡ 0
+  pub last : f.last ≡ 0
+  pub generation : f.generation ≡ 0
+  pub judged : f.judged.items ≡ []
+  pub usage : f.usage.items ≡ []
+  pub grants : f.grants.items ≡ []
+  pub keys : f.keys.items ≡ []
+  pub rates : f.rates.items ≡ []
+  pub refused : f.refused.items ≡ []
+
+-- what is wrong with the line of a number and its answer, an object; where that has verdicts on other packets, the line was done
+abbrev pub IsUntold : ℕ → Option Data → Data → CollectFault → Type 0
+IsUntold number line answer (fault.NoAnswer n) = (n ≡ number) × (is_told number line answer ≡ false)
+IsUntold number line answer (fault.OtherPackets n) = (n ≡ number) × (refusal_in number answer ≡ None) × (is_some line ≡ true)
+IsUntold number line answer fault.MoreAnswers = ⊥
+IsUntold number line answer fault.NoMemory = Unit {0}
+
+-- and with any answer
+abbrev pub IsAtFault : CollectFault → Exchange → Type 0
+IsAtFault (fault.NoAnswer n) x = (n ≡ x.number) × (is_answered x ≡ false)
+IsAtFault (fault.OtherPackets n) x = (n ≡ x.number) × (is_answered x ≡ true) × (refusal_in x.number x.answer ≡ None)
+IsAtFault fault.MoreAnswers x = ⊥
+IsAtFault fault.NoMemory x = Unit {0}
+
+-- the first line at fault stands behind lines that have their answers
+abbrev pub FailsFirst : CollectFault → List Exchange → Type 0
+FailsFirst fault xs =
+    (front : List Exchange) × (x : Exchange) × (back : List Exchange)
+    × (xs ≡ front ++ x ∷ back) × All (λ y. is_answered y ≡ true) front × IsAtFault fault x
+
+-- why a script and answers don't belong together
+abbrev pub Fails : CollectFault → List ℕ → List ℕ → Type 0
+Fails (fault.NoAnswer n) script answers = FailsFirst (fault.NoAnswer n) (exchanges script answers)
+Fails (fault.OtherPackets n) script answers = FailsFirst (fault.OtherPackets n) (exchanges script answers)
+Fails fault.MoreAnswers script answers = (length (filled script) < length (filled answers)) × All (λ y. is_answered y ≡ true) (exchanges script answers)
+Fails fault.NoMemory script answers = Unit {0}

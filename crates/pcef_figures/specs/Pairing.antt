@@ -1,0 +1,61 @@
+-- Which line of a script has which answer (own choice).
+use Rattle.std.specs.Prelude.{ℕ, ◌==◌, ◌&&◌, ◌||◌, Bool, not, nat_le, is_some, List, length, map, filter, Option, Some, None, if◌then◌else◌}
+use Rattle.std.specs.List.{enumerate_from, list_all, slice_split, zip}
+use Rattle.std.specs.Str.{is_utf8}
+use Rattle.serde_json.specs.Data.{Data, null}
+use Rattle.serde_json.specs.Find.{as_object}
+use Rattle.serde_json.specs.Read.{read}
+use Rattle.pcef_figures.specs.Usages.{refusal_in}
+
+-- ---- lines
+-- the most octets of a line that may be blank
+abbrev pub blank_most : ℕ
+blank_most = 262144
+
+abbrev pub is_space : ℕ → Bool
+is_space b = ((b == 32) || (b == 9)) || (b == 13)
+
+-- a line that gets no answer: of spaces, tabs and CR alone, and within the limit, for a longer one is at fault
+abbrev pub is_blank : List ℕ → Bool
+is_blank line = nat_le (length line) blank_most && list_all is_space line
+
+-- what stands between line feeds, before the first and behind the last
+abbrev pub lines_of : List ℕ → List (List ℕ)
+lines_of octets = slice_split (λ b. b == 10) octets
+
+-- the lines that aren't blank, each behind its number; the first line has this one
+abbrev pub filled_from : ℕ → List (List ℕ) → List (ℕ × List ℕ)
+filled_from number lines = filter (λ l. not (is_blank l.1)) (enumerate_from number lines)
+
+abbrev pub filled : List ℕ → List (ℕ × List ℕ)
+filled octets = filled_from 1 (lines_of octets)
+
+-- ---- lines with their answers
+-- the JSON value that octets are, if they are one
+abbrev pub data_of : List ℕ → Option Data
+data_of octets = if is_utf8 octets then read octets else None
+
+abbrev pub or_null : Option Data → Data
+or_null None = null
+or_null (Some d) = d
+
+-- a line with its answer; what should be an answer and is no JSON is `null`
+pub record Exchange : Type 0 where
+  pub number : ℕ
+  pub line : Option Data
+  pub answer : Data
+
+abbrev pub exchange_of : (ℕ × List ℕ) × (ℕ × List ℕ) → Exchange
+exchange_of p = record { number = p.0.0; line = data_of p.0.1; answer = or_null (data_of p.1.1) }
+
+-- the nth line of the script that isn't blank has the nth answer
+abbrev pub exchanges : List ℕ → List ℕ → List Exchange
+exchanges script answers = map exchange_of (zip (filled script) (filled answers))
+
+-- the line is JSON, unless its answer says that it was refused or at fault
+abbrev pub is_told : ℕ → Option Data → Data → Bool
+is_told number line answer = is_some (refusal_in number answer) || is_some line
+
+-- and the answer is an object
+abbrev pub is_answered : Exchange → Bool
+is_answered x = is_some (as_object x.answer) && is_told x.number x.line x.answer
