@@ -17,15 +17,15 @@ mod table;
 
 ghost use Rattle.std.specs.Prelude.{◌≤◌};
 
-use clap::{Error, error};
 use end::End;
 use metrics::metrics_text;
 use options::{Format, Options, asked};
 use page::html_page;
+use pcef_command_line::{gather, refuse, tell_no_memory};
 use pcef_figures::{CollectFault, Figures, collect};
+use std::fs;
 use std::io::{self, BufWriter, ErrorKind, Write};
 use std::process::ExitCode;
-use std::{env, fs};
 use table::write_table;
 
 /// Where an error of the system ends the program.
@@ -103,7 +103,7 @@ fn told(rt: &HostRuntime, end: &End) -> u8
             let _ = eprintln!(rt; "{fault}");
         }
         End::NoMemory => {
-            let _ = eprintln!(rt; "want of memory");
+            let _ = tell_no_memory(rt);
         }
         End::Read(error) => {
             let _ = eprintln!(rt; "read fault\n{error}");
@@ -115,40 +115,13 @@ fn told(rt: &HostRuntime, end: &End) -> u8
     end.status()
 }
 
-/// The exit status of wrong arguments, of want of memory, or of a question for help or for the version.
-fn told_by(rt: &HostRuntime, error: &Error) -> u8
-    ensures { result ≤ 4 }
-{
-    if error.kind() == error::ErrorKind::OutOfMemory {
-        return told(rt, &End::NoMemory);
-    }
-    match error.print(rt) {
-        Ok(()) if error.use_stderr() => 2,
-        Ok(()) => 0,
-        Err(_) => 4,
-    }
-}
-
-/// The arguments, the program's name before them.
-fn words(rt: &HostRuntime) -> io::Result<Vec<String>> {
-    let mut words = Vec::new(rt.alloc());
-    for word in env::args(rt)? {
-        words.push(word)?;
-    }
-    Ok(words)
-}
-
 /// Does what the arguments ask for, and gives the exit status.
 fn status(rt: &HostRuntime) -> u8
     ensures { result ≤ 4 }
 {
-    let words = match words(rt) {
+    let words = match gather(rt) {
         Ok(words) => words,
-        Err(error) if error.kind() == ErrorKind::InvalidData => {
-            let _ = eprintln!(rt; "usage: an argument isn't UTF-8");
-            return 2;
-        }
-        Err(_) => return told(rt, &End::NoMemory),
+        Err(status) => return status,
     };
     match asked(rt.alloc(), words.as_slice()) {
         Ok(Some(options)) => told(rt, &report(rt, options)),
@@ -156,7 +129,7 @@ fn status(rt: &HostRuntime) -> u8
             let _ = eprintln!(rt; "usage: --format: html, csv or openmetrics is expected");
             2
         }
-        Err(error) => told_by(rt, &error),
+        Err(error) => refuse(rt, &error),
     }
 }
 

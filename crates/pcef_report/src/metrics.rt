@@ -1,18 +1,23 @@
 //! OpenMetrics text (version 1.0.0).
 
+ghost use Rattle.std.specs.Prelude.{◌≡◌, ◌++◌, OnOk, string_bytes};
+ghost use Rattle.pcef_report.specs.Labels.{label_of};
+
 use crate::keys::names;
-use pcef_figures::{Figures, Rates, Verdict, octets_judged, octets_of};
+use pcef_figures::{Figures, KeyState, Rates, Verdict, octets_judged, octets_of};
 use std::alloc::{AllocError, Global};
 
-/// Adds the value of a label, with `?` for what is no printable ASCII.
-fn push_label(text: &mut String, value: &str) -> Result<(), AllocError> {
-    for octet in value.as_bytes() {
-        let octet = *octet;
-        match octet {
-            b'"' => text.push_str("\\\"")?,
-            b'\\' => text.push_str("\\\\")?,
-            b' '..=b'~' => text.push(char::from(octet))?,
-            _ => text.push('?')?,
+/// Adds the value of a label: a quotation mark, a backslash and a line feed are escaped, and other characters stand as
+/// they are.
+fn push_label(text: &mut String, value: &str) -> Result<(), AllocError>
+    ensures { OnOk result (string_bytes text.new ≡ string_bytes text.old ++ label_of value.now) }
+{
+    for character in value.chars() {
+        match character {
+            '"' => text.push_str("\\\"")?,
+            '\\' => text.push_str("\\\\")?,
+            '\n' => text.push_str("\\n")?,
+            _ => text.push(character)?,
         }
     }
     Ok(())
@@ -87,6 +92,17 @@ fn push_packets(alloc: Global, text: &mut String, figures: &Figures) -> Result<(
     Ok(())
 }
 
+/// Whether the key at a place is one of those before it: there is one sample of each.
+fn is_named_before(keys: &[KeyState], place: usize) -> bool {
+    let (before, rest) = keys.split_at(place.min(keys.len()));
+    match rest.first() {
+        Some(state) => before
+            .iter()
+            .any(|other| other.key.as_str() == state.key.as_str()),
+        None => false,
+    }
+}
+
 fn push_keys(alloc: Global, text: &mut String, figures: &Figures) -> Result<(), AllocError> {
     family(
         text,
@@ -107,7 +123,10 @@ fn push_keys(alloc: Global, text: &mut String, figures: &Figures) -> Result<(), 
         "gauge",
         "Octets of a key that no report told by the last show.",
     )?;
-    for state in &figures.keys {
+    for (place, state) in figures.keys.iter().enumerate() {
+        if is_named_before(figures.keys.as_slice(), place) {
+            continue;
+        }
         text.push_str("pcef_unreported_octets{key=\"")?;
         push_label(text, state.key.as_str())?;
         let unreported = state.unreported;

@@ -1,0 +1,15 @@
+use Rattle.std.proofs.Common.{◌∙◌, ◌++◌, ap, string_bytes, sym}
+use Rattle.std.specs.List.{flat_map}
+use Rattle.std.proofs.lemmas.Iterator.{YieldsList-from_chars}
+use Rattle.std.proofs.lemmas.Iterator.Consumers.{YieldsList-end}
+use Rattle.std.proofs.lemmas.List.Folds.{flat_map-map}
+use Rattle.pcef_report.specs.Labels.{label_character}
+use Rattle.pcef_report.proofs.metrics.push_label.Goals as goal
+
+pub returns : goal.returns
+returns c =
+    let told = c.loop-character in
+    let all = YieldsList-end (YieldsList-from_chars c.args.value.now c.utf8.value cc) told.yielded _ told.yielded_by _ _ c.in-None.is c.next.ensures.steps in
+    told.invariant
+    ∙ ap (λ t. string_bytes c.args.text.now ++ t)
+    (sym (flat_map-map label_character (λ x. x) told.yielded) ∙ ap (flat_map label_character) all.0)
