@@ -1,0 +1,18 @@
+//! Reads the header of a packet of which only the first octets are at hand, and the length is told: `read_front`.
+//!
+//! Its contracts tell: what every packet that begins with these octets is read as, or that two such packets are read
+//! differently.
+//!
+//! In the order of reading: `fault`, `cutting`, `ports`, `ipv4`, `extensions`, `ipv6`, `reading`.
+#![tactic(auto)]
+
+mod cutting;
+mod extensions;
+mod fault;
+mod ipv4;
+mod ipv6;
+mod ports;
+mod reading;
+
+pub use fault::FrontFault;
+pub use reading::read_front;
