@@ -1,26 +1,20 @@
 -- Fronts that hold all headers.
-use Rattle.std.proofs.Common.{ℕ, zero, suc, ◌≡◌, ◌≢◌, ◌+◌, ◌-◌, ◌<◌, ◌≤◌, ◌∙◌, ◌++◌, ◌==◌, ◌&&◌, Bool, true, false, List, [], ◌∷◌, length, take, drop, slice_index, Option, Some, None, Result, Ok, Err, refl, sym, ap, subst, arith, inl, inr, append_assoc}
-use Rattle.std.specs.Prelude.{nat_le, nat_lt, not, if◌then◌else◌}
-use Rattle.std.specs.List.{slice_range}
-use Rattle.std.proofs.lemmas.Bool.{cases_Bool, cases_lt}
+use Rattle.std.proofs.Common.{ℕ, ◌≡◌, ◌+◌, ◌-◌, ◌≤◌, ◌∙◌, ◌++◌, ◌==◌, true, List, length, take, drop, slice_index, None, Result, Ok, Err, refl, sym, ap, arith, inl, inr, append_assoc}
+use Rattle.std.specs.Prelude.{nat_le, nat_lt, if◌then◌else◌}
+use Rattle.std.proofs.lemmas.Bool.{cases_lt}
 use Rattle.std.proofs.lemmas.Bool.Decides.{nat_tests}
 use Rattle.std.proofs.lemmas.List.{drop-append-le, length-append, length-drop, length-take, take-append-le, take_all}
 use Rattle.pcef_packet.specs.declared.header.Dir.{Dir}
 use Rattle.pcef_packet.specs.declared.header.Header.{Header}
 use Rattle.pcef_packet.specs.declared.header.PacketFault.{PacketFault}
 use Rattle.pcef_packet.specs.declared.header.PacketFault.TheVariants as fault
-use Rattle.pcef_packet.specs.declared.header.Ports.{Ports}
 use Rattle.pcef_packet.specs.Carrying.{carried_in, carried_of}
 use Rattle.pcef_packet.specs.ExtensionHeaders.{Carried, IsCarried}
-use Rattle.pcef_packet.specs.HeaderOf.{behind_fixed, carries_ports, faults_v4, first_kind, fragment_offset_v4, header_carrying, header_len_v4, header_of, header_unless, header_v4, number, payload_v4, ports_in, reading_v6, total_len_v4, version, volume_v6}
+use Rattle.pcef_packet.specs.HeaderOf.{behind_fixed, first_kind, fragment_offset_v4, header_len_v4, payload_v4, ports_in, reading_v6, total_len_v4, volume_v6}
 use Rattle.pcef_packet.proofs.ExtensionLaws.{carried_found}
-use Rattle.pcef_front.specs.Fronts.{IsOpen, IsSure, IsToldBy, MayFollow, as_front}
-use Rattle.pcef_front.specs.declared.extensions.Transport.{Transport}
-use Rattle.pcef_front.specs.declared.fault.FrontFault.{FrontFault}
-use Rattle.pcef_front.specs.declared.fault.FrontFault.TheVariants.{TooFew, Packet}
-use Rattle.pcef_front.specs.private.Transports.{header_with_v4, header_with_v6, ports_at, reading_v4, transport, transport_carried}
+use Rattle.pcef_front.specs.Fronts.{IsOpen, MayFollow}
+use Rattle.pcef_front.specs.private.Transports.{header_with_v4, header_with_v6, reading_v4, transport, transport_carried}
 use Rattle.pcef_front.proofs.FrontNumbers.{index_front, number_front}
-use Rattle.pcef_front.proofs.FrontReadings.{not_empty, version_front}
 use Rattle.pcef_front.proofs.FrontsV4.{header_front as header_front_v4, len_front, most_len, offset_front, total_front, whole_len}
 use Rattle.pcef_front.proofs.FrontsV6.{header_front as header_front_v6, volume_front}
 use Rattle.pcef_front.proofs.Told.{on_ok, take_join}

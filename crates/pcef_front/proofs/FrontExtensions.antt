@@ -1,12 +1,11 @@
 -- Extension headers of which a front is at hand.
-use Rattle.std.proofs.Common.{ℕ, zero, suc, ◌≡◌, ◌≢◌, ◌+◌, ◌-◌, ◌*◌, ◌/◌, ◌<◌, ◌≤◌, ◌∙◌, ◌++◌, ◌==◌, ◌&&◌, ◌||◌, ◌⊎◌, Bool, true, false, List, [], ◌∷◌, length, take, drop, slice_index, Option, Some, None, Result, Ok, Err, refl, sym, ap, subst, arith, inl, inr}
-use Rattle.std.specs.Prelude.{nat_lt, not, if◌then◌else◌}
+use Rattle.std.proofs.Common.{ℕ, ◌≡◌, ◌≢◌, ◌+◌, ◌-◌, ◌*◌, ◌/◌, ◌<◌, ◌≤◌, ◌∙◌, ◌++◌, ◌==◌, true, false, List, [], ◌∷◌, length, drop, slice_index, Option, Some, None, Result, Ok, Err, refl, sym, ap, subst, arith, inl, inr}
+use Rattle.std.specs.Prelude.{nat_lt, not}
 use Rattle.std.specs.List.{All, slice_range}
 use Rattle.std.proofs.lemmas.Bool.{cases_Bool, cases_lt}
 use Rattle.std.proofs.lemmas.Bool.Decides.{nat_tests}
 use Rattle.std.proofs.lemmas.List.{length-append, length-drop, take_all}
-use Rattle.std.proofs.lemmas.List.Elements.{All-append, All-cons, All-nil}
-use Rattle.byteorder.specs.Endian.{big_number}
+use Rattle.std.proofs.lemmas.List.Elements.{All-append, All-cons}
 use Rattle.pcef_packet.specs.declared.header.PacketFault.{PacketFault}
 use Rattle.pcef_packet.specs.declared.header.PacketFault.TheVariants as fault
 use Rattle.pcef_packet.specs.declared.header.Ports.{Ports}
@@ -17,7 +16,7 @@ use Rattle.pcef_packet.proofs.CarryingLaws.{least_len, step_cut, step_end, step_
 use Rattle.pcef_front.specs.Fronts.{IsOpen, IsSure, IsToldBy, MayFollow}
 use Rattle.pcef_front.specs.declared.extensions.Transport.{Transport}
 use Rattle.pcef_front.specs.declared.fault.FrontFault.{FrontFault}
-use Rattle.pcef_front.specs.declared.fault.FrontFault.TheVariants.{TooFew, Packet}
+use Rattle.pcef_front.specs.declared.fault.FrontFault.TheVariants.{TooFew}
 use Rattle.pcef_front.specs.private.Transports.{Passes, TellsLater, has_ports, ports_at, ports_read, transport, transport_carried, transport_in}
 use Rattle.pcef_front.proofs.FrontNumbers.{index_front, number_front}
 use Rattle.pcef_front.proofs.FrontPorts.{few_ports, no_carrier, no_protocol, with_ports, without_ports}

@@ -1,12 +1,11 @@
 -- The ports of a payload of which a front is at hand.
-use Rattle.std.proofs.Common.{ℕ, zero, suc, ◌≡◌, ◌≢◌, ◌+◌, ◌-◌, ◌*◌, ◌<◌, ◌≤◌, ◌∙◌, ◌++◌, ◌&&◌, Bool, true, false, List, [], ◌∷◌, length, Option, Some, None, Ok, refl, sym, ap, arith, inl, inr}
-use Rattle.std.specs.Prelude.{Result, nat_le, if◌then◌else◌}
-use Rattle.std.specs.List.{All}
+use Rattle.std.proofs.Common.{ℕ, ◌≡◌, ◌≢◌, ◌+◌, ◌-◌, ◌*◌, ◌<◌, ◌≤◌, ◌∙◌, ◌++◌, true, false, List, [], ◌∷◌, length, Option, Some, None, Ok, refl, sym, ap, arith, inl, inr}
+use Rattle.std.specs.Prelude.{nat_le}
 use Rattle.std.proofs.lemmas.Bool.{and_cases, and_parts}
 use Rattle.std.proofs.lemmas.Bool.Decides.{nat_tests}
 use Rattle.std.proofs.lemmas.List.{length-append}
-use Rattle.std.proofs.lemmas.List.Elements.{All-cons, All-nil}
-use Rattle.pcef_packet.specs.HeaderOf.{carries_ports, number, ports_in}
+use Rattle.std.proofs.lemmas.List.Elements.{All-cons}
+use Rattle.pcef_packet.specs.HeaderOf.{carries_ports, ports_in}
 use Rattle.pcef_packet.specs.declared.header.Ports.{Ports}
 use Rattle.pcef_front.specs.Fronts.{IsOpen, IsSure, MayFollow}
 use Rattle.pcef_front.specs.private.Transports.{has_ports, ports_at, ports_read}

@@ -1,6 +1,6 @@
 -- Packets of any version of which a front is at hand.
-use Rattle.std.proofs.Common.{ℕ, zero, suc, ◌≡◌, ◌≢◌, ◌+◌, ◌-◌, ◌/◌, ◌<◌, ◌≤◌, ◌∙◌, ◌++◌, ◌==◌, ◌⊎◌, Bool, true, false, List, [], ◌∷◌, length, Result, Ok, Err, refl, sym, ap, subst, arith, inl, inr}
-use Rattle.std.specs.Prelude.{nat_lt, if◌then◌else◌}
+use Rattle.std.proofs.Common.{ℕ, ◌≡◌, ◌≢◌, ◌-◌, ◌/◌, ◌<◌, ◌∙◌, ◌++◌, ◌==◌, ◌⊎◌, false, List, [], ◌∷◌, length, Result, Ok, Err, refl, sym, ap, arith, inl, inr}
+use Rattle.std.specs.Prelude.{nat_lt}
 use Rattle.std.proofs.lemmas.Bool.{cases_Bool}
 use Rattle.std.proofs.lemmas.Bool.Decides.{nat_tests}
 use Rattle.std.proofs.lemmas.List.{append-nil, length-append}
@@ -12,7 +12,6 @@ use Rattle.pcef_packet.specs.declared.header.PacketFault.TheVariants as fault
 use Rattle.pcef_packet.specs.HeaderOf.{header_len_v4, header_of, reading_v6, version}
 use Rattle.pcef_front.specs.Fronts.{IsOpen, IsSure, IsToldBy, MayFollow, as_front}
 use Rattle.pcef_front.specs.declared.fault.FrontFault.{FrontFault}
-use Rattle.pcef_front.specs.declared.fault.FrontFault.TheVariants.{TooFew, Packet}
 use Rattle.pcef_front.specs.private.Transports.{reading_v4}
 use Rattle.pcef_front.proofs.FrontNumbers.{index_front}
 use Rattle.pcef_front.proofs.Told.{IsOctet, blank, blank_len, same_read, zeros}

@@ -1,10 +1,10 @@
 -- Packets of version 4 of which a front is at hand.
-use Rattle.std.proofs.Common.{ℕ, zero, suc, ◌≡◌, ◌≢◌, ◌+◌, ◌-◌, ◌*◌, ◌/◌, ◌%◌, ◌<◌, ◌≤◌, ◌∙◌, ◌++◌, ◌==◌, ◌⊎◌, Bool, true, false, List, [], ◌∷◌, length, take, drop, slice_index, Option, Some, None, Result, Ok, Err, refl, sym, ap, subst, arith, inl, inr}
+use Rattle.std.proofs.Common.{ℕ, ◌≡◌, ◌≢◌, ◌+◌, ◌-◌, ◌*◌, ◌%◌, ◌<◌, ◌≤◌, ◌∙◌, ◌++◌, ◌==◌, ◌⊎◌, true, false, List, [], ◌∷◌, length, slice_index, Option, None, Result, Ok, Err, refl, sym, ap, arith, inl, inr}
 use Rattle.std.specs.Prelude.{nat_lt, if◌then◌else◌}
-use Rattle.std.specs.List.{All, slice_range}
-use Rattle.std.proofs.lemmas.Bool.{cases_Bool, cases_lt}
+use Rattle.std.specs.List.{slice_range}
+use Rattle.std.proofs.lemmas.Bool.{cases_lt}
 use Rattle.std.proofs.lemmas.Bool.Decides.{nat_tests}
-use Rattle.std.proofs.lemmas.List.{length-append, length-drop, take_all}
+use Rattle.std.proofs.lemmas.List.{length-append}
 use Rattle.std.proofs.lemmas.List.Elements.{All-append, All-cons, All-nil}
 use Rattle.pcef_packet.specs.declared.header.Addr.{Addr}
 use Rattle.pcef_packet.specs.declared.header.Addr.TheVariants.{V4, V6}
@@ -13,13 +13,12 @@ use Rattle.pcef_packet.specs.declared.header.Header.{Header}
 use Rattle.pcef_packet.specs.declared.header.PacketFault.{PacketFault}
 use Rattle.pcef_packet.specs.declared.header.PacketFault.TheVariants as fault
 use Rattle.pcef_packet.specs.declared.header.Ports.{Ports}
-use Rattle.pcef_packet.specs.HeaderOf.{faults_v4, fragment_offset_v4, header_len_v4, header_unless, header_v4, number, payload_v4, ports_in, total_len_v4}
+use Rattle.pcef_packet.specs.HeaderOf.{fragment_offset_v4, header_len_v4, header_v4, number, payload_v4, ports_in, total_len_v4}
 use Rattle.pcef_front.specs.Fronts.{IsOpen, IsSure, IsToldBy, MayFollow}
 use Rattle.pcef_front.specs.declared.fault.FrontFault.{FrontFault}
-use Rattle.pcef_front.specs.declared.fault.FrontFault.TheVariants.{TooFew, Packet}
 use Rattle.pcef_front.specs.private.Transports.{header_with_v4, ports_read, ports_v4, reading_v4}
 use Rattle.pcef_front.proofs.FrontNumbers.{index_front, last_apart, number_front}
-use Rattle.pcef_front.proofs.Told.{IsOctet, Keeps, blank, blank_len, made, on_front, on_ok, same_read, shorter, windowed, zeros}
+use Rattle.pcef_front.proofs.Told.{IsOctet, blank, blank_len, made, on_front, on_ok, same_read, shorter, windowed, zeros}
 
 -- ---- what the front says is said by the packet
 pub len_front : (front rest : List ℕ) → 0 < length front → header_len_v4 (front ++ rest) ≡ header_len_v4 front

@@ -1,14 +1,11 @@
 -- Packets of version 6 of which a front is at hand.
-use Rattle.std.proofs.Common.{ℕ, zero, suc, ◌≡◌, ◌≢◌, ◌+◌, ◌-◌, ◌*◌, ◌/◌, ◌%◌, ◌<◌, ◌≤◌, ◌∙◌, ◌++◌, ◌==◌, ◌⊎◌, Bool, true, false, List, [], ◌∷◌, length, take, drop, slice_index, Option, Some, None, Result, Ok, Err, refl, sym, ap, subst, arith, inl, inr, append_assoc}
-use Rattle.std.specs.Prelude.{nat_lt, if◌then◌else◌}
+use Rattle.std.proofs.Common.{ℕ, ◌≡◌, ◌≢◌, ◌+◌, ◌-◌, ◌*◌, ◌<◌, ◌≤◌, ◌∙◌, ◌++◌, ◌⊎◌, true, false, List, [], ◌∷◌, length, take, drop, slice_index, Option, Some, None, Result, Ok, Err, refl, sym, ap, subst, arith, inl, inr}
+use Rattle.std.specs.Prelude.{nat_lt}
 use Rattle.std.specs.List.{All, slice_range}
-use Rattle.std.proofs.lemmas.Bool.{cases_lt}
 use Rattle.std.proofs.lemmas.Bool.Decides.{nat_tests}
-use Rattle.std.proofs.lemmas.List.{append-nil, drop_all, length-append, length-drop, take_all}
+use Rattle.std.proofs.lemmas.List.{drop_all, length-append, length-drop, take_all}
 use Rattle.std.proofs.lemmas.List.Elements.{All-append, All-cons, All-nil}
 use Rattle.std.proofs.Math.Seq.{drop-append-add, take-append_seam}
-use Rattle.pcef_packet.specs.declared.header.Addr.{Addr}
-use Rattle.pcef_packet.specs.declared.header.Addr.TheVariants.{V4, V6}
 use Rattle.pcef_packet.specs.declared.header.Dir.{Dir}
 use Rattle.pcef_packet.specs.declared.header.Header.{Header}
 use Rattle.pcef_packet.specs.declared.header.PacketFault.{PacketFault}
@@ -24,7 +21,7 @@ use Rattle.pcef_front.specs.private.Transports.{header_with_v6, transport, trans
 use Rattle.pcef_front.proofs.FrontExtensions.{read_end}
 use Rattle.pcef_front.proofs.FrontNumbers.{at_seam, index_front, last_apart, number_front}
 use Rattle.pcef_front.proofs.FrontsV4.{dst_in}
-use Rattle.pcef_front.proofs.Told.{IsOctet, Keeps, blank, blank_len, made, on_front, on_ok, shorter, windowed, zeros}
+use Rattle.pcef_front.proofs.Told.{IsOctet, blank, blank_len, made, on_front, on_ok, shorter, windowed, zeros}
 
 -- ---- what the front says is said by the packet
 pub volume_front : (front rest : List ℕ) → 6 ≤ length front → volume_v6 (front ++ rest) ≡ volume_v6 front

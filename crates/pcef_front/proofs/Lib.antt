@@ -5,4 +5,5 @@ pub mod FrontPorts
 pub mod FrontReadings
 pub mod FrontsV4
 pub mod FrontsV6
+pub mod OneReading
 pub mod Told

@@ -1,11 +1,11 @@
 -- What readers say of fronts, and how one reader's answer carries over to another's.
-use Rattle.std.proofs.Common.{ℕ, zero, suc, ◌≡◌, ◌≢◌, ◌+◌, ◌-◌, ◌<◌, ◌≤◌, ◌∙◌, ◌++◌, List, [], ◌∷◌, length, take, drop, replicate, Result, Ok, Err, refl, sym, ap, subst, arith, inl, inr, append_assoc}
+use Rattle.std.proofs.Common.{ℕ, zero, suc, ◌≡◌, ◌+◌, ◌-◌, ◌<◌, ◌≤◌, ◌∙◌, ◌++◌, List, [], ◌∷◌, length, take, drop, replicate, Result, Ok, Err, refl, sym, ap, arith, append_assoc}
 use Rattle.std.specs.List.{All, slice_range}
-use Rattle.std.proofs.lemmas.List.{append-nil, drop_all, length-append, length-drop, length-replicate, length-take, take_all}
+use Rattle.std.proofs.lemmas.List.{length-append, length-drop, length-replicate, length-take}
 use Rattle.std.proofs.lemmas.List.Elements.{All-append, All-drop, All-replicate, All-take}
 use Rattle.std.proofs.Math.Seq.{drop-append_seam, take-append_seam}
 use Rattle.pcef_packet.specs.declared.header.PacketFault.{PacketFault}
-use Rattle.pcef_front.specs.Fronts.{IsOpen, IsSure, IsToldBy, MayFollow}
+use Rattle.pcef_front.specs.Fronts.{IsOpen, IsToldBy, MayFollow}
 use Rattle.pcef_front.specs.declared.fault.FrontFault.{FrontFault}
 use Rattle.pcef_front.specs.declared.fault.FrontFault.TheVariants.{TooFew, Packet}
 

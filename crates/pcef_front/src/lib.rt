@@ -3,7 +3,7 @@
 //! Its contracts tell: what every packet that begins with these octets is read as, or that two such packets are read
 //! differently.
 //!
-//! In the order of reading: `fault`, `cutting`, `ports`, `ipv4`, `extensions`, `ipv6`, `reading`.
+//! In the order of reading: `fault`, `laws`, `cutting`, `ports`, `ipv4`, `extensions`, `ipv6`, `reading`.
 #![tactic(auto)]
 
 mod cutting;
@@ -11,8 +11,10 @@ mod extensions;
 mod fault;
 mod ipv4;
 mod ipv6;
+mod laws;
 mod ports;
 mod reading;
 
 pub use fault::FrontFault;
+pub use laws::one_answer;
 pub use reading::read_front;

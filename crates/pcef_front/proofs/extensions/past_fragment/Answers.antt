@@ -1,5 +1,5 @@
 use Rattle.std.proofs.Common.{◌-◌, ◌∙◌, Some, ap, sym, subst}
-use Rattle.pcef_front.specs.private.Transports.{LeadsTo, TellsLater, has_ports}
+use Rattle.pcef_front.specs.private.Transports.{TellsLater, has_ports}
 use Rattle.pcef_packet.specs.ExtensionHeaders.{is_extension}
 use Rattle.pcef_front.proofs.FrontExtensions.{either_header, either_portless, either_ports, first_passed, later_portless}
 use Rattle.pcef_front.proofs.extensions.past_fragment.Goals as goal

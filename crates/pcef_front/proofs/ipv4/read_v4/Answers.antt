@@ -1,4 +1,4 @@
-use Rattle.std.proofs.Common.{◌∙◌, ◌≡◌, Err, ap, arith, inl, inr, subst, sym}
+use Rattle.std.proofs.Common.{arith, inl, inr, subst}
 use Rattle.pcef_front.specs.Fronts.{IsToldBy}
 use Rattle.pcef_front.specs.private.Transports.{header_with_v4, reading_v4}
 use Rattle.pcef_front.proofs.Told.{on_front}

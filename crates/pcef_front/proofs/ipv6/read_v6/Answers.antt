@@ -1,4 +1,4 @@
-use Rattle.std.proofs.Common.{◌≡◌, ◌∙◌, ◌-◌, Err, ap, arith, refl, slice_index, subst, sym, take}
+use Rattle.std.proofs.Common.{◌≡◌, ◌∙◌, ◌-◌, ap, arith, refl, slice_index, subst, take}
 use Rattle.std.specs.List.{slice_range}
 use Rattle.pcef_packet.specs.HeaderOf.{reading_v6, volume_v6}
 use Rattle.pcef_front.specs.Fronts.{IsToldBy}
