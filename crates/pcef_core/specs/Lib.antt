@@ -1,3 +1,3 @@
 pub mod Cores
-pub mod Laws
+pub mod Keeping
 pub mod Sessions

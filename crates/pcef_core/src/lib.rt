@@ -1,17 +1,18 @@
 //! The core without threads: `Session` and `World`, a session, alone or with its workers, and the catalog of its
 //! predefined rules.
 //!
-//! Its contracts tell: what a list of steps makes of a new session; only tests and `pcef_steps` use it yet.
+//! Its contracts tell: that what a session keeps is exact, in one statement (`kept_by`), and what a list of steps makes of
+//! a new session. Only tests and `pcef_steps` use it yet.
 //!
-//! In the order of reading: `laws`, `session`, `world`, `steps`.
+//! In the order of reading: `keeping`, `session`, `world`, `steps`.
 #![tactic(auto)]
 
-mod laws;
+mod keeping;
 mod session;
 mod steps;
 mod world;
 
-pub use laws::sessions_are_exact;
+pub use keeping::{Kept, kept_by};
 pub use session::Session;
 pub use steps::run;
 pub use world::World;

@@ -1,0 +1,62 @@
+//! What a session keeps.
+
+ghost use Rattle.std.specs.Prelude.{◌≡◌};
+ghost use Rattle.pcef_core.specs.Keeping.{SessionIsExact};
+
+use pcef_bearer::Bearers;
+use pcef_index::Indexed;
+use pcef_journal::Journal;
+use pcef_rule::RuleName;
+use pcef_session::SessionState;
+use pcef_table::Source;
+use pcef_usage::Usage;
+use std::marker::Model;
+
+/// What a session keeps, between two calls.
+pub struct Kept<'s> {
+    /// The journal.
+    pub journal: &'s Journal,
+    /// The active rules by their names, in the order in which they became active.
+    pub active: &'s [(RuleName, Source)],
+    /// The bearers, and the rules that are bound to them.
+    pub bearers: &'s Bearers,
+    /// The keys that have a slot, with their counters in octets.
+    pub usage: &'s Usage,
+    /// The table of the newest generation, with its index.
+    pub indexed: &'s Indexed,
+}
+
+impl<'s> Model for Kept<'s> {
+    ghost use Rattle.pcef_core.specs.Keeping.{KeptBySession};
+
+    ghost Value = { KeptBySession };
+
+    ghost view = { λ k. record {
+      journal = k.journal.now.entries;
+      rules = k.active.now;
+      binding = k.bearers.now;
+      keys = k.usage.now;
+      table = k.indexed.now;
+    } };
+}
+
+/// What a session keeps, and that it is exact: each active rule is bound to one bearer, which has its QCI and ARP; each
+/// bearer's guaranteed rates are its rules' exact sums, and all are within the capacity; reported and unreported octets
+/// of each monitoring key are together those that the journal's packet rows passed for it; and each row has the verdict
+/// of its own generation. It takes any session: one that stands alone, the one that a hold of a session's lock finds
+/// (`pcef_lock::State::session`), and the one that comes out at the end (`pcef_lock::Totals`).
+pub fn kept_by(session: &SessionState) -> Kept<'_>
+    ensures journal { result.journal ≡ session.now.journal }
+    ensures exact { SessionIsExact session.now.setting result }
+{
+    let bearers = session.bearers();
+    // For what it says of the bearers: that two rules share one where they have the same QCI and ARP.
+    let _bound = bearers.bound();
+    Kept {
+        journal: session.journal(),
+        active: session.active(),
+        bearers,
+        usage: session.usage(),
+        indexed: session.indexed(),
+    }
+}

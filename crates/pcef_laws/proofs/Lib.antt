@@ -1,0 +1,4 @@
+mod Ended
+mod Foremost
+mod Grants
+mod Told

@@ -1,0 +1,43 @@
+-- What is reported (TS 29.212, clauses 4.5.16 and 4.5.17).
+use Rattle.std.specs.Prelude.{ℕ, ◌≡◌, true, false, List, [], ◌∷◌, None, length}
+use Rattle.pcef_model.specs.declared.command.Command.{Command}
+use Rattle.pcef_model.specs.declared.command.Command.TheVariants.{Terminate}
+use Rattle.pcef_model.specs.declared.pending_report.PendingReport.TheVariants.{Usage}
+use Rattle.pcef_model.specs.declared.report.Cause.{Cause}
+use Rattle.pcef_model.specs.declared.row.Row.{Row}
+use Rattle.pcef_model.specs.Commands.{is_among}
+use Rattle.pcef_model.specs.Entries.{Journal}
+use Rattle.pcef_model.specs.Journals.{counted, reported, slots, subscribed, unreported}
+use Rattle.pcef_model.specs.Lawful.{Lawful}
+use Rattle.pcef_model.specs.Outcomes.{changes}
+use Rattle.pcef_model.specs.Refusals.{attach_faults, first_of, flush_refusals, is_attached, refusals}
+use Rattle.pcef_model.specs.Reports.{after_attach, after_command, after_flush, after_leave, is_reached, tell}
+use Rattle.pcef_model.specs.Setting.{Setting}
+
+-- ---- grants
+-- while usage reports are subscribed, no key that is on has its grant unreported between two events
+abbrev pub GrantsAreTold : Type 0
+GrantsAreTold = (p : Setting) (j : Journal) → Lawful p j → (subscribed j).usage_report ≡ true →
+    (key : List ℕ) → is_among key (slots p j) ≡ true → is_reached p j key ≡ false
+
+-- ---- octets
+-- right after a usage report of a key all that was counted for it is reported
+abbrev pub ReportsTellAll : Type 0
+ReportsTellAll = (p : Setting) (j : Journal) → Lawful p j → (key : List ℕ) (cause : Cause) →
+    reported (tell p (Usage key cause ∷ []) j) key ≡ counted p (tell p (Usage key cause ∷ []) j) key
+
+-- ---- the end
+-- the journals that may come after one, event by event
+pub data Later (p : Setting) (before : Journal) : Journal → Type 0 where
+  at_once : Later p before before
+  by_command : (j : Journal) (c : Command) → Later p before j → first_of (refusals p j c) ≡ None → changes p j c ≡ true →
+      Later p before (after_command p j c)
+  by_attach : (j : Journal) → Later p before j → first_of (attach_faults j) ≡ None → Later p before (after_attach j)
+  by_leave : (j : Journal) (worker : ℕ) → Later p before j → is_attached j worker ≡ true → Later p before (after_leave worker j)
+  by_flush : (j : Journal) (worker : ℕ) (rows : List Row) → Later p before j →
+      first_of (flush_refusals p j worker (length rows)) ≡ None → Later p before (after_flush p j rows)
+
+-- after a Terminate nothing is unreported, and nothing that follows changes that
+abbrev pub TerminateTellsAll : Type 0
+TerminateTellsAll = (p : Setting) (j k : Journal) → Lawful p j → first_of (refusals p j Terminate) ≡ None → Later p (after_command p j Terminate) k →
+    (key : List ℕ) → is_among key (slots p j) ≡ true → unreported p k key ≡ 0

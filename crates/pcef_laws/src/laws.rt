@@ -1,0 +1,25 @@
+//! Laws of journals, proved for whoever reads the definitions.
+
+ghost use Rattle.pcef_laws.specs.Reporting.{GrantsAreTold, ReportsTellAll, TerminateTellsAll};
+ghost use Rattle.pcef_laws.specs.Deciding.{OneDecidesWhereSomeFit};
+ghost use Rattle.pcef_laws.specs.Places.{SlotsStayInPlace};
+
+/// Reports (TS 29.212, clauses 4.5.16 and 4.5.17): while usage reports are subscribed, no key that is on has its grant
+/// unreported between two events; right after a usage report of a key all that was counted for it is reported; and
+/// after a Terminate nothing is unreported any more, whatever follows.
+pub fn reports_say_what_is_due()
+    ensures grants { GrantsAreTold }
+    ensures all { ReportsTellAll }
+    ensures end { TerminateTellsAll }
+{}
+
+/// Slots: a command leaves those that there are in their places, and puts new ones behind them.
+pub fn slots_stay_in_their_places()
+    ensures { SlotsStayInPlace }
+{}
+
+/// Decisions (TS 23.203, clause 6.2.2): of the active rules that fit a packet one decides, and none does where none
+/// fits.
+pub fn one_rule_decides()
+    ensures { OneDecidesWhereSomeFit }
+{}
