@@ -1,4 +1,6 @@
 mod Ended
+mod ExampleRefusals
+mod ExampleStates
 mod Foremost
 mod Grants
 mod Told
