@@ -14,7 +14,7 @@ use Rattle.pcef_model.specs.Journals.{grant, now, report_count, reported, slots,
 use Rattle.pcef_model.specs.Lawful.{Lawful, at_first, by_attach, by_command, by_flush, by_leave}
 use Rattle.pcef_model.specs.Reports.{after_command, body_of, is_reached, is_reached_by, plan, tell, thresholds, with_rows, with_thresholds}
 use Rattle.pcef_model.proofs.Reports.{tell_slots, tell_subscribed}
-use Rattle.pcef_model.proofs.Sameness.{same_name_is}
+use Rattle.pcef_laws.proofs.Among.{among_kept}
 
 -- ---- one report
 abbrev with_report : Setting → PendingReport → Journal → Journal
@@ -64,17 +64,6 @@ tell_clears p (k ∷ keys) j key there =
     elim (cases_Bool (same_name key k)) [
       | inl same ↦ tell_stays p (map (λ o. Usage o Threshold) keys) (with_report p (Usage k Threshold) j) key (one_clears p k j key same)
       | inr differs ↦ let rest : is_among key keys ≡ true = rw differs at there in tell_clears p keys (with_report p (Usage k Threshold) j) key rest
-    ]
-
-among_kept : (test : List ℕ → Bool) (key : List ℕ) (keys : List (List ℕ)) → is_among key keys ≡ true → test key ≡ true → is_among key (filter test keys) ≡ true
-among_kept test key [] there holds = absurd cc
-among_kept test key (k ∷ keys) there holds =
-    elim (cases_Bool (same_name key k)) [
-      | inl same ↦ let kept : test k ≡ true = ap test (sym (same_name_is key k same)) ∙ holds in rw (kept, same) refl
-      | inr differs ↦
-          let rest : is_among key keys ≡ true = rw differs at there in
-          let later = among_kept test key keys rest holds in
-          elim (cases_Bool (test k)) [ inl kept ↦ rw (kept, differs) later | inr gone ↦ rw gone later ]
     ]
 
 settled : (p : Setting) (j : Journal) (key : List ℕ) → (subscribed (with_thresholds p j)).usage_report ≡ true → is_among key (slots p (with_thresholds p j)) ≡ true

@@ -1,24 +1,37 @@
 -- What is reported (TS 29.212, clauses 4.5.16 and 4.5.17).
-use Rattle.std.specs.Prelude.{ℕ, ◌≡◌, true, false, List, [], ◌∷◌, None, length}
+use Rattle.std.specs.Prelude.{ℕ, ◌≡◌, Bool, true, false, List, [], ◌∷◌, None, length}
+use Rattle.std.specs.List.{list_any}
 use Rattle.pcef_model.specs.declared.command.Command.{Command}
 use Rattle.pcef_model.specs.declared.command.Command.TheVariants.{Terminate}
+use Rattle.pcef_model.specs.declared.pending_report.PendingReport.{PendingReport}
 use Rattle.pcef_model.specs.declared.pending_report.PendingReport.TheVariants.{Usage}
 use Rattle.pcef_model.specs.declared.report.Cause.{Cause}
 use Rattle.pcef_model.specs.declared.row.Row.{Row}
 use Rattle.pcef_model.specs.Commands.{is_among}
 use Rattle.pcef_model.specs.Entries.{Journal}
-use Rattle.pcef_model.specs.Journals.{counted, reported, slots, subscribed, unreported}
+use Rattle.pcef_model.specs.Journals.{counted, now, reported, slots, subscribed, unreported}
 use Rattle.pcef_model.specs.Lawful.{Lawful}
 use Rattle.pcef_model.specs.Outcomes.{changes}
 use Rattle.pcef_model.specs.Refusals.{attach_faults, first_of, flush_refusals, is_attached, refusals}
-use Rattle.pcef_model.specs.Reports.{after_attach, after_command, after_flush, after_leave, is_reached, tell}
-use Rattle.pcef_model.specs.Setting.{Setting}
+use Rattle.pcef_model.specs.Reports.{after_attach, after_command, after_flush, after_leave, is_reached, plan, tell}
+use Rattle.pcef_model.specs.Setting.{Setting, same_name}
 
 -- ---- grants
 -- while usage reports are subscribed, no key that is on has its grant unreported between two events
 abbrev pub GrantsAreTold : Type 0
 GrantsAreTold = (p : Setting) (j : Journal) → Lawful p j → (subscribed j).usage_report ≡ true →
     (key : List ℕ) → is_among key (slots p j) ≡ true → is_reached p j key ≡ false
+
+-- ---- keys that go off
+-- a usage report of a key
+abbrev pub tells_of : List ℕ → PendingReport → Bool
+tells_of key (Usage other cause) = same_name key other
+tells_of key _ = false
+
+-- a key goes off only with a report of it
+abbrev pub KeysGoOffWithAReport : Type 0
+KeysGoOffWithAReport = (p : Setting) (j : Journal) (c : Command) (key : List ℕ) → is_among key (slots p j) ≡ true →
+    is_among key (now p j).on ≡ true → is_among key (now p (after_command p j c)).on ≡ false → list_any (tells_of key) (plan p j c) ≡ true
 
 -- ---- octets
 -- right after a usage report of a key all that was counted for it is reported
