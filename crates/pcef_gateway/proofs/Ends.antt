@@ -1,5 +1,5 @@
 -- What a session's run comes to, by what was handed in.
-use Rattle.std.proofs.Common.{◌≡◌, ◌≢◌, ◌∙◌, ◌<◌, ◌+◌, ℕ, zero, suc, ◌==◌, true, List, [], ◌∷◌, ◌++◌, All, Some, find, length, filter, map, reverse, get_or, sum_by, refl, ap, sym, subst, arith}
+use Rattle.std.proofs.Common.{◌≡◌, ◌≢◌, ◌∙◌, ◌<◌, ◌+◌, ℕ, zero, suc, ◌==◌, true, false, List, [], ◌∷◌, ◌++◌, All, Some, find, length, filter, map, reverse, get_or, sum_by, refl, ap, sym, subst, arith}
 use Rattle.std.specs.Prelude.{IfOk, Result, Ok, Err}
 use Rattle.std.specs.Option.{option_map}
 use mathlib.Core.List.{IsPrefix}
@@ -18,11 +18,12 @@ use Rattle.pcef_model.specs.Lawful.{Lawful}
 use Rattle.pcef_model.proofs.NewLanes.{lawful_numbered}
 use Rattle.pcef_session.specs.declared.batch.Item.{Item}
 use Rattle.pcef_session.specs.Following.{row_of}
-use Rattle.pcef_lock.specs.Gathering.{HasLane, rows_abandoned}
-use Rattle.pcef_lock.specs.HandedIn.{HandedIn}
+use Rattle.pcef_lock.specs.Gathering.{AddUpTo, HasLane, rows_abandoned}
+use Rattle.pcef_lock.specs.HandedIn.{HandedIn, abandoned_by}
+use Rattle.pcef_lock.specs.declared.leaving.Leaving.TheVariants.{Finished}
 use Rattle.pcef_gateway.specs.Arriving.{headers_for}
 use Rattle.pcef_gateway.specs.Commanding.{HaveAnswers, changing}
-use Rattle.pcef_gateway.specs.Ending.{AddUpTo, RunsTo}
+use Rattle.pcef_gateway.specs.Ending.{RunsTo}
 use Rattle.pcef_gateway.specs.InOrder.{commands_of, lane_headers, reports_of}
 use Rattle.pcef_gateway.specs.Sending.{HandInArrivals, rows_of}
 use Rattle.pcef_gateway.specs.Serving.{header_of}
@@ -62,7 +63,7 @@ headers_of_rows (i ∷ items) = ap (λ (hs : List Header). i.row.header ∷ hs) 
 
 sum_of_rows : (handed : List HandedIn) → sum_by rows_of handed ≡ sum_by (λ (h : HandedIn). length h.items) handed + rows_abandoned handed
 sum_of_rows [] = refl
-sum_of_rows (h ∷ handed) = omega (arith, sum_by-cons rows_of h handed, sum_by-cons (λ (x : HandedIn). length x.items) h handed, sum_by-cons (λ (x : HandedIn). x.abandoned) h handed, sum_of_rows handed)
+sum_of_rows (h ∷ handed) = omega (arith, sum_by-cons rows_of h handed, sum_by-cons (λ (x : HandedIn). length x.items) h handed, sum_by-cons abandoned_by h handed, sum_of_rows handed)
 
 -- each row stands in what one worker handed in
 rows_sum : (p : Setting) (j : Journal) (handed : List HandedIn) (d : HandedIn) → Lawful p j → ((n : ℕ) → n < length handed → (get_or handed n d).worker ≡ n) → length handed ≡ attach_count j
@@ -76,40 +77,41 @@ rows_sum p j handed d lawful numbered many lanes =
     sums_up (λ (r : Row). r.worker) (λ (h : HandedIn). length h.items) (rows j) handed d own lower
 
 runs_to : (p : Setting) (before : Journal) (arrivals : List Arrival) (given first listed : List Command) (workers dropped : ℕ) (handed : List HandedIn) (e : Ended)
-    → AddUpTo p listed handed e.totals → HandInArrivals workers arrivals dropped handed → Lawful e.totals.session.setting e.totals.session.journal
+    → AddUpTo p false listed handed e.totals → e.totals.compared ≡ true → HandInArrivals workers arrivals dropped handed → Lawful e.totals.session.setting e.totals.session.journal
     → e.dropped ≡ dropped → HaveAnswers first given listed e.answers.items → first ≡ commands_of before
     → e.reports.items ≡ reports_of e.totals.session.journal → RunsTo p before arrivals given workers e
-runs_to p before arrivals given first listed workers dropped handed e add_up hand_in lawful dropped_is have first_is reports_are =
+runs_to p before arrivals given first listed workers dropped handed e add_up compared hand_in lawful dropped_is have first_is reports_are =
     let j = e.totals.session.journal in
-    let d : HandedIn = record { worker = 0; keeps = true; items = []; abandoned = 0 } in
+    let agree = add_up.agree compared in
+    let d : HandedIn = record { worker = 0; keeps = true; items = []; leaving = Finished 0 } in
     let numbered : (n : ℕ) → n < length handed → (get_or handed n d).worker ≡ n = λ n below. hand_in.numbered n d below in
-    let sum : sum_by (λ (h : HandedIn). length h.items) handed ≡ length (rows j) = rows_sum e.totals.session.setting j handed d lawful numbered add_up.many add_up.lanes in
+    let sum : sum_by (λ (h : HandedIn). length h.items) handed ≡ length (rows j) = rows_sum e.totals.session.setting j handed d lawful numbered add_up.many agree.0 in
     record {
       setting_is = add_up.setting_is;
       attached = sym add_up.many ∙ hand_in.many;
       keys = add_up.keys_are;
       sums = add_up.sums;
-      gathered = record { handed = handed; many = add_up.many; lanes = add_up.lanes; gathered = add_up.gathered; abandoned_are = add_up.abandoned_are };
+      gathered = record { handed = handed; many = add_up.many; lanes = agree.0; gathered = add_up.gathered; abandoned_are = add_up.abandoned_are };
       rows_are = add_up.rows_are;
       lanes = λ w within.
           let there : w < length handed = omega (arith, within, hand_in.many) in
           let came : w < attach_count j = omega (arith, there, add_up.many) in
           let own : map header_of (get_or handed w d).items ≡ lane_headers j w =
-          sym (headers_of_rows (get_or handed w d).items) ∙ ap (map (λ (r : Row). r.header)) (own_rows j handed w d numbered there (add_up.lanes w came)) in
+          sym (headers_of_rows (get_or handed w d).items) ∙ ap (map (λ (r : Row). r.header)) (own_rows j handed w d numbered there (agree.0 w came)) in
           subst (λ hs. IsPrefix hs (headers_for w arrivals)) own (hand_in.first w d there);
       whole = omega (arith, add_up.rows_are, add_up.abandoned_are, dropped_is, hand_in.whole, sum_of_rows handed, sum);
       answers = have.many;
       memory = have.memory;
-      commands_are = sym add_up.listed_are ∙ have.listed_are ∙ ap (λ cs. cs ++ changing given e.answers.items) first_is;
+      commands_are = sym agree.1 ∙ have.listed_are ∙ ap (λ cs. cs ++ changing given e.answers.items) first_is;
       reports_are = reports_are;
     }
 
 -- where it came to an end
 pub ends_so : {E : Type 0} (r : Result Ended E) (p : Setting) (before : Journal) (arrivals : List Arrival) (given first listed : List Command) (workers dropped : ℕ) (handed : List HandedIn) (answers : List (Result Accepted Refusal))
-    → IfOk r (λ e. AddUpTo p listed handed e.totals) → HandInArrivals workers arrivals dropped handed → IfOk r (λ e. Lawful e.totals.session.setting e.totals.session.journal)
+    → IfOk r (λ e. AddUpTo p false listed handed e.totals) → IfOk r (λ e. e.totals.compared ≡ true) → HandInArrivals workers arrivals dropped handed → IfOk r (λ e. Lawful e.totals.session.setting e.totals.session.journal)
     → IfOk r (λ e. (e.dropped ≡ dropped) × (e.answers.items ≡ answers)) → HaveAnswers first given listed answers → first ≡ commands_of before → IfOk r (λ e. e.reports.items ≡ reports_of e.totals.session.journal)
     → IfOk r (λ e. RunsTo p before arrivals given workers e)
-ends_so (Ok e) p before arrivals given first listed workers dropped handed answers add_up hand_in lawful rest have first_is reports_are =
-    runs_to p before arrivals given first listed workers dropped handed e add_up hand_in lawful rest.0
+ends_so (Ok e) p before arrivals given first listed workers dropped handed answers add_up compared hand_in lawful rest have first_is reports_are =
+    runs_to p before arrivals given first listed workers dropped handed e add_up compared hand_in lawful rest.0
     (subst (λ (xs : List (Result Accepted Refusal)). HaveAnswers first given listed xs) (sym rest.1) have) first_is reports_are
-ends_so (Err f) p before arrivals given first listed workers dropped handed answers add_up hand_in lawful rest have first_is reports_are = tt
+ends_so (Err f) p before arrivals given first listed workers dropped handed answers add_up compared hand_in lawful rest have first_is reports_are = tt

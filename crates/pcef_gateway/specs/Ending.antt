@@ -15,18 +15,6 @@ use Rattle.pcef_gateway.specs.declared.arrivals.Arrival.{Arrival}
 use Rattle.pcef_gateway.specs.declared.ended.Ended.{Ended}
 use Rattle.pcef_gateway.specs.declared.fault.RunFault.{RunFault}
 
--- what the desk and the workers handed in agrees with the journal, and adds up to this
-pub record AddUpTo {l : Type 0} (p : Setting) (listed : List Command) (handed : List HandedIn) (t : Totals l) : Type 0 where
-  pub setting_is : t.session.setting ≡ p
-  pub many : length handed ≡ attach_count t.session.journal
-  pub lanes : HaveLanes t.session.journal handed
-  pub listed_are : listed ≡ commands_of t.session.journal
-  pub keys_are : t.keys ≡ key_totals p t.session.journal
-  pub gathered : AreGathered t.keys handed
-  pub sums : All (λ k. k.counted ≡ k.reported + k.unreported) t.keys
-  pub rows_are : t.rows ≡ length (rows t.session.journal)
-  pub abandoned_are : t.abandoned ≡ rows_abandoned handed
-
 -- by these lists of the workers: each of its lane, and together they have what was counted for each key
 pub record AreGatheredFrom {l : Type 0} (t : Totals l) : Type 0 where
   pub handed : List HandedIn

@@ -1,5 +1,9 @@
--- The numbers of the faults of a run.
+-- The numbers of the faults of a run, and which fault is told of what failed.
 use Rattle.std.specs.Prelude.{ℕ}
+use Rattle.pcef_lock.specs.declared.opening.SharedFault.{SharedFault}
+use Rattle.pcef_lock.specs.declared.opening.SharedFault.TheVariants as shared
+use Rattle.pcef_gateway.specs.declared.fault.Failure.{Failure}
+use Rattle.pcef_gateway.specs.declared.fault.Failure.TheVariants as failure
 use Rattle.pcef_gateway.specs.declared.fault.RunFault.{RunFault}
 use Rattle.pcef_gateway.specs.declared.fault.RunFault.TheVariants.{Attach, Gather, NoMemory, Ring, Shared, StrangeWorker, Thread, Workers}
 
@@ -12,3 +16,18 @@ number_of Attach = 5
 number_of Thread = 6
 number_of Gather = 7
 number_of NoMemory = 8
+
+-- ---- for private clauses
+-- the fault that is told of what failed
+abbrev pub told_of : Failure → RunFault
+told_of failure.Shared = Shared
+told_of failure.Ring = Ring
+told_of failure.Attach = Attach
+told_of failure.Thread = Thread
+told_of failure.Gather = Gather
+told_of failure.NoMemory = NoMemory
+
+-- a session that didn't come behind its lock: want of memory is told as such
+abbrev pub failure_of : SharedFault → Failure
+failure_of shared.NoMemory = failure.NoMemory
+failure_of _ = failure.Shared

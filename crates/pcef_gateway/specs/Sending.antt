@@ -2,14 +2,14 @@
 use Rattle.std.specs.Prelude.{ℕ, ◌≡◌, ◌+◌, ◌<◌, List, [], length, map, slice_index_or, sum_by}
 use mathlib.Core.List.{IsPrefix}
 use Rattle.pcef_packet.specs.declared.header.Header.{Header}
-use Rattle.pcef_lock.specs.HandedIn.{HandedIn}
+use Rattle.pcef_lock.specs.HandedIn.{HandedIn, abandoned_by}
 use Rattle.pcef_gateway.specs.Arriving.{headers_for}
 use Rattle.pcef_gateway.specs.Serving.{header_of}
 use Rattle.pcef_gateway.specs.declared.arrivals.Arrival.{Arrival}
 
 -- so many rows stand in what a worker handed in, or were abandoned
 abbrev pub rows_of : HandedIn → ℕ
-rows_of h = length h.items + h.abandoned
+rows_of h = length h.items + abandoned_by h
 
 -- Each worker, in the order of their numbers, was sent these packets. It handed in the first of them; the others were
 -- abandoned or dropped.

@@ -2,7 +2,7 @@
 use Rattle.std.specs.Prelude.{ℕ, ◌≡◌, ◌+◌, List, length, map, take}
 use Rattle.pcef_packet.specs.declared.header.Header.{Header}
 use Rattle.pcef_session.specs.declared.batch.Item.{Item}
-use Rattle.pcef_lock.specs.HandedIn.{HandedIn}
+use Rattle.pcef_lock.specs.HandedIn.{HandedIn, abandoned_by}
 
 -- the packet of a row
 abbrev pub header_of : Item → Header
@@ -11,4 +11,4 @@ header_of i = i.row.header
 -- of these packets a worker handed in the first; the others were abandoned, or so many dropped
 pub record HandsIn (packets : List Header) (dropped : ℕ) (h : HandedIn) : Type 0 where
   pub first : map header_of h.items ≡ take (length h.items) packets
-  pub whole : length packets ≡ length h.items + h.abandoned + dropped
+  pub whole : length packets ≡ length h.items + abandoned_by h + dropped

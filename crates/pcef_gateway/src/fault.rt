@@ -1,7 +1,7 @@
 //! Why a session's run came to no end.
 
-ghost use Rattle.std.specs.Prelude.{◌≡◌, ◌<◌};
-ghost use Rattle.pcef_gateway.specs.Faults.{number_of};
+ghost use Rattle.std.specs.Prelude.{◌≡◌};
+ghost use Rattle.pcef_gateway.specs.Faults.{number_of, told_of};
 
 use pcef_lock::SharedFault;
 use std::error::Error;
@@ -84,7 +84,7 @@ pub(crate) enum Failure {
 impl Failure {
     /// The fault that is told of it.
     pub(crate) fn fault(self) -> RunFault
-        ensures { 2 < number_of result }
+        ensures { result ≡ told_of self }
     {
         match self {
             Failure::Shared => RunFault::Shared,
@@ -98,6 +98,11 @@ impl Failure {
 }
 
 impl From<SharedFault> for Failure {
+    ghost use Rattle.std.specs.Prelude.{◌≡◌};
+    ghost use Rattle.pcef_gateway.specs.Faults.{failure_of};
+
+    ghost from_gives = { λ fault failure. failure ≡ failure_of fault };
+
     fn from(fault: SharedFault) -> Failure {
         match fault {
             SharedFault::NoMemory => Failure::NoMemory,

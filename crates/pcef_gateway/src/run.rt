@@ -1,18 +1,16 @@
 //! Sessions that run in threads.
 
-ghost use Rattle.std.specs.Prelude.{◌≡◌, ◌↔◌, ◌⊎◌, ◌+◌, ◌++◌, ◌<◌, ◌≤◌, ℕ, All, IfOk, [], length, vec_len};
+ghost use Rattle.std.specs.Prelude.{◌≡◌, ◌↔◌, ◌⊎◌, ◌<◌, ◌≤◌, All, IfOk, [], false, length, true, vec_len};
 ghost use Rattle.std.specs.Arc.{arc_value};
-ghost use mathlib.Core.List.{IsPrefix};
-ghost use Rattle.pcef_model.specs.Entries.{Journal, rows};
+ghost use Rattle.pcef_model.specs.Entries.{Journal};
 ghost use Rattle.pcef_model.specs.Journals.{attach_count, gen};
 ghost use Rattle.pcef_model.specs.Lawful.{Lawful};
 ghost use Rattle.pcef_session.specs.Shown.{Shows};
 ghost use Rattle.pcef_share.specs.Names.{name_at};
-ghost use Rattle.pcef_lock.specs.Gathering.{key_totals};
-ghost use Rattle.pcef_gateway.specs.Arriving.{headers_for};
-ghost use Rattle.pcef_gateway.specs.Commanding.{FoundMemory, HaveAnswers, changing};
-ghost use Rattle.pcef_gateway.specs.Ending.{AddUpTo, AreGatheredFrom, FailsBy, RunsTo};
-ghost use Rattle.pcef_gateway.specs.InOrder.{commands_of, lane_headers, reports_of};
+ghost use Rattle.pcef_lock.specs.Gathering.{AddUpTo};
+ghost use Rattle.pcef_gateway.specs.Commanding.{HaveAnswers};
+ghost use Rattle.pcef_gateway.specs.Ending.{FailsBy, RunsTo};
+ghost use Rattle.pcef_gateway.specs.InOrder.{commands_of, reports_of};
 ghost use Rattle.pcef_gateway.specs.Sending.{HandInArrivals};
 ghost use Rattle.pcef_gateway.specs.declared.fault.RunFault.TheVariants.{StrangeWorker, Workers};
 
@@ -58,23 +56,8 @@ pub fn run_session<C: Detects + Drop + Send + Sync, G: Gate + Sync, R: Threads +
 ) -> Result<Ended, RunFault>
     requires fresh { attach_count session.session.journal ≡ 0 }
     requires offers { C.offers (arc_value catalog) ≡ session.session.setting.catalog }
-    ensures setting { IfOk result (λ e. e.totals.session.setting ≡ session.session.setting) }
-    ensures attached { IfOk result (λ e. attach_count e.totals.session.journal ≡ workers) }
-    ensures keys { IfOk result (λ e. e.totals.keys
-        ≡ key_totals session.session.setting e.totals.session.journal) }
-    ensures sums { IfOk result (λ e.
-        All (λ k. k.counted ≡ k.reported + k.unreported) e.totals.keys) }
-    ensures gathered { IfOk result (λ e. AreGatheredFrom e.totals) }
-    ensures rows { IfOk result (λ e. e.totals.rows ≡ length (rows e.totals.session.journal)) }
-    ensures lanes { IfOk result (λ e. (w : ℕ) → w < workers
-        → IsPrefix (lane_headers e.totals.session.journal w) (headers_for w arrivals.items)) }
-    ensures whole { IfOk result (λ e. e.totals.rows + e.totals.abandoned + e.dropped
-        ≡ length arrivals.items) }
-    ensures answers { IfOk result (λ e. length e.answers.items ≡ length commands.items) }
-    ensures memory { IfOk result (λ e. All FoundMemory e.answers.items) }
-    ensures commands { IfOk result (λ e. commands_of e.totals.session.journal
-        ≡ commands_of session.session.journal ++ changing commands.items e.answers.items) }
-    ensures reports { IfOk result (λ e. e.reports.items ≡ reports_of e.totals.session.journal) }
+    ensures ran { IfOk result (RunsTo session.session.setting session.session.journal
+        arrivals.items commands.items workers) }
     ensures workers { FailsBy Workers result ↔ ((workers ≡ 0) ⊎ (16 < workers)) }
     ensures strange { FailsBy StrangeWorker result
         ↔ ((0 < workers) × (workers ≤ 16) × (All (λ a. a.worker < workers) arrivals.items → ⊥)) }
@@ -280,8 +263,8 @@ fn gathered<C: Offers + Drop, N: Naming, W: Board<Slot<N>> + Drop, R: Wait>(
     finished: Vec<Finished<N>>,
 ) -> Result<Totals, Failure>
     requires { length finished.items ≤ 16 }
-    ensures add_up { IfOk result (λ t. AddUpTo N.setting desk.commands finished.items t) }
-    ensures reports { IfOk result (λ t. t.session.forgotten ≡ 0) }
+    ensures add_up { IfOk result (AddUpTo N.setting false desk.commands finished.items) }
+    ensures compared { IfOk result (λ t. t.compared ≡ true) }
 {
     match shared.gather(rt, desk, finished) {
         Ok(totals) => {
@@ -304,7 +287,8 @@ fn end<C: Offers + Drop, N: Naming, W: Board<Slot<N>> + Drop, R: Wait>(
 ) -> Result<Ended, Failure>
     requires { length worked.handed.finished.items ≤ 16 }
     ensures add_up { IfOk result (λ e.
-        AddUpTo N.setting worked.desk.commands worked.handed.finished.items e.totals) }
+        AddUpTo N.setting false worked.desk.commands worked.handed.finished.items e.totals) }
+    ensures compared { IfOk result (λ e. e.totals.compared ≡ true) }
     ensures rest { IfOk result (λ e. (e.dropped ≡ worked.handed.dropped)
         × (e.answers.items ≡ worked.answers.items)) }
     ensures reports { IfOk result (λ e. e.reports.items ≡ reports_of e.totals.session.journal) }

@@ -109,12 +109,3 @@ sound_left p first s t ts b places free worker journal setting is =
     (subst (λ x. ArePublished p x first ts) (sym journal) (published_same p s.journal k first ts refl is.kept.published))
     (subst (λ x. AreCounted p x b.totals) (sym journal) (counted_kept p s.journal k b.totals refl refl refl is.kept.counted))
     (is.issued_is ∙ ap (λ x. attach_count x + 1) (sym journal)) is.free_are (subst (λ x. length (rows x) ≤ p.rows) (sym journal) is.few_rows) is
-
--- and after both
-pub sound_finished : (p : Setting) (first : ℕ) (s t : SessionModel) (ts : List TableValue) (b c : Account) (places free worker : ℕ) (items : List Item) → length (slots s.setting s.journal) ≤ 8 → HasItsSlots s.setting s.journal items → HasSmallRows items →
-    first_of (flush_refusals s.setting s.journal worker (length (map row_of items))) ≡ None → t.journal ≡ after_leave worker (after_flush s.setting s.journal (map row_of items)) → t.setting ≡ s.setting →
-    c ≡ record b { totals = with_items b.totals items } → IsSound p first (locked s ts b places) free → IsSound p first (locked t ts c places) free
-sound_finished p first s t ts b c places free worker items few has small accepted journal setting books is =
-    let m : SessionModel = record { setting = s.setting; journal = after_flush s.setting s.journal (map row_of items); forgotten = s.forgotten; room = s.room } in
-    sound_left p first m t ts c places free worker journal setting
-    (sound_taken p first s m ts b c places free worker items few has small accepted refl refl books is)

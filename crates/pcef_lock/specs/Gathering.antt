@@ -1,17 +1,20 @@
 -- What is handed in when all workers have left, and what it adds up to (TS 29.212, clause 4.5.16).
-use Rattle.std.specs.Prelude.{ℕ, ◌≡◌, ◌+◌, ◌≤◌, ◌<◌, ◌==◌, All, Bool, true, List, Option, Some, find, length, map, reverse, slice_get, sum_by, if◌then◌else◌}
+use Rattle.std.specs.Prelude.{ℕ, ◌≡◌, ◌↔◌, ◌+◌, ◌≤◌, ◌<◌, ◌==◌, All, Bool, true, List, Option, Some, find, length, map, reverse, slice_get, sum_by, if◌then◌else◌}
 use Rattle.std.specs.Option.{option_map}
 use Rattle.pcef_model.specs.declared.command.Command.{Command}
 use Rattle.pcef_model.specs.declared.row.Row.{Row}
 use Rattle.pcef_model.specs.Setting.{Setting}
-use Rattle.pcef_model.specs.Entries.{Journal, commands, lane}
+use Rattle.pcef_model.specs.Entries.{Journal, commands, lane, rows}
 use Rattle.pcef_model.specs.Journals.{attach_count, counted, reported, slots, unreported}
+use Rattle.pcef_journaled.specs.Archiving.{Archives}
+use Rattle.pcef_pool.specs.Pools.{rates_due}
 use Rattle.pcef_session.specs.declared.batch.Item.{Item}
 use Rattle.pcef_session.specs.Following.{row_of}
 use Rattle.pcef_lock.specs.declared.gathering.GatherFault.{GatherFault}
 use Rattle.pcef_lock.specs.declared.gathering.GatherFault.TheVariants.{DeskDiffers, LaneDiffers, WorkersOut}
+use Rattle.pcef_lock.specs.declared.gathering.Totals.{Totals}
 use Rattle.pcef_lock.specs.declared.key_totals.KeyTotal.{KeyTotal}
-use Rattle.pcef_lock.specs.HandedIn.{HandedIn}
+use Rattle.pcef_lock.specs.HandedIn.{HandedIn, abandoned_by}
 
 -- ---- what the workers' own lists say
 -- the rows by the own list of a worker, if it is handed in
@@ -39,7 +42,7 @@ abbrev pub gathered : ℕ → List HandedIn → ℕ
 gathered slot handed = sum_by (λ h. octets_for slot h.items) handed
 
 abbrev pub rows_abandoned : List HandedIn → ℕ
-rows_abandoned handed = sum_by (λ h. h.abandoned) handed
+rows_abandoned handed = sum_by abandoned_by handed
 
 -- ---- what the journal says
 -- the totals of a key
@@ -67,6 +70,23 @@ AreCompared keeps handed = (keeps ≡ true) × All (λ h. h.keeps ≡ true) hand
 -- each worker has its lane, and the desk the journal's commands
 abbrev pub AgreeWith : Journal → List Command → List HandedIn → Type 0
 AgreeWith j listed handed = HaveLanes j handed × (listed ≡ reverse (commands j))
+
+-- What the desk and the workers handed in adds up to this, with the session's journal (a pool is there or not): all
+-- workers that came are there; where lists are compared, they agree; and for each key the octets that the journal's
+-- rows passed for it, those of all own lists, and those that were reported and that weren't are one number.
+pub record AddUpTo {l : Type 0} (p : Setting) (is_there : Bool) (listed : List Command) (handed : List HandedIn) (t : Totals l) : Type 0 where
+  pub setting_is : t.session.setting ≡ p
+  pub many : length handed ≡ attach_count t.session.journal
+  pub compared_is : (t.compared ≡ true) ↔ AreCompared t.archive.keeps handed
+  pub agree : t.compared ≡ true → AgreeWith t.session.journal listed handed
+  pub archived : Archives t.session.journal t.archive
+  pub all_reports : t.session.forgotten ≡ 0
+  pub keys_are : t.keys ≡ key_totals p t.session.journal
+  pub gathered : AreGathered t.keys handed
+  pub sums : All (λ k. k.counted ≡ k.reported + k.unreported) t.keys
+  pub rows_are : t.rows ≡ length (rows t.session.journal)
+  pub abandoned_are : t.abandoned ≡ rows_abandoned handed
+  pub rates_are : t.rates ≡ rates_due is_there p t.session.journal
 
 -- as many are handed in as workers came, and what is compared agrees with the journal
 abbrev pub CanGather : Bool → Journal → List Command → List HandedIn → Type 0

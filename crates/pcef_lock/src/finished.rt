@@ -3,7 +3,9 @@
 ghost use Rattle.std.specs.Prelude.{◌≡◌, IfSome, is_some, length};
 ghost use Rattle.pcef_share.specs.Amounts.{zeros};
 ghost use Rattle.pcef_lock.specs.Counting.{with_items};
+ghost use Rattle.pcef_lock.specs.HandedIn.{abandoned_by};
 
+use crate::leaving::{Departure, Leaving};
 use crate::own_rows::OwnRows;
 use pcef_session::Item;
 use pcef_share::{Naming, Shares};
@@ -11,20 +13,18 @@ use std::marker::Model;
 
 /// What a worker that left hands in: the rows that it handed over, by its own list, and what they count.
 pub struct Finished<N: Naming> {
-    worker: u8,
+    departure: Departure<N>,
     rows: OwnRows,
     shares: Shares<N>,
-    abandoned: u8,
 }
 
 // Written out, so that an owner proves one call at each way out.
 impl<N: Naming> Drop for Finished<N> {
     fn drop(self) {
         let Finished {
-            worker: _,
+            departure: _,
             rows: _,
             shares: _,
-            abandoned: _,
         } = self;
     }
 }
@@ -38,31 +38,30 @@ impl<N: Naming> Model for Finished<N> {
     ghost Value = { HandedIn };
 
     ghost view = { λ f. record {
-      worker = f.worker;
+      worker = f.departure.worker;
       items = f.rows.items;
       keeps = f.rows.keeps;
-      abandoned = f.abandoned;
+      leaving = f.departure.leaving;
     } };
 
     ghost invariant = { λ f. f.shares ≡ with_items zeros f.rows.items };
 }
 
 impl<N: Naming> Finished<N> {
-    /// What a worker hands in whose shares count these rows, and which left with so many waiting rows.
-    pub fn new(worker: u8, rows: OwnRows, shares: Shares<N>, abandoned: u8) -> Finished<N>
+    /// What a worker hands in that left so, and whose shares count these rows.
+    pub fn new(departure: Departure<N>, rows: OwnRows, shares: Shares<N>) -> Finished<N>
         requires { shares ≡ with_items zeros rows.items }
         ensures { result ≡ record {
-          worker = worker;
+          worker = departure.worker;
           items = rows.items;
           keeps = rows.keeps;
-          abandoned = abandoned;
+          leaving = departure.leaving;
         } }
     {
         Finished {
-            worker,
+            departure,
             rows,
             shares,
-            abandoned,
         }
     }
 
@@ -70,7 +69,7 @@ impl<N: Naming> Finished<N> {
     pub fn worker(&self) -> u8
         ensures { result ≡ self.now.worker }
     {
-        self.worker
+        self.departure.worker()
     }
 
     /// How many rows it handed over.
@@ -95,21 +94,31 @@ impl<N: Naming> Finished<N> {
         self.rows.items()
     }
 
-    /// How many rows waited when it left.
-    pub fn abandoned(&self) -> u8
-        ensures { result ≡ self.now.abandoned }
+    /// How it left.
+    pub fn leaving(&self) -> Leaving
+        ensures { result ≡ self.now.leaving }
     {
-        self.abandoned
+        self.departure.leaving()
     }
+
+    /// How many rows waited when it left, and were abandoned.
+    pub fn abandoned(&self) -> u8
+        ensures { result ≡ abandoned_by self.now }
+    {
+        match self.departure.leaving() {
+            Leaving::Finished(_) => 0,
+            Leaving::Abandoned(rows) => rows,
+        }
+    }
+
     /// What its rows count.
     pub(crate) fn into_shares(self) -> Shares<N>
         ensures { result ≡ with_items zeros self.items }
     {
         let Finished {
-            worker: _,
+            departure: _,
             rows: _,
             shares,
-            abandoned: _,
         } = self;
         shares
     }

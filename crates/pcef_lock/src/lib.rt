@@ -4,8 +4,8 @@
 //! Its contracts tell: what each hold of the lock finds, what each call in it answers and changes, and what all adds up
 //! to at the end.
 //!
-//! In the order of reading: `own_rows`, `finished`, `key_totals`, `pool`, `seat`, `sameness`, `gathering`, `counting`, `lanes`,
-//! `pooled_share`, `publishing`, `state`, `shared`, `desk`, `opening`.
+//! In the order of reading: `own_rows`, `leaving`, `finished`, `key_totals`, `pool`, `seat`, `sameness`, `gathering`, `counting`,
+//! `lanes`, `pooled_share`, `publishing`, `state`, `shared`, `desk`, `opening`.
 #![tactic(auto)]
 
 mod counting;
@@ -14,6 +14,7 @@ mod finished;
 mod gathering;
 mod key_totals;
 mod lanes;
+mod leaving;
 mod opening;
 mod own_rows;
 mod pool;
@@ -28,6 +29,7 @@ pub use desk::{Desk, commands_so_far};
 pub use finished::Finished;
 pub use gathering::{GatherFault, Totals};
 pub use key_totals::{KeyTotal, KeyTotals};
+pub use leaving::{Departure, LastFlush, Leaving};
 pub use opening::{SharedFault, Unopened, opened};
 pub use own_rows::OwnRows;
 pub use pool::Pool;

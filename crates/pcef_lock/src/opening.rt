@@ -11,7 +11,7 @@ ghost use Rattle.pcef_share.specs.Rates.{no_rates};
 ghost use Rattle.pcef_pool.specs.Pools.{with_rate_share};
 ghost use Rattle.pcef_table.specs.Tables.{IsTable};
 ghost use Rattle.pcef_lock.specs.Desks.{desk_shares};
-ghost use Rattle.pcef_lock.specs.Opening.{IsPlacesFault, IsPoolFull};
+ghost use Rattle.pcef_lock.specs.Opening.{IsPlacesFault, IsPoolFull, unpublished};
 ghost use Rattle.pcef_lock.specs.declared.opening.SharedFault.TheVariants.{Places, PoolPlaces};
 
 use crate::desk::{Desk, commands_so_far};
@@ -53,6 +53,16 @@ pub fn opened(session: &JournaledState) -> Result<Opened, AllocError>
     Ok(Opened::new(Arc::try_clone(session.session().indexed())?))
 }
 
+/// Why a session didn't come behind its lock whose first table wasn't published.
+fn unpublished(fault: PublishFault) -> SharedFault
+    ensures { result ≡ unpublished fault }
+{
+    match fault {
+        PublishFault::ReaderRefused => SharedFault::ReaderRefused,
+        PublishFault::NoMemory => SharedFault::NoMemory,
+    }
+}
+
 /// Publishes the table of an opened history, with a subscriber for each place.
 fn published<N: Naming, R: Wait + Drop>(
     rt: R,
@@ -71,8 +81,7 @@ fn published<N: Naming, R: Wait + Drop>(
 {
     match Publisher::new(rt, alloc, opened, usize::from(places)) {
         Ok(made) => Ok(made),
-        Err(PublishFault::ReaderRefused) => Err(SharedFault::ReaderRefused),
-        Err(PublishFault::NoMemory) => Err(SharedFault::NoMemory),
+        Err(fault) => Err(unpublished(fault)),
     }
 }
 

@@ -1,17 +1,14 @@
 //! The lock of a session.
 
-ghost use Rattle.std.specs.Prelude.{◌≡◌, ◌≤◌, ◌+◌, ◌<◌, ◌^◌, All, IfErr, IfOk, is_some, length, reverse, ◌↔◌, true};
+ghost use Rattle.std.specs.Prelude.{◌≡◌, ◌≤◌, ◌+◌, ◌<◌, ◌^◌, IfErr, IfOk, is_some, length};
 ghost use Rattle.std.specs.Arc.{arc_value};
-ghost use Rattle.pcef_model.specs.Entries.{commands, rows};
-ghost use Rattle.pcef_model.specs.Journals.{attach_count};
 ghost use Rattle.pcef_share.specs.Amounts.{zeros};
 ghost use Rattle.pcef_lock.specs.Counting.{with_command, with_taken};
 ghost use Rattle.pcef_lock.specs.Desks.{IsDue};
-ghost use Rattle.pcef_lock.specs.Gathering.{AreCompared, AreGathered, HaveLanes, key_totals, rows_abandoned};
+ghost use Rattle.pcef_lock.specs.Gathering.{AddUpTo, IsAtFault};
+ghost use Rattle.pcef_lock.specs.HandedIn.{abandoned_with, finished_with};
 ghost use Rattle.pcef_lock.specs.Judging.{AllJudged};
-ghost use Rattle.pcef_lock.specs.Outcomes.{judged_rows};
-ghost use Rattle.pcef_journaled.specs.Archiving.{Archives};
-ghost use Rattle.pcef_pool.specs.Pools.{rates_due};
+ghost use Rattle.pcef_lock.specs.Outcomes.{IsDueToLeaver, IsDueToRows, IsDueToSeat, judged_rows};
 ghost use Rattle.pcef_lock.specs.Reports.{AreNumbered};
 ghost use Rattle.pcef_lock.specs.Seats.{ChangesOnlyShares, ChangesOnlySubscriber};
 ghost use mathlib.Core.List.{IsPrefix};
@@ -19,6 +16,7 @@ ghost use mathlib.Core.List.{IsPrefix};
 use crate::desk::Desk;
 use crate::finished::Finished;
 use crate::gathering::{GatherFault, Totals};
+use crate::leaving::{Departure, LastFlush};
 use crate::pool::Pool;
 use crate::seat::Seat;
 use crate::state::{State, StateUngathered};
@@ -65,7 +63,8 @@ impl<'p, C: Offers + Drop, N: Naming, W: Board<Slot<N>> + Drop, P: Pooling> Mode
         × (is_some s.pool ≡ P.is_there) };
 }
 
-/// What is handed back where no totals were had: the reason, and all that was handed in.
+/// What is handed back where no totals were had: the reason, and all that was handed in. [`Shared::new`] puts the value
+/// behind a lock again.
 #[derive(Drop)]
 pub struct Ungathered<
     'p,
@@ -76,8 +75,12 @@ pub struct Ungathered<
 > {
     /// Why.
     pub fault: GatherFault,
-    /// The session behind its lock.
-    pub shared: Shared<'p, C, N, W, P>,
+    /// The catalog of the session.
+    pub catalog: Arc<C>,
+    /// The value that was behind the lock.
+    pub state: State<N, W, P>,
+    /// The pool, where there is one.
+    pub pool: Option<&'p Pool<P>>,
     /// The desk.
     pub desk: Desk<N>,
     /// What the workers handed in.
@@ -129,7 +132,8 @@ impl<'p, C: Offers + Drop, N: Naming, W: Board<Slot<N>> + Drop, P: Pooling> Shar
 
     /// As [`State::attach`].
     pub fn attach<R: Wait>(&self, rt: &R) -> Result<Seat<N>, AttachFault>
-        ensures { IfOk result (λ s. (s.shares ≡ zeros) × (s.ue ≡ N.setting.ue)) }
+        ensures seat { IfOk result (λ s. (s.shares ≡ zeros) × (s.ue ≡ N.setting.ue)) }
+        ensures due { IsDueToSeat result }
     {
         self.state.lock(rt).attach()
     }
@@ -153,6 +157,7 @@ impl<'p, C: Offers + Drop, N: Naming, W: Board<Slot<N>> + Drop, P: Pooling> Shar
     ) -> Result<Verdicts, FlushRefusal>
         requires { AllJudged N.setting N.first seat.old.subscriber batch.now }
         ensures told { IfOk result (λ v. v.rows.items ≡ judged_rows batch.now) }
+        ensures due { IsDueToRows N.setting seat.old.worker batch.now result }
         ensures shares { seat.new.shares ≡ with_taken result seat.old.shares batch.now }
         ensures seat { ChangesOnlyShares seat.old seat.new }
     {
@@ -165,9 +170,11 @@ impl<'p, C: Offers + Drop, N: Naming, W: Board<Slot<N>> + Drop, P: Pooling> Shar
         rt: &R,
         seat: &mut Seat<N>,
         batch: &Batch,
-    ) -> Result<(Verdicts, u64), FlushRefusal>
+    ) -> Result<LastFlush<N>, FlushRefusal>
         requires { AllJudged N.setting N.first seat.old.subscriber batch.now }
-        ensures told { IfOk result (λ v. v.0.rows.items ≡ judged_rows batch.now) }
+        ensures told { IfOk result (λ l. l.verdicts.rows.items ≡ judged_rows batch.now) }
+        ensures departure { IfOk result (λ l. l.departure ≡ finished_with seat.old.worker batch.now) }
+        ensures due { IsDueToLeaver N.setting seat.old.worker batch.now result }
         ensures shares { seat.new.shares ≡ with_taken result seat.old.shares batch.now }
         ensures seat { ChangesOnlyShares seat.old seat.new }
     {
@@ -175,8 +182,10 @@ impl<'p, C: Offers + Drop, N: Naming, W: Board<Slot<N>> + Drop, P: Pooling> Shar
     }
 
     /// As [`State::abandon`].
-    pub fn abandon<R: Wait>(&self, rt: &R, seat: &Seat<N>) {
-        self.state.lock(rt).abandon(seat)
+    pub fn abandon<R: Wait>(&self, rt: &R, seat: &Seat<N>, waiting: &Batch) -> Departure<N>
+        ensures { result ≡ abandoned_with seat.now.worker waiting.now }
+    {
+        self.state.lock(rt).abandon(seat, waiting)
     }
 
     /// As [`State::collect`].
@@ -197,25 +206,13 @@ impl<'p, C: Offers + Drop, N: Naming, W: Board<Slot<N>> + Drop, P: Pooling> Shar
         finished: Vec<Finished<N>>,
     ) -> Result<Totals<P>, Ungathered<'p, C, N, W, P>>
         requires { length finished.items ≤ 16 }
-        ensures setting { IfOk result (λ t. t.session.setting ≡ N.setting) }
-        ensures workers { IfOk result (λ t.
-            length finished.items ≡ attach_count t.session.journal) }
-        ensures lanes { IfOk result (λ t. t.compared ≡ true →
-            HaveLanes t.session.journal finished.items) }
-        ensures desk { IfOk result (λ t. t.compared ≡ true →
-            desk.commands ≡ reverse (commands t.session.journal)) }
-        ensures compared { IfOk result (λ t. (t.compared ≡ true)
-            ↔ AreCompared t.archive.keeps finished.items) }
-        ensures archive { IfOk result (λ t. Archives t.session.journal t.archive) }
-        ensures reports { IfOk result (λ t. t.session.forgotten ≡ 0) }
-        ensures keys { IfOk result (λ t. t.keys ≡ key_totals N.setting t.session.journal) }
-        ensures gathered { IfOk result (λ t. AreGathered t.keys finished.items) }
-        ensures sums { IfOk result (λ t. All (λ k. k.counted ≡ k.reported + k.unreported) t.keys) }
-        ensures rows { IfOk result (λ t. t.rows ≡ length (rows t.session.journal)) }
-        ensures abandoned { IfOk result (λ t. t.abandoned ≡ rows_abandoned finished.items) }
-        ensures rates { IfOk result (λ t.
-            t.rates ≡ rates_due P.is_there N.setting t.session.journal) }
+        ensures totals { IfOk result
+            (AddUpTo N.setting P.is_there desk.commands finished.items) }
+        ensures fault { IfErr result (λ e.
+            IsAtFault e.state.session.journal desk.commands finished.items e.fault) }
         ensures back { IfErr result (λ e. (e.desk ≡ desk) × (e.finished.items ≡ finished.items)) }
+        ensures offers { IfErr result (λ e. C.offers (arc_value e.catalog) ≡ N.setting.catalog) }
+        ensures pool { IfErr result (λ e. is_some e.pool ≡ P.is_there) }
     {
         let Shared {
             catalog,
@@ -233,7 +230,9 @@ impl<'p, C: Offers + Drop, N: Naming, W: Board<Slot<N>> + Drop, P: Pooling> Shar
                 } = ungathered;
                 Err(Ungathered {
                     fault,
-                    shared: Shared::new(catalog, state, pool),
+                    catalog,
+                    state,
+                    pool,
                     desk,
                     finished,
                 })

@@ -143,11 +143,15 @@ impl<N: Naming, W: Board<Slot<N>> + Drop, P: Pooling> State<N, W, P> {
         (state, shares)
     }
 
-    /// The session. Its published tables show its generations, and its books hold what its journal counts.
+    /// The session. Its journal is lawful, its published tables show its generations, and its books hold what its journal
+    /// counts.
     pub fn session(&self) -> &JournaledState
         ensures session { result.now.session ≡ self.now.session }
+        ensures lawful { Lawful N.setting self.now.session.journal }
         ensures kept { Kept N.setting N.first self.now }
     {
+        // For what it says of the journal: that it is lawful.
+        let _journal = self.session.session().journal();
         &self.session
     }
 
@@ -174,8 +178,11 @@ impl<N: Naming, W: Board<Slot<N>> + Drop, P: Pooling> State<N, W, P> {
             self.old.session.journal result self.new.session.journal }
         ensures tables { IsPrefix self.old.tables self.new.tables }
         ensures refused { IfErr result (λ _. self.new.tables ≡ self.old.tables) }
-        ensures books { self.new.books ≡ books_with_command result self.old.books }
-        ensures places { self.new.places ≡ self.old.places }
+        ensures rest { self.new ≡ record self.old {
+          session = self.new.session;
+          tables = self.new.tables;
+          books = books_with_command result self.old.books;
+        } }
         ensures shares { shares.new ≡ with_command result shares.old }
     {
         let prepared = match self.session.prepare(command) {
@@ -206,8 +213,11 @@ impl<N: Naming, W: Board<Slot<N>> + Drop, P: Pooling> State<N, W, P> {
             self.old.session.journal result self.new.session.journal }
         ensures tables { IsPrefix self.old.tables self.new.tables }
         ensures refused { IfErr result (λ _. self.new.tables ≡ self.old.tables) }
-        ensures books { self.new.books ≡ books_with_command result self.old.books }
-        ensures places { self.new.places ≡ self.old.places }
+        ensures rest { self.new ≡ record self.old {
+          session = self.new.session;
+          tables = self.new.tables;
+          books = books_with_command result self.old.books;
+        } }
         ensures shares { shares.new ≡ with_command result shares.old }
         ensures granted { OnOk result (pool.new
             ≡ pool_with pool.old (total_now N.setting self.old.session.journal)
@@ -235,9 +245,10 @@ impl<N: Naming, W: Board<Slot<N>> + Drop, P: Pooling> State<N, W, P> {
     /// for. Takes memory.
     pub fn attach(&mut self) -> Result<Seat<N>, AttachFault>
         ensures answer { AnswersSeat self.old result self.new }
-        ensures tables { self.new.tables ≡ self.old.tables }
-        ensures books { self.new.books ≡ with_share result self.old.books }
-        ensures places { self.new.places ≡ self.old.places }
+        ensures rest { self.new ≡ record self.old {
+          session = self.new.session;
+          books = with_share result self.old.books;
+        } }
         ensures seat { IfOk result (IsNewSeat N.setting self.old.tables) }
     {
         if self.books.issued() > self.places {

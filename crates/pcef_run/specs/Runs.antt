@@ -63,6 +63,11 @@ OpensNot p (run.Open opening) = first_of (open_faults p) ≡ Some opening
 OpensNot p (run.Run fault) = ⊥
 OpensNot p run.NoMemory = Unit {0}
 
+-- the end that is told of a fault: want of memory is told as such
+abbrev pub end_of : RunFault → RunEnd
+end_of fault.NoMemory = run.NoMemory
+end_of other = run.Run other
+
 -- a session was given commands, one after the other, and answered them so
 abbrev pub ObeyedBy : SessionModel → List Command → List (Result Accepted Refusal) → SessionModel → Type 0
 ObeyedBy before commands answers after = Obeyed before.setting before.journal commands answers after.journal

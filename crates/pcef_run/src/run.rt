@@ -7,7 +7,7 @@ ghost use Rattle.pcef_model.specs.ProfileModel.{setting_of};
 ghost use Rattle.pcef_gateway.specs.declared.fault.RunFault.TheVariants.{NoMemory as WantOfMemory};
 ghost use Rattle.pcef_session.specs.Answers.{IsOpened};
 ghost use Rattle.pcef_run.specs.declared.plan.Plan.{Plan};
-ghost use Rattle.pcef_run.specs.Runs.{EndsPlan, FailsRun, OpensNot, RunsPlan, accepted_of, commands_of};
+ghost use Rattle.pcef_run.specs.Runs.{EndsPlan, FailsRun, OpensNot, RunsPlan, accepted_of, commands_of, end_of};
 
 use crate::fault::RunEnd;
 use crate::obeying::{accepted_among, obey};
@@ -62,7 +62,8 @@ fn open<C: Offers>(alloc: Global, profile: Profile, catalog: &C) -> Result<Journ
 }
 
 fn run_fault(fault: RunFault) -> RunEnd
-    ensures { (p : Setting) (plan : Plan) (n : ℕ) → (fault ≢ WantOfMemory → FailsRun plan n fault)
+    ensures told { result ≡ end_of fault }
+    ensures ends { (p : Setting) (plan : Plan) (n : ℕ) → (fault ≢ WantOfMemory → FailsRun plan n fault)
         → EndsPlan p plan n result }
 {
     match fault {

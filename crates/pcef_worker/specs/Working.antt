@@ -5,6 +5,7 @@ use Rattle.pcef_table.specs.Tables.{TableValue}
 use Rattle.pcef_model.specs.Setting.{Setting}
 use Rattle.pcef_session.specs.declared.batch.Item.{Item}
 use Rattle.pcef_lock.specs.HandedIn.{HandedIn}
+use Rattle.pcef_lock.specs.declared.leaving.Leaving.TheVariants.{Abandoned, Finished}
 use Rattle.pcef_lock.specs.Judging.{IsTaken}
 
 -- its number, the tables that it has seen, of which it holds the last, the rows that wait, and the rows that it
@@ -26,10 +27,10 @@ pub record Takes (p : Setting) (first : ℕ) (header : Header) (old new : Worker
 abbrev pub flushed : WorkerModel → WorkerModel
 flushed w = record w { waiting = []; rows = w.rows ++ w.waiting }
 
--- what a worker hands in that left with its last flush
+-- what a worker hands in that finished: its last rows were handed over as it left
 abbrev pub finished : WorkerModel → HandedIn
-finished w = record { worker = w.worker; items = w.rows ++ w.waiting; keeps = w.keeps; abandoned = 0 }
+finished w = record { worker = w.worker; items = w.rows ++ w.waiting; keeps = w.keeps; leaving = Finished (length w.waiting) }
 
 -- what a worker hands in that left with rows waiting
 abbrev pub abandoned : WorkerModel → HandedIn
-abandoned w = record { worker = w.worker; items = w.rows; keeps = w.keeps; abandoned = length w.waiting }
+abandoned w = record { worker = w.worker; items = w.rows; keeps = w.keeps; leaving = Abandoned (length w.waiting) }

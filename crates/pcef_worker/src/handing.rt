@@ -1,13 +1,15 @@
 //! Rows that a worker hands over, and how it leaves.
 
-ghost use Rattle.std.specs.Prelude.{◌≡◌, ◌++◌, ◌≤◌, ◌+◌, IfErr, IfOk, OnErr, OnOk, length};
-ghost use Rattle.pcef_lock.specs.Outcomes.{judged_rows};
+ghost use Rattle.std.specs.Prelude.{◌≡◌, ◌⊎◌, ◌++◌, ◌≤◌, ◌+◌, Err, IfErr, IfOk, OnErr, OnOk, length};
+ghost use Rattle.pcef_model.specs.declared.answer.FlushRefusal.TheVariants.{NoMemory};
+ghost use Rattle.pcef_lock.specs.HandedIn.{finished_with};
+ghost use Rattle.pcef_lock.specs.Outcomes.{IsDueToRows, judged_rows};
 ghost use Rattle.pcef_worker.specs.Working.{abandoned, finished, flushed};
 
 use crate::gate::{Gate, Point};
 use crate::worker::Worker;
 use pcef_catalog::Detects;
-use pcef_lock::{Finished, OwnRows, Shared};
+use pcef_lock::{Finished, LastFlush, OwnRows, Shared};
 use pcef_model::{FlushRefusal, Verdicts};
 use pcef_publish::{Board, Slot};
 use pcef_session::{Item, MAX_WAITING};
@@ -33,6 +35,8 @@ impl<C: Detects + Drop, N: Naming, G: Gate + Drop> Worker<C, N, G> {
         shared: &Shared<C, N, W, P>,
     ) -> Result<Verdicts, FlushRefusal>
         ensures told { IfOk result (λ v. v.rows.items ≡ judged_rows self.old.waiting) }
+        ensures due { (result ≡ Err NoMemory)
+            ⊎ IsDueToRows N.setting self.old.worker self.old.waiting result }
         ensures flushed { OnOk result (self.new ≡ flushed self.old) }
         ensures refused { OnErr result (self.new ≡ self.old) }
     {
@@ -53,21 +57,22 @@ impl<C: Detects + Drop, N: Naming, G: Gate + Drop> Worker<C, N, G> {
         &mut self,
         rt: &R,
         shared: &Shared<C, N, W, P>,
-    ) -> Result<Verdicts, FlushRefusal>
-        ensures told { IfOk result (λ v. v.rows.items ≡ judged_rows self.old.waiting) }
+    ) -> Result<LastFlush<N>, FlushRefusal>
+        ensures told { IfOk result (λ l. l.verdicts.rows.items ≡ judged_rows self.old.waiting) }
+        ensures departure { IfOk result (λ l. l.departure ≡ finished_with self.old.worker self.old.waiting) }
         ensures flushed { OnOk result (self.new ≡ flushed self.old) }
         ensures refused { OnErr result (self.new ≡ self.old) }
     {
         if self.rows.reserve(MAX_WAITING).is_err() {
             return Err(FlushRefusal::NoMemory);
         }
-        let verdicts = match shared.finish(rt, &mut self.seat, &self.waiting) {
-            Ok((verdicts, _)) => verdicts,
+        let last = match shared.finish(rt, &mut self.seat, &self.waiting) {
+            Ok(last) => last,
             Err(refusal) => return Err(refusal),
         };
         keep_all(&mut self.rows, self.waiting.items());
         self.waiting.clear();
-        Ok(verdicts)
+        Ok(last)
     }
 
     /// Hands the waiting rows over, all or none, in one hold of the lock, and gives their verdicts; or answers the
@@ -79,6 +84,8 @@ impl<C: Detects + Drop, N: Naming, G: Gate + Drop> Worker<C, N, G> {
         shared: &Shared<C, N, W, P>,
     ) -> Result<Verdicts, FlushRefusal>
         ensures told { IfOk result (λ v. v.rows.items ≡ judged_rows self.old.waiting) }
+        ensures due { (result ≡ Err NoMemory)
+            ⊎ IsDueToRows N.setting self.old.worker self.old.waiting result }
         ensures flushed { OnOk result (self.new ≡ flushed self.old) }
         ensures refused { OnErr result (self.new ≡ self.old) }
     {
@@ -105,7 +112,7 @@ impl<C: Detects + Drop, N: Naming, G: Gate + Drop> Worker<C, N, G> {
         let answer = worker.hand_last(rt, shared);
         worker.gate.at(Point::FlushAnswered(worker.seat.worker));
         match answer {
-            Ok(verdicts) => Ok((worker.into_finished(0), verdicts)),
+            Ok(last) => Ok((worker.into_finished(last.departure), last.verdicts)),
             Err(refusal) => Err((worker, refusal)),
         }
     }
@@ -119,8 +126,7 @@ impl<C: Detects + Drop, N: Naming, G: Gate + Drop> Worker<C, N, G> {
     ) -> Finished<N>
         ensures { result ≡ abandoned self }
     {
-        let waiting = self.waiting.len() as u8;
-        shared.abandon(rt, &self.seat);
-        self.into_finished(waiting)
+        let departure = shared.abandon(rt, &self.seat, &self.waiting);
+        self.into_finished(departure)
     }
 }

@@ -6,7 +6,7 @@ ghost use Rattle.pcef_worker.specs.Working.{Takes};
 
 use crate::gate::Gate;
 use pcef_catalog::{Detects, Offers};
-use pcef_lock::{Finished, OwnRows, Seat, Shared};
+use pcef_lock::{Departure, Finished, OwnRows, Seat, Shared};
 use pcef_model::AttachFault;
 use pcef_packet::Header;
 use pcef_publish::{Board, Slot};
@@ -207,13 +207,13 @@ impl<C: Detects + Drop, N: Naming, G: Gate + Drop> Worker<C, N, G> {
         shared.meet(rt, &mut self.seat)
     }
 
-    /// What it hands in that left with so many rows waiting.
-    pub(crate) fn into_finished(self, abandoned: u8) -> Finished<N>
+    /// What it hands in that left so.
+    pub(crate) fn into_finished(self, departure: Departure<N>) -> Finished<N>
         ensures { result ≡ record {
-          worker = self.worker;
+          worker = departure.worker;
           items = self.rows;
           keeps = self.keeps;
-          abandoned = abandoned;
+          leaving = departure.leaving;
         } }
     {
         let Worker {
@@ -224,11 +224,11 @@ impl<C: Detects + Drop, N: Naming, G: Gate + Drop> Worker<C, N, G> {
             rows,
         } = self;
         let Seat {
-            worker,
+            worker: _,
             shares,
             subscriber: _,
             ue: _,
         } = seat;
-        Finished::new(worker, rows, shares, abandoned)
+        Finished::new(departure, rows, shares)
     }
 }

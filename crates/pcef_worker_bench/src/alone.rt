@@ -6,7 +6,7 @@ ghost use Rattle.pcef_share.specs.Amounts.{zeros};
 use crate::opening::packets_of;
 use crate::working::Left;
 use pcef_catalog::Detects;
-use pcef_lock::{Finished, OwnRows, Seat, Shared};
+use pcef_lock::{Departure, Finished, OwnRows, Seat, Shared};
 use pcef_packet::Header;
 use pcef_publish::{Board, Slot};
 use pcef_session::{Batch, MAX_WAITING};
@@ -66,10 +66,10 @@ fn judge_batches<C: Detects, N: Naming>(
 }
 
 /// What a worker hands in that handed no row over.
-fn without_rows<N: Naming>(alloc: Global, worker: u8, shares: Shares<N>) -> Finished<N>
+fn without_rows<N: Naming>(alloc: Global, departure: Departure<N>, shares: Shares<N>) -> Finished<N>
     requires { shares ≡ zeros }
 {
-    Finished::new(worker, OwnRows::new(alloc), shares, 0)
+    Finished::new(departure, OwnRows::new(alloc), shares)
 }
 
 /// A worker attaches, judges packets for itself alone and leaves.
@@ -89,15 +89,16 @@ pub fn judged_alone<C: Detects + Drop, N: Naming, W: Board<Slot<N>> + Drop, R: W
     let judged = judge_batches(
         &*catalog, &mut seat, &mut batch, packets, batches, refreshes,
     );
-    shared.abandon(rt, &seat);
+    batch.clear();
+    let departure = shared.abandon(rt, &seat, &batch);
     let Seat {
-        worker,
+        worker: _,
         shares,
         subscriber: _,
         ue: _,
     } = seat;
     Some(Left {
-        finished: without_rows(alloc, worker, shares),
+        finished: without_rows(alloc, departure, shares),
         judged,
         flushes: Vec::new(alloc),
     })

@@ -1,13 +1,10 @@
 //! All books of a session, when its workers have left.
 
-ghost use Rattle.std.specs.Prelude.{◌≡◌, ◌≤◌, ◌<◌, ◌+◌, ◌∷◌, ℕ, All, IfErr, IfOk, IfSome, None, Some, length, map, reverse, slice_index, ◌↔◌, true};
-ghost use Rattle.pcef_model.specs.Entries.{commands, rows};
+ghost use Rattle.std.specs.Prelude.{◌≡◌, ◌≤◌, ◌<◌, ◌∷◌, ℕ, IfErr, IfOk, Some, length, map, slice_index};
 ghost use Rattle.pcef_model.specs.Journals.{attach_count};
 ghost use Rattle.pcef_share.specs.Amounts.{zeros};
 ghost use Rattle.pcef_lock.specs.Counting.{slot_total, with_items};
-ghost use Rattle.pcef_lock.specs.Gathering.{AreCompared, AreGathered, HaveLanes, IsAtFault, key_totals, rows_abandoned};
-ghost use Rattle.pcef_journaled.specs.Archiving.{Archives};
-ghost use Rattle.pcef_pool.specs.Pools.{rates_due};
+ghost use Rattle.pcef_lock.specs.Gathering.{AddUpTo, IsAtFault, key_totals};
 
 use super::State;
 use crate::desk::Desk;
@@ -91,25 +88,9 @@ impl<N: Naming, W: Board<Slot<N>> + Drop, P: Pooling> State<N, W, P> {
         finished: Vec<Finished<N>>,
     ) -> Result<Totals<P>, StateUngathered<N, W, P>>
         requires { length finished.items ≤ 16 }
-        ensures session { IfOk result (λ t. t.session.journal ≡ self.session.journal) }
-        ensures setting { IfOk result (λ t. t.session.setting ≡ N.setting) }
-        ensures workers { IfOk result (λ _.
-            length finished.items ≡ attach_count self.session.journal) }
-        ensures lanes { IfOk result (λ t. t.compared ≡ true →
-            HaveLanes self.session.journal finished.items) }
-        ensures desk { IfOk result (λ t. t.compared ≡ true →
-            desk.commands ≡ reverse (commands self.session.journal)) }
-        ensures compared { IfOk result (λ t. (t.compared ≡ true)
-            ↔ AreCompared t.archive.keeps finished.items) }
-        ensures archive { IfOk result (λ t. Archives t.session.journal t.archive) }
-        ensures reports { IfOk result (λ t. t.session.forgotten ≡ 0) }
-        ensures keys { IfOk result (λ t. t.keys ≡ key_totals N.setting self.session.journal) }
-        ensures gathered { IfOk result (λ t. AreGathered t.keys finished.items) }
-        ensures sums { IfOk result (λ t. All (λ k. k.counted ≡ k.reported + k.unreported) t.keys) }
-        ensures rows { IfOk result (λ t. t.rows ≡ length (rows self.session.journal)) }
-        ensures abandoned { IfOk result (λ t. t.abandoned ≡ rows_abandoned finished.items) }
-        ensures rates { IfOk result (λ t.
-            t.rates ≡ rates_due P.is_there N.setting self.session.journal) }
+        ensures journal { IfOk result (λ t. t.session.journal ≡ self.session.journal) }
+        ensures totals { IfOk result
+            (AddUpTo N.setting P.is_there desk.commands finished.items) }
         ensures fault { IfErr result (λ e.
             IsAtFault self.session.journal desk.commands finished.items e.fault) }
         ensures back { IfErr result (λ e. (e.state ≡ self)

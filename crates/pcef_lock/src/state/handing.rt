@@ -1,8 +1,8 @@
 //! Rows that workers hand over, and workers that leave.
 
 ghost use Rattle.std.specs.Prelude.{◌≡◌, IfOk};
-ghost use Rattle.pcef_model.specs.Outcomes.{abandon_outcome};
-ghost use Rattle.pcef_lock.specs.Outcomes.{AnswersHandOver, AnswersLeave, judged_rows};
+ghost use Rattle.pcef_lock.specs.HandedIn.{abandoned_with, finished_with};
+ghost use Rattle.pcef_lock.specs.Outcomes.{AnswersHandOver, AnswersLeave, after_leaving, judged_rows};
 ghost use Rattle.pcef_lock.specs.Counting.{books_with_taken, with_taken};
 ghost use Rattle.pcef_lock.specs.Judging.{AllJudged};
 ghost use Rattle.pcef_lock.specs.Lanes.{continues_lane};
@@ -12,6 +12,7 @@ ghost use mathlib.Core.List.{IsPrefix};
 use super::State;
 use crate::counting::count_items;
 use crate::lanes::{continues, end_of};
+use crate::leaving::{Departure, LastFlush, Leaving};
 use crate::seat::Seat;
 use pcef_model::{FlushRefusal, Verdicts};
 use pcef_publish::{Board, Slot};
@@ -36,10 +37,11 @@ impl<N: Naming, W: Board<Slot<N>> + Drop, P: Pooling> State<N, W, P> {
         ensures told { IfOk result (λ v. v.rows.items ≡ judged_rows batch.now) }
         ensures answer { AnswersHandOver N.setting seat.old.worker batch.now
             self.old result self.new }
-        ensures tables { self.new.tables ≡ self.old.tables }
+        ensures rest { self.new ≡ record self.old {
+          session = self.new.session;
+          books = books_with_taken result self.old.books batch.now;
+        } }
         ensures seen { IsPrefix seat.old.subscriber self.old.tables }
-        ensures books { self.new.books ≡ books_with_taken result self.old.books batch.now }
-        ensures places { self.new.places ≡ self.old.places }
         ensures shares { seat.new.shares ≡ with_taken result seat.old.shares batch.now }
         ensures seat { ChangesOnlyShares seat.old seat.new }
     {
@@ -55,47 +57,56 @@ impl<N: Naming, W: Board<Slot<N>> + Drop, P: Pooling> State<N, W, P> {
         Ok(verdicts)
     }
 
-    /// Takes over the last rows of a worker, as [`State::flush`] does, and lets it leave. Gives the length of its lane
-    /// too. After a refusal, which changes nothing, the worker is there as before.
+    /// Takes over the last rows of a worker, as [`State::flush`] does, and lets it leave. After a refusal, which changes
+    /// nothing, the worker is there as before.
     pub fn finish(
         &mut self,
         seat: &mut Seat<N>,
         batch: &Batch,
-    ) -> Result<(Verdicts, u64), FlushRefusal>
+    ) -> Result<LastFlush<N>, FlushRefusal>
         requires { AllJudged N.setting N.first seat.old.subscriber batch.now }
-        ensures told { IfOk result (λ v. v.0.rows.items ≡ judged_rows batch.now) }
+        ensures told { IfOk result (λ l. l.verdicts.rows.items ≡ judged_rows batch.now) }
+        ensures departure { IfOk result (λ l. l.departure ≡ finished_with seat.old.worker batch.now) }
         ensures answer { AnswersLeave N.setting seat.old.worker batch.now
             self.old result self.new }
-        ensures tables { self.new.tables ≡ self.old.tables }
+        ensures rest { self.new ≡ record self.old {
+          session = self.new.session;
+          books = books_with_taken result self.old.books batch.now;
+        } }
         ensures seen { IsPrefix seat.old.subscriber self.old.tables }
-        ensures books { self.new.books ≡ books_with_taken result self.old.books batch.now }
-        ensures places { self.new.places ≡ self.old.places }
         ensures shares { seat.new.shares ≡ with_taken result seat.old.shares batch.now }
         ensures seat { ChangesOnlyShares seat.old seat.new }
     {
-        seat.subscriber.compare(&mut self.publisher);
-        if !self.continues_lane(seat.worker, batch) {
-            return Err(FlushRefusal::NotAttached);
-        }
-        let last = match self.session.finish(seat.worker, batch) {
-            Ok(last) => last,
+        let verdicts = match self.flush(seat, batch) {
+            Ok(verdicts) => verdicts,
             Err(refusal) => return Err(refusal),
         };
-        count_items(&mut self.books, &mut seat.shares, batch.items());
-        Ok(last)
+        self.leave(seat.worker);
+        Ok(LastFlush {
+            departure: Departure::new(seat.worker, Leaving::Finished(batch.len() as u8)),
+            verdicts,
+        })
     }
 
-    /// Lets the worker of a seat leave. Rows that wait with it never reach the journal. Where it isn't attached,
-    /// nothing changes. Takes no memory.
-    pub fn abandon(&mut self, seat: &Seat<N>)
+    /// Lets the worker of a seat leave without the rows that wait with it: they never reach the journal. Where it isn't
+    /// attached, nothing changes. Takes no memory.
+    pub fn abandon(&mut self, seat: &Seat<N>, waiting: &Batch) -> Departure<N>
+        ensures departure { result ≡ abandoned_with seat.now.worker waiting.now }
         ensures journal { self.new.session.journal
-            ≡ (abandon_outcome self.old.session.journal seat.now.worker).1 }
-        ensures tables { self.new.tables ≡ self.old.tables }
-        ensures books { self.new.books ≡ self.old.books }
-        ensures places { self.new.places ≡ self.old.places }
+            ≡ after_leaving seat.now.worker self.old.session.journal }
+        ensures rest { self.new ≡ record self.old { session = self.new.session } }
     {
-        if self.session.session().is_attached(seat.worker) {
-            self.session.detach(seat.worker);
+        self.leave(seat.worker);
+        Departure::new(seat.worker, Leaving::Abandoned(waiting.len() as u8))
+    }
+
+    /// Lets a worker leave. Where it isn't attached, nothing changes.
+    fn leave(&mut self, worker: u8)
+        ensures journal { self.new.session.journal ≡ after_leaving worker self.old.session.journal }
+        ensures rest { self.new ≡ record self.old { session = self.new.session } }
+    {
+        if self.session.session().is_attached(worker) {
+            self.session.detach(worker);
         }
     }
 }

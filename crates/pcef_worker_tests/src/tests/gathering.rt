@@ -1,6 +1,7 @@
 //! What the workers and the desk hand in at the end.
 
-ghost use Rattle.std.specs.Prelude.{◌≤◌, length};
+ghost use Rattle.std.specs.Prelude.{◌≡◌, ◌≤◌, false, is_some, length};
+ghost use Rattle.std.specs.Arc.{arc_value};
 
 use super::*;
 use pcef_lock::{GatherFault, Totals, Ungathered};
@@ -17,9 +18,9 @@ pub fn ending<C: Detects + Drop, N: Naming, W: Board<Slot<N>> + Drop, R: Wait>(
 ) -> [u64; 7] {
     let mut left = left;
     let last = left.pop();
-    match shared.gather(rt, desk, joined(left, None)).err() {
-        Some(back) => ending_with(rt, back, last),
-        None => [0; 7],
+    match shared.gather(rt, desk, joined(left, None)) {
+        Err(back) => ending_with(rt, back, last),
+        Ok(_) => [0; 7],
     }
 }
 
@@ -27,14 +28,20 @@ fn ending_with<C: Detects + Drop, N: Naming, W: Board<Slot<N>> + Drop, R: Wait>(
     rt: &R,
     back: Ungathered<C, N, W>,
     last: Option<Finished<N>>,
-) -> [u64; 7] {
+) -> [u64; 7]
+    requires offers { C.offers (arc_value back.catalog) ≡ N.setting.catalog }
+    requires pool { is_some back.pool ≡ false }
+{
     let out = out_of(&back);
     let Ungathered {
         fault: _,
-        shared,
+        catalog,
+        state,
+        pool,
         desk,
         finished,
     } = back;
+    let shared = Shared::new(catalog, state, pool);
     match shared.gather(rt, desk, joined(finished, last)).ok() {
         Some(totals) => told_of(out, &totals),
         None => [out; 7],

@@ -15,5 +15,5 @@ returns-in-Err-clause-fault g c =
 
 pub returns-in-Err-run_session-clause-fault : goal.returns-in-Err-run_session-clause-fault
 returns-in-Err-run_session-clause-fault g c =
-    c.run_fault.ensures (setting_of c.args.profile (g.C.Offers.offers (arc_value c.args.catalog))) c.args.plan c.args.workers
+    c.run_fault.ensures.ends (setting_of c.args.profile (g.C.Offers.offers (arc_value c.args.catalog))) c.args.plan c.args.workers
     (fails_run c.args.plan c.args.workers c.in-Err-run_session.fault c.in-Err-run_session.ensures.workers c.in-Err-run_session.ensures.strange)

@@ -1,8 +1,8 @@
 use Rattle.std.proofs.Common.{sym, subst}
-use Rattle.pcef_model.specs.Entries.{Journal}
-use Rattle.pcef_lock.specs.Gathering.{HaveLanes}
+use Rattle.pcef_lock.specs.Gathering.{IsAtFault}
+use Rattle.pcef_lock.specs.Locked.{Locked}
 use Rattle.pcef_lock.proofs.shared.Shared.gather.Goals as goal
 
-pub returns-in-Ok-clause-lanes : goal.returns-in-Ok-clause-lanes
-returns-in-Ok-clause-lanes g c = λ compared.
-    subst (λ (j : Journal). HaveLanes j c.args.finished.items) (sym c.in-Ok.ensures.session) (c.in-Ok.ensures.lanes compared)
+pub returns-in-Err-clause-fault : goal.returns-in-Err-clause-fault
+returns-in-Err-clause-fault g c =
+    subst (λ (s : Locked). IsAtFault s.session.journal c.args.desk.commands c.args.finished.items c.in-Err.ungathered.fault) (sym c.in-Err.ensures.back.0) c.in-Err.ensures.fault

@@ -3,7 +3,8 @@ use Rattle.std.specs.Option.{option_to_list}
 use Rattle.pcef_session.specs.Preparing.{table_made}
 use Rattle.pcef_publish.proofs.Runs.{prefix_self}
 use Rattle.pcef_lock.proofs.Commanded.{does_not, grown_by}
-use Rattle.pcef_lock.proofs.Keeps.{next_published, settled_gains, sound_same, sound_settled}
+use Rattle.pcef_share.specs.Amounts.{Account}
+use Rattle.pcef_lock.proofs.Keeps.{locked, next_published, settled_gains, sound_same, sound_settled}
 use Rattle.pcef_lock.proofs.PoolShares.{due_none}
 use Rattle.pcef_lock.proofs.state.State.command.Goals as goal
 
@@ -38,12 +39,13 @@ overflow_sub-gained g c =
     (settled_gains c.prepare.new.self.session c.settle-accepted.new.self.session c.in-Ok.prepared c.settle-accepted.result c.commands_of-before.result c.commands_of.result
     c.in-Ok.ensures.ready c.settle-accepted.ensures.answer c.commands_of-before.ensures.commands c.commands_of.ensures.commands).0
 
-pub returns-clause-books : goal.returns-clause-books
-returns-clause-books g c =
+pub returns-clause-rest : goal.returns-clause-rest
+returns-clause-rest g c =
     let gains = settled_gains c.prepare.new.self.session c.settle-accepted.new.self.session c.in-Ok.prepared c.settle-accepted.result c.commands_of-before.result c.commands_of.result
     c.in-Ok.ensures.ready c.settle-accepted.ensures.answer c.commands_of-before.ensures.commands c.commands_of.ensures.commands in
-    rw (← ap (λ v. v.books) c.self.view_is)
-    (c.add_commands.ensures.books ∙ ap (λ xs. record { totals = xs; issued = c.self.inside.books.issued }) (gains.1 c.self.inside.books.totals))
+    rw (← c.self.view_is)
+    (ap (λ (b : Account). locked c.settle-accepted.new.self.session c.publish.new.publisher b c.self.inside.places)
+    (c.add_commands.ensures.books ∙ ap (λ xs. record { totals = xs; issued = c.self.inside.books.issued }) (gains.1 c.self.inside.books.totals)))
 
 pub returns-clause-shares : goal.returns-clause-shares
 returns-clause-shares g c =

@@ -6,7 +6,8 @@ use Rattle.pcef_session.proofs.RoomRates.{does_not_within, does_within, lacks_wi
 use Rattle.pcef_publish.proofs.Runs.{prefix_self}
 use Rattle.pcef_pool.specs.Pools.{room_beside}
 use Rattle.pcef_lock.proofs.Commanded.{grown_by}
-use Rattle.pcef_lock.proofs.Keeps.{next_published, settled_gains, sound_same, sound_settled}
+use Rattle.pcef_share.specs.Amounts.{Account}
+use Rattle.pcef_lock.proofs.Keeps.{locked, next_published, settled_gains, sound_same, sound_settled}
 use Rattle.pcef_lock.proofs.PoolShares.{due_kept, due_set, fits_in, is_there, pool_gave, room_wanted}
 use Rattle.pcef_lock.proofs.state.State.command_within.Goals as goal
 
@@ -68,12 +69,13 @@ returns-clause-answer g c =
     (room_beside c.args.pool.now (total_now g.N.Naming.setting c.args.self.now.session.journal)) c.settle-accepted.result c.self.invariant.0.kept.setting_is c.in-Ok.ensures.accepted c.prepare_within.ensures.setting c.prepare_within.ensures.journal c.in-Ok.ensures.command
     c.settle-accepted.ensures.answer (ap (λ v. v.session.journal) c.self.view_is) (room_wanted g.P.Pooling.is_there g.N.Naming.setting c.self.inside.session.session c.args.self.now.session.journal c.self.inside.rates c.args.pool.now c.room_in-room.result c.requires c.self.invariant.1 c.self.invariant.0.kept.setting_is (ap (λ v. v.session.journal) c.self.view_is) c.room_in-room.ensures.room)
 
-pub returns-clause-books : goal.returns-clause-books
-returns-clause-books g c =
+pub returns-clause-rest : goal.returns-clause-rest
+returns-clause-rest g c =
     let gains = settled_gains c.prepare_within.new.self.session c.settle-accepted.new.self.session c.in-Ok.prepared c.settle-accepted.result c.commands_of-before.result c.commands_of.result
     c.in-Ok.ensures.ready c.settle-accepted.ensures.answer c.commands_of-before.ensures.commands c.commands_of.ensures.commands in
-    rw (← ap (λ v. v.books) c.self.view_is)
-    (c.add_commands.ensures.books ∙ ap (λ xs. record { totals = xs; issued = c.self.inside.books.issued }) (gains.1 c.self.inside.books.totals))
+    rw (← c.self.view_is)
+    (ap (λ (b : Account). locked c.settle-accepted.new.self.session c.publish.new.publisher b c.self.inside.places)
+    (c.add_commands.ensures.books ∙ ap (λ xs. record { totals = xs; issued = c.self.inside.books.issued }) (gains.1 c.self.inside.books.totals)))
 
 pub returns-clause-shares : goal.returns-clause-shares
 returns-clause-shares g c =

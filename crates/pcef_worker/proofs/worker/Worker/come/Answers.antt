@@ -8,8 +8,8 @@ use Rattle.pcef_worker.proofs.worker.Worker.come.Goals as goal
 pub invariant_of-result : goal.invariant_of-result
 invariant_of-result g c =
     let J : Item → Type 0 = IsJudged g.N.Naming.setting.catalog g.N.Naming.setting.ue g.N.Naming.first c.in-Ok-attach.seat.subscriber in (
-      c.in-Ok-attach.ensures.0 ∙ with_items_none _ c.args.rows.items c.requires,
-      c.in-Ok-attach.ensures.1,
+      c.in-Ok-attach.ensures.seat.0 ∙ with_items_none _ c.args.rows.items c.requires,
+      c.in-Ok-attach.ensures.seat.1,
       c.in-Ok-catalog.ensures,
       subst (λ (xs : List Item). All J xs) (sym c.in-Ok.ensures) (All-nil J),
     )
