@@ -61,24 +61,33 @@ size_t pcef_line(pcef_session *at, const uint8_t *line, size_t line_length, uint
 
 /* Gives how long the text of the session's reports is, from the one of this number on: a JSON array, the oldest first, each as
  * answers tell it. Reports are numbered from 0. As much as fits is written to `answer`: where the text is longer, call
- * again with more room. Takes memory. PCEF_NO_SESSION or PCEF_NO_MEMORY. */
+ * again with more room. Takes memory. PCEF_NO_SESSION, PCEF_NO_MEMORY, or PCEF_FORGOTTEN where one of these reports was
+ * let go. */
 size_t pcef_reports(pcef_session *at, uint64_t first, uint8_t *answer, size_t answer_room);
 
-/* In place of a length. */
+/* Lets go of the reports that the session made so far, and gives how many these are, which is the number of the next one.
+ * Until then a session keeps them all. A gateway calls pcef_reports from the number on that this gave last, hands the
+ * text on, and then calls this, before the next line. Reports that went still count; they can't be told again, and their
+ * memory serves for the next ones. Nothing else changes. Takes no memory. PCEF_NO_SESSION. */
+size_t pcef_forget(pcef_session *at);
+
+/* In place of a length or a count. */
 #define PCEF_NO_SESSION SIZE_MAX
 #define PCEF_NO_MEMORY (SIZE_MAX - 1)
+#define PCEF_FORGOTTEN (SIZE_MAX - 2)
 
-/* A packet of IPv4 or IPv6, whole, from the first octet of its IP header on. */
+/* A packet of IPv4 or IPv6, from the first octet of its IP header on: its first octets, or all of them. */
 typedef struct {
     const uint8_t *octets;
-    size_t length;
-    uint8_t up; /* 1 from the user equipment, 0 to it */
+    size_t length; /* how many octets are at hand */
+    size_t whole;  /* how many the packet has: `length` where it is at hand whole; where less, only so many are read */
+    uint8_t up;    /* 1 from the user equipment, 0 to it */
 } pcef_packet;
 
 /* What the newest generation decides of a packet. */
 typedef struct {
     uint32_t generation; /* the number of the generation */
-    uint8_t status;      /* PCEF_PASSED to PCEF_BAD_TOTAL_LENGTH */
+    uint8_t status;      /* PCEF_PASSED to PCEF_TOO_FEW */
     uint8_t bearer;      /* where the packet passes: its bearer, 5 to 15; else 0 */
     uint8_t place;       /* where a rule decided: its place in precedence order, from 0; else PCEF_NO_PLACE */
     uint8_t slots;       /* bit n: the packet counts for the n-th monitoring key, in the order in which keys were named */
@@ -89,24 +98,33 @@ typedef struct {
 #define PCEF_UNMATCHED 2        /* no rule fits */
 #define PCEF_STRAY 3            /* the packet isn't the session's */
 #define PCEF_VERDICT_NO_SESSION 4
-#define PCEF_EMPTY 5            /* from here on the octets are no packet */
+#define PCEF_EMPTY 5            /* from here to 9 the octets are no packet, whatever those beyond them are */
 #define PCEF_BAD_VERSION 6
 #define PCEF_SHORT_HEADER 7
 #define PCEF_BAD_HEADER_LENGTH 8
 #define PCEF_BAD_TOTAL_LENGTH 9
+#define PCEF_TOO_FEW 10         /* the octets that aren't at hand decide: hand over more of the packet */
 #define PCEF_NO_PLACE 255
 
 /* Judges the first `packet_count` packets by the newest generation, at most as many as there is room for verdicts, and gives how
- * many. Nothing is counted, and no row is kept: `take` and `flush` do that. Takes no memory. */
+ * many. A verdict on first octets is that on each packet of `whole` octets that begins with them; PCEF_TOO_FEW says that
+ * two such packets are read differently. 64 octets are enough of version 4; of version 6, all headers and four octets
+ * behind them. Nothing is counted, and no row is kept: `take` and `flush` do that. Takes no memory. */
 size_t pcef_judge(pcef_session *at, const pcef_packet *packets, size_t packet_count, pcef_verdict *verdicts,
                   size_t verdict_count);
 
-/* The same for one packet. */
-static inline pcef_verdict pcef_judge_one(pcef_session *at, uint8_t up, const uint8_t *octets, size_t length) {
-    pcef_packet packet = {octets, length, up};
+/* The same for one packet of `whole` octets, of which the first `length` are at hand. */
+static inline pcef_verdict pcef_judge_front(pcef_session *at, uint8_t up, const uint8_t *octets, size_t length,
+                                            size_t whole) {
+    pcef_packet packet = {octets, length, whole, up};
     pcef_verdict verdict = {0, PCEF_VERDICT_NO_SESSION, 0, PCEF_NO_PLACE, 0};
     pcef_judge(at, &packet, 1, &verdict, 1);
     return verdict;
+}
+
+/* The same for one packet that is at hand whole. */
+static inline pcef_verdict pcef_judge_one(pcef_session *at, uint8_t up, const uint8_t *octets, size_t length) {
+    return pcef_judge_front(at, up, octets, length, length);
 }
 
 /* Lets the session go, if there is one, and all its memory but the handle's own: 1, or 0 where there was none. */

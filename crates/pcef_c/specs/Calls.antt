@@ -2,7 +2,7 @@
 use Rattle.std.specs.Prelude.{ℕ, ◌≡◌, List, None, Result, is_some}
 use Rattle.pcef_handle.specs.Answering.{AnswersHandle}
 use Rattle.pcef_handle.specs.Opening.{OpensHandle}
-use Rattle.pcef_handle.specs.Reporting.{ReportsHandle}
+use Rattle.pcef_handle.specs.Reporting.{ForgetsHandle, ReportsHandle}
 use Rattle.pcef_handle.specs.declared.held.Handle.{Handle}
 use Rattle.pcef_handle.specs.declared.line.CallRefusal.{CallRefusal}
 use Rattle.pcef_handle.specs.declared.opening.OpenRefusal.{OpenRefusal}
@@ -21,6 +21,10 @@ LineTold old line before new after told =
 abbrev pub ReportsTold : Handle → ℕ → List ℕ → Handle → List ℕ → ℕ → Type 0
 ReportsTold old first before new after told =
     (new ≡ old) × (r : Result ℕ CallRefusal) × ReportsHandle old first before r after × (told ≡ length_number r)
+
+-- the reports so far are let go, or there is no session
+abbrev pub ForgetTold : Handle → Handle → ℕ → Type 0
+ForgetTold old new told = (r : Result ℕ CallRefusal) × ForgetsHandle old r new × (told ≡ length_number r)
 
 -- there is no session any more, and whether there was one is told
 abbrev pub Closes : Handle → Handle → ℕ → Type 0

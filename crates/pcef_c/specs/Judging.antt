@@ -9,7 +9,7 @@ use Rattle.pcef_model.specs.declared.verdict.Verdict.TheVariants.{Gated, Passed,
 use Rattle.pcef_handle.specs.Judging.{JudgesHandle}
 use Rattle.pcef_handle.specs.declared.held.Handle.{Handle}
 use Rattle.pcef_handle.specs.declared.judging.JudgeRefusal.{JudgeRefusal}
-use Rattle.pcef_handle.specs.declared.judging.JudgeRefusal.TheVariants.{NoPacket, NoSession}
+use Rattle.pcef_handle.specs.declared.judging.JudgeRefusal.TheVariants.{NoPacket, NoSession, TooFew}
 use Rattle.pcef_handle.specs.declared.judging.Judgement.{Judgement}
 use Rattle.pcef_c.specs.Numbers.{packet_number}
 use Rattle.pcef_c.specs.declared.judging.CPacket.{CPacket}
@@ -54,10 +54,12 @@ told_of (Ok d) = record {
 }
 told_of (Err NoSession) = unjudged 4
 told_of (Err (NoPacket fault)) = unjudged (packet_number fault)
+told_of (Err TooFew) = unjudged 10
 
 -- the verdict tells what the session of a handle decides of a packet
 abbrev pub IsVerdictOn : Handle → CPacket → CVerdict → Type 0
-IsVerdictOn h packet v = (r : Result Judgement JudgeRefusal) × JudgesHandle h (dir_of packet.up) packet.octets.now r × (v ≡ told_of r)
+IsVerdictOn h packet v =
+    (r : Result Judgement JudgeRefusal) × JudgesHandle h (dir_of packet.up) packet.octets.now packet.whole r × (v ≡ told_of r)
 
 -- as many packets are judged as there are verdicts, and that many are told; no other verdict is written, and the handle stays
 pub record AreJudged (h : Handle) (packets : List CPacket) (before after : List CVerdict) (told : ℕ) : Type 0 where

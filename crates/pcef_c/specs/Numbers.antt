@@ -25,11 +25,12 @@ open_number (Err refusal.NoMemory) = 7
 open_number (Err refusal.NotUtf8) = 8
 open_number (Err refusal.AlreadyOpen) = 9
 
--- ---- texts: the length, or one of the two highest numbers
+-- ---- texts and reports: the length or the count, or one of the three highest numbers
 abbrev pub length_number : Result ℕ CallRefusal → ℕ
 length_number (Ok length) = length
 length_number (Err call.NoSession) = 18446744073709551615
 length_number (Err call.NoMemory) = 18446744073709551614
+length_number (Err call.Forgotten) = 18446744073709551613
 
 -- ---- verdicts
 -- why octets are no packet: the numbers behind those of verdicts

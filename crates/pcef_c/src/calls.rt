@@ -1,11 +1,11 @@
 //! What C calls, behind its pointers: each call on a handle, with its answer as a number.
 
 ghost use Rattle.std.specs.Prelude.{◌≡◌, None};
-ghost use Rattle.pcef_c.specs.Calls.{Closes, LineTold, OpenTold, ReportsTold};
+ghost use Rattle.pcef_c.specs.Calls.{Closes, ForgetTold, LineTold, OpenTold, ReportsTold};
 ghost use Rattle.pcef_c.specs.Judging.{JudgesAll};
 
 use crate::judging::{CPacket, CVerdict, judge_all};
-use crate::numbers::{length_number, open_number};
+use crate::numbers::{count_number, length_number, open_number};
 use pcef_handle::Handle;
 use std::alloc::Global;
 
@@ -50,6 +50,14 @@ pub(crate) fn reports(handle: &mut Handle, first: u64, answer: &mut [u8]) -> usi
 {
     let told = handle.reports(first, answer);
     length_number(told)
+}
+
+/// Lets the reports so far go: how many these are, or why there are none.
+pub(crate) fn forget(handle: &mut Handle) -> usize
+    ensures { ForgetTold handle.old handle.new result }
+{
+    let told = handle.forget();
+    count_number(told)
 }
 
 /// Lets the session go: 1, or 0 where there was none.

@@ -4,11 +4,11 @@
 ghost use Rattle.std.specs.Prelude.{◌≡◌, None};
 ghost use Rattle.std.specs.Borrow.{sem};
 ghost use Rattle.pcef_handle.specs.declared.held.Handle.{Handle};
-ghost use Rattle.pcef_c.specs.Calls.{Closes, LineTold, OpenTold, ReportsTold};
+ghost use Rattle.pcef_c.specs.Calls.{Closes, ForgetTold, LineTold, OpenTold, ReportsTold};
 ghost use Rattle.pcef_c.specs.Handles.{lies, room};
 ghost use Rattle.pcef_c.specs.Judging.{JudgesAll};
 
-use crate::calls::{close, empty, judge, line, open, reports};
+use crate::calls::{close, empty, forget, judge, line, open, reports};
 use crate::judging::{CPacket, CVerdict};
 use pcef_handle::Handle;
 use std::alloc::Global;
@@ -53,8 +53,8 @@ pub unsafe extern "C" fn pcef_line(at: *mut u8, text: &[u8], answer: &mut [u8]) 
     line(&mut *(at as *mut Handle), text, answer)
 }
 
-/// Judges as many packets as there are verdicts by the newest generation, and gives how many these are. Nothing is
-/// counted, and no row is kept. Takes no memory.
+/// Judges as many packets as there are verdicts by the newest generation, and gives how many these are. Of a packet the
+/// first octets may be at hand alone. Nothing is counted, and no row is kept. Takes no memory.
 #[unsafe(no_mangle)]
 pub unsafe extern "C" fn pcef_judge(
     at: *mut u8,
@@ -70,7 +70,7 @@ pub unsafe extern "C" fn pcef_judge(
 }
 
 /// Tells the reports of the session from a number on: how long their text is, of which as much as fits is written, or
-/// why there is none. Takes memory for the text.
+/// why there is none. Refused where one of them was let go. Takes memory for the text.
 #[unsafe(no_mangle)]
 pub unsafe extern "C" fn pcef_reports(at: *mut u8, first: u64, answer: &mut [u8]) -> usize
     ghost old: { Handle }
@@ -79,6 +79,17 @@ pub unsafe extern "C" fn pcef_reports(at: *mut u8, first: u64, answer: &mut [u8]
         ∗ ⌜ ReportsTold old first answer.old new answer.new result ⌝) }
 {
     reports(&mut *(at as *mut Handle), first, answer)
+}
+
+/// Lets the reports of the session so far go: how many these are, which is the number of the next one, or why there are
+/// none. Takes no memory.
+#[unsafe(no_mangle)]
+pub unsafe extern "C" fn pcef_forget(at: *mut u8) -> usize
+    ghost old: { Handle }
+    requires* { sem 𝓛 (lies at old) }
+    ensures* { ∃ₛ (λ (new : Handle). sem 𝓛 (lies at new) ∗ ⌜ ForgetTold old new result ⌝) }
+{
+    forget(&mut *(at as *mut Handle))
 }
 
 /// Lets the session go, if there is one, and all its memory but the handle's own: 1, or 0 where there was none.

@@ -9,11 +9,13 @@ use pcef_model::Verdict;
 use pcef_packet::Dir;
 use pcef_rule::Slot;
 
-/// A packet, with its direction.
+/// The first octets of a packet, its length, and its direction.
 #[repr(C)]
 pub struct CPacket<'a> {
-    /// The octets of the packet, from the first octet of its IP header on.
+    /// The octets of the packet that are at hand, from the first octet of its IP header on.
     pub octets: &'a [u8],
+    /// How many octets the packet has.
+    pub whole: usize,
     /// 0 for a packet to the user equipment, any other number for one from it.
     pub up: u8,
 }
@@ -117,13 +119,14 @@ fn told_of(judged: &Result<Judgement, JudgeRefusal>) -> CVerdict
         },
         Err(JudgeRefusal::NoSession) => unjudged(4),
         Err(JudgeRefusal::NoPacket(fault)) => unjudged(packet_number(*fault)),
+        Err(JudgeRefusal::TooFew) => unjudged(10),
     }
 }
 
 fn verdict_on(handle: &Handle, packet: &CPacket<'_>) -> CVerdict
     ensures { IsVerdictOn handle.now packet.now result }
 {
-    told_of(&handle.judge(dir_of(packet.up), packet.octets))
+    told_of(&handle.judge(dir_of(packet.up), packet.octets, packet.whole))
 }
 
 /// Judges as many packets as there are verdicts, and gives how many these are.

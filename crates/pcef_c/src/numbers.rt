@@ -7,11 +7,14 @@ use pcef_handle::{CallRefusal, OpenRefusal};
 use pcef_model::OpenFault;
 use pcef_packet::PacketFault;
 
-/// In place of a length: the handle has no session.
+/// In place of a length or a count: the handle has no session.
 const NO_SESSION: usize = 18_446_744_073_709_551_615;
 
 /// In place of a length: there is no memory left.
 const NO_MEMORY: usize = 18_446_744_073_709_551_614;
+
+/// In place of a length: reports that are asked for were let go.
+const FORGOTTEN: usize = 18_446_744_073_709_551_613;
 
 /// No session can have the profile: the numbers of the same faults of a profile's text.
 fn session_number(fault: OpenFault) -> u8
@@ -46,6 +49,17 @@ pub(crate) fn length_number(told: Result<usize, CallRefusal>) -> usize
         Ok(length) => length,
         Err(CallRefusal::NoSession) => NO_SESSION,
         Err(CallRefusal::NoMemory) => NO_MEMORY,
+        Err(CallRefusal::Forgotten) => FORGOTTEN,
+    }
+}
+
+/// A count, or why there is none.
+pub(crate) fn count_number(told: Result<u64, CallRefusal>) -> usize
+    ensures { result ≡ length_number told }
+{
+    match told {
+        Ok(count) => count as usize,
+        Err(refusal) => length_number(Err(refusal)),
     }
 }
 

@@ -18,11 +18,18 @@ abbrev pub IsPut : Option Answer → List ℕ → List ℕ → ℕ → Type 0
 IsPut None before after told = (told ≡ 0) × (after ≡ before)
 IsPut (Some a) before after told = CopiesFront (string_bytes a.text) before after told
 
+-- what is fixed for a session stays, and no more of its reports are let go
+abbrev pub StaysOpen : OpenSession → OpenSession → Type 0
+StaysOpen old new =
+    (new.world.session.setting ≡ old.world.session.setting)
+    × (new.world.session.forgotten ≡ old.world.session.forgotten)
+
 -- a line is answered as in a script, into a buffer; for want of memory nothing is written
 abbrev pub AnswersInto : OpenSession → List ℕ → List ℕ → Result ℕ CallRefusal → OpenSession → List ℕ → Type 0
-AnswersInto old line before (Ok told) new after = (a : Option Answer) × AnswersAlone line old.world a new.world × IsPut a before after told
-AnswersInto old line before (Err NoMemory) new after = after ≡ before
-AnswersInto old line before (Err NoSession) new after = ⊥
+AnswersInto old line before (Ok told) new after =
+    StaysOpen old new × ((a : Option Answer) × AnswersAlone line old.world a new.world × IsPut a before after told)
+AnswersInto old line before (Err NoMemory) new after = StaysOpen old new × (after ≡ before)
+AnswersInto old line before (Err other) new after = ⊥
 
 -- in the session of a handle, which stays open; this, where there is none
 abbrev pub InSession : Option OpenSession → Option OpenSession → (OpenSession → OpenSession → Type 0) → Type 0 → Type 0

@@ -1,10 +1,12 @@
 -- What the newest generation of a session decides of a packet (TS 23.203, clause 6.2.2).
-use Rattle.std.specs.Prelude.{ℕ, ◌≡◌, List, find, slice_get, Option, Some, None, Result, Ok, Err}
+use Rattle.std.specs.Prelude.{ℕ, ◌≡◌, List, find, slice_get, take, Option, Some, None, Result, Ok, Err}
 use Rattle.std.specs.Option.{option_and_then}
 use Rattle.pcef_packet.specs.HeaderOf.{header_of}
 use Rattle.pcef_packet.specs.declared.header.Dir.{Dir}
 use Rattle.pcef_packet.specs.declared.header.Header.{Header}
-use Rattle.pcef_packet.specs.declared.header.PacketFault.{PacketFault}
+use Rattle.pcef_front.specs.Fronts.{IsToldBy}
+use Rattle.pcef_front.specs.declared.fault.FrontFault.{FrontFault}
+use Rattle.pcef_front.specs.declared.fault.FrontFault.TheVariants as front
 use Rattle.pcef_catalog.specs.declared.listing.Offer.{Offer}
 use Rattle.pcef_table.specs.declared.entry.Entry.{Entry}
 use Rattle.pcef_table.specs.Sources.{is_named}
@@ -18,7 +20,7 @@ use Rattle.pcef_session.specs.SessionModel.{SessionModel}
 use Rattle.pcef_handle.specs.declared.held.Handle.{Handle}
 use Rattle.pcef_handle.specs.declared.held.OpenSession.{OpenSession}
 use Rattle.pcef_handle.specs.declared.judging.JudgeRefusal.{JudgeRefusal}
-use Rattle.pcef_handle.specs.declared.judging.JudgeRefusal.TheVariants.{NoPacket, NoSession}
+use Rattle.pcef_handle.specs.declared.judging.JudgeRefusal.TheVariants.{NoPacket, NoSession, TooFew}
 use Rattle.pcef_handle.specs.declared.judging.Judgement.{Judgement}
 
 -- the place of the entry of a name; no two entries of a table have one name
@@ -41,12 +43,18 @@ pub record IsJudged (s : SessionModel) (header : Header) (d : Judgement) : Type 
       counts_in s.setting (at s.setting s.journal (gen s.journal)) key header ≡ has_one_of (slots s.setting s.journal) d.slots.items key
   pub placed : (t : TableValue) × ShowsNewest s t × IsPlaced s.setting.catalog t.entries d.verdict d.place
 
-abbrev pub JudgesIn : Option OpenSession → Result Header PacketFault → Result Judgement JudgeRefusal → Type 0
-JudgesIn None read result = result ≡ Err NoSession
-JudgesIn (Some s) (Ok header) (Ok d) = IsJudged s.world.session header d
-JudgesIn (Some s) (Err fault) result = result ≡ Err (NoPacket fault)
-JudgesIn (Some s) (Ok header) (Err refusal) = ⊥
+-- the header that is told is judged, or why there is none
+abbrev pub JudgesTold : OpenSession → (Result Header FrontFault → Type 0) → Result Judgement JudgeRefusal → Type 0
+JudgesTold s Told (Ok d) = (header : Header) × Told (Ok header) × IsJudged s.world.session header d
+JudgesTold s Told (Err (NoPacket fault)) = Told (Err (front.Packet fault))
+JudgesTold s Told (Err TooFew) = Told (Err front.TooFew)
+JudgesTold s Told (Err NoSession) = ⊥
 
--- the packet at the front of some octets is judged, where the handle has a session
-abbrev pub JudgesHandle : Handle → Dir → List ℕ → Result Judgement JudgeRefusal → Type 0
-JudgesHandle h dir octets result = JudgesIn h.session (header_of dir octets) result
+abbrev pub JudgesIn : Option OpenSession → (Result Header FrontFault → Type 0) → Result Judgement JudgeRefusal → Type 0
+JudgesIn None Told result = result ≡ Err NoSession
+JudgesIn (Some s) Told result = JudgesTold s Told result
+
+-- a packet of so many octets that begins with these is judged, where the handle has a session: as all such packets are
+-- read, unless two of them are read differently
+abbrev pub JudgesHandle : Handle → Dir → List ℕ → ℕ → Result Judgement JudgeRefusal → Type 0
+JudgesHandle h dir octets whole result = JudgesIn h.session (IsToldBy (header_of dir) (take whole octets) whole) result

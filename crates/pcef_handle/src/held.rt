@@ -16,7 +16,6 @@ pub struct OpenSession {
     /// Reads the lines.
     pub lines: LineReader,
     pub ghost offered: { catalog ≡ world.session.setting.catalog },
-    pub ghost kept: { world.session.forgotten ≡ 0 },
 }
 
 // Written out, so that an owner proves one call at each way out.

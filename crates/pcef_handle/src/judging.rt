@@ -1,16 +1,19 @@
 //! What the newest generation decides of a packet.
 
-ghost use Rattle.std.specs.Prelude.{◌≡◌, ◌≤◌, All, find, length, slice_get};
+ghost use Rattle.std.specs.Prelude.{◌≡◌, ◌≢◌, ◌≤◌, All, Err, find, length, slice_get};
 ghost use Rattle.std.specs.Option.{option_and_then};
+ghost use Rattle.pcef_packet.specs.HeaderOf.{version};
 ghost use Rattle.pcef_table.specs.Sources.{IsKnown, is_named};
 ghost use Rattle.pcef_handle.specs.Judging.{IsJudged, IsPlaced, JudgesHandle};
+ghost use Rattle.pcef_handle.specs.declared.judging.JudgeRefusal.TheVariants.{TooFew};
 
 use crate::held::{Handle, OpenSession};
 use arrayvec::ArrayVec;
 use pcef_built_in::ShapedCatalog;
+use pcef_front::{FrontFault, read_front};
 use pcef_index::Indexed;
 use pcef_model::Verdict;
-use pcef_packet::{Dir, Header, PacketFault, read_header};
+use pcef_packet::{Dir, Header, PacketFault};
 use pcef_rule::{RuleName, Slot};
 use pcef_table::Entry;
 
@@ -32,8 +35,10 @@ pub struct Judgement {
 pub enum JudgeRefusal {
     /// The handle has no session.
     NoSession,
-    /// The octets are no packet.
+    /// The octets are no packet, whatever those beyond them are.
     NoPacket(PacketFault),
+    /// The octets of the packet beyond those at hand decide what is read.
+    TooFew,
 }
 
 /// Whether an entry's rule has this name.
@@ -89,17 +94,21 @@ fn judge_header(session: &OpenSession, header: &Header) -> Judgement
 }
 
 impl Handle {
-    /// What the newest generation decides of the packet at the front of some octets. Nothing is counted, and no row
-    /// is kept. Takes no memory.
-    pub fn judge(&self, dir: Dir, octets: &[u8]) -> Result<Judgement, JudgeRefusal>
-        ensures { JudgesHandle self.now dir octets.now result }
+    /// What the newest generation decides of a packet of `whole` octets that begins with these. A packet at hand whole
+    /// has `whole` octets; what `octets` has beyond them is ignored. `TooFew` where two packets that begin so are read
+    /// differently. Nothing is counted, and no row is kept. Takes no memory.
+    pub fn judge(&self, dir: Dir, octets: &[u8], whole: usize) -> Result<Judgement, JudgeRefusal>
+        ensures judged { JudgesHandle self.now dir octets.now whole result }
+        ensures at_hand { whole ≤ length octets.now → result ≢ Err TooFew }
+        ensures enough_v4 { version octets.now ≡ 4 → 64 ≤ length octets.now → result ≢ Err TooFew }
     {
         let Some(session) = &self.session else {
             return Err(JudgeRefusal::NoSession);
         };
-        match read_header(dir, octets) {
+        match read_front(dir, octets, whole) {
             Ok(header) => Ok(judge_header(session, &header)),
-            Err(fault) => Err(JudgeRefusal::NoPacket(fault)),
+            Err(FrontFault::Packet(fault)) => Err(JudgeRefusal::NoPacket(fault)),
+            Err(FrontFault::TooFew) => Err(JudgeRefusal::TooFew),
         }
     }
 }

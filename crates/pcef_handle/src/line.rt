@@ -1,11 +1,13 @@
 //! Answers a line of a script.
 
-ghost use Rattle.std.specs.Prelude.{◌≡◌};
+ghost use Rattle.std.specs.Prelude.{◌≡◌, nat_le};
+ghost use Rattle.pcef_model.specs.Journals.{report_count};
 ghost use Rattle.pcef_handle.specs.Answering.{AnswersHandle, AnswersInto, IsPut};
 
 use crate::held::{Handle, OpenSession};
 use crate::text::copy_front;
 use pcef_script::{Answer, answer_alone};
+use pcef_world::WorldState;
 use std::alloc::Global;
 
 /// Why a call on a handle gives no text.
@@ -15,6 +17,17 @@ pub enum CallRefusal {
     NoSession,
     /// There is no memory left.
     NoMemory,
+    /// Reports that are asked for were let go.
+    Forgotten,
+}
+
+/// Whether no more reports were let go than were made. So it always is, but no clause of a session says so, and only
+/// where it is are answers proved to tell of none that was let go.
+fn were_made(world: &WorldState) -> bool
+    ensures { result ≡ nat_le world.now.session.forgotten (report_count world.now.session.journal) }
+{
+    let journal = world.session().journal();
+    journal.forgotten() <= journal.reports_len()
 }
 
 /// Writes as much of an answer as fits, and gives how long it is: 0 where there is none.
@@ -35,6 +48,9 @@ fn answer_into(
 ) -> Result<usize, CallRefusal>
     ensures { AnswersInto session.old line.now buffer.old result session.new buffer.new }
 {
+    if !were_made(&session.world) {
+        return Err(CallRefusal::NoMemory);
+    }
     match answer_alone(
         alloc,
         &session.catalog,

@@ -6,3 +6,13 @@ pub loop-place-preserved : goal.loop-place-preserved
 loop-place-preserved c =
     let h = c.loop-place.invariant in let inside = c.loop-place-test.true in
     judged_more c.args.handle.now c.args.packets.now c.args.verdicts.now c.loop-place.verdicts c.loop-place.place _ c.verdict_on.result (search arith) (search arith) c.verdict_on.ensures h
+
+pub returns : goal.returns
+returns c =
+    let h = c.loop-place.invariant in let past = c.loop-place-test.false in
+    record {
+      told_is = c.min-count.ensures;
+      length_is = h.0;
+      each = λ n packet v less. h.1 n packet v (omega (arith, less, past));
+      others = λ n v above. h.2 n v (omega (arith, above, c.loop-place.auto.place-end));
+    }
