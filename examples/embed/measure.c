@@ -61,7 +61,7 @@ int main(int argc, char **argv) {
         memcpy(octets[i], head, OCTETS);
         octets[i][20] = (uint8_t)(port >> 8);
         octets[i][21] = (uint8_t)port;
-        packets[i] = (pcef_packet){octets[i], OCTETS, 0};
+        packets[i] = (pcef_packet){octets[i], OCTETS, OCTETS, 0};
     }
     double start = now();
     for (long call = 0; call < calls; call++) {

@@ -1,5 +1,5 @@
 // Answers the lines of standard input, as `pcef script PROFILE.toml` does, over the library for C; then judges a vector
-// of packets, and tells the verdicts on standard error.
+// of packets. It tells the reports of each line, which it then lets go, and the verdicts on standard error.
 //
 //	script PROFILE.toml < LINES.jsonl
 package main
@@ -24,9 +24,10 @@ type Session struct {
 	at *C.pcef_session
 }
 
-// Packet is a packet from its IP header on, all of it, and its direction.
+// Packet is the first octets of a packet, from its IP header on, how many octets it has in all, and its direction.
 type Packet struct {
 	Octets []byte
+	Whole  int
 	Up     bool
 }
 
@@ -76,6 +77,21 @@ func (s *Session) Line(line, room []byte) ([]byte, error) {
 	return room[:told], nil
 }
 
+// Reports gives the reports from a number on, as a JSON array that stands in `room`. Reports that were let go can't be
+// told any more.
+func (s *Session) Reports(first uint64, room []byte) ([]byte, error) {
+	told := C.pcef_reports(s.at, C.uint64_t(first), octets(room), C.size_t(len(room)))
+	if told > C.size_t(len(room)) {
+		return nil, errors.New("no such reports, no memory, or more than the buffer holds")
+	}
+	return room[:told], nil
+}
+
+// Forget lets the reports so far go, once they were told, and gives the number of the next one.
+func (s *Session) Forget() uint64 {
+	return uint64(C.pcef_forget(s.at))
+}
+
 // Judge judges packets in one call. C may not be handed pointers to pointers of Go's, so the packets and their octets are
 // copied into memory of C's; a gateway whose packets lie there already copies nothing.
 func (s *Session) Judge(packets []Packet) []Verdict {
@@ -92,6 +108,7 @@ func (s *Session) Judge(packets []Packet) []Verdict {
 	for i, packet := range packets {
 		vector[i].octets = octets(left)
 		vector[i].length = C.size_t(copy(left, packet.Octets))
+		vector[i].whole = C.size_t(packet.Whole)
 		if packet.Up {
 			vector[i].up = 1
 		}
@@ -107,9 +124,23 @@ func (s *Session) Judge(packets []Packet) []Verdict {
 	return verdicts
 }
 
+// tell tells the reports from a number on, lets them go, and gives the number of the next one.
+func tell(session *Session, next uint64, room []byte) (uint64, error) {
+	reports, err := session.Reports(next, room)
+	if err != nil {
+		return next, err
+	}
+	// A gateway hands them to the PCRF, and only then lets them go.
+	if _, err := os.Stderr.Write(reports); err != nil {
+		return next, err
+	}
+	return session.Forget(), nil
+}
+
 // play answers the lines of a reader.
 func play(session *Session, lines *bufio.Reader, answers *bufio.Writer) error {
 	room := make([]byte, 1<<20)
+	next := uint64(0)
 	for {
 		line, end := lines.ReadBytes('\n')
 		if n := len(line); n > 0 && line[n-1] == '\n' {
@@ -122,6 +153,9 @@ func play(session *Session, lines *bufio.Reader, answers *bufio.Writer) error {
 		if len(answer) > 0 {
 			answers.Write(answer)
 			answers.WriteByte('\n')
+		}
+		if next, err = tell(session, next, room); err != nil {
+			return err
 		}
 		if end == io.EOF {
 			return answers.Flush()
@@ -149,10 +183,12 @@ func run() error {
 	if err := play(session, bufio.NewReader(os.Stdin), bufio.NewWriter(os.Stdout)); err != nil {
 		return err
 	}
-	// UDP from 198.51.100.7 port 53 to 10.0.0.2 port 5000; the same of which the last octet is missing; none.
+	// UDP from 198.51.100.7 port 53 to 10.0.0.2 port 5000: whole; 24 octets of it; 20, which lack the ports; 27 as if
+	// these were all; none.
 	answer := []byte{0x45, 0, 0, 28, 0, 0, 0, 0, 64, 17, 0, 0, 198, 51, 100, 7, 10, 0, 0, 2, 0, 53, 0x13, 0x88, 0, 8, 0, 0}
-	for _, verdict := range session.Judge([]Packet{{answer, false}, {answer[:27], false}, {nil, true}}) {
-		fmt.Fprintf(os.Stderr, "%+v\n", verdict)
+	for _, verdict := range session.Judge([]Packet{{answer, 28, false}, {answer[:24], 28, false},
+		{answer[:20], 28, false}, {answer[:27], 27, false}, {nil, 0, true}}) {
+		fmt.Fprintf(os.Stderr, "\n%+v", verdict)
 	}
 	return nil
 }

@@ -16,15 +16,18 @@ mod sys {
             verdicts: *mut super::Verdict,
             verdict_count: usize,
         ) -> usize;
+        pub fn pcef_reports(at: *mut u8, first: u64, answer: *mut u8, room: usize) -> usize;
+        pub fn pcef_forget(at: *mut u8) -> usize;
         pub fn pcef_close(at: *mut u8) -> u8;
     }
 }
 
-/// A packet, as the library takes it.
+/// The first octets of a packet, and how many it has, as the library takes it.
 #[repr(C)]
 pub struct Packet {
     octets: *const u8,
     length: usize,
+    whole: usize,
     up: u8,
 }
 
@@ -70,12 +73,26 @@ impl Session {
         room.get(..told)
     }
 
-    /// What the newest generation decides of a packet.
-    pub fn judge(&mut self, up: bool, octets: &[u8]) -> Verdict {
-        let packet = Packet { octets: octets.as_ptr(), length: octets.len(), up: u8::from(up) };
+    /// What the newest generation decides of a packet of `whole` octets that begins with these: status 10 where
+    /// those beyond them decide. A packet that is at hand has `octets.len()`.
+    pub fn judge(&mut self, up: bool, octets: &[u8], whole: usize) -> Verdict {
+        let packet = Packet { octets: octets.as_ptr(), length: octets.len(), whole, up: u8::from(up) };
         let mut verdict = Verdict::default();
         unsafe { sys::pcef_judge(self.at, &packet, 1, &mut verdict, 1) };
         verdict
+    }
+
+    /// The reports from this number on, as a JSON array; `None` where some of them were let go, or for want of memory
+    /// or room.
+    pub fn reports<'a>(&mut self, first: u64, room: &'a mut [u8]) -> Option<&'a [u8]> {
+        let told = unsafe { sys::pcef_reports(self.at, first, room.as_mut_ptr(), room.len()) };
+        room.get(..told)
+    }
+
+    /// Lets the reports so far go, once they were told. Gives the number of the next one.
+    pub fn forget(&mut self) -> u64 {
+        // The session is open, so this is a count.
+        unsafe { sys::pcef_forget(self.at) as u64 }
     }
 }
 
@@ -92,6 +109,7 @@ fn main() -> io::Result<()> {
     let path = std::env::args().nth(1).expect("usage: script PROFILE.toml < LINES.jsonl");
     let mut session = Session::open(&std::fs::read_to_string(path)?).expect("the profile isn't opened");
     let mut room = vec![0; 1 << 20];
+    let mut next = 0;
     let mut out = io::stdout().lock();
     for line in io::stdin().lock().split(b'\n') {
         let answer = session.line(&line?, &mut room).expect("no memory, or more than the buffer holds");
@@ -99,7 +117,14 @@ fn main() -> io::Result<()> {
             out.write_all(answer)?;
             out.write_all(b"\n")?;
         }
+        // A gateway hands these to the PCRF, and only then lets them go.
+        let reports = session.reports(next, &mut room).expect("no memory, or more than the buffer holds");
+        io::stderr().write_all(reports)?;
+        next = session.forget();
     }
-    eprintln!("{:?}", session.judge(false, &[0x45; 20]));
+    // UDP from 198.51.100.7 port 53 to 10.0.0.2: 24 octets of 28, and 20 of them, which lack the ports.
+    let front = [0x45, 0, 0, 28, 0, 0, 0, 0, 64, 17, 0, 0, 198, 51, 100, 7, 10, 0, 0, 2, 0, 53, 0x13, 0x88];
+    eprintln!("\n{:?}", session.judge(false, &front, 28));
+    eprintln!("{:?}", session.judge(false, &front[..20], 28));
     Ok(())
 }
