@@ -1,5 +1,5 @@
 -- Sessions on one pool of guaranteed rates (own choice).
-use Rattle.std.specs.Prelude.{ℕ, ◌≡◌, ◌≢◌, List, [], ◌∷◌, Some, Result, IfSome, slice_get}
+use Rattle.std.specs.Prelude.{ℕ, ◌≡◌, ◌≢◌, ◌≤◌, List, [], ◌∷◌, Some, Result, IfSome, slice_get}
 use Rattle.pcef_rule.specs.declared.quantity.Sums.{Sums}
 use Rattle.pcef_model.specs.declared.answer.Accepted.{Accepted}
 use Rattle.pcef_model.specs.declared.answer.Refusal.{Refusal}
@@ -23,6 +23,13 @@ granted_to (s ∷ sessions) = with_rates (rates_of s) (granted_to sessions)
 pub record PooledModel : Type 0 where
   pub sessions : List SessionModel
   pub pool : PoolModel
+
+-- What is granted is the exact sum over all sessions, within the capacity. That each session is exact, `pcef_core::kept_by`
+-- says.
+pub record PoolIsExact (v : PooledModel) : Type 0 where
+  pub sum : v.pool.books.granted ≡ granted_to v.sessions
+  pub within_up : v.pool.books.granted.up ≤ v.pool.capacity.up
+  pub within_down : v.pool.books.granted.down ≤ v.pool.capacity.down
 
 -- the session of a number answers a command as due, in the room that the others leave it, or for want of memory refuses it
 abbrev pub AnswersAt : ℕ → PooledModel → Command → Result Accepted Refusal → PooledModel → Type 0

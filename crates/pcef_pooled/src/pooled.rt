@@ -1,9 +1,9 @@
 //! Sessions on one pool.
 
-ghost use Rattle.std.specs.Prelude.{◌≡◌, ◌≤◌, ◌<◌, IfOk, Some, length, slice_get};
+ghost use Rattle.std.specs.Prelude.{◌≡◌, ◌<◌, IfOk, Some, length, slice_get};
 ghost use Rattle.std.specs.Result.{result_err};
 ghost use Rattle.pcef_share.specs.Names.{name_at};
-ghost use Rattle.pcef_pooled.specs.Granting.{AnswersAt, KeepsOthers, granted_to};
+ghost use Rattle.pcef_pooled.specs.Granting.{AnswersAt, KeepsOthers, PoolIsExact, granted_to};
 ghost use Rattle.pcef_pooled.specs.Opening.{AreOpened, OpensOn};
 
 use crate::fault::PooledFault;
@@ -91,8 +91,7 @@ impl<P: Pooling> Pooled<P> {
     /// rules sum up to. They are within the capacity.
     pub fn granted(&self) -> Sums
         ensures sums { result ≡ granted_to self.now.sessions }
-        ensures up { result.up ≤ self.now.pool.capacity.up }
-        ensures down { result.down ≤ self.now.pool.capacity.down }
+        ensures exact { PoolIsExact self.now }
     {
         self.pool.granted()
     }
