@@ -1,7 +1,7 @@
 -- The numbers of faults.
 use Rattle.std.specs.Prelude.{ℕ}
 use Rattle.pcef_capture_file.specs.declared.fault.CaptureFault.{CaptureFault}
-use Rattle.pcef_capture_file.specs.declared.fault.CaptureFault.TheVariants.{NotACapture, CutHeader, Version, LinkType, CutRecord, CutPacket, CutBlock, BlockLength, ByteOrder, UnknownInterface, TooLong, NoMemory}
+use Rattle.pcef_capture_file.specs.declared.fault.CaptureFault.TheVariants.{NotACapture, CutHeader, Version, LinkType, CutRecord, CutPacket, CutBlock, BlockLength, ByteOrder, UnknownInterface, TooLong, TooManyInterfaces, NoMemory}
 
 abbrev pub fault_number : CaptureFault → ℕ
 fault_number NotACapture = 1
@@ -15,4 +15,5 @@ fault_number BlockLength = 8
 fault_number ByteOrder = 9
 fault_number UnknownInterface = 10
 fault_number TooLong = 11
-fault_number NoMemory = 12
+fault_number TooManyInterfaces = 12
+fault_number NoMemory = 13

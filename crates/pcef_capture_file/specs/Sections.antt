@@ -1,5 +1,5 @@
 -- Sections of a pcapng file and their interfaces (draft-ietf-opsawg-pcapng, clauses 4.1 and 4.2).
-use Rattle.std.specs.Prelude.{◌==◌, ◌&&◌, ◌||◌, nat_lt, Bool, List, [], ◌∷◌, ◌++◌, length, Result, Ok, Err, if◌then◌else◌}
+use Rattle.std.specs.Prelude.{ℕ, ◌==◌, ◌&&◌, ◌||◌, nat_lt, Bool, List, [], ◌∷◌, ◌++◌, length, Result, Ok, Err, if◌then◌else◌}
 use Rattle.pcef_decoding.specs.Readings.{◌>>=◌, or_fault}
 use Rattle.pcef_capture_file.specs.Blocks.{Framed}
 use Rattle.pcef_capture_file.specs.Links.{link_of}
@@ -44,11 +44,24 @@ interface_in block =
     else or_fault fault.LinkType (link_of (number block.endianness block.body 0 2))
     >>= (λ link. Ok (record { link = link; snap_len = number block.endianness block.body 4 4 }))
 
+-- as many interfaces as an obsolete packet block can name; a limit on memory (own choice)
+abbrev pub most_interfaces : ℕ
+most_interfaces = 65536
+
+-- one interface more, where there is room for it
+unfoldable pub noted : Standing → Interface → Result Standing CaptureFault
+noted s interface =
+    if nat_lt (length s.interfaces) most_interfaces
+    then Ok (record { endianness = s.endianness; interfaces = s.interfaces ++ interface ∷ [] })
+    else Err fault.TooManyInterfaces
+
+unfoldable pub described_in : Standing → Framed → Result Standing CaptureFault
+described_in s block = interface_in block >>= noted s
+
 -- Behind a section header, of type 0x0A0D0D0A, another section stands, behind an interface description, of
 -- type 1, one interface more; other blocks leave it as it is.
 unfoldable pub section_after : Standing → Framed → Result Standing CaptureFault
 section_after s block =
     if block.kind == 168627466 then section_in block
-    else if block.kind == 1
-    then interface_in block >>= (λ interface. Ok (record { endianness = s.endianness; interfaces = s.interfaces ++ interface ∷ [] }))
+    else if block.kind == 1 then described_in s block
     else Ok s

@@ -33,6 +33,8 @@ pub enum CaptureFault {
     UnknownInterface,
     /// A record has a packet of more than 262,144 octets, or a block has more than 16,777,216.
     TooLong,
+    /// A section describes more than 65,536 interfaces.
+    TooManyInterfaces,
     /// There is no memory left. It may come before any other.
     NoMemory,
 }
@@ -52,6 +54,7 @@ impl CaptureFault {
             CaptureFault::ByteOrder => "the order of the numbers of a section is unknown",
             CaptureFault::UnknownInterface => "the interface of a packet isn't described",
             CaptureFault::TooLong => "a record or a block is longer than is read",
+            CaptureFault::TooManyInterfaces => "a section describes more than 65536 interfaces",
             CaptureFault::NoMemory => "there is no memory left",
         }
     }
@@ -82,7 +85,8 @@ impl CaptureFault {
             CaptureFault::ByteOrder => 9,
             CaptureFault::UnknownInterface => 10,
             CaptureFault::TooLong => 11,
-            CaptureFault::NoMemory => 12,
+            CaptureFault::TooManyInterfaces => 12,
+            CaptureFault::NoMemory => 13,
         }
     }
 }

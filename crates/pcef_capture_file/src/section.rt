@@ -1,9 +1,9 @@
 //! The sections of pcapng files and their interfaces.
 
-ghost use Rattle.std.specs.Prelude.{◌≡◌, ◌≤◌, ◌⊎◌, [], ◌∷◌, ◌++◌, IfErr, IsOkAnd, OnOk, Ok as DueOk, Err as DueErr, length};
+ghost use Rattle.std.specs.Prelude.{◌≡◌, ◌≤◌, ◌⊎◌, IfErr, OnOk, Ok as DueOk, Err as DueErr, length};
 ghost use Rattle.pcef_capture_file.specs.declared.fault.CaptureFault.TheVariants.{NoMemory};
 ghost use Rattle.pcef_capture_file.specs.Blocks.{framed};
-ghost use Rattle.pcef_capture_file.specs.Sections.{interface_in, is_section_version, section_after, section_in, standing};
+ghost use Rattle.pcef_capture_file.specs.Sections.{described_in, interface_in, is_section_version, noted, section_after, section_in, standing};
 
 use crate::blocks::{Block, SECTION_HEADER};
 use crate::endianness::Endianness;
@@ -12,6 +12,9 @@ use crate::link::Link;
 
 /// The type of an interface description.
 const INTERFACE_DESCRIPTION: u32 = 1;
+
+/// The most interfaces of a section.
+const MAX_INTERFACES: usize = 65_536;
 
 /// What a section says of an interface.
 #[derive(Clone, Copy, Debug, PartialEq, Eq)]
@@ -78,21 +81,32 @@ impl Section {
         Ok(())
     }
 
-    /// Notes the interface of a description: `BlockLength`, `LinkType`, or `NoMemory`.
+    /// Notes an interface: `TooManyInterfaces`, or `NoMemory`.
+    #[tactic(auto, unfolding(crate::specs::Sections::noted))]
+    fn note(&mut self, interface: Interface) -> Result<(), CaptureFault>
+        ensures ok { OnOk result (noted (standing self.old) interface ≡ DueOk (standing self.new)) }
+        ensures fault { IfErr result (λ fault. (fault ≡ NoMemory)
+            ⊎ (noted (standing self.old) interface ≡ DueErr fault)) }
+    {
+        if self.interfaces.len() >= MAX_INTERFACES {
+            return Err(CaptureFault::TooManyInterfaces);
+        }
+        match self.interfaces.push(interface) {
+            Ok(()) => Ok(()),
+            Err(_) => Err(CaptureFault::NoMemory),
+        }
+    }
+
+    /// Notes the interface of a description: `BlockLength`, `LinkType`, `TooManyInterfaces`, or `NoMemory`.
+    #[tactic(auto, unfolding(crate::specs::Sections::described_in))]
     fn describe(&mut self, block: &Block<'_>) -> Result<(), CaptureFault>
-        ensures ok { OnOk result (IsOkAnd (interface_in (framed block.now)) (λ interface.
-            standing self.new ≡ record {
-              endianness = self.old.endianness;
-              interfaces = self.old.interfaces.items ++ interface ∷ [];
-            })) }
-        ensures fault { IfErr result (λ fault.
-            (fault ≡ NoMemory) ⊎ (interface_in (framed block.now) ≡ DueErr fault)) }
+        ensures ok { OnOk result (
+            described_in (standing self.old) (framed block.now) ≡ DueOk (standing self.new)) }
+        ensures fault { IfErr result (λ fault. (fault ≡ NoMemory)
+            ⊎ (described_in (standing self.old) (framed block.now) ≡ DueErr fault)) }
     {
         match interface_in(block) {
-            Ok(interface) => match self.interfaces.push(interface) {
-                Ok(()) => Ok(()),
-                Err(_) => Err(CaptureFault::NoMemory),
-            },
+            Ok(interface) => self.note(interface),
             Err(fault) => Err(fault),
         }
     }

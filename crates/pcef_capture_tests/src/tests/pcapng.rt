@@ -1,6 +1,7 @@
 //! Files of blocks: both orders, several sections and interfaces, and files that end anywhere.
 use pcef_capture_file::{CaptureFault, Endianness, Link, Packet, read_capture, read_pcapng};
-use std::alloc::Global;
+use std::alloc::{AllocError, Global};
+use std::test::Fail;
 
 /// A little-endian section with two interfaces, Ethernet and raw; an enhanced packet of the second, a block
 /// with names, a simple packet and an obsolete one of the first.
@@ -192,4 +193,29 @@ fn empty_blocks(rt: HostRuntime) {
 fn no_section_header(rt: HostRuntime) {
     let fault = read_pcapng(rt.alloc(), &LITTLE[28..]).err();
     assert_eq!(rt; fault, Some(CaptureFault::NotACapture));
+}
+
+/// Adds a section with so many Ethernet interfaces, and a packet of the one with this number.
+fn push_section(file: &mut Vec<u8>, interfaces: u32, number: u32) -> Result<(), AllocError> {
+    file.extend_from_slice(&LITTLE[..28])?;
+    for _ in 0..interfaces {
+        file.extend_from_slice(&LITTLE[28..48])?;
+    }
+    file.extend_from_slice(&LITTLE[68..76])?;
+    file.extend_from_slice(&number.to_le_bytes())?;
+    file.extend_from_slice(&LITTLE[80..104])
+}
+
+#[test]
+fn a_section_has_65536_interfaces_and_no_more(rt: HostRuntime) -> Result<(), Fail> {
+    let mut file = Vec::new(rt.alloc());
+    push_section(&mut file, 65_536, 65_535)?;
+    // Another section has interfaces of its own.
+    push_section(&mut file, 65_536, 0)?;
+    assert_eq!(rt; told(rt.alloc(), &file), (2, None));
+    push_section(&mut file, 65_537, 0)?;
+    let fault = CaptureFault::TooManyInterfaces;
+    assert_eq!(rt; told(rt.alloc(), &file), (2, Some(fault)));
+    assert_eq!(rt; fault.number(), 12);
+    Ok(())
 }
