@@ -16,7 +16,7 @@ pub fn tell_no_memory(rt: &HostRuntime) -> u8
 }
 
 /// Tells an error of clap, and gives the exit status: 3 for want of memory, 0 where help or the version was asked for, and
-/// else 2; or 4 where it can't be told.
+/// else 2; or 4 where it can't be told. What was asked for stands on standard output: that it can't be written is told.
 pub fn refuse(rt: &HostRuntime, error: &Error) -> u8
     ensures due { IsDue (kind_of error.now) result }
     ensures within { result ≤ 4 }
@@ -27,6 +27,10 @@ pub fn refuse(rt: &HostRuntime, error: &Error) -> u8
     match error.print(rt) {
         Ok(()) if error.use_stderr() => 2,
         Ok(()) => 0,
-        Err(_) => 4,
+        Err(_) if error.use_stderr() => 4,
+        Err(reason) => {
+            let _ = eprintln!(rt; "write fault\nStandard output: {reason}");
+            4
+        }
     }
 }
