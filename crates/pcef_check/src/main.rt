@@ -4,29 +4,30 @@
 //! `pcef_check PROFILE [LINES]` plays the lines on a session of the profile and its own, with the built-in catalog.
 #![tactic(auto)]
 
+mod advice;
 mod end;
 mod options;
 mod telling;
 
 ghost use Rattle.std.specs.Prelude.{◌≤◌};
 
-use clap::{Error, error};
 use end::End;
 use options::{Options, asked};
 use pcef_built_in::ShapedCatalog;
+use pcef_command_line::{gather, refuse, tell_no_memory};
 use pcef_findings::{FindFault, Finding, find};
 use pcef_model::Profile;
 use pcef_profile::{ReadProfileFault, explain, read_profile};
+use std::fs;
 use std::io::{self, BufWriter, ErrorKind, Read, Write};
 use std::process::ExitCode;
-use std::{env, fs};
 use telling::tell_all;
 
 /// The most bytes of a script.
 const MAX_SCRIPT: usize = 1_073_741_824;
 
 /// Where an error of the system ends the program.
-fn end_of(error: io::Error, other: End) -> End {
+fn end_of<'a>(error: io::Error, other: End<'a>) -> End<'a> {
     match error.kind() {
         ErrorKind::OutOfMemory => End::NoMemory,
         _ => other,
@@ -51,14 +52,20 @@ fn write(rt: &HostRuntime, file: &str, input: &[u8], findings: &[Finding]) -> io
 }
 
 /// Finds and tells what is wrong in lines.
-fn check_lines(rt: &HostRuntime, catalog: &ShapedCatalog, profile: Profile, file: &str) -> End {
+fn check_lines<'a>(
+    rt: &HostRuntime,
+    catalog: &ShapedCatalog,
+    profile: Profile,
+    file: &'a str,
+) -> End<'a> {
+    let name = if file == "-" { "Standard input" } else { file };
     let input = match read(rt, file) {
         Ok(input) => input,
-        Err(error) => return end_of(error, End::Read(error)),
+        Err(error) => return end_of(error, End::Read(name, error)),
     };
     if input.len() > MAX_SCRIPT {
         let message = "there are more than 1073741824 bytes";
-        return End::Read(io::Error::new(ErrorKind::InvalidData, message));
+        return End::Read(name, io::Error::new(ErrorKind::InvalidData, message));
     }
     let findings = match find(rt.alloc(), profile, catalog, &input) {
         Ok(findings) => findings,
@@ -84,10 +91,10 @@ fn tell_profile(
 }
 
 /// Finds and tells what is wrong in a profile, and then in lines.
-fn check(rt: &HostRuntime, catalog: &ShapedCatalog, options: Options<'_>) -> End {
+fn check<'a>(rt: &HostRuntime, catalog: &ShapedCatalog, options: Options<'a>) -> End<'a> {
     let text = match fs::read_to_string(rt, options.profile) {
         Ok(text) => text,
-        Err(error) => return end_of(error, End::Read(error)),
+        Err(error) => return end_of(error, End::Read(options.profile, error)),
     };
     let profile = match read_profile(rt.alloc(), text.as_str()) {
         Ok(profile) => profile,
@@ -106,16 +113,16 @@ fn check(rt: &HostRuntime, catalog: &ShapedCatalog, options: Options<'_>) -> End
 }
 
 /// Tells why the program ends early, and gives its exit status. That it can't be told changes nothing.
-fn told(rt: &HostRuntime, end: &End) -> u8
+fn told(rt: &HostRuntime, end: &End<'_>) -> u8
     ensures { result ≤ 4 }
 {
     match end {
         End::Clean | End::Found => {}
         End::NoMemory => {
-            let _ = eprintln!(rt; "want of memory");
+            let _ = tell_no_memory(rt);
         }
-        End::Read(error) => {
-            let _ = eprintln!(rt; "read fault\n{error}");
+        End::Read(file, error) => {
+            let _ = eprintln!(rt; "read fault\n{file}: {error}");
         }
         End::Write(error) => {
             let _ = eprintln!(rt; "write fault\nStandard output: {error}");
@@ -124,40 +131,13 @@ fn told(rt: &HostRuntime, end: &End) -> u8
     end.status()
 }
 
-/// The exit status of wrong arguments, of want of memory, or of a question for help or for the version.
-fn told_by(rt: &HostRuntime, error: &Error) -> u8
-    ensures { result ≤ 4 }
-{
-    if error.kind() == error::ErrorKind::OutOfMemory {
-        return told(rt, &End::NoMemory);
-    }
-    match error.print(rt) {
-        Ok(()) if error.use_stderr() => 2,
-        Ok(()) => 0,
-        Err(_) => 4,
-    }
-}
-
-/// The arguments, the program's name before them.
-fn words(rt: &HostRuntime) -> io::Result<Vec<String>> {
-    let mut words = Vec::new(rt.alloc());
-    for word in env::args(rt)? {
-        words.push(word)?;
-    }
-    Ok(words)
-}
-
 /// Does what the arguments ask for, and gives the exit status.
 fn status_with(rt: &HostRuntime, catalog: &ShapedCatalog) -> u8
     ensures { result ≤ 4 }
 {
-    let words = match words(rt) {
+    let words = match gather(rt) {
         Ok(words) => words,
-        Err(error) if error.kind() == ErrorKind::InvalidData => {
-            let _ = eprintln!(rt; "usage: an argument isn't UTF-8");
-            return 2;
-        }
-        Err(_) => return told(rt, &End::NoMemory),
+        Err(status) => return status,
     };
     match asked(rt.alloc(), words.as_slice()) {
         Ok(Some(options)) => told(rt, &check(rt, catalog, options)),
@@ -165,13 +145,13 @@ fn status_with(rt: &HostRuntime, catalog: &ShapedCatalog) -> u8
             let _ = eprintln!(rt; "usage: an option has no value");
             2
         }
-        Err(error) => told_by(rt, &error),
+        Err(error) => refuse(rt, &error),
     }
 }
 
 fn main(rt: HostRuntime) -> ExitCode {
     ExitCode::from(match ShapedCatalog::built_in(rt.alloc()) {
         Ok(catalog) => status_with(&rt, &catalog),
-        Err(_) => told(&rt, &End::NoMemory),
+        Err(_) => tell_no_memory(&rt),
     })
 }

@@ -1,5 +1,6 @@
 //! Tells what was found.
 
+use crate::advice::advice_on;
 use pcef_explain::explain;
 use pcef_findings::{Finding, Found};
 use std::alloc::Global;
@@ -17,7 +18,12 @@ fn tell<W: Write>(
     let answer = finding.answer.as_str();
     let fault = match finding.found {
         Found::Fault(fault) => fault,
-        found => return writeln!(writer, "{file}:{number}: {answer} {found}"),
+        found => {
+            return match advice_on(found) {
+                Some(advice) => writeln!(writer, "{file}:{number}: {answer} {found}: {advice}"),
+                None => writeln!(writer, "{file}:{number}: {answer} {found}"),
+            };
+        }
     };
     let explanation = explain(alloc, line, fault)?;
     let text = explanation.text.as_str();

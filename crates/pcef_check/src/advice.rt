@@ -1,0 +1,46 @@
+//! What to do about a refusal.
+
+use pcef_findings::Found;
+use pcef_model::{AttachFault, FlushRefusal, Refusal};
+
+/// What to do about the refusal of a command.
+fn on_command(refusal: Refusal) -> Option<&'static str> {
+    Some(match refusal {
+        Refusal::Terminated => "terminate is the last command of a session",
+        Refusal::Closed => "behind close only terminate is taken",
+        Refusal::CommandsFull => "raise commands in the profile",
+        Refusal::NameIsPredefined => "take another name, or activate the predefined rule",
+        Refusal::UnknownRule => "remove takes an active rule, and activate a predefined one",
+        Refusal::UnknownKey => "monitor it first",
+        Refusal::ZeroGrant => "a whole number from 1 on is expected",
+        Refusal::UnknownBearer => "show tells the bearers",
+        Refusal::DefaultBearer => "only another one can",
+        Refusal::WorkersAttached(_) => "finish or abandon them first",
+        Refusal::RulesFull => "remove one of the 64 that are active first",
+        Refusal::LevelClash => "take the level that the key has, or another key",
+        Refusal::KeysFull => "take one of the 8 that have one",
+        Refusal::UnknownQci => "take a standard one, or declare it in the profile",
+        Refusal::RatesMissing => "its QCI wants gbr, with up and down in bit/s",
+        Refusal::RatesNotWanted => "leave gbr out, or take a QCI with guaranteed bit rate",
+        Refusal::TooManyBearers => "take the qci and arp of a rule that is active",
+        Refusal::OverCapacityUp => "lower gbr.up, remove a rule, or raise capacity.up in the profile",
+        Refusal::OverCapacityDown => {
+            "lower gbr.down, remove a rule, or raise capacity.down in the profile"
+        }
+        Refusal::PoolUp | Refusal::PoolDown => "lower gbr, or remove a rule",
+        Refusal::NoMemory => return None,
+    })
+}
+
+/// What to do about what was found in a line that isn't at fault, if something can be done.
+pub(crate) fn advice_on(found: Found) -> Option<&'static str> {
+    match found {
+        Found::Command(refusal) => on_command(refusal),
+        Found::Attach(AttachFault::NoPlace) => Some("finish or abandon one of the 16 first"),
+        Found::Attach(AttachFault::Closed) => Some("attach before close"),
+        Found::Flush(FlushRefusal::NotAttached) => Some("attach it first"),
+        Found::Flush(FlushRefusal::RowsFull) => Some("raise rows in the profile"),
+        Found::NoWorker => Some("attach it first; the answer tells its number"),
+        _ => None,
+    }
+}
