@@ -7,8 +7,12 @@ use Rattle.std.proofs.lemmas.List.{flat_map_more}
 use Rattle.std.proofs.lemmas.List.Elements.{All-push}
 use Rattle.std.proofs.lemmas.Str.{IsUtf8-from_is_utf8, is_utf8-from_IsUtf8}
 use Rattle.serde_json.specs.Read.{read}
-use Rattle.pcef_figures.specs.declared.figures.Figures.{Figures}
-use Rattle.pcef_figures.specs.Collecting.{Tells, last_from}
+use Rattle.pcef_figures.specs.declared.collecting.Collected.{Collected}
+use Rattle.pcef_figures.specs.declared.figures.Rates.{Rates}
+use Rattle.std.proofs.Common.{append_assoc}
+use Rattle.pcef_figures.specs.Collecting.{Tells, generation_from, keys_from, last_from, rates_from, rules_from}
+use Rattle.pcef_figures.specs.Grants.{ToldKey, generation_behind, grants_in, keys_behind}
+use Rattle.pcef_figures.specs.Guarantees.{ToldRule, rates_in, rules_behind}
 use Rattle.pcef_figures.specs.Pairing.{Exchange, data_of, exchange_of, is_answered}
 use Rattle.pcef_figures.specs.Usages.{refusals_in, usage_in}
 use Rattle.pcef_figures.specs.private.Steps.{TellsNext}
@@ -29,12 +33,43 @@ last_more : (number : ℕ) (xs : List Exchange) (x : Exchange) → last_from num
 last_more number [] x = refl
 last_more number (y ∷ xs) x = last_more y.number xs x
 
-pub tells_more : (xs : List Exchange) (x : Exchange) (old new : Figures) → length xs + 1 < 2 ^ 64 → Tells xs old → TellsNext x old new → Tells (xs ++ x ∷ []) new
-tells_more xs x old new room tells next =
+generation_more : (generation : ℕ) (xs : List Exchange) (x : Exchange) → generation_from generation (xs ++ x ∷ []) ≡ generation_behind (generation_from generation xs) x.number x.answer
+generation_more generation [] x = refl
+generation_more generation (y ∷ xs) x = generation_more (generation_behind generation y.number y.answer) xs x
+
+keys_more : (keys : List ToldKey) (xs : List Exchange) (x : Exchange) → keys_from keys (xs ++ x ∷ []) ≡ keys_behind (keys_from keys xs) x.number x.answer
+keys_more keys [] x = refl
+keys_more keys (y ∷ xs) x = keys_more (keys_behind keys y.number y.answer) xs x
+
+pub rules_more : (rules : List ToldRule) (xs : List Exchange) (x : Exchange) → rules_from rules (xs ++ x ∷ []) ≡ rules_behind (rules_from rules xs) x.number x.line x.answer
+rules_more rules [] x = refl
+rules_more rules (y ∷ xs) x = rules_more (rules_behind rules y.number y.line y.answer) xs x
+
+rates_more : (rules : List ToldRule) (xs : List Exchange) (x : Exchange)
+    → rates_from rules (xs ++ x ∷ []) ≡ rates_from rules xs ++ rates_in (rules_from rules xs) x.number x.line x.answer
+rates_more rules [] x = append-nil _
+rates_more rules (y ∷ xs) x =
+    ap (λ t. rates_in rules y.number y.line y.answer ++ t) (rates_more (rules_behind rules y.number y.line y.answer) xs x)
+    ∙ sym (append_assoc (rates_in rules y.number y.line y.answer) (rates_from (rules_behind rules y.number y.line y.answer) xs)
+    (rates_in (rules_from (rules_behind rules y.number y.line y.answer) xs) x.number x.line x.answer))
+
+-- the rates of a line, behind the rules of those before it
+next_rates : (xs : List Exchange) (x : Exchange) (told new : List Rates) (active : List ToldRule)
+    → told ≡ rates_from [] xs → active ≡ rules_from [] xs → new ≡ told ++ rates_in active x.number x.line x.answer → new ≡ rates_from [] (xs ++ x ∷ [])
+next_rates xs x told new active before rules is =
+    is ∙ ap (λ t. t ++ rates_in active x.number x.line x.answer) before ∙ ap (λ r. rates_from [] xs ++ rates_in r x.number x.line x.answer) rules ∙ sym (rates_more [] xs x)
+
+pub tells_more : (xs : List Exchange) (x : Exchange) (old new : Collected)
+    → length xs + 1 < 2 ^ 64 → Tells xs old.figures → old.active ≡ rules_from [] xs → TellsNext x old new → Tells (xs ++ x ∷ []) new.figures
+tells_more xs x old new room tells active next =
     record {
       lines = omega (arith, next.lines, tells.lines, room, length-append xs (x ∷ []));
       last = next.last ∙ sym (last_more 0 xs x);
+      generation = next.generation ∙ ap (λ g. generation_behind g x.number x.answer) tells.generation ∙ sym (generation_more 0 xs x);
       usage = next.usage ∙ ap (λ t. t ++ usage_in x.number x.answer) tells.usage ∙ flat_map_more (λ y. usage_in y.number y.answer) [] xs x;
+      grants = next.grants ∙ ap (λ t. t ++ grants_in x.number x.line x.answer) tells.grants ∙ flat_map_more (λ y. grants_in y.number y.line y.answer) [] xs x;
+      keys = next.keys ∙ ap (λ t. keys_behind t x.number x.answer) tells.keys ∙ sym (keys_more [] xs x);
+      rates = next_rates xs x old.figures.rates.items new.figures.rates.items old.active tells.rates active next.rates;
       refusals = next.refused ∙ ap (λ t. t ++ refusals_in x.number x.answer) tells.refusals ∙ flat_map_more (λ y. refusals_in y.number y.answer) [] xs x;
       answered = All-push (λ y. is_answered y ≡ true) xs x tells.answered next.answered;
     }

@@ -1,3 +1,5 @@
 pub mod Exchanges
 pub mod LinesLeft
+pub mod NamedSums
+pub mod RuleLists
 pub mod UsageLists

@@ -5,6 +5,9 @@ use Rattle.serde_json.specs.Data.{Data}
 use Rattle.pcef_figures.specs.declared.collecting.CollectFault.{CollectFault}
 use Rattle.pcef_figures.specs.declared.collecting.CollectFault.TheVariants as fault
 use Rattle.pcef_figures.specs.declared.figures.Figures.{Figures}
+use Rattle.pcef_figures.specs.declared.figures.Rates.{Rates}
+use Rattle.pcef_figures.specs.Grants.{ToldGrant, ToldKey, generation_behind, grant_of, grants_in, key_of, keys_behind}
+use Rattle.pcef_figures.specs.Guarantees.{ToldRule, rates_in, rules_behind}
 use Rattle.pcef_figures.specs.Pairing.{Exchange, exchanges, filled, is_answered, is_told}
 use Rattle.pcef_figures.specs.Usages.{ToldUsage, ToldRefusal, refusal_in, refusal_of, refusals_in, told_of, usage_in}
 
@@ -19,11 +22,37 @@ usage_told xs = flat_map (λ x. usage_in x.number x.answer) xs
 abbrev pub refusals_told : List Exchange → List ToldRefusal
 refusals_told xs = flat_map (λ x. refusals_in x.number x.answer) xs
 
+abbrev pub grants_told : List Exchange → List ToldGrant
+grants_told xs = flat_map (λ x. grants_in x.number x.line x.answer) xs
+
+-- the keys by the last line of these that shows them, or else these
+abbrev pub keys_from : List ToldKey → List Exchange → List ToldKey
+keys_from keys [] = keys
+keys_from keys (x ∷ xs) = keys_from (keys_behind keys x.number x.answer) xs
+
+-- the newest generation that these lines tell, or else this one
+abbrev pub generation_from : ℕ → List Exchange → ℕ
+generation_from generation [] = generation
+generation_from generation (x ∷ xs) = generation_from (generation_behind generation x.number x.answer) xs
+
+-- the rules that are active behind these lines, and the rates that change with them, where these rules were active before
+abbrev pub rules_from : List ToldRule → List Exchange → List ToldRule
+rules_from rules [] = rules
+rules_from rules (x ∷ xs) = rules_from (rules_behind rules x.number x.line x.answer) xs
+
+abbrev pub rates_from : List ToldRule → List Exchange → List Rates
+rates_from rules [] = []
+rates_from rules (x ∷ xs) = rates_in rules x.number x.line x.answer ++ rates_from (rules_behind rules x.number x.line x.answer) xs
+
 -- these lines with their answers are told, and no others
 pub record Tells (xs : List Exchange) (f : Figures) : Type 0 where
   pub lines : f.lines ≡ length xs
   pub last : f.last ≡ last_from 0 xs
+  pub generation : f.generation ≡ generation_from 0 xs
   pub usage : map told_of f.usage.items ≡ usage_told xs
+  pub grants : map grant_of f.grants.items ≡ grants_told xs
+  pub keys : map key_of f.keys.items ≡ keys_from [] xs
+  pub rates : f.rates.items ≡ rates_from [] xs
   pub refusals : map refusal_of f.refused.items ≡ refusals_told xs
   pub answered : All (λ x. is_answered x ≡ true) xs
 

@@ -1,4 +1,6 @@
 pub mod Collecting
+pub mod Grants
+pub mod Guarantees
 pub mod Pairing
 pub mod Sums
 pub mod Usages

@@ -1,9 +1,9 @@
 -- Which line of a script has which answer (own choice).
-use Rattle.std.specs.Prelude.{ℕ, ◌==◌, ◌&&◌, ◌||◌, Bool, not, nat_le, is_some, List, length, map, filter, Option, Some, None, if◌then◌else◌}
+use Rattle.std.specs.Prelude.{ℕ, ◌==◌, ◌&&◌, ◌||◌, Bool, not, nat_le, is_some, List, codes, length, map, filter, Option, Some, None, if◌then◌else◌}
 use Rattle.std.specs.List.{enumerate_from, list_all, slice_split, zip}
 use Rattle.std.specs.Str.{is_utf8}
 use Rattle.serde_json.specs.Data.{Data, null}
-use Rattle.serde_json.specs.Find.{as_object}
+use Rattle.serde_json.specs.Find.{as_object, get}
 use Rattle.serde_json.specs.Read.{read}
 use Rattle.pcef_figures.specs.Usages.{refusal_in}
 
@@ -56,6 +56,9 @@ exchanges script answers = map exchange_of (zip (filled script) (filled answers)
 abbrev pub is_told : ℕ → Option Data → Data → Bool
 is_told number line answer = is_some (refusal_in number answer) || is_some line
 
--- and the answer is an object
+-- and the answer is an object, and no line of a script
+abbrev pub is_answer : Data → Bool
+is_answer d = is_some (as_object d) && not (is_some (get (codes "do") d))
+
 abbrev pub is_answered : Exchange → Bool
-is_answered x = is_some (as_object x.answer) && is_told x.number x.line x.answer
+is_answered x = is_answer x.answer && is_told x.number x.line x.answer

@@ -1,11 +1,12 @@
 //! What the answer to a line tells.
 
-ghost use Rattle.std.specs.Prelude.{◌≡◌, ◌++◌, IfOk, OnOk, map, option_map};
+ghost use Rattle.std.specs.Prelude.{◌≡◌, ◌++◌, IfOk, OnOk, codes, map, option_map};
 ghost use Rattle.serde_json.specs.View.{view};
-ghost use Rattle.pcef_figures.specs.Usages.{refusal_in, refusal_of, told_in, told_of, usage_in};
+ghost use Rattle.pcef_figures.specs.Grants.{grant_asked, grant_of, key_in, key_of, keys_in_all};
+ghost use Rattle.pcef_figures.specs.Usages.{list_in, refusal_in, refusal_of, told_in, told_of, usage_in};
 
 use crate::figures::{Grant, Handed, Judged, KeyState, Refused, Usage, Verdict};
-use crate::values::{list_at, number_at, owned, text_at};
+use crate::values::{asks, count_at, flag_at, list_at, number_at, owned, text_at};
 use serde_json::Value;
 use std::alloc::{AllocError, Global};
 
@@ -75,31 +76,46 @@ pub(crate) fn push_grant(
     grants: &mut Vec<Grant>,
     number: u64,
     line: &Value,
-) -> Result<(), AllocError> {
-    if let (Some("monitor"), Some(key), Some(octets)) = (
-        text_at(line, "do"),
-        text_at(line, "key"),
-        number_at(line, "grant"),
-    ) {
-        grants.push(Grant {
-            line: number,
-            key: String::from_str(alloc, key)?,
-            octets,
-        })?;
+) -> Result<(), AllocError>
+    ensures { OnOk result (map grant_of grants.new.items
+        ≡ map grant_of grants.old.items ++ grant_asked number (view line.now)) }
+{
+    if !asks(line, "monitor") {
+        return Ok(());
     }
+    let (Some(key), Some(octets)) = (text_at(line, "key"), number_at(line, "grant")) else {
+        return Ok(());
+    };
+    let key = String::from_str(alloc, key)?;
+    grants.push(Grant {
+        line: number,
+        key,
+        octets,
+    })?;
     Ok(())
 }
 
+/// How a key stands by an answer to `show`.
+fn key_in(alloc: Global, state: &Value) -> Result<KeyState, AllocError>
+    ensures { IfOk result (λ key. key_of key ≡ key_in (view state.now)) }
+{
+    let key = owned(alloc, text_at(state, "key"))?;
+    Ok(KeyState {
+        key,
+        is_on: flag_at(state, "on"),
+        reported: count_at(state, "reported"),
+        unreported: count_at(state, "unreported"),
+    })
+}
+
 /// The keys of an answer to `show`.
-pub(crate) fn keys_in(alloc: Global, answer: &Value) -> Result<Vec<KeyState>, AllocError> {
+pub(crate) fn keys_in(alloc: Global, answer: &Value) -> Result<Vec<KeyState>, AllocError>
+    ensures { IfOk result (λ keys. map key_of keys.items
+        ≡ keys_in_all (list_in (codes "keys") (view answer.now))) }
+{
     let mut keys = Vec::new(alloc);
-    for key in list_at(answer, "keys") {
-        keys.push(KeyState {
-            key: owned(alloc, text_at(key, "key"))?,
-            is_on: key.get("on").and_then(Value::as_bool) == Some(true),
-            reported: number_at(key, "reported").unwrap_or(0),
-            unreported: number_at(key, "unreported").unwrap_or(0),
-        })?;
+    for state in list_at(answer, "keys") {
+        keys.push(key_in(alloc, state)?)?;
     }
     Ok(keys)
 }

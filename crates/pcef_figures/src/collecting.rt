@@ -1,18 +1,20 @@
 //! Collects what a script and its answers tell.
 
-ghost use Rattle.std.specs.Prelude.{◌≡◌, ◌≤◌, ◌+◌, ◌-◌, ◌^◌, ◌++◌, IfErr, IfOk, IsOk, OnOk, length, map, min, option_map, true};
+ghost use Rattle.std.specs.Prelude.{◌≡◌, ◌≤◌, ◌+◌, ◌-◌, ◌^◌, ◌++◌, [], IfErr, IfOk, IsOk, OnOk, codes, length, map, min, option_map, true};
 ghost use Rattle.serde_json.specs.View.{view};
 ghost use Rattle.pcef_figures.specs.Collecting.{Fails, IsAtFault, IsBlank, IsUntold, Tells};
-ghost use Rattle.pcef_figures.specs.Pairing.{data_of, exchanges, filled, is_told};
-ghost use Rattle.pcef_figures.specs.Usages.{refusal_of, refusals_in, told_of, usage_in};
-ghost use Rattle.pcef_figures.specs.private.Steps.{IsOtherOrMemory, KeepsLines, TellsBeside, TellsNext, exchange_by};
+ghost use Rattle.pcef_figures.specs.Grants.{generation_behind, grant_of, grants_in, key_of, keys_behind};
+ghost use Rattle.pcef_figures.specs.Guarantees.{rates_commanded, rates_in, rules_behind, rules_commanded};
+ghost use Rattle.pcef_figures.specs.Pairing.{data_of, exchanges, filled, is_answer, is_told};
+ghost use Rattle.pcef_figures.specs.Usages.{number_in, refusal_of, refusals_in, told_of, usage_in};
+ghost use Rattle.pcef_figures.specs.private.Steps.{IsOtherOrMemory, KeepsLines, TellsBeside, TellsDone, TellsNext, exchange_by};
 
 use crate::answers::{keys_in, push_grant, push_judged, push_usage, refused_in};
 use crate::figures::{Figures, Handed};
 use crate::lines::packet_of;
 use crate::pairing::{Filled, Lines};
 use crate::rates::ActiveRules;
-use crate::values::{number_at, text_at};
+use crate::values::{count_at, number_at, text_at};
 use serde_json::Value;
 use std::alloc::{AllocError, AllocFailed, Global};
 use std::str;
@@ -60,8 +62,9 @@ impl<T: Drop> From<AllocFailed<T>> for CollectFault {
 pub struct Collected {
     /// What is told so far.
     pub figures: Figures,
+    /// The rules that are active.
+    pub active: ActiveRules,
     waiting: Vec<Handed>,
-    active: ActiveRules,
 }
 
 /// The JSON value of a line, if it is one.
@@ -81,7 +84,8 @@ fn value_of(alloc: Global, line: &[u8]) -> Result<Option<Value>, AllocError>
 impl Collected {
     /// Nothing is collected yet. Takes no memory.
     pub fn new(alloc: Global) -> Collected
-        ensures { IsBlank result.figures }
+        ensures figures { IsBlank result.figures }
+        ensures active { result.active ≡ [] }
     {
         Collected {
             figures: Figures::new(alloc),
@@ -101,22 +105,24 @@ impl Collected {
         figures
     }
 
-    /// Takes an accepted command.
-    fn take_command(
+    /// Tells what a line that was done asked for, and what its answer shows.
+    fn tell_done(
         &mut self,
         alloc: Global,
         number: u64,
         line: &Value,
         answer: &Value,
     ) -> Result<(), AllocError>
-        ensures { OnOk result (TellsBeside self.old.figures self.new.figures) }
+        ensures { OnOk result (TellsDone number (view line.now) (view answer.now) self.old self.new) }
     {
-        self.active.take(alloc, line, answer)?;
-        if let Some(generation) = number_at(answer, "generation") {
-            self.figures.generation = generation.max(self.figures.generation);
-            self.active.note(&mut self.figures.rates, generation)?;
+        let generation = count_at(answer, "generation");
+        self.figures.generation = self.figures.generation.max(generation);
+        push_grant(alloc, &mut self.figures.grants, number, line)?;
+        if answer.get("keys").is_some() {
+            self.figures.keys = keys_in(alloc, answer)?;
         }
-        push_grant(alloc, &mut self.figures.grants, number, line)
+        self.active
+            .take(alloc, &mut self.figures.rates, line, answer)
     }
 
     /// Takes what a worker did, and tells whether the packets are those of the verdicts.
@@ -128,7 +134,8 @@ impl Collected {
         line: &Value,
         answer: &Value,
     ) -> Result<bool, AllocError>
-        ensures { OnOk result (TellsBeside self.old.figures self.new.figures) }
+        ensures figures { OnOk result (TellsBeside self.old.figures self.new.figures) }
+        ensures active { OnOk result (self.new.active ≡ self.old.active) }
     {
         match text_at(line, "do") {
             Some("take") => {
@@ -161,25 +168,17 @@ impl Collected {
         line: &Value,
         answer: &Value,
     ) -> Result<(), CollectFault>
-        ensures told { OnOk result (TellsBeside self.old.figures self.new.figures) }
+        ensures told { OnOk result (TellsDone number (view line.now) (view answer.now) self.old self.new) }
         ensures fault { IfErr result (IsOtherOrMemory number) }
     {
-        if answer.get("keys").is_some() {
-            self.figures.keys = keys_in(alloc, answer)?;
+        self.tell_done(alloc, number, line, answer)?;
+        let Some(worker) = number_at(line, "worker") else {
             return Ok(());
-        }
-        match number_at(line, "worker") {
-            Some(worker) => {
-                if self.take_step(alloc, number, worker, line, answer)? {
-                    Ok(())
-                } else {
-                    Err(CollectFault::OtherPackets(number))
-                }
-            }
-            None => {
-                self.take_command(alloc, number, line, answer)?;
-                Ok(())
-            }
+        };
+        if self.take_step(alloc, number, worker, line, answer)? {
+            Ok(())
+        } else {
+            Err(CollectFault::OtherPackets(number))
         }
     }
 
@@ -194,6 +193,17 @@ impl Collected {
         ensures refused { OnOk result (map refusal_of self.new.figures.refused.items
             ≡ map refusal_of self.old.figures.refused.items ++ refusals_in number (view answer.now)) }
         ensures beside { OnOk result (KeepsLines self.old.figures self.new.figures) }
+        ensures generation { OnOk result (self.new.figures.generation
+            ≡ generation_behind self.old.figures.generation number (view answer.now)) }
+        ensures grants { OnOk result (map grant_of self.new.figures.grants.items
+            ≡ map grant_of self.old.figures.grants.items
+            ++ grants_in number (option_map (λ l. view l.now) line.entry) (view answer.now)) }
+        ensures keys { OnOk result (map key_of self.new.figures.keys.items
+            ≡ keys_behind (map key_of self.old.figures.keys.items) number (view answer.now)) }
+        ensures rates { OnOk result (self.new.figures.rates.items ≡ self.old.figures.rates.items
+            ++ rates_in self.old.active number (option_map (λ l. view l.now) line.entry) (view answer.now)) }
+        ensures active { OnOk result (self.new.active
+            ≡ rules_behind self.old.active number (option_map (λ l. view l.now) line.entry) (view answer.now)) }
         ensures answered { OnOk result (is_told number (option_map (λ l. view l.now) line.entry) (view answer.now) ≡ true) }
         ensures fault { IfErr result (IsUntold number (option_map (λ l. view l.now) line.entry) (view answer.now)) }
     {
@@ -220,8 +230,19 @@ impl Collected {
     ) -> Result<(), CollectFault>
         ensures lines { OnOk result (self.new.figures.lines ≡ min (self.old.figures.lines + 1) (2 ^ 64 - 1)) }
         ensures last { OnOk result (self.new.figures.last ≡ number) }
+        ensures generation { OnOk result (self.new.figures.generation
+            ≡ generation_behind self.old.figures.generation number (view answer.now)) }
         ensures usage { OnOk result (map told_of self.new.figures.usage.items
             ≡ map told_of self.old.figures.usage.items ++ usage_in number (view answer.now)) }
+        ensures grants { OnOk result (map grant_of self.new.figures.grants.items
+            ≡ map grant_of self.old.figures.grants.items
+            ++ grants_in number (option_map (λ l. view l.now) line.entry) (view answer.now)) }
+        ensures keys { OnOk result (map key_of self.new.figures.keys.items
+            ≡ keys_behind (map key_of self.old.figures.keys.items) number (view answer.now)) }
+        ensures rates { OnOk result (self.new.figures.rates.items ≡ self.old.figures.rates.items
+            ++ rates_in self.old.active number (option_map (λ l. view l.now) line.entry) (view answer.now)) }
+        ensures active { OnOk result (self.new.active
+            ≡ rules_behind self.old.active number (option_map (λ l. view l.now) line.entry) (view answer.now)) }
         ensures refused { OnOk result (map refusal_of self.new.figures.refused.items
             ≡ map refusal_of self.old.figures.refused.items ++ refusals_in number (view answer.now)) }
         ensures answered { OnOk result (is_told number (option_map (λ l. view l.now) line.entry) (view answer.now) ≡ true) }
@@ -234,6 +255,13 @@ impl Collected {
     }
 }
 
+/// Whether a value may be an answer: an object, and no line of a script.
+fn is_answer(value: &Value) -> bool
+    ensures { result ≡ is_answer (view value.now) }
+{
+    value.is_object() && value.get("do").is_none()
+}
+
 /// Takes the octets of a line with those of its answer.
 fn take_octets(
     alloc: Global,
@@ -241,11 +269,11 @@ fn take_octets(
     line: Filled<'_>,
     answer: Filled<'_>,
 ) -> Result<(), CollectFault>
-    ensures told { OnOk result (TellsNext (exchange_by line.entry answer.entry) collected.old.figures collected.new.figures) }
+    ensures told { OnOk result (TellsNext (exchange_by line.entry answer.entry) collected.old collected.new) }
     ensures fault { IfErr result (λ fault. IsAtFault fault (exchange_by line.entry answer.entry)) }
 {
     let answer = match value_of(alloc, answer.octets)? {
-        Some(answer) if answer.is_object() => answer,
+        Some(answer) if is_answer(&answer) => answer,
         _ => return Err(CollectFault::NoAnswer(line.number)),
     };
     let told = value_of(alloc, line.octets)?;

@@ -1,7 +1,7 @@
 //! What a script and its answers tell of a session: verdicts, octets of keys, guaranteed rates, refusals.
 //!
-//! Its contracts tell: which line has which answer, which reports of usage, refusals and faults come with it, and exact
-//! sums of octets.
+//! Its contracts tell: which line has which answer; which reports of usage, grants, states of keys, guaranteed rates,
+//! refusals and faults come with it; and exact sums of octets.
 //!
 //! In the order of reading: `figures`, `sums`, `values`, `answers`, `lines`, `pairing`, `rates`, `collecting`.
 #![tactic(auto)]
@@ -17,4 +17,5 @@ mod values;
 
 pub use collecting::{CollectFault, Collected, collect};
 pub use figures::{Figures, Grant, Handed, Judged, KeyState, Rates, Refused, Usage, Verdict};
-pub use sums::{octets_judged, octets_of};
+pub use rates::ActiveRules;
+pub use sums::{Sums, octets_by_key, octets_by_rule, octets_judged, octets_of, sum_of};

@@ -1,9 +1,20 @@
 //! The guaranteed rates of bearers, by the rules that were made active.
 
+ghost use Rattle.std.specs.Prelude.{◌≡◌, ℕ, List, [], ◌<◌, ◌++◌, ◌==◌, OnOk, IfOk, codes, not, option_map, slice_index, slice_index_or, string_bytes};
+ghost use Rattle.std.specs.Str.{bytes_eq};
+ghost use Rattle.serde_json.specs.View.{view};
+ghost use Rattle.pcef_figures.specs.Guarantees.{ToldRule, activated, bearers, change_of, changes, down_of, entered, installed, left_by, rate_in, rates_commanded, rule_in, rules_by, rules_commanded, up_of, without};
+ghost use Rattle.pcef_figures.specs.Usages.{number_in};
+ghost use Rattle.pcef_figures.specs.private.Rules.{rule_of};
+
 use crate::figures::Rates;
-use crate::values::{number_at, owned, text_at};
+use crate::values::{asks, count_at, number_at, owned, text_at};
 use serde_json::Value;
 use std::alloc::{AllocError, Global};
+use std::marker::Model;
+
+/// The ids of bearers (TS 24.007, clause 11.2.3.1.5).
+const BEARERS: [u64; 11] = [5, 6, 7, 8, 9, 10, 11, 12, 13, 14, 15];
 
 /// A rule that is active.
 #[derive(Drop)]
@@ -14,121 +25,225 @@ struct Active {
     down: u64,
 }
 
-/// The rules that are active.
+/// The rules that lines that were done made active, in the order in which they became it.
 #[derive(Drop)]
-pub(crate) struct ActiveRules {
+pub struct ActiveRules {
     rules: Vec<Active>,
 }
 
-fn rate(rule: &Value, direction: &str) -> u64 {
-    match rule.get("gbr").and_then(|gbr| number_at(gbr, direction)) {
-        Some(rate) => rate,
+impl Model for ActiveRules {
+    ghost use Rattle.std.specs.Prelude.{List, map};
+    ghost use Rattle.pcef_figures.specs.Guarantees.{ToldRule};
+    ghost use Rattle.pcef_figures.specs.private.Rules.{rule_of};
+
+    ghost Value = { List ToldRule };
+
+    ghost view = { λ s. map rule_of s.rules.items };
+}
+
+/// The rate in a direction that a rule asks for, or 0.
+fn rate(rule: &Value, direction: &str) -> u64
+    ensures { result ≡ rate_in direction.now (view rule.now) }
+{
+    match rule.get("gbr") {
+        Some(gbr) => count_at(gbr, direction),
         None => 0,
     }
 }
 
-/// The last rates of a bearer that are told.
-fn last_of(rates: &[Rates], bearer: u64) -> (u64, u64) {
-    match rates.iter().rev().find(|rates| rates.bearer == bearer) {
-        Some(rates) => (rates.up, rates.down),
-        None => (0, 0),
-    }
+/// A rule that was installed.
+fn rule_in(alloc: Global, rule: &Value, bearer: u64) -> Result<Active, AllocError>
+    ensures { IfOk result (λ active. rule_of active ≡ rule_in (view rule.now) bearer) }
+{
+    let name = owned(alloc, text_at(rule, "name"))?;
+    Ok(Active {
+        name,
+        bearer,
+        up: rate(rule, "up"),
+        down: rate(rule, "down"),
+    })
 }
 
 impl ActiveRules {
     /// None is. Takes no memory.
-    pub(crate) fn new(alloc: Global) -> ActiveRules {
+    pub(crate) fn new(alloc: Global) -> ActiveRules
+        ensures { result ≡ [] }
+    {
         ActiveRules {
             rules: Vec::new(alloc),
         }
     }
 
-    fn forget(&mut self, name: &str) {
-        self.rules.retain(|rule| rule.name.as_str() != name);
+    fn forget(&mut self, name: &str)
+        ensures { self.new ≡ without name.now self.old }
+    {
+        self.rules.retain(
+            |rule: &Active| -> bool
+                ensures { result ≡ not (bytes_eq (string_bytes rule.now.name) name.entry.now) }
+            { rule.name.as_str() != name },
+        );
     }
 
-    fn enter(
-        &mut self,
-        alloc: Global,
-        name: &str,
-        bearer: u64,
-        up: u64,
-        down: u64,
-    ) -> Result<(), AllocError> {
-        self.forget(name);
-        let name = String::from_str(alloc, name)?;
-        self.rules.push(Active {
-            name,
-            bearer,
-            up,
-            down,
-        })?;
+    fn enter(&mut self, rule: Active) -> Result<(), AllocError>
+        ensures { OnOk result (self.new ≡ entered self.old (rule_of rule)) }
+    {
+        self.forget(rule.name.as_str());
+        self.rules.push(rule)?;
         Ok(())
     }
 
-    /// Does what an accepted line does to the active rules.
-    pub(crate) fn take(
+    fn install(
         &mut self,
         alloc: Global,
-        line: &Value,
-        answer: &Value,
-    ) -> Result<(), AllocError> {
-        let bearer = number_at(answer, "bearer");
-        let name = match text_at(line, "name") {
-            Some(name) => name,
-            None => "",
-        };
-        match (text_at(line, "do"), line.get("rule"), bearer) {
-            (Some("install"), Some(rule), Some(bearer)) => {
-                let name = owned(alloc, text_at(rule, "name"))?;
-                let (up, down) = (rate(rule, "up"), rate(rule, "down"));
-                self.enter(alloc, name.as_str(), bearer, up, down)
-            }
-            (Some("activate"), _, Some(bearer)) => self.enter(alloc, name, bearer, 0, 0),
-            (Some("remove"), _, _) => {
-                self.forget(name);
-                Ok(())
-            }
-            (Some("lose"), _, _) => {
-                let lost = number_at(line, "bearer");
-                self.rules.retain(|rule| Some(rule.bearer) != lost);
-                Ok(())
-            }
-            (Some("close" | "terminate"), _, _) => {
-                self.rules.clear();
-                Ok(())
+        rule: Option<&Value>,
+        bearer: Option<u64>,
+    ) -> Result<(), AllocError>
+        ensures { OnOk result (self.new
+            ≡ installed self.old (option_map (λ r. view r.now) rule.entry) bearer) }
+    {
+        match (rule, bearer) {
+            (Some(rule), Some(bearer)) => {
+                let rule = rule_in(alloc, rule, bearer)?;
+                self.enter(rule)
             }
             _ => Ok(()),
         }
     }
 
-    /// The sums of the rates of a bearer's rules.
-    fn sums(&self, bearer: u64) -> (u64, u64) {
-        let mut sums = (0u64, 0u64);
-        for rule in &self.rules {
-            if rule.bearer == bearer {
-                sums = (
-                    sums.0.saturating_add(rule.up),
-                    sums.1.saturating_add(rule.down),
-                );
-            }
+    fn activate(&mut self, name: String, bearer: Option<u64>) -> Result<(), AllocError>
+        ensures { OnOk result (self.new ≡ activated self.old (string_bytes name) bearer) }
+    {
+        match bearer {
+            Some(bearer) => self.enter(Active {
+                name,
+                bearer,
+                up: 0,
+                down: 0,
+            }),
+            None => Ok(()),
         }
-        sums
     }
 
-    /// Adds the rates of each bearer that changed with a generation.
-    pub(crate) fn note(&self, rates: &mut Vec<Rates>, generation: u64) -> Result<(), AllocError> {
-        for bearer in 5u64..16 {
-            let (up, down) = self.sums(bearer);
-            if (up, down) != last_of(rates.as_slice(), bearer) {
-                rates.push(Rates {
-                    generation,
-                    bearer,
-                    up,
-                    down,
-                })?;
-            }
+    fn lose(&mut self, bearer: Option<u64>)
+        ensures { self.new ≡ left_by self.old bearer }
+    {
+        if let Some(bearer) = bearer {
+            self.rules.retain(
+                |rule: &Active| -> bool
+                    ensures { result ≡ not (rule.now.bearer == bearer) }
+                { rule.bearer != bearer },
+            );
+        }
+    }
+
+    /// Does what a command that was done does to the active rules.
+    fn command(&mut self, alloc: Global, line: &Value, answer: &Value) -> Result<(), AllocError>
+        ensures { OnOk result (self.new ≡ rules_by self.old (view line.now) (view answer.now)) }
+    {
+        let bearer = number_at(answer, "bearer");
+        let name = owned(alloc, text_at(line, "name"))?;
+        if asks(line, "install") {
+            return self.install(alloc, line.get("rule"), bearer);
+        }
+        if asks(line, "activate") {
+            return self.activate(name, bearer);
+        }
+        if asks(line, "remove") {
+            self.forget(name.as_str());
+        } else if asks(line, "lose") {
+            self.lose(number_at(line, "bearer"));
+        } else if asks(line, "close") || asks(line, "terminate") {
+            self.rules.clear();
         }
         Ok(())
+    }
+
+    /// The sums of the rates of a bearer's rules, up and down, 2^64 - 1 at most.
+    fn sums(&self, bearer: u64) -> (u64, u64)
+        ensures up { result.0 ≡ up_of self.now bearer }
+        ensures down { result.1 ≡ down_of self.now bearer }
+    {
+        let mut up = 0u64;
+        let mut down = 0u64;
+        for rule in &self.rules {
+            if rule.bearer == bearer {
+                up = up.saturating_add(rule.up);
+                down = down.saturating_add(rule.down);
+            }
+        }
+        (up, down)
+    }
+
+    /// The sums of the rates of each bearer's rules.
+    fn all_sums(&self) -> [(u64, u64); 11]
+        ensures { (k : ℕ) → k < 11 → slice_index_or result k (0, 0)
+            ≡ (up_of self.now (slice_index bearers k), down_of self.now (slice_index bearers k)) }
+    {
+        let mut all = [(0u64, 0u64); 11];
+        for place in 0..11usize {
+            all[place] = self.sums(BEARERS[place]);
+        }
+        all
+    }
+
+    /// Adds the rates of a bearer, if they aren't these any more.
+    fn push_change(
+        &self,
+        rates: &mut Vec<Rates>,
+        generation: u64,
+        bearer: u64,
+        before: (u64, u64),
+    ) -> Result<(), AllocError>
+        ensures { OnOk result ((rules : List ToldRule) → before ≡ (up_of rules bearer, down_of rules bearer)
+            → rates.new.items ≡ rates.old.items ++ change_of generation rules self.now bearer) }
+    {
+        let (up, down) = self.sums(bearer);
+        if before.0 != up || before.1 != down {
+            rates.push(Rates {
+                generation,
+                bearer,
+                up,
+                down,
+            })?;
+        }
+        Ok(())
+    }
+
+    /// Adds the rates of each bearer whose sums aren't these any more.
+    fn push_changes(
+        &self,
+        rates: &mut Vec<Rates>,
+        generation: u64,
+        before: &[(u64, u64); 11],
+    ) -> Result<(), AllocError>
+        ensures { OnOk result ((rules : List ToldRule)
+            → ((k : ℕ) → k < 11 → slice_index_or before.now k (0, 0) ≡ (up_of rules (slice_index bearers k), down_of rules (slice_index bearers k)))
+            → rates.new.items ≡ rates.old.items ++ changes generation rules self.now) }
+    {
+        for place in 0..11usize {
+            self.push_change(rates, generation, BEARERS[place], before[place])?;
+        }
+        Ok(())
+    }
+
+    /// Does what a line that was done does to the active rules, and adds the rates that change with it.
+    pub(crate) fn take(
+        &mut self,
+        alloc: Global,
+        rates: &mut Vec<Rates>,
+        line: &Value,
+        answer: &Value,
+    ) -> Result<(), AllocError>
+        ensures rules { OnOk result (self.new
+            ≡ rules_commanded self.old (number_in (codes "generation") (view answer.now)) (view line.now) (view answer.now)) }
+        ensures rates { OnOk result (rates.new.items ≡ rates.old.items
+            ++ rates_commanded self.old (number_in (codes "generation") (view answer.now)) (view line.now) (view answer.now)) }
+    {
+        let Some(generation) = number_at(answer, "generation") else {
+            return Ok(());
+        };
+        let before = self.all_sums();
+        self.command(alloc, line, answer)?;
+        self.push_changes(rates, generation, &before)
     }
 }

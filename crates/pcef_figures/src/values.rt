@@ -2,6 +2,7 @@
 
 ghost use Rattle.std.specs.Prelude.{◌≡◌, IfOk, option_map, string_bytes};
 ghost use Rattle.serde_json.specs.View.{items_view, view};
+ghost use Rattle.pcef_figures.specs.Grants.{asks, flag_in, or_zero};
 ghost use Rattle.pcef_figures.specs.Usages.{list_in, number_in, or_empty, text_in};
 
 use serde_json::Value;
@@ -19,6 +20,36 @@ pub(crate) fn number_at(object: &Value, key: &str) -> Option<u64>
     ensures { result ≡ number_in key.now (view object.now) }
 {
     object.get(key).and_then(Value::as_u64)
+}
+
+/// A member's whole number, or 0 where it has none.
+pub(crate) fn count_at(object: &Value, key: &str) -> u64
+    ensures { result ≡ or_zero (number_in key.now (view object.now)) }
+{
+    match number_at(object, key) {
+        Some(number) => number,
+        None => 0,
+    }
+}
+
+/// Whether a member is true.
+pub(crate) fn flag_at(object: &Value, key: &str) -> bool
+    ensures { result ≡ flag_in key.now (view object.now) }
+{
+    match object.get(key).and_then(Value::as_bool) {
+        Some(flag) => flag,
+        None => false,
+    }
+}
+
+/// Whether a line asks for this.
+pub(crate) fn asks(line: &Value, word: &str) -> bool
+    ensures { result ≡ asks word.now (view line.now) }
+{
+    match text_at(line, "do") {
+        Some(text) => text == word,
+        None => false,
+    }
 }
 
 /// A member's list.

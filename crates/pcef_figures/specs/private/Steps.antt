@@ -1,11 +1,16 @@
 -- What a line with its answer adds to what is told: for private clauses.
-use Rattle.std.specs.Prelude.{ℕ, ◌≡◌, ◌+◌, ◌-◌, ◌^◌, ◌++◌, true, map, min}
+use Rattle.std.specs.Prelude.{ℕ, ◌≡◌, ◌+◌, ◌-◌, ◌^◌, ◌++◌, true, codes, map, max, min}
+use Rattle.serde_json.specs.Data.{Data}
+use Rattle.serde_json.specs.Find.{get}
 use Rattle.pcef_figures.specs.declared.collecting.CollectFault.{CollectFault}
 use Rattle.pcef_figures.specs.declared.collecting.CollectFault.TheVariants as fault
+use Rattle.pcef_figures.specs.declared.collecting.Collected.{Collected}
 use Rattle.pcef_figures.specs.declared.figures.Figures.{Figures}
 use Rattle.pcef_figures.specs.declared.pairing.Filled.{Filled}
+use Rattle.pcef_figures.specs.Grants.{generation_behind, grant_asked, grant_of, grants_in, key_of, keys_behind, keys_shown, or_zero}
+use Rattle.pcef_figures.specs.Guarantees.{rates_commanded, rates_in, rules_behind, rules_commanded}
 use Rattle.pcef_figures.specs.Pairing.{Exchange, exchange_of, is_answered}
-use Rattle.pcef_figures.specs.Usages.{refusal_of, refusals_in, told_of, usage_in}
+use Rattle.pcef_figures.specs.Usages.{number_in, refusal_of, refusals_in, told_of, usage_in}
 
 abbrev pub exchange_by : Filled → Filled → Exchange
 exchange_by line answer = exchange_of ((line.number, line.octets.now), (answer.number, answer.octets.now))
@@ -16,12 +21,28 @@ pub record KeepsLines (old new : Figures) : Type 0 where
   pub last : new.last ≡ old.last
   pub usage : new.usage ≡ old.usage
 
--- and refusals too
+-- packets are told, and nothing else
 pub record TellsBeside (old new : Figures) : Type 0 where
   pub lines : new.lines ≡ old.lines
   pub last : new.last ≡ old.last
+  pub generation : new.generation ≡ old.generation
   pub usage : new.usage ≡ old.usage
+  pub grants : new.grants ≡ old.grants
+  pub keys : new.keys ≡ old.keys
+  pub rates : new.rates ≡ old.rates
   pub refused : new.refused ≡ old.refused
+
+-- what a line that was done asked for is told, and what its answer shows
+pub record TellsDone (number : ℕ) (line answer : Data) (old new : Collected) : Type 0 where
+  pub lines : new.figures.lines ≡ old.figures.lines
+  pub last : new.figures.last ≡ old.figures.last
+  pub generation : new.figures.generation ≡ max old.figures.generation (or_zero (number_in (codes "generation") answer))
+  pub usage : new.figures.usage ≡ old.figures.usage
+  pub grants : map grant_of new.figures.grants.items ≡ map grant_of old.figures.grants.items ++ grant_asked number line
+  pub keys : map key_of new.figures.keys.items ≡ keys_shown (map key_of old.figures.keys.items) (get (codes "keys") answer) answer
+  pub rates : new.figures.rates.items ≡ old.figures.rates.items ++ rates_commanded old.active (number_in (codes "generation") answer) line answer
+  pub refused : new.figures.refused ≡ old.figures.refused
+  pub active : new.active ≡ rules_commanded old.active (number_in (codes "generation") answer) line answer
 
 abbrev pub IsOtherOrMemory : ℕ → CollectFault → Type 0
 IsOtherOrMemory number (fault.NoAnswer n) = ⊥
@@ -30,9 +51,14 @@ IsOtherOrMemory number fault.MoreAnswers = ⊥
 IsOtherOrMemory number fault.NoMemory = Unit {0}
 
 -- a line with its answer is told
-pub record TellsNext (x : Exchange) (old new : Figures) : Type 0 where
-  pub lines : new.lines ≡ min (old.lines + 1) (2 ^ 64 - 1)
-  pub last : new.last ≡ x.number
-  pub usage : map told_of new.usage.items ≡ map told_of old.usage.items ++ usage_in x.number x.answer
-  pub refused : map refusal_of new.refused.items ≡ map refusal_of old.refused.items ++ refusals_in x.number x.answer
+pub record TellsNext (x : Exchange) (old new : Collected) : Type 0 where
+  pub lines : new.figures.lines ≡ min (old.figures.lines + 1) (2 ^ 64 - 1)
+  pub last : new.figures.last ≡ x.number
+  pub generation : new.figures.generation ≡ generation_behind old.figures.generation x.number x.answer
+  pub usage : map told_of new.figures.usage.items ≡ map told_of old.figures.usage.items ++ usage_in x.number x.answer
+  pub grants : map grant_of new.figures.grants.items ≡ map grant_of old.figures.grants.items ++ grants_in x.number x.line x.answer
+  pub keys : map key_of new.figures.keys.items ≡ keys_behind (map key_of old.figures.keys.items) x.number x.answer
+  pub rates : new.figures.rates.items ≡ old.figures.rates.items ++ rates_in old.active x.number x.line x.answer
+  pub refused : map refusal_of new.figures.refused.items ≡ map refusal_of old.figures.refused.items ++ refusals_in x.number x.answer
   pub answered : is_answered x ≡ true
+  pub active : new.active ≡ rules_behind old.active x.number x.line x.answer

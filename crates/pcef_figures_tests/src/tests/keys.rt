@@ -1,5 +1,5 @@
 //! Grants and reports of monitoring keys.
-use pcef_figures::{Figures, collect, octets_of};
+use pcef_figures::{Figures, collect, octets_by_key, octets_of, sum_of};
 use std::alloc::Global;
 use std::test::Fail;
 
@@ -89,14 +89,27 @@ fn keys_have_their_grants_reports_and_last_state(rt: HostRuntime) -> Result<(), 
 fn sums_of_octets_are_exact_below_2_to_the_64(rt: HostRuntime) -> Result<(), Fail> {
     let figures = collect(rt.alloc(), LINES, ANSWERS)?;
     let usage = figures.usage.as_slice();
-    assert_eq!(rt; octets_of(usage, "vid"), Some(18_446_744_073_709_551_615));
-    assert_eq!(rt; octets_of(usage, "web"), Some(5));
-    assert_eq!(rt; octets_of(usage, "full"), Some(0));
+    let sums = octets_by_key(rt.alloc(), usage)?;
+    for (key, octets) in &[
+        ("vid", 18_446_744_073_709_551_615u64),
+        ("web", 5),
+        ("full", 0),
+    ] {
+        assert_eq!(rt; octets_of(usage, key), Some(*octets));
+        assert_eq!(rt; sum_of(&sums, key), Some(*octets));
+    }
     let more =
         b"{\"reports\":[{\"key\":\"vid\",\"octets\":18446744073709551615},{\"key\":\"vid\",\"octets\":1},{\"key\":\"web\",\"octets\":2}]}";
     let figures = collect(rt.alloc(), b"[]", more)?;
     let usage = figures.usage.as_slice();
-    assert_eq!(rt; octets_of(usage, "vid"), None);
-    assert_eq!(rt; octets_of(usage, "web"), Some(2));
+    let sums = octets_by_key(rt.alloc(), usage)?;
+    assert_eq!(rt;
+        (octets_of(usage, "vid"), sum_of(&sums, "vid")),
+        (None, None)
+    );
+    assert_eq!(rt;
+        (octets_of(usage, "web"), sum_of(&sums, "web")),
+        (Some(2), Some(2))
+    );
     Ok(())
 }

@@ -82,6 +82,7 @@ fn what_is_no_answer_is_told_with_its_line(rt: HostRuntime) {
         b"ok".as_slice(),
         b"[]",
         b"null",
+        b"{\"do\":\"attach\"}",
         b"{\"ok\":true",
         b"{\"ok\":true}}",
         b"\"\xff\"",

@@ -1,15 +1,17 @@
 use Rattle.std.proofs.Common.{rules, ◌≡◌, ◌∙◌, ◌+◌, ◌++◌, [], ◌∷◌, length, length-append, append_assoc, map, refl, sym, ap, arith}
 use Rattle.std.specs.List.{zip}
 use Rattle.pcef_figures.specs.Pairing.{exchange_of}
+use Rattle.pcef_figures.specs.Grants.{grant_of, key_of}
 use Rattle.pcef_figures.specs.Usages.{refusal_of, told_of}
 use Rattle.pcef_figures.specs.private.Lines.{left}
 use Rattle.pcef_figures.specs.private.Steps.{exchange_by}
-use Rattle.pcef_figures.proofs.Exchanges.{exchanges_next, tells_more}
+use Rattle.pcef_figures.specs.Guarantees.{rules_behind}
+use Rattle.pcef_figures.proofs.Exchanges.{exchanges_next, rules_more, tells_more}
 use Rattle.pcef_figures.proofs.collecting.collect.Goals as goal
 
 pub loop-line-init : goal.loop-line-init
 loop-line-init c =
-    let blank = c.new-collected.ensures in
+    let blank = c.new-collected.ensures.figures in
     let script = c.of-script.ensures in
     let answers = c.of-answers.ensures in
     record {
@@ -18,10 +20,15 @@ loop-line-init c =
       tells = record {
         lines = blank.lines;
         last = blank.last;
+        generation = blank.generation;
         usage = ap (map told_of) blank.usage;
+        grants = ap (map grant_of) blank.grants;
+        keys = ap (map key_of) blank.keys;
+        rates = blank.rates;
         refusals = ap (map refusal_of) blank.refused;
         answered = search rules;
       };
+      active = c.new-collected.ensures.active;
       lines = omega (arith, ap length script.left);
       answers = omega (arith, ap length answers.left);
       room = omega (arith, script.room);
@@ -45,7 +52,8 @@ loop-line-preserved c =
           (exchanges_next (left c.loop-line.script) (left c.loop-line.answers) (left c.next.new.self) (left c.next-in-Some.new.self)
           (line.number, line.octets.now) (answer.number, answer.octets.now) first second)
           ∙ sym (append_assoc i.told (x ∷ []) later);
-      tells = tells_more i.told x c.loop-line.collected.figures c.take_octets.new.collected.figures (omega (arith, i.room, c.in-Some.ensures.shorter)) i.tells c.in_ok-take_octets.ensures.told;
+      tells = tells_more i.told x c.loop-line.collected c.take_octets.new.collected (omega (arith, i.room, c.in-Some.ensures.shorter)) i.tells i.active c.in_ok-take_octets.ensures.told;
+      active = c.in_ok-take_octets.ensures.told.active ∙ ap (λ r. rules_behind r x.number x.line x.answer) i.active ∙ sym (rules_more [] i.told x);
       lines = omega (arith, i.lines, ap length first, longer);
       answers = omega (arith, i.answers, ap length second, longer);
       room = omega (arith, i.room, c.in-Some.ensures.shorter, longer);

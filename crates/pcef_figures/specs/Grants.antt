@@ -1,0 +1,102 @@
+-- Grants of monitoring keys, how keys stand, and the generation, as lines and answers tell them (own choice).
+use Rattle.std.specs.Prelude.{ℕ, Bool, false, List, [], ◌∷◌, Option, Some, None, codes, max, option_and_then, string_bytes, if◌then◌else◌}
+use Rattle.std.specs.Str.{bytes_eq}
+use Rattle.serde_json.specs.Data.{Data, Items, item, no_items}
+use Rattle.serde_json.specs.Find.{as_bool, get}
+use Rattle.pcef_figures.specs.declared.figures.Grant.{Grant}
+use Rattle.pcef_figures.specs.declared.figures.KeyState.{KeyState}
+use Rattle.pcef_figures.specs.Usages.{ToldRefusal, list_in, number_in, or_empty, refusal_in, text_in}
+
+-- ---- members of objects
+abbrev pub or_zero : Option ℕ → ℕ
+or_zero None = 0
+or_zero (Some n) = n
+
+abbrev pub or_false : Option Bool → Bool
+or_false None = false
+or_false (Some flag) = flag
+
+abbrev pub flag_in : List ℕ → Data → Bool
+flag_in key d = or_false (option_and_then as_bool (get key d))
+
+abbrev pub is_text : List ℕ → Option (List ℕ) → Bool
+is_text word None = false
+is_text word (Some text) = bytes_eq text word
+
+-- the line asks for this
+abbrev pub asks : List ℕ → Data → Bool
+asks word line = is_text word (text_in (codes "do") line)
+
+-- ---- grants
+-- the line of this number gave a key a grant
+pub record ToldGrant : Type 0 where
+  pub line : ℕ
+  pub key : List ℕ
+  pub octets : ℕ
+
+abbrev pub grant_by : ℕ → Option (List ℕ) → Option ℕ → List ToldGrant
+grant_by number None octets = []
+grant_by number (Some key) None = []
+grant_by number (Some key) (Some octets) = record { line = number; key = key; octets = octets } ∷ []
+
+-- by a `monitor` line
+abbrev pub grant_asked : ℕ → Data → List ToldGrant
+grant_asked number line =
+    if asks (codes "monitor") line then grant_by number (text_in (codes "key") line) (number_in (codes "grant") line) else []
+
+-- that was done
+abbrev pub grants_done : ℕ → Option ToldRefusal → Option Data → List ToldGrant
+grants_done number (Some refused) line = []
+grants_done number None None = []
+grants_done number None (Some line) = grant_asked number line
+
+abbrev pub grants_in : ℕ → Option Data → Data → List ToldGrant
+grants_in number line answer = grants_done number (refusal_in number answer) line
+
+abbrev pub grant_of : Grant → ToldGrant
+grant_of g = record { line = g.line; key = string_bytes g.key; octets = g.octets }
+
+-- ---- keys
+-- how a key stands
+pub record ToldKey : Type 0 where
+  pub key : List ℕ
+  pub is_on : Bool
+  pub reported : ℕ
+  pub unreported : ℕ
+
+abbrev pub key_in : Data → ToldKey
+key_in d = record {
+  key = or_empty (text_in (codes "key") d);
+  is_on = flag_in (codes "on") d;
+  reported = or_zero (number_in (codes "reported") d);
+  unreported = or_zero (number_in (codes "unreported") d);
+}
+
+abbrev pub keys_in_all : Items → List ToldKey
+keys_in_all no_items = []
+keys_in_all (item d ds) = key_in d ∷ keys_in_all ds
+
+-- an answer to `show` has a list of them, which takes the place of the one before
+abbrev pub keys_shown : List ToldKey → Option Data → Data → List ToldKey
+keys_shown before None answer = before
+keys_shown before (Some list) answer = keys_in_all (list_in (codes "keys") answer)
+
+-- where the line was done
+abbrev pub keys_done : List ToldKey → Option ToldRefusal → Data → List ToldKey
+keys_done before (Some refused) answer = before
+keys_done before None answer = keys_shown before (get (codes "keys") answer) answer
+
+abbrev pub keys_behind : List ToldKey → ℕ → Data → List ToldKey
+keys_behind before number answer = keys_done before (refusal_in number answer) answer
+
+abbrev pub key_of : KeyState → ToldKey
+key_of k = record { key = string_bytes k.key; is_on = k.is_on; reported = k.reported; unreported = k.unreported }
+
+-- ---- generations
+-- the newest of those that lines that were done tell
+abbrev pub generation_done : ℕ → Option ToldRefusal → Data → ℕ
+generation_done before (Some refused) answer = before
+generation_done before None answer = max before (or_zero (number_in (codes "generation") answer))
+
+abbrev pub generation_behind : ℕ → ℕ → Data → ℕ
+generation_behind before number answer = generation_done before (refusal_in number answer) answer
