@@ -1,5 +1,8 @@
 //! What reporters take.
 
+ghost use Rattle.std.specs.Prelude.{reverse};
+
+use pcef_history::History;
 use pcef_model::Report;
 use pcef_trigger::{Answer, ReportKind, Reporter};
 use std::alloc::Global;
@@ -59,6 +62,7 @@ impl Taken {
 /// Keeps the reports of a kind that it takes, and counts them. It refuses one for which it finds no memory.
 #[derive(Drop)]
 pub struct Storing {
+    asked: History<Report>,
     reports: Vec<Report>,
     kind: ReportKind,
     taken: Arc<Taken>,
@@ -68,6 +72,7 @@ impl Storing {
     /// A reporter of this kind that took none yet. Takes no memory.
     pub fn new(alloc: Global, kind: ReportKind, taken: Arc<Taken>) -> Storing {
         Storing {
+            asked: History::new(),
             reports: Vec::new(alloc),
             kind,
             taken,
@@ -76,9 +81,12 @@ impl Storing {
 }
 
 impl Reporter for Storing {
+    ghost asked = { λ s. reverse s.asked.items };
+
     ghost taken = { λ s. s.reports.items };
 
     fn report(&mut self, report: &Report) -> Answer {
+        self.asked = self.asked.then(report);
         match self.reports.push(report.copy()) {
             Ok(()) => {
                 self.taken

@@ -2,21 +2,21 @@ use Rattle.std.proofs.Common.{◌≡◌, List, [], ◌∷◌, ◌++◌, refl, tr
 use Rattle.pcef_model.specs.declared.report.Report.{Report}
 use Rattle.pcef_trigger.specs.declared.kind.ReportKind.{ReportKind}
 use Rattle.pcef_trigger.specs.Kinds.{same_kind}
-use Rattle.pcef_trigger.specs.Deliveries.{TakenLists, taken_in}
+use Rattle.pcef_trigger.specs.Deliveries.{ReportLists, list_in}
 
 -- the first option if it is there, and else the second
 abbrev pub or_else : Option (List Report) → Option (List Report) → Option (List Report)
 or_else None o = o
 or_else (Some l) o = Some l
 
-abbrev pub over : TakenLists → TakenLists → TakenLists
+abbrev pub over : ReportLists → ReportLists → ReportLists
 over a b = record { usage = or_else a.usage b.usage; access = or_else a.access b.access; inactive = or_else a.inactive b.inactive }
 
 -- one more reporter at the end serves where there was none
-pub taken_in_last : {B : Type 0} (kind : ReportKind) (taken : B → List Report) (ps : List (ReportKind × B)) (p : ReportKind × B) → taken_in kind taken (ps ++ p ∷ []) ≡ or_else (taken_in kind taken ps) (cond (same_kind kind p.0) (Some (taken p.1)) None)
-taken_in_last kind taken [] p = refl
-taken_in_last kind taken (q ∷ ps) p =
-    elim (same_kind kind q.0) as (λ b. cond b (Some (taken q.1)) (taken_in kind taken (ps ++ p ∷ [])) ≡ or_else (cond b (Some (taken q.1)) (taken_in kind taken ps)) (cond (same_kind kind p.0) (Some (taken p.1)) None)) [ true ↦ refl | false ↦ taken_in_last kind taken ps p ]
+pub list_in_last : {B : Type 0} (kind : ReportKind) (list : B → List Report) (ps : List (ReportKind × B)) (p : ReportKind × B) → list_in kind list (ps ++ p ∷ []) ≡ or_else (list_in kind list ps) (cond (same_kind kind p.0) (Some (list p.1)) None)
+list_in_last kind list [] p = refl
+list_in_last kind list (q ∷ ps) p =
+    elim (same_kind kind q.0) as (λ b. cond b (Some (list q.1)) (list_in kind list (ps ++ p ∷ [])) ≡ or_else (cond b (Some (list q.1)) (list_in kind list ps)) (cond (same_kind kind p.0) (Some (list p.1)) None)) [ true ↦ refl | false ↦ list_in_last kind list ps p ]
 
 pub or_else_none : (o : Option (List Report)) → or_else o None ≡ o
 or_else_none None = refl

@@ -1,12 +1,12 @@
 -- Deliveries one after the other.
-use Rattle.std.proofs.Common.{◌≡◌, ◌∙◌, ◌+◌, ℕ, suc, zero, List, [], ◌∷◌, ◌++◌, Option, Some, None, refl, ap, arith, inl, inr, take, drop}
+use Rattle.std.proofs.Common.{◌≡◌, ◌∙◌, ◌+◌, ◌<◌, ℕ, suc, zero, List, [], ◌∷◌, ◌++◌, Option, Some, None, refl, ap, sym, arith, inl, inr, length, get_or, take, drop}
 use Rattle.std.proofs.lemmas.Bool.{cases_Bool}
-use Rattle.std.proofs.lemmas.List.{append_assoc}
+use Rattle.std.proofs.lemmas.List.{append_assoc, take_more}
 use Rattle.pcef_model.specs.declared.report.Report.{Report}
 use Rattle.pcef_trigger.specs.declared.kind.ReportKind.{ReportKind}
 use Rattle.pcef_trigger.specs.declared.kind.ReportKind.TheVariants.{Usage, Access, Inactive}
 use Rattle.pcef_trigger.specs.Kinds.{of_kind, same_kind, kind_of}
-use Rattle.pcef_trigger.specs.Deliveries.{TakenLists, lists_after, with_more}
+use Rattle.pcef_trigger.specs.Deliveries.{ReportLists, lists_after, with_more}
 
 more_joined : (first more : List Report) (o : Option (List Report)) → with_more more (with_more first o) ≡ with_more (first ++ more) o
 more_joined first more None = refl
@@ -27,7 +27,7 @@ of_kind_joined kind (x ∷ xs) ys =
       | inr isnt ↦ rw isnt (of_kind_joined kind xs ys)
     ]
 
-lists_joined : (old : TakenLists) (xs ys : List Report) → lists_after (lists_after old xs) ys ≡ lists_after old (xs ++ ys)
+lists_joined : (old : ReportLists) (xs ys : List Report) → lists_after (lists_after old xs) ys ≡ lists_after old (xs ++ ys)
 lists_joined old xs ys =
     rw (
       of_kind_joined Usage xs ys,
@@ -38,7 +38,14 @@ lists_joined old xs ys =
       more_joined (of_kind Inactive xs) (of_kind Inactive ys) old.inactive,
     ) refl
 
-pub deliveries_joined : (old : TakenLists) (reports : List Report) (first more : ℕ) →
+pub deliveries_joined : (old : ReportLists) (reports : List Report) (first more : ℕ) →
     lists_after (lists_after old (take first reports)) (take more (drop first reports)) ≡ lists_after old (take (first + more) reports)
 deliveries_joined old reports first more =
     lists_joined old (take first reports) (take more (drop first reports)) ∙ ap (lists_after old) (taken_joined first more reports)
+
+-- one more report, behind those that were sent
+pub sent_next : (old now new : ReportLists) (reports : List Report) (sent : ℕ) (r : Report) → sent < length reports → r ≡ get_or reports sent r →
+    now ≡ lists_after old (take sent reports) → new ≡ lists_after now (r ∷ []) → new ≡ lists_after old (take (sent + 1) reports)
+sent_next old now new reports sent r within is before then =
+    then ∙ ap (λ lists. lists_after lists (r ∷ [])) before ∙ lists_joined old (take sent reports) (r ∷ [])
+    ∙ sym (ap (lists_after old) (take_more reports sent r within ∙ ap (λ x. take sent reports ++ x ∷ []) (sym is)))

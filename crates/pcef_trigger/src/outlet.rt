@@ -1,8 +1,8 @@
 //! The outlet.
 
-ghost use Rattle.std.specs.Prelude.{◌≡◌, ◌↔◌, ◌≤◌, IfErr, IfOk, IsOk, false, length, take};
+ghost use Rattle.std.specs.Prelude.{◌≡◌, ◌∷◌, [], ◌↔◌, ◌≤◌, IfErr, IfOk, IsOk, false, length, take};
 ghost use Rattle.pcef_trigger.specs.Kinds.{repeats};
-ghost use Rattle.pcef_trigger.specs.Deliveries.{Keeps, Refuses, Sends};
+ghost use Rattle.pcef_trigger.specs.Deliveries.{Keeps, Refuses, Sends, asked_for};
 ghost use Rattle.pcef_trigger.specs.private.Taking.{TakesOne};
 
 use crate::kind::{ReportKind, kind_of, repeats};
@@ -11,7 +11,7 @@ use crate::reporter::{Answer, Reporter};
 use pcef_model::Report;
 
 /// Hands reports on, each to the reporter of its kind: there is at most one for each kind. What contracts see of it is
-/// what each of its reporters has taken.
+/// what each of its reporters was asked for, and what it has taken.
 pub struct Outlet {
     usage: Option<Box<dyn Reporter + Send>>,
     access: Option<Box<dyn Reporter + Send>>,
@@ -46,10 +46,11 @@ pub struct SameKind {
 }
 
 impl Outlet {
-    /// The outlet of these reporters, at most one of each kind, with what they have taken so far; or the list again,
-    /// where two have one kind. Takes no memory.
+    /// The outlet of these reporters, at most one of each kind, with what they were asked for and have taken so far; or
+    /// the list again, where two have one kind. Takes no memory.
     pub fn new(reporters: Vec<(ReportKind, Box<dyn Reporter + Send>)>) -> Result<Outlet, SameKind>
         ensures keeps { IfOk result (λ o. Keeps (λ b. taken b) o reporters.items) }
+        ensures asked { IfOk result (λ o. Keeps (λ b. asked b) o reporters.items) }
         ensures exact { IsOk result ↔ (repeats reporters.items ≡ false) }
         ensures back { IfErr result (λ e. e.reporters ≡ reporters) }
     {
@@ -61,7 +62,8 @@ impl Outlet {
 
     /// Hands one report on.
     fn one(&mut self, report: &Report) -> Answer
-        ensures { TakesOne (λ b. taken b) self.old report.now result self.new }
+        ensures answer { TakesOne (λ b. taken b) self.old report.now result self.new }
+        ensures asked { Sends (λ b. asked b) self.old self.new (report.now ∷ []) }
     {
         match kind_of(report) {
             ReportKind::Usage => offer(&mut self.usage, report),
@@ -70,13 +72,15 @@ impl Outlet {
         }
     }
 
-    /// Hands reports on in their order, each to the reporter of its kind, up to the first that is refused. A report
+    /// Hands reports on in their order, each once to the reporter of its kind, up to the first that is refused. A report
     /// whose kind has no reporter is passed over, and counts as sent. Who goes on from `sent` hands each report on
     /// once ([`deliveries_join`](crate::deliveries_join)). Takes no memory beside that of the reporters.
+    #[tactic(auto, using(crate::proofs::Joined::sent_next))]
     pub fn deliver(&mut self, reports: &[Report]) -> Delivered
         ensures sent { result.sent ≤ length reports.now }
         ensures taken { Sends (λ b. taken b) self.old self.new (take result.sent reports.now) }
         ensures refused { Refuses (λ b. taken b) self.new reports.now result }
+        ensures asked { Sends (λ b. asked b) self.old self.new (asked_for reports.now result.sent result.refused) }
     {
         let mut sent = 0;
         for report in reports {
@@ -98,9 +102,10 @@ impl Outlet {
 }
 
 /// The outlet of these reporters: of each kind the first.
-#[tactic(auto, using(crate::proofs::First::taken_in_last, crate::proofs::First::or_else_none, crate::proofs::First::or_else_again))]
+#[tactic(auto, using(crate::proofs::First::list_in_last, crate::proofs::First::or_else_none, crate::proofs::First::or_else_again))]
 fn outlet_of(reporters: Vec<(ReportKind, Box<dyn Reporter + Send>)>) -> Outlet
-    ensures { Keeps (λ b. taken b) result reporters.items }
+    ensures keeps { Keeps (λ b. taken b) result reporters.items }
+    ensures asked { Keeps (λ b. asked b) result reporters.items }
 {
     let mut reporters = reporters;
     let mut outlet = Outlet {

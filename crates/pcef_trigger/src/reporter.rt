@@ -1,6 +1,6 @@
 //! Who takes reports.
 
-ghost use Rattle.std.specs.Prelude.{List};
+ghost use Rattle.std.specs.Prelude.{List, ◌≡◌, ◌∷◌, ◌++◌, []};
 ghost use Rattle.pcef_model.specs.declared.report.Report.{Report};
 ghost use Rattle.pcef_trigger.specs.Deliveries.{Answers};
 
@@ -15,11 +15,16 @@ pub enum Answer {
     Refused,
 }
 
-/// Takes reports. What contracts see of a reporter is the list of those that it took, the oldest first.
+/// Takes reports. What contracts see of a reporter is the list of those that it was asked for, and the list of those
+/// that it took, both the oldest first.
 pub trait Reporter: Drop {
+    ghost asked: { Self → List Report };
+
     ghost taken: { Self → List Report };
 
-    /// Takes a report, or refuses it: then the list stays as it was. A reporter that finds no memory refuses.
+    /// Is asked for a report, and takes it, or refuses it: then the list of what it took stays as it was. A reporter that
+    /// finds no memory refuses.
     fn report(&mut self, report: &Report) -> Answer
-        ensures { Answers (taken self.old) report.now result (taken self.new) };
+        ensures asked { asked self.new ≡ asked self.old ++ report.now ∷ [] }
+        ensures answer { Answers (taken self.old) report.now result (taken self.new) };
 }

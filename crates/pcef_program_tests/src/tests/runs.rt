@@ -1,9 +1,10 @@
 //! Runs over workers in threads, whose packets, octets and reports were counted by hand.
 
-ghost use Rattle.std.specs.Prelude.{[]};
+ghost use Rattle.std.specs.Prelude.{[], reverse};
 
 use super::program::{octets, program_on, run};
 use pcef_catalog::Catalog;
+use pcef_history::History;
 use pcef_model::Report;
 use pcef_program::program::program;
 use pcef_run::Taken;
@@ -256,12 +257,17 @@ fn ends_of_a_run_that_fail(rt: HostRuntime) -> Result<(), Fail> {
 
 /// Takes no report.
 #[derive(Drop)]
-struct Refusing;
+struct Refusing {
+    asked: History<Report>,
+}
 
 impl Reporter for Refusing {
+    ghost asked = { λ r. reverse r.asked.items };
+
     ghost taken = { λ _. [] };
 
-    fn report(&mut self, _report: &Report) -> Answer {
+    fn report(&mut self, report: &Report) -> Answer {
+        self.asked = self.asked.then(report);
         Answer::Refused
     }
 }
@@ -273,7 +279,10 @@ fn a_reporter_that_refuses_ends_the_program(rt: HostRuntime) -> Result<(), Fail>
     let profiles = [Ok(String::from_str(alloc, PROFILE)?)];
     let catalog = Arc::new(alloc, Catalog::new(alloc, Vec::new(alloc))?)?;
     let mut reporters = Vec::new(alloc);
-    let refusing: Box<dyn Reporter + Send> = Box::new(alloc, Refusing)?;
+    let refusing = Refusing {
+        asked: History::new(),
+    };
+    let refusing: Box<dyn Reporter + Send> = Box::new(alloc, refusing)?;
     reporters.push((ReportKind::Usage, refusing))?;
     let Ok(outlet) = Outlet::new(reporters) else {
         return Err("there is one reporter")?;

@@ -1,5 +1,8 @@
 //! Reporters that keep what they take, on outlets.
 
+ghost use Rattle.std.specs.Prelude.{reverse};
+
+use pcef_history::History;
 use pcef_model::{AccessKind, Body, Cause, InactiveCause, NoticeValue, Report};
 use pcef_rule::{KeyName, RuleName};
 use pcef_trigger::{Answer, Delivered, Outlet, ReportKind, Reporter, SameKind, deliveries_join};
@@ -55,6 +58,7 @@ impl Written {
 /// Keeps what it takes, and writes the numbers down. Its call of a certain number is refused.
 #[derive(Drop)]
 struct Keeper {
+    asked: History<Report>,
     reports: Vec<Report>,
     written: Arc<Written>,
     kind: ReportKind,
@@ -63,9 +67,12 @@ struct Keeper {
 }
 
 impl Reporter for Keeper {
+    ghost asked = { λ k. reverse k.asked.items };
+
     ghost taken = { λ k. k.reports.items };
 
     fn report(&mut self, report: &Report) -> Answer {
+        self.asked = self.asked.then(report);
         self.calls = self.calls.saturating_add(1);
         if self.calls == self.refuses_at {
             return Answer::Refused;
@@ -92,6 +99,7 @@ fn add_keeper(
 ) -> Result<(), AllocError> {
     let (kind, refuses_at) = row;
     let keeper = Keeper {
+        asked: History::new(),
         reports: Vec::new(alloc),
         written: Arc::try_clone(written)?,
         kind,

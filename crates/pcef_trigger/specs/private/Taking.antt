@@ -7,7 +7,7 @@ use Rattle.pcef_model.specs.declared.report.Report.{Report}
 use Rattle.pcef_trigger.specs.declared.reporter.Answer.{Answer}
 use Rattle.pcef_trigger.specs.declared.reporter.Answer.TheVariants.{Taken, Refused}
 use Rattle.pcef_trigger.specs.declared.outlet.Outlet.{Outlet}
-use Rattle.pcef_trigger.specs.Deliveries.{HasReporter, TakenLists, lists_after, lists_of}
+use Rattle.pcef_trigger.specs.Deliveries.{HasReporter, ReportLists, lists_after, lists_of, with_more}
 
 -- a reporter answers, if there is one; where there is none, the report counts as taken
 abbrev pub AnswersIn : Option (List Report) → Report → Answer → Option (List Report) → Type 0
@@ -19,8 +19,12 @@ AnswersIn (Some old) report Refused new = new ≡ Some old
 abbrev pub AnswersAt : {B : Type 0} → (B → List Report) → Option B → Report → Answer → Option B → Type 0
 AnswersAt taken old report answer new = AnswersIn (option_map taken old) report answer (option_map taken new)
 
+-- a reporter was asked for a report, if there is one
+abbrev pub AsksAt : {B : Type 0} → (B → List Report) → Option B → Report → Option B → Type 0
+AsksAt asked old report new = option_map asked new ≡ with_more (report ∷ []) (option_map asked old)
+
 -- one report is sent, or its reporter refuses it
-abbrev pub TakesIn : TakenLists → Report → Answer → TakenLists → Type 0
+abbrev pub TakesIn : ReportLists → Report → Answer → ReportLists → Type 0
 TakesIn old report Taken new = new ≡ lists_after old (report ∷ [])
 TakesIn old report Refused new = (new ≡ old) × HasReporter new report
 

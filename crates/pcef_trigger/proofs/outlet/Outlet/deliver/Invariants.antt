@@ -8,4 +8,6 @@ invariant-loop-report g l =
       count : l.sent ≡ l.report-index;
       taken : lists (λ b. (goal.Reporter-dyn g (b.vtable, b.value)).taken b.value) l.self.usage l.self.access l.self.inactive
           ≡ lists_after (lists (λ b. (goal.Reporter-dyn g (b.vtable, b.value)).taken b.value) l.fn.self.usage l.fn.self.access l.fn.self.inactive) (take l.report-index l.reports);
+      asked : lists (λ b. (goal.Reporter-dyn g (b.vtable, b.value)).asked b.value) l.self.usage l.self.access l.self.inactive
+          ≡ lists_after (lists (λ b. (goal.Reporter-dyn g (b.vtable, b.value)).asked b.value) l.fn.self.usage l.fn.self.access l.fn.self.inactive) (take l.report-index l.reports);
     }
