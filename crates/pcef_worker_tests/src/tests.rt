@@ -2,6 +2,7 @@
 //! step by step, and beside each step the four numbers that it tells, as [`Step`] says.
 
 mod acting;
+mod asking;
 mod at_last;
 mod coming;
 mod commanding;
@@ -50,6 +51,8 @@ enum Step {
     Monitor,
     /// The same, once more where it finds no memory.
     MonitorAtLast,
+    /// The desk monitors the rule's key with a grant of 28 octets: 1, and the generation after it.
+    MonitorFew,
     /// The desk monitors the whole session by the key `all`, with a grant of 50 octets: 1, and the generation after it.
     MonitorSession,
     /// The desk subscribes to usage reports: 1, and the generation after it.
@@ -88,6 +91,9 @@ enum Step {
     Finish,
     /// The same, once more where it finds no memory.
     FinishAtLast,
+    /// The worker finishes: how many verdicts it gets, and the numbers of the first report that its rows made and past
+    /// the last.
+    FinishTelling,
     /// The worker can't finish, for this reason, and is there as before: 1.
     CanNotFinish(FlushRefusal),
     /// Of the worker that left after so many others: how many rows it handed in in order, and the octets of the first
@@ -103,6 +109,8 @@ enum Step {
     Flush,
     /// The same, once more where it finds no memory.
     FlushAtLast,
+    /// It flushes: how many verdicts it gets, and the numbers of the first report that its rows made and past the last.
+    FlushTelling,
     /// It can't flush, for this reason.
     CanNotFlush(FlushRefusal),
     /// It refreshes: the generation that is answered in place of the 1.
@@ -119,6 +127,8 @@ enum Step {
 
     /// As [`held_up::held_up`].
     HoldUp,
+    /// As [`asking::asked_around_a_flush`].
+    AskAroundAFlush,
     /// As [`last_flush::last_flush`].
     LastFlush,
     /// As [`crowded::crowded`].
@@ -227,6 +237,7 @@ fn seen_at_once<
         Kind::Place => coming::seen(rt, alloc, shared, workers, step),
         Kind::Worker => acting::seen(rt, shared, workers, step),
         Kind::HoldUp => held_up::held_up(rt, alloc, shared, workers),
+        Kind::Ask => asking::asked_around_a_flush(rt, alloc, shared, desk, workers, install),
         Kind::LastFlush => last_flush::last_flush(rt, alloc, shared, desk, workers),
         Kind::Crowd => crowded::crowded(rt, alloc, shared, desk),
     }
@@ -239,6 +250,7 @@ enum Kind {
     Place,
     Worker,
     HoldUp,
+    Ask,
     LastFlush,
     Crowd,
 }
@@ -247,6 +259,7 @@ fn kind_of(step: Step) -> Kind {
     match step {
         Step::Install
         | Step::Monitor
+        | Step::MonitorFew
         | Step::MonitorSession
         | Step::Subscribe
         | Step::Remove
@@ -260,9 +273,11 @@ fn kind_of(step: Step) -> Kind {
         | Step::Turn
         | Step::Abandon
         | Step::Finish
+        | Step::FinishTelling
         | Step::CanNotFinish(_)
         | Step::HandedIn(_) => Kind::Place,
         Step::HoldUp => Kind::HoldUp,
+        Step::AskAroundAFlush => Kind::Ask,
         Step::LastFlush => Kind::LastFlush,
         Step::Crowd => Kind::Crowd,
         _ => Kind::Worker,

@@ -1,7 +1,7 @@
 //! What a worker does while it is there.
 
 use super::*;
-use pcef_model::{Judged, Verdict};
+use pcef_model::{Judged, Verdict, Verdicts};
 
 // What a step of the worker that acts tells.
 pub fn seen<C: Detects + Drop, N: Naming, W: Board<Slot<N>> + Drop, R: Wait>(
@@ -24,6 +24,7 @@ fn seen_of<C: Detects + Drop, N: Naming, W: Board<Slot<N>> + Drop, R: Wait>(
 ) -> Seen {
     match step {
         Step::Judge => judged(rt, shared, worker),
+        Step::FlushTelling => reports_of_a_flush(rt, shared, worker),
         Step::Waiting => first_that_waits(worker),
         _ => {
             let told = done(rt, shared, worker, step);
@@ -119,6 +120,27 @@ fn judged<C: Detects + Drop, N: Naming, W: Board<Slot<N>> + Drop, R: Wait>(
         Ok(verdicts) => told_of(verdicts.rows.as_slice()),
         Err(_) => NOT_DONE,
     }
+}
+
+fn reports_of_a_flush<C: Detects + Drop, N: Naming, W: Board<Slot<N>> + Drop, R: Wait>(
+    rt: &R,
+    shared: &Shared<C, N, W>,
+    worker: &mut Worker<C, N, OpenGate>,
+) -> Seen {
+    match worker.flush(rt, shared) {
+        Ok(verdicts) => numbers_of(&verdicts),
+        Err(_) => NOT_DONE,
+    }
+}
+
+/// How many verdicts there are, and the numbers of the first report that their rows made and past the last.
+pub fn numbers_of(verdicts: &Verdicts) -> Seen {
+    [
+        verdicts.rows.len() as u64,
+        verdicts.first_report,
+        verdicts.past_last_report,
+        0,
+    ]
 }
 
 fn told_of(rows: &[Judged]) -> Seen {

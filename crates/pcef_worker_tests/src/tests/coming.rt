@@ -1,5 +1,6 @@
 //! Workers that come and leave.
 
+use super::acting::numbers_of;
 use super::*;
 use pcef_session::Item;
 
@@ -122,8 +123,12 @@ fn leaves<C: Detects + Drop, N: Naming, W: Board<Slot<N>> + Drop, R: Wait>(
 ) -> Seen {
     match step {
         Step::Finish => match finished(rt, shared, workers, worker) {
-            Ok(seen) => seen,
+            Ok((seen, _)) => seen,
             Err(refusal) => refused(refusal == FlushRefusal::NoMemory),
+        },
+        Step::FinishTelling => match finished(rt, shared, workers, worker) {
+            Ok((_, told)) => told,
+            Err(_) => NOT_DONE,
         },
         Step::CanNotFinish(reason) => {
             let refusal = finished(rt, shared, workers, worker).err();
@@ -145,15 +150,19 @@ fn kept<C: Detects + Drop, N: Naming>(
     [before, number, rows, given_up]
 }
 
-// A finish that is refused gives the worker back, which is there as before: why.
+// Of a finish, what [`Step::Finish`] and [`Step::FinishTelling`] tell. One that is refused gives the worker back, which
+// is there as before: why.
 fn finished<C: Detects + Drop, N: Naming, W: Board<Slot<N>> + Drop, R: Wait>(
     rt: &R,
     shared: &Shared<C, N, W>,
     workers: &mut Workers<C, N>,
     worker: Worker<C, N, OpenGate>,
-) -> Result<Seen, FlushRefusal> {
+) -> Result<(Seen, Seen), FlushRefusal> {
     match worker.finish(rt, shared) {
-        Ok((left, verdicts)) => Ok(kept(workers, verdicts.rows.len() as u64, left)),
+        Ok((left, verdicts)) => {
+            let told = numbers_of(&verdicts);
+            Ok((kept(workers, told[0], left), told))
+        }
         Err((worker, refusal)) => {
             workers.add(worker);
             Err(refusal)

@@ -38,6 +38,11 @@ fn command_of(step: Step, install: &Command) -> Option<Command> {
             grant: 1_000_000,
             level: Level::Rule,
         }),
+        Step::MonitorFew => Some(Command::Monitor {
+            key: KeyName::known("vid"),
+            grant: 28,
+            level: Level::Rule,
+        }),
         Step::MonitorSession => Some(Command::Monitor {
             key: KeyName::known("all"),
             grant: 50,
@@ -90,7 +95,8 @@ pub fn still_attached(answer: Result<Accepted, Refusal>) -> Option<u64> {
     }
 }
 
-fn asked_for<C: Offers + Drop, N: Naming, W: Board<Slot<N>> + Drop, R: Wait>(
+/// Collects, asks for a report of the key and collects: what [`Step::AskForReport`] tells.
+pub fn asked_for<C: Offers + Drop, N: Naming, W: Board<Slot<N>> + Drop, R: Wait>(
     rt: &R,
     shared: &Shared<C, N, W>,
     desk: &mut Desk<N>,

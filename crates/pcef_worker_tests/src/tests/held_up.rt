@@ -75,7 +75,8 @@ pub fn held_up<
     ]
 }
 
-fn rows_kept<C: Detects + Drop, N: Naming>(
+/// Keeps what a worker handed in, if it came: how many rows.
+pub fn rows_kept<C: Detects + Drop, N: Naming>(
     workers: &mut Workers<C, N>,
     left: Option<Finished<N>>,
 ) -> u64 {
@@ -89,13 +90,14 @@ fn rows_kept<C: Detects + Drop, N: Naming>(
     }
 }
 
-// A worker comes, takes a packet, hands its row over and leaves.
-fn left_after_a_row<C: Detects + Drop, N: Naming, W: Board<Slot<N>> + Drop, R: Wait>(
-    rt: &R,
-    alloc: Global,
-    shared: &Shared<C, N, W>,
-    gate: HoldsUp<'_>,
-) -> Option<Finished<N>> {
+/// A worker comes, takes a packet of 28 octets, hands its row over and leaves.
+pub fn left_after_a_row<
+    C: Detects + Drop,
+    N: Naming,
+    W: Board<Slot<N>> + Drop,
+    G: Gate + Drop,
+    R: Wait,
+>(rt: &R, alloc: Global, shared: &Shared<C, N, W>, gate: G) -> Option<Finished<N>> {
     match Worker::attach(rt, alloc, shared, gate).ok() {
         Some(mut worker) => {
             hands_a_row_over(rt, shared, &mut worker);

@@ -11,22 +11,27 @@ use std::thread::join;
 /// Holds a worker up where its flush was answered, until the desk has given its command.
 #[derive(Clone, Copy)]
 struct HoldsLast<'a> {
+    begun: &'a AtomicBool,
     answered: &'a AtomicBool,
     given: &'a AtomicBool,
 }
 
 impl Gate for HoldsLast<'_> {
     fn at(&self, point: Point) {
-        if let Point::FlushAnswered(_) = point {
-            self.answered.store(true, Ordering::SeqCst);
-            comes(self.given);
+        match point {
+            Point::FlushBegins(_) => self.begun.store(true, Ordering::SeqCst),
+            Point::FlushAnswered(_) => {
+                self.answered.store(true, Ordering::SeqCst);
+                comes(self.given);
+            }
         }
     }
 }
 
 /// A worker comes and finishes with rows of 28 and of 600 octets, in a thread of its own, and is held up where its
-/// flush was answered. There the desk terminates the session: 1, how many workers that finds attached, and how many
-/// verdicts the worker is told, by generation 2 and passed by the rule.
+/// flush was answered. There the desk terminates the session: 1 where the worker came to the point where a flush begins,
+/// how many workers the desk finds attached, and how many verdicts the worker is told, by generation 2 and passed by the
+/// rule.
 pub fn last_flush<
     C: Detects + Drop + Send + Sync,
     N: Naming + Send + Sync,
@@ -39,9 +44,11 @@ pub fn last_flush<
     desk: &mut Desk<N>,
     workers: &mut Workers<C, N>,
 ) -> Seen {
+    let begun = AtomicBool::new(false);
     let answered = AtomicBool::new(false);
     let given = AtomicBool::new(false);
     let gate = HoldsLast {
+        begun: &begun,
         answered: &answered,
         given: &given,
     };
@@ -50,11 +57,13 @@ pub fn last_flush<
         || terminated(rt, shared, desk, gate),
         || finishes(rt, alloc, shared, gate),
     );
-    told_of(workers, attached, finished)
+    let begun = u64::from(begun.load(Ordering::SeqCst));
+    told_of(workers, begun, attached, finished)
 }
 
 fn told_of<C: Detects + Drop, N: Naming>(
     workers: &mut Workers<C, N>,
+    begun: u64,
     attached: Option<u64>,
     finished: Option<(Finished<N>, u64)>,
 ) -> Seen {
@@ -62,7 +71,7 @@ fn told_of<C: Detects + Drop, N: Naming>(
         Some((left, verdicts)) => {
             workers.keep(left);
             match attached {
-                Some(attached) => [1, attached, verdicts, 0],
+                Some(attached) => [begun, attached, verdicts, 0],
                 None => NOT_DONE,
             }
         }

@@ -15,7 +15,7 @@ struct Story {
     end: [u64; 7],
 }
 
-static STORIES: [Story; 16] = [
+static STORIES: [Story; 19] = [
     // The session takes one row, and two wait. Nothing of them comes to it, since a later worker's row is taken.
     Story {
         name: "a refused flush keeps the rows",
@@ -252,6 +252,63 @@ static STORIES: [Story; 16] = [
             (Finish, [1, 0, 1, 0]),
         ],
         end: [1, 2, 0, 56, 0, 56, 2],
+    },
+    // The key is monitored once more after the first report of its grant.
+    Story {
+        name: "a flush and a finish tell of the grants that they reach",
+        rows: 100,
+        places: 2,
+        steps: &[
+            (Subscribe, [1, 0, 0, 0]),
+            (Install, [1, 1, 0, 0]),
+            (MonitorFew, [1, 2, 0, 0]),
+            (Come, [1, 0, 2, 0]),
+            (Take(28), [1, 1, 0, 2]),
+            (Take(28), [1, 2, 0, 2]),
+            (FlushTelling, [2, 0, 1, 0]),
+            (Collect(Cause::Threshold), [1, 0, 56, 0]),
+            (Take(28), [1, 1, 2, 2]),
+            (FlushTelling, [1, 1, 1, 0]),
+            (MonitorFew, [1, 3, 0, 0]),
+            (Collect(Cause::Threshold), [1, 1, 28, 0]),
+            (MonitorFew, [1, 4, 0, 0]),
+            (Take(28), [1, 1, 3, 2]),
+            (FinishTelling, [1, 2, 3, 0]),
+            (Collect(Cause::Threshold), [1, 2, 28, 0]),
+        ],
+        end: [1, 4, 0, 112, 112, 0, 1],
+    },
+    Story {
+        name: "a collect gives each report that came since the one before",
+        rows: 100,
+        places: 2,
+        steps: &[
+            (Install, [1, 1, 0, 0]),
+            (Monitor, [1, 2, 0, 0]),
+            (Come, [1, 0, 2, 0]),
+            (Take(28), [1, 1, 0, 2]),
+            (Flush, [1, 0, 1, 2]),
+            (Ask, [1, 2, 0, 0]),
+            (Take(600), [1, 1, 1, 2]),
+            (Flush, [1, 0, 2, 2]),
+            (Ask, [1, 2, 0, 0]),
+            (Collect(Cause::Requested), [2, 1, 600, 0]),
+            (Collect(Cause::Requested), [0, 0, 0, 0]),
+            (Abandon, [1, 0, 2, 0]),
+        ],
+        end: [1, 2, 0, 628, 628, 0, 1],
+    },
+    // The octets come to the session between the beginning of the flush and its answer.
+    Story {
+        name: "a report tells of a flush that was answered, and of none that begins",
+        rows: 100,
+        places: 2,
+        steps: &[
+            (Install, [1, 1, 0, 0]),
+            (Monitor, [1, 2, 0, 0]),
+            (AskAroundAFlush, [1, 0, 1, 28]),
+        ],
+        end: [1, 1, 0, 28, 28, 0, 1],
     },
     Story {
         name: "a worker that is held up hands over later",
