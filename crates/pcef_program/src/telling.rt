@@ -4,6 +4,7 @@ ghost use Rattle.std.specs.Prelude.{◌≡◌};
 ghost use Rattle.pcef_program.specs.Telling.{AppendsSome, IsTold};
 
 use crate::end::End;
+use crate::mistake::mistake_line;
 use crate::words::paths_of;
 use pcef_profile::{explain, read_profile};
 use pcef_script::put_all;
@@ -57,6 +58,31 @@ fn profiles_line(
     Ok(String::new(alloc))
 }
 
+/// What is said of words that ask for nothing: a line, or nothing of another end.
+fn words_line(alloc: Global, end: &End, words: &[Vec<u8>]) -> Result<String, AllocError> {
+    match end {
+        End::Usage => mistake_line(alloc, words),
+        _ => Ok(String::new(alloc)),
+    }
+}
+
+/// Says a text. Whether the writer took all of it.
+fn put_text<E: Write>(text: &str, faults: &mut E) -> bool
+    ensures { AppendsSome (E.contents faults.old) (E.contents faults.new) }
+{
+    put_all(faults, text.as_bytes()).is_ok()
+}
+
+/// Says a line, where there was memory for it. Whether the writer took all that was said.
+fn put_line<E: Write>(line: Result<String, AllocError>, faults: &mut E) -> bool
+    ensures { AppendsSome (E.contents faults.old) (E.contents faults.new) }
+{
+    match line {
+        Ok(line) => put_text(line.as_str(), faults),
+        Err(_) => true,
+    }
+}
+
 /// Says what a person needs to know of an end. Of what takes memory nothing is said where none is left.
 fn put_details<E: Write>(
     alloc: Global,
@@ -67,12 +93,13 @@ fn put_details<E: Write>(
 )
     ensures { AppendsSome (E.contents faults.old) (E.contents faults.new) }
 {
-    if put_all(faults, end.note().as_bytes()).is_err() {
+    if !put_line(words_line(alloc, end, words), faults) {
         return;
     }
-    if let Ok(line) = profiles_line(alloc, end, words, profiles) {
-        let _ = put_all(faults, line.as_bytes());
+    if !put_text(end.note(), faults) {
+        return;
     }
+    put_line(profiles_line(alloc, end, words, profiles), faults);
 }
 
 /// Says why the program ends early: the end's own line, and below it what a person needs to know. Says nothing of an

@@ -52,7 +52,7 @@ fn has_zero_first(word: &[u8]) -> bool
 
 /// A rate of a pool in bit/s: 0 to 1,099,511,627,775, in decimal digits.
 #[tactic(auto, unfolding(crate::specs::Words::rate_in))]
-fn rate_in(word: &[u8]) -> Option<u64>
+pub(crate) fn rate_in(word: &[u8]) -> Option<u64>
     ensures { result ≡ rate_in word.now }
 {
     if word.is_empty() || word.len() > 13 || has_zero_first(word) {

@@ -169,6 +169,58 @@ fn other_words_are_usage(rt: HostRuntime) -> Result<(), Fail> {
     Ok(())
 }
 
+/// Words that ask for nothing, and what is said of them below the usage.
+static NAMED: [(&[&str], &str); 9] = [
+    (&[], "A command is missing: script, run or pool.\n"),
+    (
+        &["scripts", "a"],
+        "There is no command 'scripts': there are script, run and pool.\n",
+    ),
+    (&["script"], "script takes PROFILE: 1 word, found 0.\n"),
+    (
+        &["run", "a"],
+        "run takes PROFILE and WORKERS: 2 words, found 1.\n",
+    ),
+    (&["run", "a", "17"], "WORKERS is 1 to 16, found '17'.\n"),
+    (
+        &["pool", "1", "2"],
+        "pool takes UP, DOWN and 1 to 64 profiles: 3 to 66 words, found 2.\n",
+    ),
+    (
+        &["pool", "01", "x", "a"],
+        "UP is 0 to 1099511627775 bit/s, found '01'.\n",
+    ),
+    (
+        &["pool", "1", "x", "a"],
+        "DOWN is 0 to 1099511627775 bit/s, found 'x'.\n",
+    ),
+    (
+        &["run", "a", "\u{e4}"],
+        "WORKERS is 1 to 16, found other text.\n",
+    ),
+];
+
+/// Whether these words end in usage, with this line below it.
+fn is_named<T: Threads + Wait + Sync>(
+    rt: &T,
+    alloc: Global,
+    words: &[&str],
+    line: &str,
+) -> Result<bool, Fail> {
+    let (status, _, said) = run(rt, alloc, &octets(alloc, words)?, None, "")?;
+    let mut lines = said.as_str().split_inclusive('\n');
+    let _usage = lines.next();
+    Ok((status, lines.next()) == (2, Some(line)))
+}
+
+#[test]
+fn what_is_wrong_with_words_is_named(rt: HostRuntime) -> Result<(), Fail> {
+    for (words, line) in &NAMED {
+        assert!(rt; is_named(&rt, rt.alloc(), words, line)?);
+    }
+    Ok(())
+}
+
 /// The status of the program on a word and one that is no text, and whether this is said first.
 fn on_no_text<T: Threads + Wait + Sync>(
     rt: &T,

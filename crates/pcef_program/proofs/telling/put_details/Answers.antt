@@ -1,12 +1,15 @@
-use Rattle.pcef_program.proofs.Tellings.{more_some, put_some}
+use Rattle.pcef_program.proofs.Tellings.{more_some}
 use Rattle.pcef_program.proofs.telling.put_details.Goals as goal
 
-pub returns-in-Ok : goal.returns-in-Ok
-returns-in-Ok g c =
+pub returns-then-not-put_text : goal.returns-then-not-put_text
+returns-then-not-put_text g c =
+    let contents = g.E.Write.contents in
+    more_some (contents c.args.faults.now) (contents c.put_line.new.faults) (contents c.put_text.new.faults) c.put_line.ensures c.put_text.ensures
+
+pub returns : goal.returns
+returns g c =
     let contents = g.E.Write.contents in
     let old = contents c.args.faults.now in
-    let between = contents c.put_all.new.writer in
-    let new = contents c.put_all-in-Ok.new.writer in
-    more_some old between new
-    (put_some c.put_all.result old between c.as_bytes.result.now c.put_all.ensures.all c.put_all.ensures.front)
-    (put_some c.put_all-in-Ok.result between new c.as_bytes-in-Ok.result.now c.put_all-in-Ok.ensures.all c.put_all-in-Ok.ensures.front)
+    let between = contents c.put_text.new.faults in
+    more_some old between (contents c.put_line-2.new.faults)
+    (more_some old (contents c.put_line.new.faults) between c.put_line.ensures c.put_text.ensures) c.put_line-2.ensures
