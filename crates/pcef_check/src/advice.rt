@@ -23,7 +23,8 @@ fn on_command(refusal: Refusal) -> Option<&'static str> {
         Refusal::RatesMissing => "its QCI wants gbr, with up and down in bit/s",
         Refusal::RatesNotWanted => "leave gbr out, or take a QCI with guaranteed bit rate",
         Refusal::TooManyBearers => "take the qci and arp of a rule that is active",
-        Refusal::OverCapacityUp => "lower gbr.up, remove a rule, or raise capacity.up in the profile",
+        Refusal::OverCapacityUp =>
+            "lower gbr.up, remove a rule, or raise capacity.up in the profile",
         Refusal::OverCapacityDown => {
             "lower gbr.down, remove a rule, or raise capacity.down in the profile"
         }
