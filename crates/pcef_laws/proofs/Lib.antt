@@ -5,4 +5,5 @@ mod ExampleStates
 mod Foremost
 mod GoneOff
 mod Grants
+mod LeastIds
 mod Told

@@ -1,3 +1,4 @@
+pub mod Bearing
 pub mod Deciding
 pub mod Places
 pub mod Reporting

@@ -1,6 +1,7 @@
 //! Laws of journals, proved for whoever reads the definitions.
 
 ghost use Rattle.pcef_laws.specs.Reporting.{GrantsAreTold, KeysGoOffWithAReport, ReportsTellAll, TerminateTellsAll};
+ghost use Rattle.pcef_laws.specs.Bearing.{NewBearersTakeTheLeastId};
 ghost use Rattle.pcef_laws.specs.Deciding.{OneDecidesWhereSomeFit};
 ghost use Rattle.pcef_laws.specs.Places.{SlotsStayInPlace};
 
@@ -23,4 +24,9 @@ pub fn slots_stay_in_their_places()
 /// fits.
 pub fn one_rule_decides()
     ensures { OneDecidesWhereSomeFit }
+{}
+
+/// Bearers: the id that a new one gets is the least from 6 to 15 that no rule keeps.
+pub fn new_bearers_take_the_least_id()
+    ensures { NewBearersTakeTheLeastId }
 {}
