@@ -1,5 +1,9 @@
 //! What a fault of a capture needs beside its name: what the octets are, or which number is unknown.
 
+ghost use Rattle.std.specs.Prelude.{◌≡◌, ◌≢◌, ◌<◌, ◌++◌, IfOk, IsSome, IsSomeAnd, codes, decimal, string_bytes};
+ghost use Rattle.pcef_capture_file.specs.declared.fault.CaptureFault.TheVariants.{LinkType, NotACapture, TooManyInterfaces};
+ghost use Rattle.pcef_capture.specs.Hints.{big_at, link_number, little_at, octet_at};
+
 use pcef_capture_file::CaptureFault;
 use std::alloc::{AllocError, Global};
 
@@ -37,6 +41,10 @@ const OTHERS: [(&[u8], &str); 9] = [
     (b"\xef\xbb\xbf", "text, which begins with a byte order mark"),
 ];
 
+/// What to do with a capture of too many interfaces.
+const FEWER: &str =
+    "tshark -F pcap -r FILE -w NEW makes a capture of it without interfaces, if all have one link type";
+
 /// Whether an octet stands in a text of ASCII.
 fn is_text(octet: u8) -> bool {
     matches!(octet, b'\t' | b'\n' | b'\r' | b' '..=b'~')
@@ -58,33 +66,61 @@ fn other_format(octets: &[u8]) -> Option<&'static str> {
     }
 }
 
-/// The number in two octets from a place on, the lower one first or last, or 0 beyond the end.
-fn number_at(octets: &[u8], place: usize, is_little: bool) -> u16 {
-    let first = octets.get(place).copied().unwrap_or(0);
-    let second = octets.get(place.saturating_add(1)).copied().unwrap_or(0);
-    if is_little {
-        u16::from_le_bytes([first, second])
-    } else {
-        u16::from_be_bytes([first, second])
+/// The octet at a place, or 0 beyond the end.
+fn octet_at(octets: &[u8], place: usize) -> u8
+    ensures { result ≡ octet_at octets.now place }
+{
+    match octets.get(place) {
+        Some(octet) => *octet,
+        None => 0,
     }
+}
+
+/// The number in two octets from a place on, the lower one first.
+fn little_at(octets: &[u8], place: usize) -> u16
+    requires { place < 256 }
+    ensures { result ≡ little_at octets.now place }
+{
+    let low = u16::from(octet_at(octets, place));
+    let high = u16::from(octet_at(octets, place + 1));
+    low + 256 * high
+}
+
+/// The number in two octets from a place on, the lower one last.
+fn big_at(octets: &[u8], place: usize) -> u16
+    requires { place < 256 }
+    ensures { result ≡ big_at octets.now place }
+{
+    let high = u16::from(octet_at(octets, place));
+    let low = u16::from(octet_at(octets, place + 1));
+    256 * high + low
 }
 
 /// The number of a link type that isn't known, of the header of a classic file or of an interface description.
-fn link_number(octets: &[u8]) -> u16 {
-    match octets.first() {
-        Some(0xd4 | 0x4d) => number_at(octets, 20, true),
-        Some(0xa1) => number_at(octets, 22, false),
-        Some(1) => number_at(octets, 8, true),
-        _ => number_at(octets, 8, false),
+fn link_number(octets: &[u8]) -> u16
+    ensures { result ≡ link_number octets.now }
+{
+    match octet_at(octets, 0) {
+        0xd4 | 0x4d => little_at(octets, 20),
+        0xa1 => big_at(octets, 22),
+        1 => little_at(octets, 8),
+        _ => big_at(octets, 8),
     }
 }
 
-/// A line on a fault that the octets from it on explain, if they do.
+/// A line on a fault that the octets from it on explain, or that says what to do, if there is one: of an unknown link type
+/// its number. Takes memory for it.
 pub fn hint_of(
     alloc: Global,
     fault: CaptureFault,
     octets: &[u8],
-) -> Result<Option<String>, AllocError> {
+) -> Result<Option<String>, AllocError>
+    ensures link { fault ≡ LinkType → IfOk result (λ hint. IsSomeAnd hint
+        (λ text. string_bytes text ≡ codes "its number is " ++ decimal (link_number octets.now))) }
+    ensures named { fault ≢ LinkType → fault ≢ NotACapture → fault ≢ TooManyInterfaces
+        → IfOk result (λ hint. hint ≡ None) }
+    ensures advised { fault ≡ TooManyInterfaces → IfOk result IsSome }
+{
     match fault {
         CaptureFault::NotACapture => match other_format(octets) {
             Some(name) => Ok(Some(String::from_str(alloc, name)?)),
@@ -94,6 +130,7 @@ pub fn hint_of(
             let number = link_number(octets);
             Ok(Some(format!(in alloc; "its number is {number}")?))
         }
+        CaptureFault::TooManyInterfaces => Ok(Some(String::from_str(alloc, FEWER)?)),
         _ => Ok(None),
     }
 }

@@ -9,10 +9,9 @@ mod hint;
 
 ghost use Rattle.std.specs.Prelude.{◌≡◌, []};
 
-use clap::{Error, error};
 use hint::hint_of;
 use pcef_capture_script::{Counts, End, Options, Request, asked, write_capture};
-use std::env;
+use pcef_command_line::{gather, refuse, tell_no_memory};
 use std::fs::File;
 use std::io::{self, BufWriter, ErrorKind, Read, Write};
 use std::process::ExitCode;
@@ -85,7 +84,8 @@ fn run(rt: &HostRuntime, options: &Options<'_>, waiting: &mut Vec<u8>) -> End
     }
 }
 
-/// Tells why the program ends early, and what the octets at a fault say, and gives the exit status. That it can't be told changes nothing.
+/// Tells why the program ends early, and what the octets at a fault say, and gives the exit status. That it can't be
+/// told changes nothing.
 fn told(rt: &HostRuntime, file: &str, end: &End, octets: &[u8]) -> u8 {
     match end {
         End::Done => {}
@@ -97,7 +97,7 @@ fn told(rt: &HostRuntime, file: &str, end: &End, octets: &[u8]) -> u8 {
             }
         }
         End::NoMemory => {
-            let _ = eprintln!(rt; "want of memory");
+            let _ = tell_no_memory(rt);
         }
         End::Read(error) => {
             let _ = eprintln!(rt; "read fault\n{file}: {error}");
@@ -109,36 +109,11 @@ fn told(rt: &HostRuntime, file: &str, end: &End, octets: &[u8]) -> u8 {
     end.status()
 }
 
-/// The exit status of wrong arguments, of want of memory, or of a question for help or for the version.
-fn told_by(rt: &HostRuntime, error: &Error) -> u8 {
-    if error.kind() == error::ErrorKind::OutOfMemory {
-        return told(rt, "", &End::NoMemory, &[]);
-    }
-    match error.print(rt) {
-        Ok(()) if error.use_stderr() => 2,
-        Ok(()) => 0,
-        Err(_) => 4,
-    }
-}
-
-/// The arguments, the program's name before them.
-fn words(rt: &HostRuntime) -> io::Result<Vec<String>> {
-    let mut words = Vec::new(rt.alloc());
-    for word in env::args(rt)? {
-        words.push(word)?;
-    }
-    Ok(words)
-}
-
 /// Does what the arguments ask for, and gives the exit status.
 fn status(rt: &HostRuntime) -> u8 {
-    let words = match words(rt) {
+    let words = match gather(rt) {
         Ok(words) => words,
-        Err(error) if error.kind() == ErrorKind::InvalidData => {
-            let _ = eprintln!(rt; "usage: an argument isn't UTF-8");
-            return 2;
-        }
-        Err(_) => return told(rt, "", &End::NoMemory, &[]),
+        Err(status) => return status,
     };
     match asked(rt.alloc(), words.as_slice()) {
         Ok(Some(Request::Options(options))) => {
@@ -161,7 +136,7 @@ fn status(rt: &HostRuntime) -> u8 {
             let _ = eprintln!(rt; "usage: an option has no value");
             2
         }
-        Err(error) => told_by(rt, &error),
+        Err(error) => refuse(rt, &error),
     }
 }
 
