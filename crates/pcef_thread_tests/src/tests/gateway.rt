@@ -3,8 +3,11 @@ ghost use Rattle.std.specs.Prelude.{◌≡◌, [], IfOk};
 ghost use Rattle.pcef_model.specs.Journals.{attach_count};
 
 mod commands;
+mod flushes;
 mod limits;
 mod memory;
+mod open_rings;
+mod rounds;
 mod workers;
 
 use pcef_catalog::Catalog;

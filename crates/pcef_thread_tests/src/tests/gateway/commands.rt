@@ -2,7 +2,7 @@
 
 use super::*;
 use pcef_model::{Accepted, Body, Cause, Level, Refusal, Report, TriggerSet};
-use pcef_rule::RuleName;
+use pcef_rule::{BearerId, RuleName};
 use pcef_worker::OpenGate;
 use std::process::Abort;
 
@@ -158,4 +158,60 @@ fn both_reports_are_told(rt: &impl Abort, ended: &Ended) {
         ..Figures::default()
     };
     assert_eq!(rt; told(ended), Some(expected));
+}
+
+// The rule is installed once 100 packets were sent, of which 64 at most are in the ring still: 36 were judged before at
+// least. The worker takes 32 more at most till it reads the new table: 132 were judged before at most.
+#[test]
+fn a_rule_reaches_the_workers_among_the_packets(rt: HostRuntime) -> Result<(), Fail> {
+    let alloc = rt.alloc();
+    let arrivals = packets(alloc, 200, 1)?;
+    let commands = vec![in alloc; Command::Install(web(alloc)?)]?;
+    let session = accepted(session(alloc, 1000)?, monitor(1_000_000)?)?;
+    let ended = run(&rt, alloc, session, arrivals, commands, 1, &OpenGate)??;
+    let told = figures_of(ended).unwrap_or_default();
+    let before = 200u64.saturating_sub(told.counted / 28);
+    assert!(rt; told.rows == 200 && matches!(before, 36..=132));
+    Ok(())
+}
+
+/// A rule is installed, its key is reported, and the session is closed, so that no rule can be removed.
+fn to_the_close(alloc: Global) -> Result<Vec<Command>, Fail> {
+    Ok(vec![in alloc;
+        Command::Install(web(alloc)?),
+        Command::ReportNow(vid()?),
+        Command::Close,
+        Command::Remove(RuleName::new("web")?),
+    ]?)
+}
+
+#[test]
+fn an_answer_among_the_packets_is_whole(rt: HostRuntime) -> Result<(), Fail> {
+    let alloc = rt.alloc();
+    let (arrivals, commands) = (packets(alloc, 50, 1)?, to_the_close(alloc)?);
+    let session = session(alloc, 1000)?;
+    let ended = run(&rt, alloc, session, arrivals, commands, 1, &OpenGate)??;
+    whole_answers_are_told(&rt, &ended);
+    Ok(())
+}
+
+/// An answer with the generation, the bearer and the reports, from the first to past the last.
+fn answer(generation: u32, bearer: Option<BearerId>, reports: (u64, u64)) -> Accepted {
+    Accepted {
+        generation,
+        bearer,
+        first_report: reports.0,
+        past_last_report: reports.1,
+        unchanged: false,
+    }
+}
+
+fn whole_answers_are_told(rt: &impl Abort, ended: &Ended) {
+    let answers = [
+        Ok(answer(1, Some(BearerId(5)), (0, 0))),
+        Ok(answer(1, None, (0, 1))),
+        Ok(answer(2, None, (1, 1))),
+        Err(Refusal::Closed),
+    ];
+    assert_eq!(rt; ended.answers.as_slice(), answers.as_slice());
 }
