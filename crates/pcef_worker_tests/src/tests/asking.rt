@@ -68,7 +68,7 @@ pub fn asked_around_a_flush<
     let gate = HoldsTwice { halts: &halts };
     let (told, left) = join(
         rt,
-        || asked_twice(rt, shared, desk, install, &halts),
+        || asked_twice(rt, shared, desk, install, gate),
         || left_after_a_row(rt, alloc, shared, gate),
     );
     rows_kept(workers, left);
@@ -80,8 +80,9 @@ fn asked_twice<C: Offers + Drop, N: Naming, W: Board<Slot<N>> + Drop, R: Wait>(
     shared: &Shared<C, N, W>,
     desk: &mut Desk<N>,
     install: &Command,
-    halts: &Halts,
+    gate: HoldsTwice<'_>,
 ) -> Seen {
+    let halts = gate.halts;
     let begun = asked_at(rt, shared, desk, install, &halts.begun, &halts.goes_on);
     let answered = asked_at(rt, shared, desk, install, &halts.answered, &halts.leaves);
     [begun.0, begun.1, answered.0, answered.1]

@@ -123,11 +123,17 @@ fn leaves<C: Detects + Drop, N: Naming, W: Board<Slot<N>> + Drop, R: Wait>(
 ) -> Seen {
     match step {
         Step::Finish => match finished(rt, shared, workers, worker) {
-            Ok((seen, _)) => seen,
+            Ok(both) => {
+                let seen = both.0;
+                seen
+            }
             Err(refusal) => refused(refusal == FlushRefusal::NoMemory),
         },
         Step::FinishTelling => match finished(rt, shared, workers, worker) {
-            Ok((_, told)) => told,
+            Ok(both) => {
+                let told = both.1;
+                told
+            }
             Err(_) => NOT_DONE,
         },
         Step::CanNotFinish(reason) => {
@@ -161,7 +167,8 @@ fn finished<C: Detects + Drop, N: Naming, W: Board<Slot<N>> + Drop, R: Wait>(
     match worker.finish(rt, shared) {
         Ok((left, verdicts)) => {
             let told = numbers_of(&verdicts);
-            Ok((kept(workers, told[0], left), told))
+            let seen = kept(workers, told[0], left);
+            Ok((seen, told))
         }
         Err((worker, refusal)) => {
             workers.add(worker);
