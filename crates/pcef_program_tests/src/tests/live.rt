@@ -34,7 +34,8 @@ impl Write for Terminal {
     }
 }
 
-/// Who writes a line, and the next one only once the answer is there: without it, reading fails.
+/// Who writes a line, and the next one only once the answer is there: without it, reading fails. The last of three lines
+/// fills all of the block that is read.
 #[derive(Drop)]
 struct Asking {
     lines: u64,
@@ -51,9 +52,13 @@ impl Read for Asking {
             return Ok(0);
         }
         self.lines = self.lines.saturating_add(1);
-        buf[0] = b'x';
-        buf[1] = b'\n';
-        Ok(2)
+        let len = if self.lines == 3 { buf.len() } else { 2 };
+        for byte in buf[..len].iter_mut() {
+            *byte = b' ';
+        }
+        buf[len - 2] = b'x';
+        buf[len - 1] = b'\n';
+        Ok(len)
     }
 }
 

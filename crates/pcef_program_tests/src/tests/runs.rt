@@ -23,6 +23,13 @@ const INSTALL: &str =
 const VOICE: &str =
     "{\"do\":\"install\",\"rule\":{\"name\":\"voice\",\"precedence\":50,\"filters\":[{\"text\":\"permit out 6 from any to any\"}],\"qci\":1,\"arp\":{\"level\":2,\"capability\":false,\"vulnerability\":false},\"gbr\":{\"up\":64000,\"down\":64000},\"gate\":\"ENABLED\"}}";
 
+/// Two more rules on the bearer of `voice`.
+const FAX: &str =
+    "{\"do\":\"install\",\"rule\":{\"name\":\"fax\",\"precedence\":51,\"filters\":[{\"text\":\"permit out 6 from any to any\"}],\"qci\":1,\"arp\":{\"level\":2,\"capability\":false,\"vulnerability\":false},\"gbr\":{\"up\":64000,\"down\":64000},\"gate\":\"ENABLED\"}}";
+
+const TEXT: &str =
+    "{\"do\":\"install\",\"rule\":{\"name\":\"text\",\"precedence\":52,\"filters\":[{\"text\":\"permit out 6 from any to any\"}],\"qci\":1,\"arp\":{\"level\":2,\"capability\":false,\"vulnerability\":false},\"gbr\":{\"up\":64000,\"down\":64000},\"gate\":\"ENABLED\"}}";
+
 const MONITOR: &str = "{\"do\":\"monitor\",\"key\":\"vid\",\"grant\":1000}";
 
 const MONITOR_SESSION: &str =
@@ -95,14 +102,18 @@ fn a_report_among_the_packets(rt: HostRuntime) -> Result<(), Fail> {
     Ok(())
 }
 
+/// One report of usage, two of access events and three of inactive rules.
 #[test]
 fn reports_of_each_kind_are_counted(rt: HostRuntime) -> Result<(), Fail> {
     let lines = [
         "{\"do\":\"triggers\",\"events\":[\"RAT_CHANGE\"]}",
         INSTALL,
         VOICE,
+        FAX,
+        TEXT,
         MONITOR,
         "{\"do\":\"notice\",\"event\":\"RAT_CHANGE\",\"value\":\"eutran\"}",
+        "{\"do\":\"notice\",\"event\":\"RAT_CHANGE\",\"value\":\"utran\"}",
         "{\"do\":\"notice\",\"event\":\"PLMN_CHANGE\",\"value\":\"26201\"}",
         "{\"do\":\"lose\",\"bearer\":6}",
         "{\"do\":\"lose\",\"bearer\":6}",
@@ -116,7 +127,7 @@ fn reports_of_each_kind_are_counted(rt: HostRuntime) -> Result<(), Fail> {
     assert_eq!(rt; status, 0);
     assert!(rt;
         wrote.as_str().starts_with(
-            "rows 1 abandoned 0 dropped 0\ncommands 8 refused 3\nreports usage 1 access 1 inactive 1\nkey vid counted "
+            "rows 1 abandoned 0 dropped 0\ncommands 11 refused 3\nreports usage 1 access 2 inactive 3\nkey vid counted "
         )
     );
     Ok(())
