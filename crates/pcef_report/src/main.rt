@@ -10,6 +10,7 @@ mod end;
 mod escape;
 mod keys;
 mod metrics;
+mod names;
 mod options;
 mod page;
 mod rates;
@@ -29,7 +30,7 @@ use std::process::ExitCode;
 use table::write_table;
 
 /// Where an error of the system ends the program.
-fn end_of(error: io::Error, other: End) -> End {
+fn end_of<'a>(error: io::Error, other: End<'a>) -> End<'a> {
     match error.kind() {
         ErrorKind::OutOfMemory => End::NoMemory,
         _ => other,
@@ -65,24 +66,24 @@ fn write(rt: &HostRuntime, format: Format, figures: &Figures) -> io::Result<()> 
 }
 
 /// Collects what the files tell.
-fn read(rt: &HostRuntime, options: Options<'_>) -> Result<Figures, End> {
+fn read<'a>(rt: &HostRuntime, options: Options<'a>) -> Result<Figures, End<'a>> {
     let lines = match fs::read(rt, options.lines) {
         Ok(lines) => lines,
-        Err(error) => return Err(end_of(error, End::Read(error))),
+        Err(error) => return Err(end_of(error, End::Read(options.lines, error))),
     };
     let answers = match fs::read(rt, options.answers) {
         Ok(answers) => answers,
-        Err(error) => return Err(end_of(error, End::Read(error))),
+        Err(error) => return Err(end_of(error, End::Read(options.answers, error))),
     };
     match collect(rt.alloc(), &lines, &answers) {
         Ok(figures) => Ok(figures),
         Err(CollectFault::NoMemory) => Err(End::NoMemory),
-        Err(fault) => Err(End::Apart(fault)),
+        Err(fault) => Err(End::Apart(options, fault)),
     }
 }
 
 /// Shows what the files tell.
-fn report(rt: &HostRuntime, options: Options<'_>) -> End {
+fn report<'a>(rt: &HostRuntime, options: Options<'a>) -> End<'a> {
     let figures = match read(rt, options) {
         Ok(figures) => figures,
         Err(end) => return end,
@@ -94,19 +95,22 @@ fn report(rt: &HostRuntime, options: Options<'_>) -> End {
 }
 
 /// Tells why the program ends early, and gives its exit status. That it can't be told changes nothing.
-fn told(rt: &HostRuntime, end: &End) -> u8
+fn told(rt: &HostRuntime, end: &End<'_>) -> u8
     ensures { result ≤ 4 }
 {
     match end {
         End::Done => {}
-        End::Apart(fault) => {
-            let _ = eprintln!(rt; "{fault}");
+        End::Apart(options, fault) => {
+            let (lines, answers) = (options.lines, options.answers);
+            let _ = eprintln!(rt;
+                "{fault}\n{lines} has to be the script, and {answers} what pcef script wrote for it"
+            );
         }
         End::NoMemory => {
             let _ = tell_no_memory(rt);
         }
-        End::Read(error) => {
-            let _ = eprintln!(rt; "read fault\n{error}");
+        End::Read(file, error) => {
+            let _ = eprintln!(rt; "read fault\n{file}: {error}");
         }
         End::Write(error) => {
             let _ = eprintln!(rt; "write fault\nStandard output: {error}");

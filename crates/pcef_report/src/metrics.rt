@@ -3,8 +3,9 @@
 ghost use Rattle.std.specs.Prelude.{◌≡◌, ◌++◌, OnOk, string_bytes};
 ghost use Rattle.pcef_report.specs.Labels.{label_of};
 
-use crate::keys::names;
-use pcef_figures::{Figures, KeyState, Rates, Verdict, octets_judged, octets_of};
+use crate::keys::keys_of;
+use crate::names::ByName;
+use pcef_figures::{Figures, Rates, Verdict, octets_by_key, octets_by_rule, sum_of};
 use std::alloc::{AllocError, Global};
 
 /// Adds the value of a label: a quotation mark, a backslash and a line feed are escaped, and other characters stand as
@@ -28,25 +29,54 @@ fn family(text: &mut String, name: &str, kind: &str, help: &str) -> Result<(), A
     write!(text, "# TYPE {name} {kind}\n# HELP {name} {help}\n")
 }
 
-/// The rules that decided a packet, each once, in the order in which they come.
-fn rules<'a>(alloc: Global, figures: &'a Figures) -> Result<Vec<&'a str>, AllocError> {
-    let mut rules: Vec<&'a str> = Vec::new(alloc);
+/// How many packets have which verdict.
+#[derive(Clone, Copy)]
+struct Counts {
+    passed: u64,
+    gated: u64,
+    unmatched: u64,
+    stray: u64,
+}
+
+impl Counts {
+    const NONE: Counts = Counts {
+        passed: 0,
+        gated: 0,
+        unmatched: 0,
+        stray: 0,
+    };
+
+    fn of(&self, verdict: Verdict) -> u64 {
+        match verdict {
+            Verdict::Passed => self.passed,
+            Verdict::Gated => self.gated,
+            Verdict::Unmatched => self.unmatched,
+            Verdict::Stray => self.stray,
+        }
+    }
+
+    fn count(&mut self, verdict: Verdict) {
+        let count = match verdict {
+            Verdict::Passed => &mut self.passed,
+            Verdict::Gated => &mut self.gated,
+            Verdict::Unmatched => &mut self.unmatched,
+            Verdict::Stray => &mut self.stray,
+        };
+        *count = count.saturating_add(1);
+    }
+}
+
+/// The rules that decided a packet, in the order in which they come, with the counts of their packets.
+fn rules<'a>(alloc: Global, figures: &'a Figures) -> Result<ByName<'a, Counts>, AllocError> {
+    let mut rules = ByName::new(alloc);
     for judged in &figures.judged {
         let rule = judged.rule.as_str();
-        if !rules.iter().any(|known| *known == rule) {
-            rules.push(rule)?;
+        rules.begin(rule, Counts::NONE)?;
+        if let Some(counts) = rules.get(rule) {
+            counts.count(judged.verdict);
         }
     }
     Ok(rules)
-}
-
-/// How many packets of a rule have a verdict.
-fn count(figures: &Figures, rule: &str, verdict: Verdict) -> usize {
-    figures
-        .judged
-        .iter()
-        .filter(|judged| judged.verdict == verdict && judged.rule.as_str() == rule)
-        .count()
 }
 
 fn push_packets(alloc: Global, text: &mut String, figures: &Figures) -> Result<(), AllocError> {
@@ -57,14 +87,14 @@ fn push_packets(alloc: Global, text: &mut String, figures: &Figures) -> Result<(
         "Packets by their rule and verdict.",
     )?;
     let rules = rules(alloc, figures)?;
-    for rule in &rules {
+    for (rule, counts) in rules.entries() {
         for verdict in &[
             Verdict::Passed,
             Verdict::Gated,
             Verdict::Unmatched,
             Verdict::Stray,
         ] {
-            let count = count(figures, rule, *verdict);
+            let count = counts.of(*verdict);
             if count > 0 {
                 text.push_str("pcef_packets_total{rule=\"")?;
                 push_label(text, rule)?;
@@ -79,11 +109,9 @@ fn push_packets(alloc: Global, text: &mut String, figures: &Figures) -> Result<(
         "counter",
         "Octets that passed by a rule.",
     )?;
-    for rule in &rules {
-        if let (false, Some(octets)) = (
-            rule.is_empty(),
-            octets_judged(figures.judged.as_slice(), rule),
-        ) {
+    let octets = octets_by_rule(alloc, figures.judged.as_slice())?;
+    for (rule, _) in rules.entries() {
+        if let (false, Some(octets)) = (rule.is_empty(), sum_of(&octets, *rule)) {
             text.push_str("pcef_passed_octets_total{rule=\"")?;
             push_label(text, rule)?;
             write!(text, "\"}} {octets}\n")?;
@@ -92,15 +120,13 @@ fn push_packets(alloc: Global, text: &mut String, figures: &Figures) -> Result<(
     Ok(())
 }
 
-/// Whether the key at a place is one of those before it: there is one sample of each.
-fn is_named_before(keys: &[KeyState], place: usize) -> bool {
-    let (before, rest) = keys.split_at(place.min(keys.len()));
-    match rest.first() {
-        Some(state) => before
-            .iter()
-            .any(|other| other.key.as_str() == state.key.as_str()),
-        None => false,
+/// The octets of each key that no report told: there is one sample of each, of the first one of its name.
+fn unreported<'a>(alloc: Global, figures: &'a Figures) -> Result<ByName<'a, u64>, AllocError> {
+    let mut keys = ByName::new(alloc);
+    for state in &figures.keys {
+        keys.begin(state.key.as_str(), state.unreported)?;
     }
+    Ok(keys)
 }
 
 fn push_keys(alloc: Global, text: &mut String, figures: &Figures) -> Result<(), AllocError> {
@@ -110,8 +136,10 @@ fn push_keys(alloc: Global, text: &mut String, figures: &Figures) -> Result<(), 
         "counter",
         "Octets that reports of usage tell of a key.",
     )?;
-    for key in &names(alloc, figures)? {
-        if let Some(octets) = octets_of(figures.usage.as_slice(), key) {
+    let octets = octets_by_key(alloc, figures.usage.as_slice())?;
+    let keys = keys_of(alloc, figures)?;
+    for (key, _) in keys.entries() {
+        if let Some(octets) = sum_of(&octets, *key) {
             text.push_str("pcef_reported_octets_total{key=\"")?;
             push_label(text, key)?;
             write!(text, "\"}} {octets}\n")?;
@@ -123,25 +151,23 @@ fn push_keys(alloc: Global, text: &mut String, figures: &Figures) -> Result<(), 
         "gauge",
         "Octets of a key that no report told by the last show.",
     )?;
-    for (place, state) in figures.keys.iter().enumerate() {
-        if is_named_before(figures.keys.as_slice(), place) {
-            continue;
-        }
+    let keys = unreported(alloc, figures)?;
+    for (key, unreported) in keys.entries() {
         text.push_str("pcef_unreported_octets{key=\"")?;
-        push_label(text, state.key.as_str())?;
-        let unreported = state.unreported;
+        push_label(text, key)?;
         write!(text, "\"}} {unreported}\n")?;
     }
     Ok(())
 }
 
-/// The names of refusals and faults, each once, in the order in which they come.
-fn refused_names<'a>(alloc: Global, figures: &'a Figures) -> Result<Vec<&'a str>, AllocError> {
-    let mut names: Vec<&'a str> = Vec::new(alloc);
+/// The names of refusals and faults, in the order in which they come, with the counts of their lines.
+fn refused<'a>(alloc: Global, figures: &'a Figures) -> Result<ByName<'a, u64>, AllocError> {
+    let mut names = ByName::new(alloc);
     for refused in &figures.refused {
         let name = refused.name.as_str();
-        if !names.iter().any(|known| *known == name) {
-            names.push(name)?;
+        names.begin(name, 0u64)?;
+        if let Some(count) = names.get(name) {
+            *count = count.saturating_add(1);
         }
     }
     Ok(names)
@@ -154,13 +180,8 @@ fn push_refused(alloc: Global, text: &mut String, figures: &Figures) -> Result<(
         "counter",
         "Lines that were refused or at fault.",
     )?;
-    for name in &refused_names(alloc, figures)? {
-        let name = *name;
-        let count = figures
-            .refused
-            .iter()
-            .filter(|refused| refused.name.as_str() == name)
-            .count();
+    let names = refused(alloc, figures)?;
+    for (name, count) in names.entries() {
         text.push_str("pcef_refused_lines_total{name=\"")?;
         push_label(text, name)?;
         write!(text, "\"}} {count}\n")?;

@@ -1,0 +1,45 @@
+//! Values by name.
+
+use std::alloc::{AllocError, Global};
+use std::collections::BTreeMap;
+
+/// A value for each name, in the order in which the names come first. A name is found in so many steps as the logarithm
+/// of their number.
+#[derive(Drop)]
+pub(crate) struct ByName<'a, T: Drop> {
+    entries: Vec<(&'a str, T)>,
+    places: BTreeMap<&'a str, usize>,
+}
+
+impl<'a, T: Drop> ByName<'a, T> {
+    /// No names. Takes no memory.
+    pub(crate) fn new(alloc: Global) -> ByName<'a, T> {
+        ByName {
+            entries: Vec::new(alloc),
+            places: BTreeMap::new(alloc),
+        }
+    }
+
+    /// The value of a name, if it has one.
+    pub(crate) fn get(&mut self, name: &'a str) -> Option<&mut T> {
+        let place = *self.places.get(&name)?;
+        match self.entries.get_mut(place) {
+            Some(entry) => Some(&mut entry.1),
+            None => None,
+        }
+    }
+
+    /// Gives a name a value, unless it has one. Takes memory for a new name.
+    pub(crate) fn begin(&mut self, name: &'a str, value: T) -> Result<(), AllocError> {
+        if self.places.get(&name).is_none() {
+            self.places.insert(name, self.entries.len())?;
+            self.entries.push((name, value))?;
+        }
+        Ok(())
+    }
+
+    /// The names with their values.
+    pub(crate) fn entries(&self) -> &[(&'a str, T)] {
+        self.entries.as_slice()
+    }
+}
