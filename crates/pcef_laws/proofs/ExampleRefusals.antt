@@ -9,10 +9,12 @@ use Rattle.pcef_rule.specs.declared.gate.Gate.TheVariants.{Enabled}
 use Rattle.pcef_rule.specs.declared.quantity.Qos.{Qos}
 use Rattle.pcef_rule.specs.declared.quantity.Rates.{Rates}
 use Rattle.pcef_model.specs.declared.answer.Refusal.{Refusal}
-use Rattle.pcef_model.specs.declared.answer.Refusal.TheVariants.{KeysFull, LevelClash, NameIsPredefined, OverCapacityDown, OverCapacityUp, RatesMissing, RatesNotWanted, RulesFull, TooManyBearers, UnknownQci}
-use Rattle.pcef_model.specs.declared.command.Command.TheVariants.{Install, Monitor}
+use Rattle.pcef_model.specs.declared.answer.Refusal.TheVariants.{CommandsFull, KeysFull, LevelClash, NameIsPredefined, OverCapacityDown, OverCapacityUp, RatesMissing, RatesNotWanted, RulesFull, TooManyBearers, UnknownQci, ZeroGrant}
+use Rattle.pcef_model.specs.declared.command.Command.TheVariants.{Close, Install, Monitor, Triggers}
 use Rattle.pcef_model.specs.declared.level.Level.TheVariants.{Rule, Session}
 use Rattle.pcef_model.specs.Bearers.{sum_down, sum_up}
+use Rattle.pcef_model.specs.Entries.{Journal}
+use Rattle.pcef_model.specs.Journals.{no_triggers}
 use Rattle.pcef_model.specs.Refusals.{first_of, limited_count, refusals}
 use Rattle.pcef_model.specs.Setting.{Setting}
 use Rattle.pcef_model.proofs.ExampleSession.{Event, accept, history, qos_of, rule_of, session_on, vid, web, worked_out}
@@ -99,6 +101,12 @@ over_both_capacities : IsRefused [] (asking web vid (qos_of 1) (rates_of 64001 6
 unfolding refusals_worked_out
 over_both_capacities = refl
 
+no_octets_for_a_key_of_a_rule :
+    first_of (refusals small (history small (accept (Install (asking web vid (qos_of 9) None)) ∷ [])) (Monitor vid 0 Session))
+    ≡ Some ZeroGrant
+unfolding refusals_worked_out
+no_octets_for_a_key_of_a_rule = refl
+
 -- ---- what is full
 abbrev with_level : ℕ → Qos
 with_level level = record { qci = record { 0 = 9 }; arp = record { level = level; capability = false; vulnerability = true } }
@@ -127,3 +135,19 @@ a_sixty_fifth_rule = refl
 a_rule_again : first_of (refusals small (history small sixty_four_rules) (Install (asking (key_of 7) vid (qos_of 9) None))) ≡ None
 unfolding refusals_worked_out
 a_rule_again = refl
+
+-- a session that takes two commands, and has taken two that make no generation
+abbrev of_two_commands : Setting
+of_two_commands = record small { commands = 2 }
+
+abbrev two_subscriptions : Journal
+two_subscriptions = history of_two_commands (accept (Triggers no_triggers) ∷ accept (Triggers no_triggers) ∷ [])
+
+a_third_command : first_of (refusals of_two_commands two_subscriptions (Triggers no_triggers)) ≡ Some CommandsFull
+unfolding refusals_worked_out
+a_third_command = refl
+
+-- it can be closed all the same
+a_close_beyond_the_budget : first_of (refusals of_two_commands two_subscriptions Close) ≡ None
+unfolding refusals_worked_out
+a_close_beyond_the_budget = refl

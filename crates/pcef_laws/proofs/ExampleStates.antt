@@ -1,19 +1,19 @@
 -- Worked examples of what stands after several commands, worked out by hand from TS 29.212 and TS 23.203. Each is proved by
 -- working the definitions out.
-use Rattle.std.proofs.Common.{◌≡◌, refl, ℕ, true, false, List, [], ◌∷◌, Some}
+use Rattle.std.proofs.Common.{◌≡◌, refl, ℕ, true, false, List, [], ◌∷◌, ◌++◌, Some}
 use Rattle.std.specs.Prelude.{codes}
 use Rattle.pcef_rule.specs.declared.gate.Gate.{Gate}
 use Rattle.pcef_rule.specs.declared.gate.Gate.TheVariants.{Disabled, Enabled}
 use Rattle.pcef_rule.specs.declared.quantity.Qos.{Qos}
-use Rattle.pcef_model.specs.declared.command.Command.TheVariants.{Install, Monitor, Triggers}
+use Rattle.pcef_model.specs.declared.command.Command.TheVariants.{Close, Install, Monitor, ReportNow, Triggers}
 use Rattle.pcef_model.specs.declared.level.Level.TheVariants.{Rule, Session}
 use Rattle.pcef_model.specs.declared.report.Body.TheVariants.{Usage}
-use Rattle.pcef_model.specs.declared.report.Cause.TheVariants.{Threshold}
-use Rattle.pcef_model.specs.declared.verdict.Verdict.TheVariants.{Gated}
+use Rattle.pcef_model.specs.declared.report.Cause.TheVariants.{Requested, Threshold}
+use Rattle.pcef_model.specs.declared.verdict.Verdict.TheVariants.{Gated, Unmatched}
 use Rattle.pcef_model.specs.Entries.{Journal}
-use Rattle.pcef_model.specs.Journals.{grant, no_triggers, now, subscribed, verdict_at}
+use Rattle.pcef_model.specs.Journals.{grant, no_triggers, now, subscribed, unreported, verdict_at}
 use Rattle.pcef_model.specs.Reports.{after_flush}
-use Rattle.pcef_model.proofs.ExampleSession.{Event, accept, history, packet_of, qos_of, row_of, rule_of, session_on, told, vid, web, worked_out}
+use Rattle.pcef_model.proofs.ExampleSession.{Event, accept, flush, history, packet_of, qos_of, row_of, rule_of, session_on, told, vid, web, worked_out}
 
 abbrev after_these : List Event → Journal
 after_these events = history (session_on 9) events
@@ -46,6 +46,37 @@ two_grants_that_one_packet_reaches_are_told_in_slot_order :
     told both_reached ≡ record { number = 0; body = Usage vid 28 Threshold } ∷ record { number = 1; body = Usage all 28 Threshold } ∷ []
 unfolding worked_out
 two_grants_that_one_packet_reaches_are_told_in_slot_order = refl
+
+-- a key of the rule `web` with a grant of 50 octets
+abbrev granted : List Event
+granted =
+    accept (Install (rule_of 9 Enabled web 17 vid)) ∷ accept (Monitor vid 50 Rule)
+    ∷ accept (Triggers (record no_triggers { usage_report = true })) ∷ []
+
+-- 28 octets each are told when they are asked for, and 28 more don't reach the grant
+a_report_that_is_asked_for_begins_the_grant_anew :
+    told (after_these (granted ++ flush (28 ∷ []) ∷ accept (ReportNow vid) ∷ flush (28 ∷ []) ∷ []))
+    ≡ record { number = 0; body = Usage vid 28 Requested } ∷ []
+unfolding worked_out
+a_report_that_is_asked_for_begins_the_grant_anew = refl
+
+-- a key of the session stays on when the session is closed: packets that come late reach its grant
+late_packets_reach_a_grant_after_a_close :
+    told (after_these (accept (Install (rule_of 9 Enabled web 17 vid)) ∷ accept (Monitor all 28 Session)
+    ∷ accept (Triggers (record no_triggers { usage_report = true })) ∷ accept Close ∷ flush (28 ∷ []) ∷ []))
+    ≡ record { number = 0; body = Usage all 28 Threshold } ∷ []
+unfolding worked_out
+late_packets_reach_a_grant_after_a_close = refl
+
+-- usage of the session is of what its rules pass (TS 29.212, clause 4.5.16)
+an_unmatched_packet_counts_for_no_key_of_the_session :
+    unreported (session_on 9)
+    (after_flush (session_on 9) (after_these (accept (Monitor all 28 Session) ∷ []))
+    (record (row_of 28) { generation = 1; verdict = Unmatched } ∷ []))
+    all
+    ≡ 0
+unfolding worked_out
+an_unmatched_packet_counts_for_no_key_of_the_session = refl
 
 -- ---- decisions (TS 23.203, clause 6.2.2; TS 29.212, clause 5.3.11)
 -- a rule of this name with this gate and this precedence value
