@@ -1,4 +1,4 @@
-//! Two sessions on a pool, each with commands on its rule `voice`.
+//! Two sessions on a pool, each with commands on its rule `voice` and on the rule `radio` that it offers.
 
 ghost use Rattle.std.specs.Prelude.{◌≡◌, IfOk, IfSome, length};
 ghost use Rattle.pcef_share.specs.Names.{name_at};
@@ -8,7 +8,8 @@ mod memory;
 mod opening;
 mod rows;
 
-use pcef_catalog::Listing;
+use arrayvec::ArrayVec;
+use pcef_catalog::{Listing, Offer, Shape};
 use pcef_filter::read_filter;
 use pcef_model::{Accepted, Command, Profile, Refusal};
 use pcef_packet::Addr;
@@ -19,13 +20,17 @@ use std::alloc::Global;
 use std::marker::Brand;
 use std::test::Fail;
 
-/// A command on the rule `voice` of one of two sessions.
+/// A command of one of two sessions.
 #[derive(Clone, Copy)]
 enum Step {
-    /// Session so-and-so installs it with these uplink and downlink rates.
+    /// Session so-and-so installs `voice` with these uplink and downlink rates.
     Install(usize, u32, u32),
-    /// Session so-and-so removes it.
+    /// Session so-and-so removes `voice`.
     Remove(usize),
+    /// Session so-and-so activates `radio`, of 70,000 bit/s in each direction.
+    Activate(usize),
+    /// Session so-and-so removes `radio`.
+    Deactivate(usize),
 }
 
 /// What is told of commands on two sessions.
@@ -57,10 +62,15 @@ fn profile_of(qci: u8) -> Option<Profile> {
     })
 }
 
-/// A session that offers no rules, and whose default bearer has this QCI, or nothing for want of memory.
+/// A session that offers `radio`, and whose default bearer has this QCI, or nothing for want of memory.
 fn asked(alloc: Global, qci: u8) -> Option<(Profile, Listing)> {
-    let listing = Listing::new(alloc, Vec::new(alloc)).ok()?;
-    Some((profile_of(qci)?, listing))
+    let radio = Offer {
+        properties: properties_of(RuleName::known("radio"), 70_000, 70_000),
+        shape: Shape::new(ArrayVec::new()),
+    };
+    let mut offers = Vec::new(alloc);
+    offers.push(radio).ok()?;
+    Some((profile_of(qci)?, Listing::new(alloc, offers).ok()?))
 }
 
 /// So many sessions, of which the last one's default bearer has this QCI, or nothing for want of memory.
@@ -75,10 +85,10 @@ fn all_asked(alloc: Global, sessions: u8, qci: u8) -> Option<Vec<(Profile, Listi
     Some(profiles)
 }
 
-/// The rule `voice`, on a bearer of its own, with these rates, or nothing for want of memory.
-fn voice(alloc: Global, up: u32, down: u32) -> Option<Rule> {
-    let properties = Properties {
-        name: RuleName::known("voice"),
+/// What a rule of this name and these rates has, on a bearer apart from the default one.
+fn properties_of(name: RuleName, up: u32, down: u32) -> Properties {
+    Properties {
+        name,
         precedence: 50,
         qos: Qos {
             qci: Qci(1),
@@ -87,7 +97,12 @@ fn voice(alloc: Global, up: u32, down: u32) -> Option<Rule> {
         rates: Some(Rates { up, down }),
         gate: Gate::Enabled,
         key: None,
-    };
+    }
+}
+
+/// The rule `voice` with these rates, or nothing for want of memory.
+fn voice(alloc: Global, up: u32, down: u32) -> Option<Rule> {
+    let properties = properties_of(RuleName::known("voice"), up, down);
     let filter = read_filter("permit out ip from any to any", None).ok()?;
     Rule::new(alloc, properties, &[filter]).ok()
 }
@@ -99,6 +114,8 @@ fn command_of(alloc: Global, step: Step) -> Option<(usize, Command)> {
             Some((session, Command::Install(voice(alloc, up, down)?)))
         }
         Step::Remove(session) => Some((session, Command::Remove(RuleName::known("voice")))),
+        Step::Activate(session) => Some((session, Command::Activate(RuleName::known("radio")))),
+        Step::Deactivate(session) => Some((session, Command::Remove(RuleName::known("radio")))),
     }
 }
 

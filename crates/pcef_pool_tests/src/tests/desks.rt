@@ -47,7 +47,7 @@ struct Side {
     opened: Opened,
 }
 
-/// A new session that offers no rules, or nothing for want of memory.
+/// A new session, or nothing for want of memory.
 fn new_side(alloc: Global) -> Option<Side>
     ensures fresh { IfSome result (λ s. s.session.session.journal ≡ []) }
     ensures offers { IfSome result (λ s. arc_value s.catalog ≡ s.session.session.setting.catalog) }

@@ -158,6 +158,49 @@ fn the_sessions_own_capacity_is_looked_at_first(rt: HostRuntime) -> Result<(), F
 }
 
 #[test]
+fn an_offered_rule_takes_its_rates_from_the_pool(rt: HostRuntime) -> Result<(), Fail> {
+    let steps = [
+        Step::Activate(0),
+        Step::Install(0, 30_001, 30_001),
+        Step::Install(0, 30_000, 30_000),
+        Step::Activate(1),
+        Step::Deactivate(0),
+        Step::Activate(1),
+    ];
+    let answers = [
+        accepted(Some(6), 1),
+        Err(Refusal::PoolUp),
+        accepted(Some(6), 2),
+        Err(Refusal::PoolUp),
+        accepted(None, 3),
+        accepted(Some(6), 1),
+    ];
+    let due = Due {
+        answers: answers.as_slice(),
+        generations: (3, 1),
+        granted: 100_000,
+    };
+    assert!(rt; comes(&rt, rt.alloc(), both(100_000), steps.as_slice(), &due)?);
+    Ok(())
+}
+
+#[test]
+fn downlink_rates_of_an_offered_rule_are_looked_at_too(rt: HostRuntime) -> Result<(), Fail> {
+    let steps = [Step::Activate(0)];
+    let due = Due {
+        answers: &[Err(Refusal::PoolDown)],
+        generations: (0, 0),
+        granted: 0,
+    };
+    let less = Sums {
+        up: 70_000,
+        down: 69_999,
+    };
+    assert!(rt; comes(&rt, rt.alloc(), less, steps.as_slice(), &due)?);
+    Ok(())
+}
+
+#[test]
 fn two_desks_in_threads_leave_nothing_granted(rt: HostRuntime) -> Result<(), Fail> {
     let Some((seen, _, granted)) = tell_desks(&rt, rt.alloc(), both(64_000), Task::AtOnce(1000))
     else {
