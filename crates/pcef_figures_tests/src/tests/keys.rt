@@ -90,13 +90,13 @@ fn sums_of_octets_are_exact_below_2_to_the_64(rt: HostRuntime) -> Result<(), Fai
     let figures = collect(rt.alloc(), LINES, ANSWERS)?;
     let usage = figures.usage.as_slice();
     let sums = octets_by_key(rt.alloc(), usage)?;
-    for (key, octets) in &[
+    for (key, octets) in [
         ("vid", 18_446_744_073_709_551_615u64),
         ("web", 5),
         ("full", 0),
     ] {
-        assert_eq!(rt; octets_of(usage, key), Some(*octets));
-        assert_eq!(rt; sum_of(&sums, key), Some(*octets));
+        assert_eq!(rt; octets_of(usage, key), Some(octets));
+        assert_eq!(rt; sum_of(&sums, key), Some(octets));
     }
     let more =
         b"{\"reports\":[{\"key\":\"vid\",\"octets\":18446744073709551615},{\"key\":\"vid\",\"octets\":1},{\"key\":\"web\",\"octets\":2}]}";
