@@ -20,7 +20,8 @@ use Rattle.pcef_model.specs.declared.entry.Entry.TheVariants as entry
 use Rattle.pcef_model.proofs.AfterEvents.{now_after}
 use Rattle.pcef_model.proofs.Sameness.{same_name_is, same_name_of}
 use Rattle.pcef_laws.specs.Reporting.{tells_of}
-use Rattle.pcef_laws.proofs.Among.{among_kept, any_back, any_front}
+use Rattle.pcef_model.proofs.Ending.{among_kept}
+use Rattle.pcef_laws.proofs.Among.{any_back, any_front}
 
 -- ---- reports of keys
 told_of : (key : List ℕ) (cause : Cause) (keys : List (List ℕ)) → list_any (tells_of key) (map (λ k. Usage k cause) keys) ≡ is_among key keys

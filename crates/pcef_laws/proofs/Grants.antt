@@ -14,7 +14,7 @@ use Rattle.pcef_model.specs.Journals.{grant, now, report_count, reported, slots,
 use Rattle.pcef_model.specs.Lawful.{Lawful, at_first, by_attach, by_command, by_flush, by_leave}
 use Rattle.pcef_model.specs.Reports.{after_command, body_of, is_reached, is_reached_by, plan, tell, thresholds, with_rows, with_thresholds}
 use Rattle.pcef_model.proofs.Reports.{tell_slots, tell_subscribed}
-use Rattle.pcef_laws.proofs.Among.{among_kept}
+use Rattle.pcef_model.proofs.Ending.{among_kept}
 
 -- ---- one report
 abbrev with_report : Setting → PendingReport → Journal → Journal

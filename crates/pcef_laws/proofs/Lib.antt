@@ -6,4 +6,5 @@ mod Foremost
 mod GoneOff
 mod Grants
 mod LeastIds
+mod Order
 mod Told

@@ -1,19 +1,24 @@
 -- What is reported (TS 29.212, clauses 4.5.16 and 4.5.17).
-use Rattle.std.specs.Prelude.{ℕ, ◌≡◌, Bool, true, false, List, [], ◌∷◌, None, length}
-use Rattle.std.specs.List.{list_any}
+use Rattle.std.specs.Prelude.{ℕ, ◌≡◌, ◌==◌, Bool, true, false, List, [], ◌∷◌, None, filter, length, map}
+use Rattle.std.specs.Cmp.Lexicographic.{slice_cmp}
+use Rattle.std.specs.List.{AllByRecursion, list_any}
+use Rattle.std.specs.List.Sorted.{IsPermutation}
+use Rattle.std.specs.Ordering.{is_lt, nat_cmp}
+use Rattle.pcef_rule.specs.declared.quantity.BearerId.{BearerId}
 use Rattle.pcef_model.specs.declared.command.Command.{Command}
-use Rattle.pcef_model.specs.declared.command.Command.TheVariants.{Terminate}
+use Rattle.pcef_model.specs.declared.command.Command.TheVariants.{LoseBearer, Terminate}
 use Rattle.pcef_model.specs.declared.pending_report.PendingReport.{PendingReport}
-use Rattle.pcef_model.specs.declared.pending_report.PendingReport.TheVariants.{Usage}
+use Rattle.pcef_model.specs.declared.pending_report.PendingReport.TheVariants.{Inactive, Usage}
 use Rattle.pcef_model.specs.declared.report.Cause.{Cause}
 use Rattle.pcef_model.specs.declared.row.Row.{Row}
 use Rattle.pcef_model.specs.Commands.{is_among}
 use Rattle.pcef_model.specs.Entries.{Journal}
+use Rattle.pcef_model.specs.Generations.{Generation}
 use Rattle.pcef_model.specs.Journals.{counted, now, reported, slots, subscribed, unreported}
 use Rattle.pcef_model.specs.Lawful.{Lawful}
 use Rattle.pcef_model.specs.Outcomes.{changes}
 use Rattle.pcef_model.specs.Refusals.{attach_faults, first_of, flush_refusals, is_attached, refusals}
-use Rattle.pcef_model.specs.Reports.{after_attach, after_command, after_flush, after_leave, is_reached, plan, tell}
+use Rattle.pcef_model.specs.Reports.{after_attach, after_command, after_flush, after_leave, inactive, is_reached, plan, tell}
 use Rattle.pcef_model.specs.Setting.{Setting, same_name}
 
 -- ---- grants
@@ -38,6 +43,20 @@ KeysGoOffWithAReport = (p : Setting) (j : Journal) (c : Command) (key : List ℕ
 abbrev pub ReportsTellAll : Type 0
 ReportsTellAll = (p : Setting) (j : Journal) → Lawful p j → (key : List ℕ) (cause : Cause) →
     reported (tell p (Usage key cause ∷ []) j) key ≡ counted p (tell p (Usage key cause ∷ []) j) key
+
+-- ---- rules that go with a lost bearer
+-- no name is below one that stands before it, by the bytes
+abbrev pub Ascends : List (List ℕ) → Type 0
+Ascends [] = Unit {0}
+Ascends (name ∷ names) = AllByRecursion (λ later. is_lt (slice_cmp nat_cmp later name) ≡ false) names × Ascends names
+
+abbrev pub names_on : Generation → BearerId → List (List ℕ)
+names_on g id = map (λ r. r.properties.name) (filter (λ r. g.id_of r.properties.qos == id.0) g.rules)
+
+-- the rules of a lost bearer are told by their names in ascending order, each once
+abbrev pub LostRulesAreToldInOrder : Type 0
+LostRulesAreToldInOrder = (g : Generation) (id : BearerId) →
+    (told : List (List ℕ)) × (inactive g (LoseBearer id) ≡ map Inactive told) × IsPermutation (names_on g id) told × Ascends told
 
 -- ---- the end
 -- the journals that may come after one, event by event

@@ -74,7 +74,8 @@ told_among : (key : List ℕ) (keys : List (List ℕ)) → list_any (tells key) 
 told_among key [] = refl
 told_among key (k ∷ keys) = ap (λ b. same_name key k || b) (told_among key keys)
 
-among_kept : (test : List ℕ → Bool) (key : List ℕ) (keys : List (List ℕ)) → is_among key keys ≡ true → test key ≡ true → is_among key (filter test keys) ≡ true
+-- one that passes a test is among those that do
+pub among_kept : (test : List ℕ → Bool) (key : List ℕ) (keys : List (List ℕ)) → is_among key keys ≡ true → test key ≡ true → is_among key (filter test keys) ≡ true
 among_kept test key [] there holds = absurd cc
 among_kept test key (k ∷ keys) there holds =
     elim (cases_Bool (same_name key k)) [
