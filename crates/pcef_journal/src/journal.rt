@@ -120,9 +120,10 @@ impl Journal {
         self.told
     }
 
-    /// How many of the oldest reports are forgotten.
+    /// How many of the oldest reports are forgotten: no more than there are.
     pub fn forgotten(&self) -> u64
-        ensures { result ≡ self.now.forgotten }
+        ensures count { result ≡ self.now.forgotten }
+        ensures few { self.now.forgotten ≤ length (reports self.now.entries) }
     {
         self.forgotten
     }
