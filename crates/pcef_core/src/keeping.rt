@@ -3,12 +3,11 @@
 ghost use Rattle.std.specs.Prelude.{◌≡◌};
 ghost use Rattle.pcef_core.specs.Keeping.{SessionIsExact};
 
+use pcef_active::ActiveRules;
 use pcef_bearer::Bearers;
 use pcef_index::Indexed;
 use pcef_journal::Journal;
-use pcef_rule::RuleName;
 use pcef_session::SessionState;
-use pcef_table::Source;
 use pcef_usage::Usage;
 use std::marker::Model;
 
@@ -17,7 +16,7 @@ pub struct Kept<'s> {
     /// The journal.
     pub journal: &'s Journal,
     /// The active rules by their names, in the order in which they became active.
-    pub active: &'s [(RuleName, Source)],
+    pub active: &'s ActiveRules,
     /// The bearers, and the rules that are bound to them.
     pub bearers: &'s Bearers,
     /// The keys that have a slot, with their counters in octets.
@@ -33,7 +32,7 @@ impl<'s> Model for Kept<'s> {
 
     ghost view = { λ k. record {
       journal = k.journal.now.entries;
-      rules = k.active.now;
+      rules = k.active.now.rules;
       binding = k.bearers.now;
       keys = k.usage.now;
       table = k.indexed.now;

@@ -5,6 +5,7 @@ ghost use Rattle.std.specs.Arc.{arc_value};
 ghost use Rattle.std.specs.Result.{result_err};
 ghost use Rattle.pcef_catalog.specs.Catalogs.{offers_of};
 
+use pcef_active::ActiveRules;
 use pcef_bearer::Bearers;
 use pcef_catalog::{Catalog, Offers};
 use pcef_index::Indexed;
@@ -14,9 +15,7 @@ use pcef_lane::LaneEnd;
 use pcef_model::{
     Accepted, AttachFault, Command, FlushRefusal, OpenFault, Profile, Refusal, Verdicts,
 };
-use pcef_rule::RuleName;
 use pcef_session::{Batch, open_fault};
-use pcef_table::Source;
 use pcef_usage::Usage;
 use std::alloc::Global;
 use std::sync::Arc;
@@ -187,8 +186,8 @@ impl Session {
     }
 
     /// The active rules by their names, in the order in which they became active.
-    pub fn active(&self) -> &[(RuleName, Source)]
-        ensures { AreActive (state_of self.now) result.now }
+    pub fn active(&self) -> &ActiveRules
+        ensures { AreActive (state_of self.now) result.now.rules }
     {
         self.state.session().active()
     }

@@ -1,5 +1,6 @@
-//! Small journals and bindings, whose lanes, counters, reports and bearers were worked out by hand.
+//! Small journals, bindings and active rules, whose lanes, counters, reports, bearers and order were worked out by hand.
 
+mod active;
 mod bearer;
 mod journal;
 mod usage;

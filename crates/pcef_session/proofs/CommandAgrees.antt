@@ -7,7 +7,6 @@ use Rattle.std.proofs.lemmas.Bool.{cases_Bool}
 use Rattle.std.proofs.lemmas.List.{length-map}
 use Rattle.pcef_rule.specs.declared.quantity.BearerId.{BearerId}
 use Rattle.pcef_rule.specs.declared.rule.Properties.{Properties}
-use Rattle.pcef_table.specs.declared.entry.Source.{Source}
 use Rattle.pcef_bearer.specs.Bindings.{Binding, with_rules}
 use Rattle.pcef_model.specs.declared.command.Command.{Command}
 use Rattle.pcef_model.specs.declared.command.Command.TheVariants.{Install, Activate, Remove, Monitor, Stop, ReportNow, Triggers, Notice, LoseBearer, Close, Terminate}
@@ -39,7 +38,8 @@ use Rattle.pcef_session.specs.declared.prepared.Activation.{Activation}
 use Rattle.pcef_model.specs.Outcomes.{CommandStep, Gives, IsRefused, bearer_named, bearer_of, changes, command_outcome}
 use Rattle.pcef_bearer.specs.Standing.{binding_of}
 use Rattle.pcef_session.specs.Preparing.{Activates}
-use Rattle.pcef_session.specs.private.Changes.{IsBoundTo, IsRebound, active_after, entered_by, put_kept, rule_key}
+use Rattle.pcef_session.specs.private.Changes.{IsBoundTo, IsRebound, active_after, entered_by, rule_key}
+use Rattle.pcef_active.specs.ByName.{Kept, put_kept}
 use Rattle.pcef_model.specs.Lawful.{Lawful, by_command}
 use Rattle.pcef_model.specs.Refusals.{first_of, is_active, refusals}
 use Rattle.pcef_session.specs.Shown.{Shows}
@@ -55,7 +55,7 @@ use Rattle.pcef_session.proofs.NextTables.{all_count_from, all_levels_from, all_
 use Rattle.pcef_usage.proofs.Levels.{all_levels, keys_slotted, levels_entered, levels_from, levels_settled, levels_stopped, levels_told}
 use Rattle.pcef_model.proofs.Decisive.{made_once}
 use Rattle.pcef_bearer.specs.declared.bearers.Bound.{Bound}
-use Rattle.pcef_session.proofs.TakenAway.{kept_left}
+use Rattle.pcef_session.proofs.TakenAway.{still_kept}
 
 -- ---- keys that a command names
 -- its key is the one that it names
@@ -85,11 +85,11 @@ bound_left p j c none bound =
       | inr isnt ↦ ap (with_rules (binding_of p (now p j))) (unbound_other c (binding_of p (now p j)).bound isnt) ∙ ap (binding_of p) (sym (now_after_other p j c isnt))
     ]
 
-kept_after : (p : Setting) (j : Journal) (c : Command) (x : Option Activation) (bound : Binding) (kept : List (List ℕ × Source)) → Activates p (activated p c) x → bound ≡ binding_of p (now p (entry.Command c ∷ j)) →
-    AreKept p.catalog kept (now p j).rules → AreKept p.catalog (active_after x bound kept) (rules_after p (now p j) c)
+kept_after : (p : Setting) (j : Journal) (c : Command) (x : Option Activation) (bound : Binding) (kept : List Kept) → Activates p (activated p c) x → bound ≡ binding_of p (now p (entry.Command c ∷ j)) →
+    AreKept p.catalog kept (now p j).rules → AreKept p.catalog (active_after x c bound kept) (rules_after p (now p j) c)
 kept_after p j c None bound kept brings bound_is are =
     let g = now p (entry.Command c ∷ j) in
-    kept_left p (now p j) c bound kept (made_once p (tables j)) (brought_none p c None refl brings)
+    still_kept p (now p j) c bound kept (made_once p (tables j)) (brought_none p c None refl brings)
     (λ name. ap (λ (b : Binding). list_any (bound_named name) b.bound) bound_is ∙ named_bound name g g.rules ∙ ap (list_any (is_named name)) (rules_now p j c)) are
 kept_after p j c (Some x) bound kept brings bound_is are =
     let b = brought p c (Some x) x refl brings in
@@ -195,7 +195,7 @@ pub record IsCommanded (p : Setting) (j : Journal) (c : Command) (x : Option Act
   pub accepted : first_of (refusals p j c) ≡ None
   pub changing : changes p j c ≡ true
   pub brings : Activates p (activated p c) x
-  pub rules_are : new.rules ≡ active_after x new.binding old.rules
+  pub rules_are : new.rules ≡ active_after x c new.binding old.rules
   pub rebound : IsRebound x c old.binding new.binding bearer
   pub keys_are : new.keys ≡ left_by (subscribed_by c old.triggers).usage_report (plan p j c) (entered_by (rule_key x) c old.keys)
   pub triggers_are : new.triggers ≡ subscribed_by c old.triggers
@@ -234,7 +234,7 @@ agrees_commanded p j c x old new bearer agrees is =
     record {
       lawful = by_command j c agrees.lawful is.accepted is.changing;
       rules_are = subst (λ (rules : List Active). AreKept p.catalog new.rules rules) (sym (rules_then p j c))
-          (subst (λ (kept : List (List ℕ × Source)). AreKept p.catalog kept (rules_after p (now p j) c)) (sym is.rules_are) (kept_after p j c x new.binding old.rules is.brings (rebound_now p j c x old new bearer agrees is).0 agrees.rules_are));
+          (subst (λ (kept : List Kept). AreKept p.catalog kept (rules_after p (now p j) c)) (sym is.rules_are) (kept_after p j c x new.binding old.rules is.brings (rebound_now p j c x old new bearer agrees is).0 agrees.rules_are));
       binding_is = (rebound_now p j c x old new bearer agrees is).0 ∙ ap (binding_of p) (sym (now_after p j c));
       keys_are = ap keys_of keys ∙ ended.keys_are ∙ ap (slots p) journal;
       usage_is = subst (AllByRecursion (KeyAgrees p after)) (sym keys)

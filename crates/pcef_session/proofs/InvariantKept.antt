@@ -122,7 +122,7 @@ sound_left s t n sound is profile listing journal states active bearers table su
     }
 
 -- a session that is opened
-pub sound_opened : (s : Inside) → s.counted.journal ≡ [] → s.counted.states ≡ [] → s.active.items ≡ [] → s.bearers ≡ binding_of (setting_of s.profile s.listing) before_all →
+pub sound_opened : (s : Inside) → s.counted.journal ≡ [] → s.counted.states ≡ [] → s.active.rules ≡ [] → s.bearers ≡ binding_of (setting_of s.profile s.listing) before_all →
     (arc_value s.newest).number ≡ 0 → (arc_value s.newest).entries ≡ [] → (arc_value s.newest).session ≡ no_slots → s.subscribed ≡ no_triggers → s.lanes ≡ [] → s.closed ≡ false → s.terminated ≡ false → s.profile.commands ≤ 1000000 →
     s.profile.rows ≤ 4294967295 → IsSound s
 unfolding attached
@@ -165,10 +165,10 @@ sound_commanded s t c x bearer sound is profile listing lanes closed terminated 
     let budget : suc (length (commands j)) ≤ s.profile.commands + ends_met (is_close (entry.Command c) || s.closed) (is_terminate (entry.Command c) || s.terminated) =
     few_after p j c s.closed s.terminated sound.ends is.accepted sound.limited.few_commands in
     let slot : slotless (key_named p c) s.counted.states ≡ false = served_slot p j c s.counted.states sound.agrees.keys_are is.accepted is.changing in
-    let before : length (now p j).rules ≤ 64 = omega (arith, sound.small.few_rules, kept_length s.listing s.active.items (now p j).rules sound.agrees.rules_are) in
+    let before : length (now p j).rules ≤ 64 = omega (arith, sound.small.few_rules, kept_length s.listing s.active.rules (now p j).rules sound.agrees.rules_are) in
     let after_rules : (now p (after_command p j c)).rules ≡ rules_after p (now p j) c = rules_then p j c in
     let few : length (rules_after p (now p j) c) ≤ 64 = few_rules_after p j c x is.accepted is.changing is.brings before in
-    let kept : length t.active.items ≡ length (now p (after_command p j c)).rules = kept_length p.catalog t.active.items (now p (after_command p j c)).rules agrees.rules_are in
+    let kept : length t.active.rules ≡ length (now p (after_command p j c)).rules = kept_length p.catalog t.active.rules (now p (after_command p j c)).rules agrees.rules_are in
     let many : length (commands (after_command p j c)) ≡ suc (length (commands j)) = ap length (commands_after p j c) in
     record {
       agrees = rw (same, journal) agrees;

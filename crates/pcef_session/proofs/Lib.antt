@@ -10,7 +10,6 @@ pub mod Inserting
 pub mod KeptRules
 pub mod Leaving
 pub mod NextTables
-pub mod PlacedRules
 pub mod Refused
 pub mod RoomRates
 pub mod RowLoops

@@ -1,5 +1,5 @@
 -- Flags of slots: which slots are up, and the keys that have them.
-use Rattle.std.proofs.Common.{◌≡◌, ◌∙◌, ◌<◌, ◌≤◌, ◌+◌, ◌==◌, ◌||◌, ℕ, suc, zero, Bool, true, false, List, [], ◌∷◌, Some, None, get_or, length, set, refl, sym, ap, ap₂, subst, arith, inl, inr}
+use Rattle.std.proofs.Common.{◌≡◌, ◌∙◌, ◌<◌, ◌+◌, ◌==◌, ◌||◌, ℕ, suc, zero, Bool, true, false, List, [], ◌∷◌, Some, None, get_or, length, set, refl, sym, ap, ap₂, arith, inl, inr}
 use Rattle.std.specs.Prelude.{Option, if◌then◌else◌}
 use Rattle.std.specs.List.{list_any}
 use Rattle.std.specs.Option.{option_to_list}
@@ -9,7 +9,6 @@ use Rattle.pcef_lists.proofs.Tests.{contrary}
 use Rattle.pcef_rule.specs.declared.quantity.Slot.{Slot}
 use Rattle.pcef_table.specs.SessionSlots.{slots_from, slots_up, with_slot}
 use Rattle.pcef_model.specs.Slots.{AreSlotsBelow, IsWithin, has_one_of, is_at, is_one_of, place_of}
-use Rattle.pcef_model.proofs.SlotsLater.{place_within}
 
 no_or : (a : Bool) → (a || false) ≡ a
 no_or true = refl

@@ -1,21 +1,19 @@
 -- The flags of slots for all packets, as commands come.
-use Rattle.std.proofs.Common.{◌≡◌, ◌∙◌, ◌<◌, ◌≤◌, ◌==◌, ◌||◌, ◌&&◌, not, ℕ, Bool, true, false, List, [], ◌∷◌, Some, None, Contains, filter, get_or, length, length-set, set, refl, sym, ap, ap₂, subst, arith, inl, inr}
+use Rattle.std.proofs.Common.{◌≡◌, ◌∙◌, ◌<◌, ◌==◌, ◌||◌, ◌&&◌, not, ℕ, Bool, true, false, List, [], ◌∷◌, Some, None, filter, get_or, length, length-set, set, refl, sym, ap, ap₂, arith, inl, inr}
 use Rattle.std.specs.Prelude.{Option, if◌then◌else◌}
 use Rattle.std.proofs.lemmas.Bool.{cases_Bool, eq-eqb, eqb-true, false_from_ne_true}
 use Rattle.pcef_lists.proofs.Tests.{contrary}
-use Rattle.pcef_rule.specs.declared.quantity.Slot.{Slot}
 use Rattle.pcef_table.specs.SessionSlots.{no_slots, slots_up}
 use Rattle.pcef_model.specs.declared.command.Command.{Command}
-use Rattle.pcef_model.specs.declared.command.Command.TheVariants.{Install, Activate, Remove, Monitor, Stop, ReportNow, Triggers, Notice, LoseBearer, Close, Terminate}
-use Rattle.pcef_model.specs.declared.level.Level.{Level}
+use Rattle.pcef_model.specs.declared.command.Command.TheVariants.{Monitor, Stop, Terminate}
 use Rattle.pcef_model.specs.declared.level.Level.TheVariants.{Rule, Session}
 use Rattle.pcef_model.specs.declared.entry.Entry.TheVariants as entry
-use Rattle.pcef_model.specs.Setting.{Setting, same_level, same_name}
+use Rattle.pcef_model.specs.Setting.{Setting, same_name}
 use Rattle.pcef_model.specs.ActiveRules.{Active, has_key}
-use Rattle.pcef_model.specs.Commands.{add_key, at_session_level, is_among, is_table, key_named, switched}
-use Rattle.pcef_model.specs.Generations.{Generation, next, rules_after, slots_of, still_on}
+use Rattle.pcef_model.specs.Commands.{add_key, at_session_level, is_among, switched}
+use Rattle.pcef_model.specs.Generations.{Generation, next, rules_after, still_on}
 use Rattle.pcef_model.specs.Entries.{Journal}
-use Rattle.pcef_model.specs.Journals.{at, gen, level_of, now, slots, tables}
+use Rattle.pcef_model.specs.Journals.{at, gen, level_of, now, slots}
 use Rattle.pcef_model.specs.Lawful.{Lawful}
 use Rattle.pcef_model.specs.Refusals.{clashes, first_of, refusals}
 use Rattle.pcef_model.specs.Slots.{IsWithin, has_one_of, place_of}
@@ -23,7 +21,7 @@ use Rattle.pcef_model.proofs.Acceptance.{monitor_accepted}
 use Rattle.pcef_model.proofs.Growth.{at_newest}
 use Rattle.pcef_model.proofs.Levels.{among_add, new_without, session_has_slot, session_keys_have_no_rule}
 use Rattle.pcef_model.proofs.Sameness.{same_name_is, same_name_not, same_name_of, same_name_turned}
-use Rattle.pcef_model.proofs.SlotPlaces.{Grows, place_once, place_there}
+use Rattle.pcef_model.proofs.SlotPlaces.{Grows, place_once}
 use Rattle.pcef_model.proofs.SlotsGrow.{slots_grow_by}
 use Rattle.pcef_model.proofs.SlotsLater.{place_within, slots_grown, within_grown}
 use Rattle.pcef_usage.proofs.Gone.{among_filter}

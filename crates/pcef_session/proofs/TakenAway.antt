@@ -9,7 +9,7 @@ use Rattle.pcef_bearer.specs.Bindings.{Binding}
 use Rattle.pcef_model.specs.declared.command.Command.{Command}
 use Rattle.pcef_model.specs.declared.command.Command.TheVariants.{Install, Activate, Remove, Monitor, Stop, ReportNow, Triggers, Notice, LoseBearer, Close, Terminate}
 use Rattle.pcef_model.specs.declared.entry.Entry.TheVariants as entry
-use Rattle.pcef_model.specs.Setting.{Setting}
+use Rattle.pcef_model.specs.Setting.{Setting, same_name}
 use Rattle.pcef_model.specs.ActiveRules.{is_named as rule_named}
 use Rattle.pcef_bearer.specs.Bindings.{is_named}
 use Rattle.pcef_model.specs.ActiveRules.{Active}
@@ -25,10 +25,10 @@ use Rattle.pcef_lists.proofs.Found.{any_from}
 use Rattle.pcef_model.proofs.Members.{filter_from, filter_to, first_there, later_there}
 use Rattle.pcef_session.proofs.ShownChanges.{Fives, each_now, name_is, only_now, shows_next, stands_next, still}
 use Rattle.pcef_model.proofs.BoundRules.{NamesOnce}
-use Rattle.pcef_table.specs.declared.entry.Source.{Source}
 use Rattle.pcef_session.specs.Agreement.{AreKept}
-use Rattle.pcef_model.proofs.RulesAfter.{rules_left}
-use Rattle.pcef_session.specs.private.Changes.{is_still_bound}
+use Rattle.pcef_model.proofs.RulesAfter.{filter_all, rules_left}
+use Rattle.pcef_active.specs.ByName.{Kept, is_still_bound, without_kept}
+use Rattle.pcef_session.specs.private.Changes.{still_active}
 use Rattle.pcef_session.proofs.Tests.{same_test, any_there}
 use Rattle.pcef_model.proofs.Decisive.{once_is}
 use Rattle.pcef_model.proofs.Sameness.{same_name_is, same_name_of}
@@ -85,7 +85,7 @@ shows_left p j c t flags none is counted fives shows table session =
     let after : Contains (rules_after p g c) w.0 = subst (λ rs. Contains rs w.0) (sym left) (filter_to (stays g c) g.rules w.0 w.1 (sym (taken_with p j c e w.0 w.2) ∙ kept.1)) in
     (w.0, after, stands_next p j c e w.0 is fives w.1 (on w.0 after) w.2))
 
--- ---- the rules by name: those that are still bound
+-- ---- the rules by name
 -- among rules of which each name stands once, one stays where some rule that stays has its name
 named_stays : (test : Active → Bool) (rules : List Active) (r : Active) → NamesOnce rules → Contains rules r → list_any (rule_named r.properties.name) (filter test rules) ≡ test r
 named_stays test rules r once there =
@@ -97,7 +97,7 @@ named_stays test rules r once there =
     ap test (sym same) ∙ old.1)
     (λ is. any_from (rule_named r.properties.name) (filter test rules) r (filter_to test rules r there is) (same_name_of r.properties.name r.properties.name refl))
 
-kept_part : (offers : List Offer) (test : Active → Bool) (named : List ℕ → Bool) (kept : List (List ℕ × Source)) (rules : List Active) →
+kept_part : (offers : List Offer) (test : Active → Bool) (named : List ℕ → Bool) (kept : List Kept) (rules : List Active) →
     ((r : Active) → Contains rules r → named r.properties.name ≡ test r) → AreKept offers kept rules → AreKept offers (filter (λ e. named e.0) kept) (filter test rules)
 kept_part offers test named [] [] same are = tt
 kept_part offers test named [] (r ∷ rules) same are = absurd are
@@ -110,8 +110,8 @@ kept_part offers test named (e ∷ kept) (r ∷ rules) same are =
       | inr isnt ↦ let goes : named e.0 ≡ false = here ∙ isnt in rw (isnt, goes) rest
     ]
 
--- what is kept of the rules of which each is bound still
-pub kept_left : (p : Setting) (g : Generation) (c : Command) (bound : Binding) (kept : List (List ℕ × Source)) → NamesOnce g.rules → activated p c ≡ None →
+-- after the loss of a bearer, those that are bound still
+kept_left : (p : Setting) (g : Generation) (c : Command) (bound : Binding) (kept : List Kept) → NamesOnce g.rules → activated p c ≡ None →
     ((name : List ℕ) → list_any (is_named name) bound.bound ≡ list_any (rule_named name) (rules_after p g c)) → AreKept p.catalog kept g.rules →
     AreKept p.catalog (filter (is_still_bound bound) kept) (rules_after p g c)
 kept_left p g c bound kept once none named are =
@@ -119,3 +119,25 @@ kept_left p g c bound kept once none named are =
     subst (AreKept p.catalog (filter (is_still_bound bound) kept)) (sym left)
     (kept_part p.catalog (stays g c) (λ name. list_any (is_named name) bound.bound) kept g.rules
     (λ r there. named r.properties.name ∙ ap (list_any (rule_named r.properties.name)) left ∙ named_stays (stays g c) g.rules r once there) are)
+
+-- where all stay
+all_kept : (p : Setting) (g : Generation) (c : Command) (kept : List Kept) → activated p c ≡ None → stays g c ≡ (λ r. true) → AreKept p.catalog kept g.rules → AreKept p.catalog kept (rules_after p g c)
+all_kept p g c kept none all are =
+    subst (AreKept p.catalog kept) (sym (rules_left p g c none ∙ ap (λ (test : Active → Bool). filter test g.rules) all ∙ filter_all g.rules)) are
+
+pub still_kept : (p : Setting) (g : Generation) (c : Command) (bound : Binding) (kept : List Kept) → NamesOnce g.rules → activated p c ≡ None →
+    ((name : List ℕ) → list_any (is_named name) bound.bound ≡ list_any (rule_named name) (rules_after p g c)) → AreKept p.catalog kept g.rules →
+    AreKept p.catalog (still_active c bound kept) (rules_after p g c)
+still_kept p g (Remove name) bound kept once none named are =
+    subst (AreKept p.catalog (without_kept name kept)) (sym (rules_left p g (Remove name) none))
+    (kept_part p.catalog (stays g (Remove name)) (λ n. not (same_name n name)) kept g.rules (λ r there. refl) are)
+still_kept p g (LoseBearer id) bound kept once none named are = kept_left p g (LoseBearer id) bound kept once none named are
+still_kept p g Close bound kept once none named are = subst (AreKept p.catalog []) (sym (rules_left p g Close none ∙ filter_none g.rules)) tt
+still_kept p g Terminate bound kept once none named are = subst (AreKept p.catalog []) (sym (rules_left p g Terminate none ∙ filter_none g.rules)) tt
+still_kept p g (Install rule) bound kept once none named are = all_kept p g (Install rule) kept none refl are
+still_kept p g (Activate name) bound kept once none named are = all_kept p g (Activate name) kept none refl are
+still_kept p g (Monitor key amount level) bound kept once none named are = all_kept p g (Monitor key amount level) kept none refl are
+still_kept p g (Stop key) bound kept once none named are = all_kept p g (Stop key) kept none refl are
+still_kept p g (ReportNow key) bound kept once none named are = all_kept p g (ReportNow key) kept none refl are
+still_kept p g (Triggers set) bound kept once none named are = all_kept p g (Triggers set) kept none refl are
+still_kept p g (Notice kind value) bound kept once none named are = all_kept p g (Notice kind value) kept none refl are

@@ -1,8 +1,9 @@
 //! What an accepted command does to what a session keeps. Nothing here takes memory.
 
-ghost use Rattle.std.specs.Prelude.{◌≡◌, ◌||◌, ◌<◌, ◌≤◌, ◌+◌, ◌∷◌, filter, length, position, false, unwrap_or, vec_capacity, vec_len, Some};
+ghost use Rattle.std.specs.Prelude.{◌≡◌, ◌||◌, ◌<◌, ◌≤◌, ◌+◌, ◌∷◌, length, false, unwrap_or, Some};
 ghost use Rattle.std.specs.Arc.{arc_value};
 ghost use Rattle.std.specs.Option.{option_copied, option_map};
+ghost use Rattle.pcef_active.specs.ByName.{put_kept};
 ghost use Rattle.pcef_model.specs.Commands.{level_named};
 ghost use Rattle.pcef_model.specs.Refusals.{is_close, is_terminate};
 ghost use Rattle.pcef_session.specs.Preparing.{IsBearerFor, IsBearerOf};
@@ -10,14 +11,14 @@ ghost use Rattle.pcef_bearer.specs.Bindings as binding;
 ghost use Rattle.pcef_usage.specs.Commands.{subscribed_by};
 ghost use Rattle.pcef_usage.specs.Keys.{clashes, finds_no_slot, keys_of};
 ghost use Rattle.pcef_usage.specs.PendingReports.{KnowsAll};
-ghost use Rattle.pcef_session.specs.private.Changes.{Binds, CanBind, IsBoundTo, IsRebound, active_after, counters_told, entered_by, is_kept_as, is_still_bound, journal_told, key_of, put_kept, rule_key};
+ghost use Rattle.pcef_session.specs.private.Changes.{Binds, CanBind, IsBoundTo, IsRebound, active_after, counters_told, entered_by, journal_told, key_of, still_active, rule_key};
 
 use crate::prepared::Activation;
+use pcef_active::ActiveRules;
 use pcef_bearer::Bearers;
 use pcef_index::Indexed;
 use pcef_model::{Command, Entry, Level, PendingReport, TriggerSet};
-use pcef_rule::{BearerId, KeyName, RuleName};
-use pcef_table::Source;
+use pcef_rule::{BearerId, KeyName};
 use pcef_usage::CountedJournal;
 use std::sync::Arc;
 
@@ -117,63 +118,35 @@ pub(crate) fn keep_table(held: &mut Arc<Indexed>, made: Option<Arc<Indexed>>)
     }
 }
 
-/// Whether a rule is kept by this name.
-fn is_kept_as(name: &RuleName, kept: &(RuleName, Source)) -> bool
-    ensures { result ≡ is_kept_as name.now kept.now }
+/// Lets the rules go that a command takes away, once they aren't bound any more.
+fn let_go(active: &mut ActiveRules, bearers: &Bearers, command: &Command)
+    ensures { active.new.rules ≡ still_active command.now bearers.now active.old.rules }
 {
-    kept.0 == *name
-}
-
-/// The place of the rule of this name, if it is active.
-fn place_of(active: &[(RuleName, Source)], name: &RuleName) -> Option<usize>
-    ensures { result ≡ position (is_kept_as name.now) active.now }
-{
-    active.iter().position(|kept| is_kept_as(name, kept))
-}
-
-/// Keeps a rule that became active, in the place of the one of its name or behind all others.
-pub(crate) fn keep_rule(active: &mut Vec<(RuleName, Source)>, name: RuleName, source: Source)
-    requires { vec_len active.old < vec_capacity active.old }
-    ensures { active.new.items ≡ put_kept (name, source) active.old.items }
-{
-    match place_of(active, &name) {
-        Some(place) => active[place] = (name, source),
-        None => active.push_reserved((name, source)),
+    match command {
+        Command::Remove(name) => active.remove(name),
+        Command::LoseBearer(_) => active.retain_bound(bearers),
+        Command::Close | Command::Terminate => active.clear(),
+        _ => {}
     }
 }
 
-/// Lets the rules go that aren't bound any more.
-fn keep_bound(active: &mut Vec<(RuleName, Source)>, bearers: &Bearers)
-    ensures { active.new.items ≡ filter (is_still_bound bearers.now) active.old.items }
-{
-    active.retain(
-        |kept: &(RuleName, Source)| -> bool
-            ensures { result ≡ is_still_bound bearers.entry.now kept.now }
-        { bearers.is_bound(&kept.0) },
-    );
-}
-
 /// Takes the rules away that a command takes away, and their bindings.
-fn take_away(active: &mut Vec<(RuleName, Source)>, bearers: &mut Bearers, command: &Command)
-    ensures active { active.new.items ≡ filter (is_still_bound bearers.new) active.old.items }
+fn take_away(active: &mut ActiveRules, bearers: &mut Bearers, command: &Command)
+    ensures active { active.new.rules ≡ still_active command.now bearers.new active.old.rules }
     ensures bearers { bearers.new
         ≡ binding.with_rules bearers.old (binding.kept_by command.now bearers.old.bound) }
 {
     bearers.take_away(command);
-    keep_bound(active, bearers);
+    let_go(active, bearers, command);
 }
 
-/// Binds a rule to the bearer that was found for it, and keeps it.
-fn activate(
-    active: &mut Vec<(RuleName, Source)>,
-    bearers: &mut Bearers,
-    rule: Activation,
-    bearer: BearerId,
-)
-    requires place { vec_len active.old < vec_capacity active.old }
+/// Binds a rule to the bearer that was found for it, and puts it among the active ones.
+fn activate(active: &mut ActiveRules, bearers: &mut Bearers, rule: Activation, bearer: BearerId)
+    requires place { 0 < active.old.room }
     requires can { Binds rule.properties bearers.old }
     requires gets { IsBearerOf bearers.old rule bearer }
-    ensures active { active.new.items ≡ active_after (Some rule) bearers.new active.old.items }
+    ensures active { active.new.rules
+        ≡ put_kept (rule.properties.name, rule.source) active.old.rules }
     ensures bearers { IsBoundTo rule.properties bearers.old bearers.new bearer }
 {
     let name = rule.properties.name.copy();
@@ -183,22 +156,23 @@ fn activate(
         rule.properties.rates,
         bearer,
     );
-    keep_rule(active, name, rule.source);
+    active.put(name, rule.source);
 }
 
 /// Changes the active rules and their bearers as a command says. The rule that becomes active gets
 /// this bearer.
 pub(crate) fn change_rules(
-    active: &mut Vec<(RuleName, Source)>,
+    active: &mut ActiveRules,
     bearers: &mut Bearers,
     command: &Command,
     rule: Option<Activation>,
     bearer: Option<BearerId>,
 )
-    requires place { vec_len active.old < vec_capacity active.old }
+    requires place { 0 < active.old.room }
     requires can { CanBind rule bearers.old }
     requires gets { IsBearerFor bearers.old rule bearer }
-    ensures active { active.new.items ≡ active_after rule bearers.new active.old.items }
+    ensures active { active.new.rules
+        ≡ active_after rule command.now bearers.new active.old.rules }
     ensures bearers { IsRebound rule command.now bearers.old bearers.new bearer }
 {
     match rule {

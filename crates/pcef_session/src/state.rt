@@ -16,14 +16,14 @@ ghost use Rattle.pcef_session.specs.Agreement.{KeysAgree};
 ghost use Rattle.pcef_session.specs.Answers.{AreActive, IsOpened, ShowsNewest, binding_now};
 ghost use Rattle.pcef_session.specs.SessionModel.{HasAtLeast};
 
+use pcef_active::ActiveRules;
 use pcef_bearer::Bearers;
 use pcef_catalog::Listing;
 use pcef_index::Indexed;
 use pcef_journal::Journal;
 use pcef_lane::{Lanes, MAX_WORKERS};
 use pcef_model::{AttachFault, Entry, OpenFault, Profile, TriggerSet};
-use pcef_rule::{Kind, RuleName, Sums};
-use pcef_table::Source;
+use pcef_rule::{Kind, Sums};
 use pcef_usage::{CountedJournal, Usage};
 use std::alloc::{AllocError, Global};
 use std::marker::Model;
@@ -45,7 +45,7 @@ pub struct SessionState {
     profile: Profile,
     listing: Listing,
     counted: CountedJournal,
-    active: Vec<(RuleName, Source)>,
+    active: ActiveRules,
     bearers: Bearers,
     newest: Arc<Indexed>,
     subscribed: TriggerSet,
@@ -131,7 +131,7 @@ impl SessionState {
         };
         let counted = CountedJournal::new(alloc);
         // One place more than rules: a command is given a free one before it is known to want it.
-        let Ok(active) = Vec::with_capacity(alloc, MAX_RULES + 1) else {
+        let Ok(active) = ActiveRules::with_capacity(alloc, MAX_RULES + 1) else {
             return Err(OpenFault::NoMemory);
         };
         let Ok(newest) = first_table(alloc) else {
@@ -195,10 +195,10 @@ impl SessionState {
     }
 
     /// The active rules by their names, in the order in which they became active.
-    pub fn active(&self) -> &[(RuleName, Source)]
-        ensures { AreActive self.now result.now }
+    pub fn active(&self) -> &ActiveRules
+        ensures { AreActive self.now result.now.rules }
     {
-        self.active.as_slice()
+        &self.active
     }
 
     /// The bearers, and the rules that are bound to them: each active rule to the bearer of its QCI and

@@ -12,7 +12,7 @@ use std::alloc::Global;
 use std::fmt::Display;
 use std::test::Fail;
 
-fn pair(qci: u8, level: u8) -> Qos
+pub(super) fn pair(qci: u8, level: u8) -> Qos
     requires { IsLevel level }
 {
     Qos {
@@ -22,16 +22,16 @@ fn pair(qci: u8, level: u8) -> Qos
 }
 
 /// Bearers whose default pair has QCI 9 and level 15.
-fn bearers(capacity: Sums) -> Result<Bearers, Fail> {
+pub(super) fn bearers(capacity: Sums) -> Result<Bearers, Fail> {
     let qcis = QciTable::new(&[(128, Kind::Gbr)])?;
     Ok(Bearers::new(pair(9, 15), capacity, qcis)?)
 }
 
 /// The bearer of a rule that was to be bound, or why it wasn't; none where there is no place for a rule more.
-type Answer = Option<Result<BearerId, Refusal>>;
+pub(super) type Answer = Option<Result<BearerId, Refusal>>;
 
 /// Binds a rule, or binds it anew.
-fn set(bearers: &mut Bearers, name: RuleName, qos: Qos, rates: Option<Rates>) -> Answer {
+pub(super) fn set(bearers: &mut Bearers, name: RuleName, qos: Qos, rates: Option<Rates>) -> Answer {
     if bearers.is_bound(&name) {
         return Some(bearers.rebind(name, qos, rates));
     }

@@ -2,11 +2,10 @@
 use Rattle.std.specs.Prelude.{[], map}
 use Rattle.pcef_bearer.specs.Bindings.{rules_on}
 use Rattle.pcef_bearer.specs.declared.bearers.Bound.{Bound}
-use Rattle.pcef_model.specs.declared.command.Command.TheVariants.{LoseBearer}
+use Rattle.pcef_model.specs.declared.command.Command.TheVariants.{Close, LoseBearer, Remove, Terminate}
 use Rattle.pcef_model.specs.declared.pending_report.PendingReport.{PendingReport}
 use Rattle.pcef_model.specs.declared.pending_report.PendingReport.TheVariants.{Inactive}
 use Rattle.pcef_model.specs.Reports.{in_order}
-use Rattle.pcef_bearer.specs.Bindings.{is_named}
 use Rattle.std.specs.Prelude.{ℕ, ◌≡◌, List, Option, Some, None, Bool, filter, not}
 use Rattle.pcef_rule.specs.declared.quantity.BearerId.{BearerId}
 use Rattle.pcef_rule.specs.declared.rule.Properties.{Properties}
@@ -14,8 +13,7 @@ use Rattle.pcef_bearer.specs.Bindings.{Binding, HasRoom, bound_at, id_excluding,
 use Rattle.pcef_model.specs.Refusals.{first_of}
 use Rattle.pcef_model.specs.declared.command.Command.{Command}
 use Rattle.pcef_model.specs.declared.command.Command.TheVariants.{Monitor}
-use Rattle.pcef_model.specs.Named.{has_name, put_by}
-use Rattle.pcef_table.specs.declared.entry.Source.{Source}
+use Rattle.pcef_active.specs.ByName.{Kept, is_still_bound, put_kept, without_kept}
 use Rattle.pcef_usage.specs.declared.usage.KeyState.{KeyState}
 use Rattle.pcef_model.specs.Entries.{Journal}
 use Rattle.pcef_usage.specs.Counted.{Counted}
@@ -23,7 +21,6 @@ use Rattle.pcef_usage.specs.Commands.{started_by}
 use Rattle.pcef_usage.specs.PendingReports.{appended, states_stopped, states_told, thresholds_told, with_thresholds}
 use Rattle.pcef_usage.specs.Keys.{with_slot}
 use Rattle.pcef_session.specs.declared.prepared.Activation.{Activation}
-use Rattle.std.specs.List.{list_any}
 use Rattle.pcef_model.specs.Commands.{level_named, takes_away}
 
 -- ---- keys
@@ -42,22 +39,18 @@ abbrev pub entered_by : Option (List ℕ) → Command → List KeyState → List
 entered_by of_rule c states = started_by c (with_slot (key_of of_rule c) (level_named c) states)
 
 -- ---- rules
--- the active rules by name
-abbrev pub is_still_bound : Binding → List ℕ × Source → Bool
-is_still_bound b e = list_any (is_named e.0) b.bound
+-- the active rules by name that a command leaves, once the rules that it takes away aren't bound any more
+abbrev pub still_active : Command → Binding → List Kept → List Kept
+still_active (Remove name) bound active = without_kept name active
+still_active (LoseBearer id) bound active = filter (is_still_bound bound) active
+still_active Close bound active = []
+still_active Terminate bound active = []
+still_active _ bound active = active
 
--- a rule is kept by this name
-abbrev pub is_kept_as : List ℕ → List ℕ × Source → Bool
-is_kept_as name e = has_name (λ e. e.0) name e
-
--- the active rules with this one: in the place of the one of its name, or behind all others
-abbrev pub put_kept : List ℕ × Source → List (List ℕ × Source) → List (List ℕ × Source)
-put_kept new active = put_by (λ e. e.0) new active
-
--- a rule that becomes active is put among the others; else those stay that are still bound
-abbrev pub active_after : Option Activation → Binding → List (List ℕ × Source) → List (List ℕ × Source)
-active_after (Some x) bound active = put_kept (x.properties.name, x.source) active
-active_after None bound active = filter (is_still_bound bound) active
+-- a rule that becomes active is put among the others; else those stay that the command leaves
+abbrev pub active_after : Option Activation → Command → Binding → List Kept → List Kept
+active_after (Some x) c bound active = put_kept (x.properties.name, x.source) active
+active_after None c bound active = still_active c bound active
 
 -- the rule that becomes active can be bound
 pub record Binds (rule : Properties) (b : Binding) : Type 0 where

@@ -1,5 +1,5 @@
 -- What always holds of a session's parts.
-use Rattle.std.specs.Prelude.{Bool, ◌+◌, ◌-◌, if◌then◌else◌, vec_capacity, vec_len}
+use Rattle.std.specs.Prelude.{Bool, ◌+◌, if◌then◌else◌}
 use Rattle.pcef_lane.specs.Lanes.{LanesAgree}
 use Rattle.std.specs.Prelude.{ℕ, ◌≡◌, ◌≤◌, ◌<◌, ◌^◌, All, length}
 use Rattle.std.specs.Arc.{arc_value}
@@ -14,7 +14,7 @@ use Rattle.pcef_session.specs.SessionModel.{SessionModel}
 
 abbrev pub parts_of : Inside → Parts
 parts_of s = record {
-  rules = s.active.items;
+  rules = s.active.rules;
   binding = s.bearers;
   keys = s.counted.states;
   triggers = s.subscribed;
@@ -26,7 +26,7 @@ model_of s = record {
   setting = setting_of s.profile s.listing;
   journal = s.counted.journal;
   forgotten = s.counted.forgotten;
-  room = record { entries = s.counted.room; rules = vec_capacity s.active - vec_len s.active };
+  room = record { entries = s.counted.room; rules = s.active.room };
 }
 
 abbrev pub held_of : Inside → Held
@@ -51,7 +51,7 @@ pub record IsLimited (s : Inside) : Type 0 where
 
 -- at most 64 rules are active, and at most 8 keys have a slot
 pub record IsSmall (s : Inside) : Type 0 where
-  pub few_rules : length s.active.items ≤ 64
+  pub few_rules : length s.active.rules ≤ 64
   pub few_keys : length s.counted.states ≤ 8
 
 -- there is room for the leaving of each worker that is attached

@@ -130,7 +130,7 @@ impl SessionState {
     pub(super) fn is_active(&self, name: &RuleName) -> bool
         ensures { result ≡ is_active self.now.setting self.now.journal name.now }
     {
-        self.bearers.is_bound(name)
+        self.active.contains(name)
     }
 
     /// Whether a rule is new, and there is no place for one more.

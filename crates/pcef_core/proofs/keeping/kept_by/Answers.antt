@@ -11,5 +11,5 @@ returns-clause-exact c =
     let s = c.args.session.now in
     let table : c.deref.result.now ≡ arc_value c.indexed.result.now = search rules in
     let shows = subst (λ (t : TableValue). Shows s.setting s.journal (gen s.journal) t) (sym table) c.indexed.ensures in
-    exact s.setting s.journal c.journal.result.now.entries c.active.result.now c.bearers-bearers.result.now c.usage.result.now c.deref.result.now
+    exact s.setting s.journal c.journal.result.now.entries c.active.result.now.rules c.bearers-bearers.result.now c.usage.result.now c.deref.result.now
     c.journal.ensures.journal c.journal.ensures.lawful c.active.ensures c.bearers-bearers.ensures c.bound-bound.ensures.binding c.usage.ensures shows

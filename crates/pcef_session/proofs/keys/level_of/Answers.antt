@@ -1,7 +1,7 @@
 use Rattle.std.proofs.Common.{◌∙◌, ap, arith, sym}
 use Rattle.pcef_usage.specs.Keys.{state_at}
 use Rattle.pcef_usage.proofs.Places.{place_below}
-use Rattle.pcef_session.proofs.NextTables.{place_past, state_past}
+use Rattle.pcef_session.proofs.NextTables.{state_past}
 use Rattle.pcef_session.proofs.keys.level_of.Goals as goal
 
 pub level-requires : goal.level-requires

@@ -154,7 +154,7 @@ returns-clause-answer c =
     ap (told_by b (plan p j command) (entered_by (rule_key c.args.change.rule) command s.counted.states)) c.enter.ensures.journal in
     let after : c.tell.new.counted.journal ≡ after_command p j command = journal_commanded p j command c.args.change.rule (parts_of s) c.tell.new.counted.journal c.self.invariant.agrees ready.accepted ready.rule journal in
     let parts : Parts = record {
-      rules = c.change_rules.new.active.items;
+      rules = c.change_rules.new.active.rules;
       binding = c.change_rules.new.bearers;
       keys = c.tell.new.counted.states;
       triggers = c.subscribed_by-self-inside.result;

@@ -1,0 +1,31 @@
+-- The active rules of a session by name.
+use Rattle.std.specs.Prelude.{ℕ, Bool, List}
+use Rattle.std.specs.List.{list_any}
+use Rattle.pcef_bearer.specs.Bindings.{Binding, is_named}
+use Rattle.pcef_model.specs.Named.{has_name, put_by, without_name}
+use Rattle.pcef_table.specs.declared.entry.Source.{Source}
+
+-- a name, and where its rule comes from
+abbrev pub Kept : Type 0
+Kept = List ℕ × Source
+
+-- the rules in the order in which they became active, and how many more there is room for
+pub record RulesByName : Type 0 where
+  pub rules : List Kept
+  pub room : ℕ
+
+-- a rule is kept by this name
+abbrev pub is_kept_as : List ℕ → Kept → Bool
+is_kept_as name e = has_name (λ e. e.0) name e
+
+-- the rules with this one: in the place of the one of its name, or behind all others
+abbrev pub put_kept : Kept → List Kept → List Kept
+put_kept new rules = put_by (λ e. e.0) new rules
+
+-- the rules without the one of this name
+abbrev pub without_kept : List ℕ → List Kept → List Kept
+without_kept name rules = without_name (λ e. e.0) name rules
+
+-- a rule of this name is bound to a bearer
+abbrev pub is_still_bound : Binding → Kept → Bool
+is_still_bound b e = list_any (is_named e.0) b.bound
