@@ -1,6 +1,6 @@
 //! Answers a line of a script.
 
-ghost use Rattle.std.specs.Prelude.{◌≡◌, nat_le};
+ghost use Rattle.std.specs.Prelude.{◌≡◌, ◌≤◌};
 ghost use Rattle.pcef_model.specs.Journals.{report_count};
 ghost use Rattle.pcef_handle.specs.Answering.{AnswersHandle, AnswersInto, IsPut};
 
@@ -21,13 +21,12 @@ pub enum CallRefusal {
     Forgotten,
 }
 
-/// Whether no more reports were let go than were made. So it always is, but no clause of a session says so, and only
-/// where it is are answers proved to tell of none that was let go.
-fn were_made(world: &WorldState) -> bool
-    ensures { result ≡ nat_le world.now.session.forgotten (report_count world.now.session.journal) }
+/// How many reports were let go, which were all made.
+fn let_go(world: &WorldState) -> u64
+    ensures count { result ≡ world.now.session.forgotten }
+    ensures made { world.now.session.forgotten ≤ report_count world.now.session.journal }
 {
-    let journal = world.session().journal();
-    journal.forgotten() <= journal.reports_len()
+    world.session().journal().forgotten()
 }
 
 /// Writes as much of an answer as fits, and gives how long it is: 0 where there is none.
@@ -48,9 +47,8 @@ fn answer_into(
 ) -> Result<usize, CallRefusal>
     ensures { AnswersInto session.old line.now buffer.old result session.new buffer.new }
 {
-    if !were_made(&session.world) {
-        return Err(CallRefusal::NoMemory);
-    }
+    // For what it says: answers tell of no report that was let go.
+    let _gone = let_go(&session.world);
     match answer_alone(
         alloc,
         &session.catalog,
