@@ -16,11 +16,13 @@ use pcef_rule::Slot;
 use pcef_table::{Entry, Table, gate_verdict, is_own, judged_by};
 use std::alloc::{AllocError, Global};
 use std::marker::Model;
+use std::sync::Arc;
 
-/// A table and the index that was built of it, which never change. Contracts see the table.
+/// A table and the index of its rules, which never change. Tables that have the same rules may share an index. Contracts
+/// see the table.
 pub struct Indexed {
     table: Table,
-    index: Index,
+    index: Arc<Index>,
 }
 
 // Written out, so that an owner proves one call at each way out.
@@ -31,6 +33,7 @@ impl Drop for Indexed {
 }
 
 impl Model for Indexed {
+    ghost use Rattle.std.specs.Arc.{arc_value};
     ghost use Rattle.std.specs.Prelude.{◌≡◌, map};
     ghost use Rattle.pcef_table.specs.Tables.{TableValue};
 
@@ -38,7 +41,7 @@ impl Model for Indexed {
 
     ghost view = { λ i. i.table };
 
-    ghost invariant = { λ i. i.index ≡ map (λ e. e.source) i.table.entries };
+    ghost invariant = { λ i. arc_value i.index ≡ map (λ e. e.source) i.table.entries };
 }
 
 impl Indexed {
@@ -49,7 +52,7 @@ impl Indexed {
         ensures session { IfOk result (λ i. i.session ≡ no_slots) }
     {
         let table = Table::empty(alloc, generation)?;
-        let index = index_of(alloc, Vec::new(alloc))?;
+        let index = Arc::new(alloc, index_of(alloc, Vec::new(alloc))?)?;
         Ok(Indexed { table, index })
     }
 
@@ -57,7 +60,16 @@ impl Indexed {
     pub fn new<C: Offers>(alloc: Global, table: Table, catalog: &C) -> Result<Indexed, AllocError>
         ensures { IfOk result (λ i. i ≡ table) }
     {
-        let index = Index::build(alloc, &table, catalog)?;
+        let index = Arc::new(alloc, Index::build(alloc, &table, catalog)?)?;
+        Ok(Indexed { table, index })
+    }
+
+    /// A table that has the rules of this one, with the same index, or want of memory, which gives the table up.
+    pub fn with_table(&self, table: Table) -> Result<Indexed, AllocError>
+        requires { map (λ e. e.source) table.entries ≡ map (λ e. e.source) self.now.entries }
+        ensures { IfOk result (λ i. i ≡ table) }
+    {
+        let index = Arc::try_clone(&self.index)?;
         Ok(Indexed { table, index })
     }
 

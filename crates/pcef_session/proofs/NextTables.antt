@@ -17,7 +17,7 @@ use Rattle.pcef_table.specs.declared.entry.Source.{Source}
 use Rattle.pcef_table.specs.declared.entry.Source.TheVariants.{Dynamic, Predefined}
 use Rattle.pcef_catalog.specs.declared.listing.Offer.{Offer}
 use Rattle.pcef_table.specs.Sources.{IsKnown, name_of, rank_of}
-use Rattle.pcef_table.specs.Tables.{GoesBefore, IsTable, TableValue, placed, with_counting, without_taken, is_taken}
+use Rattle.pcef_table.specs.Tables.{GoesBefore, IsTable, TableValue, placed, with_counting, without_taken, is_taken, is_slot}
 use Rattle.pcef_lists.proofs.Foremost.{ordered_head, ordered_tail}
 use Rattle.pcef_table.proofs.Ordered.{apart, counting_is_table, placed_is_table, part_is_table}
 use Rattle.pcef_model.specs.declared.entry.Entry.TheVariants as entry
@@ -284,13 +284,21 @@ shows_as p j g t number entries flags number_is entries_are flags_are shows = re
 }
 
 -- ---- what a session makes of its table
-pub if_ok : {T E : Type 0} (P Q R : T → Type 0) (r : Result T E) → ((t : T) → P t → Q t → R t) → IfOk r P → IfOk r Q → IfOk r R
-if_ok P Q R (Ok t) both first second = both t first second
-if_ok P Q R (Err e) both first second = tt
+-- what holds of a value holds of a result that is that value
+pub if_ok_is : {T E : Type 0} (P : T → Type 0) (x : T) (r : Result T E) → P x → IfOk r (λ t. t ≡ x) → IfOk r P
+if_ok_is P x (Ok t) holds is = subst P (sym is) holds
+if_ok_is P x (Err e) holds is = tt
 
-pub if_ok_3 : {T E : Type 0} (P Q R S : T → Type 0) (r : Result T E) → ((t : T) → P t → Q t → R t → S t) → IfOk r P → IfOk r Q → IfOk r R → IfOk r S
-if_ok_3 P Q R S (Ok t) all first second third = all t first second third
-if_ok_3 P Q R S (Err e) all first second third = tt
+-- a key that is switched leaves each rule
+pub same_rules : (level : Level) (slot : Slot) (on : Bool) (entries : List Entry) → map (λ e. e.source) (entries_switched level slot on entries) ≡ map (λ e. e.source) entries
+same_rules Session slot on entries = refl
+same_rules Rule slot on [] = refl
+same_rules Rule slot on (e ∷ entries) = rest (is_slot slot e.slot) (same_rules Rule slot on entries)
+  where
+    rest : (b : Bool) → map (λ e. e.source) (map (with_counting slot on) entries) ≡ map (λ e. e.source) entries →
+        (if b then record e { counted = on } else e).source ∷ map (λ e. e.source) (map (with_counting slot on) entries) ≡ e.source ∷ map (λ e. e.source) entries
+    rest true same = ap (λ l. e.source ∷ l) same
+    rest false same = ap (λ l. e.source ∷ l) same
 
 pub number_fits : (v : Held) → IsSoundHeld v → v.parts.table.number + 1 < 4294967296
 number_fits v sound =

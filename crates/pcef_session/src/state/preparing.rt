@@ -30,16 +30,12 @@ use pcef_table::{Source, Table};
 use std::alloc::{AllocError, Global};
 use std::sync::Arc;
 
-/// A table with its index, so that it can be shared, if there is one.
-fn share(
-    alloc: Global,
-    table: Option<Table>,
-    listing: &Listing,
-) -> Result<Option<Arc<Indexed>>, AllocError>
+/// A table, so that it can be shared, if there is one.
+fn share(alloc: Global, table: Option<Indexed>) -> Result<Option<Arc<Indexed>>, AllocError>
     ensures { IfOk result (λ t. option_map (λ x. arc_value x) t ≡ table) }
 {
     match table {
-        Some(table) => Ok(Some(Arc::new(alloc, Indexed::new(alloc, table, listing)?)?)),
+        Some(table) => Ok(Some(Arc::new(alloc, table)?)),
         None => Ok(None),
     }
 }
@@ -91,7 +87,7 @@ impl SessionState {
         command: &Command,
         rule: &Activation,
         bearer: BearerId,
-    ) -> Result<Table, AllocError>
+    ) -> Result<Indexed, AllocError>
         requires accepted { Accepts self.now command.now }
         requires changing { changes self.now.setting self.now.journal command.now ≡ true }
         requires rule { MakesActive self.now command.now (Some rule.now) }
@@ -100,28 +96,32 @@ impl SessionState {
         ensures { IfOk result (λ t. ShowsNext self.now.setting self.now.journal command.now t) }
     {
         let entry = entry_of(self.counted.usage(), rule, bearer)?;
-        self.newest.table().with(&self.listing, entry)
+        let table = self.newest.table().with(&self.listing, entry)?;
+        Indexed::new(self.alloc, table, &self.listing)
     }
 
-    /// The table where the key that a command switches counts, or doesn't.
-    fn table_switched(&self, command: &Command, key: &KeyName) -> Result<Table, AllocError>
+    /// The table where the key that a command switches counts, or doesn't. Its rules are those of the newest table, so it
+    /// shares that one's index.
+    fn table_switched(&self, command: &Command, key: &KeyName) -> Result<Indexed, AllocError>
         requires accepted { Accepts self.now command.now }
         requires switched { key_switched command.now ≡ Some key.now }
         ensures { IfOk result (λ t. ShowsNext self.now.setting self.now.journal command.now t) }
     {
         let slot = place_of(self.counted.usage(), key);
         let level = level_switched(self.counted.usage(), command, key);
-        switched(self.newest.table(), level, slot, switches_on(command))
+        let table = switched(self.newest.table(), level, slot, switches_on(command))?;
+        self.newest.with_table(table)
     }
 
     /// The table without the rules that a command takes away.
-    fn table_left(&self, command: &Command) -> Result<Table, AllocError>
+    fn table_left(&self, command: &Command) -> Result<Indexed, AllocError>
         requires none { activated self.now.setting command.now ≡ None }
         requires table { is_table command.now ≡ true }
         requires switched { key_switched command.now ≡ None }
         ensures { IfOk result (λ t. ShowsNext self.now.setting self.now.journal command.now t) }
     {
-        left(self.alloc, self.newest.table(), &self.listing, command)
+        let table = left(self.alloc, self.newest.table(), &self.listing, command)?;
+        Indexed::new(self.alloc, table, &self.listing)
     }
 
     /// The table that a command makes.
@@ -130,7 +130,7 @@ impl SessionState {
         command: &Command,
         rule: Option<&Activation>,
         bearer: Option<BearerId>,
-    ) -> Result<Table, AllocError>
+    ) -> Result<Indexed, AllocError>
         requires accepted { Accepts self.now command.now }
         requires changing { changes self.now.setting self.now.journal command.now ≡ true }
         requires rule { MakesActive self.now command.now (option_copied rule) }
@@ -156,7 +156,7 @@ impl SessionState {
         command: &Command,
         rule: Option<&Activation>,
         bearer: Option<BearerId>,
-    ) -> Result<Option<Table>, AllocError>
+    ) -> Result<Option<Indexed>, AllocError>
         requires accepted { Accepts self.now command.now }
         requires changing { changes self.now.setting self.now.journal command.now ≡ true }
         requires rule { MakesActive self.now command.now (option_copied rule) }
@@ -273,7 +273,7 @@ impl SessionState {
         ensures rules { OnOk result (0 < self.new.room.rules) }
     {
         let table = self.next_table(command, rule, bearer)?;
-        let table = share(self.alloc, table, &self.listing)?;
+        let table = share(self.alloc, table)?;
         let reports = self.plan(command, rule)?;
         self.take_room(reports.as_slice())?;
         Ok((table, reports))

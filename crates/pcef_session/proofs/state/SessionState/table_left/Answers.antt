@@ -4,7 +4,7 @@ use Rattle.pcef_session.specs.SessionModel.{SessionModel}
 use Rattle.pcef_session.specs.private.Entries.{ShowsNext}
 use Rattle.pcef_session.specs.private.Soundness.{held_of}
 use Rattle.pcef_session.proofs.HeldSound.{held_sound}
-use Rattle.pcef_session.proofs.NextTables.{if_ok_3, number_fits, table_left}
+use Rattle.pcef_session.proofs.NextTables.{if_ok_is, number_fits, table_left}
 use Rattle.pcef_session.proofs.state.SessionState.table_left.Goals as goal
 use Rattle.std.specs.Prelude.{IfOk}
 
@@ -16,7 +16,7 @@ returns c =
     let v = held_of c.self.inside in
     let command = c.args.command.now in
     let none = subst (λ (m : SessionModel). activated m.setting command ≡ None) (sym c.self.view_is) c.requires.none in
-    subst (λ (m : SessionModel). IfOk c.left.result (λ t. ShowsNext m.setting m.journal command t)) c.self.view_is
-    (if_ok_3 _ _ _ _ c.left.result
-    (table_left v command (held_sound c.self.inside c.self.invariant) none c.requires.table c.requires.switched)
-    (rw (c.table.ensures ∙ c.deref.ensures) at c.left.ensures.number) (rw (c.table.ensures ∙ c.deref.ensures) at c.left.ensures.entries) (rw (c.table.ensures ∙ c.deref.ensures) at c.left.ensures.session))
+    let shows = table_left v command (held_sound c.self.inside c.self.invariant) none c.requires.table c.requires.switched c.in_ok-table.table
+    (rw (c.table.ensures ∙ c.deref.ensures) at c.in_ok-table.ensures.number) (rw (c.table.ensures ∙ c.deref.ensures) at c.in_ok-table.ensures.entries) (rw (c.table.ensures ∙ c.deref.ensures) at c.in_ok-table.ensures.session) in
+    subst (λ (m : SessionModel). IfOk c.new.result (λ t. ShowsNext m.setting m.journal command t)) c.self.view_is
+    (if_ok_is (λ t. ShowsNext v.setting v.journal command t) c.in_ok-table.table c.new.result shows c.new.ensures)

@@ -10,7 +10,7 @@ use Rattle.pcef_session.specs.private.Entries.{ShowsNext}
 use Rattle.pcef_session.specs.private.Soundness.{held_of}
 use Rattle.pcef_session.proofs.Activations.{brought}
 use Rattle.pcef_session.proofs.HeldSound.{held_sound}
-use Rattle.pcef_session.proofs.NextTables.{entry_known, entry_made, if_ok_3, number_fits, room_for_rule, table_with}
+use Rattle.pcef_session.proofs.NextTables.{entry_known, entry_made, if_ok_is, number_fits, room_for_rule, table_with}
 use Rattle.pcef_session.proofs.state.SessionState.table_with.Goals as goal
 use Rattle.std.specs.Prelude.{IfOk}
 
@@ -49,7 +49,8 @@ returns c =
     let b = brought v.setting command (Some x) x refl (subst (λ (m : SessionModel). Activates m.setting (activated m.setting command) (Some x)) (sym c.self.view_is) c.requires.rule) in
     let accepted = subst (λ (m : SessionModel). first_of (refusals m.setting m.journal command) ≡ None) (sym c.self.view_is) c.requires.accepted in
     let changing = subst (λ (m : SessionModel). changes m.setting m.journal command ≡ true) (sym c.self.view_is) c.requires.changing in
-    subst (λ (m : SessionModel). IfOk c.with.result (λ t. ShowsNext m.setting m.journal command t)) c.self.view_is
-    (if_ok_3 _ _ _ _ c.with.result
-    (table_with v command b.rule x c.in_ok-entry.entry (held_sound c.self.inside c.self.invariant) (activation_accepted v.setting v.journal command b.rule accepted changing b.becomes) (makes_active v.setting command b.rule b.becomes) b.becomes b.is_of made)
-    (rw (c.table.ensures ∙ c.deref.ensures) at c.with.ensures.number) (rw (c.table.ensures ∙ c.deref.ensures) at c.with.ensures.entries) (rw (c.table.ensures ∙ c.deref.ensures) at c.with.ensures.session))
+    let shows = table_with v command b.rule x c.in_ok-entry.entry (held_sound c.self.inside c.self.invariant) (activation_accepted v.setting v.journal command b.rule accepted changing b.becomes) (makes_active v.setting command b.rule b.becomes) b.becomes b.is_of made
+    c.in_ok-table.table
+    (rw (c.table.ensures ∙ c.deref.ensures) at c.in_ok-table.ensures.number) (rw (c.table.ensures ∙ c.deref.ensures) at c.in_ok-table.ensures.entries) (rw (c.table.ensures ∙ c.deref.ensures) at c.in_ok-table.ensures.session) in
+    subst (λ (m : SessionModel). IfOk c.new.result (λ t. ShowsNext m.setting m.journal command t)) c.self.view_is
+    (if_ok_is (λ t. ShowsNext v.setting v.journal command t) c.in_ok-table.table c.new.result shows c.new.ensures)
