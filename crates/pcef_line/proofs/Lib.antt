@@ -1,3 +1,4 @@
+pub mod Canonical
 pub mod Digits
 pub mod FilterLists
 pub mod LineLaws

@@ -1,3 +1,4 @@
+pub mod Canonical
 pub mod FilterReads
 pub mod LineFaults
 pub mod LineLevels

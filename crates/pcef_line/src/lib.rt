@@ -3,8 +3,8 @@
 //!
 //! Its contracts tell: the line that a text spells, or its first fault.
 //!
-//! In the order of reading: `field`, `laws`, `line`, `fault`, `word`, `known`, `octets`, `values`, `short`, `worker`,
-//! `trigger`, `level`, `rule`, `command`, `reading`.
+//! In the order of reading: `field`, `laws`, `line`, `fault`, `word`, `known`, `octets`, `values`, `spelling`, `short`,
+//! `worker`, `trigger`, `level`, `rule`, `command`, `reading`.
 #![tactic(auto)]
 
 mod command;
@@ -18,6 +18,7 @@ mod octets;
 mod reading;
 mod rule;
 mod short;
+mod spelling;
 mod trigger;
 mod values;
 mod word;

@@ -3,7 +3,7 @@
 ghost use Rattle.std.specs.Prelude.{◌≡◌, IfSome, Some, option_map};
 ghost use Rattle.json.specs.Lex.{tokens};
 ghost use Rattle.json.specs.Reads.{token_of};
-ghost use Rattle.serde_json.specs.Data.{number, object, put, string, unsigned};
+ghost use Rattle.serde_json.specs.Data.{number, object, put, string};
 ghost use Rattle.serde_json.specs.Read.{number_of};
 ghost use Rattle.pcef_line.specs.LineValues.{Gives};
 ghost use Rattle.pcef_filter.specs.Reading.{reading_of};
@@ -13,6 +13,7 @@ ghost use Rattle.pcef_line.specs.ShortLines.{found_in, plain_of, read_tokens, ta
 use crate::fault::LineFault;
 use crate::field::Field;
 use crate::line::Line;
+use crate::spelling::{canonical_line, worker_of};
 use crate::values::{dir_of, packet_of};
 use json::{Reader, Scratch, Token};
 use pcef_model::Step;
@@ -24,31 +25,6 @@ pub struct Fields<'a> {
     worker: Option<u8>,
     dir: Option<&'a str>,
     packet: Option<&'a str>,
-}
-
-/// The number of a worker, where it's written as is usual.
-fn worker_of(text: &str) -> Option<u8>
-    ensures { IfSome result (λ n. number_of text.now ≡ Some (unsigned n)) }
-{
-    match text {
-        "0" => Some(0),
-        "1" => Some(1),
-        "2" => Some(2),
-        "3" => Some(3),
-        "4" => Some(4),
-        "5" => Some(5),
-        "6" => Some(6),
-        "7" => Some(7),
-        "8" => Some(8),
-        "9" => Some(9),
-        "10" => Some(10),
-        "11" => Some(11),
-        "12" => Some(12),
-        "13" => Some(13),
-        "14" => Some(14),
-        "15" => Some(15),
-        _ => None,
-    }
 }
 
 /// The fields with a text more, if one of them has this name.
@@ -160,6 +136,9 @@ pub(crate) fn short_line(
 ) -> Option<Result<Line, LineFault>>
     ensures { IfSome result (λ r. Gives (λ l. l) r (line_by reading_of text.now)) }
 {
+    if let Some(line) = canonical_line(text, octets) {
+        return Some(Ok(line));
+    }
     let mut reader = Reader::new(text, scratch).ok()?;
     line_of(octets, fields_of(&mut reader)?)
 }
