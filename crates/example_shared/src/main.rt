@@ -4,9 +4,7 @@
 
 ghost use Rattle.std.specs.Prelude.{◌≡◌, ◌+◌, [], All, IfSome};
 ghost use Rattle.std.specs.Arc.{arc_value};
-ghost use Rattle.pcef_model.specs.Journals.{gen};
-ghost use Rattle.pcef_session.specs.Answers.{ShowsNewest};
-ghost use Rattle.pcef_share.specs.Names.{name_at};
+ghost use Rattle.pcef_lock.specs.Opening.{GoesBy};
 
 use pcef_built_in::ShapedCatalog;
 use pcef_catalog::{Detects, Offers};
@@ -107,13 +105,10 @@ fn behind_its_lock<
     opened: Opened,
     blanks: Blanks,
 ) -> Option<Totals>
-    requires name { N.ledger ≡ name_at blanks }
-    requires setting { session.session.setting ≡ N.setting }
+    requires named { GoesBy N.ledger N.setting N.first N.book N.root
+        session.session opened blanks }
     requires fresh { session.session.journal ≡ [] }
     requires offers { C.offers (arc_value catalog) ≡ session.session.setting.catalog }
-    requires first { N.first ≡ gen session.session.journal }
-    requires table { ShowsNewest session.session opened.table }
-    requires book { (opened.book ≡ N.book) × (opened.root ≡ N.root) }
 {
     match Shared::<C, N, _>::open(rt, alloc, catalog, session, opened, blanks, 1) {
         Ok((shared, desk)) => totals(rt, alloc, shared, desk),

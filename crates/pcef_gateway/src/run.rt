@@ -3,10 +3,9 @@
 ghost use Rattle.std.specs.Prelude.{◌≡◌, ◌↔◌, ◌⊎◌, ◌<◌, ◌≤◌, All, IfOk, [], false, length, true, vec_len};
 ghost use Rattle.std.specs.Arc.{arc_value};
 ghost use Rattle.pcef_model.specs.Entries.{Journal};
-ghost use Rattle.pcef_model.specs.Journals.{attach_count, gen};
+ghost use Rattle.pcef_model.specs.Journals.{attach_count};
 ghost use Rattle.pcef_model.specs.Lawful.{Lawful};
-ghost use Rattle.pcef_session.specs.Shown.{Shows};
-ghost use Rattle.pcef_share.specs.Names.{name_at};
+ghost use Rattle.pcef_lock.specs.Opening.{GoesBy};
 ghost use Rattle.pcef_lock.specs.Gathering.{AddUpTo};
 ghost use Rattle.pcef_gateway.specs.Commanding.{HaveAnswers};
 ghost use Rattle.pcef_gateway.specs.Ending.{FailsBy, RunsTo};
@@ -131,13 +130,10 @@ fn run_named<
 ) -> Result<Ended, Failure>
     requires few { workers ≤ 16 }
     requires known { All (λ a. a.worker < workers) arrivals.now }
-    requires name { N.ledger ≡ name_at blanks }
-    requires setting { session.session.setting ≡ N.setting }
-    requires first { N.first ≡ gen session.session.journal }
+    requires named { GoesBy N.ledger N.setting N.first N.book N.root
+        session.session opened blanks }
     requires fresh { attach_count session.session.journal ≡ 0 }
     requires offers { C.offers (arc_value catalog) ≡ session.session.setting.catalog }
-    requires table { Shows session.session.setting session.session.journal (gen session.session.journal) opened.table }
-    requires book { (opened.book ≡ N.book) × (opened.root ≡ N.root) }
     ensures { IfOk result (λ e.
         RunsTo session.session.setting session.session.journal arrivals.now commands.items workers e) }
 {

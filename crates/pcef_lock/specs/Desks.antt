@@ -4,6 +4,7 @@ use Rattle.pcef_model.specs.declared.answer.Accepted.{Accepted}
 use Rattle.pcef_model.specs.declared.answer.Refusal.{Refusal}
 use Rattle.pcef_model.specs.declared.command.Command.{Command}
 use Rattle.pcef_model.specs.Entries.{Journal, commands}
+use Rattle.pcef_model.specs.Lawful.{Lawful}
 use Rattle.pcef_model.specs.Outcomes.{CommandStepWithin}
 use Rattle.pcef_model.specs.Setting.{Setting}
 use Rattle.pcef_rule.specs.declared.quantity.Sums.{Sums}
@@ -32,7 +33,8 @@ desk_shares j = plus zeros command_ledger (length (commands j))
 abbrev pub first_books : Journal → Account
 first_books j = record { totals = desk_shares j; issued = 1 }
 
--- an answer to a command is one that is due: after some journal, and of a session on a pool in some room
+-- an answer to a command is one that is due: after some lawful journal, and of a session on a pool in some room
 abbrev pub IsDue : Setting → Bool → Command → Result Accepted Refusal → Type 0
 IsDue p is_there command result =
-    (room : Option Sums) × (is_some room ≡ is_there) × (before : Journal) × (after : Journal) × CommandStepWithin p room command before result after
+    (room : Option Sums) × (is_some room ≡ is_there) × (before : Journal) × (after : Journal) × Lawful p before
+    × CommandStepWithin p room command before result after

@@ -1,10 +1,28 @@
--- Why a session didn't come behind a lock.
-use Rattle.std.specs.Prelude.{◌≡◌, Result, Ok, Err}
+-- What a session goes by behind its lock, and why it didn't come there.
+use Rattle.std.specs.Prelude.{ℕ, ◌≡◌, List, Result, Ok, Err}
+use Rattle.logbook.specs.Pages.{Book}
+use Rattle.pcef_model.specs.Journals.{gen}
+use Rattle.pcef_model.specs.Setting.{Setting}
+use Rattle.pcef_publish.specs.Lists.{Opening}
+use Rattle.pcef_session.specs.Answers.{ShowsNewest}
+use Rattle.pcef_session.specs.SessionModel.{SessionModel}
+use Rattle.pcef_share.specs.Names.{name_at}
 use Rattle.pcef_lock.specs.declared.opening.SharedFault.{SharedFault}
 use Rattle.pcef_lock.specs.declared.opening.SharedFault.TheVariants.{NoMemory, Places, PoolPlaces, ReaderRefused}
 use Rattle.pcef_publish.specs.declared.publisher.PublishFault.{PublishFault}
 use Rattle.pcef_publish.specs.declared.publisher.PublishFault.TheVariants as publish
 
+-- its name: the numbers of its ledgers, its setting, its first generation, and the history of its tables. They are those
+-- of these blanks, of this session, and of a history that was opened with the session's newest table
+pub record GoesBy (ledger : ℕ → ℕ) (setting : Setting) (first : ℕ) (book : Book) (root : ℕ) (s : SessionModel) (opened : Opening) (blanks : List ℕ) : Type 0 where
+  pub ledger_is : ledger ≡ name_at blanks
+  pub setting_is : s.setting ≡ setting
+  pub first_is : first ≡ gen s.journal
+  pub table : ShowsNewest s opened.table
+  pub book_is : opened.book ≡ book
+  pub root_is : opened.root ≡ root
+
+-- ---- faults
 -- for want of places
 abbrev pub IsPlacesFault : {A B : Type 0} → Result A (B × SharedFault) → Type 0
 IsPlacesFault (Ok a) = ⊥

@@ -3,6 +3,7 @@ use Rattle.std.specs.Prelude.{ℕ, ◌≡◌, ◌≢◌, ◌+◌, false, true, L
 use Rattle.std.specs.Result.{result_map_both}
 use Rattle.pcef_model.specs.Setting.{Setting}
 use Rattle.pcef_model.specs.Entries.{Journal}
+use Rattle.pcef_model.specs.Lawful.{Lawful}
 use Rattle.pcef_model.specs.Outcomes.{AttachStep, FlushAnswer, FlushStep, Gives, abandon_outcome, judged_of}
 use Rattle.pcef_model.specs.declared.answer.AttachFault.{AttachFault}
 use Rattle.pcef_model.specs.declared.answer.AttachFault.TheVariants.{NoPlace}
@@ -74,12 +75,12 @@ abbrev pub AnswersLeave : {l : _} → Setting → ℕ → List Item → Locked �
 AnswersLeave p worker items before result after =
     LeaveStep p worker items before.session.journal (flushed_of (result_map_both last_verdicts (λ e. e) result)) after.session.journal
 
--- ---- what is told through the lock: it is due after some journal
-abbrev pub IsDueToSeat : {l : _} → Result (Seat l) AttachFault → Type 0
-IsDueToSeat result = (before : Locked) × (after : Locked) × AnswersSeat before result after
+-- ---- what is told through the lock: it is due after some lawful journal
+abbrev pub IsDueToSeat : {l : _} → Setting → Result (Seat l) AttachFault → Type 0
+IsDueToSeat p result = (before : Locked) × (after : Locked) × Lawful p before.session.journal × AnswersSeat before result after
 
 abbrev pub IsDueToRows : Setting → ℕ → List Item → Result Verdicts FlushRefusal → Type 0
-IsDueToRows p worker items result = (before : Locked) × (after : Locked) × AnswersHandOver p worker items before result after
+IsDueToRows p worker items result = (before : Locked) × (after : Locked) × Lawful p before.session.journal × AnswersHandOver p worker items before result after
 
 abbrev pub IsDueToLeaver : {l : _} → Setting → ℕ → List Item → Result (LastFlush l) FlushRefusal → Type 0
-IsDueToLeaver p worker items result = (before : Locked) × (after : Locked) × AnswersLeave p worker items before result after
+IsDueToLeaver p worker items result = (before : Locked) × (after : Locked) × Lawful p before.session.journal × AnswersLeave p worker items before result after

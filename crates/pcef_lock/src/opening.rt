@@ -3,15 +3,14 @@
 ghost use Rattle.std.specs.Prelude.{◌≡◌, ◌≢◌, ◌≤◌, ◌<◌, ◌⊎◌, ◌↔◌, [], ◌∷◌, All, IfErr, IfOk, IsOk, IsTrue, OnErr, OnOk, length, reverse, true};
 ghost use Rattle.std.specs.Arc.{arc_value};
 ghost use Rattle.pcef_model.specs.Entries.{commands};
-ghost use Rattle.pcef_model.specs.Journals.{attach_count, gen};
+ghost use Rattle.pcef_model.specs.Journals.{attach_count};
 ghost use Rattle.pcef_session.specs.Answers.{ShowsNewest};
 ghost use Rattle.pcef_model.specs.Refusals.{total_now};
-ghost use Rattle.pcef_share.specs.Names.{name_at};
 ghost use Rattle.pcef_share.specs.Rates.{no_rates};
 ghost use Rattle.pcef_pool.specs.Pools.{with_rate_share};
 ghost use Rattle.pcef_table.specs.Tables.{IsTable};
 ghost use Rattle.pcef_lock.specs.Desks.{desk_shares};
-ghost use Rattle.pcef_lock.specs.Opening.{IsPlacesFault, IsPoolFull, unpublished};
+ghost use Rattle.pcef_lock.specs.Opening.{GoesBy, IsPlacesFault, IsPoolFull, unpublished};
 ghost use Rattle.pcef_lock.specs.declared.opening.SharedFault.TheVariants.{Places, PoolPlaces};
 
 use crate::desk::{Desk, commands_so_far};
@@ -107,12 +106,9 @@ impl<N: Naming, R: Wait + Drop> State<N, Writer<N, R>> {
         blanks: Blanks,
         places: u8,
     ) -> Result<(State<N, Writer<N, R>>, Shares<N>), (JournaledState, SharedFault)>
-        requires name { N.ledger ≡ name_at blanks }
-        requires setting { session.session.setting ≡ N.setting }
-        requires first { N.first ≡ gen session.session.journal }
+        requires named { GoesBy N.ledger N.setting N.first N.book N.root
+            session.session opened blanks }
         requires fresh { attach_count session.session.journal ≡ 0 }
-        requires table { ShowsNewest session.session opened.table }
-        requires book { (opened.book ≡ N.book) × (opened.root ≡ N.root) }
         ensures session { IfOk result (λ r. r.0.session ≡ session.session) }
         ensures tables { IfOk result (λ r. r.0.tables ≡ opened.table ∷ []) }
         ensures places { IfOk result (λ r. (r.0.places ≡ places) × (r.0.books.issued ≡ 1)) }
@@ -147,12 +143,9 @@ impl<N: Naming, R: Wait + Drop, P: Pooling> State<N, Writer<N, R>, P> {
     ) -> Result<(State<N, Writer<N, R>, P>, Shares<N>), (JournaledState, SharedFault)>
         requires there { P.is_there ≡ true }
         requires rates { total_now session.session.setting session.session.journal ≡ no_rates }
-        requires name { N.ledger ≡ name_at blanks }
-        requires setting { session.session.setting ≡ N.setting }
-        requires first { N.first ≡ gen session.session.journal }
+        requires named { GoesBy N.ledger N.setting N.first N.book N.root
+            session.session opened blanks }
         requires fresh { attach_count session.session.journal ≡ 0 }
-        requires table { ShowsNewest session.session opened.table }
-        requires book { (opened.book ≡ N.book) × (opened.root ≡ N.root) }
         ensures session { IfOk result (λ r. r.0.session ≡ session.session) }
         ensures tables { IfOk result (λ r. r.0.tables ≡ opened.table ∷ []) }
         ensures places { IfOk result (λ r. (r.0.places ≡ places) × (r.0.books.issued ≡ 1)) }
@@ -221,13 +214,10 @@ impl<C: Offers + Drop, N: Naming, R: Wait + Drop> Shared<'_, C, N, Writer<N, R>>
         blanks: Blanks,
         places: u8,
     ) -> Result<(Shared<'static, C, N, Writer<N, R>>, Desk<N>), Unopened<C>>
-        requires name { N.ledger ≡ name_at blanks }
-        requires setting { session.session.setting ≡ N.setting }
-        requires first { N.first ≡ gen session.session.journal }
+        requires named { GoesBy N.ledger N.setting N.first N.book N.root
+            session.session opened blanks }
         requires fresh { attach_count session.session.journal ≡ 0 }
         requires offers { C.offers (arc_value catalog) ≡ session.session.setting.catalog }
-        requires table { ShowsNewest session.session opened.table }
-        requires book { (opened.book ≡ N.book) × (opened.root ≡ N.root) }
         ensures commands { IfOk result (λ r. r.1.commands ≡ reverse (commands session.session.journal)) }
         ensures collected { IfOk result (λ r. r.1.collected ≡ 0) }
         ensures places { IfOk result (λ r. (0 < places) × (places ≤ 16)) }
@@ -282,13 +272,10 @@ impl<'p, C: Offers + Drop, N: Naming, R: Wait + Drop, P: Pooling> Shared<
     ) -> Result<(Shared<'p, C, N, Writer<N, R>, P>, Desk<N>), Unopened<C>>
         requires there { P.is_there ≡ true }
         requires rates { total_now session.session.setting session.session.journal ≡ no_rates }
-        requires name { N.ledger ≡ name_at blanks }
-        requires setting { session.session.setting ≡ N.setting }
-        requires first { N.first ≡ gen session.session.journal }
+        requires named { GoesBy N.ledger N.setting N.first N.book N.root
+            session.session opened blanks }
         requires fresh { attach_count session.session.journal ≡ 0 }
         requires offers { C.offers (arc_value catalog) ≡ session.session.setting.catalog }
-        requires table { ShowsNewest session.session opened.table }
-        requires book { (opened.book ≡ N.book) × (opened.root ≡ N.root) }
         ensures commands { IfOk result (λ r. r.1.commands ≡ reverse (commands session.session.journal)) }
         ensures collected { IfOk result (λ r. r.1.collected ≡ 0) }
         ensures places { IfOk result (λ r. (0 < places) × (places ≤ 16)) }

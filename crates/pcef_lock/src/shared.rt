@@ -124,6 +124,7 @@ impl<'p, C: Offers + Drop, N: Naming, W: Board<Slot<N>> + Drop, P: Pooling> Shar
         ensures due { IsDue N.setting P.is_there command result }
     {
         let mut state = self.state.lock(rt);
+        let _lawful = state.session();
         match self.pool {
             Some(pool) => state.command_within(shares, command, &mut pool.state.lock(rt)),
             None => state.command(shares, command),
@@ -133,9 +134,11 @@ impl<'p, C: Offers + Drop, N: Naming, W: Board<Slot<N>> + Drop, P: Pooling> Shar
     /// As [`State::attach`].
     pub fn attach<R: Wait>(&self, rt: &R) -> Result<Seat<N>, AttachFault>
         ensures seat { IfOk result (λ s. (s.shares ≡ zeros) × (s.ue ≡ N.setting.ue)) }
-        ensures due { IsDueToSeat result }
+        ensures due { IsDueToSeat N.setting result }
     {
-        self.state.lock(rt).attach()
+        let mut state = self.state.lock(rt);
+        let _lawful = state.session();
+        state.attach()
     }
 
     /// As [`State::meet`].
@@ -161,7 +164,9 @@ impl<'p, C: Offers + Drop, N: Naming, W: Board<Slot<N>> + Drop, P: Pooling> Shar
         ensures shares { seat.new.shares ≡ with_taken result seat.old.shares batch.now }
         ensures seat { ChangesOnlyShares seat.old seat.new }
     {
-        self.state.lock(rt).flush(seat, batch)
+        let mut state = self.state.lock(rt);
+        let _lawful = state.session();
+        state.flush(seat, batch)
     }
 
     /// As [`State::finish`].
@@ -178,7 +183,9 @@ impl<'p, C: Offers + Drop, N: Naming, W: Board<Slot<N>> + Drop, P: Pooling> Shar
         ensures shares { seat.new.shares ≡ with_taken result seat.old.shares batch.now }
         ensures seat { ChangesOnlyShares seat.old seat.new }
     {
-        self.state.lock(rt).finish(seat, batch)
+        let mut state = self.state.lock(rt);
+        let _lawful = state.session();
+        state.finish(seat, batch)
     }
 
     /// As [`State::abandon`].

@@ -23,9 +23,7 @@ mod working;
 
 ghost use Rattle.std.specs.Prelude.{◌≡◌, []};
 ghost use Rattle.std.specs.Arc.{arc_value};
-ghost use Rattle.pcef_model.specs.Journals.{gen};
-ghost use Rattle.pcef_session.specs.Shown.{Shows};
-ghost use Rattle.pcef_share.specs.Names.{name_at};
+ghost use Rattle.pcef_lock.specs.Opening.{GoesBy};
 
 use opening::{packets, session};
 use pcef_catalog::{Catalog, Detects};
@@ -158,13 +156,10 @@ fn behind_its_lock<
     packets: &[Header],
     load: Load,
 ) -> Option<Reached>
-    requires name { N.ledger ≡ name_at blanks }
-    requires setting { session.session.setting ≡ N.setting }
+    requires named { GoesBy N.ledger N.setting N.first N.book N.root
+        session.session opened blanks }
     requires fresh { session.session.journal ≡ [] }
     requires offers { C.offers (arc_value catalog) ≡ session.session.setting.catalog }
-    requires first { N.first ≡ gen session.session.journal }
-    requires table { Shows session.session.setting session.session.journal (gen session.session.journal) opened.table }
-    requires book { (opened.book ≡ N.book) × (opened.root ≡ N.root) }
 {
     match Shared::<C, N, _>::open(rt, alloc, catalog, session, opened, blanks, load.workers) {
         Ok((shared, desk)) => outcome_of(rt, clock, alloc, shared, desk, packets, load),

@@ -2,9 +2,9 @@
 
 ghost use Rattle.std.specs.Prelude.{◌≡◌, [], IfSome, true};
 ghost use Rattle.std.specs.Arc.{arc_value};
-ghost use Rattle.pcef_model.specs.Journals.{gen};
 ghost use Rattle.pcef_session.specs.Answers.{ShowsNewest};
 ghost use Rattle.pcef_share.specs.Names.{name_at};
+ghost use Rattle.pcef_lock.specs.Opening.{GoesBy};
 
 use super::*;
 use pcef_journaled::JournaledState;
@@ -74,14 +74,11 @@ fn behind_lock<'p, N: Naming, P: Pooling, R: Wait + Drop>(
     side: Side,
     blanks: Blanks,
 ) -> Option<(Shared<'p, Listing, N, Writer<N, R>, P>, Desk<N>)>
+    requires named { GoesBy N.ledger N.setting N.first N.book N.root
+        side.session.session side.opened blanks }
     requires there { P.is_there ≡ true }
-    requires name { N.ledger ≡ name_at blanks }
-    requires setting { side.session.session.setting ≡ N.setting }
-    requires first { N.first ≡ gen side.session.session.journal }
-    requires book { (side.opened.book ≡ N.book) × (side.opened.root ≡ N.root) }
     requires fresh { side.session.session.journal ≡ [] }
     requires offers { arc_value side.catalog ≡ side.session.session.setting.catalog }
-    requires table { ShowsNewest side.session.session side.opened.table }
 {
     let Side {
         catalog,
@@ -258,14 +255,11 @@ fn second_named<
     side: Side,
     blanks: Blanks,
 ) -> Option<(Seen, Left<P>, Left<P>)>
+    requires named { GoesBy B.ledger B.setting B.first B.book B.root
+        side.session.session side.opened blanks }
     requires there { P.is_there ≡ true }
-    requires name { B.ledger ≡ name_at blanks }
-    requires setting { side.session.session.setting ≡ B.setting }
-    requires first { B.first ≡ gen side.session.session.journal }
-    requires book { (side.opened.book ≡ B.book) × (side.opened.root ≡ B.root) }
     requires fresh { side.session.session.journal ≡ [] }
     requires offers { arc_value side.catalog ≡ side.session.session.setting.catalog }
-    requires table { ShowsNewest side.session.session side.opened.table }
 {
     let other = behind_lock::<B, P, _>(rt, alloc, pool, side, blanks)?;
     seen_and_left(rt, alloc, task, one, other)
@@ -280,14 +274,11 @@ fn first_named<A: Naming + Send + Sync, P: Pooling + Send + Sync, R: Threads + W
     side: Side,
     blanks: Blanks,
 ) -> Option<(Seen, Left<P>, Left<P>)>
+    requires named { GoesBy A.ledger A.setting A.first A.book A.root
+        side.session.session side.opened blanks }
     requires there { P.is_there ≡ true }
-    requires name { A.ledger ≡ name_at blanks }
-    requires setting { side.session.session.setting ≡ A.setting }
-    requires first { A.first ≡ gen side.session.session.journal }
-    requires book { (side.opened.book ≡ A.book) × (side.opened.root ≡ A.root) }
     requires fresh { side.session.session.journal ≡ [] }
     requires offers { arc_value side.catalog ≡ side.session.session.setting.catalog }
-    requires table { ShowsNewest side.session.session side.opened.table }
 {
     let one = behind_lock::<A, P, _>(rt, alloc, pool, side, blanks)?;
     let side = new_side(alloc)?;

@@ -1,9 +1,7 @@
 //! A session of two workers behind its lock, whose octets were counted by hand.
 ghost use Rattle.std.specs.Prelude.{◌≡◌, []};
 ghost use Rattle.std.specs.Arc.{arc_value};
-ghost use Rattle.pcef_model.specs.Journals.{gen};
-ghost use Rattle.pcef_session.specs.Shown.{Shows};
-ghost use Rattle.pcef_share.specs.Names.{name_at};
+ghost use Rattle.pcef_lock.specs.Opening.{GoesBy};
 
 mod opening;
 
@@ -62,13 +60,10 @@ fn judged_and_flushed<C: Detects, N: Naming, R: Wait + Drop>(
     opened: Opened,
     blanks: Blanks,
 ) -> Option<([u64; 10], [u64; 10])>
-    requires name { N.ledger ≡ name_at blanks }
-    requires setting { session.session.setting ≡ N.setting }
+    requires named { GoesBy N.ledger N.setting N.first N.book N.root
+        session.session opened blanks }
     requires fresh { session.session.journal ≡ [] }
     requires offers { C.offers catalog.now ≡ session.session.setting.catalog }
-    requires first { N.first ≡ gen session.session.journal }
-    requires table { Shows session.session.setting session.session.journal (gen session.session.journal) opened.table }
-    requires book { (opened.book ≡ N.book) × (opened.root ≡ N.root) }
 {
     match State::<N, _>::open(rt, alloc, session, opened, blanks, 2).ok() {
         Some((mut state, mut desk)) => books_around_rows(
@@ -199,13 +194,10 @@ fn told_to_the_desk<C: Detects + Drop, N: Naming, R: Wait + Drop>(
     opened: Opened,
     blanks: Blanks,
 ) -> Option<[u64; 5]>
-    requires name { N.ledger ≡ name_at blanks }
-    requires setting { session.session.setting ≡ N.setting }
+    requires named { GoesBy N.ledger N.setting N.first N.book N.root
+        session.session opened blanks }
     requires fresh { session.session.journal ≡ [] }
     requires offers { C.offers (arc_value catalog) ≡ session.session.setting.catalog }
-    requires first { N.first ≡ gen session.session.journal }
-    requires table { Shows session.session.setting session.session.journal (gen session.session.journal) opened.table }
-    requires book { (opened.book ≡ N.book) × (opened.root ≡ N.root) }
 {
     match Shared::<C, N, _>::open(rt, alloc, catalog, session, opened, blanks, 2) {
         Ok((shared, mut desk)) => told_by(rt, alloc, commands, &shared, &mut desk),

@@ -5,7 +5,7 @@ ghost use Rattle.std.specs.Arc.{arc_value};
 ghost use Rattle.pcef_catalog.specs.Catalogs.{offers_of};
 ghost use Rattle.pcef_model.specs.Journals.{gen};
 ghost use Rattle.pcef_session.specs.Shown.{Shows};
-ghost use Rattle.pcef_share.specs.Names.{name_at};
+ghost use Rattle.pcef_lock.specs.Opening.{GoesBy};
 
 use super::*;
 use pcef_catalog::Catalog;
@@ -194,13 +194,10 @@ fn tell_behind_its_lock<
     install: &Command,
     table: Table<'_>,
 ) -> Result<Told, Unopened<C>>
-    requires name { N.ledger ≡ name_at blanks }
-    requires setting { session.session.setting ≡ N.setting }
+    requires named { GoesBy N.ledger N.setting N.first N.book N.root
+        session.session opened blanks }
     requires fresh { session.session.journal ≡ [] }
     requires offers { C.offers (arc_value catalog) ≡ session.session.setting.catalog }
-    requires first { N.first ≡ gen session.session.journal }
-    requires table { Shows session.session.setting session.session.journal (gen session.session.journal) opened.table }
-    requires book { (opened.book ≡ N.book) × (opened.root ≡ N.root) }
     ensures back { IfErr result (λ e. (e.catalog ≡ catalog) × (e.session ≡ session)) }
 {
     match Shared::<C, N, _>::open(rt, alloc, catalog, session, opened, blanks, places) {

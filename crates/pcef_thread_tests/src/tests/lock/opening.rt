@@ -1,9 +1,7 @@
 //! How many places for workers a lock may have.
 
 ghost use Rattle.std.specs.Prelude.{◌≡◌, []};
-ghost use Rattle.pcef_model.specs.Journals.{gen};
-ghost use Rattle.pcef_session.specs.Shown.{Shows};
-ghost use Rattle.pcef_share.specs.Names.{name_at};
+ghost use Rattle.pcef_lock.specs.Opening.{GoesBy};
 
 use super::*;
 use pcef_lock::SharedFault;
@@ -41,12 +39,9 @@ fn refused_places<N: Naming, R: Wait + Drop>(
     blanks: Blanks,
     places: u8,
 ) -> Option<u64>
-    requires name { N.ledger ≡ name_at blanks }
-    requires setting { session.session.setting ≡ N.setting }
+    requires named { GoesBy N.ledger N.setting N.first N.book N.root
+        session.session opened blanks }
     requires fresh { session.session.journal ≡ [] }
-    requires first { N.first ≡ gen session.session.journal }
-    requires table { Shows session.session.setting session.session.journal (gen session.session.journal) opened.table }
-    requires book { (opened.book ≡ N.book) × (opened.root ≡ N.root) }
 {
     match State::<N, _>::open(rt, alloc, session, opened, blanks, places).err() {
         None => Some(0),
