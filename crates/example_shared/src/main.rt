@@ -120,7 +120,9 @@ fn behind_its_lock<
 fn shared<R: Threads + Wait + Sync>(rt: &R, alloc: Global) -> Option<Totals> {
     let catalog = ShapedCatalog::built_in(alloc).ok()?;
     let session = session(alloc, &catalog)?;
-    let opened = opened(&session).ok()?;
+    let Ok(opened) = opened(&session) else {
+        return None;
+    };
     let catalog = Arc::new(alloc, catalog).ok()?;
     let blanks = Blanks::new();
     behind_its_lock::<ShapedCatalog, Brand, _>(rt, alloc, catalog, session, opened, blanks)
