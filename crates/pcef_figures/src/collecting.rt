@@ -7,7 +7,7 @@ ghost use Rattle.pcef_figures.specs.Grants.{generation_behind, grant_of, grants_
 ghost use Rattle.pcef_figures.specs.Guarantees.{rates_commanded, rates_in, rules_behind, rules_commanded};
 ghost use Rattle.pcef_figures.specs.Pairing.{data_of, exchanges, filled, is_answer, is_told};
 ghost use Rattle.pcef_figures.specs.Usages.{number_in, refusal_of, refusals_in, told_of, usage_in};
-ghost use Rattle.pcef_figures.specs.private.Steps.{IsOtherOrMemory, KeepsLines, TellsBeside, TellsDone, TellsNext, exchange_by};
+ghost use Rattle.pcef_figures.specs.private.Steps.{IsOtherOrMemory, TellsBeside, TellsDone, TellsLine, TellsNext, exchange_by};
 
 use crate::answers::{keys_in, push_grant, push_judged, push_usage, refused_in};
 use crate::figures::{Figures, Handed};
@@ -190,21 +190,7 @@ impl Collected {
         line: Option<&Value>,
         answer: &Value,
     ) -> Result<(), CollectFault>
-        ensures refused { OnOk result (map refusal_of self.new.figures.refused.items
-            ≡ map refusal_of self.old.figures.refused.items ++ refusals_in number (view answer.now)) }
-        ensures beside { OnOk result (KeepsLines self.old.figures self.new.figures) }
-        ensures generation { OnOk result (self.new.figures.generation
-            ≡ generation_behind self.old.figures.generation number (view answer.now)) }
-        ensures grants { OnOk result (map grant_of self.new.figures.grants.items
-            ≡ map grant_of self.old.figures.grants.items
-            ++ grants_in number (option_map (λ l. view l.now) line.entry) (view answer.now)) }
-        ensures keys { OnOk result (map key_of self.new.figures.keys.items
-            ≡ keys_behind (map key_of self.old.figures.keys.items) number (view answer.now)) }
-        ensures rates { OnOk result (self.new.figures.rates.items ≡ self.old.figures.rates.items
-            ++ rates_in self.old.active number (option_map (λ l. view l.now) line.entry) (view answer.now)) }
-        ensures active { OnOk result (self.new.active
-            ≡ rules_behind self.old.active number (option_map (λ l. view l.now) line.entry) (view answer.now)) }
-        ensures answered { OnOk result (is_told number (option_map (λ l. view l.now) line.entry) (view answer.now) ≡ true) }
+        ensures told { OnOk result (TellsLine number (option_map (λ l. view l.now) line.entry) (view answer.now) self.old self.new) }
         ensures fault { IfErr result (IsUntold number (option_map (λ l. view l.now) line.entry) (view answer.now)) }
     {
         if let Some(refused) = refused_in(alloc, number, answer)? {

@@ -18,4 +18,4 @@ mod values;
 pub use collecting::{CollectFault, Collected, collect};
 pub use figures::{Figures, Grant, Handed, Judged, KeyState, Rates, Refused, Usage, Verdict};
 pub use rates::ActiveRules;
-pub use sums::{Sums, octets_by_key, octets_by_rule, octets_judged, octets_of, sum_of};
+pub use sums::{Sums, octets_by_key, octets_by_rule, sum_of};

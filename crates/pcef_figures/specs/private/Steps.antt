@@ -1,5 +1,5 @@
 -- What a line with its answer adds to what is told: for private clauses.
-use Rattle.std.specs.Prelude.{ℕ, ◌≡◌, ◌+◌, ◌-◌, ◌^◌, ◌++◌, true, codes, map, max, min}
+use Rattle.std.specs.Prelude.{ℕ, ◌≡◌, ◌+◌, ◌-◌, ◌^◌, ◌++◌, Option, true, codes, map, max, min}
 use Rattle.serde_json.specs.Data.{Data}
 use Rattle.serde_json.specs.Find.{get}
 use Rattle.pcef_figures.specs.declared.collecting.CollectFault.{CollectFault}
@@ -9,17 +9,11 @@ use Rattle.pcef_figures.specs.declared.figures.Figures.{Figures}
 use Rattle.pcef_figures.specs.declared.pairing.Filled.{Filled}
 use Rattle.pcef_figures.specs.Grants.{generation_behind, grant_asked, grant_of, grants_in, key_of, keys_behind, keys_shown, or_zero}
 use Rattle.pcef_figures.specs.Guarantees.{rates_commanded, rates_in, rules_behind, rules_commanded}
-use Rattle.pcef_figures.specs.Pairing.{Exchange, exchange_of, is_answered}
+use Rattle.pcef_figures.specs.Pairing.{Exchange, exchange_of, is_answered, is_told}
 use Rattle.pcef_figures.specs.Usages.{number_in, refusal_of, refusals_in, told_of, usage_in}
 
 abbrev pub exchange_by : Filled → Filled → Exchange
 exchange_by line answer = exchange_of ((line.number, line.octets.now), (answer.number, answer.octets.now))
-
--- lines and reports stay
-pub record KeepsLines (old new : Figures) : Type 0 where
-  pub lines : new.lines ≡ old.lines
-  pub last : new.last ≡ old.last
-  pub usage : new.usage ≡ old.usage
 
 -- packets are told, and nothing else
 pub record TellsBeside (old new : Figures) : Type 0 where
@@ -49,6 +43,19 @@ IsOtherOrMemory number (fault.NoAnswer n) = ⊥
 IsOtherOrMemory number (fault.OtherPackets n) = n ≡ number
 IsOtherOrMemory number fault.MoreAnswers = ⊥
 IsOtherOrMemory number fault.NoMemory = Unit {0}
+
+-- a line is told with its answer, after it was counted and its answer's reports were told
+pub record TellsLine (number : ℕ) (line : Option Data) (answer : Data) (old new : Collected) : Type 0 where
+  pub lines : new.figures.lines ≡ old.figures.lines
+  pub last : new.figures.last ≡ old.figures.last
+  pub generation : new.figures.generation ≡ generation_behind old.figures.generation number answer
+  pub usage : new.figures.usage ≡ old.figures.usage
+  pub grants : map grant_of new.figures.grants.items ≡ map grant_of old.figures.grants.items ++ grants_in number line answer
+  pub keys : map key_of new.figures.keys.items ≡ keys_behind (map key_of old.figures.keys.items) number answer
+  pub rates : new.figures.rates.items ≡ old.figures.rates.items ++ rates_in old.active number line answer
+  pub refused : map refusal_of new.figures.refused.items ≡ map refusal_of old.figures.refused.items ++ refusals_in number answer
+  pub active : new.active ≡ rules_behind old.active number line answer
+  pub answered : is_told number line answer ≡ true
 
 -- a line with its answer is told
 pub record TellsNext (x : Exchange) (old new : Collected) : Type 0 where

@@ -1,5 +1,5 @@
 //! Grants and reports of monitoring keys.
-use pcef_figures::{Figures, collect, octets_by_key, octets_of, sum_of};
+use pcef_figures::{Figures, collect, octets_by_key, sum_of};
 use std::alloc::Global;
 use std::test::Fail;
 
@@ -95,7 +95,6 @@ fn sums_of_octets_are_exact_below_2_to_the_64(rt: HostRuntime) -> Result<(), Fai
         ("web", 5),
         ("full", 0),
     ] {
-        assert_eq!(rt; octets_of(usage, key), Some(octets));
         assert_eq!(rt; sum_of(&sums, key), Some(octets));
     }
     let more =
@@ -104,12 +103,8 @@ fn sums_of_octets_are_exact_below_2_to_the_64(rt: HostRuntime) -> Result<(), Fai
     let usage = figures.usage.as_slice();
     let sums = octets_by_key(rt.alloc(), usage)?;
     assert_eq!(rt;
-        (octets_of(usage, "vid"), sum_of(&sums, "vid")),
-        (None, None)
-    );
-    assert_eq!(rt;
-        (octets_of(usage, "web"), sum_of(&sums, "web")),
-        (Some(2), Some(2))
+        (sum_of(&sums, "vid"), sum_of(&sums, "web")),
+        (None, Some(2))
     );
     Ok(())
 }

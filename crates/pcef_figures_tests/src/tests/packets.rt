@@ -1,7 +1,5 @@
 //! Packets with their verdicts.
-use pcef_figures::{
-    CollectFault, Figures, Verdict, collect, octets_by_rule, octets_judged, sum_of,
-};
+use pcef_figures::{CollectFault, Figures, Verdict, collect, octets_by_rule, sum_of};
 use std::alloc::Global;
 use std::test::Fail;
 
@@ -59,7 +57,6 @@ fn each_verdict_goes_to_the_first_packet_of_its_worker(rt: HostRuntime) -> Resul
     let judged = figures.judged.as_slice();
     let sums = octets_by_rule(rt.alloc(), judged)?;
     for (rule, octets) in [("web", 60u64), ("voice", 48), ("", 0), ("w", 0)] {
-        assert_eq!(rt; octets_judged(judged, rule), Some(octets));
         assert_eq!(rt; sum_of(&sums, rule), Some(octets));
     }
     Ok(())
