@@ -9,6 +9,7 @@ use crate::filters::filter_told;
 use crate::parts::{field_in, field_told, unknown_told, word_told};
 use crate::place::Place;
 use crate::plain::plain;
+use crate::syntax::misplaced;
 use crate::told::Told;
 use crate::wanted::Shown;
 use pcef_line::{Field, LineFault};
@@ -37,7 +38,13 @@ fn without_place(message: &str) -> &str {
 }
 
 /// What is told of a text that isn't JSON.
-fn not_json(alloc: Global, error: &Error) -> Result<Explanation, AllocError> {
+fn not_json(alloc: Global, text: &str, error: &Error) -> Result<Explanation, AllocError> {
+    if let Some((place, text)) = misplaced(alloc, text)? {
+        return Ok(Explanation {
+            column: Some(place.saturating_add(1)),
+            text,
+        });
+    }
     let message = format!(in alloc; "{error}")?;
     let message = without_place(message.as_str());
     Ok(Explanation {
@@ -172,7 +179,7 @@ fn of_text(alloc: Global, text: &str, fault: LineFault) -> Result<Explanation, A
     match Value::from_str(alloc, text) {
         Ok(line) => of_value(alloc, text, &line, fault),
         Err(error) if error.is_memory() => Err(AllocError),
-        Err(error) => not_json(alloc, &error),
+        Err(error) => not_json(alloc, text, &error),
     }
 }
 
@@ -203,6 +210,17 @@ fn too_long(alloc: Global, line: &[u8]) -> Result<Explanation, AllocError>
     })
 }
 
+/// With `?` in the place of each octet that is no printable ASCII.
+fn in_plain(alloc: Global, found: Explanation) -> Result<Explanation, AllocError>
+    ensures plain { IfOk result (λ e. IsPlain (string_bytes e.text)) }
+    ensures column { IfOk result (λ e. e.column ≡ found.column) }
+{
+    Ok(Explanation {
+        column: found.column,
+        text: plain(alloc, found.text.as_str())?,
+    })
+}
+
 /// Says why a line has a fault: the column, the place as in `rule.filters[0].text`, what was found there and what is
 /// expected, and of an unknown word the nearest one. The text is for people: it may change. Takes memory for it, and for
 /// the line as JSON.
@@ -214,8 +232,61 @@ pub fn explain(alloc: Global, line: &[u8], fault: LineFault) -> Result<Explanati
         LineFault::LineTooLong => too_long(alloc, line)?,
         _ => found(alloc, line, fault)?,
     };
+    in_plain(alloc, found)
+}
+
+/// What stands at a field of a line that is JSON, and what is told of it.
+fn of_field(
+    alloc: Global,
+    text: &str,
+    line: &Value,
+    field: Field,
+    told: &str,
+) -> Result<Explanation, AllocError> {
+    let (place, found) = field_in(line, field);
+    let Some(found) = found else {
+        return Ok(Explanation {
+            column: None,
+            text: format!(in alloc; "{place} is missing: {told}")?,
+        });
+    };
+    let shown = Shown(found);
     Ok(Explanation {
-        column: found.column,
-        text: plain(alloc, found.text.as_str())?,
+        column: column_of(alloc, text, place)?,
+        text: format!(in alloc; "{place} is {shown}: {told}")?,
     })
+}
+
+/// The same of a line, if it is JSON.
+fn at_field(
+    alloc: Global,
+    line: &[u8],
+    field: Field,
+    told: &str,
+) -> Result<Explanation, AllocError> {
+    if let Ok(text) = str::from_utf8(line) {
+        match Value::from_str(alloc, text) {
+            Ok(line) => return of_field(alloc, text, &line, field, told),
+            Err(error) if error.is_memory() => return Err(AllocError),
+            Err(_) => {}
+        }
+    }
+    Ok(Explanation {
+        column: None,
+        text: String::from_str(alloc, told)?,
+    })
+}
+
+/// Says what stands at a field of a line that has no fault and still isn't taken: the column, the field, what was found
+/// there, and `told`, which tells what is expected. The text is for people, as that of [`explain`]. Takes memory for it,
+/// and for the line as JSON.
+pub fn explain_field(
+    alloc: Global,
+    line: &[u8],
+    field: Field,
+    told: &str,
+) -> Result<Explanation, AllocError>
+    ensures { IfOk result (λ e. IsPlain (string_bytes e.text)) }
+{
+    in_plain(alloc, at_field(alloc, line, field, told)?)
 }
