@@ -1,6 +1,7 @@
 //! How often a worker hands rows over, counted by a gate.
 
 use super::*;
+use pcef_test_sessions::packet_from;
 use pcef_worker::Point;
 use std::sync::atomic::{AtomicBool, AtomicU64, Ordering};
 use std::thread::yield_now;
@@ -66,6 +67,68 @@ fn packets_that_came_meanwhile_are_handed_over_together(rt: HostRuntime) -> Resu
     let told = figures_of(ended).unwrap_or_default();
     assert_eq!(rt; (told.rows, told.dropped), (66, 0));
     assert!(rt; gate.flushes.load(Ordering::SeqCst) <= 4);
+    Ok(())
+}
+
+/// So many packets for the first worker, and behind them as many for the second, which no rule fits.
+fn packets_and_strangers(alloc: Global, each: u8) -> Result<Vec<Arrival>, Fail> {
+    let mut arrivals = packets_of_two(alloc, each, 0)?;
+    for _ in 0..each {
+        let header = PackedHeader::new(&packet_from(54, 28));
+        arrivals.push(Arrival { header, worker: 1 })?;
+    }
+    Ok(arrivals)
+}
+
+// The rule is installed between the packets of the two workers. So it is there where the first worker's first flush goes
+// on, which hands over 32 rows at most: all others are judged by it.
+#[test]
+fn what_comes_during_a_flush_judges_the_packets_behind_it(rt: HostRuntime) -> Result<(), Fail> {
+    let alloc = rt.alloc();
+    let gate = AfterSecond {
+        flushes: AtomicU64::new(0),
+        answered: AtomicBool::new(false),
+    };
+    let arrivals = packets_and_strangers(alloc, 65)?;
+    let commands = vec![in alloc; Command::Install(web(alloc)?)]?;
+    let session = accepted(session(alloc, 1000)?, monitor(1_000_000)?)?;
+    let ended = run(&rt, alloc, session, arrivals, commands, 2, &gate)??;
+    let told = figures_of(ended).unwrap_or_default();
+    assert_eq!(rt; told.rows, 130);
+    assert!(rt; told.counted / 28 >= 33);
+    Ok(())
+}
+
+/// Counts the flushes that begin, and those that were answered.
+#[derive(Drop)]
+struct Ends {
+    begun: AtomicU64,
+    answered: AtomicU64,
+}
+
+impl Gate for Ends {
+    fn at(&self, point: Point) {
+        match point {
+            Point::FlushBegins(_) => self.begun.fetch_add(1, Ordering::SeqCst),
+            Point::FlushAnswered(_) => self.answered.fetch_add(1, Ordering::SeqCst),
+        };
+    }
+}
+
+// The session takes one row, so that some flush is refused.
+#[test]
+fn a_refused_flush_is_answered_too(rt: HostRuntime) -> Result<(), Fail> {
+    let alloc = rt.alloc();
+    let gate = Ends {
+        begun: AtomicU64::new(0),
+        answered: AtomicU64::new(0),
+    };
+    let (arrivals, commands) = (packets_of_two(alloc, 40, 0)?, Vec::new(alloc));
+    let ended = run(&rt, alloc, session(alloc, 1)?, arrivals, commands, 1, &gate)??;
+    let told = figures_of(ended).unwrap_or_default();
+    assert!(rt; told.rows <= 1);
+    let begun = gate.begun.load(Ordering::SeqCst);
+    assert!(rt; begun > 0 && gate.answered.load(Ordering::SeqCst) == begun);
     Ok(())
 }
 
