@@ -5,4 +5,5 @@ mod live;
 mod plans;
 mod pools;
 mod program;
+mod ranges;
 mod runs;

@@ -298,10 +298,18 @@ fn scripts_on_the_built_in_rules(rt: HostRuntime) -> Result<(), Fail> {
     Ok(())
 }
 
-/// The line that installs the rule for DNS answers with this number in its name.
+/// A filter for DNS answers.
+const DNS: &str = "{\"text\":\"permit out 17 from any 53 to assigned\"}";
+
+/// The line that installs a rule with this number in its name, for DNS answers. It has as many filters as a rule may have.
 fn install(alloc: Global, number: u8) -> Result<String, Fail> {
+    let mut filters = String::from_str(alloc, DNS)?;
+    for _ in 1..16u8 {
+        filters.push_str(",")?;
+        filters.push_str(DNS)?;
+    }
     Ok(format!(in alloc;
-        "{{\"do\":\"install\",\"rule\":{{\"name\":\"n{number}\",\"precedence\":100,\"filters\":[{{\"text\":\"permit out 17 from any 53 to assigned\"}}],\"qci\":9,\"arp\":{{\"level\":8,\"capability\":false,\"vulnerability\":true}},\"gate\":\"ENABLED\"}}}}"
+        "{{\"do\":\"install\",\"rule\":{{\"name\":\"n{number}\",\"precedence\":100,\"filters\":[{filters}],\"qci\":9,\"arp\":{{\"level\":8,\"capability\":false,\"vulnerability\":true}},\"gate\":\"ENABLED\"}}}}"
     )?)
 }
 
@@ -315,6 +323,7 @@ fn answers_end(alloc: Global, script: &[String], end: &str) -> Result<bool, Fail
     Ok(text.as_str().ends_with(end))
 }
 
+// The index of the last table has 1,024 lines, as many as there may be.
 #[test]
 fn where_no_more_rules_can_be_active(rt: HostRuntime) -> Result<(), Fail> {
     let alloc = rt.alloc();

@@ -211,6 +211,18 @@ fn other_rates_are_usage(rt: HostRuntime) -> Result<(), Fail> {
     Ok(())
 }
 
+// A wrong rate beside as many profiles as there may be is named; one profile more makes too many words.
+#[test]
+fn a_wrong_rate_beside_sixty_four_profiles_is_named(rt: HostRuntime) -> Result<(), Fail> {
+    let rate = "DOWN is 0 to 1099511627775 bit/s, found 'x'.";
+    let count = "pool takes UP, DOWN and 1 to 64 profiles: 3 to 66 words, found 67.";
+    for &(sessions, named) in &[(64usize, rate), (65, count)] {
+        let (status, _, said) = pool_of(&rt, rt.alloc(), ("1", "x"), sessions, "x")?;
+        assert_eq!(rt; (status, said.as_str().lines().nth(1)), (2, Some(named)));
+    }
+    Ok(())
+}
+
 /// Lines that are no orders for two sessions.
 static WRONG: [&str; 16] = [
     "x",
