@@ -223,6 +223,24 @@ fn a_wrong_rate_beside_sixty_four_profiles_is_named(rt: HostRuntime) -> Result<(
     Ok(())
 }
 
+// A word that is wrong is shown where it has 80 bytes at most.
+#[test]
+fn a_wrong_rate_of_eighty_bytes_is_shown(rt: HostRuntime) -> Result<(), Fail> {
+    let alloc = rt.alloc();
+    let mut rate = String::from_str(alloc, "x")?;
+    for _ in 1..80u8 {
+        rate.push_str("x")?;
+    }
+    let named = format!(in alloc; "DOWN is 0 to 1099511627775 bit/s, found '{rate}'.")?;
+    let (_, _, said) = pool_of(&rt, alloc, ("1", rate.as_str()), 1, "x")?;
+    assert_eq!(rt; said.as_str().lines().nth(1), Some(named.as_str()));
+    rate.push_str("x")?;
+    let other = "DOWN is 0 to 1099511627775 bit/s, found other text.";
+    let (_, _, said) = pool_of(&rt, alloc, ("1", rate.as_str()), 1, "x")?;
+    assert_eq!(rt; said.as_str().lines().nth(1), Some(other));
+    Ok(())
+}
+
 /// Lines that are no orders for two sessions.
 static WRONG: [&str; 16] = [
     "x",
