@@ -125,3 +125,26 @@ fn packets_that_a_worker_abandons_have_no_verdict(rt: HostRuntime) -> Result<(),
     );
     Ok(())
 }
+
+// Three packets of one worker wait, and the oldest gets the first verdict.
+#[test]
+fn the_packets_of_a_worker_keep_their_order(rt: HostRuntime) -> Result<(), Fail> {
+    let lines = b"{\"do\":\"take\",\"worker\":0,\"dir\":\"up\",\"packet\":\"00\"}\n\
+        {\"do\":\"take\",\"worker\":0,\"dir\":\"up\",\"packet\":\"00\"}\n\
+        {\"do\":\"take\",\"worker\":0,\"dir\":\"down\",\"packet\":\"00\"}\n{\"do\":\"flush\",\"worker\":0}\n";
+    let answers =
+        b"{\"ok\":true,\"waiting\":1}\n{\"ok\":true,\"waiting\":2}\n{\"ok\":true,\"waiting\":3}\n\
+        {\"ok\":true,\"verdicts\":[{\"generation\":0,\"verdict\":\"Unmatched\"},\
+        {\"generation\":0,\"verdict\":\"Stray\"},{\"generation\":0,\"verdict\":\"Unmatched\"}]}\n";
+    let figures = collect(rt.alloc(), lines, answers)?;
+    assert_eq!(rt;
+        rows(rt.alloc(), &figures)?.as_slice(),
+        [
+            (1, 4, 0, true, 0, (Verdict::Unmatched, 0, None)),
+            (2, 4, 0, true, 0, (Verdict::Stray, 0, None)),
+            (3, 4, 0, false, 0, (Verdict::Unmatched, 0, None)),
+        ]
+        .as_slice()
+    );
+    Ok(())
+}
