@@ -1,0 +1,11 @@
+pub mod AskedTexts
+pub mod Asks
+pub mod Cutting
+pub mod Fields
+pub mod Kept
+pub mod NameTests
+pub mod Saids
+pub mod Scripts
+pub mod Servings
+pub mod Spaces
+pub mod Unders

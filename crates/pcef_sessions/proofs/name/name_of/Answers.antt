@@ -1,0 +1,11 @@
+use Rattle.std.proofs.Common.{◌∙◌, ap, refl, rules, Some, List, ℕ}
+use Rattle.pcef_sessions.proofs.NameTests.{name_utf8, named, unnamed}
+use Rattle.pcef_sessions.proofs.name.name_of.Goals as goal
+
+pub returns-in_default : goal.returns-in_default
+returns-in_default c = unnamed c.args.octets.now c.args.octets.now refl (λ is. c.in_default.ensures.cases.0 (name_utf8 c.args.octets.now is))
+
+pub returns-in-Ok-new : goal.returns-in-Ok-new
+returns-in-Ok-new c =
+    ap (λ (t : List ℕ). Some t) c.in-Ok-new.ensures.ok
+    ∙ named c.in-Ok.text.now c.args.octets.now c.in-Ok.ensures.cases.0 (c.in-Ok-new.ensures.variant.0 (search rules))

@@ -1,0 +1,52 @@
+-- The steps to an answer.
+use Rattle.std.specs.Prelude.{ℕ, ◌≡◌, ◌≢◌, List, true, false, Option, Some, None, string_bytes}
+use Rattle.pcef_model.specs.Setting.{Setting}
+use Rattle.pcef_world.specs.Steps.{Standing}
+use Rattle.pcef_script.specs.declared.step.Answer.{Answer}
+use Rattle.pcef_script.specs.ScriptAnswers.{AnswersLine}
+use Rattle.pcef_sessions.specs.declared.asking.Asking.{Asking}
+use Rattle.pcef_sessions.specs.declared.asking.Asking.TheVariants as asking
+use Rattle.pcef_sessions.specs.declared.sessions.Sessions.{Sessions}
+use Rattle.pcef_sessions.specs.Asked.{asked_of}
+use Rattle.pcef_sessions.specs.Standing.{fixed, held}
+use Rattle.pcef_sessions.specs.Under.{Session, Says, UnderName, asking_fault_text, done_text, is_open_text, no_session_text, opened, with_address}
+
+-- nothing changes under the other names
+abbrev pub OthersStay : Sessions → List ℕ → Sessions → Type 0
+OthersStay old name new = (other : List ℕ) → other ≢ name → held new other ≡ held old other
+
+-- a session that is there answers as a script does
+abbrev pub Runs : Option Session → List ℕ → Option Answer → Option Session → Type 0
+Runs None line None after = after ≡ None
+Runs None line (Some a) after = ⊥
+Runs (Some s) line None after = ⊥
+Runs (Some s) line (Some a) after =
+    (standing : Standing) × AnswersLine s.setting s.standing line (string_bytes a.text) a.is_fault standing
+    × (after ≡ Some (record s { standing = standing }))
+
+-- what the sessions answer, whatever a script would
+abbrev pub AsksOf : Setting → Option Session → Asking → Answer → Option Session → Type 0
+AsksOf p None (asking.Open ue) a after = Says done_text false (Some (opened (with_address ue p))) (string_bytes a.text) a.is_fault after
+AsksOf p (Some s) (asking.Open ue) a after = Says is_open_text false (Some s) (string_bytes a.text) a.is_fault after
+AsksOf p None asking.End a after = Says no_session_text false None (string_bytes a.text) a.is_fault after
+AsksOf p (Some s) asking.End a after = Says done_text false None (string_bytes a.text) a.is_fault after
+AsksOf p there (asking.Fault why) a after = Says (asking_fault_text why) true there (string_bytes a.text) a.is_fault after
+AsksOf p there asking.Script a after = Says no_session_text false there (string_bytes a.text) a.is_fault after
+
+abbrev pub Asks : Sessions → List ℕ → Asking → Answer → Sessions → Type 0
+Asks old name asks a new = AsksOf (fixed old) (held old name) asks a (held new name) × OthersStay old name new
+
+-- the answer of a script stands where the line asks nothing of the sessions
+abbrev pub InsteadOf : Setting → Option Session → Asking → Answer → Answer → Option Session → Type 0
+InsteadOf p there (asking.Open ue) script a after = AsksOf p there (asking.Open ue) a after
+InsteadOf p there asking.End script a after = AsksOf p there asking.End a after
+InsteadOf p there (asking.Fault why) script a after = AsksOf p there (asking.Fault why) a after
+InsteadOf p there asking.Script script a after = (a ≡ script) × (after ≡ there)
+
+abbrev pub AsksInstead : Sessions → List ℕ → List ℕ → Answer → Answer → Sessions → Type 0
+AsksInstead old name line script a new =
+    InsteadOf (fixed old) (held old name) (asked_of line) script a (held new name) × OthersStay old name new
+
+abbrev pub Tells : Sessions → List ℕ → List ℕ → Answer → Sessions → Type 0
+Tells old name line a new =
+    UnderName (fixed old) (held old name) line (string_bytes a.text) a.is_fault (held new name) × OthersStay old name new

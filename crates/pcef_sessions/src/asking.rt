@@ -1,0 +1,151 @@
+//! What a line asks of the sessions.
+
+ghost use Rattle.std.specs.Prelude.{◌≡◌, IfOk, codes};
+ghost use Rattle.serde_json.specs.Find.{get};
+ghost use Rattle.serde_json.specs.View.{members_view, view};
+ghost use Rattle.pcef_sessions.specs.Asked.{asked_at, asked_of, asked_text, each_key, end_at, has_only, is_end_field, is_open_field, open_at, open_with};
+
+use pcef_packet::Addr;
+use serde_json::{Map, Value};
+use std::alloc::{AllocError, Global};
+use std::str;
+
+/// The most octets of a script's line.
+const MAX_LINE: usize = 262_144;
+
+/// Why a line that opens a session or ends one isn't right.
+#[derive(Clone, Copy, Debug, PartialEq, Eq)]
+pub enum AskingFault {
+    /// It has a field that the word doesn't have.
+    UnknownField,
+    /// Its `ue` is no address.
+    BadUe,
+}
+
+/// What a line asks of the sessions.
+#[derive(Clone, Copy, Debug, PartialEq, Eq)]
+pub enum Asking {
+    /// To open the session, with this address in the place of the profile's, where there is one.
+    Open(Option<Addr>),
+    /// To end the session.
+    End,
+    /// One of these two, in a line at fault.
+    Fault(AskingFault),
+    /// Neither: the line is one of a script.
+    Script,
+}
+
+fn is_open_field(key: &str) -> bool
+    ensures { result ≡ is_open_field key.now }
+{
+    key == "do" || key == "ue"
+}
+
+fn is_end_field(key: &str) -> bool
+    ensures { result ≡ is_end_field key.now }
+{
+    key == "do"
+}
+
+fn are_of_open(members: &Map<String, Value>) -> bool
+    ensures { result ≡ each_key is_open_field (members_view members.now.entries) }
+{
+    members.keys().all(|key| is_open_field(key.as_str()))
+}
+
+fn are_of_end(members: &Map<String, Value>) -> bool
+    ensures { result ≡ each_key is_end_field (members_view members.now.entries) }
+{
+    members.keys().all(|key| is_end_field(key.as_str()))
+}
+
+fn has_fields_of_open(line: &Value) -> bool
+    ensures { result ≡ has_only is_open_field (view line.now) }
+{
+    match line.as_object() {
+        Some(members) => are_of_open(members),
+        None => true,
+    }
+}
+
+fn has_fields_of_end(line: &Value) -> bool
+    ensures { result ≡ has_only is_end_field (view line.now) }
+{
+    match line.as_object() {
+        Some(members) => are_of_end(members),
+        None => true,
+    }
+}
+
+/// What a line that opens a session says of its address.
+#[tactic(auto, unfolding(crate::specs::Asked::open_with))]
+fn address_of(line: &Value) -> Asking
+    ensures { result ≡ open_with (get (codes "ue") (view line.now)) }
+{
+    let Some(ue) = line.get("ue") else {
+        return Asking::Open(None);
+    };
+    let Some(text) = ue.as_str() else {
+        return Asking::Fault(AskingFault::BadUe);
+    };
+    match Addr::from_text(text.as_bytes()) {
+        Some(address) => Asking::Open(Some(address)),
+        None => Asking::Fault(AskingFault::BadUe),
+    }
+}
+
+#[tactic(auto, unfolding(crate::specs::Asked::open_at))]
+fn opening(line: &Value) -> Asking
+    ensures { result ≡ open_at (view line.now) }
+{
+    if has_fields_of_open(line) {
+        address_of(line)
+    } else {
+        Asking::Fault(AskingFault::UnknownField)
+    }
+}
+
+#[tactic(auto, unfolding(crate::specs::Asked::end_at))]
+fn ending(line: &Value) -> Asking
+    ensures { result ≡ end_at (view line.now) }
+{
+    if has_fields_of_end(line) {
+        Asking::End
+    } else {
+        Asking::Fault(AskingFault::UnknownField)
+    }
+}
+
+#[tactic(auto, unfolding(crate::specs::Asked::asked_at))]
+fn asked_at(line: &Value) -> Asking
+    ensures { result ≡ asked_at (view line.now) }
+{
+    match line.get("do").and_then(Value::as_str) {
+        Some("open") => opening(line),
+        Some("end") => ending(line),
+        _ => Asking::Script,
+    }
+}
+
+fn asked_text(alloc: Global, text: &str) -> Result<Asking, AllocError>
+    ensures { IfOk result (λ a. a ≡ asked_text text.now) }
+{
+    match Value::from_str(alloc, text) {
+        Ok(line) => Ok(asked_at(&line)),
+        Err(error) if error.is_memory() => Err(AllocError),
+        Err(_) => Ok(Asking::Script),
+    }
+}
+
+/// What a line asks of the sessions. Takes memory for the line.
+pub(crate) fn asked_of(alloc: Global, line: &[u8]) -> Result<Asking, AllocError>
+    ensures { IfOk result (λ a. a ≡ asked_of line.now) }
+{
+    if line.len() > MAX_LINE {
+        return Ok(Asking::Script);
+    }
+    match str::from_utf8(line) {
+        Ok(text) => asked_text(alloc, text),
+        Err(_) => Ok(Asking::Script),
+    }
+}

@@ -1,0 +1,80 @@
+//! A session that is open.
+
+ghost use Rattle.std.specs.Prelude.{◌≡◌, IfOk, false, string_bytes};
+ghost use Rattle.std.specs.Arc.{arc_value};
+ghost use Rattle.pcef_script.specs.ScriptAnswers.{AnswersLine};
+ghost use Rattle.pcef_script.specs.ScriptLines.{is_blank};
+ghost use Rattle.pcef_world.specs.Steps.{standing_of};
+
+use pcef_built_in::ShapedCatalog;
+use pcef_line::LineReader;
+use pcef_script::{Answer, answer_alone};
+use pcef_world::WorldState;
+use std::alloc::{AllocError, Global};
+use std::marker::Model;
+use std::sync::Arc;
+
+/// A session that is open, with its workers. It shares the predefined rules with all others.
+pub struct Held {
+    catalog: Arc<ShapedCatalog>,
+    world: WorldState,
+}
+
+// Written out, so that an owner proves one call at each way out.
+impl Drop for Held {
+    fn drop(self) {
+        let Held {
+            catalog: _,
+            world: _,
+        } = self;
+    }
+}
+
+impl Model for Held {
+    ghost use Rattle.pcef_sessions.specs.Under.{Session};
+
+    ghost Value = { Session };
+
+    ghost use Rattle.std.specs.Prelude.{◌≡◌};
+    ghost use Rattle.std.specs.Arc.{arc_value};
+    ghost use Rattle.pcef_world.specs.Steps.{standing_of};
+
+    ghost view = { λ s. record {
+      setting = s.world.session.setting;
+      standing = standing_of s.world;
+    } };
+
+    ghost invariant = { λ s. arc_value s.catalog ≡ s.world.session.setting.catalog };
+}
+
+impl Held {
+    /// A session that was just opened.
+    pub(crate) fn new(catalog: Arc<ShapedCatalog>, world: WorldState) -> Held
+        requires { arc_value catalog ≡ world.session.setting.catalog }
+        ensures setting { result.setting ≡ world.session.setting }
+        ensures standing { result.standing ≡ standing_of world }
+    {
+        Held { catalog, world }
+    }
+
+    /// Does what a line of a script asks for, and answers as the script does. The reports of the lines before it were
+    /// told, and are forgotten.
+    pub(crate) fn answer(
+        &mut self,
+        alloc: Global,
+        lines: &mut LineReader,
+        line: &[u8],
+    ) -> Result<Answer, AllocError>
+        requires { is_blank line.now ≡ false }
+        ensures answer { IfOk result (λ a. AnswersLine self.old.setting self.old.standing line.now
+            (string_bytes a.text) a.is_fault self.new.standing) }
+        ensures setting { self.new.setting ≡ self.old.setting }
+    {
+        self.world.forget();
+        match answer_alone(alloc, &*self.catalog, &mut self.world, lines, line) {
+            Ok(Some(answer)) => Ok(answer),
+            Ok(None) => unreachable!(),
+            Err(error) => Err(error),
+        }
+    }
+}

@@ -1,0 +1,71 @@
+//! The session that a line is for.
+
+ghost use Rattle.std.specs.Prelude.{◌≡◌, Some, None, if◌then◌else◌};
+ghost use Rattle.std.specs.Option.{option_map};
+ghost use Rattle.pcef_line.specs.LineValues.{is_name};
+ghost use Rattle.std.specs.List.{list_all};
+ghost use Rattle.pcef_script.specs.ScriptLines.{is_blank, is_space};
+ghost use Rattle.pcef_sessions.specs.Addressed.{addressed, at_space};
+
+use memchr::memchr;
+use pcef_rule::Name;
+use std::str;
+
+/// The most octets of a script's line.
+const MAX_LINE: usize = 262_144;
+
+/// Says of a name that it is a session's.
+#[derive(Clone, Copy, Debug, PartialEq, Eq)]
+pub struct OfSession;
+
+/// The name of a session: 1 to 64 octets from 0x21 to 0x7E.
+pub type SessionName = Name<OfSession>;
+
+/// The name that octets are.
+fn name_of(octets: &[u8]) -> Option<SessionName>
+    ensures { result ≡ (if is_name octets.now then Some octets.now else None) }
+{
+    let Ok(text) = str::from_utf8(octets) else {
+        return None;
+    };
+    match Name::new(text) {
+        Ok(name) => Some(name),
+        Err(_) => None,
+    }
+}
+
+/// A line at its first space: what stands before it, and what behind it.
+fn at_space(line: &[u8]) -> Option<(&[u8], &[u8])>
+    ensures { option_map (λ p. (p.0.now, p.1.now)) result ≡ at_space line.now }
+{
+    match memchr(b' ', line) {
+        Some(place) => Some((line.split_at(place).0, line.split_at(place + 1).1)),
+        None => None,
+    }
+}
+
+/// Whether all octets are spaces, tabs and CR.
+fn is_space(octets: &[u8]) -> bool
+    ensures { result ≡ list_all is_space octets.now }
+{
+    octets.iter().all(|octet| *octet == b' ' || *octet == b'\t' || *octet == b'\r')
+}
+
+/// Whether a line of a script gets no answer.
+pub(crate) fn is_blank(line: &[u8]) -> bool
+    ensures { result ≡ is_blank line.now }
+{
+    line.len() <= MAX_LINE && is_space(line)
+}
+
+/// The name of the session that a line is for, and the line that the session gets, if there are both.
+pub(crate) fn addressed(line: &[u8]) -> Option<(SessionName, &[u8])>
+    ensures { option_map (λ p. (p.0, p.1.now)) result ≡ addressed line.now }
+{
+    let (front, rest) = at_space(line)?;
+    let name = name_of(front)?;
+    if is_blank(rest) {
+        return None;
+    }
+    Some((name, rest))
+}

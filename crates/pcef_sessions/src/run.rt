@@ -1,0 +1,79 @@
+//! Serves lines from a reader to a writer.
+
+ghost use Rattle.std.specs.Prelude.{◌≡◌, ℕ, List, None};
+ghost use Rattle.pcef_model.specs.Setting.{Setting};
+ghost use Rattle.pcef_model.specs.Refusals.{first_of, open_faults};
+ghost use Rattle.pcef_model.specs.ProfileModel.{setting_of};
+ghost use Rattle.pcef_script.specs.Scripts.{Opened};
+ghost use Rattle.pcef_sessions.specs.Served.{Serves};
+ghost use Rattle.pcef_sessions.specs.Standing.{fixed, held};
+
+use crate::running::{Serving, answer_block, end_line};
+use crate::sessions::Sessions;
+use pcef_built_in::ShapedCatalog;
+use pcef_model::Profile;
+use pcef_script::{ScriptFault, read_some};
+use std::alloc::Global;
+use std::hash::RandomState;
+use std::io::{Read, Write};
+
+/// The most octets that are read at once.
+const BLOCK: usize = 8192;
+
+fn serve_all<R: Read, W: Write>(
+    alloc: Global,
+    sessions: Sessions,
+    reader: &mut R,
+    writer: &mut W,
+) -> Result<bool, ScriptFault>
+    requires { (name : List ℕ) → held sessions name ≡ None }
+    ensures opened { (p : Setting) → first_of (open_faults p) ≡ None → Opened p result }
+    ensures answers { Serves (fixed sessions) result
+        (R.remaining reader.old) (R.remaining reader.new)
+        (W.contents writer.old) (W.contents writer.new) }
+{
+    let mut serving = Serving {
+        sessions,
+        line: Vec::new(alloc),
+        any_fault: false,
+    };
+    let mut block = [0u8; BLOCK];
+    for _ in 0..u64::MAX {
+        match read_some(reader, &mut block, BLOCK) {
+            Ok(0) => {
+                end_line(&mut serving, writer)?;
+                return Ok(serving.any_fault);
+            }
+            Ok(n) => answer_block(&mut serving, writer, &block[..n])?,
+            Err(_) => return Err(ScriptFault::Read),
+        }
+    }
+    Err(ScriptFault::Read)
+}
+
+/// Answers each line of many sessions of a profile, and tells whether a line was at fault.
+///
+/// A line is a session's name, one space, and a line of a script, or one that opens the session or ends it. A line feed
+/// ends a line, and so does the end of input; there is no answer to a line of spaces, tabs and CR alone. Of a line no
+/// more than 262,210 octets are kept. Reads in blocks of at most 8,192 octets, and writes each answer when its line has
+/// ended. Flushes the writer after each block in which a line ended, so that whoever waits for an answer has it before
+/// more is read; the caller flushes at the end. Takes memory for a line, an answer, and what the sessions keep.
+///
+/// Ends early with the first [`ScriptFault`] that it meets: the reader's, which 2^64 blocks are too, or the writer's, want
+/// of memory, or a profile that no session can have, before anything is read.
+pub fn serve<R: Read, W: Write>(
+    alloc: Global,
+    reader: &mut R,
+    writer: &mut W,
+    profile: Profile,
+    catalog: ShapedCatalog,
+    keys: RandomState,
+) -> Result<bool, ScriptFault>
+    ensures opened { Opened (setting_of profile catalog) result }
+    ensures answers { Serves (setting_of profile catalog) result
+        (R.remaining reader.old) (R.remaining reader.new)
+        (W.contents writer.old) (W.contents writer.new) }
+{
+    let sessions = Sessions::new(alloc, profile, catalog, keys)?;
+    serve_all(alloc, sessions, reader, writer)
+}

@@ -1,0 +1,56 @@
+//! What is told.
+
+ghost use Rattle.std.specs.Prelude.{◌≡◌, IfOk, true, string_bytes};
+ghost use Rattle.pcef_sessions.specs.Under.{asking_fault_text};
+
+use crate::asking::AskingFault;
+use crate::name::SessionName;
+use pcef_answer::fault_text;
+use pcef_line::LineFault;
+use pcef_script::Answer;
+use std::alloc::{AllocError, Global};
+
+/// The answer to a line.
+#[derive(Drop)]
+pub struct Told {
+    /// The session's name, or none where the line has no right one.
+    pub name: Option<SessionName>,
+    /// What is answered.
+    pub answer: Answer,
+}
+
+/// An answer of this text.
+pub(crate) fn says(alloc: Global, text: &str, is_fault: bool) -> Result<Answer, AllocError>
+    ensures text { IfOk result (λ a. string_bytes a.text ≡ text.now) }
+    ensures fault { IfOk result (λ a. a.is_fault ≡ is_fault) }
+{
+    Ok(Answer {
+        text: String::from_str(alloc, text)?,
+        is_fault,
+    })
+}
+
+fn text_of(alloc: Global, fault: AskingFault) -> Result<String, AllocError>
+    ensures { IfOk result (λ text. string_bytes text ≡ asking_fault_text fault) }
+{
+    match fault {
+        AskingFault::UnknownField => fault_text(alloc, LineFault::UnknownField),
+        AskingFault::BadUe => {
+            String::from_str(
+                alloc,
+                "{\"fault\":8,\"field\":\"ue\",\"name\":\"BadField\"}",
+            )
+        }
+    }
+}
+
+/// The answer to a line at fault that opens a session or ends one.
+pub(crate) fn says_fault(alloc: Global, fault: AskingFault) -> Result<Answer, AllocError>
+    ensures text { IfOk result (λ a. string_bytes a.text ≡ asking_fault_text fault) }
+    ensures fault { IfOk result (λ a. a.is_fault ≡ true) }
+{
+    Ok(Answer {
+        text: text_of(alloc, fault)?,
+        is_fault: true,
+    })
+}

@@ -1,0 +1,266 @@
+//! The sessions that are open, by their names.
+
+ghost use Rattle.std.specs.Prelude.{◌≡◌, ◌≢◌, ℕ, List, IfErr, IfOk, None, OnOk, Some, false, is_some};
+ghost use Rattle.std.specs.Arc.{arc_value};
+ghost use Rattle.pcef_model.specs.ProfileModel.{setting_of};
+ghost use Rattle.pcef_script.specs.Running.{OpenFails};
+ghost use Rattle.pcef_script.specs.ScriptLines.{is_blank};
+ghost use Rattle.pcef_script.specs.Scripts.{Opened};
+ghost use Rattle.pcef_world.specs.Worlds.{IsOpenedWorld};
+ghost use Rattle.pcef_sessions.specs.Asked.{asked_of};
+ghost use Rattle.pcef_sessions.specs.Sayings.{TellsLine};
+ghost use Rattle.pcef_sessions.specs.declared.asking.Asking.TheVariants as asking;
+ghost use Rattle.pcef_sessions.specs.Standing.{Becomes, fixed, held};
+ghost use Rattle.pcef_sessions.specs.Under.{opened, with_address};
+ghost use Rattle.pcef_sessions.specs.private.Steps.{Asks, AsksInstead, OthersStay, Runs, Tells};
+
+use crate::asking::{Asking, asked_of};
+use crate::held::Held;
+use crate::name::{SessionName, addressed};
+use crate::saying::{Told, says, says_fault};
+use pcef_built_in::ShapedCatalog;
+use pcef_catalog::Offers;
+use pcef_line::LineReader;
+use pcef_model::{OpenFault, Profile};
+use pcef_packet::Addr;
+use pcef_script::{Answer, ScriptFault};
+use pcef_world::WorldState;
+use std::alloc::{AllocError, Global};
+use std::collections::HashMap;
+use std::hash::RandomState;
+use std::sync::Arc;
+
+/// Sessions of one profile, each under its name, with the predefined rules that all of them are offered.
+pub struct Sessions {
+    alloc: Global,
+    profile: Profile,
+    catalog: Arc<ShapedCatalog>,
+    lines: LineReader,
+    table: HashMap<SessionName, Box<Held>, RandomState>,
+}
+
+// Written out, so that an owner proves one call at each way out.
+impl Drop for Sessions {
+    fn drop(self) {
+        let Sessions {
+            alloc: _,
+            profile: _,
+            catalog: _,
+            lines: _,
+            table: _,
+        } = self;
+    }
+}
+
+/// A session of a profile and its workers, with this address in the place of the profile's, where there is one.
+fn world_of(
+    alloc: Global,
+    profile: &Profile,
+    catalog: &ShapedCatalog,
+    ue: Option<Addr>,
+) -> Result<WorldState, ScriptFault>
+    ensures made { IfOk result (IsOpenedWorld
+        (with_address ue (setting_of profile.now catalog.now))) }
+    ensures opened { Opened (with_address ue (setting_of profile.now catalog.now)) result }
+    ensures fault { IfErr result OpenFails }
+{
+    let Ok(listing) = catalog.listing().share() else {
+        return Err(ScriptFault::NoMemory);
+    };
+    let profile = Profile {
+        ue: ue.unwrap_or(profile.ue),
+        default_qos: profile.default_qos,
+        capacity: profile.capacity,
+        qcis: profile.qcis,
+        rows: profile.rows,
+        commands: profile.commands,
+    };
+    match WorldState::open(alloc, profile, listing) {
+        Ok(world) => Ok(world),
+        Err(OpenFault::NoMemory) => Err(ScriptFault::NoMemory),
+        Err(fault) => Err(ScriptFault::Profile(fault)),
+    }
+}
+
+impl Sessions {
+    /// No session, where one of this profile can be opened. Else the profile's fault, or want of memory, which may come at
+    /// any time. The names are hashed by these keys, which are to be random, since strangers choose names. Takes memory.
+    pub fn new(
+        alloc: Global,
+        profile: Profile,
+        catalog: ShapedCatalog,
+        keys: RandomState,
+    ) -> Result<Sessions, ScriptFault>
+        ensures opened { Opened (setting_of profile catalog) result }
+        ensures fault { IfErr result OpenFails }
+        ensures fixed { IfOk result (λ s. fixed s ≡ setting_of profile catalog) }
+        ensures none { IfOk result (λ s. (name : List ℕ) → held s name ≡ None) }
+    {
+        let _opened = world_of(alloc, &profile, &catalog, None)?;
+        let Ok(catalog) = Arc::new(alloc, catalog) else {
+            return Err(ScriptFault::NoMemory);
+        };
+        Ok(Sessions {
+            alloc,
+            profile,
+            catalog,
+            lines: LineReader::new(alloc),
+            table: HashMap::with_hasher(alloc, keys),
+        })
+    }
+
+    /// A session that is just opened.
+    fn open(&self, ue: Option<Addr>) -> Result<Box<Held>, AllocError>
+        ensures { IfOk result (λ b. b.value ≡ opened (with_address ue (fixed self.now))) }
+    {
+        let Ok(world) = world_of(self.alloc, &self.profile, &self.catalog, ue) else {
+            return Err(AllocError);
+        };
+        let catalog = Arc::try_clone(&self.catalog)?;
+        let held = Box::new(self.alloc, Held::new(catalog, world))?;
+        Ok(held)
+    }
+
+    /// Opens a session under a name, in the place of one that is there.
+    fn start(&mut self, name: &SessionName, ue: Option<Addr>) -> Result<(), AllocError>
+        ensures there { OnOk result (Becomes self.old self.new name.now
+            (Some (opened (with_address ue (fixed self.old))))) }
+        ensures fixed { fixed self.new ≡ fixed self.old }
+    {
+        let held = self.open(ue)?;
+        self.table.insert(name.copy(), held)?;
+        Ok(())
+    }
+
+    /// Ends the session of a name, and tells whether there was one.
+    fn stop(&mut self, name: &SessionName) -> bool
+        ensures found { result ≡ is_some (held self.old name.now) }
+        ensures there { Becomes self.old self.new name.now None }
+        ensures fixed { fixed self.new ≡ fixed self.old }
+    {
+        self.table.remove(name).is_some()
+    }
+
+    /// The answer of a script to a line for a name, if there is a session.
+    fn run(&mut self, name: &SessionName, line: &[u8]) -> Result<Option<Answer>, AllocError>
+        requires { is_blank line.now ≡ false }
+        ensures there { IfOk result (λ a. Runs (held self.old name.now) line.now a
+            (held self.new name.now)) }
+        ensures others { OthersStay self.old name.now self.new }
+        ensures fixed { fixed self.new ≡ fixed self.old }
+    {
+        match self.table.get_mut(name) {
+            None => Ok(None),
+            Some(held) => match held.answer(self.alloc, &mut self.lines, line) {
+                Ok(answer) => Ok(Some(answer)),
+                Err(error) => Err(error),
+            },
+        }
+    }
+
+    /// The answer to a line that opens a session.
+    fn asked_open(&mut self, name: &SessionName, ue: Option<Addr>) -> Result<Answer, AllocError>
+        ensures told { IfOk result (λ a. Asks self.old name.now (asking.Open ue) a self.new) }
+        ensures fixed { fixed self.new ≡ fixed self.old }
+    {
+        if self.table.contains_key(name) {
+            return says(
+                self.alloc,
+                "{\"name\":\"SessionIsOpen\",\"refused\":1}",
+                false,
+            );
+        }
+        self.start(name, ue)?;
+        says(self.alloc, "{\"ok\":true}", false)
+    }
+
+    /// The answer to a line that ends a session.
+    fn asked_end(&mut self, name: &SessionName) -> Result<Answer, AllocError>
+        ensures told { IfOk result (λ a. Asks self.old name.now asking.End a self.new) }
+        ensures fixed { fixed self.new ≡ fixed self.old }
+    {
+        if self.stop(name) {
+            says(self.alloc, "{\"ok\":true}", false)
+        } else {
+            says(self.alloc, "{\"name\":\"NoSession\",\"refused\":0}", false)
+        }
+    }
+
+    /// The answer to a line that asks this of the sessions, or of a session that isn't open.
+    fn ask(&mut self, name: &SessionName, asking: Asking) -> Result<Answer, AllocError>
+        ensures told { IfOk result (λ a. Asks self.old name.now asking a self.new) }
+        ensures fixed { fixed self.new ≡ fixed self.old }
+    {
+        match asking {
+            Asking::Open(ue) => self.asked_open(name, ue),
+            Asking::End => self.asked_end(name),
+            Asking::Fault(fault) => says_fault(self.alloc, fault),
+            Asking::Script => says(self.alloc, "{\"name\":\"NoSession\",\"refused\":0}", false),
+        }
+    }
+
+    /// The answer to a line of a session that isn't open.
+    fn ask_first(&mut self, name: &SessionName, line: &[u8]) -> Result<Answer, AllocError>
+        ensures told { IfOk result (λ a. Asks self.old name.now (asked_of line.now) a self.new) }
+        ensures fixed { fixed self.new ≡ fixed self.old }
+    {
+        let asking = asked_of(self.alloc, line)?;
+        self.ask(name, asking)
+    }
+
+    /// The answer to a line of a script at fault, which is for the sessions if it opens one or ends one.
+    fn ask_instead(
+        &mut self,
+        name: &SessionName,
+        line: &[u8],
+        answer: Answer,
+    ) -> Result<Answer, AllocError>
+        ensures told { IfOk result (λ a. AsksInstead self.old name.now line.now answer a self.new) }
+        ensures fixed { fixed self.new ≡ fixed self.old }
+    {
+        match asked_of(self.alloc, line)? {
+            Asking::Script => Ok(answer),
+            asking => self.ask(name, asking),
+        }
+    }
+
+    /// The answer to a line for a name.
+    fn answer_to(&mut self, name: &SessionName, line: &[u8]) -> Result<Answer, AllocError>
+        requires { is_blank line.now ≡ false }
+        ensures told { IfOk result (λ a. Tells self.old name.now line.now a self.new) }
+        ensures fixed { fixed self.new ≡ fixed self.old }
+    {
+        match self.run(name, line)? {
+            None => self.ask_first(name, line),
+            Some(answer) => {
+                if answer.is_fault {
+                    self.ask_instead(name, line, answer)
+                } else {
+                    Ok(answer)
+                }
+            }
+        }
+    }
+
+    /// Does what a line asks for: a session's name, one space, and a line of a script, or one that opens the session or
+    /// ends it. Nothing is done for a line without name, space or rest. Takes memory for the answer and for what a session
+    /// keeps; for want of it the line may be done or not.
+    pub fn answer(&mut self, line: &[u8]) -> Result<Told, AllocError>
+        ensures told { IfOk result (λ t. TellsLine self.old line.now t self.new) }
+        ensures fixed { fixed self.new ≡ fixed self.old }
+    {
+        match addressed(line) {
+            None => Ok(Told {
+                name: None,
+                answer: says(self.alloc, "{\"fault\":1,\"name\":\"BadName\"}", true)?,
+            }),
+            Some((name, rest)) => {
+                let answer = self.answer_to(&name, rest)?;
+                Ok(Told {
+                    name: Some(name),
+                    answer,
+                })
+            }
+        }
+    }
+}
