@@ -1,0 +1,67 @@
+//! How the program ends.
+
+ghost use Rattle.std.specs.Prelude.{◌≤◌};
+
+use pcef_command_line::tell_no_memory;
+use pcef_model::OpenFault;
+use std::io;
+
+/// How the program ends.
+#[derive(Drop)]
+pub(crate) enum End<'a> {
+    /// All lines are answered, and none is at fault.
+    Clean,
+    /// All lines are answered, and some are at fault.
+    Faults,
+    /// The profile has a fault, which is told already.
+    Profile,
+    /// No session of the profile can be opened.
+    Session(OpenFault),
+    /// There is no memory left.
+    NoMemory,
+    /// The file of this name can't be read.
+    Read(&'a str, io::Error),
+    /// Standard input failed.
+    Lines,
+    /// Standard output takes no more.
+    Write,
+}
+
+impl End<'_> {
+    /// The exit status. Wrong arguments, which clap finds, have 2.
+    fn status(&self) -> u8
+        ensures { result ≤ 4 }
+    {
+        match self {
+            End::Clean => 0,
+            End::Faults | End::Profile | End::Session(_) => 1,
+            End::NoMemory => 3,
+            End::Read(..) | End::Lines | End::Write => 4,
+        }
+    }
+
+    /// Tells why the program ends early, and gives its exit status. That it can't be told changes nothing.
+    pub(crate) fn told(&self, rt: &HostRuntime) -> u8
+        ensures { result ≤ 4 }
+    {
+        match self {
+            End::Clean | End::Faults | End::Profile => {}
+            End::Session(fault) => {
+                let _ = eprintln!(rt; "profile fault\n{fault}");
+            }
+            End::NoMemory => {
+                let _ = tell_no_memory(rt);
+            }
+            End::Read(file, error) => {
+                let _ = eprintln!(rt; "read fault\n{file}: {error}");
+            }
+            End::Lines => {
+                let _ = eprintln!(rt; "read fault\nStandard input failed.");
+            }
+            End::Write => {
+                let _ = eprintln!(rt; "write fault\nStandard output takes no more.");
+            }
+        }
+        self.status()
+    }
+}

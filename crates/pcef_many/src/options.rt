@@ -1,0 +1,39 @@
+//! What the program is asked for.
+
+use clap::{Arg, ArgAction, Command, Error, value_parser};
+use std::alloc::Global;
+
+/// What the program is asked for.
+#[derive(Clone, Copy)]
+pub(crate) struct Options<'a> {
+    /// The path of the profile.
+    pub profile: &'a str,
+}
+
+/// What the words ask for, of which the first is the program's name. Wrong words are clap's error, and so are the
+/// questions for help and for the version; want of memory too. Takes memory.
+pub(crate) fn asked<'a>(alloc: Global, words: &'a [String]) -> Result<Option<Options<'a>>, Error> {
+    let threads = Arg::new(alloc, "threads")
+        .long("threads")
+        .value_name("N")
+        .action(ArgAction::Set)
+        .value_parser(value_parser!(u8).range(1..=1))
+        .default_value("1")
+        .help("How many threads serve the sessions: 1, as yet");
+    let profile = Arg::new(alloc, "profile")
+        .value_name("PROFILE")
+        .required(true)
+        .action(ArgAction::Set)
+        .help("The profile of each session, as of pcef script");
+    let command = Command::new(alloc, "pcef_many")
+        .about(
+            "Answers lines of many sessions, each behind its session's name: opens one by {\"do\":\"open\"} and ends it by {\"do\":\"end\"}",
+        )
+        .arg(threads)?
+        .arg(profile)?;
+    let matches = command.try_get_matches_from(words)?;
+    let Some(profile) = matches.get_str("profile") else {
+        return Ok(None);
+    };
+    Ok(Some(Options { profile }))
+}
