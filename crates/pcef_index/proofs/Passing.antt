@@ -2,7 +2,7 @@
 use Rattle.std.proofs.Common.{◌≡◌, ◌==◌, ◌<◌, ◌≤◌, ◌+◌, ◌-◌, ◌*◌, ◌/◌, ◌%◌, ◌^◌, ◌&&◌, ◌||◌, ◌∙◌, ◌⊎◌, ℕ, zero, suc, Bool, true, false, List, [], ◌∷◌, Option, Some, None, All, nat_le, nat_lt, ap, refl, sym, arith, inl, inr}
 use Rattle.std.proofs.Math.Nat.{div-div-eq-div-mul}
 use Rattle.std.proofs.lemmas.Nat.{pow-add}
-use Rattle.std.proofs.lemmas.Bool.{and_parts, cases_Bool, cond_both, eqb-true, le-leb, leb-true, ltb-true, or_left, or_right}
+use Rattle.std.proofs.lemmas.Bool.{and_parts, cases_Bool, cond_both, eqb-true, leb-true, ltb-true, or_left, or_right}
 use Rattle.std.proofs.lemmas.List.Elements.{All-cons, All-nil}
 use Rattle.pcef_packet.specs.declared.header.Addr.{Addr}
 use Rattle.pcef_packet.specs.declared.header.Addr.TheVariants.{V4, V6}
@@ -26,9 +26,7 @@ use Rattle.pcef_index.specs.declared.cells.Half.{Half}
 use Rattle.pcef_index.specs.declared.cells.Half.TheVariants.{High, Low}
 use Rattle.pcef_index.specs.private.Cells.{are_whole, block, filter_passes, half_cells, header_cells, high_cells, is_in, local_end, local_in, loose_of, octet_of, only, place_cells, place_passes, port_cells, ports_pass, proto_cells, ranges_pass, remote_end, remote_in, rest_of, shift_of, wide_shift, way_cell, way_in, whole}
 use Rattle.pcef_index.specs.private.Marks.{ArePortsRanged, IsRanged}
-
-inside : (k : ℕ) (c : Cells) → c.first ≤ k → k ≤ c.last → is_in k c ≡ true
-inside k c low high = rw (le-leb c.first k low, le-leb k c.last high) refl
+use Rattle.pcef_index.proofs.Within.{inside}
 
 in_whole : (base k : ℕ) → k < 256 → is_in (base + k) (whole base) ≡ true
 in_whole base k small = inside (base + k) (whole base) (omega arith) (omega arith)

@@ -31,20 +31,20 @@ line_lets : (offers : List Offer) (ue : Addr) (h : Header) (o : Option Line) →
 line_lets offers ue h None ranged fits = absurd (cc)
 line_lets offers ue h (Some l) ranged fits = part_lets offers ue h l.part ranged fits
 
-has_in_block : (words : List ℕ) (lines : List Line) (block i k : ℕ) → IsSieve lines words → i < 64 → passes_at lines (block * 64 + i) k ≡ true → Has words (block * 2306 + k) i
+has_in_block : (words : List ℕ) (lines : List Line) (block i k : ℕ) → IsSieve lines words → i < 64 → passes_at lines (block * 64 + i) k ≡ true → Has words (block * 2316 + k) i
 has_in_block words lines block i k sieve small passes =
     let quotient : (block * 64 + i) / 64 ≡ block = omega arith in
     let rest : (block * 64 + i) % 64 ≡ i = omega arith in
-    subst (λ (n : ℕ). Has words (block * 2306 + k) n) rest
-    (subst (λ (n : ℕ). Has words (n * 2306 + k) ((block * 64 + i) % 64)) quotient (sieve.sieves (block * 64 + i) k passes))
+    subst (λ (n : ℕ). Has words (block * 2316 + k) n) rest
+    (subst (λ (n : ℕ). Has words (n * 2316 + k) ((block * 64 + i) % 64)) quotient (sieve.sieves (block * 64 + i) k passes))
 
 -- the bits of a block's words for the cells of a header sieve its lines
 pub block_sieved : (offers : List Offer) (ue : Addr) (h : Header) (lines : List Line) (words : List ℕ) (block word : ℕ) → IsRanged h → IsSieve lines words
-    → ((i : ℕ) → i < 64 → All (λ k. Has words (block * 2306 + k) i) (header_cells h) → bit_at word i ≡ 1)
+    → ((i : ℕ) → i < 64 → All (λ k. Has words (block * 2316 + k) i) (header_cells h) → bit_at word i ≡ 1)
     → AreSieved (line_fits offers ue h) lines (block * 64) word
 block_sieved offers ue h lines words block word ranged sieve told i small fits =
     told i small
-    (All-weaker (λ k. passes_at lines (block * 64 + i) k ≡ true) (λ k. Has words (block * 2306 + k) i)
+    (All-weaker (λ k. passes_at lines (block * 64 + i) k ≡ true) (λ k. Has words (block * 2316 + k) i)
     (λ k passes. has_in_block words lines block i k sieve small passes)
     (header_cells h)
     (line_lets offers ue h (slice_get lines (block * 64 + i)) ranged fits))

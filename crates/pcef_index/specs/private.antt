@@ -2,3 +2,4 @@ pub mod Cells
 pub mod Indexes
 pub mod Lines
 pub mod Marks
+pub mod RuleFilters

@@ -1,6 +1,6 @@
 //! The cells that a filter lets pass: one cell for each octet of each field that filters look at.
 
-ghost use Rattle.std.specs.Prelude.{◌≡◌, ◌<◌, ◌≤◌, ◌+◌};
+ghost use Rattle.std.specs.Prelude.{◌≡◌, ◌<◌, ◌≤◌, ◌+◌, ◌*◌, IfSome};
 ghost use Rattle.pcef_index.specs.private.Cells.{block, half_cells, high_cells, local_end, low_cells, net_cells, octet_of, place_cells, proto_cells, remote_end, rest_of, shift_of, way_in, whole, wide_shift};
 
 use pcef_filter::{Direction, Endpoint, Filter, Flow, Net, Place, PortRange};
@@ -21,6 +21,9 @@ pub(crate) const LOCAL_LOW: u16 = 2048;
 pub(crate) const UPLINK: u16 = 2304;
 /// Downlink.
 pub(crate) const DOWNLINK: u16 = 2305;
+
+/// Where the words of fields begin, behind those of cells: one for each 256 cells.
+pub(crate) const FIELDS: u16 = 2306;
 
 /// The cells from the first to the last, both included.
 #[derive(Clone, Copy, Debug, PartialEq, Eq)]
@@ -51,13 +54,25 @@ fn whole(base: u16) -> Cells
     }
 }
 
-fn only(cell: u16) -> Cells
+/// One cell.
+pub(crate) fn only(cell: u16) -> Cells
     ensures first { result.first ≡ cell }
     ensures last { result.last ≡ cell }
 {
     Cells {
         first: cell,
         last: cell,
+    }
+}
+
+/// The number of the field whose cells these are, all of them.
+pub(crate) fn field_of(cells: Cells) -> Option<u16>
+    ensures { IfSome result (λ f. (f * 256 ≡ cells.first) × (f * 256 + 255 ≡ cells.last)) }
+{
+    if cells.last % 256 == 255 && cells.first == cells.last - 255 {
+        Some(cells.first / 256)
+    } else {
+        None
     }
 }
 

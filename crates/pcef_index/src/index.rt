@@ -6,10 +6,10 @@ ghost use Rattle.pcef_table.specs.Sources.{IsKnown, fits};
 ghost use Rattle.pcef_table.specs.Tables.{IsTable};
 ghost use Rattle.pcef_table.specs.Verdicts.{IsVerdict};
 ghost use Rattle.pcef_index.specs.Candidates.{is_candidate, places_from};
+ghost use Rattle.pcef_index.specs.private.Indexes.{IsSieveOf, Sieves};
 
 use crate::candidates::is_candidate;
-use crate::lines::{Line, lines_of};
-use crate::sieve::{first_place, words_of};
+use crate::sieve::{Sieve, first_place, sieve_of};
 use arrayvec::ArrayVec;
 use pcef_catalog::{Detects, Offers};
 use pcef_model::Verdict;
@@ -18,13 +18,15 @@ use pcef_table::{Entry, Source, Table, gate_verdict, is_own};
 use std::alloc::{AllocError, Global};
 use std::marker::Model;
 
+/// So many filters are searched one after the other: as many as one rule has at most.
+const MOST_SEARCHED: usize = 16;
+
 /// The compiled index of a table. Contracts see the rules of the table's entries, in order. It keeps copies
 /// of them, which share their filters, so that what it says of a packet is said of these rules, whatever
-/// becomes of the table.
+/// becomes of the table. Few filters are searched one after the other, and have no sieve.
 pub struct Index {
     sources: Vec<Source>,
-    lines: Vec<Line>,
-    words: Vec<u64>,
+    sieve: Option<Sieve>,
 }
 
 // Written out, so that an owner proves one call at each way out.
@@ -32,8 +34,7 @@ impl Drop for Index {
     fn drop(self) {
         let Index {
             sources: _,
-            lines: _,
-            words: _,
+            sieve: _,
         } = self;
     }
 }
@@ -47,7 +48,7 @@ impl Model for Index {
 
     ghost view = { λ i. i.sources.items };
 
-    ghost invariant = { λ i. IsIndexed i.sources.items i.lines.items i.words.items };
+    ghost invariant = { λ i. IsIndexed i.sources.items i.sieve };
 }
 
 /// Copies of the rules of entries.
@@ -71,18 +72,66 @@ fn push_if(places: &mut ArrayVec<u8, 64>, place: u8, passes: bool)
     }
 }
 
+/// How many lines a rule has in a sieve.
+fn line_count(source: &Source) -> usize {
+    match source {
+        Source::Dynamic(rule) => rule.filters().len(),
+        Source::Predefined(_) => 1,
+    }
+}
+
+/// Whether a search through the filters of rules is as fast as their sieve.
+fn are_few(sources: &[Source]) -> bool {
+    let mut left = MOST_SEARCHED;
+    for source in sources {
+        let count = line_count(source);
+        if count > left {
+            return false;
+        }
+        left -= count;
+    }
+    true
+}
+
+/// The sieve of some rules, if they have many filters.
+fn sieve_if_many(alloc: Global, sources: &[Source]) -> Result<Option<Sieve>, AllocError>
+    requires { length sources.now ≤ 64 }
+    ensures { IfOk result (Sieves sources.now) }
+{
+    if are_few(sources) {
+        Ok(None)
+    } else {
+        Ok(Some(sieve_of(alloc, sources)?))
+    }
+}
+
 /// The index of some rules, which are no more than a table has.
 pub(crate) fn index_of(alloc: Global, sources: Vec<Source>) -> Result<Index, AllocError>
     requires { length sources.items ≤ 64 }
     ensures { IfOk result (λ i. i ≡ sources.items) }
 {
-    let lines = lines_of(alloc, &sources)?;
-    let words = words_of(alloc, &lines)?;
-    Ok(Index {
-        sources,
-        lines,
-        words,
-    })
+    let sieve = sieve_if_many(alloc, &sources)?;
+    Ok(Index { sources, sieve })
+}
+
+/// The first entry of a table that fits, by the sieve of its rules.
+fn first_sieved<'a, C: Detects>(
+    sieve: &Sieve,
+    table: &'a Table,
+    catalog: &C,
+    ue: &Addr,
+    header: &Header,
+) -> Option<&'a Entry>
+    requires table { IsTable (C.offers catalog.now) table.now.entries }
+    requires sieve { IsSieveOf (map (λ e. e.source) table.now.entries) sieve.now }
+    ensures known { IfSome result (λ e. IsKnown (C.offers catalog.now) e.now.source) }
+    ensures first { option_copied result
+        ≡ find (λ e. fits (C.offers catalog.now) ue.now header.now e.source) table.now.entries }
+{
+    let Some(place) = first_place(&sieve.lines, &sieve.words, catalog, ue, header) else {
+        return None;
+    };
+    table.entry(usize::from(place))
 }
 
 impl Index {
@@ -109,10 +158,10 @@ impl Index {
         ensures first { option_copied result
             ≡ find (λ e. fits (C.offers catalog.now) ue.now header.now e.source) table.now.entries }
     {
-        let Some(place) = first_place(&self.lines, &self.words, catalog, ue, header) else {
-            return None;
-        };
-        table.entry(usize::from(place))
+        match &self.sieve {
+            None => table.first_fitting(catalog, ue, header),
+            Some(sieve) => first_sieved(sieve, table, catalog, ue, header),
+        }
     }
 
     /// What the generation decides of a packet, for a session with this address (TS 23.203,

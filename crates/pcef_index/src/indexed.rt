@@ -117,11 +117,7 @@ impl Indexed {
         ensures first { option_copied result
             ≡ find (λ e. fits (C.offers catalog.now) ue.now header.now e.source) self.now.entries }
     {
-        if self.table.len() <= 1 {
-            self.table.first_fitting(catalog, ue, header)
-        } else {
-            self.index.first_fitting(&self.table, catalog, ue, header)
-        }
+        self.index.first_fitting(&self.table, catalog, ue, header)
     }
 
     /// What the generation decides of a packet, for a session with this address (TS 23.203,

@@ -2,7 +2,8 @@
 //!
 //! Its contracts tell: the same verdict and slots as the table's, by one look-up, and which entries may match a header.
 //!
-//! In the order of reading: `candidates`, `lines`, `cells`, `header_cells`, `marking`, `sieve`, `index`, `indexed`.
+//! In the order of reading: `candidates`, `rule_filter`, `lines`, `cells`, `header_cells`, `marking`, `sieve`,
+//! `index`, `indexed`.
 #![tactic(auto)]
 
 mod candidates;
@@ -12,6 +13,7 @@ mod index;
 mod indexed;
 mod lines;
 mod marking;
+mod rule_filter;
 mod sieve;
 
 pub use index::Index;

@@ -3,9 +3,10 @@
 ghost use Rattle.std.specs.Prelude.{◌≡◌, ◌<◌, ◌≤◌, ◌++◌, length, IfOk, OnOk};
 ghost use Rattle.pcef_index.specs.private.Lines.{filter_lines, line_fits, lines_from, source_lines};
 
+use crate::rule_filter::RuleFilter;
 use pcef_catalog::Detects;
-use pcef_filter::Filter;
 use pcef_packet::{Addr, Header};
+use pcef_rule::Rule;
 use pcef_table::Source;
 use std::alloc::{AllocError, Global};
 
@@ -13,7 +14,7 @@ use std::alloc::{AllocError, Global};
 #[derive(Drop)]
 pub(crate) enum Part {
     /// A filter.
-    Filter(Filter),
+    Filter(RuleFilter),
     /// The place of a predefined rule in the catalog.
     Offer(u8),
 }
@@ -33,19 +34,20 @@ impl Line {
         ensures { result ≡ line_fits (C.offers catalog.now) ue.now header.now self.now }
     {
         match &self.part {
-            Part::Filter(filter) => filter.matches_for(ue, header),
+            Part::Filter(filter) => filter.get().matches_for(ue, header),
             Part::Offer(index) => catalog.detects(*index, header),
         }
     }
 }
 
-fn push_filters(lines: &mut Vec<Line>, place: u8, filters: &[Filter]) -> Result<(), AllocError>
-    ensures { OnOk result (lines.new.items ≡ lines.old.items ++ filter_lines place filters.now) }
+fn push_filters(lines: &mut Vec<Line>, place: u8, rule: &Rule) -> Result<(), AllocError>
+    ensures { OnOk result (lines.new.items
+        ≡ lines.old.items ++ filter_lines place rule.now.filters) }
 {
-    for filter in filters {
+    for number in 0..rule.filters().len() {
         lines.push(Line {
             place,
-            part: Part::Filter(filter.copy()),
+            part: Part::Filter(RuleFilter::new(rule, number)?),
         })?;
     }
     Ok(())
@@ -55,7 +57,7 @@ fn push_source(lines: &mut Vec<Line>, place: u8, source: &Source) -> Result<(), 
     ensures { OnOk result (lines.new.items ≡ lines.old.items ++ source_lines place source.now) }
 {
     match source {
-        Source::Dynamic(rule) => push_filters(lines, place, rule.filters()),
+        Source::Dynamic(rule) => push_filters(lines, place, rule),
         Source::Predefined(index) => {
             lines.push(Line {
                 place,

@@ -3,11 +3,11 @@
 ghost use Rattle.std.specs.Prelude.{◌≡◌, ◌<◌, ◌≤◌, ◌+◌, length};
 ghost use Rattle.std.specs.List.{list_any};
 ghost use Rattle.pcef_index.specs.private.Cells.{are_whole, filter_passes, is_in, line_passes, place_passes, ports_pass, ranges_pass, spans};
-ghost use Rattle.pcef_index.specs.private.Marks.{Marks};
+ghost use Rattle.pcef_index.specs.private.Marks.{Marks, Sets};
 
 use crate::cells::{
-    Cells, DOWNLINK, Half, LOCAL_HIGH, LOCAL_LOW, REMOTE_HIGH, REMOTE_LOW, all_octets, local_end,
-    place_cells, proto_cells, range_cells, remote_end, way_cells,
+    Cells, FIELDS, Half, LOCAL_HIGH, LOCAL_LOW, REMOTE_HIGH, REMOTE_LOW, all_octets, field_of,
+    local_end, only, place_cells, proto_cells, range_cells, remote_end, way_cells,
 };
 use crate::lines::{Line, Part};
 use pcef_filter::{Filter, Place, PortRange};
@@ -21,20 +21,48 @@ pub(crate) struct Spot {
     pub bit: u32,
 }
 
-fn mark(words: &mut [u64], spot: Spot, cells: Cells)
+/// Sets the bit of a line in the words of some cells or fields.
+fn set(words: &mut [u64], spot: Spot, cells: Cells)
     requires bit { spot.bit < 64 }
-    requires within { spot.at + 2305 < length words.old }
-    requires few { cells.last ≤ 2305 }
-    ensures { Marks words.old words.new spot.at spot.bit (λ k. is_in k cells) }
+    requires within { spot.at + 2316 ≤ length words.old }
+    requires few { cells.last ≤ 2315 }
+    ensures { Sets words.old words.new spot.at spot.bit (λ k. is_in k cells) }
 {
     for cell in usize::from(cells.first)..usize::from(cells.last) + 1 {
         words[spot.at + cell] |= 1 << spot.bit;
     }
 }
 
+/// Marks a line at some cells: at their field, where they are all cells of one.
+fn mark(words: &mut [u64], spot: Spot, cells: Cells)
+    requires bit { spot.bit < 64 }
+    requires within { spot.at + 2316 ≤ length words.old }
+    requires few { cells.last ≤ 2305 }
+    ensures { Marks words.old words.new spot.at spot.bit (λ k. is_in k cells) }
+{
+    match field_of(cells) {
+        Some(field) => set(words, spot, only(FIELDS + field)),
+        None => set(words, spot, cells),
+    }
+}
+
+/// Marks a line at all cells.
+fn mark_all(words: &mut [u64], spot: Spot)
+    requires bit { spot.bit < 64 }
+    requires within { spot.at + 2316 ≤ length words.old }
+    ensures { Marks words.old words.new spot.at spot.bit
+        (λ k. is_in k (record { first = 0; last = 2305 })) }
+{
+    let fields = Cells {
+        first: FIELDS,
+        last: FIELDS + 9,
+    };
+    set(words, spot, fields);
+}
+
 fn mark_place(words: &mut [u64], spot: Spot, place: &Place)
     requires bit { spot.bit < 64 }
-    requires within { spot.at + 2305 < length words.old }
+    requires within { spot.at + 2316 ≤ length words.old }
     ensures { Marks words.old words.new spot.at spot.bit (place_passes place.now) }
 {
     mark(words, spot, place_cells(256, 24, place));
@@ -65,7 +93,7 @@ fn are_whole(half: Half, ranges: &[PortRange]) -> bool
 
 fn mark_ports(words: &mut [u64], spot: Spot, half: Half, base: u16, ranges: &[PortRange])
     requires bit { spot.bit < 64 }
-    requires within { spot.at + 2305 < length words.old }
+    requires within { spot.at + 2316 ≤ length words.old }
     requires low { base ≤ 2048 }
     ensures { Marks words.old words.new spot.at spot.bit (ports_pass half base ranges.now) }
 {
@@ -78,7 +106,7 @@ fn mark_ports(words: &mut [u64], spot: Spot, half: Half, base: u16, ranges: &[Po
 
 fn mark_ranges(words: &mut [u64], spot: Spot, half: Half, base: u16, ranges: &[PortRange])
     requires bit { spot.bit < 64 }
-    requires within { spot.at + 2305 < length words.old }
+    requires within { spot.at + 2316 ≤ length words.old }
     requires low { base ≤ 2048 }
     ensures { Marks words.old words.new spot.at spot.bit (ranges_pass half base ranges.now) }
 {
@@ -89,7 +117,7 @@ fn mark_ranges(words: &mut [u64], spot: Spot, half: Half, base: u16, ranges: &[P
 
 fn mark_filter(words: &mut [u64], spot: Spot, filter: &Filter)
     requires bit { spot.bit < 64 }
-    requires within { spot.at + 2305 < length words.old }
+    requires within { spot.at + 2316 ≤ length words.old }
     ensures { Marks words.old words.new spot.at spot.bit (filter_passes filter.now) }
 {
     let remote = remote_end(filter);
@@ -106,18 +134,11 @@ fn mark_filter(words: &mut [u64], spot: Spot, filter: &Filter)
 /// Marks a line at each cell that it lets pass.
 pub(crate) fn mark_line(words: &mut [u64], spot: Spot, line: &Line)
     requires bit { spot.bit < 64 }
-    requires within { spot.at + 2305 < length words.old }
+    requires within { spot.at + 2316 ≤ length words.old }
     ensures { Marks words.old words.new spot.at spot.bit (line_passes line.now) }
 {
     match &line.part {
-        Part::Filter(filter) => mark_filter(words, spot, filter),
-        Part::Offer(_) => mark(
-            words,
-            spot,
-            Cells {
-                first: 0,
-                last: DOWNLINK,
-            },
-        ),
+        Part::Filter(filter) => mark_filter(words, spot, filter.get()),
+        Part::Offer(_) => mark_all(words, spot),
     }
 }

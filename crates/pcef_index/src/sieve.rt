@@ -1,45 +1,115 @@
-//! The words of all cells, and the search for the first line that fits.
+//! The words that sieve lines by the cells of a packet, and the search for the first line that fits.
 
-ghost use Rattle.std.specs.Prelude.{◌≡◌, ◌≤◌, ◌<◌, ◌+◌, ◌*◌, ◌/◌, ◌^◌, ℕ, All, IfOk, MatchOption, Some, find, length, slice_get, false};
+ghost use Rattle.std.specs.Prelude.{◌≡◌, ◌≤◌, ◌<◌, ◌+◌, ◌*◌, ◌/◌, ◌^◌, ℕ, All, IfOk, MatchOption, Some, find, length, nat_lt, slice_get, false};
 ghost use Rattle.std.specs.Int.{bit_at};
 ghost use Rattle.std.specs.Option.{option_map};
 ghost use Rattle.pcef_index.specs.declared.lines.Line.{Line};
 ghost use Rattle.pcef_index.specs.private.Lines.{line_fits};
-ghost use Rattle.pcef_index.specs.private.Marks.{AreSieved, Has, IsFirstIn, IsSieve};
+ghost use Rattle.pcef_index.specs.private.Cells.{is_in};
+ghost use Rattle.pcef_index.specs.private.Indexes.{IsSieveOf};
+ghost use Rattle.pcef_index.specs.private.Marks.{AreSieved, Has, IsFirstIn, IsMarked, IsSieve, Spreads, blocks};
 
+use crate::cells::{Cells, DOWNLINK, FIELDS, UPLINK, all_octets};
 use crate::header_cells::header_cells;
-use crate::lines::Line;
+use crate::lines::{Line, lines_of};
 use crate::marking::{Spot, mark_line};
 use pcef_catalog::Detects;
 use pcef_packet::{Addr, Header};
+use pcef_table::Source;
 use std::alloc::{AllocError, Global};
 
-/// How many cells there are: the words of 64 lines.
-const CELLS: usize = 2306;
+/// How many words there are for 64 lines: one for each cell, and one for each field.
+const BLOCK: usize = 2316;
 
-/// The words of some lines, or want of memory: for each 64 lines a word for each cell.
-pub(crate) fn words_of(alloc: Global, lines: &[Line]) -> Result<Vec<u64>, AllocError>
+/// The lines of some rules, and the words that tell which of them may fit a packet.
+#[derive(Drop)]
+pub(crate) struct Sieve {
+    /// The lines.
+    pub lines: Vec<Line>,
+    /// For each 64 lines a block of words.
+    pub words: Vec<u64>,
+}
+
+/// The sieve of some rules, which are no more than a table has, or want of memory.
+pub(crate) fn sieve_of(alloc: Global, sources: &[Source]) -> Result<Sieve, AllocError>
+    requires { length sources.now ≤ 64 }
+    ensures { IfOk result (IsSieveOf sources.now) }
+{
+    let lines = lines_of(alloc, sources)?;
+    let words = words_of(alloc, &lines)?;
+    Ok(Sieve { lines, words })
+}
+
+/// The words of some lines, or want of memory.
+fn words_of(alloc: Global, lines: &[Line]) -> Result<Vec<u64>, AllocError>
     ensures { IfOk result (λ v. IsSieve lines.now v.items) }
 {
-    let Some(count) = lines.len().div_ceil(64).checked_mul(CELLS) else {
+    let Some(count) = lines.len().div_ceil(64).checked_mul(BLOCK) else {
         return Err(AllocError);
     };
     let mut words = vec![in alloc; 0u64; count]?;
     mark_lines(&mut words, lines);
+    spread_blocks(&mut words, lines);
     Ok(words)
 }
 
-/// Marks each line.
+/// Marks each line at its cells, or at their fields.
 fn mark_lines(words: &mut [u64], lines: &[Line])
-    requires { length words.old ≡ (length lines.now + 63) / 64 * 2306 }
-    ensures { IsSieve lines.now words.new }
+    requires { length words.old ≡ blocks lines.now * 2316 }
+    ensures { IsMarked lines.now words.new }
 {
     for place in 0..lines.len() {
         let spot = Spot {
-            at: place / 64 * CELLS,
+            at: place / 64 * BLOCK,
             bit: (place % 64) as u32,
         };
         mark_line(words, spot, &lines[place]);
+    }
+}
+
+/// Gives some cells of one field the bits of the field's word.
+fn spread(words: &mut [u64], at: usize, cells: Cells)
+    requires within { at + 2316 ≤ length words.old }
+    requires few { cells.last ≤ 2305 }
+    requires one { cells.first / 256 ≡ cells.last / 256 }
+    ensures { Spreads words.old words.new at (λ k. is_in k cells) }
+{
+    let bits = words[at + usize::from(FIELDS + cells.first / 256)];
+    for cell in usize::from(cells.first)..usize::from(cells.last) + 1 {
+        words[at + cell] |= bits;
+    }
+}
+
+/// Gives the cells of octets the bits of their fields' words.
+fn spread_octets(words: &mut [u64], at: usize)
+    requires { at + 2316 ≤ length words.old }
+    ensures { Spreads words.old words.new at (λ k. nat_lt k 2304) }
+{
+    for field in 0..9u16 {
+        spread(words, at, all_octets(field * 256));
+    }
+}
+
+/// Gives all cells the bits of their fields' words.
+fn spread_block(words: &mut [u64], at: usize)
+    requires { at + 2316 ≤ length words.old }
+    ensures { Spreads words.old words.new at (λ k. nat_lt k 2306) }
+{
+    spread_octets(words, at);
+    let ways = Cells {
+        first: UPLINK,
+        last: DOWNLINK,
+    };
+    spread(words, at, ways);
+}
+
+/// Gives the cells of each block the bits of their fields' words.
+fn spread_blocks(words: &mut [u64], lines: &[Line])
+    requires { IsMarked lines.now words.old }
+    ensures { IsSieve lines.now words.new }
+{
+    for block in 0..lines.len().div_ceil(64) {
+        spread_block(words, block * BLOCK);
     }
 }
 
@@ -96,7 +166,7 @@ pub(crate) fn first_place<C: Detects>(
 {
     let cells = header_cells(header);
     for block in 0..lines.len().div_ceil(64) {
-        let word = word_of(&words[block * CELLS..], &cells);
+        let word = word_of(&words[block * BLOCK..], &cells);
         if let Some(place) = first_in(lines, block * 64, word, catalog, ue, header) {
             return Some(place);
         }

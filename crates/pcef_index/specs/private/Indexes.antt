@@ -1,13 +1,21 @@
 -- What an index keeps of the rules that it stands for.
-use Rattle.std.specs.Prelude.{ℕ, ◌≡◌, ◌≤◌, List, length}
+use Rattle.std.specs.Prelude.{ℕ, ◌≡◌, ◌≤◌, IfSome, List, Option, length}
 use Rattle.pcef_table.specs.declared.entry.Source.{Source}
 use Rattle.pcef_table.specs.Tables.{most_entries}
-use Rattle.pcef_index.specs.declared.lines.Line.{Line}
+use Rattle.pcef_index.specs.declared.sieve.Sieve.{Sieve}
 use Rattle.pcef_index.specs.private.Lines.{lines_from}
 use Rattle.pcef_index.specs.private.Marks.{IsSieve}
 
--- the rules are no more than a table has, the lines are theirs, and the words sieve the lines
-pub record IsIndexed (sources : List Source) (lines : List Line) (words : List ℕ) : Type 0 where
+-- the lines are those of some rules, and the words sieve the lines
+pub record IsSieveOf (sources : List Source) (sieve : Sieve) : Type 0 where
+  pub lines_are : sieve.lines.items ≡ lines_from 0 sources
+  pub sieves : IsSieve sieve.lines.items sieve.words.items
+
+-- the sieve of some rules, where they have one
+abbrev pub Sieves : List Source → Option Sieve → Type 0
+Sieves sources sieve = IfSome sieve (IsSieveOf sources)
+
+-- the rules are no more than a table has, and the sieve is theirs
+pub record IsIndexed (sources : List Source) (kept : Option Sieve) : Type 0 where
   pub few : length sources ≤ most_entries
-  pub lines_are : lines ≡ lines_from 0 sources
-  pub sieve : IsSieve lines words
+  pub sieve : Sieves sources kept

@@ -1,5 +1,5 @@
 -- Words of bits, one bit for each of 64 lines: which lines let a cell pass.
-use Rattle.std.specs.Prelude.{ℕ, ◌+◌, ◌*◌, ◌/◌, ◌%◌, ◌^◌, ◌≡◌, ◌<◌, Bool, true, false, Option, Some, None, List, length, slice_get, slice_index_or}
+use Rattle.std.specs.Prelude.{ℕ, ◌+◌, ◌*◌, ◌/◌, ◌%◌, ◌^◌, ◌≡◌, ◌≤◌, ◌<◌, ◌⊎◌, Bool, true, false, Option, Some, None, List, length, slice_get, slice_index_or}
 use Rattle.std.specs.Int.{bit_at}
 use Rattle.std.specs.Option.{option_map_or}
 use Rattle.pcef_packet.specs.declared.header.Header.{Header}
@@ -11,11 +11,21 @@ use Rattle.pcef_index.specs.private.Cells.{line_passes}
 abbrev pub Has : List ℕ → ℕ → ℕ → Type 0
 Has words k i = bit_at (slice_index_or words k 0) i ≡ 1
 
--- no bit is lost, and the words of the cells that pass a test, the first cell's word at place at, have this bit
+-- of the words of 64 lines, the first at place at, that of a cell has a bit, or that of the cell's field
+abbrev pub Shows : List ℕ → ℕ → ℕ → ℕ → Type 0
+Shows words at k i = Has words (at + k) i ⊎ ((k ≤ 2305) × Has words (at + 2306 + k / 256) i)
+
+-- no bit is lost, and the words of the cells that pass a test have this bit
+pub record Sets (old new : List ℕ) (at bit : ℕ) (test : ℕ → Bool) : Type 0 where
+  pub long : length new ≡ length old
+  pub grows : (k i : ℕ) → Has old k i → Has new k i
+  pub sets : (k : ℕ) → test k ≡ true → Has new (at + k) bit
+
+-- no bit is lost, and the words show this bit at the cells that pass a test
 pub record Marks (old new : List ℕ) (at bit : ℕ) (test : ℕ → Bool) : Type 0 where
   pub long : length new ≡ length old
   pub grows : (k i : ℕ) → Has old k i → Has new k i
-  pub marks : (k : ℕ) → test k ≡ true → Has new (at + k) bit
+  pub marks : (k : ℕ) → test k ≡ true → Shows new at k bit
 
 -- line j is there, and lets cell k pass
 abbrev pub passes_at : List Line → ℕ → ℕ → Bool
@@ -38,10 +48,26 @@ IsFirstIn test lines from None = FailTo test lines from 64
 IsFirstIn test lines from (Some place) =
     (i : ℕ) × (l : Line) × FailTo test lines from i × (slice_get lines (from + i) ≡ Some l) × (test l ≡ true) × (l.place ≡ place)
 
--- for each 64 lines a block of 2306 words, in which each line has its bit at each cell that it lets pass
+-- how many blocks of 64 lines there are
+abbrev pub blocks : List Line → ℕ
+blocks lines = (length lines + 63) / 64
+
+-- for each 64 lines a block of 2316 words, one for each cell and then one for each field: they show each line's bit at the
+-- cells that it lets pass
+pub record IsMarked (lines : List Line) (words : List ℕ) : Type 0 where
+  pub long : length words ≡ blocks lines * 2316
+  pub marked : (j k : ℕ) → passes_at lines j k ≡ true → Shows words (j / 64 * 2316) k (j % 64)
+
+-- the same, where each line has its bit in the words of the cells
 pub record IsSieve (lines : List Line) (words : List ℕ) : Type 0 where
-  pub long : length words ≡ (length lines + 63) / 64 * 2306
-  pub sieves : (j k : ℕ) → passes_at lines j k ≡ true → Has words (j / 64 * 2306 + k) (j % 64)
+  pub long : length words ≡ blocks lines * 2316
+  pub sieves : (j k : ℕ) → passes_at lines j k ≡ true → Has words (j / 64 * 2316 + k) (j % 64)
+
+-- no bit is lost, and of the words of 64 lines those of the cells that pass a test have the bits of their fields
+pub record Spreads (old new : List ℕ) (at : ℕ) (test : ℕ → Bool) : Type 0 where
+  pub long : length new ≡ length old
+  pub grows : (k i : ℕ) → Has old k i → Has new k i
+  pub spreads : (k i : ℕ) → test k ≡ true → Has old (at + 2306 + k / 256) i → Has new (at + k) i
 
 abbrev pub ArePortsRanged : Option Ports → Type 0
 ArePortsRanged None = Unit {0}

@@ -7,7 +7,7 @@ ghost use Rattle.pcef_table.specs.Tables.{IsTable};
 
 use crate::tests::tables::{
     ALL, DNS, DNS_ANSWER, Step, UE, UE_V6, catalog_of, empty_catalog, empty_table, entry_of,
-    passed, properties_of, table_of, with_entry,
+    padded, passed, properties_of, table_of, with_entry,
 };
 use arrayvec::ArrayVec;
 use pcef_catalog::{Detects, Offers};
@@ -26,13 +26,22 @@ fn install<'a>(name: &'a str, precedence: u32, filter: &'a str) -> Step<'a> {
     Step::Install((name, precedence, Gate::Enabled, 5, filter))
 }
 
-/// The verdicts of a DNS answer by an index of the table, and by its scan.
-fn judged<C: Detects>(alloc: Global, catalog: &C, table: &Table) -> Option<[Verdict; 2]>
+/// The verdict of a DNS answer by an index of the table.
+fn indexed<C: Detects>(alloc: Global, catalog: &C, table: &Table) -> Option<Verdict>
     requires { IsTable (C.offers catalog.now) table.now.entries }
 {
     let index = Index::build(alloc, table, catalog).ok()?;
+    Some(index.classify(table, catalog, UE, &DNS_ANSWER))
+}
+
+/// The verdicts of a DNS answer by an index of the table, by one that has many more filters, and by a scan.
+fn judged<C: Detects>(alloc: Global, catalog: &C, table: &Table) -> Option<[Verdict; 3]>
+    requires { IsTable (C.offers catalog.now) table.now.entries }
+{
+    let many = padded(alloc, catalog, table)?;
     Some([
-        index.classify(table, catalog, UE, &DNS_ANSWER),
+        indexed(alloc, catalog, table)?,
+        indexed(alloc, catalog, &many)?,
         table.classify(catalog, UE, &DNS_ANSWER),
     ])
 }
@@ -42,19 +51,19 @@ fn judged_after<C: Detects>(
     alloc: Global,
     catalog: &C,
     steps: &[Step<'_>],
-) -> Option<[Verdict; 2]> {
+) -> Option<[Verdict; 3]> {
     let table = table_of(alloc, catalog, steps)?;
     judged(alloc, catalog, &table)
 }
 
-/// The two verdicts where both are that this rule passes the packet, on this bearer, or that none does.
-fn both(rule: Option<(&str, u8)>) -> Option<[Verdict; 2]> {
+/// The three verdicts where each is that this rule passes the packet, on this bearer, or that none does.
+fn all_three(rule: Option<(&str, u8)>) -> Option<[Verdict; 3]> {
     match rule {
         Some((rule, bearer)) => {
             let one = passed(rule, bearer)?;
-            Some([one.copy(), one])
+            Some([one.copy(), one.copy(), one])
         }
-        None => Some([Verdict::Unmatched, Verdict::Unmatched]),
+        None => Some([Verdict::Unmatched, Verdict::Unmatched, Verdict::Unmatched]),
     }
 }
 
@@ -72,7 +81,7 @@ fn are_judged<C: Detects>(
         let so_far = steps.get(..*count).unwrap_or(&[]);
         assert_eq!(rt;
             judged_after(alloc, catalog, so_far),
-            both(*rule),
+            all_three(*rule),
             "after {count} steps"
         );
     }
@@ -581,7 +590,8 @@ fn first_wrong_session<C: Detects>(
 /// What is judged otherwise by a table of rules of both versions.
 fn wrong_of_both_versions(alloc: Global) -> Option<(Option<u128>, Option<(Addr, Header)>)> {
     let catalog = empty_catalog(alloc)?;
-    let table = table_of(alloc, &catalog, &RULES)?;
+    let few = table_of(alloc, &catalog, &RULES)?;
+    let table = padded(alloc, &catalog, &few)?;
     let index = Index::build(alloc, &table, &catalog).ok()?;
     Some((
         first_wrong_remote(&catalog, &table, &index, &REMOTES),
@@ -608,7 +618,8 @@ fn a_build_that_finds_no_memory_can_come_again(rt: HostRuntime) -> Result<(), Fa
 fn judged_at_a_second_try(alloc: Global) -> Option<Option<Verdict>> {
     let catalog = empty_catalog(alloc)?;
     let steps = [install("a", 10, ALL), install("b", 5, DNS)];
-    let table = table_of(alloc, &catalog, &steps)?;
+    let few = table_of(alloc, &catalog, &steps)?;
+    let table = padded(alloc, &catalog, &few)?;
     match built_at_a_second_try(alloc, &catalog, &table) {
         Some(index) => Some(Some(index.classify(&table, &catalog, UE, &DNS_ANSWER))),
         None => Some(None),

@@ -136,6 +136,22 @@ pub(crate) fn with_entry<C: Offers>(catalog: &C, table: &Table, entry: Entry) ->
     }
 }
 
+/// The next generation with one more rule, of sixteen filters that no packet of the tests matches: with any other rule
+/// they are too many to be searched one after the other.
+pub(crate) fn padded<C: Offers>(alloc: Global, catalog: &C, table: &Table) -> Option<Table>
+    requires { IsTable (C.offers catalog.now) table.now.entries }
+    ensures { IfSome result (λ t. IsTable (C.offers catalog.now) t.entries) }
+{
+    let filter = read_filter("permit out 253 from 192.0.2.1 to assigned", None).ok()?;
+    let mut filters = Vec::new(alloc);
+    for _ in 0..16u32 {
+        filters.push(filter.copy()).ok()?;
+    }
+    let properties = properties_of("padding", 1000, Gate::Enabled)?;
+    let entry = entry_of(alloc, properties, filters.as_slice(), 7)?;
+    with_entry(catalog, table, entry)
+}
+
 /// The next generation with one more rule.
 fn with_variant<C: Offers>(
     alloc: Global,

@@ -8,8 +8,8 @@ pub first_in-requires-clause-sieved : goal.first_in-requires-clause-sieved
 first_in-requires-clause-sieved g c =
     block_sieved (g.C.Offers.offers c.args.catalog.now) c.args.ue.now c.args.header.now c.args.lines.now c.args.words.now c.loop-block.block c.word_of-word.result
     c.header_cells-cells.ensures.ranged (record { long = c.requires.long; sieves = c.requires.sieves })
-    (λ i small all. c.word_of-word.ensures i small (from_there c.args.words.now (c.loop-block.block * 2306) i c.header_cells-cells.result
-    (subst (λ (cells : List ℕ). All (λ k. Has c.args.words.now (c.loop-block.block * 2306 + k) i) cells) (sym c.header_cells-cells.ensures.is) all)))
+    (λ i small all. c.word_of-word.ensures i small (from_there c.args.words.now (c.loop-block.block * 2316) i c.header_cells-cells.result
+    (subst (λ (cells : List ℕ). All (λ k. Has c.args.words.now (c.loop-block.block * 2316 + k) i) cells) (sym c.header_cells-cells.ensures.is) all)))
 
 pub returns-in-Some : goal.returns-in-Some
 returns-in-Some g c =

@@ -1,17 +1,15 @@
 use Rattle.std.proofs.Common.{◌≡◌, ◌∙◌, List, Some, None, find, sym, ap}
 use Rattle.std.specs.Prelude.{slice_get}
-use Rattle.pcef_table.specs.declared.entry.Source.{Source}
 use Rattle.pcef_index.specs.declared.lines.Line.{Line}
 use Rattle.pcef_index.specs.private.Lines.{line_fits, lines_from}
 use Rattle.pcef_index.proofs.Fitting.{entry_at, known_at, no_entry, place_of, sources_of}
-use Rattle.pcef_index.proofs.index.Index.first_fitting.Goals as goal
+use Rattle.pcef_index.proofs.index.first_sieved.Goals as goal
 
 pub returns-in_default-clause-first : goal.returns-in_default-clause-first
 returns-in_default-clause-first g c =
     let offers = g.C.Offers.offers c.args.catalog.now in
     let entries = c.args.table.now.entries in
-    let lines : c.deref.result.now ≡ lines_from 0 (sources_of entries) =
-    c.deref.ensures.value ∙ c.self.invariant.lines_are ∙ ap (λ (ss : List Source). lines_from 0 ss) (c.self.view_is ∙ c.requires.index) in
+    let lines : c.deref.result.now ≡ lines_from 0 (sources_of entries) = c.deref.ensures.value ∙ c.requires.sieve.lines_are in
     let none : place_of (find (line_fits offers c.args.ue.now c.args.header.now) (lines_from 0 (sources_of entries))) ≡ None =
     ap (λ (ls : List Line). place_of (find (line_fits offers c.args.ue.now c.args.header.now) ls)) (sym lines) ∙ sym c.first_place.ensures ∙ c.in_default.is in
     sym (no_entry offers c.args.ue.now c.args.header.now 0 entries none)
@@ -24,8 +22,7 @@ pub returns-clause-first : goal.returns-clause-first
 returns-clause-first g c =
     let offers = g.C.Offers.offers c.args.catalog.now in
     let entries = c.args.table.now.entries in
-    let lines : c.deref.result.now ≡ lines_from 0 (sources_of entries) =
-    c.deref.ensures.value ∙ c.self.invariant.lines_are ∙ ap (λ (ss : List Source). lines_from 0 ss) (c.self.view_is ∙ c.requires.index) in
+    let lines : c.deref.result.now ≡ lines_from 0 (sources_of entries) = c.deref.ensures.value ∙ c.requires.sieve.lines_are in
     let some : place_of (find (line_fits offers c.args.ue.now c.args.header.now) (lines_from 0 (sources_of entries))) ≡ Some c.in-Some.place =
     ap (λ (ls : List Line). place_of (find (line_fits offers c.args.ue.now c.args.header.now) ls)) (sym lines) ∙ sym c.first_place.ensures ∙ c.in-Some.is in
     c.entry.ensures ∙ ap (slice_get entries) c.from.ensures ∙ entry_at offers c.args.ue.now c.args.header.now c.in-Some.place entries some

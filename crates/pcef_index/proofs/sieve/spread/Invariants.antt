@@ -1,0 +1,10 @@
+use Rattle.std.proofs.Common.{◌≡◌, ◌<◌, ◌≤◌, ◌+◌, ◌/◌, ℕ, length}
+use Rattle.pcef_index.specs.private.Marks.{Has}
+use Rattle.pcef_index.proofs.sieve.spread.Given as goal
+
+abbrev pub invariant-loop-cell : goal.invariant-loop-cell
+invariant-loop-cell l = record {
+  long : length l.words ≡ length l.fn.words;
+  grows : (k i : ℕ) → Has l.fn.words k i → Has l.words k i;
+  spreads : (k i : ℕ) → l.fn.cells.first ≤ k → k < l.cell → Has l.fn.words (l.at + (2306 + l.fn.cells.first / 256)) i → Has l.words (l.at + k) i;
+}
