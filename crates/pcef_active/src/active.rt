@@ -1,6 +1,6 @@
 //! Active rules by name.
 
-ghost use Rattle.std.specs.Prelude.{◌≡◌, ◌≤◌, ◌<◌, ◌+◌, [], filter, length, slice_get, IfOk, OnOk};
+ghost use Rattle.std.specs.Prelude.{◌≡◌, ◌≤◌, ◌<◌, ◌+◌, [], filter, length, slice_get, IsOk, OnOk};
 ghost use Rattle.std.specs.List.{list_any};
 ghost use Rattle.std.specs.Option.{option_map};
 ghost use Rattle.pcef_bearer.specs.Bindings.{is_named};
@@ -35,14 +35,13 @@ impl Model for ActiveRules {
 }
 
 impl ActiveRules {
-    /// No rules, with room for so many.
-    pub fn with_capacity(alloc: Global, rules: usize) -> Result<ActiveRules, AllocError>
-        ensures none { IfOk result (λ active. active.rules ≡ []) }
-        ensures room { IfOk result (λ active. rules ≤ active.room) }
+    /// No rules. Takes no memory.
+    pub fn new(alloc: Global) -> ActiveRules
+        ensures { result.rules ≡ [] }
     {
-        Ok(ActiveRules {
-            rules: IndexMap::with_capacity(alloc, rules)?,
-        })
+        ActiveRules {
+            rules: IndexMap::new(alloc),
+        }
     }
 
     /// How many rules are active.
@@ -71,6 +70,7 @@ impl ActiveRules {
         ensures same { self.new.rules ≡ self.old.rules }
         ensures ok { OnOk result (additional ≤ self.new.room) }
         ensures room { self.old.room ≤ self.new.room }
+        ensures enough { additional ≤ self.old.room → IsOk result }
     {
         self.rules.reserve(additional)
     }

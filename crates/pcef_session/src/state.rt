@@ -115,7 +115,7 @@ fn first_table(alloc: Global) -> Result<Arc<Indexed>, AllocError>
 
 impl SessionState {
     /// A session with an empty journal, or the first fault in the order of [`OpenFault`]. Takes memory for
-    /// the rules that may come, and for the first table and its index.
+    /// the first table and its index.
     pub fn open(
         alloc: Global,
         profile: Profile,
@@ -130,10 +130,6 @@ impl SessionState {
             Err(fault) => return Err(fault),
         };
         let counted = CountedJournal::new(alloc);
-        // One place more than rules: a command is given a free one before it is known to want it.
-        let Ok(active) = ActiveRules::with_capacity(alloc, MAX_RULES + 1) else {
-            return Err(OpenFault::NoMemory);
-        };
         let Ok(newest) = first_table(alloc) else {
             return Err(OpenFault::NoMemory);
         };
@@ -142,7 +138,7 @@ impl SessionState {
             profile,
             listing,
             counted,
-            active,
+            active: ActiveRules::new(alloc),
             bearers,
             newest,
             subscribed: TriggerSet::default(),

@@ -45,7 +45,7 @@ fn three(active: &mut ActiveRules) -> Option<()> {
 /// What stands there after each step, and how many rules are active: three came, the first one was removed, it came
 /// again, all but `mail` lost their bearers, and all are let go.
 fn steps(alloc: Global, bearers: &mut Bearers) -> Option<[([u8; 4], usize); 5]> {
-    let mut active = ActiveRules::with_capacity(alloc, 1).ok()?;
+    let mut active = ActiveRules::new(alloc);
     let name = RuleName::new("web").ok()?;
     let mail = RuleName::new("mail").ok()?;
     let _ = set(bearers, mail, pair(8, 1), None);

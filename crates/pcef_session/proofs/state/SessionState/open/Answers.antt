@@ -7,4 +7,4 @@ pub invariant_of-result : goal.invariant_of-result
 invariant_of-result c =
     sound_opened _ c.new-counted.ensures.journal c.new-counted.ensures.states (search rules) (search rules)
     c.in-Ok-first_table.ensures.number c.in-Ok-first_table.ensures.entries c.in-Ok-first_table.ensures.session
-    (triggers_first c.default.result c.default.ensures.0 c.default.ensures.1.0 c.default.ensures.1.1.0 c.default.ensures.1.1.1.0 c.default.ensures.1.1.1.1) c.new.ensures refl refl (search rules) (search rules)
+    (triggers_first c.default.result c.default.ensures.0 c.default.ensures.1.0 c.default.ensures.1.1.0 c.default.ensures.1.1.1.0 c.default.ensures.1.1.1.1) c.new-2.ensures refl refl (search rules) (search rules)
