@@ -1,6 +1,6 @@
 //! The journal.
 
-ghost use Rattle.std.specs.Prelude.{◌≡◌, ◌<◌, ◌≤◌, ◌+◌, [], ◌∷◌, drop, length, reverse, OnOk};
+ghost use Rattle.std.specs.Prelude.{◌≡◌, ◌<◌, ◌≤◌, ◌+◌, [], ◌∷◌, drop, length, reverse, IsOk, OnOk};
 ghost use Rattle.pcef_model.specs.Entries.{commands, reports, rows};
 
 use crate::walk::Reports;
@@ -65,12 +65,14 @@ impl Journal {
         }
     }
 
-    /// Takes memory for so many more entries, or finds none, and then nothing has changed but the room.
+    /// Takes memory for so many more entries, or finds none, and then nothing has changed but the room. Where there is
+    /// room already, none is taken.
     pub fn reserve(&mut self, additional: usize) -> Result<(), AllocError>
         ensures entries { self.new.entries ≡ self.old.entries }
         ensures forgotten { self.new.forgotten ≡ self.old.forgotten }
         ensures room { OnOk result (additional ≤ self.new.room) }
         ensures kept { self.old.room ≤ self.new.room }
+        ensures enough { additional ≤ self.old.room → IsOk result }
     {
         let most = self.commands.max(self.rows).max(self.told);
         if u64::MAX - most < additional as u64 {

@@ -1,3 +1,4 @@
 pub mod Archived
+pub mod Named
 pub mod Placed
 pub mod Walked

@@ -1,6 +1,6 @@
 //! The rows and the commands of a session.
 
-ghost use Rattle.std.specs.Prelude.{◌≡◌, ◌<◌, ◌≤◌, ◌+◌, ◌==◌, [], ◌∷◌, false, filter, reverse, true, OnOk};
+ghost use Rattle.std.specs.Prelude.{◌≡◌, ◌<◌, ◌≤◌, ◌+◌, ◌==◌, [], ◌∷◌, false, filter, reverse, true, IsOk, OnOk};
 
 use crate::store::Store;
 use crate::walk::{Commands, Lane};
@@ -82,6 +82,7 @@ impl Archive {
         ensures keeps { self.new.keeps ≡ self.old.keeps }
         ensures room { OnOk result (additional ≤ self.new.room) }
         ensures kept { self.old.room ≤ self.new.room }
+        ensures enough { additional ≤ self.old.room → IsOk result }
     {
         self.commands.reserve(additional)?;
         match &mut self.store {

@@ -1,11 +1,11 @@
 //! The names of rules that rows speak of.
 
-ghost use Rattle.std.specs.Prelude.{◌≡◌, ◌<◌, ◌≤◌, ◌+◌, [], Some, slice_get, IfSome, IsTrue, OnOk};
-ghost use Rattle.pcef_journaled.specs.KeptNames.{GoesOn};
+ghost use Rattle.std.specs.Prelude.{◌≡◌, ◌<◌, ◌≤◌, ◌+◌, [], Some, slice_get, IsOk, IsTrue, OnOk};
+ghost use Rattle.pcef_journaled.specs.KeptNames.{GoesOn, with_name};
 
+use indexmap::IndexSet;
 use pcef_rule::RuleName;
 use std::alloc::{AllocError, Global};
-use std::collections::HashMap;
 use std::marker::Model;
 
 /// How many names there are places for, so that a place takes four octets.
@@ -13,10 +13,7 @@ const MOST_NAMES: usize = 0x1_0000_0000;
 
 /// Names of rules, each of which stands once and keeps its place.
 pub(crate) struct Names {
-    names: Vec<RuleName>,
-    // Where each name stands, so that one is found by its hash. Only an index: a place that it tells is
-    // used only where the name stands there.
-    places: HashMap<RuleName, u32>,
+    names: IndexSet<RuleName>,
     // The place of the name that was asked for last. Most rows have the name of the row before them,
     // which is found here without a hash.
     last: u32,
@@ -27,7 +24,6 @@ impl Drop for Names {
     fn drop(self) {
         let Names {
             names: _,
-            places: _,
             last: _,
         } = self;
     }
@@ -59,8 +55,7 @@ impl Names {
         ensures { result.names ≡ [] }
     {
         Names {
-            names: Vec::new(alloc),
-            places: HashMap::new(alloc),
+            names: IndexSet::new(alloc),
             last: 0,
         }
     }
@@ -70,38 +65,12 @@ impl Names {
         ensures names { self.new.names ≡ self.old.names }
         ensures room { OnOk result (additional ≤ self.new.room) }
         ensures kept { self.old.room ≤ self.new.room }
+        ensures enough { additional ≤ self.old.room → IsOk result }
     {
         if MOST_NAMES.saturating_sub(self.names.len()) < additional {
             return Err(AllocError);
         }
-        self.names.reserve(additional)?;
-        self.places.reserve(additional)
-    }
-
-    /// The place that the index tells, if the name stands there.
-    fn known_place(&self, name: &RuleName) -> Option<u32>
-        ensures { IfSome result (λ place. slice_get self.now.names place ≡ Some name.now) }
-    {
-        let place = *self.places.get(name)?;
-        if stands_at(self.names.as_slice(), place, name) {
-            return Some(place);
-        }
-        None
-    }
-
-    /// The place of a name that is added behind the others. Takes no memory.
-    fn add(&mut self, name: &RuleName) -> u32
-        requires { 0 < self.old.room }
-        ensures place { slice_get self.new.names result ≡ Some name.now }
-        ensures names { GoesOn self.old.names self.new.names }
-        ensures room { self.old.room ≤ self.new.room + 1 }
-    {
-        let place = self.names.len() as u32;
-        self.names.push_reserved(name.copy());
-        match self.places.insert(name.copy(), place) {
-            Ok(_) => place,
-            Err(_) => unreachable!(),
-        }
+        self.names.reserve(additional)
     }
 
     /// The place of a name that isn't the last one, found by its hash or added. Apart from `place_of`, which
@@ -110,22 +79,23 @@ impl Names {
     fn find(&mut self, name: &RuleName) -> u32
         requires { 0 < self.old.room }
         ensures place { slice_get self.new.names result ≡ Some name.now }
-        ensures names { GoesOn self.old.names self.new.names }
+        ensures names { self.new.names ≡ with_name name.now self.old.names }
+        ensures more { GoesOn self.old.names self.new.names }
         ensures room { self.old.room ≤ self.new.room + 1 }
     {
-        let place = match self.known_place(name) {
-            Some(place) => place,
-            None => self.add(name),
+        let Ok((place, _)) = self.names.insert_full(name.copy()) else {
+            unreachable!()
         };
-        self.last = place;
-        place
+        self.last = place as u32;
+        self.last
     }
 
     /// The place of a name, which is added where it is new. Takes no memory.
     pub(crate) fn place_of(&mut self, name: &RuleName) -> u32
         requires { 0 < self.old.room }
         ensures place { slice_get self.new.names result ≡ Some name.now }
-        ensures names { GoesOn self.old.names self.new.names }
+        ensures names { self.new.names ≡ with_name name.now self.old.names }
+        ensures more { GoesOn self.old.names self.new.names }
         ensures room { self.old.room ≤ self.new.room + 1 }
     {
         if stands_at(self.names.as_slice(), self.last, name) {

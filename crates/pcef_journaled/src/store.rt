@@ -1,6 +1,6 @@
 //! Where rows are stored.
 
-ghost use Rattle.std.specs.Prelude.{◌≡◌, ◌<◌, ◌≤◌, ◌+◌, ◌==◌, [], ◌∷◌, filter, reverse, OnOk};
+ghost use Rattle.std.specs.Prelude.{◌≡◌, ◌<◌, ◌≤◌, ◌+◌, ◌==◌, [], ◌∷◌, filter, reverse, IsOk, OnOk};
 
 use crate::kept_row::KeptRow;
 use crate::names::Names;
@@ -52,6 +52,7 @@ impl Store {
         ensures rows { self.new.rows ≡ self.old.rows }
         ensures room { OnOk result (additional ≤ self.new.room) }
         ensures kept { self.old.room ≤ self.new.room }
+        ensures enough { additional ≤ self.old.room → IsOk result }
     {
         self.rows.reserve(additional)?;
         self.names.reserve(additional)

@@ -1,6 +1,6 @@
 //! A worker's own list of the rows that it handed over.
 
-ghost use Rattle.std.specs.Prelude.{◌≡◌, ◌<◌, ◌≤◌, ◌+◌, ◌^◌, ◌++◌, ◌∷◌, [], IfSome, OnOk, false, is_some, length, true};
+ghost use Rattle.std.specs.Prelude.{◌≡◌, ◌<◌, ◌≤◌, ◌+◌, ◌^◌, ◌++◌, ◌∷◌, [], IfSome, IsOk, OnOk, false, is_some, length, true};
 
 use pcef_history::History;
 use pcef_session::Item;
@@ -98,6 +98,7 @@ impl OwnRows {
         ensures items { self.new.items ≡ self.old.items }
         ensures keeps { self.new.keeps ≡ self.old.keeps }
         ensures room { OnOk result (additional ≤ self.new.room) }
+        ensures enough { additional ≤ self.old.room → IsOk result }
     {
         if MOST_ROWS - self.count < additional as u64 {
             return Err(AllocError);
