@@ -2,6 +2,8 @@
 use Rattle.std.specs.Prelude.{ℕ}
 use Rattle.pcef_lock.specs.declared.opening.SharedFault.{SharedFault}
 use Rattle.pcef_lock.specs.declared.opening.SharedFault.TheVariants as shared
+use Rattle.pcef_model.specs.declared.answer.AttachFault.{AttachFault}
+use Rattle.pcef_model.specs.declared.answer.AttachFault.TheVariants as attach
 use Rattle.pcef_gateway.specs.declared.fault.Failure.{Failure}
 use Rattle.pcef_gateway.specs.declared.fault.Failure.TheVariants as failure
 use Rattle.pcef_gateway.specs.declared.fault.RunFault.{RunFault}
@@ -26,6 +28,11 @@ told_of failure.Attach = Attach
 told_of failure.Thread = Thread
 told_of failure.Gather = Gather
 told_of failure.NoMemory = NoMemory
+
+-- a worker that wasn't attached: want of memory is told as such
+abbrev pub failure_of_attach : AttachFault → Failure
+failure_of_attach attach.NoMemory = failure.NoMemory
+failure_of_attach _ = failure.Attach
 
 -- a session that didn't come behind its lock: want of memory is told as such
 abbrev pub failure_of : SharedFault → Failure

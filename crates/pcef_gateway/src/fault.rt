@@ -4,6 +4,7 @@ ghost use Rattle.std.specs.Prelude.{◌≡◌};
 ghost use Rattle.pcef_gateway.specs.Faults.{number_of, told_of};
 
 use pcef_lock::SharedFault;
+use pcef_model::AttachFault;
 use std::error::Error;
 use std::fmt::{self, Display, Formatter, Write};
 
@@ -93,6 +94,20 @@ impl Failure {
             Failure::Thread => RunFault::Thread,
             Failure::Gather => RunFault::Gather,
             Failure::NoMemory => RunFault::NoMemory,
+        }
+    }
+}
+
+impl From<AttachFault> for Failure {
+    ghost use Rattle.std.specs.Prelude.{◌≡◌};
+    ghost use Rattle.pcef_gateway.specs.Faults.{failure_of_attach};
+
+    ghost from_gives = { λ fault failure. failure ≡ failure_of_attach fault };
+
+    fn from(fault: AttachFault) -> Failure {
+        match fault {
+            AttachFault::NoMemory => Failure::NoMemory,
+            AttachFault::NoPlace | AttachFault::Closed => Failure::Attach,
         }
     }
 }

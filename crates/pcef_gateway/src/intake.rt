@@ -17,7 +17,7 @@ use crate::lent::Lent;
 use crate::line::{Closed, Line};
 use pcef_catalog::{Detects, Offers};
 use pcef_lock::{Desk, Finished, Shared};
-use pcef_model::{AttachFault, Command, Refusal};
+use pcef_model::{Command, Refusal};
 use pcef_publish::{Board, Slot};
 use pcef_share::Naming;
 use pcef_worker::{Gate, Worker};
@@ -68,8 +68,7 @@ fn attached<'g, C: Detects + Drop, N: Naming, W: Board<Slot<N>> + Drop, G: Gate,
 {
     match Worker::attach(rt, alloc, shared, Lent::new(gate)) {
         Ok(worker) => numbered(worker, number),
-        Err(AttachFault::NoMemory) => Err(Failure::NoMemory),
-        Err(_) => Err(Failure::Attach),
+        Err(fault) => Err(Failure::from(fault)),
     }
 }
 
