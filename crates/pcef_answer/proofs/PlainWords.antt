@@ -15,7 +15,8 @@ use Rattle.pcef_model.specs.declared.report.InactiveCause.{InactiveCause}
 use Rattle.pcef_model.specs.declared.report.InactiveCause.TheVariants.{BearerLost}
 use Rattle.pcef_model.specs.declared.trigger.AccessKind.{AccessKind}
 use Rattle.pcef_model.specs.declared.trigger.AccessKind.TheVariants.{RatChange, PlmnChange, UserLocationChange, UeTimeZoneChange}
-use Rattle.pcef_answer.specs.ReportAnswers.{cause_text, inactive_text, kind_text}
+use Rattle.pcef_answer.specs.ReportAnswers.{cause_text, inactive_text}
+use Rattle.pcef_line.specs.LineTriggers.{event_text}
 use Rattle.pcef_answer.specs.RefusalAnswers.{refusal_name}
 
 pub plain_fault : (fault : LineFault) → escape (fault_name fault) ≡ fault_name fault
@@ -96,7 +97,7 @@ plain_cause Disabled = refl
 plain_cause RulesGone = refl
 plain_cause Terminated = refl
 
-pub plain_kind : (k : AccessKind) → escape (kind_text k) ≡ kind_text k
+pub plain_kind : (k : AccessKind) → escape (event_text k) ≡ event_text k
 unfolding escape_byte
 plain_kind RatChange = refl
 plain_kind PlmnChange = refl

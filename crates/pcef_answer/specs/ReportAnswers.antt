@@ -1,5 +1,5 @@
 -- Reports in answers: a JSON object (RFC 8259) for each, its members in the order of their keys (own
--- choice). The words of access events are those of TS 29.212, clause 5.3.7, Event-Trigger.
+-- choice). The words of access events are those of lines.
 use Rattle.std.specs.Prelude.{ℕ, List, [], codes, drop, map, nat_lt, reverse, if◌then◌else◌}
 use Rattle.serde_json.specs.Data.{Data, string, array, object, member, no_members}
 use Rattle.serde_json.specs.View.{items_of}
@@ -11,9 +11,8 @@ use Rattle.pcef_model.specs.declared.report.Cause.TheVariants.{Threshold, Reques
 use Rattle.pcef_model.specs.declared.report.InactiveCause.{InactiveCause}
 use Rattle.pcef_model.specs.declared.report.InactiveCause.TheVariants.{BearerLost}
 use Rattle.pcef_model.specs.declared.report.Report.{Report}
-use Rattle.pcef_model.specs.declared.trigger.AccessKind.{AccessKind}
-use Rattle.pcef_model.specs.declared.trigger.AccessKind.TheVariants.{RatChange, PlmnChange, UserLocationChange, UeTimeZoneChange}
 use Rattle.pcef_model.specs.Entries.{Journal, reports}
+use Rattle.pcef_line.specs.LineTriggers.{event_text}
 use Rattle.pcef_answer.specs.FaultAnswers.{count}
 
 abbrev pub cause_text : Cause → List ℕ
@@ -22,12 +21,6 @@ cause_text Requested = codes "Requested"
 cause_text Disabled = codes "Disabled"
 cause_text RulesGone = codes "RulesGone"
 cause_text Terminated = codes "Terminated"
-
-abbrev pub kind_text : AccessKind → List ℕ
-kind_text RatChange = codes "RAT_CHANGE"
-kind_text PlmnChange = codes "PLMN_CHANGE"
-kind_text UserLocationChange = codes "USER_LOCATION_CHANGE"
-kind_text UeTimeZoneChange = codes "UE_TIME_ZONE_CHANGE"
 
 abbrev pub inactive_text : InactiveCause → List ℕ
 inactive_text BearerLost = codes "BearerLost"
@@ -40,7 +33,7 @@ body_data number (Usage key octets cause) =
     (member (codes "number") (count number)
     (member (codes "octets") (count octets) no_members))))
 body_data number (Access kind value) =
-    object (member (codes "event") (string (kind_text kind))
+    object (member (codes "event") (string (event_text kind))
     (member (codes "number") (count number)
     (member (codes "value") (string value) no_members)))
 body_data number (Inactive rule cause) =

@@ -6,11 +6,12 @@ ghost use Rattle.serde_json.specs.Written.{comma_if, compact_text};
 ghost use Rattle.pcef_rule.specs.Name.{IsName};
 ghost use Rattle.pcef_model.specs.Entries.{reports};
 ghost use Rattle.pcef_model.specs.declared.report.Body.TheVariants.{Access, Inactive, Usage};
-ghost use Rattle.pcef_answer.specs.ReportAnswers.{body_data, cause_text, kind_text, inactive_text, report_data, reports_data, reports_text};
+ghost use Rattle.pcef_answer.specs.ReportAnswers.{body_data, cause_text, inactive_text, report_data, reports_data, reports_text};
 ghost use Rattle.pcef_answer.specs.Written.{GoesOn};
 
 use crate::written::{push_comma, push_count, push_name, push_word};
 use pcef_journal::{Journal, Reports};
+use pcef_line::event_text;
 use pcef_model::{AccessKind, Body, Cause, InactiveCause, NoticeValue, Report};
 use pcef_rule::{KeyName, RuleName};
 use std::alloc::{AllocError, Global};
@@ -24,17 +25,6 @@ fn cause_text(cause: Cause) -> &'static str
         Cause::Disabled => "Disabled",
         Cause::RulesGone => "RulesGone",
         Cause::Terminated => "Terminated",
-    }
-}
-
-fn kind_text(kind: AccessKind) -> &'static str
-    ensures { result.now ≡ kind_text kind }
-{
-    match kind {
-        AccessKind::RatChange => "RAT_CHANGE",
-        AccessKind::PlmnChange => "PLMN_CHANGE",
-        AccessKind::UserLocationChange => "USER_LOCATION_CHANGE",
-        AccessKind::UeTimeZoneChange => "UE_TIME_ZONE_CHANGE",
     }
 }
 
@@ -83,7 +73,7 @@ fn push_access(
     ensures { OnOk result (GoesOn text.old text.new
         (compact_text (body_data number (Access kind value.now)))) }
 {
-    push_word(text, "{\"event\":\"", kind_text(kind))?;
+    push_word(text, "{\"event\":\"", event_text(kind))?;
     push_last(text, number, ",\"value\":\"", value.as_str())
 }
 

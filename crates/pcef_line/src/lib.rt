@@ -29,3 +29,4 @@ pub use field::Field;
 pub use laws::one_line;
 pub use line::Line;
 pub use reading::{LineReader, read_line};
+pub use trigger::event_text;

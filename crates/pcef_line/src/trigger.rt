@@ -34,7 +34,8 @@ const TRIGGERS: &[Trigger] = &[
     Trigger::Access(AccessKind::UeTimeZoneChange),
 ];
 
-fn event_text(kind: AccessKind) -> &'static str
+/// The word of an access event, in lines and in reports (TS 29.212, clause 5.3.7, Event-Trigger).
+pub fn event_text(kind: AccessKind) -> &'static str
     ensures { result.now ≡ event_text kind }
 {
     match kind {

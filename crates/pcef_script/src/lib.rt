@@ -21,4 +21,4 @@ pub use lone_line::answer_alone;
 pub use reading::read_some;
 pub use run::run_script;
 pub use step::Answer;
-pub use writing::put_all;
+pub use writing::{put_all, write_answer};

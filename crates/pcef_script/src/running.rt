@@ -11,7 +11,7 @@ ghost use Rattle.pcef_script.specs.Running.{EndsKept, FailsKept, ReadsAll, Reads
 use crate::fault::ScriptFault;
 use crate::input::Pending;
 use crate::step::{Answer, answer_line, answer_too_long};
-use crate::writing::put_all;
+use crate::writing::write_answer;
 use memchr::memchr;
 use pcef_catalog::Detects;
 use pcef_line::LineReader;
@@ -30,16 +30,6 @@ pub(crate) struct Running {
     pub line: Pending,
     /// How many lines were at fault.
     pub faults: u64,
-}
-
-fn write_answer<W: Write>(writer: &mut W, answer: &Answer) -> Result<(), ScriptFault>
-    ensures all { OnOk result (Appends (W.contents writer.old) (W.contents writer.new)
-        (answer_bytes answer.now)) }
-    ensures front { IfErr result (WritesFront (W.contents writer.old) (W.contents writer.new)
-        (answer_bytes answer.now)) }
-{
-    put_all(writer, answer.text.as_bytes())?;
-    put_all(writer, b"\n")
 }
 
 fn answer_of<C: Detects>(

@@ -2,7 +2,6 @@
 
 ghost use Rattle.std.specs.Prelude.{◌≡◌, ◌||◌, ◌∷◌, ◌++◌, [], IfErr, OnOk, false};
 ghost use Rattle.std.specs.Io.KnownBytes.{Appends};
-ghost use Rattle.pcef_script.specs.LineAnswers.{answer_bytes};
 ghost use Rattle.pcef_script.specs.ScriptLines.{WritesFront, has_feed};
 ghost use Rattle.pcef_script.specs.declared.fault.ScriptFault.TheVariants.{NoMemory};
 ghost use Rattle.pcef_sessions.specs.Sayings.{said_of};
@@ -13,7 +12,7 @@ use crate::name::{SessionName, is_blank};
 use crate::saying::Told;
 use crate::sessions::Sessions;
 use memchr::memchr;
-use pcef_script::{Answer, ScriptFault, put_all};
+use pcef_script::{ScriptFault, put_all, write_answer};
 use std::io::Write;
 
 /// So many octets of a line are kept: a name of 64 octets, a space, and one octet more than a script's line may have.
@@ -48,16 +47,6 @@ fn write_name<W: Write>(writer: &mut W, name: &Option<SessionName>) -> Result<()
 {
     put_all(writer, name_text(name).as_bytes())?;
     put_all(writer, b" ")
-}
-
-fn write_answer<W: Write>(writer: &mut W, answer: &Answer) -> Result<(), ScriptFault>
-    ensures all { OnOk result (Appends (W.contents writer.old) (W.contents writer.new)
-        (answer_bytes answer.now)) }
-    ensures front { IfErr result (WritesFront (W.contents writer.old) (W.contents writer.new)
-        (answer_bytes answer.now)) }
-{
-    put_all(writer, answer.text.as_bytes())?;
-    put_all(writer, b"\n")
 }
 
 fn write_told<W: Write>(writer: &mut W, told: &Told) -> Result<(), ScriptFault>

@@ -3,7 +3,7 @@ use Rattle.std.specs.Io.KnownBytes.{Appends}
 use Rattle.std.proofs.lemmas.Result.{IfErr-weaker, err_from_is_err_and}
 use Rattle.pcef_writing.specs.Writing.{AppendsFront}
 use Rattle.pcef_writing.proofs.Fronts.{front_after, front_more}
-use Rattle.pcef_sessions.proofs.running.write_answer.Goals as goal
+use Rattle.pcef_script.proofs.writing.write_answer.Goals as goal
 
 pub returns-in_err-put_all-clause-front : goal.returns-in_err-put_all-clause-front
 returns-in_err-put_all-clause-front g c =
