@@ -37,7 +37,9 @@ fn on_command(refusal: Refusal) -> Option<&'static str> {
 pub(crate) fn advice_on(found: Found) -> Option<&'static str> {
     match found {
         Found::Command(refusal) => on_command(refusal),
-        Found::Attach(AttachFault::NoPlace) => Some("finish or abandon one of the 16 first"),
+        Found::Attach(AttachFault::NoPlace) => Some(
+            "16 workers came, as many as may in a session's life: use one that is attached, or open a new session",
+        ),
         Found::Attach(AttachFault::Closed) => Some("attach before close"),
         Found::Flush(FlushRefusal::NotAttached) => Some("attach it first"),
         Found::Flush(FlushRefusal::RowsFull) => Some("raise rows in the profile"),

@@ -2,7 +2,8 @@
 //! predefined rules.
 //!
 //! Its contracts tell: that what a session keeps is exact, in one statement (`kept_by`), and what a list of steps makes of
-//! a new session. Only tests and `pcef_steps` use it yet.
+//! a new session. `kept_by` speaks of every `SessionState`, so of those of all programs, and need not be called; `Session`
+//! and `World` are used by tests and by `pcef_steps` alone.
 //!
 //! In the order of reading: `keeping`, `session`, `world`, `steps`.
 #![tactic(auto)]

@@ -22,10 +22,7 @@ pub(crate) struct Names {
 // Written out, so that an owner proves one call at each way out.
 impl Drop for Names {
     fn drop(self) {
-        let Names {
-            names: _,
-            last: _,
-        } = self;
+        let Names { names: _, last: _ } = self;
     }
 }
 

@@ -22,7 +22,7 @@ use Rattle.pcef_model.specs.Reports.{after_attach, after_command, after_flush, a
 use Rattle.pcef_model.specs.Setting.{Setting, same_name}
 
 -- ---- grants
--- while usage reports are subscribed, no key that is on has its grant unreported between two events
+-- while usage reports are subscribed, each key that is on has fewer unreported octets than its grant between two events
 abbrev pub GrantsAreTold : Type 0
 GrantsAreTold = (p : Setting) (j : Journal) → Lawful p j → (subscribed j).usage_report ≡ true →
     (key : List ℕ) → is_among key (slots p j) ≡ true → is_reached p j key ≡ false

@@ -92,8 +92,8 @@ pub record AddUpTo {l : Type 0} (p : Setting) (is_there : Bool) (listed : List C
 abbrev pub CanGather : Bool → Journal → List Command → List HandedIn → Type 0
 CanGather compared j listed handed = (attach_count j ≤ length handed) × (compared ≡ true → AgreeWith j listed handed)
 
--- So many workers weren't handed in, no two that were being one. Else: the lane of this worker differs. Else: the list
--- of the desk does.
+-- Why there are no totals, the first that holds: so many workers fewer were handed in than came (that none is handed in
+-- twice is the caller's condition); the lane of this worker isn't its own list; the desk's list isn't the journal's commands.
 abbrev pub IsAtFault : Journal → List Command → List HandedIn → GatherFault → Type 0
 IsAtFault j listed handed (WorkersOut n) = (n + length handed ≡ attach_count j) × (0 < n)
 IsAtFault j listed handed (LaneDiffers w) = (attach_count j ≤ length handed) × (w < attach_count j) × (HasLane j handed w → ⊥)

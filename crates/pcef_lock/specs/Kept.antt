@@ -6,7 +6,7 @@ use Rattle.pcef_lock.specs.Locked.{Locked}
 use Rattle.pcef_lock.specs.Published.{ArePublished}
 
 -- the session is of this setting, the published tables show its generations from `first` on, and the books hold
--- what its journal counts; that the session agrees with its journal, its own calls say
+-- what its journal counts; that the session agrees with its journal is promised by the getters of a session
 pub record Kept (p : Setting) (first : ℕ) (v : Locked) : Type 0 where
   pub setting_is : v.session.setting ≡ p
   pub published : ArePublished p v.session.journal first v.tables

@@ -52,11 +52,11 @@ abbrev pub RowsCountByTheirOwnGeneration : Type 0
 RowsCountByTheirOwnGeneration = (p : Setting) (j : Journal) (key : List ℕ) (r : Row) →
     counted p (entry.Row r ∷ j) key ≡ (if counts_in p (at p j r.generation) key r.header then r.header.octets else 0) + counted p j key
 
--- no octet is reported twice, nor one that was never counted
+-- in sum no more octets of a key are reported than were counted for it
 abbrev pub NothingIsReportedTwice : Type 0
 NothingIsReportedTwice = (p : Setting) (j : Journal) → Lawful p j → (key : List ℕ) → reported j key ≤ counted p j key
 
--- what was reported and what wasn't are together what was counted
+-- so the difference, which is what is unreported, cuts nothing off
 abbrev pub NothingIsLost : Type 0
 NothingIsLost = (p : Setting) (j : Journal) → Lawful p j → (key : List ℕ) → reported j key + unreported p j key ≡ counted p j key
 
@@ -129,7 +129,8 @@ abbrev pub NothingFollowsTheEnd : Type 0
 NothingFollowsTheEnd = (p : Setting) (j : Journal) → first_of (refusals p j Terminate) ≡ None → IsOver p (after_command p j Terminate)
 
 -- ---- rows
--- each row has the verdict of its own generation, which was made before it came
+-- each row has the verdict of its own generation, which is one of the journal's; that it was made before the row came is a
+-- condition of `RowFollows`
 pub record HasItsVerdict (p : Setting) (j : Journal) (r : Row) : Type 0 where
   pub known : r.generation ≤ gen j
   pub verdict_is : r.verdict ≡ verdict_at p (at p j r.generation) r.header

@@ -128,7 +128,7 @@ pub struct Accepted {
 /// Why a worker can't be attached. Of several faults the first in this order is answered.
 #[derive(Clone, Copy, Debug, PartialEq, Eq, Error)]
 pub enum AttachFault {
-    /// Sixteen workers were attached.
+    /// Sixteen workers came to the session; one that leaves gives no place back.
     #[error("all places of workers are used")]
     NoPlace,
     /// The session was closed or terminated.

@@ -28,7 +28,7 @@ abbrev pub gate_verdict : Properties → BearerId → Dir → Verdict
 gate_verdict p bearer dir = if opens p.gate dir then Passed p.name bearer else Gated p.name
 
 -- a packet whose user equipment's side isn't the session's address is a stray (own choice); one that
--- no rule fits is discarded; else the decisive entry's gate decides
+-- no rule fits is unmatched, and the gateway discards it; else the decisive entry's gate decides
 abbrev pub IsVerdict : List Offer → List Entry → Addr → Header → Verdict → Type 0
 IsVerdict offers entries ue header Stray = is_assigned (ue_side header) ue ≡ false
 IsVerdict offers entries ue header Unmatched =

@@ -10,5 +10,5 @@ returns c =
     let fields : Cells = record { first = 2306; last = 2315 } in
     fields_mark fields all c.set.ensures
     (λ k passes.
-        (let within = bounds k all passes in
-        (within.1, inside (2306 + k / 256) fields (omega arith) (omega (arith, within.1)))))
+    (let within = bounds k all passes in
+    (within.1, inside (2306 + k / 256) fields (omega arith) (omega (arith, within.1)))))

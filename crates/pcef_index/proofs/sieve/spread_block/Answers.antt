@@ -10,8 +10,8 @@ returns c =
     let ways : Cells = record { first = 2304; last = 2305 } in
     then_spreads c.spread_octets.ensures c.spread.ensures
     (λ k below.
-        (let less = ltb-true k 2306 below in
-        elim (cases_lt k 2304) [
-          | inl before ↦ inl (lt-ltb k 2304 before)
-          | inr not_before ↦ inr (inside k ways (omega arith) (omega arith))
-        ]))
+    (let less = ltb-true k 2306 below in
+    elim (cases_lt k 2304) [
+      | inl before ↦ inl (lt-ltb k 2304 before)
+      | inr not_before ↦ inr (inside k ways (omega arith) (omega arith))
+    ]))

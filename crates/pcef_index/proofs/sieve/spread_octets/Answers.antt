@@ -12,8 +12,8 @@ loop-field-preserved c =
     let last : field * 256 + 255 ≡ c.all_octets.result.last = ap (λ (x : Cells). x.last) (sym c.all_octets.ensures.is) in
     then_spreads c.loop-field.invariant c.spread.ensures
     (λ k below.
-        (let less = ltb-true k ((field + 1) * 256) below in
-        elim (cases_lt k (field * 256)) [
-          | inl before ↦ inl (lt-ltb k (field * 256) before)
-          | inr not_before ↦ inr (inside k c.all_octets.result (omega (arith, not_before, first)) (omega (arith, less, last)))
-        ]))
+    (let less = ltb-true k ((field + 1) * 256) below in
+    elim (cases_lt k (field * 256)) [
+      | inl before ↦ inl (lt-ltb k (field * 256) before)
+      | inr not_before ↦ inr (inside k c.all_octets.result (omega (arith, not_before, first)) (omega (arith, less, last)))
+    ]))
