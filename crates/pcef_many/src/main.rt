@@ -6,6 +6,7 @@
 
 mod end;
 mod options;
+mod serving;
 
 ghost use Rattle.std.specs.Prelude.{◌≤◌};
 
@@ -15,45 +16,19 @@ use pcef_built_in::ShapedCatalog;
 use pcef_command_line::{gather, refuse, tell_no_memory};
 use pcef_model::Profile;
 use pcef_profile::{ReadProfileFault, explain, read_profile};
-use pcef_script::ScriptFault;
-use pcef_sessions::serve;
+use serving::{serve_in, serve_lines};
 use std::fs;
 use std::hash::RandomState;
-use std::io::{self, BufWriter, ErrorKind, Write};
+use std::io::{self, ErrorKind};
 use std::process::ExitCode;
+use std::sync::Wait;
+use std::thread::Threads;
 
 /// Where an error of the system ends the program.
 fn end_of<'a>(error: io::Error, other: End<'a>) -> End<'a> {
     match error.kind() {
         ErrorKind::OutOfMemory => End::NoMemory,
         _ => other,
-    }
-}
-
-/// Serves lines from standard input to standard output.
-fn serve_lines<'a>(
-    rt: &HostRuntime,
-    catalog: ShapedCatalog,
-    profile: Profile,
-    keys: RandomState,
-) -> End<'a> {
-    let alloc = rt.alloc();
-    let mut reader = rt.stdin();
-    let mut writer = match BufWriter::new(alloc, io::writer(rt)) {
-        Ok(writer) => writer,
-        Err(_) => return End::NoMemory,
-    };
-    let end = match serve(alloc, &mut reader, &mut writer, profile, catalog, keys) {
-        Ok(true) => End::Faults,
-        Ok(false) => End::Clean,
-        Err(ScriptFault::Write) => return End::Write,
-        Err(ScriptFault::NoMemory) => End::NoMemory,
-        Err(ScriptFault::Profile(fault)) => End::Session(fault),
-        Err(ScriptFault::Read | ScriptFault::TooMuch) => End::Lines,
-    };
-    match writer.flush() {
-        Ok(()) => end,
-        Err(_) => End::Write,
     }
 }
 
@@ -71,7 +46,12 @@ fn told_profile<'a>(rt: &HostRuntime, text: &str, fault: ReadProfileFault) -> En
 }
 
 /// Reads the profile, and serves lines on it.
-fn run<'a>(rt: &HostRuntime, catalog: ShapedCatalog, options: Options<'a>) -> End<'a> {
+fn run<'a, T: Threads + Wait + Drop + Send + Sync + Copy + 'static>(
+    starting: T,
+    rt: &HostRuntime,
+    catalog: ShapedCatalog,
+    options: Options<'a>,
+) -> End<'a> {
     let text = match fs::read_to_string(rt, options.profile) {
         Ok(text) => text,
         Err(error) => return end_of(error, End::Read(options.profile, error)),
@@ -80,14 +60,25 @@ fn run<'a>(rt: &HostRuntime, catalog: ShapedCatalog, options: Options<'a>) -> En
         Ok(profile) => profile,
         Err(fault) => return told_profile(rt, text.as_str(), fault),
     };
-    match RandomState::new(rt) {
-        Ok(keys) => serve_lines(rt, catalog, profile, keys),
-        Err(error) => end_of(error, End::Read("the random numbers of the system", error)),
+    let (line_keys, name_keys) = match (RandomState::new(rt), RandomState::new(rt)) {
+        (Ok(line_keys), Ok(name_keys)) => (line_keys, name_keys),
+        (Err(error), _) | (_, Err(error)) => {
+            return end_of(error, End::Read("the random numbers of the system", error));
+        }
+    };
+    if options.threads == 1 {
+        serve_lines(rt, catalog, profile, name_keys)
+    } else {
+        serve_in(starting, rt, options.threads, &profile, line_keys, name_keys)
     }
 }
 
 /// Does what the arguments ask for, and gives the exit status.
-fn status_with(rt: &HostRuntime, catalog: ShapedCatalog) -> u8
+fn status_with<T: Threads + Wait + Drop + Send + Sync + Copy + 'static>(
+    starting: T,
+    rt: &HostRuntime,
+    catalog: ShapedCatalog,
+) -> u8
     ensures { result ≤ 4 }
 {
     let words = match gather(rt) {
@@ -95,7 +86,7 @@ fn status_with(rt: &HostRuntime, catalog: ShapedCatalog) -> u8
         Err(status) => return status,
     };
     match asked(rt.alloc(), words.as_slice()) {
-        Ok(Some(options)) => run(rt, catalog, options).told(rt),
+        Ok(Some(options)) => run(starting, rt, catalog, options).told(rt),
         Ok(None) => {
             let _ = eprintln!(rt; "usage: an option has no value");
             2
@@ -106,7 +97,7 @@ fn status_with(rt: &HostRuntime, catalog: ShapedCatalog) -> u8
 
 fn main(rt: HostRuntime) -> ExitCode {
     ExitCode::from(match ShapedCatalog::built_in(rt.alloc()) {
-        Ok(catalog) => status_with(&rt, catalog),
+        Ok(catalog) => status_with(rt, &rt, catalog),
         Err(_) => tell_no_memory(&rt),
     })
 }

@@ -6,6 +6,8 @@ use std::alloc::Global;
 /// What the program is asked for.
 #[derive(Clone, Copy)]
 pub(crate) struct Options<'a> {
+    /// How many threads serve the sessions: 1 to 64.
+    pub threads: u8,
     /// The path of the profile.
     pub profile: &'a str,
 }
@@ -17,9 +19,9 @@ pub(crate) fn asked<'a>(alloc: Global, words: &'a [String]) -> Result<Option<Opt
         .long("threads")
         .value_name("N")
         .action(ArgAction::Set)
-        .value_parser(value_parser!(u8).range(1..=1))
+        .value_parser(value_parser!(u8).range(1..=64))
         .default_value("1")
-        .help("How many threads serve the sessions: 1, as yet");
+        .help("How many threads serve the sessions, 1 to 64. A session is one thread's");
     let profile = Arg::new(alloc, "profile")
         .value_name("PROFILE")
         .required(true)
@@ -32,8 +34,10 @@ pub(crate) fn asked<'a>(alloc: Global, words: &'a [String]) -> Result<Option<Opt
         .arg(threads)?
         .arg(profile)?;
     let matches = command.try_get_matches_from(words)?;
-    let Some(profile) = matches.get_str("profile") else {
+    let (Some(threads), Some(profile)) =
+        (matches.get_one::<u8>("threads"), matches.get_str("profile"))
+    else {
         return Ok(None);
     };
-    Ok(Some(Options { profile }))
+    Ok(Some(Options { threads, profile }))
 }

@@ -3,6 +3,7 @@
 mod ends;
 mod names;
 mod sessions;
+mod threads;
 
 use pcef_built_in::ShapedCatalog;
 use pcef_profile::read_profile;

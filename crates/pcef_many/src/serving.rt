@@ -1,0 +1,148 @@
+//! Lines from standard input, and their answers on standard output.
+
+use crate::end::End;
+use pcef_built_in::ShapedCatalog;
+use pcef_model::Profile;
+use pcef_script::ScriptFault;
+use pcef_sessions::serve;
+use pcef_shards::{Ended, Outlet, Ran, serve_in_threads};
+use std::hash::RandomState;
+use std::io::{self, BufWriter, Write};
+use std::rt::Stdout;
+use std::sync::{Arc, Mutex, Wait};
+use std::thread::Threads;
+
+/// How a fault of the lines ends the program.
+fn end_of<'a>(fault: ScriptFault) -> End<'a> {
+    match fault {
+        ScriptFault::Write => End::Write,
+        ScriptFault::NoMemory => End::NoMemory,
+        ScriptFault::Profile(fault) => End::Session(fault),
+        ScriptFault::Read | ScriptFault::TooMuch => End::Lines,
+    }
+}
+
+/// How lines that are all answered end the program.
+fn end_whole<'a>(is_any_at_fault: bool) -> End<'a> {
+    if is_any_at_fault {
+        End::Faults
+    } else {
+        End::Clean
+    }
+}
+
+/// Serves lines in the calling thread.
+pub(crate) fn serve_lines<'a>(
+    rt: &HostRuntime,
+    catalog: ShapedCatalog,
+    profile: Profile,
+    keys: RandomState,
+) -> End<'a> {
+    let alloc = rt.alloc();
+    let mut reader = rt.stdin();
+    let mut writer = match BufWriter::new(alloc, io::writer(rt)) {
+        Ok(writer) => writer,
+        Err(_) => return End::NoMemory,
+    };
+    let end = match serve(alloc, &mut reader, &mut writer, profile, catalog, keys) {
+        Ok(is_any_at_fault) => end_whole(is_any_at_fault),
+        Err(ScriptFault::Write) => return End::Write,
+        Err(fault) => end_of(fault),
+    };
+    match writer.flush() {
+        Ok(()) => end,
+        Err(_) => End::Write,
+    }
+}
+
+/// A way to standard output for each thread.
+type Way<T> = Outlet<T, Stdout>;
+
+fn ways<T: Wait + Drop + Copy>(
+    waiting: T,
+    rt: &HostRuntime,
+    threads: u8,
+) -> Result<Vec<Way<T>>, ScriptFault> {
+    let alloc = rt.alloc();
+    let Ok(output) = Arc::new(alloc, Mutex::new(rt.stdout())) else {
+        return Err(ScriptFault::NoMemory);
+    };
+    let mut ways = Vec::new(alloc);
+    for _ in 0..threads {
+        let Ok(output) = Arc::try_clone(&output) else {
+            return Err(ScriptFault::NoMemory);
+        };
+        if ways.push(Outlet::new(waiting, alloc, output)).is_err() {
+            return Err(ScriptFault::NoMemory);
+        }
+    }
+    Ok(ways)
+}
+
+/// How one thread ended, after the answers that wait are written.
+fn ended<T: Wait + Drop>(one: Ended<Way<T>>) -> Result<bool, ScriptFault> {
+    let Ended { writer, end } = one;
+    let mut writer = writer;
+    let flushed = writer.end();
+    match end {
+        Err(ScriptFault::Write) if writer.lacks_memory() => Err(ScriptFault::NoMemory),
+        Ok(_) if flushed.is_err() => Err(ScriptFault::Write),
+        end => end,
+    }
+}
+
+/// What of two ends is told: a fault, and one that isn't the reader's before that.
+fn joined(
+    one: Result<bool, ScriptFault>,
+    other: Result<bool, ScriptFault>,
+) -> Result<bool, ScriptFault> {
+    match (one, other) {
+        (Ok(one), Ok(other)) => Ok(one || other),
+        (Err(ScriptFault::Read), Err(fault)) => Err(fault),
+        (Err(fault), _) | (Ok(_), Err(fault)) => Err(fault),
+    }
+}
+
+/// Serves lines in so many threads.
+pub(crate) fn serve_in<'a, T: Threads + Wait + Drop + Send + Sync + Copy + 'static>(
+    starting: T,
+    rt: &HostRuntime,
+    threads: u8,
+    profile: &Profile,
+    line_keys: RandomState,
+    name_keys: RandomState,
+) -> End<'a> {
+    let alloc = rt.alloc();
+    let ways = match ways(starting, rt, threads) {
+        Ok(ways) => ways,
+        Err(fault) => return end_of(fault),
+    };
+    let ran = match serve_in_threads(
+        starting,
+        alloc,
+        rt.stdin(),
+        ways,
+        profile,
+        line_keys,
+        name_keys,
+    ) {
+        Ok(ran) => ran,
+        Err(fault) => return end_of(fault),
+    };
+    let Ran {
+        threads,
+        lacks_memory,
+    } = ran;
+    let mut end = if lacks_memory {
+        Err(ScriptFault::NoMemory)
+    } else {
+        Ok(false)
+    };
+    for one in threads {
+        end = joined(end, ended(one));
+    }
+    match end {
+        Ok(is_any_at_fault) => end_whole(is_any_at_fault),
+        Err(fault) => end_of(fault),
+    }
+}

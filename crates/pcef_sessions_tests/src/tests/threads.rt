@@ -1,0 +1,260 @@
+//! Threads answer as one does.
+
+use super::served;
+use pcef_profile::read_profile;
+use pcef_script::ScriptFault;
+use pcef_shards::{Outlet, Ran, serve_in_threads};
+use pcef_test_scripts::PROFILE;
+use std::alloc::Global;
+use std::hash::RandomState;
+use std::io::{self, Read, Write};
+use std::sync::{Arc, Mutex};
+use std::test::Fail;
+
+/// Gives octets, so many at a time, and then ends or fails.
+#[derive(Drop)]
+struct Giving {
+    octets: Vec<u8>,
+    given: usize,
+    step: usize,
+    fails: bool,
+}
+
+impl Giving {
+    fn new(alloc: Global, lines: &[u8], step: usize, fails: bool) -> Result<Giving, Fail> {
+        let mut octets = Vec::new(alloc);
+        octets.extend_from_slice(lines)?;
+        Ok(Giving {
+            octets,
+            given: 0,
+            step,
+            fails,
+        })
+    }
+}
+
+impl Read for Giving {
+    fn read(&mut self, buf: &mut [u8]) -> io::Result<usize> {
+        let left = self.octets.as_slice().split_at(self.given.min(self.octets.len())).1;
+        let count = left.len().min(buf.len()).min(self.step);
+        if count == 0 && self.fails && !buf.is_empty() {
+            return Err(io::Error::from(io::ErrorKind::Other));
+        }
+        buf[..count].copy_from_slice(&left[..count]);
+        self.given = self.given.saturating_add(count);
+        Ok(count)
+    }
+}
+
+/// Takes so many octets, and then fails.
+#[derive(Drop)]
+struct Taking {
+    room: usize,
+}
+
+impl Write for Taking {
+    fn write(&mut self, bytes: &[u8]) -> io::Result<usize> {
+        if bytes.len() > self.room {
+            return Err(io::Error::from(io::ErrorKind::Other));
+        }
+        self.room = self.room.saturating_sub(bytes.len());
+        Ok(bytes.len())
+    }
+
+    fn flush(&mut self) -> io::Result<()> {
+        Ok(())
+    }
+}
+
+/// What so many threads write for lines, each on a list of its own, and whether a line is at fault.
+fn served_in(
+    rt: HostRuntime,
+    threads: usize,
+    reader: Giving,
+) -> Result<(Vec<Vec<u8>>, Result<bool, ScriptFault>), Fail> {
+    let alloc = rt.alloc();
+    let profile = read_profile(alloc, PROFILE)?;
+    let mut writers = Vec::new(alloc);
+    for _ in 0..threads {
+        writers.push(Vec::new(alloc))?;
+    }
+    if writers.is_empty() {
+        return Err("no thread")?;
+    }
+    let (line_keys, name_keys) = (RandomState::new(&rt)?, RandomState::new(&rt)?);
+    let ran = serve_in_threads(rt, alloc, reader, writers, &profile, line_keys, name_keys)?;
+    let Ran {
+        threads,
+        lacks_memory,
+    } = ran;
+    assert!(rt; !lacks_memory);
+    let mut all = Vec::new(alloc);
+    let mut any = Ok(false);
+    for ended in threads {
+        any = match (any, ended.end) {
+            (Ok(one), Ok(other)) => Ok(one || other),
+            (Err(fault), _) | (Ok(_), Err(fault)) => Err(fault),
+        };
+        all.push(ended.writer)?;
+    }
+    Ok((all, any))
+}
+
+/// The answers under a name, in order, of all that stands in some octets.
+fn add_under(own: &mut Vec<u8>, answers: &[u8], name: &[u8]) -> Result<(), Fail> {
+    for answer in answers.split(|octet| *octet == b'\n') {
+        if answer.len() > name.len() && answer.starts_with(name) && answer[name.len()] == b' ' {
+            own.extend_from_slice(answer)?;
+            own.push(b'\n')?;
+        }
+    }
+    Ok(())
+}
+
+/// Threads give under each name what one gives, and each name stands on one list.
+fn same_under(
+    rt: HostRuntime,
+    lines: &str,
+    names: &[&str],
+    threads: usize,
+    step: usize,
+) -> Result<(), Fail> {
+    let alloc = rt.alloc();
+    let (one, is_any_at_fault) = served(&rt, lines)?;
+    let reader = Giving::new(alloc, lines.as_bytes(), step, false)?;
+    let (all, any) = served_in(rt, threads, reader)?;
+    assert_eq!(rt; any, Ok(is_any_at_fault));
+    let mut octets = 0usize;
+    for answers in &all {
+        octets = octets.saturating_add(answers.len());
+    }
+    assert_eq!(rt; octets, one.len());
+    for &name in names {
+        let mut due = Vec::new(alloc);
+        add_under(&mut due, one.as_bytes(), name.as_bytes())?;
+        let mut own = Vec::new(alloc);
+        let mut places = 0usize;
+        for answers in &all {
+            let before = own.len();
+            add_under(&mut own, answers.as_slice(), name.as_bytes())?;
+            if own.len() > before {
+                places = places.saturating_add(1);
+            }
+        }
+        assert_eq!(rt; own.as_slice(), due.as_slice(), "under {name}");
+        assert!(rt; places <= 1 || name == "-", "{name} is answered in {places} threads");
+    }
+    Ok(())
+}
+
+const NAMES: [&str; 6] = ["a", "b", "c", "~", "!-~subscriber", "-"];
+
+/// Lines of every form: of six names, without a name, blank, and one that no line feed ends.
+fn lines_of_every_form(alloc: Global) -> Result<String, Fail> {
+    let mut lines = String::new(alloc);
+    for line in &[
+        "{\"do\":\"show\"}",
+        "{\"do\":\"open\"}",
+        "{\"do\":\"attach\"}",
+        "{\"do\":\"take\",\"worker\":0,\"dir\":\"down\",\"packet\":\"4500001c0000000040110000c63364070a0000020035138800080000\"}",
+        "[1]",
+        "{\"do\":\"flush\",\"worker\":0}",
+        "{\"do\":\"end\"}",
+    ] {
+        for name in &NAMES {
+            lines.push_str(*name)?;
+            lines.push(' ')?;
+            lines.push_str(*line)?;
+            lines.push_str("\n\n \t\r\n")?;
+        }
+        lines.push_str("nameless\n {\"do\":\"open\"}\na \n\u{e9} {\"do\":\"open\"}\n")?;
+    }
+    lines.push_str("a {\"do\":\"open\"}")?;
+    Ok(lines)
+}
+
+#[test]
+fn threads_answer_as_one_does(rt: HostRuntime) -> Result<(), Fail> {
+    let alloc = rt.alloc();
+    let lines = lines_of_every_form(alloc)?;
+    for &threads in &[1usize, 2, 4, 7] {
+        for &step in &[1usize, 5, 100_000] {
+            same_under(rt, lines.as_str(), &NAMES, threads, step)?;
+        }
+    }
+    Ok(())
+}
+
+#[test]
+fn a_line_may_be_longer_than_a_block(rt: HostRuntime) -> Result<(), Fail> {
+    let alloc = rt.alloc();
+    let mut lines = String::new(alloc);
+    for name in &NAMES {
+        lines.push_str(*name)?;
+        for _ in 0..150_000 {
+            lines.push(' ')?;
+        }
+        lines.push_str("{\"do\":\"open\"}\n")?;
+    }
+    for _ in 0..200_000 {
+        lines.push('n')?;
+    }
+    lines.push_str(" {\"do\":\"open\"}\na {\"do\":\"attach\"}\n")?;
+    same_under(rt, lines.as_str(), &NAMES, 4, 100_000)
+}
+
+#[test]
+fn a_reader_that_fails_leaves_the_answers_to_whole_lines(rt: HostRuntime) -> Result<(), Fail> {
+    let alloc = rt.alloc();
+    let lines = lines_of_every_form(alloc)?;
+    let (one, _) = served(&rt, lines.as_str())?;
+    let last = "a {\"ok\":true}\n";
+    let (all, any) = served_in(rt, 3, Giving::new(alloc, lines.as_bytes(), 1000, true)?)?;
+    assert_eq!(rt; any, Err(ScriptFault::Read));
+    let mut octets = 0usize;
+    for answers in &all {
+        octets = octets.saturating_add(answers.len());
+    }
+    assert_eq!(rt; octets.saturating_add(last.len()), one.len());
+    Ok(())
+}
+
+/// How a run of four threads ends on one writer, of so much room.
+fn ended_on(rt: HostRuntime, lines: &str, room: usize) -> Result<Vec<Result<bool, ScriptFault>>, Fail> {
+    let alloc = rt.alloc();
+    let profile = read_profile(alloc, PROFILE)?;
+    let writer = Arc::new(alloc, Mutex::new(Taking { room }))?;
+    let mut writers = Vec::new(alloc);
+    for _ in 0..4u8 {
+        writers.push(Outlet::new(rt, alloc, Arc::try_clone(&writer)?))?;
+    }
+    if writers.is_empty() {
+        return Err("no thread")?;
+    }
+    let (line_keys, name_keys) = (RandomState::new(&rt)?, RandomState::new(&rt)?);
+    let reader = Giving::new(alloc, lines.as_bytes(), 1000, false)?;
+    let ran = serve_in_threads(rt, alloc, reader, writers, &profile, line_keys, name_keys)?;
+    let mut ends = Vec::new(alloc);
+    for ended in ran.threads {
+        let mut writer = ended.writer;
+        let flushed = writer.end();
+        ends.push(match ended.end {
+            Ok(_) if flushed.is_err() => Err(ScriptFault::Write),
+            end => end,
+        })?;
+    }
+    Ok(ends)
+}
+
+#[test]
+fn a_writer_that_fails_ends_all_threads(rt: HostRuntime) -> Result<(), Fail> {
+    let lines = lines_of_every_form(rt.alloc())?;
+    let ends = ended_on(rt, lines.as_str(), 300)?;
+    assert!(rt; ends.iter().any(|end| *end == Err(ScriptFault::Write)));
+    let (one, _) = served(&rt, lines.as_str())?;
+    let ends = ended_on(rt, lines.as_str(), one.len())?;
+    assert!(rt; ends.iter().all(|end| end.is_ok()));
+    let ends = ended_on(rt, lines.as_str(), one.len().saturating_sub(1))?;
+    assert!(rt; ends.iter().any(|end| *end == Err(ScriptFault::Write)));
+    Ok(())
+}

@@ -1,0 +1,10 @@
+pub mod Intakes
+pub mod Leading
+pub mod Outlets
+pub mod Parts
+pub mod Picks
+pub mod Served
+pub mod Sharing
+pub mod Sorted
+pub mod Ways
+pub mod private

@@ -1,0 +1,245 @@
+//! Serves lines from a reader in threads.
+
+ghost use Rattle.std.specs.Prelude.{◌≡◌, ◌++◌, ◌∷◌, ◌<◌, All, IfOk, OnOk, [], length};
+ghost use Rattle.pcef_built_in.specs.BuiltIn.{built_in_offers};
+ghost use Rattle.pcef_model.specs.ProfileModel.{setting_of};
+ghost use Rattle.pcef_shards.specs.Leading.{part_known};
+ghost use Rattle.pcef_shards.specs.Served.{EachServes};
+ghost use Rattle.pcef_shards.specs.Sorted.{IsSorted};
+ghost use Rattle.pcef_shards.specs.Ways.{led_to};
+ghost use Rattle.pcef_shards.specs.private.Started.{AreFor, HaveKept};
+
+use crate::feeding::feed;
+use crate::lane::Lane;
+use crate::parcel::Leading;
+use crate::shard::{Ended, Handle, Shard, start};
+use crate::signals::Signals;
+use crate::sorting::Sorting;
+use pcef_model::Profile;
+use pcef_script::ScriptFault;
+use std::alloc::Global;
+use std::hash::RandomState;
+use std::io::{Read, Write};
+use std::marker::Brand;
+use std::sync::{Arc, Wait};
+use std::thread::{self, JoinHandle, Threads};
+
+/// What a run of threads comes to.
+#[derive(Drop)]
+pub struct Ran<W: Write + Drop> {
+    /// How each thread ended, in the order of their writers.
+    pub threads: Vec<Ended<W>>,
+    /// Whether the thread that read found no memory, so that the others got no end of their lines.
+    pub lacks_memory: bool,
+}
+
+/// A profile of the same values.
+fn same(profile: &Profile) -> Profile
+    ensures { result ≡ profile.now }
+{
+    Profile {
+        ue: profile.ue,
+        default_qos: profile.default_qos,
+        capacity: profile.capacity,
+        qcis: profile.qcis,
+        rows: profile.rows,
+        commands: profile.commands,
+    }
+}
+
+/// The threads, and the ways that lead to them.
+#[derive(Drop)]
+struct Started<N: Leading, W: Write + Drop> {
+    lanes: Vec<Lane<N>>,
+    handles: Vec<Handle<N, W>>,
+}
+
+/// Puts one more at the end. Fails for want of memory.
+fn keep<T: Drop>(all: &mut Vec<T>, one: T) -> Result<(), ScriptFault>
+    ensures { OnOk result (all.new.items ≡ all.old.items ++ one ∷ []) }
+{
+    match all.push(one) {
+        Ok(()) => Ok(()),
+        Err(_) => Err(ScriptFault::NoMemory),
+    }
+}
+
+impl<N: Leading, W: Write + Drop> Started<N, W> {
+    /// One thread more. Fails for want of memory.
+    fn add(&mut self, shard: Shard<N, W>) -> Result<(), ScriptFault>
+        ensures lanes { OnOk result
+            (self.new.lanes.items ≡ self.old.lanes.items ++ shard.lane ∷ []) }
+        ensures handles { OnOk result
+            (self.new.handles.items ≡ self.old.handles.items ++ shard.handle ∷ []) }
+    {
+        let Shard { lane, handle } = shard;
+        keep(&mut self.lanes, lane)?;
+        keep(&mut self.handles, handle)
+    }
+}
+
+/// Starts a thread for each writer.
+fn start_all<
+    N: Leading + Send + Sync + 'static,
+    T: Threads + Wait + Drop + Send + Sync + Copy + 'static,
+    W: Write + Drop + Send + 'static,
+>(
+    rt: T,
+    alloc: Global,
+    signals: &Arc<Signals>,
+    writers: Vec<W>,
+    profile: &Profile,
+    keys: RandomState,
+) -> Result<Started<N, W>, ScriptFault>
+    ensures many { IfOk result (λ s. length s.lanes.items ≡ length writers.items) }
+    ensures lanes { IfOk result (λ s. All (λ lane. lane ≡ []) s.lanes.items) }
+    ensures handles { IfOk result (λ s. AreFor profile.now 0 writers.items s.handles.items) }
+{
+    let mut started = Started {
+        lanes: Vec::new(alloc),
+        handles: Vec::new(alloc),
+    };
+    for writer in writers {
+        let thread = started.handles.len();
+        let shard = start::<N, T, W>(rt, alloc, signals, thread, writer, same(profile), keys)?;
+        started.add(shard)?;
+    }
+    Ok(started)
+}
+
+/// Waits for each thread.
+fn join_all<N: Leading, T: Threads, W: Write + Drop>(
+    rt: &T,
+    alloc: Global,
+    handles: Vec<Handle<N, W>>,
+) -> Result<Vec<Ended<W>>, ScriptFault>
+    ensures { IfOk result (λ all. HaveKept W.contents N.part handles.items all.items) }
+{
+    let mut all = Vec::new(alloc);
+    for handle in handles {
+        keep(&mut all, handle.join(rt))?;
+    }
+    Ok(all)
+}
+
+/// Whether no thread ended early.
+fn are_whole<W: Write + Drop>(all: &[Ended<W>]) -> bool {
+    all.iter().all(|ended| ended.end.is_ok())
+}
+
+/// Starts the thread that reads. Fails where there is no thread for it; the others then get no lines.
+fn start_reading<
+    N: Leading + Send + Sync + 'static,
+    T: Threads + Wait + Drop + Send + Sync + Copy + 'static,
+    R: Read + Drop + Send + 'static,
+>(
+    rt: T,
+    signals: &Arc<Signals>,
+    reader: R,
+    sorting: Sorting,
+    lanes: Vec<Lane<N>>,
+) -> Result<JoinHandle<()>, ScriptFault>
+    requires sorted { IsSorted sorting.picking.keys (length lanes.items) (led_to lanes.items) sorting [] }
+    requires parts { N.part ≡ part_known sorting.picking.keys (length lanes.items) (R.remaining reader) }
+{
+    let Ok(theirs) = Arc::try_clone(signals) else {
+        return Err(ScriptFault::NoMemory);
+    };
+    let job = move ||
+        requires sorted { IsSorted sorting.picking.keys (length lanes.items) (led_to lanes.items) sorting [] }
+        requires parts { N.part ≡ part_known sorting.picking.keys (length lanes.items) (R.remaining reader) }
+    {
+        let mut reader = reader;
+        feed(&rt, &theirs, &mut reader, sorting, lanes);
+    };
+    match thread::spawn(&rt, job) {
+        Ok(reading) => Ok(reading),
+        Err(_) => Err(ScriptFault::NoMemory),
+    }
+}
+
+/// Runs threads to which their parts are led.
+fn run_named<
+    N: Leading + Send + Sync + 'static,
+    T: Threads + Wait + Drop + Send + Sync + Copy + 'static,
+    R: Read + Drop + Send + 'static,
+    W: Write + Drop + Send + 'static,
+>(
+    rt: T,
+    alloc: Global,
+    reader: R,
+    writers: Vec<W>,
+    profile: &Profile,
+    sorting: Sorting,
+    signals: Arc<Signals>,
+    keys: RandomState,
+) -> Result<Ran<W>, ScriptFault>
+    requires sorted { IsSorted sorting.picking.keys (length writers.items) (λ t. []) sorting [] }
+    requires parts { N.part ≡ part_known sorting.picking.keys (length writers.items) (R.remaining reader) }
+    ensures { IfOk result (λ ran. EachServes (setting_of profile.now built_in_offers) W.contents
+        (part_known sorting.picking.keys (length writers.items) (R.remaining reader)) 0
+        writers.items ran.threads.items) }
+{
+    let started = start_all::<N, T, W>(rt, alloc, &signals, writers, profile, keys)?;
+    let Started { lanes, handles } = started;
+    let reading = match start_reading(rt, &signals, reader, sorting, lanes) {
+        Ok(reading) => reading,
+        Err(fault) => {
+            signals.wake_all();
+            return Err(fault);
+        }
+    };
+    let threads = join_all(&rt, alloc, handles)?;
+    if are_whole(&threads) {
+        reading.join(&rt);
+    }
+    Ok(Ran {
+        threads,
+        lacks_memory: signals.lacks_memory(),
+    })
+}
+
+/// Answers each line of many sessions of a profile, in as many threads as there are writers.
+///
+/// A thread of its own reads in blocks of at most 65,536 octets. What stands in a line before its first space picks the
+/// thread that answers, by a hash with `line_keys`; a thread owns its sessions, and answers as [`serve`] does, on its own
+/// writer. The keys are to be random, since strangers choose names. That there is a writer is the caller's condition.
+///
+/// A thread that ends early, but for want of lines, stops all; then, and where memory, a ring or a thread is missing, the
+/// thread that reads is left behind: it ends after the block that it waits for. Fails with [`ScriptFault::NoMemory`] alone,
+/// where not all threads came to run or were joined. Takes memory for blocks and rings, and what the sessions keep. Waits
+/// for lines and for the threads.
+///
+/// [`serve`]: pcef_sessions::serve
+pub fn serve_in_threads<
+    T: Threads + Wait + Drop + Send + Sync + Copy + 'static,
+    R: Read + Drop + Send + 'static,
+    W: Write + Drop + Send + 'static,
+>(
+    rt: T,
+    alloc: Global,
+    reader: R,
+    writers: Vec<W>,
+    profile: &Profile,
+    line_keys: RandomState,
+    name_keys: RandomState,
+) -> Result<Ran<W>, ScriptFault>
+    requires { 0 < length writers.items }
+    ensures { IfOk result (λ ran. EachServes (setting_of profile.now built_in_offers) W.contents
+        (part_known line_keys (length writers.items) (R.remaining reader)) 0
+        writers.items ran.threads.items) }
+{
+    let threads = writers.len();
+    let (Ok(sorting), Ok(signals)) = (
+        Sorting::new(alloc, line_keys, threads),
+        Signals::new(alloc, threads),
+    ) else {
+        return Err(ScriptFault::NoMemory);
+    };
+    let Ok(signals) = Arc::new(alloc, signals) else {
+        return Err(ScriptFault::NoMemory);
+    };
+    run_named::<Brand, T, R, W>(
+        rt, alloc, reader, writers, profile, sorting, signals, name_keys,
+    )
+}
