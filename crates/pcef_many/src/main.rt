@@ -16,9 +16,8 @@ use pcef_built_in::ShapedCatalog;
 use pcef_command_line::{gather, refuse, tell_no_memory};
 use pcef_model::Profile;
 use pcef_profile::{ReadProfileFault, explain, read_profile};
-use serving::{serve_in, serve_lines};
+use serving::{Keys, serve_in, serve_lines};
 use std::fs;
-use std::hash::RandomState;
 use std::io::{self, ErrorKind};
 use std::process::ExitCode;
 use std::sync::Wait;
@@ -60,16 +59,14 @@ fn run<'a, T: Threads + Wait + Drop + Send + Sync + Copy + 'static>(
         Ok(profile) => profile,
         Err(fault) => return told_profile(rt, text.as_str(), fault),
     };
-    let (line_keys, name_keys) = match (RandomState::new(rt), RandomState::new(rt)) {
-        (Ok(line_keys), Ok(name_keys)) => (line_keys, name_keys),
-        (Err(error), _) | (_, Err(error)) => {
-            return end_of(error, End::Read("the random numbers of the system", error));
-        }
+    let keys = match Keys::new(rt) {
+        Ok(keys) => keys,
+        Err(error) => return end_of(error, End::Read("the random numbers of the system", error)),
     };
     if options.threads == 1 {
-        serve_lines(rt, catalog, profile, name_keys)
+        serve_lines(rt, catalog, profile, keys.names)
     } else {
-        serve_in(starting, rt, options.threads, &profile, line_keys, name_keys)
+        serve_in(starting, rt, options.threads, &profile, keys)
     }
 }
 

@@ -34,9 +34,10 @@ pub(crate) fn asked<'a>(alloc: Global, words: &'a [String]) -> Result<Option<Opt
         .arg(threads)?
         .arg(profile)?;
     let matches = command.try_get_matches_from(words)?;
-    let (Some(threads), Some(profile)) =
-        (matches.get_one::<u8>("threads"), matches.get_str("profile"))
-    else {
+    let (Some(threads), Some(profile)) = (
+        matches.get_one::<u8>("threads"),
+        matches.get_str("profile"),
+    ) else {
         return Ok(None);
     };
     Ok(Some(Options { threads, profile }))

@@ -12,6 +12,21 @@ use std::rt::Stdout;
 use std::sync::{Arc, Mutex, Wait};
 use std::thread::Threads;
 
+/// Random keys for two hashes: that which picks a line's thread, and that of names in a thread.
+#[derive(Clone, Copy)]
+pub(crate) struct Keys {
+    pub lines: RandomState,
+    pub names: RandomState,
+}
+
+impl Keys {
+    pub(crate) fn new(rt: &HostRuntime) -> io::Result<Keys> {
+        let lines = RandomState::new(rt)?;
+        let names = RandomState::new(rt)?;
+        Ok(Keys { lines, names })
+    }
+}
+
 /// How a fault of the lines ends the program.
 fn end_of<'a>(fault: ScriptFault) -> End<'a> {
     match fault {
@@ -103,32 +118,8 @@ fn joined(
     }
 }
 
-/// Serves lines in so many threads.
-pub(crate) fn serve_in<'a, T: Threads + Wait + Drop + Send + Sync + Copy + 'static>(
-    starting: T,
-    rt: &HostRuntime,
-    threads: u8,
-    profile: &Profile,
-    line_keys: RandomState,
-    name_keys: RandomState,
-) -> End<'a> {
-    let alloc = rt.alloc();
-    let ways = match ways(starting, rt, threads) {
-        Ok(ways) => ways,
-        Err(fault) => return end_of(fault),
-    };
-    let ran = match serve_in_threads(
-        starting,
-        alloc,
-        rt.stdin(),
-        ways,
-        profile,
-        line_keys,
-        name_keys,
-    ) {
-        Ok(ran) => ran,
-        Err(fault) => return end_of(fault),
-    };
+/// What all threads come to, after the answers that wait are written.
+fn all_ended<T: Wait + Drop>(ran: Ran<Way<T>>) -> Result<bool, ScriptFault> {
     let Ran {
         threads,
         lacks_memory,
@@ -141,6 +132,47 @@ pub(crate) fn serve_in<'a, T: Threads + Wait + Drop + Send + Sync + Copy + 'stat
     for one in threads {
         end = joined(end, ended(one));
     }
+    end
+}
+
+/// Serves lines in a thread for each way to standard output, if there is one.
+fn served<T: Threads + Wait + Drop + Send + Sync + Copy + 'static>(
+    starting: T,
+    rt: &HostRuntime,
+    ways: Vec<Way<T>>,
+    profile: &Profile,
+    keys: Keys,
+) -> Result<bool, ScriptFault> {
+    if ways.is_empty() {
+        return Ok(false);
+    }
+    let alloc = rt.alloc();
+    match serve_in_threads(
+        starting,
+        alloc,
+        rt.stdin(),
+        ways,
+        profile,
+        keys.lines,
+        keys.names,
+    ) {
+        Ok(ran) => all_ended(ran),
+        Err(fault) => Err(fault),
+    }
+}
+
+/// Serves lines in so many threads.
+pub(crate) fn serve_in<'a, T: Threads + Wait + Drop + Send + Sync + Copy + 'static>(
+    starting: T,
+    rt: &HostRuntime,
+    threads: u8,
+    profile: &Profile,
+    keys: Keys,
+) -> End<'a> {
+    let end = match ways(starting, rt, threads) {
+        Ok(ways) => served(starting, rt, ways, profile, keys),
+        Err(fault) => Err(fault),
+    };
     match end {
         Ok(is_any_at_fault) => end_whole(is_any_at_fault),
         Err(fault) => end_of(fault),
