@@ -8,7 +8,7 @@ use crate::column::column_of;
 use crate::filters::filter_told;
 use crate::parts::{field_in, field_told, unknown_told, word_told};
 use crate::place::Place;
-use crate::plain::plain;
+use crate::plain::plain_text;
 use crate::syntax::misplaced;
 use crate::told::Told;
 use crate::wanted::Shown;
@@ -217,7 +217,7 @@ fn in_plain(alloc: Global, found: Explanation) -> Result<Explanation, AllocError
 {
     Ok(Explanation {
         column: found.column,
-        text: plain(alloc, found.text.as_str())?,
+        text: plain_text(alloc, found.text.as_str())?,
     })
 }
 

@@ -19,3 +19,4 @@ mod told;
 mod wanted;
 
 pub use explaining::{Explanation, explain, explain_field};
+pub use plain::plain_text;

@@ -6,7 +6,7 @@ ghost use Rattle.pcef_explain.specs.Plain.{IsPlain};
 use std::alloc::{AllocError, Global};
 
 /// A text with `?` in the place of each octet that is no printable ASCII. Takes memory for it.
-pub(crate) fn plain(alloc: Global, text: &str) -> Result<String, AllocError>
+pub fn plain_text(alloc: Global, text: &str) -> Result<String, AllocError>
     ensures { IfOk result (λ plain. IsPlain (string_bytes plain)) }
 {
     let mut plain = String::new(alloc);

@@ -16,10 +16,3 @@ pub enum PoolEnd {
     #[error("there is no memory left")]
     NoMemory,
 }
-
-/// Why a line is no order.
-#[derive(Clone, Copy, Debug)]
-pub(crate) enum Unfit {
-    AtFault,
-    NoMemory,
-}

@@ -1,13 +1,13 @@
 //! What a line asks of sessions on a pool.
 
 ghost use Rattle.std.specs.Prelude.{◌≡◌, ◌∷◌, ◌++◌, [], IfErr, IfOk, OnOk, option_map};
+ghost use Rattle.pcef_run.specs.Reasons.{IsFor};
+ghost use Rattle.pcef_run.specs.declared.unfit.Untaken.TheVariants.{NoMemory as LacksMemory};
 ghost use Rattle.pcef_pool_run.specs.Orders.{IsOrder, IsWrong, IsWrongLine, TakesLine, session_in};
-ghost use Rattle.pcef_pool_run.specs.declared.fault.Unfit.TheVariants.{AtFault, NoMemory as LacksMemory};
 
-use crate::fault::Unfit;
-use pcef_line::{Line, LineFault, LineReader};
+use pcef_line::{Line, LineReader};
 use pcef_model::{Command, Step};
-use pcef_run::{is_blank, line_of};
+use pcef_run::{Unfit, Untaken, is_blank, line_of, unread};
 use std::alloc::Global;
 
 /// A command for one of several sessions.
@@ -38,31 +38,30 @@ fn order_of(
     reader: &mut LineReader,
     bytes: &[u8],
     sessions: usize,
-) -> Result<Order, Unfit>
+) -> Result<Order, Untaken>
     ensures order { IfOk result (λ o. IsOrder sessions bytes.now o) }
-    ensures wrong { IfErr result (λ e. e ≡ AtFault → IsWrong sessions bytes.now) }
+    ensures wrong { IfErr result (IsFor (IsWrong sessions bytes.now)) }
 {
     let Some((session, rest)) = session_in(bytes) else {
-        return Err(Unfit::AtFault);
+        return Err(Untaken::Unfit(Unfit::NoNumber));
     };
     if usize::from(session) >= sessions {
-        return Err(Unfit::AtFault);
+        return Err(Untaken::Unfit(Unfit::NoSession(sessions)));
     }
     match line_of(alloc, reader, rest) {
         Ok(Line::Step(Step::Command(command))) => Ok(Order { session, command }),
-        Ok(_) => Err(Unfit::AtFault),
-        Err(LineFault::NoMemory) => Err(Unfit::NoMemory),
-        Err(_) => Err(Unfit::AtFault),
+        Ok(_) => Err(Untaken::Unfit(Unfit::NotOfPool)),
+        Err(fault) => Err(unread(fault)),
     }
 }
 
-fn push_order(orders: &mut Vec<Order>, order: Order) -> Result<(), Unfit>
+fn push_order(orders: &mut Vec<Order>, order: Order) -> Result<(), Untaken>
     ensures pushed { OnOk result (orders.new.items ≡ orders.old.items ++ order ∷ []) }
     ensures lacks { IfErr result (λ e. e ≡ LacksMemory) }
 {
     match orders.push(order) {
         Ok(()) => Ok(()),
-        Err(_) => Err(Unfit::NoMemory),
+        Err(_) => Err(Untaken::NoMemory),
     }
 }
 
@@ -73,15 +72,24 @@ pub(crate) fn take_line(
     orders: &mut Vec<Order>,
     bytes: &[u8],
     sessions: usize,
-) -> Result<(), Unfit>
+) -> Result<(), Untaken>
     ensures taken { OnOk result (TakesLine sessions bytes.now orders.old.items orders.new.items) }
-    ensures wrong { IfErr result (λ e. e ≡ AtFault → IsWrongLine sessions bytes.now) }
+    ensures wrong { IfErr result (IsFor (IsWrongLine sessions bytes.now)) }
 {
     if is_blank(bytes) {
         return Ok(());
     }
     match order_of(alloc, reader, bytes, sessions) {
         Ok(order) => push_order(orders, order),
-        Err(unfit) => Err(unfit),
+        Err(untaken) => Err(untaken),
+    }
+}
+
+/// How many octets of a line stand before what is a line of a script: the number of a session and a space, where they are
+/// there.
+pub(crate) fn front_of(bytes: &[u8]) -> usize {
+    match session_in(bytes) {
+        Some((_, rest)) => bytes.len().saturating_sub(rest.len()),
+        None => 0,
     }
 }

@@ -4,8 +4,7 @@ ghost use Rattle.std.specs.Prelude.{IfErr, IfOk};
 ghost use Rattle.pcef_script.specs.Scripts.{all_lines};
 ghost use Rattle.pcef_pool_run.specs.Orders.{AreOrdered, FailsIn, ReadsOrders};
 
-use crate::fault::Unfit;
-use crate::order::{Order, take_line};
+use crate::order::{Order, front_of, take_line};
 use pcef_line::LineReader;
 use pcef_run::{PlanFault, first_line, read_all};
 use std::alloc::Global;
@@ -25,8 +24,9 @@ fn orders_of(alloc: Global, input: &[u8], sessions: usize) -> Result<Vec<Order>,
         number += 1;
         match take_line(alloc, &mut reader, &mut orders, line, sessions) {
             Ok(()) => {}
-            Err(Unfit::AtFault) => return Err(PlanFault::Line(number)),
-            Err(Unfit::NoMemory) => return Err(PlanFault::NoMemory),
+            Err(untaken) => {
+                return Err(PlanFault::at(alloc, number, line, front_of(line), untaken));
+            }
         }
         match later {
             Some(later) => rest = later,
@@ -42,7 +42,7 @@ fn orders_of(alloc: Global, input: &[u8], sessions: usize) -> Result<Vec<Order>,
 ///
 /// Answers the first [`PlanFault`] that it meets: that of the reader, an input that is too long, want of memory, or,
 /// once all is read, the first line that isn't of this form, names a session that there isn't, is at fault, or is no
-/// command.
+/// command, with the reason. Takes memory to tell that in words.
 pub fn read_orders<R: Read>(
     alloc: Global,
     reader: &mut R,

@@ -46,7 +46,7 @@ status_most ending.NoProfile = omega arith
 status_most ending.Read = omega arith
 status_most ending.TooMuch = omega arith
 status_most ending.Write = omega arith
-status_most (ending.Line text) = omega arith
+status_most (ending.Line first text) = omega arith
 status_most (ending.Run fault) = omega arith
 
 not_zero : (n : ℕ) → 0 < n → n ≡ 0 → ⊥
@@ -102,7 +102,7 @@ run_whole offers text terms workers ending.NoProfile before left old new gives r
 run_whole offers text terms workers ending.Read before left old new gives ran zero = absurd (not_zero 4 (omega arith) zero)
 run_whole offers text terms workers ending.TooMuch before left old new gives ran zero = absurd (not_zero 4 (omega arith) zero)
 run_whole offers text terms workers ending.Write before left old new gives ran zero = absurd (not_zero 4 (omega arith) zero)
-run_whole offers text terms workers (ending.Line said) before left old new gives ran zero = absurd (not_zero 1 (omega arith) zero)
+run_whole offers text terms workers (ending.Line first said) before left old new gives ran zero = absurd (not_zero 1 (omega arith) zero)
 run_whole offers text terms workers (ending.Run fault) before left old new gives ran zero = absurd (not_zero 4 (omega arith) zero)
 
 as_asked : (offers : List Offer) (workers : Option ℕ) (text : String Global) (terms : ProfileModel) (end : End) (before left old new : Option (List ℕ)) → GivesProfile (Ok terms) (ProfileOf (string_bytes text))
@@ -133,8 +133,8 @@ plan_status : (f : PlanFault) (end : End) → IsPlanEnd f end → end_status end
 plan_status plan.Read end is zero = not_zero 4 (omega arith) (sym (ap end_status is) ∙ zero)
 plan_status plan.TooMuch end is zero = not_zero 4 (omega arith) (sym (ap end_status is) ∙ zero)
 plan_status plan.NoMemory end is zero = not_zero 3 (omega arith) (sym (ap end_status is) ∙ zero)
-plan_status (plan.Line number) end (inl (text, is, said)) zero = not_zero 1 (omega arith) (sym (ap end_status is) ∙ zero)
-plan_status (plan.Line number) end (inr is) zero = not_zero 3 (omega arith) (sym (ap end_status is) ∙ zero)
+plan_status (plan.Line first) end (inl (text, is, said)) zero = not_zero 1 (omega arith) (sym (ap end_status is) ∙ zero)
+plan_status (plan.Line first) end (inr is) zero = not_zero 3 (omega arith) (sym (ap end_status is) ∙ zero)
 
 text_status : (text : Text) (end : End) → IsUnread text end → end_status end ≡ 0 → ⊥
 text_status (Ok text) end (inl is) zero = not_zero 3 (omega arith) (sym (ap end_status is) ∙ zero)

@@ -52,7 +52,7 @@ one_told p plan workers ran ending.NoProfile old new runs told = absurd told.1
 one_told p plan workers ran ending.Read old new runs told = absurd told.1
 one_told p plan workers ran ending.TooMuch old new runs told = absurd told.1
 one_told p plan workers ran ending.Write old new runs told = (ran, runs, told.0, told.1)
-one_told p plan workers ran (ending.Line text) old new runs told = absurd told.1
+one_told p plan workers ran (ending.Line first text) old new runs told = absurd told.1
 one_told p plan workers ran (ending.Run fault) old new runs told = absurd told.1
 
 pub none_told : (p : Setting) (plan : Plan) (workers : ℕ) (end : RunEnd) (old : Option (List ℕ)) → EndsPlan p plan workers end → RanOne p workers plan (run_end end) old old
@@ -83,12 +83,12 @@ plan_told p plan workers ending.NoProfile before left old new planned told = abs
 plan_told p plan workers ending.Read before left old new planned told = absurd told
 plan_told p plan workers ending.TooMuch before left old new planned told = absurd told
 plan_told p plan workers ending.Write before left old new planned told = (plan, planned, told)
-plan_told p plan workers (ending.Line text) before left old new planned told = absurd told
+plan_told p plan workers (ending.Line first text) before left old new planned told = absurd told
 plan_told p plan workers (ending.Run fault) before left old new planned told = (plan, planned, run_fault plan workers fault before left planned told.0, told.1)
 
 pub no_plan_told : (p : Setting) (workers : ℕ) (e : PlanFault) (end : End) (before left old : Option (List ℕ)) → Plans workers (Err e) before left → IsPlanEnd e end → RanPlan p workers end before left old old
 no_plan_told p workers fault.Read end before left old unread is = rw is (unread, Keeps-refl old)
 no_plan_told p workers fault.TooMuch end before left old unread is = rw is (unread, Keeps-refl old)
 no_plan_told p workers fault.NoMemory end before left old unread is = rw is (Keeps-refl old)
-no_plan_told p workers (fault.Line number) end before left old unread (inl (text, is, said)) = rw is (number, said, unread, Keeps-refl old)
-no_plan_told p workers (fault.Line number) end before left old unread (inr is) = rw is (Keeps-refl old)
+no_plan_told p workers (fault.Line first) end before left old unread (inl (text, is, said)) = rw is (said, unread, Keeps-refl old)
+no_plan_told p workers (fault.Line first) end before left old unread (inr is) = rw is (Keeps-refl old)

@@ -1,5 +1,5 @@
 -- What is said of an end.
-use Rattle.std.proofs.Common.{◌≡◌, ◌∙◌, ◌==◌, ℕ, Bool, false, List, [], ◌++◌, append-nil, ap, length, refl, sym}
+use Rattle.std.proofs.Common.{◌≡◌, ◌∙◌, ◌==◌, ℕ, Bool, false, List, [], ◌++◌, append-nil, append_assoc, ap, length, refl, sym}
 use Rattle.std.proofs.lemmas.Bool.{false≢true}
 use Rattle.std.specs.Prelude.{OnOk, IfErr, Option, Result, Ok, Err}
 use Rattle.std.specs.Io.KnownBytes.{Appends}
@@ -8,8 +8,8 @@ use Rattle.pcef_script.specs.declared.fault.ScriptFault.{ScriptFault}
 use Rattle.pcef_script.specs.declared.fault.ScriptFault.TheVariants as script
 use Rattle.pcef_script.specs.ScriptLines.{AppendsFront}
 use Rattle.pcef_program.specs.declared.end.End.{End}
-use Rattle.pcef_program.specs.Ends.{end_text}
-use Rattle.pcef_program.specs.Telling.{AppendsSome, IsTold}
+use Rattle.pcef_program.specs.Ends.{end_reason, end_text}
+use Rattle.pcef_program.specs.Telling.{AppendsSome, IsTold, TellsMore}
 
 -- bytes that were put, or a front of them
 pub put_some : {T : Type 0} (r : Result T ScriptFault) (a b : Option (List ℕ)) (text : List ℕ) → OnOk r (Appends a b text) → IfErr r (λ e. (e ≡ script.Write) × AppendsFront a b text) → AppendsSome a b
@@ -25,14 +25,26 @@ not_empty line flag is empty fails none = false≢true (sym fails ∙ empty ∙ 
 
 -- nothing is said
 pub told_nothing : (end : End) (a : Option (List ℕ)) → IsTold end a a
-told_nothing end a = ([], λ none. refl, ([], end_text end ++ [], refl, Appends-nil a))
+told_nothing end a = ([], λ none. refl, ([], end_text end ++ (end_reason end ++ []), refl, Appends-nil a))
 
 -- the line, or a front of it
 pub told_line : (end : End) (a b : Option (List ℕ)) → AppendsFront a b (end_text end) → IsTold end a b
-told_line end a b front = ([], λ none. refl, (front.0, front.1, append-nil (end_text end) ∙ front.2, front.3))
+told_line end a b (front, rest, is, appended) =
+    let more = end_reason end ++ [] in
+    ([], λ none. refl, (front, rest ++ more, ap (λ t. t ++ more) is ∙ append_assoc front rest more, appended))
+
+-- what is wrong with the line that doesn't fit, or a front of it
+pub reason_told : (end : End) (a b : Option (List ℕ)) → AppendsFront a b (end_reason end) → TellsMore end a b
+reason_told end a b (front, rest, is, appended) = ([], (front, rest, append-nil (end_reason end) ∙ is, appended))
+
+-- and what follows it
+pub reason_then : (end : End) (a b c : Option (List ℕ)) → Appends a b (end_reason end) → AppendsSome b c → TellsMore end a c
+reason_then end a b c told (more, appended) =
+    let whole = end_reason end ++ more in
+    (more, (whole, [], sym (append-nil whole), Appends-trans a b c (end_reason end) more told appended))
 
 -- the line, and what follows it
-pub told_more : (end : End) (a b c : Option (List ℕ)) → (end_text end ≡ [] → ⊥) → Appends a b (end_text end) → AppendsSome b c → IsTold end a c
-told_more end a b c some line more =
-    let whole = end_text end ++ more.0 in
-    (more.0, λ none. absurd (some none), (whole, [], sym (append-nil whole), Appends-trans a b c (end_text end) more.0 line more.1))
+pub told_more : (end : End) (a b c : Option (List ℕ)) → (end_text end ≡ [] → ⊥) → Appends a b (end_text end) → TellsMore end b c → IsTold end a c
+told_more end a b c some line (more, (front, rest, is, appended)) =
+    let text = end_text end in
+    (more, λ none. absurd (some none), (text ++ front, rest, ap (λ t. text ++ t) is ∙ sym (append_assoc text front rest), Appends-trans a b c text front line appended))

@@ -33,7 +33,7 @@ end_status end.NoProfile = 4
 end_status end.Read = 4
 end_status end.TooMuch = 4
 end_status end.Write = 4
-end_status (end.Line text) = 1
+end_status (end.Line first text) = 1
 end_status (end.Run fault) = 4
 
 -- a line, or nothing
@@ -47,8 +47,13 @@ end_text end.NoProfile = codes "read fault" ++ 10 ∷ []
 end_text end.Read = codes "read fault" ++ 10 ∷ []
 end_text end.TooMuch = codes "read fault" ++ 10 ∷ []
 end_text end.Write = codes "write fault" ++ 10 ∷ []
-end_text (end.Line text) = string_bytes text
+end_text (end.Line first text) = string_bytes text
 end_text (end.Run fault) = codes "run fault " ++ (48 + number_of fault) ∷ 10 ∷ []
+
+-- what is wrong with the line that doesn't fit
+abbrev pub end_reason : End → List ℕ
+end_reason (end.Line first text) = string_bytes first.told
+end_reason other = []
 
 -- a profile that can't be had
 abbrev pub profile_end : ReadProfileFault → End
@@ -83,7 +88,7 @@ abbrev pub IsPlanEnd : PlanFault → End → Type 0
 IsPlanEnd plan.Read e = e ≡ end.Read
 IsPlanEnd plan.TooMuch e = e ≡ end.TooMuch
 IsPlanEnd plan.NoMemory e = e ≡ end.NoMemory
-IsPlanEnd (plan.Line number) e = ((text : String Global) × (e ≡ end.Line text) × (string_bytes text ≡ line_text number)) ⊎ (e ≡ end.NoMemory)
+IsPlanEnd (plan.Line first) e = ((text : String Global) × (e ≡ end.Line first text) × (string_bytes text ≡ line_text first.number)) ⊎ (e ≡ end.NoMemory)
 
 abbrev pub open_end : OpenFault → End
 open_end opening.UnknownQci = end.Profile profile.UnknownQci

@@ -50,8 +50,8 @@ RanPlan p workers (ending.Run fault) before left old new =
     (plan : Plan) × Plans workers (Ok plan) before left × IsRunFault workers fault × Keeps old new
 RanPlan p workers (ending.Profile fault) before left old new =
     (plan : Plan) × Plans workers (Ok plan) before left × IsOpenFault p fault × Keeps old new
-RanPlan p workers (ending.Line text) before left old new =
-    (number : ℕ) × (string_bytes text ≡ line_text number) × Plans workers (Err (fault.Line number)) before left × Keeps old new
+RanPlan p workers (ending.Line first text) before left old new =
+    (string_bytes text ≡ line_text first.number) × Plans workers (Err (fault.Line first)) before left × Keeps old new
 RanPlan p workers ending.Read before left old new = Plans workers (Err fault.Read) before left × Keeps old new
 RanPlan p workers ending.TooMuch before left old new = Plans workers (Err fault.TooMuch) before left × Keeps old new
 RanPlan p workers ending.NoMemory before left old new = Keeps old new

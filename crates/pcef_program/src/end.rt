@@ -2,7 +2,7 @@
 
 ghost use Rattle.std.specs.Prelude.{◌≡◌, Err, IfOk, string_bytes};
 ghost use Rattle.pcef_program.specs.declared.end.End.TheVariants.{Profile, Run};
-ghost use Rattle.pcef_program.specs.Ends.{IsPlanEnd, end_status, end_text, line_text, open_end, pool_end, pooled_end, profile_end, run_end, script_end, unread_end};
+ghost use Rattle.pcef_program.specs.Ends.{IsPlanEnd, end_reason, end_status, end_text, line_text, open_end, pool_end, pooled_end, profile_end, run_end, script_end, unread_end};
 
 use pcef_gateway::RunFault;
 use pcef_model::OpenFault;
@@ -10,7 +10,7 @@ use pcef_pool::PoolFault;
 use pcef_pool_run::PoolEnd;
 use pcef_pooled::PooledFault;
 use pcef_profile::ReadProfileFault;
-use pcef_run::{PlanFault, RunEnd};
+use pcef_run::{FirstUnfit, PlanFault, RunEnd};
 use pcef_script::ScriptFault;
 use std::alloc::{AllocError, Global};
 use std::io::ErrorKind;
@@ -37,10 +37,6 @@ Version: 0.1, proved with rattle-kit-13f logic dac8208d650f15bf
 const TOO_MUCH_NOTE: &str =
     "Standard input has more than 1,073,741,824 bytes; the whole lines of a script within are answered.\n";
 
-const LINE_NOTE: &str =
-    "A run takes commands and `take` lines of workers from 0 up to one below WORKERS, and a pool the number of a session, \
-a space and a command; nothing was run.\n";
-
 /// How the program ends.
 #[derive(Drop)]
 pub enum End {
@@ -62,9 +58,8 @@ pub enum End {
     TooMuch,
     /// What is due can't be written.
     Write,
-    /// A line of the input of a run or of a pool is at fault, is nothing that these take, or names a worker or a session
-    /// that there isn't: the text that names it.
-    Line(String),
+    /// A line of the input of a run or of a pool doesn't fit: the first such line, and the text that names it.
+    Line(FirstUnfit, String),
     /// The run came to no end.
     Run(RunFault),
 }
@@ -76,7 +71,7 @@ impl End {
     {
         match self {
             End::Done => 0,
-            End::LinesAtFault | End::Profile(_) | End::Line(_) => 1,
+            End::LinesAtFault | End::Profile(_) | End::Line(_, _) => 1,
             End::Usage => 2,
             End::NoMemory => 3,
             End::NoProfile | End::Read | End::TooMuch | End::Write | End::Run(_) => 4,
@@ -94,8 +89,18 @@ impl End {
             End::NoMemory => "want of memory\n",
             End::NoProfile | End::Read | End::TooMuch => "read fault\n",
             End::Write => "write fault\n",
-            End::Line(text) => text.as_str(),
+            End::Line(_, text) => text.as_str(),
             End::Run(fault) => run_text(*fault),
+        }
+    }
+
+    /// What is wrong with the line that doesn't fit: a line, or nothing of another end.
+    pub fn reason(&self) -> &str
+        ensures { result.now ≡ end_reason self.now }
+    {
+        match self {
+            End::Line(first, _) => first.told.as_str(),
+            _ => "",
         }
     }
 
@@ -109,7 +114,7 @@ impl End {
                 "Standard input fails; the whole lines of a script before that are answered.\n",
             End::TooMuch => TOO_MUCH_NOTE,
             End::Write => "Standard output takes no more.\n",
-            End::Line(_) => LINE_NOTE,
+            End::Line(_, _) => "Nothing was run.\n",
             End::Run(fault) => run_note(*fault),
         }
     }
@@ -219,8 +224,8 @@ pub fn plan_end(alloc: Global, fault: PlanFault) -> End
         PlanFault::Read => End::Read,
         PlanFault::TooMuch => End::TooMuch,
         PlanFault::NoMemory => End::NoMemory,
-        PlanFault::Line(number) => match line_text(alloc, number) {
-            Ok(text) => End::Line(text),
+        PlanFault::Line(first) => match line_text(alloc, first.number) {
+            Ok(text) => End::Line(first, text),
             Err(_) => End::NoMemory,
         },
     }

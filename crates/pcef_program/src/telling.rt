@@ -1,7 +1,7 @@
 //! What is said of an end on the writer for faults.
 
 ghost use Rattle.std.specs.Prelude.{◌≡◌};
-ghost use Rattle.pcef_program.specs.Telling.{AppendsSome, IsTold};
+ghost use Rattle.pcef_program.specs.Telling.{AppendsSome, IsTold, TellsMore};
 
 use crate::end::End;
 use crate::mistake::mistake_line;
@@ -83,7 +83,7 @@ fn put_line<E: Write>(line: Result<String, AllocError>, faults: &mut E) -> bool
     }
 }
 
-/// Says what a person needs to know of an end. Of what takes memory nothing is said where none is left.
+/// Says what else a person needs to know of an end. Of what takes memory nothing is said where none is left.
 fn put_details<E: Write>(
     alloc: Global,
     end: &End,
@@ -102,6 +102,22 @@ fn put_details<E: Write>(
     put_line(profiles_line(alloc, end, words, profiles), faults);
 }
 
+/// Says what is wrong with the line that doesn't fit, if one doesn't, and then what else a person needs to know.
+fn put_reason<E: Write>(
+    alloc: Global,
+    end: &End,
+    words: &[Vec<u8>],
+    profiles: &[io::Result<String>],
+    faults: &mut E,
+)
+    ensures { TellsMore end.now (E.contents faults.old) (E.contents faults.new) }
+{
+    match put_all(faults, end.reason().as_bytes()) {
+        Ok(()) => put_details(alloc, end, words, profiles, faults),
+        Err(_) => {}
+    }
+}
+
 /// Says why the program ends early: the end's own line, and below it what a person needs to know. Says nothing of an
 /// end without a line. That it can't be said changes nothing.
 pub(crate) fn tell<E: Write>(
@@ -118,7 +134,7 @@ pub(crate) fn tell<E: Write>(
         return;
     }
     match put_all(faults, line.as_bytes()) {
-        Ok(()) => put_details(alloc, end, words, profiles, faults),
+        Ok(()) => put_reason(alloc, end, words, profiles, faults),
         Err(_) => {}
     }
 }

@@ -1,7 +1,7 @@
 -- Packets that are planned are for workers that there are.
-use Rattle.std.proofs.Common.{◌≡◌, ◌<◌, ℕ, true, List, [], ◌∷◌, All, subst, sym}
-use Rattle.std.specs.Prelude.{Option, Ok}
-use Rattle.std.proofs.lemmas.Bool.{ltb-true}
+use Rattle.std.proofs.Common.{◌≡◌, ◌<◌, ℕ, Bool, true, false, List, [], ◌∷◌, All, ap, refl, subst, sym}
+use Rattle.std.specs.Prelude.{Option, None, Ok, Some, is_some, nat_lt, if◌then◌else◌}
+use Rattle.std.proofs.lemmas.Bool.{false≢true, ltb-true}
 use Rattle.std.proofs.lemmas.List.Elements.{All-append, All-cons, All-nil}
 use Rattle.pcef_model.specs.declared.step.Step.TheVariants as step
 use Rattle.pcef_line.specs.declared.line.Line.{Line}
@@ -9,13 +9,19 @@ use Rattle.pcef_line.specs.declared.line.Line.TheVariants as line
 use Rattle.pcef_gateway.specs.declared.arrivals.Arrival.{Arrival}
 use Rattle.pcef_script.specs.ScriptAnswers.{answered}
 use Rattle.pcef_script.specs.Scripts.{all_lines}
-use Rattle.pcef_run.specs.Plans.{AskFor, Plans, fits, packet_in, packets_in}
+use Rattle.pcef_run.specs.Plans.{AskFor, Plans, packet_in, packets_in, unfit_for}
 use Rattle.pcef_run.specs.declared.plan.Plan.{Plan}
+use Rattle.pcef_run.specs.declared.unfit.Unfit.{Unfit}
+use Rattle.pcef_run.specs.declared.unfit.Unfit.TheVariants.{NoWorker}
 
-packet_known : (workers : ℕ) (l : Line) → fits workers l ≡ true → All (λ (a : Arrival). a.worker < workers) (packet_in l)
+no_reason : (test : Bool) (why : Unfit) → (if test then None else Some why) ≡ None → test ≡ true
+no_reason true why none = refl
+no_reason false why some = absurd (false≢true (sym (ap is_some some)))
+
+packet_known : (workers : ℕ) (l : Line) → unfit_for workers l ≡ None → All (λ (a : Arrival). a.worker < workers) (packet_in l)
 packet_known workers (line.Step (step.Take w h)) fit =
     let Known : Arrival → Type 0 = λ a. a.worker < workers in
-    All-cons Known (record { worker = w; header = h }) [] (ltb-true w workers fit) (All-nil Known)
+    All-cons Known (record { worker = w; header = h }) [] (ltb-true w workers (no_reason (nat_lt w workers) (NoWorker workers) fit)) (All-nil Known)
 packet_known workers other fit = All-nil (λ (a : Arrival). a.worker < workers)
 
 packets_known : (workers : ℕ) (lines : List (List ℕ)) (asked : List Line) → AskFor workers lines asked → All (λ (a : Arrival). a.worker < workers) (packets_in asked)

@@ -16,7 +16,7 @@ abbrev pub LengthIs : PlanFault → ℕ → Type 0
 LengthIs fault.Read n = n ≤ script_most
 LengthIs fault.TooMuch n = n ≡ script_most + 1
 LengthIs fault.NoMemory n = n ≤ script_most + 1
-LengthIs (fault.Line number) n = ⊥
+LengthIs (fault.Line first) n = ⊥
 
 abbrev pub IsUnread : PlanFault → Option (List ℕ) → Option (List ℕ) → Type 0
 IsUnread fault before left = (input : List ℕ) × Consumes before left input × LengthIs fault (length input)

@@ -1,4 +1,5 @@
 pub mod Inputs
 pub mod Plans
+pub mod Reasons
 pub mod Runs
 pub mod Summaries

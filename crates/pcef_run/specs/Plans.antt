@@ -1,5 +1,5 @@
 -- What an input asks of a run (own choice).
-use Rattle.std.specs.Prelude.{ℕ, ◌≡◌, ◌≤◌, ◌+◌, Bool, true, false, nat_lt, List, [], ◌∷◌, ◌++◌, length, Option, Some, None, Result, Ok, Err, OnOk, if◌then◌else◌}
+use Rattle.std.specs.Prelude.{ℕ, ◌≡◌, ◌≤◌, ◌+◌, Bool, true, false, nat_lt, List, [], ◌∷◌, ◌++◌, length, Option, Some, None, Result, Ok, Err, OnOk, string_bytes, if◌then◌else◌}
 use Rattle.pcef_model.specs.declared.command.Command.{Command}
 use Rattle.pcef_model.specs.declared.step.Step.TheVariants as step
 use Rattle.pcef_line.specs.declared.fault.LineFault.{LineFault}
@@ -12,7 +12,11 @@ use Rattle.pcef_script.specs.Scripts.{all_lines}
 use Rattle.pcef_run.specs.declared.fault.PlanFault.{PlanFault}
 use Rattle.pcef_run.specs.declared.fault.PlanFault.TheVariants as fault
 use Rattle.pcef_run.specs.declared.plan.Plan.{Plan}
+use Rattle.pcef_run.specs.declared.unfit.FirstUnfit.{FirstUnfit}
+use Rattle.pcef_run.specs.declared.unfit.Unfit.{Unfit}
+use Rattle.pcef_run.specs.declared.unfit.Unfit.TheVariants as unfit
 use Rattle.pcef_run.specs.Inputs.{IsRead, IsUnread}
+use Rattle.pcef_run.specs.Reasons.{TellsReason}
 
 -- ---- lines
 abbrev pub command_line : Command → Line
@@ -34,11 +38,11 @@ abbrev pub is_packet : Line → Bool
 is_packet (line.Step (step.Take w h)) = true
 is_packet other = false
 
--- a line that a run has a use for: a command, or a packet for one of so many workers
-abbrev pub fits : ℕ → Line → Bool
-fits workers (line.Step (step.Command c)) = true
-fits workers (line.Step (step.Take w h)) = nat_lt w workers
-fits workers other = false
+-- why a run has no use for a line, if it has none: it takes commands, and packets for one of so many workers
+abbrev pub unfit_for : ℕ → Line → Option Unfit
+unfit_for workers (line.Step (step.Command c)) = None
+unfit_for workers (line.Step (step.Take w h)) = if nat_lt w workers then None else Some (unfit.NoWorker workers)
+unfit_for workers other = Some unfit.NotOfRun
 
 -- ---- plans
 unfoldable pub commands_in : List Line → List Command
@@ -71,7 +75,7 @@ IsFirstLine input first (Some rest) = (all_lines input ≡ first ∷ all_lines r
 
 -- a line that is read and fits
 abbrev pub Asks : ℕ → List ℕ → Line → Type 0
-Asks workers bytes asked = LineDue bytes (Ok asked) × (fits workers asked ≡ true)
+Asks workers bytes asked = LineDue bytes (Ok asked) × (unfit_for workers asked ≡ None)
 
 abbrev pub AskFor : ℕ → List (List ℕ) → List Line → Type 0
 AskFor workers [] asked = asked ≡ []
@@ -82,30 +86,32 @@ AskFor workers (bytes ∷ rest) asked =
 abbrev pub ArePlanned : ℕ → List (List ℕ) → Plan → Type 0
 ArePlanned workers lines plan = (asked : List Line) × AskFor workers (answered lines) asked × IsPlanOf asked plan
 
--- a line that isn't blank and is at fault, or doesn't fit
-abbrev pub fits_if_read : ℕ → Result Line LineFault → Bool
-fits_if_read workers (Ok asked) = fits workers asked
-fits_if_read workers (Err fault) = false
+-- a line that isn't blank and doesn't fit for this reason: its own fault, or that a run has no use for it
+abbrev pub unfit_if_read : ℕ → Result Line LineFault → Option Unfit
+unfit_if_read workers (Ok asked) = unfit_for workers asked
+unfit_if_read workers (Err fault) = Some (unfit.AtFault fault)
 
-abbrev pub IsUnfit : ℕ → List ℕ → Type 0
-IsUnfit workers bytes = (is_blank bytes ≡ false) × (due : Result Line LineFault) × LineDue bytes due × (fits_if_read workers due ≡ false)
+abbrev pub IsUnfit : ℕ → List ℕ → Unfit → Type 0
+IsUnfit workers bytes why =
+    (is_blank bytes ≡ false) × (due : Result Line LineFault) × LineDue bytes due × (unfit_if_read workers due ≡ Some why)
 
--- the first such line among these, by its number
-abbrev pub FirstUnfit : ℕ → List (List ℕ) → ℕ → Type 0
-FirstUnfit workers lines number =
+-- the first such line among these, by its number, with its reason
+abbrev pub IsFirstUnfit : ℕ → List (List ℕ) → FirstUnfit → Type 0
+IsFirstUnfit workers lines first =
     (front : List (List ℕ)) × (bytes : List ℕ) × (rest : List (List ℕ)) × (before : List Line)
-    × (lines ≡ front ++ bytes ∷ rest) × (number ≡ length front + 1) × AskFor workers (answered front) before × IsUnfit workers bytes
+    × (lines ≡ front ++ bytes ∷ rest) × (first.number ≡ length front + 1) × AskFor workers (answered front) before
+    × IsUnfit workers bytes first.why × TellsReason first.why (string_bytes first.told)
 
 -- The plan of an input that was read to its end, or its first line that is unfit; and else why it wasn't read. Want of memory
 -- may come in either.
 abbrev pub Plans : ℕ → Result Plan PlanFault → Option (List ℕ) → Option (List ℕ) → Type 0
 Plans workers (Ok plan) before left = (input : List ℕ) × IsRead input before left × ArePlanned workers (all_lines input) plan
-Plans workers (Err (fault.Line number)) before left = (input : List ℕ) × IsRead input before left × FirstUnfit workers (all_lines input) number
+Plans workers (Err (fault.Line first)) before left = (input : List ℕ) × IsRead input before left × IsFirstUnfit workers (all_lines input) first
 Plans workers (Err other) before left = IsUnread other before left
 
 -- ---- for private clauses
 abbrev pub FailsIn : ℕ → List (List ℕ) → PlanFault → Type 0
-FailsIn workers lines (fault.Line number) = FirstUnfit workers lines number
+FailsIn workers lines (fault.Line first) = IsFirstUnfit workers lines first
 FailsIn workers lines fault.NoMemory = Unit {0}
 FailsIn workers lines other = ⊥
 

@@ -1,16 +1,15 @@
 //! Why there is no plan, or no run of it.
 
-ghost use Rattle.std.specs.Prelude.{◌≡◌, ◌≢◌};
-ghost use Rattle.pcef_line.specs.declared.fault.LineFault.TheVariants.{NoMemory};
-ghost use Rattle.pcef_run.specs.declared.fault.Unfit.TheVariants.{AtFault};
+ghost use Rattle.pcef_run.specs.Reasons.{IsFaultAt};
 
+use crate::unfit::{FirstUnfit, Untaken};
 use pcef_gateway::RunFault;
-use pcef_line::LineFault;
 use pcef_model::OpenFault;
+use std::alloc::Global;
 use thiserror::Error;
 
 /// Why an input is no plan.
-#[derive(Clone, Copy, Debug, PartialEq, Eq, Error)]
+#[derive(Debug, PartialEq, Eq, Error, Drop)]
 pub enum PlanFault {
     /// The input can't be read.
     #[error("the input can't be read")]
@@ -18,13 +17,27 @@ pub enum PlanFault {
     /// The input has more than 1,073,741,824 bytes.
     #[error("the input is too long")]
     TooMuch,
-    /// The line of this number, from 1, is at fault, is neither a command nor a packet, or names a worker that there
-    /// isn't. Blank lines count too.
-    #[error("line {0} is at fault")]
-    Line(u64),
+    /// A line doesn't fit: the first such line, and why.
+    #[error("line {} doesn't fit: {}", .0.number, .0.why.name())]
+    Line(FirstUnfit),
     /// There is no memory left.
     #[error("there is no memory left")]
     NoMemory,
+}
+
+impl PlanFault {
+    /// That of a line of this number that isn't taken. So many octets stand at its front before what is a line of a script.
+    /// Takes memory to tell the reason in words, and does without them where there is none.
+    pub fn at(alloc: Global, number: u64, line: &[u8], front: usize, untaken: Untaken) -> PlanFault
+        ensures { IsFaultAt number untaken result }
+    {
+        match untaken {
+            Untaken::Unfit(why) => PlanFault::Line(FirstUnfit::new(
+                alloc, number, line, front, why,
+            )),
+            Untaken::NoMemory => PlanFault::NoMemory,
+        }
+    }
 }
 
 /// Why a plan wasn't run to its end.
@@ -39,21 +52,4 @@ pub enum RunEnd {
     /// There is no memory left.
     #[error("there is no memory left")]
     NoMemory,
-}
-
-/// Why a line is no part of a plan.
-#[derive(Clone, Copy, Debug)]
-pub(crate) enum Unfit {
-    AtFault,
-    NoMemory,
-}
-
-/// That of a line that couldn't be read.
-pub(crate) fn unread(fault: LineFault) -> Unfit
-    ensures { result ≡ AtFault → fault ≢ NoMemory }
-{
-    match fault {
-        LineFault::NoMemory => Unfit::NoMemory,
-        _ => Unfit::AtFault,
-    }
 }

@@ -3,9 +3,11 @@
 //!
 //! Its contracts tell: the plan that an input asks for, what its run comes to, and the text that tells it.
 //!
-//! In the order of reading: `fault`, `taken`, `input`, `plan`, `reading`, `obeying`, `run`, `summary`.
+//! In the order of reading: `unfit`, `explaining`, `fault`, `taken`, `input`, `plan`, `reading`, `obeying`, `run`,
+//! `summary`.
 #![tactic(auto)]
 
+mod explaining;
 mod fault;
 mod input;
 mod obeying;
@@ -14,6 +16,7 @@ mod reading;
 mod run;
 mod summary;
 mod taken;
+mod unfit;
 
 pub use fault::{PlanFault, RunEnd};
 pub use input::read_all;
@@ -22,3 +25,4 @@ pub use reading::{first_line, is_blank, line_of, read_plan};
 pub use run::{Ran, run_plan};
 pub use summary::summary_text;
 pub use taken::{Counts, Storing, Taken};
+pub use unfit::{FirstUnfit, Unfit, Untaken, unread};

@@ -1,10 +1,10 @@
 //! What an input asks of a run.
 
-ghost use Rattle.std.specs.Prelude.{◌≡◌, [], IfErr, OnOk, false, true};
-ghost use Rattle.pcef_run.specs.Plans.{AddsLine, IsPlanOf, command_line, fits, packet_line};
-ghost use Rattle.pcef_run.specs.declared.fault.Unfit.TheVariants.{AtFault};
+ghost use Rattle.std.specs.Prelude.{◌≡◌, [], IfErr, None, OnOk, Some};
+ghost use Rattle.pcef_run.specs.Plans.{AddsLine, IsPlanOf, command_line, packet_line, unfit_for};
+ghost use Rattle.pcef_run.specs.Reasons.{IsFor};
 
-use crate::fault::Unfit;
+use crate::unfit::{Unfit, Untaken};
 use pcef_gateway::Arrival;
 use pcef_line::Line;
 use pcef_model::{Command, Step};
@@ -53,10 +53,10 @@ impl Plan {
     }
 
     /// Adds what a line asks for, if it is a command or a packet for one of so many workers.
-    pub(crate) fn add(&mut self, line: Line, workers: u8) -> Result<(), Unfit>
-        ensures fits { OnOk result (fits workers line ≡ true) }
+    pub(crate) fn add(&mut self, line: Line, workers: u8) -> Result<(), Untaken>
+        ensures fits { OnOk result (unfit_for workers line ≡ None) }
         ensures plan { AddsLine line self.old result self.new }
-        ensures unfit { IfErr result (λ e. e ≡ AtFault → fits workers line ≡ false) }
+        ensures unfit { IfErr result (IsFor (λ why. unfit_for workers line ≡ Some why)) }
     {
         let added = match line {
             Line::Step(Step::Command(command)) => self.add_command(command),
@@ -64,11 +64,14 @@ impl Plan {
                 let header = PackedHeader::new(&header);
                 self.add_packet(Arrival { header, worker })
             }
-            _ => return Err(Unfit::AtFault),
+            Line::Step(Step::Take { .. }) => {
+                return Err(Untaken::Unfit(Unfit::NoWorker(workers)));
+            }
+            _ => return Err(Untaken::Unfit(Unfit::NotOfRun)),
         };
         match added {
             Ok(()) => Ok(()),
-            Err(_) => Err(Unfit::NoMemory),
+            Err(_) => Err(Untaken::NoMemory),
         }
     }
 }

@@ -8,12 +8,13 @@ ghost use Rattle.pcef_line.specs.declared.fault.LineFault.{LineFault};
 ghost use Rattle.pcef_script.specs.ScriptAnswers.{LineDue};
 ghost use Rattle.pcef_script.specs.ScriptLines.{is_blank, is_space};
 ghost use Rattle.pcef_script.specs.Scripts.{all_lines};
-ghost use Rattle.pcef_run.specs.Plans.{AddsBytes, ArePlanned, Asks, FailsIn, IsFirstLine, IsUnfit, Plans};
-ghost use Rattle.pcef_run.specs.declared.fault.Unfit.TheVariants.{AtFault};
+ghost use Rattle.pcef_run.specs.Plans.{AddsBytes, ArePlanned, FailsIn, IsFirstLine, IsUnfit, Plans};
+ghost use Rattle.pcef_run.specs.Reasons.{IsFor};
 
-use crate::fault::{PlanFault, Unfit, unread};
+use crate::fault::PlanFault;
 use crate::input::read_all;
 use crate::plan::Plan;
+use crate::unfit::{Untaken, unread};
 use memchr::memchr;
 use pcef_line::{Line, LineFault, LineReader};
 use std::alloc::Global;
@@ -70,9 +71,9 @@ fn plan_line(
     plan: &mut Plan,
     bytes: &[u8],
     workers: u8,
-) -> Result<(), Unfit>
+) -> Result<(), Untaken>
     ensures planned { AddsBytes workers bytes.now plan.old result plan.new }
-    ensures unfit { IfErr result (λ e. e ≡ AtFault → IsUnfit workers bytes.now) }
+    ensures unfit { IfErr result (IsFor (IsUnfit workers bytes.now)) }
 {
     if is_blank(bytes) {
         return Ok(());
@@ -97,8 +98,7 @@ fn plan_of(alloc: Global, input: &[u8], workers: u8) -> Result<Plan, PlanFault>
         number += 1;
         match plan_line(alloc, &mut reader, &mut plan, line, workers) {
             Ok(()) => {}
-            Err(Unfit::AtFault) => return Err(PlanFault::Line(number)),
-            Err(Unfit::NoMemory) => return Err(PlanFault::NoMemory),
+            Err(untaken) => return Err(PlanFault::at(alloc, number, line, 0, untaken)),
         }
         match later {
             Some(later) => rest = later,
@@ -112,7 +112,8 @@ fn plan_of(alloc: Global, input: &[u8], workers: u8) -> Result<Plan, PlanFault>
 /// 1,073,741,824 bytes, until all lines are read. Takes memory for it and for the plan.
 ///
 /// Answers the first [`PlanFault`] that it meets: that of the reader, an input that is too long, want of memory, or,
-/// once all is read, the first line that is at fault, is neither a command nor a packet, or names another worker.
+/// once all is read, the first line that is at fault, is neither a command nor a packet, or names another worker, with
+/// the reason. Takes memory to tell that in words.
 pub fn read_plan<R: Read>(alloc: Global, reader: &mut R, workers: u8) -> Result<Plan, PlanFault>
     ensures { Plans workers result (R.remaining reader.old) (R.remaining reader.new) }
 {

@@ -1,7 +1,8 @@
 //! Plans of inputs, whose lines were counted by hand.
 
+use pcef_line::{Field, LineFault};
 use pcef_model::Command;
-use pcef_run::{Plan, PlanFault, read_plan};
+use pcef_run::{FirstUnfit, Plan, PlanFault, Unfit, read_plan};
 use std::alloc::Global;
 use std::io::{self, ErrorKind, Read};
 use std::test::Fail;
@@ -60,20 +61,58 @@ fn without_packets_all_commands_come_first(rt: HostRuntime) -> Result<(), Fail> 
     Ok(())
 }
 
-/// Lines for one worker, and the number of the first that is unfit.
-static UNFIT: [(&[&str], u64); 5] = [
-    (&[MONITOR, "\n", FIRST, SECOND, "{}"], 4),
-    (&["{\"do\":\"attach\"}\n", FIRST], 1),
-    (&[FIRST, "{\"do\":\"show\"}"], 2),
-    (&["[1]"], 1),
-    (&["\u{7f}\n"], 1),
+/// Lines for one worker, the number of the first that is unfit, and why.
+static UNFIT: [(&[&str], u64, Unfit); 7] = [
+    (&[MONITOR, "\n", FIRST, SECOND, "{}"], 4, Unfit::NoWorker(1)),
+    (&["{\"do\":\"attach\"}\n", FIRST], 1, Unfit::NotOfRun),
+    (&[FIRST, "{\"do\":\"show\"}"], 2, Unfit::NotOfRun),
+    (&["[1]"], 1, Unfit::AtFault(LineFault::NotObject)),
+    (&["\u{7f}\n"], 1, Unfit::AtFault(LineFault::NotJson)),
+    (
+        &[MONITOR, STOP, " \t\n", "{\"do\":\"stop\"}\n", SECOND],
+        4,
+        Unfit::AtFault(LineFault::MissingField(Field::Key)),
+    ),
+    (
+        &["{\"do\":\"stop\",\"key\":\"a b\"}\n", SECOND],
+        1,
+        Unfit::AtFault(LineFault::BadName(Field::Key)),
+    ),
 ];
+
+/// The first line that is unfit, where there is one.
+fn first_of(planned: Result<Plan, PlanFault>) -> Option<FirstUnfit> {
+    match planned {
+        Err(PlanFault::Line(first)) => Some(first),
+        _ => None,
+    }
+}
 
 #[test]
 fn the_first_line_that_is_unfit_is_named(rt: HostRuntime) -> Result<(), Fail> {
-    for &(lines, number) in &UNFIT {
-        let fault = planned(rt.alloc(), lines, 1)?.err();
-        assert_eq!(rt; fault, Some(PlanFault::Line(number)));
+    for &(lines, number, why) in &UNFIT {
+        let first = first_of(planned(rt.alloc(), lines, 1)?);
+        let named = first.map(|first| (first.number, first.why));
+        assert_eq!(rt; named, Some((number, why)));
+    }
+    Ok(())
+}
+
+/// Why a line doesn't fit, and the name of that.
+static NAMES: [(Unfit, &str); 7] = [
+    (Unfit::AtFault(LineFault::LineTooLong), "LineTooLong"),
+    (Unfit::AtFault(LineFault::BadName(Field::Key)), "BadName"),
+    (Unfit::NotOfRun, "NotOfRun"),
+    (Unfit::NoWorker(16), "NoWorker"),
+    (Unfit::NoNumber, "NoNumber"),
+    (Unfit::NoSession(64), "NoSession"),
+    (Unfit::NotOfPool, "NotOfPool"),
+];
+
+#[test]
+fn each_reason_has_its_name(rt: HostRuntime) -> Result<(), Fail> {
+    for &(why, name) in &NAMES {
+        assert_eq!(rt; why.name(), name);
     }
     Ok(())
 }

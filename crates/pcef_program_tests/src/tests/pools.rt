@@ -241,38 +241,76 @@ fn a_wrong_rate_of_eighty_bytes_is_shown(rt: HostRuntime) -> Result<(), Fail> {
     Ok(())
 }
 
-/// Lines that are no orders for two sessions.
-static WRONG: [&str; 16] = [
-    "x",
-    "0",
-    "0 ",
-    "0 x",
-    "2 {\"do\":\"close\"}",
-    "64 {\"do\":\"close\"}",
-    "00 {\"do\":\"close\"}",
-    "01 {\"do\":\"close\"}",
-    "+1 {\"do\":\"close\"}",
-    "100 {\"do\":\"close\"}",
-    " 0 {\"do\":\"close\"}",
-    "0\t{\"do\":\"close\"}",
-    "{\"do\":\"close\"}",
-    "0 {\"do\":\"attach\"}",
-    "0 {\"do\":\"show\"}",
-    "0 {\"do\":\"remove\"}",
+const NO_NUMBER: &str =
+    "NoNumber: the number of a session, as 0 or 12, and one space are expected before a command";
+
+/// Lines that are no orders for two sessions, and what is told of them.
+static WRONG: [(&str, &str); 17] = [
+    ("x", NO_NUMBER),
+    ("0", NO_NUMBER),
+    (
+        "0 ",
+        "NotJson: column 3: the line ends where a JSON object is expected",
+    ),
+    (
+        "0 x",
+        "NotJson: column 3: \"x\" stands where a JSON object is expected",
+    ),
+    (
+        "2 {\"do\":\"close\"}",
+        "NoSession: the session is 2: 0 to 1 is expected",
+    ),
+    (
+        "64 {\"do\":\"close\"}",
+        "NoSession: the session is 64: 0 to 1 is expected",
+    ),
+    ("00 {\"do\":\"close\"}", NO_NUMBER),
+    ("01 {\"do\":\"close\"}", NO_NUMBER),
+    ("+1 {\"do\":\"close\"}", NO_NUMBER),
+    ("100 {\"do\":\"close\"}", NO_NUMBER),
+    (" 0 {\"do\":\"close\"}", NO_NUMBER),
+    ("0\t{\"do\":\"close\"}", NO_NUMBER),
+    ("{\"do\":\"close\"}", NO_NUMBER),
+    (
+        "0 {\"do\":\"attach\"}",
+        "NotOfPool: column 9: do is \"attach\": a command is expected",
+    ),
+    (
+        "0 {\"do\":\"show\"}",
+        "NotOfPool: column 9: do is \"show\": a command is expected",
+    ),
+    (
+        "0 {\"do\":\"remove\"}",
+        "MissingField: name is missing: a text of 1 to 64 characters without blanks is expected",
+    ),
+    (
+        "1 {\"do\":\"stop\",\"key\":5}",
+        "BadField: column 22: key is 5: a text of 1 to 64 characters without blanks is expected",
+    ),
 ];
 
 #[test]
 fn the_first_line_that_is_no_order_is_told(rt: HostRuntime) -> Result<(), Fail> {
     let alloc = rt.alloc();
     let first = voice(alloc, 0, 1, 1)?;
-    for &wrong in &WRONG {
+    for &(wrong, told) in &WRONG {
         let input = format!(in alloc; "{first}\n\n{wrong}\ny")?;
-        let due = (1, "", "line 3 fault\n");
-        assert!(rt;
-            ends_so(&rt, alloc, ("9", "9"), 2, input.as_str(), due)?,
-            "{wrong}"
+        let said = format!(in alloc; "line 3 fault\n{told}\nNothing was run.\n")?;
+        let (status, wrote, got) = pool_of(&rt, alloc, ("9", "9"), 2, input.as_str())?;
+        assert_eq!(rt;
+            (status, wrote.as_str(), got.as_str()),
+            (1, "", said.as_str())
         );
     }
+    Ok(())
+}
+
+#[test]
+fn a_pool_with_one_session_has_number_0(rt: HostRuntime) -> Result<(), Fail> {
+    let line = "1 {\"do\":\"close\"}";
+    let said = "line 1 fault\nNoSession: the session is 1: 0 is expected\nNothing was run.\n";
+    let (status, _, got) = pool_of(&rt, rt.alloc(), ("9", "9"), 1, line)?;
+    assert_eq!(rt; (status, got.as_str()), (1, said));
     Ok(())
 }
 

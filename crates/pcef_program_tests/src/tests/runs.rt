@@ -141,28 +141,81 @@ fn sixteen_workers_without_a_line(rt: HostRuntime) -> Result<(), Fail> {
     Ok(())
 }
 
-/// Numbers of workers, lines, and what is said of the first that doesn't fit.
-static UNFIT: [(&str, [&str; 4], &str); 3] = [
-    ("1", [INSTALL, MONITOR, FIRST, SECOND], "line 4 fault\n"),
+/// Numbers of workers, a line behind others that fit, and what is said of it.
+static UNFIT: [(&str, &str, &str); 13] = [
     (
-        "2",
-        [INSTALL, "", "{\"do\":\"attach\"}", "x"],
-        "line 3 fault\n",
+        "1",
+        SECOND,
+        "line 4 fault\nNoWorker: column 23: worker is 1: 0 is expected\nNothing was run.\n",
     ),
     (
         "2",
-        [INSTALL, MONITOR, "x", "{\"do\":\"show\"}"],
-        "line 3 fault\n",
+        "{\"do\":\"take\",\"worker\":2,\"dir\":\"up\",\"packet\":\"4500001c0000000040110000c63364070a0000020035138800080000\"}",
+        "line 4 fault\nNoWorker: column 23: worker is 2: 0 to 1 is expected\nNothing was run.\n",
+    ),
+    (
+        "2",
+        "{\"do\":\"attach\"}",
+        "line 4 fault\nNotOfRun: column 7: do is \"attach\": a command or take is expected\nNothing was run.\n",
+    ),
+    (
+        "2",
+        "  {\"do\":\"show\"}",
+        "line 4 fault\nNotOfRun: column 9: do is \"show\": a command or take is expected\nNothing was run.\n",
+    ),
+    (
+        "2",
+        "x",
+        "line 4 fault\nNotJson: column 1: \"x\" stands where a JSON object is expected\nNothing was run.\n",
+    ),
+    (
+        "2",
+        "[1]",
+        "line 4 fault\nNotObject: the line is a list: an object is expected\nNothing was run.\n",
+    ),
+    (
+        "2",
+        "{\"do\":\"instal\"}",
+        "line 4 fault\nUnknownDo: column 7: do is \"instal\": did you mean \"install\"?\nNothing was run.\n",
+    ),
+    (
+        "2",
+        "{\"do\":\"stop\",\"keys\":\"vid\"}",
+        "line 4 fault\nUnknownField: column 21: keys is unknown: the fields are do, key\nNothing was run.\n",
+    ),
+    (
+        "2",
+        "{\"do\":\"stop\"}",
+        "line 4 fault\nMissingField: key is missing: a text of 1 to 64 characters without blanks is expected\nNothing was run.\n",
+    ),
+    (
+        "2",
+        "{\"do\":\"stop\",\"key\":5}",
+        "line 4 fault\nBadField: column 20: key is 5: a text of 1 to 64 characters without blanks is expected\nNothing was run.\n",
+    ),
+    (
+        "2",
+        "{\"do\":\"stop\",\"key\":\"a b\"}",
+        "line 4 fault\nBadName: column 20: key is \"a b\": 1 to 64 characters of ASCII without blanks are expected\nNothing was run.\n",
+    ),
+    (
+        "2",
+        "{\"do\":\"take\",\"worker\":0,\"dir\":\"up\",\"packet\":\"4x\"}",
+        "line 4 fault\nBadHex: column 45: packet: character 2 is no hexadecimal digit\nNothing was run.\n",
+    ),
+    (
+        "2",
+        "{\"do\":\"take\",\"worker\":0,\"dir\":\"up\",\"packet\":\"45\"}",
+        "line 4 fault\nBadPacket: column 45: packet has 1 octets: the packet is shorter than a header\nNothing was run.\n",
     ),
 ];
 
 #[test]
 fn the_first_unfit_line_is_told(rt: HostRuntime) -> Result<(), Fail> {
-    for &(workers, lines, said) in &UNFIT {
-        assert!(rt;
-            run_ends(&rt, rt.alloc(), workers, &lines, (1, "", said))?,
-            "{said}"
-        );
+    for &(workers, line, said) in &UNFIT {
+        let lines = [INSTALL, "", FIRST, line, "x"];
+        let (status, wrote, got) = run_lines(&rt, rt.alloc(), workers, &lines)?;
+        assert_eq!(rt; (status, wrote.as_str(), got.as_str()), (1, "", said));
     }
     Ok(())
 }

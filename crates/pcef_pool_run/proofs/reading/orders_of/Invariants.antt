@@ -4,8 +4,8 @@ use Rattle.pcef_pool_run.specs.Orders.{AreOrdered}
 use Rattle.pcef_pool_run.proofs.reading.orders_of.Given as goal
 
 -- the lines so far are orders
-abbrev pub invariant-loop-reader : goal.invariant-loop-reader
-invariant-loop-reader l = record {
+abbrev pub invariant-loop-untaken : goal.invariant-loop-untaken
+invariant-loop-untaken l = record {
   lines : List (List ℕ);
   whole : all_lines l.fn.input ≡ lines ++ all_lines l.rest;
   ordered : AreOrdered l.fn.sessions lines l.orders.items;
@@ -13,5 +13,5 @@ invariant-loop-reader l = record {
   room : l.number + length l.rest ≤ length l.fn.input;
 }
 
-abbrev pub decreases-loop-reader : goal.decreases-loop-reader
-decreases-loop-reader l = length l.rest
+abbrev pub decreases-loop-untaken : goal.decreases-loop-untaken
+decreases-loop-untaken l = length l.rest

@@ -13,9 +13,9 @@ returns-in-Ok g c =
     let old = contents c.args.faults.now in
     let between = contents c.put_all.new.writer in
     let is = c.as_bytes.ensures.value ∙ c.text-line.ensures in
-    told_more c.args.end.now old between (contents c.put_details.new.faults)
+    told_more c.args.end.now old between (contents c.put_reason.new.faults)
     (not_empty c.text-line.result.now c.is_empty.result (sym c.text-line.ensures) c.is_empty.ensures c.if-is_empty.false)
-    (subst (Appends old between) is c.in-Ok.ensures.all) c.put_details.ensures
+    (subst (Appends old between) is c.in-Ok.ensures.all) c.put_reason.ensures
 
 pub returns-in-Err : goal.returns-in-Err
 returns-in-Err g c =

@@ -3,34 +3,36 @@ use Rattle.std.specs.Prelude.{Some, None, option_map}
 use Rattle.pcef_script.specs.Scripts.{all_lines}
 use Rattle.pcef_run.specs.Plans.{ArePlanned, IsFirstLine}
 use Rattle.pcef_run.proofs.FirstLines.{first_then}
+use Rattle.pcef_run.proofs.PlanInputs.{fails_at}
 use Rattle.pcef_run.proofs.reading.plan_of.Goals as goal
 
-pub loop-reader-init : goal.loop-reader-init
-loop-reader-init c = record { lines = []; whole = refl; planned = ([], refl, c.new-plan.ensures); number = refl; room = omega arith }
+pub loop-untaken-init : goal.loop-untaken-init
+loop-untaken-init c = record { lines = []; whole = refl; planned = ([], refl, c.new-plan.ensures); number = refl; room = omega arith }
 
 pub overflow_add-number : goal.overflow_add-number
-overflow_add-number c = let room = c.loop-reader.invariant.room in search rules
+overflow_add-number c = let room = c.loop-untaken.invariant.room in search rules
 
-pub returns-in-Err-AtFault-clause-fault : goal.returns-in-Err-AtFault-clause-fault
-returns-in-Err-AtFault-clause-fault c =
-    let i = c.loop-reader.invariant in
+pub returns-in-Err-clause-fault : goal.returns-in-Err-clause-fault
+returns-in-Err-clause-fault c =
+    let i = c.loop-untaken.invariant in
     let line = c.first_line.result.0.now in
-    let then = first_then c.loop-reader.rest.now line _ c.first_line.ensures in
-    (i.lines, line, then.0, i.planned.0, i.whole ∙ ap (λ t. i.lines ++ t) then.1, ap (λ n. n + 1) i.number, i.planned.1, c.in-Err-AtFault.ensures.unfit c.in-Err-AtFault.field-0-is)
+    let then = first_then c.loop-untaken.rest.now line _ c.first_line.ensures in
+    fails_at c.args.workers (all_lines c.args.input.now) i.lines line then.0 i.planned.0 _ c.in-Err.untaken c.at.result (i.whole ∙ ap (λ t. i.lines ++ t) then.1)
+    (ap (λ n. n + 1) i.number) i.planned.1 c.in-Err.ensures.unfit c.at.ensures
 
-pub loop-reader-smaller : goal.loop-reader-smaller
-loop-reader-smaller c =
-    let first : IsFirstLine c.loop-reader.rest.now c.first_line.result.0.now (Some c.in-Some.later.now) =
-    subst (λ o. IsFirstLine c.loop-reader.rest.now c.first_line.result.0.now (option_map (λ r. r.now) o)) c.in-Some.is c.first_line.ensures in
+pub loop-untaken-smaller : goal.loop-untaken-smaller
+loop-untaken-smaller c =
+    let first : IsFirstLine c.loop-untaken.rest.now c.first_line.result.0.now (Some c.in-Some.later.now) =
+    subst (λ o. IsFirstLine c.loop-untaken.rest.now c.first_line.result.0.now (option_map (λ r. r.now) o)) c.in-Some.is c.first_line.ensures in
     omega (arith, first.1)
 
-pub loop-reader-preserved : goal.loop-reader-preserved
-loop-reader-preserved c =
-    let i = c.loop-reader.invariant in
+pub loop-untaken-preserved : goal.loop-untaken-preserved
+loop-untaken-preserved c =
+    let i = c.loop-untaken.invariant in
     let line = c.first_line.result.0.now in
     let later = c.in-Some.later.now in
-    let first : IsFirstLine c.loop-reader.rest.now line (Some later) =
-    subst (λ o. IsFirstLine c.loop-reader.rest.now line (option_map (λ r. r.now) o)) c.in-Some.is c.first_line.ensures in
+    let first : IsFirstLine c.loop-untaken.rest.now line (Some later) =
+    subst (λ o. IsFirstLine c.loop-untaken.rest.now line (option_map (λ r. r.now) o)) c.in-Some.is c.first_line.ensures in
     let longer : length (i.lines ++ line ∷ []) ≡ length i.lines + 1 = length-append i.lines (line ∷ []) in
     record {
       lines = i.lines ++ line ∷ [];
@@ -42,9 +44,9 @@ loop-reader-preserved c =
 
 pub returns-in-None-clause-plan : goal.returns-in-None-clause-plan
 returns-in-None-clause-plan c =
-    let i = c.loop-reader.invariant in
+    let i = c.loop-untaken.invariant in
     let line = c.first_line.result.0.now in
-    let first : IsFirstLine c.loop-reader.rest.now line None =
-    subst (λ o. IsFirstLine c.loop-reader.rest.now line (option_map (λ r. r.now) o)) c.in-None.is c.first_line.ensures in
+    let first : IsFirstLine c.loop-untaken.rest.now line None =
+    subst (λ o. IsFirstLine c.loop-untaken.rest.now line (option_map (λ r. r.now) o)) c.in-None.is c.first_line.ensures in
     let whole : all_lines c.args.input.now ≡ i.lines ++ line ∷ [] = i.whole ∙ ap (λ t. i.lines ++ t) first in
     subst (λ ls. ArePlanned c.args.workers ls c.plan_line.new.plan) (sym whole) (c.in-Ok.ensures.planned i.lines i.planned)

@@ -4,8 +4,8 @@ use Rattle.pcef_run.specs.Plans.{ArePlanned}
 use Rattle.pcef_run.proofs.reading.plan_of.Given as goal
 
 -- the lines so far are planned
-abbrev pub invariant-loop-reader : goal.invariant-loop-reader
-invariant-loop-reader l = record {
+abbrev pub invariant-loop-untaken : goal.invariant-loop-untaken
+invariant-loop-untaken l = record {
   lines : List (List ℕ);
   whole : all_lines l.fn.input ≡ lines ++ all_lines l.rest;
   planned : ArePlanned l.fn.workers lines l.plan;
@@ -13,5 +13,5 @@ invariant-loop-reader l = record {
   room : l.number + length l.rest ≤ length l.fn.input;
 }
 
-abbrev pub decreases-loop-reader : goal.decreases-loop-reader
-decreases-loop-reader l = length l.rest
+abbrev pub decreases-loop-untaken : goal.decreases-loop-untaken
+decreases-loop-untaken l = length l.rest
