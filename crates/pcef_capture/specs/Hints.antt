@@ -1,5 +1,5 @@
 -- What the octets from a fault of a capture on say of it (own choice).
-use Rattle.std.specs.Prelude.{ℕ, ◌+◌, ◌*◌, ◌==◌, List, slice_index_or, if◌then◌else◌}
+use Rattle.std.specs.Prelude.{ℕ, ◌+◌, ◌*◌, ◌==◌, List, ◌++◌, codes, decimal, slice_index_or, if◌then◌else◌}
 
 -- the number in two octets from a place on, the lower one first or last; beyond the end there are zeros
 abbrev pub octet_at : List ℕ → ℕ → ℕ
@@ -23,3 +23,30 @@ link_by first octets =
 
 abbrev pub link_number : List ℕ → ℕ
 link_number octets = link_by (octet_at octets 0) octets
+
+abbrev pub link_text : List ℕ → List ℕ
+link_text octets =
+    codes "its number is " ++ (decimal (link_number octets) ++ codes ": 0, 1, 12, 14, 101, 108, 113, 228, 229 and 276 are read")
+
+-- two numbers, where an octet tells that the lower octets stand first by 0xD4 or 0x4D
+abbrev pub pair_by : ℕ → List ℕ → ℕ → ℕ × ℕ
+pair_by order octets place =
+    if order == 212 then (little_at octets place, little_at octets (place + 2))
+    else if order == 77 then (little_at octets place, little_at octets (place + 2))
+    else (big_at octets place, big_at octets (place + 2))
+
+abbrev pub pair_at : List ℕ → ℕ → ℕ → ℕ × ℕ
+pair_at octets order place = pair_by (octet_at octets order) octets place
+
+-- The version stands behind the order of a section header, which begins with 0x0A, and else behind the first four octets of a
+-- classic file's header, which tell it.
+abbrev pub version_of : List ℕ → ℕ × ℕ
+version_of octets = if octet_at octets 0 == 10 then pair_at octets 8 12 else pair_at octets 0 4
+
+abbrev pub version_with : ℕ × ℕ → List ℕ → List ℕ
+version_with version wanted = codes "its version is " ++ (decimal version.0 ++ (codes "." ++ (decimal version.1 ++ wanted)))
+
+abbrev pub version_text : List ℕ → List ℕ
+version_text octets =
+    if octet_at octets 0 == 10 then version_with (version_of octets) (codes ": of pcapng 1.0 and 1.2 are read")
+    else version_with (version_of octets) (codes ": of libpcap's format 2.4 is read")

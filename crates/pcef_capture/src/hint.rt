@@ -1,8 +1,8 @@
-//! What a fault of a capture needs beside its name: what the octets are, or which number is unknown.
+//! What a fault of a capture needs beside its name: what the octets are, or which number is unknown, and which are read.
 
-ghost use Rattle.std.specs.Prelude.{◌≡◌, ◌≢◌, ◌<◌, ◌++◌, IfOk, IsSome, IsSomeAnd, codes, decimal, string_bytes};
-ghost use Rattle.pcef_capture_file.specs.declared.fault.CaptureFault.TheVariants.{LinkType, NotACapture, TooManyInterfaces};
-ghost use Rattle.pcef_capture.specs.Hints.{big_at, link_number, little_at, octet_at};
+ghost use Rattle.std.specs.Prelude.{◌≡◌, ◌≢◌, ◌<◌, IfOk, IsSome, IsSomeAnd, string_bytes};
+ghost use Rattle.pcef_capture_file.specs.declared.fault.CaptureFault.TheVariants.{LinkType, NotACapture, TooManyInterfaces, Version};
+ghost use Rattle.pcef_capture.specs.Hints.{big_at, link_number, link_text, little_at, octet_at, pair_at, version_of, version_text};
 
 use pcef_capture_file::CaptureFault;
 use std::alloc::{AllocError, Global};
@@ -108,16 +108,63 @@ fn link_number(octets: &[u8]) -> u16
     }
 }
 
+/// The two numbers of two octets each from a place on. Another octet tells their order: it is 0xD4 or 0x4D where the lower
+/// octets stand first.
+fn pair_at(octets: &[u8], order: usize, place: usize) -> (u16, u16)
+    requires { place < 16 }
+    ensures { result ≡ pair_at octets.now order place }
+{
+    match octet_at(octets, order) {
+        0xd4 | 0x4d => (little_at(octets, place), little_at(octets, place + 2)),
+        _ => (big_at(octets, place), big_at(octets, place + 2)),
+    }
+}
+
+/// The version of a section header, which begins with 0x0A, or of a classic file's header.
+fn version_of(octets: &[u8]) -> (u16, u16)
+    ensures { result ≡ version_of octets.now }
+{
+    if octet_at(octets, 0) == 0x0a {
+        pair_at(octets, 8, 12)
+    } else {
+        pair_at(octets, 0, 4)
+    }
+}
+
+/// What is told of a version that isn't read.
+fn version_line(alloc: Global, octets: &[u8]) -> Result<String, AllocError>
+    ensures { IfOk result (λ text. string_bytes text ≡ version_text octets.now) }
+{
+    let (major, minor) = version_of(octets);
+    if octet_at(octets, 0) == 0x0a {
+        format!(in alloc; "its version is {major}.{minor}: of pcapng 1.0 and 1.2 are read")
+    } else {
+        format!(in alloc; "its version is {major}.{minor}: of libpcap's format 2.4 is read")
+    }
+}
+
+/// What is told of a link type that isn't known.
+fn link_line(alloc: Global, octets: &[u8]) -> Result<String, AllocError>
+    ensures { IfOk result (λ text. string_bytes text ≡ link_text octets.now) }
+{
+    let number = link_number(octets);
+    format!(in alloc;
+        "its number is {number}: 0, 1, 12, 14, 101, 108, 113, 228, 229 and 276 are read"
+    )
+}
+
 /// A line on a fault that the octets from it on explain, or that says what to do, if there is one: of an unknown link type
-/// its number. Takes memory for it.
+/// or version its number, and which are read. Takes memory for it.
 pub fn hint_of(
     alloc: Global,
     fault: CaptureFault,
     octets: &[u8],
 ) -> Result<Option<String>, AllocError>
     ensures link { fault ≡ LinkType → IfOk result (λ hint. IsSomeAnd hint
-        (λ text. string_bytes text ≡ codes "its number is " ++ decimal (link_number octets.now))) }
-    ensures named { fault ≢ LinkType → fault ≢ NotACapture → fault ≢ TooManyInterfaces
+        (λ text. string_bytes text ≡ link_text octets.now)) }
+    ensures version { fault ≡ Version → IfOk result (λ hint. IsSomeAnd hint
+        (λ text. string_bytes text ≡ version_text octets.now)) }
+    ensures named { fault ≢ LinkType → fault ≢ Version → fault ≢ NotACapture → fault ≢ TooManyInterfaces
         → IfOk result (λ hint. hint ≡ None) }
     ensures advised { fault ≡ TooManyInterfaces → IfOk result IsSome }
 {
@@ -126,10 +173,8 @@ pub fn hint_of(
             Some(name) => Ok(Some(String::from_str(alloc, name)?)),
             None => Ok(None),
         },
-        CaptureFault::LinkType => {
-            let number = link_number(octets);
-            Ok(Some(format!(in alloc; "its number is {number}")?))
-        }
+        CaptureFault::Version => Ok(Some(version_line(alloc, octets)?)),
+        CaptureFault::LinkType => Ok(Some(link_line(alloc, octets)?)),
         CaptureFault::TooManyInterfaces => Ok(Some(String::from_str(alloc, FEWER)?)),
         _ => Ok(None),
     }
