@@ -15,6 +15,7 @@ use end::End;
 use options::{Options, asked};
 use pcef_built_in::ShapedCatalog;
 use pcef_command_line::{gather, refuse, tell_no_memory};
+use pcef_explain::text_in;
 use pcef_findings::{FindFault, Finding, find};
 use pcef_model::Profile;
 use pcef_profile::{ReadProfileFault, explain, read_profile};
@@ -90,9 +91,14 @@ fn tell_profile(
     println!(rt; "{file}: profile fault {number} {explanation}")
 }
 
+/// The text of a file.
+fn read_text(rt: &HostRuntime, path: &str) -> io::Result<String> {
+    text_in(rt.alloc(), fs::read(rt, path)?)
+}
+
 /// Finds and tells what is wrong in a profile, and then in lines.
 fn check<'a>(rt: &HostRuntime, catalog: &ShapedCatalog, options: Options<'a>) -> End<'a> {
-    let text = match fs::read_to_string(rt, options.profile) {
+    let text = match read_text(rt, options.profile) {
         Ok(text) => text,
         Err(error) => return end_of(error, End::Read(options.profile, error)),
     };

@@ -1,5 +1,6 @@
 //! The arguments, and the files that they name.
 
+use pcef_explain::text_in;
 use pcef_program::words::paths_of;
 use std::alloc::{AllocError, Global};
 use std::env::{Env, FillError};
@@ -39,7 +40,7 @@ pub(crate) fn words<E: Env>(alloc: Global, env: &E) -> Result<Vec<Vec<u8>>, Allo
 /// The text of a file, or why it can't be read as text. A file whose name isn't UTF-8 can't.
 fn text_of(rt: &HostRuntime, path: &[u8]) -> io::Result<String> {
     match str::from_utf8(path) {
-        Ok(path) => fs::read_to_string(rt, path),
+        Ok(path) => text_in(rt.alloc(), fs::read(rt, path)?),
         Err(_) => Err(io::Error::new(ErrorKind::InvalidFilename, "the name isn't UTF-8")),
     }
 }

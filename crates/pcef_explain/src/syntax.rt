@@ -1,7 +1,11 @@
 //! Where a text stops being JSON (RFC 8259), what stands there, and what is expected.
 
 use json::{Reader, Scratch, Token};
+use serde_json::Value;
 use std::alloc::{AllocError, Global};
+
+/// The most objects and lists in one another that the reader of lines takes.
+const MAX_LEVELS: usize = 127;
 
 /// What a text goes on with.
 #[derive(Clone, Copy)]
@@ -28,6 +32,10 @@ enum Due {
     Character,
     /// A text that spells characters.
     Pairs,
+    /// What isn't in too many objects and lists.
+    Shallow,
+    /// A number that the reader can hold.
+    Range,
     Nothing,
 }
 
@@ -46,6 +54,8 @@ impl Due {
             Due::Escape => "one of \"\\/bfnrt, or u and four hexadecimal digits,",
             Due::Character => "an escape, as \\t or \\n,",
             Due::Pairs => "a text in which \\ud800 to \\udfff stand in pairs",
+            Due::Shallow => "no object or list within 127 others",
+            Due::Range => "a number from -1.7e308 to 1.7e308",
             Due::Nothing => "nothing more",
         }
     }
@@ -163,6 +173,24 @@ impl Syntax {
     }
 }
 
+/// Whether the reader of lines has no room for a number.
+fn is_beyond(alloc: Global, number: &str) -> Result<bool, AllocError> {
+    match Value::from_str(alloc, number) {
+        Ok(_) => Ok(false),
+        Err(error) if error.is_memory() => Err(AllocError),
+        Err(_) => Ok(true),
+    }
+}
+
+/// The limit of the reader of lines that a token passes in so many objects and lists, if it does.
+fn limit_passed(alloc: Global, levels: usize, token: Token<'_>) -> Result<Option<Due>, AllocError> {
+    match token {
+        Token::BeginObject | Token::BeginArray if levels >= MAX_LEVELS => Ok(Some(Due::Shallow)),
+        Token::Number(number) if is_beyond(alloc, number)? => Ok(Some(Due::Range)),
+        _ => Ok(None),
+    }
+}
+
 /// Whether so many octets from a place on are hexadecimal digits.
 fn are_digits(text: &[u8], from: usize, count: usize) -> bool {
     let digits = text.iter().skip(from).take(count);
@@ -210,6 +238,9 @@ fn first_fault(alloc: Global, text: &str) -> Result<Option<Misplaced>, AllocErro
         if !is_due(syntax.due, token) {
             return Ok(Some(syntax.fault(text, token, from, to)));
         }
+        if let Some(limit) = limit_passed(alloc, syntax.levels.len(), token)? {
+            return Ok(Some((from, limit)));
+        }
         if let Some(fault) = syntax.take(text, token, from, to)? {
             return Ok(Some(fault));
         }
@@ -254,7 +285,7 @@ fn found_at(alloc: Global, text: &str, place: usize) -> Result<String, AllocErro
 }
 
 /// What is told of a text that isn't JSON: the place of the first octet that doesn't fit, from 0, what stands there, and
-/// what is expected. Nothing where a limit of the reader is passed, as that of lists in lists.
+/// what is expected there, also where a limit of the reader of lines is passed.
 pub(crate) fn misplaced(alloc: Global, text: &str) -> Result<Option<(usize, String)>, AllocError> {
     let Some((place, due)) = first_fault(alloc, text)? else {
         return Ok(None);
