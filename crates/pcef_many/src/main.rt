@@ -1,7 +1,7 @@
 //! The program `pcef_many`, which answers the lines of many sessions in one process.
 //!
-//! `pcef_many [--threads N] PROFILE` reads lines from standard input, each of which is a session's name, one space, and a
-//! line of a script, or one that opens the session or ends it. It writes the answers, each behind its name.
+//! `pcef_many [--threads N] PROFILE` reads lines from standard input, each of which is a session's name, one space, and
+//! a line of a script, or one that opens the session or ends it. It writes the answers, each behind its name.
 #![tactic(auto)]
 
 mod end;

@@ -64,8 +64,8 @@ fn await_next<N: Leading, T: Wait>(
 }
 
 impl<N: Leading> Led<N> {
-    /// Takes the next parcel, and tells whether it has octets or is the end. None are at hand. Waits for it. Fails where all
-    /// are to stop, or none will come.
+    /// Takes the next parcel, and tells whether it has octets or is the end. None are at hand. Waits for it. Fails where
+    /// all are to stop, or none will come.
     fn receive<T: Wait>(&mut self, rt: &T) -> io::Result<bool>
         requires { vec_len self.old.block ≤ self.old.given }
         ensures same { left_of N.part self.new ≡ left_of N.part self.old }
@@ -83,8 +83,8 @@ impl<N: Leading> Led<N> {
         }
     }
 
-    /// Sees that octets are at hand, and tells whether there are any. Waits for them. Fails where all are to stop, or none
-    /// will come.
+    /// Sees that octets are at hand, and tells whether there are any. Waits for them. Fails where all are to stop, or
+    /// none will come.
     fn refill<T: Wait>(&mut self, rt: &T) -> io::Result<bool>
         ensures same { left_of N.part self.new ≡ left_of N.part self.old }
         ensures more { IfOk result (λ more. MatchBool more

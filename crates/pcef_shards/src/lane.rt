@@ -77,7 +77,8 @@ impl<N: Leading> Lane<N> {
         Lane { way }
     }
 
-    /// Leads octets to the thread of this number, or their end. Waits while its ring is full. Fails where all are to stop.
+    /// Leads octets to the thread of this number, or their end. Waits while its ring is full. Fails where all are to
+    /// stop.
     pub(crate) fn lead<T: Wait>(
         &mut self,
         rt: &T,

@@ -1,8 +1,8 @@
-//! Many sessions in several threads: `serve_in_threads` reads lines and leads each to the thread that its name picks, which
-//! owns the session.
+//! Many sessions in several threads: `serve_in_threads` reads lines and leads each to the thread that its name picks,
+//! which owns the session.
 //!
-//! Its contracts tell: each thread is led exactly the lines that its names have, in their order; all lines of a name are one
-//! thread's.
+//! Its contracts tell: each thread is led exactly the lines that its names have, in their order; all lines of a name are
+//! one thread's.
 //!
 //! In the order of reading: `picking`, `sorting`, `laws`, `signals`, `parcel`, `intake`, `lane`, `shard`, `feeding`,
 //! `run`, `outlet`.

@@ -10,8 +10,8 @@ use std::alloc::Global;
 use std::io::{self, ErrorKind, Write};
 use std::sync::{Arc, Mutex, Wait};
 
-/// A thread's way to a writer that threads share. What is written waits here, and a flush writes all of it while it holds
-/// the writer's lock: so what two threads flush never mixes.
+/// A thread's way to a writer that threads share. What is written waits here, and a flush writes all of it while it
+/// holds the writer's lock: so what two threads flush never mixes.
 #[derive(Drop)]
 pub struct Outlet<T: Wait + Drop, W: Write + Drop> {
     rt: T,

@@ -202,13 +202,14 @@ fn run_named<
 /// Answers each line of many sessions of a profile, in as many threads as there are writers.
 ///
 /// A thread of its own reads in blocks of at most 65,536 octets. What stands in a line before its first space picks the
-/// thread that answers, by a hash with `line_keys`; a thread owns its sessions, and answers as [`serve`] does, on its own
-/// writer. The keys are to be random, since strangers choose names. That there is a writer is the caller's condition.
+/// thread that answers, by a hash with `line_keys`; a thread owns its sessions, and answers as [`serve`] does, on its
+/// own writer. The keys are to be random, since strangers choose names. That there is a writer is the caller's
+/// condition.
 ///
-/// A thread that ends early, but for want of lines, stops all; then, and where memory, a ring or a thread is missing, the
-/// thread that reads is left behind: it ends after the block that it waits for. Fails with [`ScriptFault::NoMemory`] alone,
-/// where not all threads came to run or were joined. Takes memory for blocks and rings, and what the sessions keep. Waits
-/// for lines and for the threads.
+/// A thread that ends early, but for want of lines, stops all; then, and where memory, a ring or a thread is missing,
+/// the thread that reads is left behind: it ends after the block that it waits for. Fails with [`ScriptFault::NoMemory`]
+/// alone, where not all threads came to run or were joined. Takes memory for blocks and rings, and what the sessions
+/// keep. Waits for lines and for the threads.
 ///
 /// [`serve`]: pcef_sessions::serve
 pub fn serve_in_threads<

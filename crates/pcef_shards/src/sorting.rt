@@ -72,8 +72,8 @@ fn lead(parts: &mut Vec<Part>, thread: usize, octets: &[u8]) -> Result<(), Alloc
     }
 }
 
-/// Lines that are sorted by their threads. Of each line the octets before its first space pick the thread, of so many; what
-/// came for a thread waits there till it is taken. A line longer than a block is led on piece by piece.
+/// Lines that are sorted by their threads. Of each line the octets before its first space pick the thread, of so many;
+/// what came for a thread waits there till it is taken. A line longer than a block is led on piece by piece.
 #[derive(Drop)]
 pub struct Sorting {
     alloc: Global,
