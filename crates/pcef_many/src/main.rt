@@ -14,6 +14,7 @@ use end::End;
 use options::{Options, asked};
 use pcef_built_in::ShapedCatalog;
 use pcef_command_line::{gather, refuse, tell_no_memory};
+use pcef_explain::text_in;
 use pcef_model::Profile;
 use pcef_profile::{ReadProfileFault, explain, read_profile};
 use serving::{Keys, serve_in, serve_lines};
@@ -44,6 +45,11 @@ fn told_profile<'a>(rt: &HostRuntime, text: &str, fault: ReadProfileFault) -> En
     End::Profile
 }
 
+/// The text of a file.
+fn read_text(rt: &HostRuntime, path: &str) -> io::Result<String> {
+    text_in(rt.alloc(), fs::read(rt, path)?)
+}
+
 /// Reads the profile, and serves lines on it.
 fn run<'a, T: Threads + Wait + Drop + Send + Sync + Copy + 'static>(
     starting: T,
@@ -51,7 +57,7 @@ fn run<'a, T: Threads + Wait + Drop + Send + Sync + Copy + 'static>(
     catalog: ShapedCatalog,
     options: Options<'a>,
 ) -> End<'a> {
-    let text = match fs::read_to_string(rt, options.profile) {
+    let text = match read_text(rt, options.profile) {
         Ok(text) => text,
         Err(error) => return end_of(error, End::Read(options.profile, error)),
     };
