@@ -1,5 +1,5 @@
 -- What always holds of a binding holds after each change.
-use Rattle.std.proofs.Common.{◌≡◌, ◌∙◌, ◌≤◌, ◌<◌, ◌+◌, ℕ, Bool, true, false, ◌&&◌, not, List, [], ◌∷◌, Option, Some, None, refl, ap, subst, arith, inl, inr, length, get_or, length-append}
+use Rattle.std.proofs.Common.{◌≡◌, ◌≤◌, ◌<◌, ◌+◌, ℕ, Bool, true, false, ◌&&◌, not, List, [], ◌∷◌, Option, Some, None, refl, ap, subst, arith, inl, inr, length, get_or, length-append}
 use Rattle.std.specs.Prelude.{All, AllPairs, is_none, is_some, nat_lt, filter}
 use Rattle.std.specs.List.{list_any}
 use Rattle.std.proofs.lemmas.Bool.{cases_Bool, ltb-false}
@@ -19,7 +19,7 @@ use Rattle.pcef_model.specs.Bearers.{is_gbr, is_non_gbr, rate_down, rate_up, sum
 use Rattle.pcef_bearer.proofs.GivenIds.{IsIdOf, agree_all, agree_self, agree_sym, given_id}
 use Rattle.pcef_bearer.proofs.Names.{NamesOnce, put_down, put_up}
 use Rattle.pcef_model.proofs.Names.{once_from_pairs, pairs_from_once, put_all, put_length, put_once}
-use Rattle.pcef_bearer.proofs.Places.{put_behind}
+use Rattle.pcef_bearer.proofs.Putting.{put_behind}
 use Rattle.pcef_bearer.proofs.Sums.{part_down, part_up, part_length}
 
 -- ---- none is bound

@@ -9,7 +9,6 @@ use Rattle.pcef_rule.specs.declared.rule.Properties.{Properties}
 use Rattle.pcef_catalog.proofs.Alternatives.{list_any_map}
 use Rattle.pcef_lists.proofs.Foremost.{found_is_foremost, none_passes}
 use Rattle.pcef_model.specs.declared.command.Command.{Command}
-use Rattle.pcef_model.specs.declared.command.Command.TheVariants.{Monitor, Remove}
 use Rattle.pcef_model.specs.Setting.{Setting, same_qos}
 use Rattle.pcef_model.specs.ActiveRules.{Active, is_named, put, without}
 use Rattle.pcef_model.specs.Generations.{Generation, free_id, has_bearer, id_after, kept, next, rules_after, stays}

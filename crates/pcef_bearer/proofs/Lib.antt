@@ -2,5 +2,5 @@ pub mod BoundBearers
 pub mod GivenIds
 pub mod BindingKept
 pub mod Names
-pub mod Places
+pub mod Putting
 pub mod Sums

@@ -11,6 +11,7 @@ use Rattle.pcef_model.specs.Setting.{same_name, same_qos}
 use Rattle.pcef_model.specs.Bearers.{default_id, has_pair, least_free as free, rate_down, rate_up, sum_down, sum_up}
 use Rattle.pcef_model.specs.Refusals.{Conditions, bind_refusals, first_of}
 use Rattle.pcef_model.specs.declared.answer.Refusal.{Refusal}
+use Rattle.pcef_model.specs.declared.answer.Refusal.TheVariants.{NoMemory}
 use Rattle.pcef_model.specs.declared.command.Command.{Command}
 use Rattle.pcef_model.specs.Commands.{takes_away}
 use Rattle.pcef_rule.specs.declared.quantity.BearerId.{BearerId}
@@ -159,6 +160,11 @@ kept_by command bound = filter (λ b. not (takes_away command b.name b.bearer.0)
 abbrev pub refusal_in : Result BearerId Refusal → Option Refusal
 refusal_in (Ok _) = None
 refusal_in (Err refusal) = Some refusal
+
+-- a binding is refused by the first refusal that is due, and where none is, only for want of memory
+abbrev pub IsRefusalBy : Option Refusal → Refusal → Type 0
+IsRefusalBy (Some first) refusal = refusal ≡ first
+IsRefusalBy None refusal = refusal ≡ NoMemory
 
 -- a rule of this name is bound, or there is room for one more
 abbrev pub HasRoom : List ℕ → ℕ → List Bound → Type 0

@@ -1,21 +1,21 @@
 //! The bearers of a session, and the rules that are bound to them.
 
-ghost use Rattle.std.specs.Prelude.{◌≡◌, ◌≤◌, ◌<◌, ◌↔◌, ◌&&◌, is_none, is_some, [], ◌∷◌, ◌++◌, IfOk, IsOk, OnErr, Err, Some, None, length, true, false};
+ghost use Rattle.std.specs.Prelude.{◌≡◌, ◌≤◌, ◌<◌, ◌↔◌, ◌&&◌, is_none, is_some, [], ◌∷◌, ◌++◌, IfErr, IfOk, IsOk, OnErr, OnOk, Err, Some, None, length, true, false};
 ghost use Rattle.std.specs.List.{list_any};
 ghost use Rattle.pcef_rule.specs.declared.qci.Kind.TheVariants as kind;
 ghost use Rattle.pcef_rule.specs.QciKinds.{kind_of};
 ghost use Rattle.pcef_model.specs.declared.answer.OpenFault.TheVariants as fault;
-ghost use Rattle.pcef_bearer.specs.Bindings.{bearer_of, bound_with, empty_binding, first_refusal, guaranteed, id_for, is_named, kept_by, left_by, number_of, refusal_in, rules_on, total, total_with, with_rules, without, GetsId, HasRoom, IsAccepted, IsBinding};
+ghost use Rattle.pcef_bearer.specs.Bindings.{bearer_of, bound_with, empty_binding, first_refusal, guaranteed, id_for, is_named, kept_by, left_by, number_of, refusal_in, rules_on, total, total_with, with_rules, without, GetsId, HasRoom, IsAccepted, IsBinding, IsRefusalBy};
 ghost use Rattle.pcef_model.specs.Bearers.{is_gbr, is_non_gbr};
 ghost use Rattle.pcef_model.specs.Refusals.{first_of, over_room};
 
 use crate::ids::{count_on, finds_no_bearer, id_excluding, is_present};
 use crate::lookup::{drop_named, drop_taken, has_name, named, put};
+use crate::places::Places;
 use crate::rates::{is_over, is_over_room, sums_excluding, sums_of, sums_of_all, sums_on};
-use crate::vacant::{BoundRules, Vacant};
-use arrayvec::ArrayVec;
 use pcef_model::{Command, OpenFault, Refusal};
 use pcef_rule::{BearerId, Kind, QciTable, Qos, Rates, RuleName, Sums};
+use std::alloc::{AllocError, Global};
 use std::marker::Model;
 
 /// The most rules that are bound.
@@ -43,20 +43,21 @@ pub struct Released {
     pub ended: bool,
 }
 
-/// The bearers of a session, which hold all rules that may be bound in themselves and take no memory.
-/// Two rules are on one bearer exactly where they have the same QCI and the same ARP (TS 23.203, clause
-/// 6.1.1.4).
+/// The bearers of a session, and the rules that are bound to them. Two rules are on one bearer exactly where they have
+/// the same QCI and the same ARP (TS 23.203, clause 6.1.1.4). What is bound takes memory rule by rule: see [`Places`].
 pub struct Bearers {
+    alloc: Global,
     default_qos: Qos,
     capacity: Sums,
     qcis: QciTable,
-    bound: BoundRules,
+    bound: Vec<Bound>,
 }
 
 // Written out, so that an owner proves one call at each way out.
 impl Drop for Bearers {
     fn drop(self) {
         let Bearers {
+            alloc: _,
             default_qos: _,
             capacity: _,
             qcis: _,
@@ -118,8 +119,13 @@ fn has_unwanted_rates(kind: Option<Kind>, rates: Option<Rates>) -> bool
 
 impl Bearers {
     /// The default bearer for this pair of QCI and ARP, up to this capacity, or the first fault in the
-    /// order of [`OpenFault`]. Takes no memory, so it never answers want of it.
-    pub fn new(default_qos: Qos, capacity: Sums, qcis: QciTable) -> Result<Bearers, OpenFault>
+    /// order of [`OpenFault`]. Takes no memory, so it is never out of it.
+    pub fn new(
+        alloc: Global,
+        default_qos: Qos,
+        capacity: Sums,
+        qcis: QciTable,
+    ) -> Result<Bearers, OpenFault>
         ensures unknown { (result ≡ Err fault.UnknownQci)
             ↔ (kind_of qcis default_qos.qci.0 ≡ None) }
         ensures gbr { (result ≡ Err fault.DefaultIsGbr)
@@ -131,10 +137,11 @@ impl Bearers {
             None => Err(OpenFault::UnknownQci),
             Some(Kind::Gbr) => Err(OpenFault::DefaultIsGbr),
             Some(Kind::NonGbr) => Ok(Bearers {
+                alloc,
                 default_qos,
                 capacity,
                 qcis,
-                bound: ArrayVec::new_in(Vacant),
+                bound: Vec::new(alloc),
             }),
         }
     }
@@ -228,8 +235,26 @@ impl Bearers {
         id_excluding(&self.default_qos, name, &self.bound, qos)
     }
 
-    fn set(&mut self, name: RuleName, qos: &Qos, rates: Option<Rates>) -> Result<BearerId, Refusal>
-        requires { HasRoom name 64 self.old.bound }
+    /// Memory to bind a rule of this name: none where one is bound.
+    pub fn places_for(&self, name: &RuleName) -> Result<Places, AllocError>
+        ensures { IfOk result (λ places. HasRoom name.now places self.now.bound) }
+    {
+        if has_name(&self.bound, name) {
+            Ok(Places::none(self.alloc))
+        } else {
+            Places::new(self.alloc, self.bound.len() + 1)
+        }
+    }
+
+    fn set(
+        &mut self,
+        name: RuleName,
+        qos: &Qos,
+        rates: Option<Rates>,
+        places: Places,
+    ) -> Result<BearerId, Refusal>
+        requires room { HasRoom name 64 self.old.bound }
+        requires places { HasRoom name places self.old.bound }
         ensures refused { refusal_in result ≡ first_refusal self.old name qos.now rates }
         ensures unchanged { OnErr result (self.new ≡ self.old) }
         ensures bearer { IfOk result (λ id. GetsId self.old name qos.now id.0) }
@@ -241,12 +266,12 @@ impl Bearers {
         let Some(bearer) = self.bearer_excluding(&name, qos) else {
             unreachable!()
         };
-        self.bind_to(name, *qos, rates, bearer);
+        self.bind_to(name, *qos, rates, bearer, places);
         Ok(bearer)
     }
 
     /// Binds a rule that isn't bound, and gives its bearer, or the first refusal in the order of
-    /// [`Refusal`]. Takes no memory.
+    /// [`Refusal`]: the last is [`Refusal::NoMemory`].
     pub fn bind(
         &mut self,
         name: RuleName,
@@ -255,12 +280,19 @@ impl Bearers {
     ) -> Result<BearerId, Refusal>
         requires new { list_any (is_named name) self.old.bound ≡ false }
         requires room { length self.old.bound < 64 }
-        ensures refused { refusal_in result ≡ first_refusal self.old name qos rates }
+        ensures refused { IfErr result (IsRefusalBy (first_refusal self.old name qos rates)) }
+        ensures accepted { OnOk result (first_refusal self.old name qos rates ≡ None) }
         ensures unchanged { OnErr result (self.new ≡ self.old) }
         ensures bearer { IfOk result (λ id. GetsId self.old name qos id.0) }
         ensures bound { IfOk result (λ id. self.new ≡ bound_with self.old name qos rates id.0) }
     {
-        self.set(name, &qos, rates)
+        match self.places_for(&name) {
+            Ok(places) => self.set(name, &qos, rates, places),
+            Err(AllocError) => match self.refusal(&name, qos, rates) {
+                Some(refusal) => Err(refusal),
+                None => Err(Refusal::NoMemory),
+            },
+        }
     }
 
     /// Binds a rule anew that is bound, and gives its bearer, or the first refusal in the order of
@@ -278,15 +310,23 @@ impl Bearers {
         ensures bearer { IfOk result (λ id. GetsId self.old name qos id.0) }
         ensures bound { IfOk result (λ id. self.new ≡ bound_with self.old name qos rates id.0) }
     {
-        self.set(name, &qos, rates)
+        self.set(name, &qos, rates, Places::none(self.alloc))
     }
 
     /// Binds a rule, anew where it is bound, to the bearer that [`Bearers::bearer_for`] gives for it.
-    /// [`Bearers::refusal`] finds nothing against it. Judges nothing again, and takes no memory.
-    pub fn bind_to(&mut self, name: RuleName, qos: Qos, rates: Option<Rates>, bearer: BearerId)
+    /// [`Bearers::refusal`] finds nothing against it. Judges nothing again, and takes no memory but these places.
+    pub fn bind_to(
+        &mut self,
+        name: RuleName,
+        qos: Qos,
+        rates: Option<Rates>,
+        bearer: BearerId,
+        places: Places,
+    )
         requires accepted { IsAccepted self.old name qos rates }
         requires gets { GetsId self.old name qos bearer.0 }
         requires room { HasRoom name 64 self.old.bound }
+        requires places { HasRoom name places self.old.bound }
         ensures { self.new ≡ bound_with self.old name qos rates bearer.0 }
     {
         let new = Bound {
@@ -295,7 +335,7 @@ impl Bearers {
             rates,
             bearer,
         };
-        put(&mut self.bound, new);
+        put(&mut self.bound, places, new);
     }
 
     /// Drops the rule of this name, and tells what it leaves, or `None` where no rule of this name is

@@ -2,14 +2,15 @@
 //!
 //! Its contracts tell: the bearer of a rule, or why the rule can't be bound.
 //!
-//! In the order of reading: `vacant`, `lookup`, `ids`, `rates`, `bearers`.
+//! In the order of reading: `places`, `lookup`, `ids`, `rates`, `bearers`.
 #![tactic(auto)]
 
 mod bearers;
 mod ids;
 mod lookup;
+mod places;
 mod rates;
-mod vacant;
 
 pub use bearers::{Bearers, Bound, MAX_BOUND, Released};
 pub use ids::DEFAULT_BEARER;
+pub use places::Places;

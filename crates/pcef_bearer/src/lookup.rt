@@ -8,7 +8,7 @@ ghost use Rattle.pcef_model.specs.Setting.{same_flag, same_qos};
 ghost use Rattle.pcef_bearer.specs.Bindings.{is_named, kept_by, put, without, HasRoom};
 
 use crate::bearers::Bound;
-use crate::vacant::BoundRules;
+use crate::places::Places;
 use pcef_model::Command;
 use pcef_rule::{Qos, RuleName};
 
@@ -86,35 +86,34 @@ pub(crate) fn has_pair_excluding(name: &RuleName, bound: &[Bound], qos: &Qos) ->
 }
 
 /// Drops the rule of this name.
-pub(crate) fn drop_named(bound: &mut BoundRules, name: &RuleName)
+pub(crate) fn drop_named(bound: &mut Vec<Bound>, name: &RuleName)
     ensures { bound.new.items ≡ without name.now bound.old.items }
 {
     bound.retain(
-        |b: &mut Bound| -> bool
-            ensures { (result ≡ not (is_named name.entry.now b.old)) × (b.new ≡ b.old) }
+        |b: &Bound| -> bool
+            ensures { result ≡ not (is_named name.entry.now b.now) }
         { !is_named(name, b) },
     );
 }
 
 /// Drops the rules that a command takes away.
-pub(crate) fn drop_taken(bound: &mut BoundRules, command: &Command)
+pub(crate) fn drop_taken(bound: &mut Vec<Bound>, command: &Command)
     ensures { bound.new.items ≡ kept_by command.now bound.old.items }
 {
     bound.retain(
-        |b: &mut Bound| -> bool
-            ensures { (result ≡ not (takes_away command.entry.now b.old.name b.old.bearer.0))
-                × (b.new ≡ b.old) }
+        |b: &Bound| -> bool
+            ensures { result ≡ not (takes_away command.entry.now b.now.name b.now.bearer.0) }
         { !command.takes_away(&b.name, b.bearer) },
     );
 }
 
-/// Puts a rule in the place of the one of its name, or behind all others.
-pub(crate) fn put(bound: &mut BoundRules, new: Bound)
-    requires { HasRoom new.name 64 bound.old.items }
+/// Puts a rule in the place of the one of its name, or behind all others, which move to these places with it.
+pub(crate) fn put(bound: &mut Vec<Bound>, places: Places, new: Bound)
+    requires { HasRoom new.name places bound.old.items }
     ensures { bound.new.items ≡ put new bound.old.items }
 {
     match place_of(bound, &new.name) {
         Some(place) => bound[place] = new,
-        None => bound.push(new),
+        None => places.take_in(bound, new),
     }
 }

@@ -2,7 +2,7 @@
 use Rattle.std.specs.Prelude.{ℕ, ◌≡◌, ◌≤◌, ◌<◌, ◌+◌, true, List, Option, Some, None, IfSome, is_some, length}
 use Rattle.std.specs.Arc.{arc_value}
 use Rattle.std.specs.Option.{option_map}
-use Rattle.pcef_bearer.specs.Bindings.{Binding, GetsId}
+use Rattle.pcef_bearer.specs.Bindings.{Binding, GetsId, HasRoom}
 use Rattle.pcef_bearer.specs.Standing.{binding_of}
 use Rattle.pcef_rule.specs.declared.quantity.BearerId.{BearerId}
 use Rattle.pcef_model.specs.declared.command.Command.{Command}
@@ -48,20 +48,26 @@ IsBearerFor b (Some x) (Some id) = IsBearerOf b x id
 abbrev pub GetsBearer : Setting → Journal → Option Activation → Option BearerId → Type 0
 GetsBearer p j x bearer = IsBearerFor (binding_of p (now p j)) x bearer
 
+-- memory is prepared to bind a rule where one becomes active
+abbrev pub HasPlacesFor : Binding → Option Activation → ℕ → Type 0
+HasPlacesFor b None places = Unit {0}
+HasPlacesFor b (Some x) places = HasRoom x.properties.name places b.bound
+
 -- a table is made exactly by a table command, and shows the newest generation of the journal after it
 pub record IsTableAfter (p : Setting) (after : Journal) (c : Command) (made : Option TableValue) : Type 0 where
   pub makes : is_some made ≡ is_table c
   pub shows : IfSome made (λ t. Shows p after (gen after) t)
 
 -- a command that the session accepts next and that changes something, with the table of the journal after it, the
--- rule that it makes active and the bearer of this rule, what it reports by itself, room in the journal for that, for the thresholds of
--- eight keys and for the leaving of each worker, and a place for a rule
+-- rule that it makes active, the bearer of this rule and memory to bind it, what it reports by itself, room in the journal for that, for
+-- the thresholds of eight keys and for the leaving of each worker, and a place for a rule
 pub record IsReady (s : SessionModel) (d : PreparedChange) : Type 0 where
   pub accepted : first_of (refusals s.setting s.journal d.command) ≡ None
   pub changing : changes s.setting s.journal d.command ≡ true
   pub table : IsTableAfter s.setting (after_command s.setting s.journal d.command) d.command (option_map (λ t. arc_value t) d.table)
   pub rule : Activates s.setting (activated s.setting d.command) d.rule
   pub bearer : GetsBearer s.setting s.journal d.rule d.bearer
+  pub places : HasPlacesFor (binding_of s.setting (now s.setting s.journal)) d.rule d.places
   pub plan_is : d.reports.items ≡ plan s.setting s.journal d.command
   pub has_room : length d.reports.items + 9 + length (attached s.journal) ≤ s.room.entries
   pub has_place : 0 < s.room.rules

@@ -6,7 +6,7 @@ ghost use Rattle.std.specs.Option.{option_copied, option_map};
 ghost use Rattle.pcef_active.specs.ByName.{put_kept};
 ghost use Rattle.pcef_model.specs.Commands.{level_named};
 ghost use Rattle.pcef_model.specs.Refusals.{is_close, is_terminate};
-ghost use Rattle.pcef_session.specs.Preparing.{IsBearerFor, IsBearerOf};
+ghost use Rattle.pcef_session.specs.Preparing.{HasPlacesFor, IsBearerFor, IsBearerOf};
 ghost use Rattle.pcef_bearer.specs.Bindings as binding;
 ghost use Rattle.pcef_usage.specs.Commands.{subscribed_by};
 ghost use Rattle.pcef_usage.specs.Keys.{clashes, finds_no_slot, keys_of};
@@ -15,7 +15,7 @@ ghost use Rattle.pcef_session.specs.private.Changes.{Binds, CanBind, IsBoundTo, 
 
 use crate::prepared::Activation;
 use pcef_active::ActiveRules;
-use pcef_bearer::Bearers;
+use pcef_bearer::{Bearers, Places};
 use pcef_index::Indexed;
 use pcef_model::{Command, Entry, Level, PendingReport, TriggerSet};
 use pcef_rule::{BearerId, KeyName};
@@ -141,10 +141,17 @@ fn take_away(active: &mut ActiveRules, bearers: &mut Bearers, command: &Command)
 }
 
 /// Binds a rule to the bearer that was found for it, and puts it among the active ones.
-fn activate(active: &mut ActiveRules, bearers: &mut Bearers, rule: Activation, bearer: BearerId)
+fn activate(
+    active: &mut ActiveRules,
+    bearers: &mut Bearers,
+    rule: Activation,
+    bearer: BearerId,
+    places: Places,
+)
     requires place { 0 < active.old.room }
     requires can { Binds rule.properties bearers.old }
     requires gets { IsBearerOf bearers.old rule bearer }
+    requires places { binding.HasRoom rule.properties.name places bearers.old.bound }
     ensures active { active.new.rules
         ≡ put_kept (rule.properties.name, rule.source) active.old.rules }
     ensures bearers { IsBoundTo rule.properties bearers.old bearers.new bearer }
@@ -155,29 +162,32 @@ fn activate(active: &mut ActiveRules, bearers: &mut Bearers, rule: Activation, b
         rule.properties.qos,
         rule.properties.rates,
         bearer,
+        places,
     );
     active.put(name, rule.source);
 }
 
 /// Changes the active rules and their bearers as a command says. The rule that becomes active gets
-/// this bearer.
+/// this bearer, and is bound in these places.
 pub(crate) fn change_rules(
     active: &mut ActiveRules,
     bearers: &mut Bearers,
     command: &Command,
     rule: Option<Activation>,
     bearer: Option<BearerId>,
+    places: Places,
 )
     requires place { 0 < active.old.room }
     requires can { CanBind rule bearers.old }
     requires gets { IsBearerFor bearers.old rule bearer }
+    requires places { HasPlacesFor bearers.old rule places }
     ensures active { active.new.rules
         ≡ active_after rule command.now bearers.new active.old.rules }
     ensures bearers { IsRebound rule command.now bearers.old bearers.new bearer }
 {
     match rule {
         Some(rule) => match bearer {
-            Some(bearer) => activate(active, bearers, rule, bearer),
+            Some(bearer) => activate(active, bearers, rule, bearer, places),
             None => unreachable!(),
         },
         None => take_away(active, bearers, command),

@@ -4,7 +4,7 @@
 //! Its contracts tell: what each command and each step of a worker answers, and the journal after it; each getter says
 //! what the journal says.
 //!
-//! In the order of reading: `batch`, `laws`, `prepared`, `inactive`, `keys`, `next_tables`, `pending_reports`,
+//! In the order of reading: `batch`, `waiting`, `laws`, `prepared`, `inactive`, `keys`, `next_tables`, `pending_reports`,
 //! `applying`, `ended_keys`, `rows`, `entries`, `state`.
 #![tactic(auto)]
 
@@ -20,8 +20,10 @@ mod pending_reports;
 mod prepared;
 mod rows;
 mod state;
+mod waiting;
 
 pub use batch::{Batch, BatchFull, Item, MAX_WAITING};
 pub use laws::{rules_have_their_bearers, shown_tables_judge};
 pub use prepared::{Activation, Prepared, PreparedChange};
 pub use state::{MAX_RULES, SessionState, open_fault};
+pub use waiting::WaitingRows;

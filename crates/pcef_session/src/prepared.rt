@@ -5,6 +5,7 @@ ghost use Rattle.std.specs.Arc.{arc_value};
 ghost use Rattle.std.specs.Option.{option_copied, option_map};
 ghost use Rattle.pcef_session.specs.Preparing.{table_made};
 
+use pcef_bearer::Places;
 use pcef_index::Indexed;
 use pcef_model::{Command, PendingReport};
 use pcef_rule::{BearerId, Properties, RuleName};
@@ -32,6 +33,8 @@ pub struct PreparedChange {
     pub rule: Option<Activation>,
     /// The bearer that this rule gets.
     pub bearer: Option<BearerId>,
+    /// Memory to bind this rule.
+    pub places: Places,
     /// What the command reports by itself, in order.
     pub reports: Vec<PendingReport>,
 }

@@ -97,11 +97,11 @@ pub fn open_fault(profile: &Profile) -> Option<OpenFault>
 }
 
 /// The bearers of a session that is opened.
-fn open_bearers(profile: &Profile) -> Result<Bearers, OpenFault>
+fn open_bearers(alloc: Global, profile: &Profile) -> Result<Bearers, OpenFault>
     ensures answer { Opens (setting_of profile.now []) (result_err result) }
     ensures made { IfOk result (λ b. b ≡ binding_of (setting_of profile.now []) at_first) }
 {
-    Bearers::new(profile.default_qos, profile.capacity, profile.qcis)
+    Bearers::new(alloc, profile.default_qos, profile.capacity, profile.qcis)
 }
 
 /// The table of the first generation, which has no rules, with its index.
@@ -125,7 +125,7 @@ impl SessionState {
         ensures made { IfOk result (IsOpened (setting_of profile listing)) }
         ensures few_rows { IfOk result (λ s. s.setting.rows ≤ 4294967295) }
     {
-        let bearers = match open_bearers(&profile) {
+        let bearers = match open_bearers(alloc, &profile) {
             Ok(bearers) => bearers,
             Err(fault) => return Err(fault),
         };

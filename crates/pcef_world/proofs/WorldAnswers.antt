@@ -148,11 +148,13 @@ seen_taken s i w new header item waits made new_is =
     ap seen new_is ∙ ap (λ rs. record { generation = (held_by w).number; rows = rs })
     (all ∙ ap (λ r. map row_of w.waiting ++ r ∷ []) (row_made s.setting s.journal i w header item waits made))
 
--- what is answered, where a worker is there or isn't
-abbrev TakesAs : SessionModel → List (Option Worker) → ℕ → Header → Option Waiting → StepAnswer → List (Option Worker) → Type 0
-TakesAs s before i header o out after =
+-- what is answered, where a worker is there or isn't, and what is left where memory is wanting
+abbrev TakesAs : SessionModel → List (Option Worker) → ℕ → Header → Option Waiting → Result StepAnswer AllocError → List (Option Worker) → Type 0
+TakesAs s before i header o (Ok a) after =
     let due : Reply × Standing = take_step s.setting (stand s.journal before) i header o in
-    (reply_of out ≡ due.0) × (stand s.journal after ≡ due.1)
+    ((reply_of a ≡ due.0) × (stand s.journal after ≡ due.1)) × Unit {0}
+TakesAs s before i header o (Err lack) after =
+    Unit {0} × ((is_refusal (take_step s.setting (stand s.journal before) i header o).0 ≡ false) × (stand s.journal after ≡ stand s.journal before))
 
 -- a place that is written, where the journal is so
 place_set : (j : Journal) (workers : List (Option Worker)) (i : ℕ) (new : Option Worker) (x : Option Waiting) → option_map seen new ≡ x →
@@ -162,33 +164,44 @@ place_set j workers i new x is = ap (λ ws. record { journal = j; workers = ws }
 place_same : (j : Journal) (workers : List (Option Worker)) (i : ℕ) (o new : Option Worker) → slice_get workers i ≡ Some o → new ≡ o → stand j (slice_set workers i new) ≡ stand j workers
 place_same j workers i o new there kept = ap (λ ws. record { journal = j; workers = ws }) (seen_same workers i o new there kept)
 
-taken_as : (s : SessionModel) (workers : List (Option Worker)) (i : ℕ) (o new : Option Worker) (header : Header) (out : StepAnswer) → IsSoundWith s workers →
+taken_as : (s : SessionModel) (workers : List (Option Worker)) (i : ℕ) (o new : Option Worker) (header : Header) (out : Result StepAnswer AllocError) → IsSoundWith s workers →
     slice_get workers i ≡ Some o → TakesAt s.setting.catalog s.setting.ue header (lane_len s.journal i) o out new → TakesAs s workers i header (option_map seen o) out (slice_set workers i new)
-taken_as s workers i None new header out sound there (out_is, kept) = (ap reply_of out_is, place_same s.journal workers i None new there kept)
-taken_as s workers i (Some w) new header out sound there (Ok count, v, (few, count_is, item, made, new_is), out_is, put) =
+taken_as s workers i None new header out sound there (out_is, kept) = rw out_is ((refl, place_same s.journal workers i None new there kept), tt)
+taken_as s workers i (Some w) new header (Ok a) sound there (Ok count, v, (few, count_is, item, made, new_is), out_is, put) =
     let waits : Waits s.setting s.journal i w = sound.wait i w there in
     let same : length (map row_of w.waiting) ≡ length w.waiting = length-map w.waiting row_of in
     let room : nat_le 32 (length (map row_of w.waiting)) ≡ false = lt-leb 32 (length (map row_of w.waiting)) (omega (arith, few, same)) in
     rw room (
-      ap reply_of out_is ∙ ap (λ n. take_reply (Ok n)) (omega (arith, count_is, same)),
-      place_set s.journal workers i new (Some (with_row (row_taken s.setting s.journal i (seen w) header) (seen w)))
-          (ap (option_map seen) put ∙ ap (λ (x : Waiting). Some x) (seen_taken s i w v header item waits made new_is)),
+      (
+        ap reply_of out_is ∙ ap (λ n. take_reply (Ok n)) (omega (arith, count_is, same)),
+        place_set s.journal workers i new (Some (with_row (row_taken s.setting s.journal i (seen w) header) (seen w)))
+            (ap (option_map seen) put ∙ ap (λ (x : Waiting). Some x) (seen_taken s i w v header item waits made new_is)),
+      ),
+      tt,
     )
-taken_as s workers i (Some w) new header out sound there (Err full, v, (many, kept), out_is, put) =
+taken_as s workers i (Some w) new header (Ok a) sound there (Err full, v, (many, kept), out_is, put) =
     let full_is : nat_le 32 (length (map row_of w.waiting)) ≡ true = le-leb 32 (length (map row_of w.waiting)) (omega (arith, many, length-map w.waiting row_of)) in
-    rw full_is (ap reply_of out_is, place_same s.journal workers i (Some w) new there (put ∙ ap (λ (x : Worker). Some x) kept))
+    rw full_is ((ap reply_of out_is, place_same s.journal workers i (Some w) new there (put ∙ ap (λ (x : Worker). Some x) kept)), tt)
+taken_as s workers i (Some w) new header (Err lack) sound there (v, (few, kept), put) =
+    let room : nat_le 32 (length (map row_of w.waiting)) ≡ false = lt-leb 32 (length (map row_of w.waiting)) (omega (arith, few, length-map w.waiting row_of)) in
+    rw room (tt, (refl, place_same s.journal workers i (Some w) new there (put ∙ ap (λ (x : Worker). Some x) kept)))
 
 -- at a place of the list
-pub takes_answer : (s : SessionModel) (workers : List (Option Worker)) (i : ℕ) (o new : Option Worker) (offers : List Offer) (ue : Addr) (header : Header) (handed_over : ℕ) (out : StepAnswer) →
+pub takes_answer : (s : SessionModel) (workers : List (Option Worker)) (i : ℕ) (o new : Option Worker) (offers : List Offer) (ue : Addr) (header : Header) (handed_over : ℕ) (out : Result StepAnswer AllocError) →
     IsSoundWith s workers → slice_get workers i ≡ Some o → offers ≡ s.setting.catalog → ue ≡ s.setting.ue → handed_over ≡ lane_len s.journal i → TakesAt offers ue header handed_over o out new →
-    Plays s.setting (stand s.journal workers) (of.Take i header) out (stand s.journal (slice_set workers i new))
+    Steps s.setting (stand s.journal workers) (of.Take i header) out (stand s.journal (slice_set workers i new))
 unfolding step_outcome
 takes_answer s workers i o new offers ue header handed_over out sound there offers_are ue_is handed_is takes =
     let p : Setting = s.setting in
     let own : TakesAt p.catalog p.ue header (lane_len s.journal i) o out new =
     subst (λ n. TakesAt p.catalog p.ue header n o out new) handed_is (subst (λ u. TakesAt p.catalog u header handed_over o out new) ue_is (subst (λ c. TakesAt c ue header handed_over o out new) offers_are takes)) in
-    subst (λ x. TakesAs s workers i header x out (slice_set workers i new)) (sym (seen_at workers i o there))
-    (taken_as s workers i o new header out sound there own)
+    as_steps out (subst (λ x. TakesAs s workers i header x out (slice_set workers i new)) (sym (seen_at workers i o there))
+    (taken_as s workers i o new header out sound there own))
+  where
+    as_steps : (out : Result StepAnswer AllocError) → TakesAs s workers i header (worker_at (all_seen workers) i) out (slice_set workers i new) →
+        Steps s.setting (stand s.journal workers) (of.Take i header) out (stand s.journal (slice_set workers i new))
+    as_steps (Ok a) is = is
+    as_steps (Err lack) is = is
 
 -- ---- the newest generation is taken
 pub refreshes_nowhere : (p : Setting) (j : Journal) (workers : List (Option Worker)) (i : ℕ) → length workers ≤ i →

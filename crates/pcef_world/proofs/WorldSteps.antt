@@ -145,7 +145,7 @@ sound_attached s t workers number w sound empty shows attaches setting number_is
 
 -- ---- a packet is taken
 -- one item more waits, or none
-pub sound_taken : (s : SessionModel) (workers : List (Option Worker)) (i : ℕ) (o new : Option Worker) (offers : List Offer) (ue : Addr) (header : Header) (handed_over : ℕ) (out : StepAnswer) →
+pub sound_taken : (s : SessionModel) (workers : List (Option Worker)) (i : ℕ) (o new : Option Worker) (offers : List Offer) (ue : Addr) (header : Header) (handed_over : ℕ) (out : Result StepAnswer AllocError) →
     IsSoundWith s workers → slice_get workers i ≡ Some o → offers ≡ s.setting.catalog → ue ≡ s.setting.ue → handed_over ≡ lane_len s.journal i → TakesAt offers ue header handed_over o out new →
     IsSoundWith s (slice_set workers i new)
 sound_taken s workers i o new offers ue header handed_over out sound there offers_are ue_is handed_is takes =
@@ -155,15 +155,18 @@ sound_taken s workers i o new offers ue header handed_over out sound there offer
     record {
       counted = sound.counted ∙ sym (length-set workers i new);
       few_rows = sound.few_rows;
-      wait = all_set p s.journal s.journal workers i new (slice_get_within workers i o there) sound.wait (λ v is. from o there own v is) (λ n v differs before. before);
+      wait = all_set p s.journal s.journal workers i new (slice_get_within workers i o there) sound.wait (λ v is. from o out there own v is) (λ n v differs before. before);
     }
   where
-    from : (o : Option Worker) → slice_get workers i ≡ Some o → TakesAt s.setting.catalog s.setting.ue header (lane_len s.journal i) o out new → (v : Worker) → new ≡ Some v → Waits s.setting s.journal i v
-    from None there takes v is = absurd (let none : None ≡ Some v = sym takes.1 ∙ is in cc)
-    from (Some w) there (Ok count, x, (few, count_is, item, made, new_is), out_is, put) v is =
+    from : (o : Option Worker) (out : Result StepAnswer AllocError) → slice_get workers i ≡ Some o → TakesAt s.setting.catalog s.setting.ue header (lane_len s.journal i) o out new → (v : Worker) → new ≡ Some v → Waits s.setting s.journal i v
+    from None out there takes v is = absurd (let none : None ≡ Some v = sym takes.1 ∙ is in cc)
+    from (Some w) (Ok a) there (Ok count, x, (few, count_is, item, made, new_is), out_is, put) v is =
         let same : x ≡ v = let both : Some x ≡ Some v = sym put ∙ is in cc in
         subst (Waits s.setting s.journal i) same (rw new_is (waits_take s.setting s.journal i w header item (sound.wait i w there) made))
-    from (Some w) there (Err full, x, (many, kept), out_is, put) v is =
+    from (Some w) (Ok a) there (Err full, x, (many, kept), out_is, put) v is =
+        let same : x ≡ v = let both : Some x ≡ Some v = sym put ∙ is in cc in
+        subst (Waits s.setting s.journal i) (sym kept ∙ same) (sound.wait i w there)
+    from (Some w) (Err lack) there (x, (few, kept), put) v is =
         let same : x ≡ v = let both : Some x ≡ Some v = sym put ∙ is in cc in
         subst (Waits s.setting s.journal i) (sym kept ∙ same) (sound.wait i w there)
 

@@ -21,14 +21,17 @@ pub(crate) fn take_at<C: Detects>(
     ue: Addr,
     handed_over: u64,
     header: &Header,
-) -> StepAnswer
+) -> Result<StepAnswer, AllocError>
     requires table { IfSome place.old (λ w. IsTable (C.offers catalog.now) (held_by w).entries) }
     requires few { IfSome place.old (λ w. handed_over ≤ 4294967295) }
     ensures { TakesAt (C.offers catalog.now) ue header.now handed_over place.old result place.new }
 {
     match place {
-        None => StepAnswer::NoWorker,
-        Some(worker) => StepAnswer::Take(worker.take(catalog, ue, handed_over, header)),
+        None => Ok(StepAnswer::NoWorker),
+        Some(worker) => match worker.take(catalog, ue, handed_over, header) {
+            Ok(taken) => Ok(StepAnswer::Take(taken)),
+            Err(lack) => Err(lack),
+        },
     }
 }
 

@@ -1,16 +1,17 @@
 //! A worker.
 
-ghost use Rattle.std.specs.Prelude.{◌≡◌, ◌≤◌, Err};
+ghost use Rattle.std.specs.Prelude.{◌≡◌, ◌≤◌, IfOk, OnErr};
 ghost use Rattle.pcef_table.specs.Tables.{IsTable};
 ghost use Rattle.pcef_session.specs.Answers.{AnswersFinish, AnswersFlush, MayFollow};
 ghost use Rattle.pcef_session.specs.Following.{HasItsSlots};
-ghost use Rattle.pcef_world.specs.private.Workers.{IsJudged, TakesItem, after_flushing, held_by};
+ghost use Rattle.pcef_world.specs.private.Workers.{IsJudged, LacksForItem, TakesItem, after_flushing, held_by};
 
 use pcef_catalog::Detects;
 use pcef_index::Indexed;
 use pcef_model::{FlushRefusal, Row, Verdicts};
 use pcef_packet::{Addr, Header};
-use pcef_session::{Batch, BatchFull, Item, MAX_WAITING, SessionState};
+use pcef_session::{BatchFull, Item, MAX_WAITING, SessionState, WaitingRows};
+use std::alloc::AllocError;
 use std::sync::Arc;
 
 /// A worker: the table of the generation that it holds, and its waiting rows.
@@ -21,7 +22,7 @@ pub struct Worker {
     /// The table that it judges by, with its index.
     pub held: Arc<Indexed>,
     /// The rows that wait.
-    pub waiting: Batch,
+    pub waiting: WaitingRows,
 }
 
 impl Worker {
@@ -44,25 +45,28 @@ impl Worker {
         }
     }
 
-    /// Judges a packet, lets it wait, and gives how many wait then.
+    /// Judges a packet, lets it wait, and gives how many wait then. Without memory for it, nothing changes.
     pub(crate) fn take<C: Detects>(
         &mut self,
         catalog: &C,
         ue: Addr,
         handed_over: u64,
         header: &Header,
-    ) -> Result<u8, BatchFull>
+    ) -> Result<Result<u8, BatchFull>, AllocError>
         requires table { IsTable (C.offers catalog.now) (held_by self.old).entries }
         requires few { handed_over ≤ 4294967295 }
-        ensures { TakesItem (C.offers catalog.now) ue header.now handed_over
-            self.old result self.new }
+        ensures taken { IfOk result (λ told. TakesItem (C.offers catalog.now) ue header.now handed_over
+            self.old told self.new) }
+        ensures lacks { OnErr result (LacksForItem self.old self.new) }
     {
         if self.waiting.len() >= MAX_WAITING {
-            return Err(BatchFull);
+            return Ok(Err(BatchFull));
         }
         let item = self.judge(catalog, ue, handed_over, header);
-        self.waiting.push(item);
-        Ok(self.waiting.len() as u8)
+        match self.waiting.push(item) {
+            Ok(()) => Ok(Ok(self.waiting.len() as u8)),
+            Err(lack) => Err(lack),
+        }
     }
 
     /// Hands the waiting rows over to the session. A refusal keeps them.
@@ -75,7 +79,7 @@ impl Worker {
         ensures setting { session.new.setting ≡ session.old.setting }
         ensures forgotten { session.new.forgotten ≡ session.old.forgotten }
     {
-        let verdicts = session.flush(self.number, &self.waiting)?;
+        let verdicts = session.flush_items(self.number, self.waiting.items())?;
         self.waiting.clear();
         Ok(verdicts)
     }
@@ -89,6 +93,6 @@ impl Worker {
         ensures setting { session.new.setting ≡ session.old.setting }
         ensures forgotten { session.new.forgotten ≡ session.old.forgotten }
     {
-        session.finish(self.number, &self.waiting)
+        session.finish_items(self.number, self.waiting.items())
     }
 }

@@ -20,7 +20,7 @@ use pcef_catalog::{Detects, Listing};
 use pcef_index::Indexed;
 use pcef_model::{AttachFault, Command, OpenFault, Profile, Step};
 use pcef_packet::Header;
-use pcef_session::{Batch, SessionState};
+use pcef_session::{SessionState, WaitingRows};
 use std::alloc::{AllocError, Global};
 use std::marker::Model;
 use std::sync::Arc;
@@ -93,7 +93,7 @@ impl WorldState {
     /// generation that it holds, and up to 32 rows wait. A flush hands them over; where it is refused they go on
     /// waiting. A worker finishes with a last flush, or is abandoned, and then its waiting rows get no verdict. The
     /// step of a worker that isn't attached answers [`StepAnswer::NoWorker`] and changes nothing. Takes memory, but not
-    /// for `Take` and `Abandon`. Want of memory comes only where the step isn't refused, and changes nothing.
+    /// for `Abandon`. Want of memory comes only where the step isn't refused, and changes nothing.
     pub fn step<C: Detects>(&mut self, catalog: &C, step: Step) -> Result<StepAnswer, AllocError>
         requires { C.offers catalog.now ≡ self.old.session.setting.catalog }
         ensures answer { IfOk result (λ a. MakesStep self.old step a self.new) }
@@ -104,7 +104,7 @@ impl WorldState {
         match step {
             Step::Command(command) => self.command(command),
             Step::Attach => self.attach(),
-            Step::Take { worker, header } => Ok(self.take(catalog, worker, &header)),
+            Step::Take { worker, header } => self.take(catalog, worker, &header),
             Step::Refresh { worker } => self.refresh(worker),
             Step::Flush { worker } => self.flush(worker),
             Step::Finish { worker } => self.finish(worker),
@@ -144,9 +144,6 @@ impl WorldState {
         if self.workers.reserve(1).is_err() {
             return Err(AttachFault::NoMemory);
         }
-        let Ok(waiting) = Batch::new(self.alloc) else {
-            return Err(AttachFault::NoMemory);
-        };
         let Ok(held) = newest(&self.session) else {
             return Err(AttachFault::NoMemory);
         };
@@ -154,7 +151,7 @@ impl WorldState {
         self.workers.push_reserved(Some(Worker {
             number,
             held,
-            waiting,
+            waiting: WaitingRows::new(self.alloc),
         }));
         Ok(number)
     }
@@ -168,16 +165,22 @@ impl WorldState {
         attach_told(self.come())
     }
 
-    fn take<C: Detects>(&mut self, catalog: &C, worker: u8, header: &Header) -> StepAnswer
+    fn take<C: Detects>(
+        &mut self,
+        catalog: &C,
+        worker: u8,
+        header: &Header,
+    ) -> Result<StepAnswer, AllocError>
         requires { C.offers catalog.now ≡ self.old.session.setting.catalog }
-        ensures answer { MakesStep self.old (of.Take worker header.now) result self.new }
+        ensures answer { IfOk result (λ a. MakesStep self.old (of.Take worker header.now) a self.new) }
+        ensures lacks { IfErr result (λ _. LacksForStep self.old (of.Take worker header.now) self.new) }
         ensures setting { self.new.session.setting ≡ self.old.session.setting }
         ensures forgotten { self.new.session.forgotten ≡ self.old.session.forgotten }
     {
         let ue = self.session.profile().ue;
         let handed_over = self.session.lane_len(worker);
         let Some(place) = self.workers.get_mut(usize::from(worker)) else {
-            return StepAnswer::NoWorker;
+            return Ok(StepAnswer::NoWorker);
         };
         take_at(place, catalog, ue, handed_over, header)
     }

@@ -64,7 +64,7 @@ fn steps(alloc: Global, bearers: &mut Bearers) -> Option<[([u8; 4], usize); 5]> 
 
 #[test]
 fn active_rules_keep_their_order(rt: HostRuntime) -> Result<(), Fail> {
-    let mut bearers = bearers(Sums { up: 0, down: 0 })?;
+    let mut bearers = bearers(rt.alloc(), Sums { up: 0, down: 0 })?;
     let seen = steps(rt.alloc(), &mut bearers);
     assert!(rt;
         seen == Some([

@@ -1,7 +1,8 @@
 //! Bindings that were worked out by hand from TS 23.203, clauses 6.1.1.4 and 6.2.2.2.
 
-ghost use Rattle.std.specs.Prelude.{◌<◌};
+ghost use Rattle.std.specs.Prelude.{◌<◌, None};
 ghost use Rattle.pcef_rule.specs.Priority.{IsLevel};
+ghost use Rattle.pcef_bearer.specs.Bindings.{GetsId, HasRoom, IsAccepted};
 
 use pcef_bearer::{Bearers, DEFAULT_BEARER, MAX_BOUND, Released};
 use pcef_model::{OpenFault, Refusal};
@@ -22,9 +23,9 @@ pub(super) fn pair(qci: u8, level: u8) -> Qos
 }
 
 /// Bearers whose default pair has QCI 9 and level 15.
-pub(super) fn bearers(capacity: Sums) -> Result<Bearers, Fail> {
+pub(super) fn bearers(alloc: Global, capacity: Sums) -> Result<Bearers, Fail> {
     let qcis = QciTable::new(&[(128, Kind::Gbr)])?;
-    Ok(Bearers::new(pair(9, 15), capacity, qcis)?)
+    Ok(Bearers::new(alloc, pair(9, 15), capacity, qcis)?)
 }
 
 /// The bearer of a rule that was to be bound, or why it wasn't; none where there is no place for a rule more.
@@ -41,6 +42,19 @@ pub(super) fn set(bearers: &mut Bearers, name: RuleName, qos: Qos, rates: Option
     None
 }
 
+/// Binds a rule to the bearer that was found for it, and tells whether there was memory.
+fn bind_at(bearers: &mut Bearers, name: RuleName, qos: &Qos, bearer: BearerId) -> bool
+    requires accepted { IsAccepted bearers.old name qos.now None }
+    requires gets { GetsId bearers.old name qos.now bearer.0 }
+    requires room { HasRoom name 64 bearers.old.bound }
+{
+    let Ok(places) = bearers.places_for(&name) else {
+        return false;
+    };
+    bearers.bind_to(name, *qos, None, bearer, places);
+    true
+}
+
 /// Binds a rule to the bearer that is found for it, and tells whether there is one.
 fn bind_to_found(bearers: &mut Bearers, name: RuleName, qos: &Qos) -> bool {
     if bearers.bound().len() >= MAX_BOUND {
@@ -50,10 +64,7 @@ fn bind_to_found(bearers: &mut Bearers, name: RuleName, qos: &Qos) -> bool {
         return false;
     }
     match bearers.bearer_for(&name, *qos) {
-        Some(bearer) => {
-            bearers.bind_to(name, *qos, None, bearer);
-            true
-        }
+        Some(bearer) => bind_at(bearers, name, qos, bearer),
         None => false,
     }
 }
@@ -61,8 +72,8 @@ fn bind_to_found(bearers: &mut Bearers, name: RuleName, qos: &Qos) -> bool {
 const NAMES: [&str; 10] = ["r1", "r2", "r3", "r4", "r5", "r6", "r7", "r8", "r9", "r10"];
 
 /// Ten rules on ten bearers beside the default one.
-fn ten() -> Result<Bearers, Fail> {
-    let mut bearers = bearers(Sums { up: 0, down: 0 })?;
+fn ten(alloc: Global) -> Result<Bearers, Fail> {
+    let mut bearers = bearers(alloc, Sums { up: 0, down: 0 })?;
     match bind_ten(&mut bearers) {
         Ok(()) => Ok(bearers),
         Err(fault) => Err(fault)?,
@@ -106,7 +117,7 @@ fn in_place(bearers: &Bearers) -> u8 {
 
 #[test]
 fn each_pair_gets_a_bearer(rt: HostRuntime) -> Result<(), Fail> {
-    let bearers = ten()?;
+    let bearers = ten(rt.alloc())?;
     let bound = (bearers.bound().len(), in_place(&bearers));
     let eleventh = bearer_of(&bearers, &RuleName::known("r11"));
     assert_eq!(rt; (bound, eleventh), ((10, 10), (false, None)));
@@ -140,7 +151,7 @@ fn answers_to_a_new_pair(bearers: &mut Bearers) -> ([Answer; 3], u8, Option<Bear
 
 #[test]
 fn an_eleventh_pair_finds_no_bearer(rt: HostRuntime) -> Result<(), Fail> {
-    let mut bearers = ten()?;
+    let mut bearers = ten(rt.alloc())?;
     let full = answers_to_an_eleventh(&mut bearers);
     let changed = answers_to_a_new_pair(&mut bearers);
     let no_bearer = Refusal::TooManyBearers;
@@ -175,7 +186,7 @@ fn unbound_from_the_default(
 
 #[test]
 fn the_default_pair_is_on_the_default_bearer(rt: HostRuntime) -> Result<(), Fail> {
-    let mut bearers = ten()?;
+    let mut bearers = ten(rt.alloc())?;
     let plain = RuleName::known("plain");
     let bound = bound_to_the_default(&mut bearers, &plain);
     let unbound = unbound_from_the_default(&mut bearers, &plain);
@@ -218,7 +229,7 @@ fn least_free_ids(bearers: &mut Bearers) -> [Answer; 2] {
 
 #[test]
 fn a_bearer_ends_with_its_last_rule(rt: HostRuntime) -> Result<(), Fail> {
-    let mut bearers = ten()?;
+    let mut bearers = ten(rt.alloc())?;
     let around = around_an_end(&mut bearers);
     let ids = least_free_ids(&mut bearers);
     let nine = Some(Ok(BearerId(9)));
@@ -240,7 +251,7 @@ fn are_found(bearers: &mut Bearers) -> [bool; 3] {
 
 #[test]
 fn a_rule_is_bound_to_the_bearer_that_was_found(rt: HostRuntime) -> Result<(), Fail> {
-    let mut bearers = ten()?;
+    let mut bearers = ten(rt.alloc())?;
     let found = are_found(&mut bearers);
     let also = bearers.bearer_of(&RuleName::known("also"));
     let on_nine = bearers.rules_on(BearerId(9));
@@ -294,7 +305,7 @@ fn rated(bearers: &mut Bearers) -> ([Rated; 6], [Rated; 3], Option<Sums>) {
 
 #[test]
 fn rates_at_the_capacity(rt: HostRuntime) -> Result<(), Fail> {
-    let mut bearers = bearers(Sums { up: 300, down: 500 })?;
+    let mut bearers = bearers(rt.alloc(), Sums { up: 300, down: 500 })?;
     let found = rated(&mut bearers);
     let six = Some(Ok(BearerId(6)));
     let seven = Some(Ok(BearerId(7)));
@@ -331,7 +342,7 @@ fn refusals(bearers: &Bearers, name: &RuleName) -> [Option<Refusal>; 7] {
 
 #[test]
 fn refusals_of_kinds(rt: HostRuntime) -> Result<(), Fail> {
-    let bearers = ten()?;
+    let bearers = ten(rt.alloc())?;
     let found = refusals(&bearers, &RuleName::known("new"));
     assert_eq!(rt;
         found,
@@ -349,14 +360,15 @@ fn refusals_of_kinds(rt: HostRuntime) -> Result<(), Fail> {
 }
 
 /// The fault of bearers whose default pair has this QCI and level 1.
-fn fault_of(qci: u8) -> Result<Option<OpenFault>, QciFault> {
+fn fault_of(alloc: Global, qci: u8) -> Result<Option<OpenFault>, QciFault> {
     let capacity = Sums { up: 0, down: 0 };
-    Ok(Bearers::new(pair(qci, 1), capacity, QciTable::new(&[])?).err())
+    Ok(Bearers::new(alloc, pair(qci, 1), capacity, QciTable::new(&[])?).err())
 }
 
 #[test]
 fn faults(rt: HostRuntime) {
-    let found = [fault_of(10), fault_of(1), fault_of(9)];
+    let alloc = rt.alloc();
+    let found = [fault_of(alloc, 10), fault_of(alloc, 1), fault_of(alloc, 9)];
     let unknown = Some(OpenFault::UnknownQci);
     let gbr = Some(OpenFault::DefaultIsGbr);
     assert_eq!(rt; found, [Ok(unknown), Ok(gbr), Ok(None)]);

@@ -28,11 +28,19 @@ impl SessionState {
             table,
             rule,
             bearer,
+            places,
             reports,
         } = change;
         let first_report = self.counted.journal().reports_len();
         let key = rule_key(rule.as_ref());
-        change_rules(&mut self.active, &mut self.bearers, &command, rule, bearer);
+        change_rules(
+            &mut self.active,
+            &mut self.bearers,
+            &command,
+            rule,
+            bearer,
+            places,
+        );
         keep_table(&mut self.newest, table);
         self.subscribed = subscribed_by(&command, self.subscribed);
         self.closed = closed_by(&command, self.closed);

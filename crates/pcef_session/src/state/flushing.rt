@@ -88,10 +88,24 @@ impl SessionState {
         ensures forgotten { self.new.forgotten ≡ self.old.forgotten }
         ensures room { OnErr result (HasAtLeast self.old.room self.new.room) }
     {
-        if let Some(refusal) = self.flush_refusal(worker, batch.len()) {
+        self.flush_items(worker, batch.items())
+    }
+
+    /// The same for rows in a list of the caller's.
+    pub fn flush_items(&mut self, worker: u8, items: &[Item]) -> Result<Verdicts, FlushRefusal>
+        requires follow { MayFollow self.old worker items.now }
+        requires slots { HasItsSlots self.old.setting self.old.journal items.now }
+        requires octets { HasSmallRows items.now }
+        ensures answer { AnswersFlush self.old worker items.now result self.new }
+        ensures few_keys { OnOk result (HasFewKeys self.old.setting self.old.journal) }
+        ensures setting { self.new.setting ≡ self.old.setting }
+        ensures forgotten { self.new.forgotten ≡ self.old.forgotten }
+        ensures room { OnErr result (HasAtLeast self.old.room self.new.room) }
+    {
+        if let Some(refusal) = self.flush_refusal(worker, items.len()) {
             return Err(refusal);
         }
-        match self.take_over(worker, batch.items()) {
+        match self.take_over(worker, items) {
             Ok(verdicts) => Ok(verdicts),
             Err(_) => Err(FlushRefusal::NoMemory),
         }

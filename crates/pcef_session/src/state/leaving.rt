@@ -7,11 +7,11 @@ ghost use Rattle.pcef_model.specs.Journals.{attached, lane_len};
 ghost use Rattle.pcef_model.specs.Refusals.{is_attached};
 ghost use Rattle.pcef_model.specs.Reports.{after_leave};
 ghost use Rattle.pcef_session.specs.Answers.{AnswersFinish, IsLaneEnd, MayFollow};
-ghost use Rattle.pcef_session.specs.Following.{HasFewKeys, HasItsSlots};
+ghost use Rattle.pcef_session.specs.Following.{HasFewKeys, HasItsSlots, HasSmallRows};
 ghost use Rattle.pcef_session.specs.SessionModel.{HasAtLeast};
 
 use super::SessionState;
-use crate::batch::Batch;
+use crate::batch::{Batch, Item};
 use pcef_lane::LaneEnd;
 use pcef_model::{Entry, FlushRefusal, Verdicts};
 
@@ -69,7 +69,25 @@ impl SessionState {
         ensures forgotten { self.new.forgotten ≡ self.old.forgotten }
         ensures room { OnErr result (HasAtLeast self.old.room self.new.room) }
     {
-        match self.flush(worker, batch) {
+        self.finish_items(worker, batch.items())
+    }
+
+    /// The same for rows in a list of the caller's.
+    pub fn finish_items(
+        &mut self,
+        worker: u8,
+        items: &[Item],
+    ) -> Result<(Verdicts, u64), FlushRefusal>
+        requires follow { MayFollow self.old worker items.now }
+        requires slots { HasItsSlots self.old.setting self.old.journal items.now }
+        requires octets { HasSmallRows items.now }
+        ensures answer { AnswersFinish self.old worker items.now result self.new }
+        ensures few_keys { OnOk result (HasFewKeys self.old.setting self.old.journal) }
+        ensures setting { self.new.setting ≡ self.old.setting }
+        ensures forgotten { self.new.forgotten ≡ self.old.forgotten }
+        ensures room { OnErr result (HasAtLeast self.old.room self.new.room) }
+    {
+        match self.flush_items(worker, items) {
             Err(refusal) => Err(refusal),
             Ok(verdicts) => {
                 let rows = self.lane_len(worker);

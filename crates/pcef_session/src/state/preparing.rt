@@ -7,8 +7,8 @@ ghost use Rattle.pcef_model.specs.Outcomes.{changes};
 ghost use Rattle.pcef_model.specs.Commands.{activated, is_table};
 ghost use Rattle.pcef_model.specs.Journals.{attached, now};
 ghost use Rattle.pcef_model.specs.Reports.{inactive, keys_ended, plan};
-ghost use Rattle.pcef_session.specs.Answers.{AcceptsWithin, KeepsPrepared, Refuses, RefusesWithin};
-ghost use Rattle.pcef_session.specs.Preparing.{GetsBearer, IsPreparedFor, IsReady, command_of};
+ghost use Rattle.pcef_session.specs.Answers.{AcceptsWithin, KeepsPrepared, Refuses, RefusesWithin, binding_now};
+ghost use Rattle.pcef_session.specs.Preparing.{GetsBearer, HasPlacesFor, IsPreparedFor, IsReady, command_of};
 ghost use Rattle.pcef_session.specs.private.Entries.{ShowsNext};
 ghost use Rattle.pcef_session.specs.private.Keys.{key_switched};
 ghost use Rattle.pcef_session.specs.private.Sessions.{Accepts, ActivatesAgain, IsNextTable, MakesActive, Offers};
@@ -22,6 +22,7 @@ use crate::keys::{level_switched, place_of, switched_key, switches_on};
 use crate::next_tables::{left, switched};
 use crate::pending_reports::{add_noticed, add_requested};
 use crate::prepared::{Activation, Prepared, PreparedChange};
+use pcef_bearer::Places;
 use pcef_catalog::Listing;
 use pcef_index::Indexed;
 use pcef_model::{Command, PendingReport, Refusal};
@@ -78,6 +79,17 @@ impl SessionState {
         match rule {
             Some(rule) => Some(bearer_for(&self.bearers, &rule.properties)),
             None => None,
+        }
+    }
+
+    /// Memory to bind the rule that a command makes active.
+    fn places_for(&self, rule: Option<&Activation>) -> Result<Places, AllocError>
+        ensures { IfOk result (λ places.
+            HasPlacesFor (binding_now self.now) (option_copied rule.entry) places) }
+    {
+        match rule {
+            Some(rule) => self.bearers.places_for(&rule.properties.name),
+            None => Ok(Places::none(self.alloc)),
         }
     }
 
@@ -249,13 +261,14 @@ impl SessionState {
             .reserve(reports.len() + 9 + self.lanes.attached())
     }
 
-    /// The table that a command makes, with its index, and what the command reports by itself, once there is room.
+    /// The table that a command makes, with its index, what the command reports by itself, and memory to bind its rule, once
+    /// there is room.
     fn ready_with(
         &mut self,
         command: &Command,
         rule: Option<&Activation>,
         bearer: Option<BearerId>,
-    ) -> Result<(Option<Arc<Indexed>>, Vec<PendingReport>), AllocError>
+    ) -> Result<(Option<Arc<Indexed>>, Vec<PendingReport>, Places), AllocError>
         requires accepted { Accepts self.old command.now }
         requires changing { changes self.old.setting self.old.journal command.now ≡ true }
         requires rule { MakesActive self.old command.now (option_copied rule) }
@@ -271,12 +284,15 @@ impl SessionState {
         ensures entries { IfOk result (λ r.
             length r.1.items + 9 + length (attached self.old.journal) ≤ self.new.room.entries) }
         ensures rules { OnOk result (0 < self.new.room.rules) }
+        ensures places { IfOk result (λ r.
+            HasPlacesFor (binding_now self.old) (option_copied rule.entry) r.2) }
     {
         let table = self.next_table(command, rule, bearer)?;
         let table = share(self.alloc, table)?;
         let reports = self.plan(command, rule)?;
+        let places = self.places_for(rule)?;
         self.take_room(reports.as_slice())?;
-        Ok((table, reports))
+        Ok((table, reports, places))
     }
 
     /// Takes all memory that an accepted command needs, and changes nothing that can be seen but room.
@@ -293,11 +309,12 @@ impl SessionState {
         let rule = self.activation(&command)?;
         let bearer = self.bearer_for_rule(&command, rule.as_ref());
         match self.ready_with(&command, rule.as_ref(), bearer) {
-            Ok((table, reports)) => Ok(PreparedChange {
+            Ok((table, reports, places)) => Ok(PreparedChange {
                 command,
                 table,
                 rule,
                 bearer,
+                places,
                 reports,
             }),
             Err(refused) => Err(refused),

@@ -25,7 +25,7 @@ use Rattle.pcef_world.specs.declared.answer.StepAnswer.TheVariants as answer
 use Rattle.pcef_world.specs.declared.worker.Worker.{Worker}
 use Rattle.pcef_world.specs.Steps.{new_worker}
 use Rattle.pcef_world.specs.Worlds.{Waiting}
-use Rattle.pcef_world.specs.private.Workers.{TakesItem, after_flushing, held_by}
+use Rattle.pcef_world.specs.private.Workers.{LacksForItem, TakesItem, after_flushing, held_by}
 
 -- ---- what is told
 -- want of memory is no answer
@@ -50,10 +50,11 @@ abbrev pub after_coming : Journal → Result ℕ AttachFault → List (Option Wa
 after_coming j (Ok number) workers = workers ++ Some (new_worker j) ∷ []
 after_coming j (Err fault) workers = workers
 
-abbrev pub TakesAt : List Offer → Addr → Header → ℕ → Option Worker → StepAnswer → Option Worker → Type 0
-TakesAt offers ue header handed_over None out new = (out ≡ answer.NoWorker) × (new ≡ None)
-TakesAt offers ue header handed_over (Some w) out new =
-    (r : Result ℕ BatchFull) × (v : Worker) × TakesItem offers ue header handed_over w r v × (out ≡ answer.Take r) × (new ≡ Some v)
+abbrev pub TakesAt : List Offer → Addr → Header → ℕ → Option Worker → Result StepAnswer AllocError → Option Worker → Type 0
+TakesAt offers ue header handed_over None out new = (out ≡ Ok answer.NoWorker) × (new ≡ None)
+TakesAt offers ue header handed_over (Some w) (Ok a) new =
+    (r : Result ℕ BatchFull) × (v : Worker) × TakesItem offers ue header handed_over w r v × (a ≡ answer.Take r) × (new ≡ Some v)
+TakesAt offers ue header handed_over (Some w) (Err lack) new = (v : Worker) × LacksForItem w v × (new ≡ Some v)
 
 -- a worker holds the newest table from now on, and its rows go on waiting
 abbrev pub Holds : Setting → Journal → Worker → Worker → Type 0

@@ -42,6 +42,10 @@ TakesItem offers ue header handed_over old (Ok count) new =
     (length old.waiting < 32) × (count ≡ length old.waiting + 1) × (i : Item) × IsJudged offers ue header handed_over old i × (new ≡ with_item i old)
 TakesItem offers ue header handed_over old (Err full) new = (32 ≤ length old.waiting) × (new ≡ old)
 
+-- there is no memory for a packet that may wait
+abbrev pub LacksForItem : Worker → Worker → Type 0
+LacksForItem old new = (length old.waiting < 32) × (new ≡ old)
+
 -- rows that are handed over wait no longer
 abbrev pub after_flushing : {A E : Type 0} → Result A E → Worker → Worker
 after_flushing (Ok a) w = record w { waiting = [] }

@@ -1,6 +1,8 @@
-use Rattle.std.proofs.Common.{rules}
-use Rattle.arrayvec.proofs.ArrayVecLemmas.{filter-from_retain}
+use Rattle.std.proofs.Common.{rules, not}
+use Rattle.std.proofs.lemmas.Fn.{filter_same}
+use Rattle.pcef_bearer.specs.Bindings.{is_named}
+use Rattle.pcef_bearer.specs.declared.bearers.Bound.{Bound}
 use Rattle.pcef_bearer.proofs.lookup.drop_named.Goals as goal
 
 pub returns : goal.returns
-returns c = filter-from_retain _ _ _ (λ x b f' y called. search rules) _ _ c.retain.ensures.filtered
+returns c = filter_same _ (λ (b : Bound). not (is_named c.args.name.now b)) _ (λ x b f' called. search rules) _ _ c.retain.ensures.filtered

@@ -6,5 +6,5 @@ use Rattle.pcef_bearer.proofs.bearers.Bearers.rules_on.Goals as goal
 
 pub overflow_cast-result : goal.overflow_cast-result
 overflow_cast-result c =
-    let count : c.count_on.result ≡ length (rules_on c.args.id.0 c.self.inside.bound.items) = rw c.deref.ensures.0 at c.count_on.ensures in
+    let count : c.count_on.result ≡ length (rules_on c.args.id.0 c.self.inside.bound.items) = rw c.deref.ensures.value at c.count_on.ensures in
     omega (arith, count, part_length (λ (b : Bound). b.bearer.0 == c.args.id.0) c.self.inside.bound.items, c.self.invariant.0.few)

@@ -32,7 +32,7 @@ use Rattle.pcef_session.proofs.CommandAgrees.{IsCommanded, bearer_commanded, ent
 use Rattle.pcef_session.proofs.InvariantKept.{few_entered_by, sound_commanded}
 use Rattle.pcef_session.proofs.state.SessionState.change.Goals as goal
 use Rattle.pcef_bearer.specs.Bindings.{Binding}
-use Rattle.pcef_session.specs.Preparing.{IsBearerFor, IsReady}
+use Rattle.pcef_session.specs.Preparing.{HasPlacesFor, IsBearerFor, IsReady}
 use Rattle.pcef_session.proofs.NextTables.{all_levels_from, table_after}
 
 pub change_rules-requires-clause-can : goal.change_rules-requires-clause-can
@@ -47,6 +47,12 @@ change_rules-requires-clause-gets c =
     let s = c.self.inside in
     let ready : IsReady (model_of s) c.args.change = subst (λ (v : SessionModel). IsReady v c.args.change) (sym c.self.view_is) c.requires in
     subst (λ (b : Binding). IsBearerFor b c.args.change.rule c.args.change.bearer) (sym c.self.invariant.agrees.binding_is) ready.bearer
+
+pub change_rules-requires-clause-places : goal.change_rules-requires-clause-places
+change_rules-requires-clause-places c =
+    let s = c.self.inside in
+    let ready : IsReady (model_of s) c.args.change = subst (λ (v : SessionModel). IsReady v c.args.change) (sym c.self.view_is) c.requires in
+    subst (λ (b : Binding). HasPlacesFor b c.args.change.rule c.args.change.places) (sym c.self.invariant.agrees.binding_is) ready.places
 
 pub enter-requires-clause-clash : goal.enter-requires-clause-clash
 enter-requires-clause-clash c =

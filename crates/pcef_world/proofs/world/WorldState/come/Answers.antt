@@ -14,8 +14,8 @@ invariant_of-self-in_err-number c =
 pub invariant_of-self-2 : goal.invariant_of-self-2
 invariant_of-self-2 c =
     rw (c.push_reserved.ensures.items, c.reserve.ensures.items)
-    (sound_attached c.self.inside.session c.attach.new.self c.self.inside.workers.items c.in_ok-number.number _ c.self.invariant c.in_ok-number.ensures.lane c.in-Ok-newest.ensures c.in_ok-number.ensures.answer
-    c.attach.ensures.setting refl c.in-Ok.ensures)
+    (sound_attached c.self.inside.session c.attach.new.self c.self.inside.workers.items c.in_ok-number.number _ c.self.invariant c.in_ok-number.ensures.lane c.in-Ok.ensures c.in_ok-number.ensures.answer
+    c.attach.ensures.setting refl c.new.ensures)
 
 pub returns-in-Some-clause-answer : goal.returns-in-Some-clause-answer
 returns-in-Some-clause-answer c =

@@ -41,4 +41,13 @@ returns-clause-answer g c =
     rw (← c.self.view_is, ← c.from.ensures)
     (takes_answer c.self.inside.session c.self.inside.workers.items c.from.result c.in-Some.place.now c.take_at.new.place (g.C.Offers.offers c.args.catalog.now) c.behind-self.inside.ue
     c.args.header.now c.lane_len-handed_over.result c.take_at.result c.self.invariant there (c.requires ∙ sym (ap (λ w. w.session.setting.catalog) c.self.view_is))
-    (ap (λ t. t.ue) c.behind-self.view_is ∙ ap (λ (p : Setting). p.ue) c.profile.ensures) (c.lane_len-handed_over.ensures ∙ ap (lane_len c.self.inside.session.journal) (sym c.from.ensures)) c.take_at.ensures)
+    (ap (λ t. t.ue) c.behind-self.view_is ∙ ap (λ (p : Setting). p.ue) c.profile.ensures) (c.lane_len-handed_over.ensures ∙ ap (lane_len c.self.inside.session.journal) (sym c.from.ensures)) c.take_at.ensures).0
+
+pub returns-clause-lacks : goal.returns-clause-lacks
+returns-clause-lacks g c =
+    let there : slice_get c.self.inside.workers.items c.from.result ≡ Some c.in-Some.place.now =
+    slice_get_read c.self.inside.workers.items (length c.self.inside.workers.items) c.from.result c.in-Some.place.now refl c.in-Some.ensures.item.3.0 c.in-Some.ensures.value in
+    rw (← c.self.view_is, ← c.from.ensures)
+    (takes_answer c.self.inside.session c.self.inside.workers.items c.from.result c.in-Some.place.now c.take_at.new.place (g.C.Offers.offers c.args.catalog.now) c.behind-self.inside.ue
+    c.args.header.now c.lane_len-handed_over.result c.take_at.result c.self.invariant there (c.requires ∙ sym (ap (λ w. w.session.setting.catalog) c.self.view_is))
+    (ap (λ t. t.ue) c.behind-self.view_is ∙ ap (λ (p : Setting). p.ue) c.profile.ensures) (c.lane_len-handed_over.ensures ∙ ap (lane_len c.self.inside.session.journal) (sym c.from.ensures)) c.take_at.ensures).1
