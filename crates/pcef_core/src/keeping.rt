@@ -12,7 +12,7 @@ use pcef_usage::Usage;
 use std::marker::Model;
 
 /// What a session keeps, between two calls.
-pub struct Kept<'s> {
+pub struct SessionParts<'s> {
     /// The journal.
     pub journal: &'s Journal,
     /// The active rules by their names, in the order in which they became active.
@@ -25,7 +25,7 @@ pub struct Kept<'s> {
     pub indexed: &'s Indexed,
 }
 
-impl<'s> Model for Kept<'s> {
+impl<'s> Model for SessionParts<'s> {
     ghost use Rattle.pcef_core.specs.Keeping.{KeptBySession};
 
     ghost Value = { KeptBySession };
@@ -44,14 +44,14 @@ impl<'s> Model for Kept<'s> {
 /// of each monitoring key are together those that the journal's packet rows passed for it; and each row has the verdict
 /// of its own generation. It takes any session: one that stands alone, the one that a hold of a session's lock finds
 /// (`pcef_lock::State::session`), and the one that comes out at the end (`pcef_lock::Totals`).
-pub fn kept_by(session: &SessionState) -> Kept<'_>
+pub fn session_is_exact(session: &SessionState) -> SessionParts<'_>
     ensures journal { result.journal ≡ session.now.journal }
     ensures exact { SessionIsExact session.now.setting result }
 {
     let bearers = session.bearers();
     // For what it says of the bearers: that two rules share one where they have the same QCI and ARP.
     let _bound = bearers.bound();
-    Kept {
+    SessionParts {
         journal: session.journal(),
         active: session.active(),
         bearers,

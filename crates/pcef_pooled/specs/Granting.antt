@@ -24,7 +24,7 @@ pub record PooledModel : Type 0 where
   pub sessions : List SessionModel
   pub pool : PoolModel
 
--- What is granted is the exact sum over all sessions, within the capacity. That each session is exact, `pcef_core::kept_by`
+-- What is granted is the exact sum over all sessions, within the capacity. That each session is exact, `pcef_core::session_is_exact`
 -- says.
 pub record PoolIsExact (v : PooledModel) : Type 0 where
   pub sum : v.pool.books.granted ≡ granted_to v.sessions

@@ -4,7 +4,7 @@ use Rattle.pcef_model.specs.Journals.{gen}
 use Rattle.pcef_session.specs.Shown.{Shows}
 use Rattle.pcef_table.specs.Tables.{TableValue}
 use Rattle.pcef_core.proofs.ExactKeeping.{exact}
-use Rattle.pcef_core.proofs.keeping.kept_by.Goals as goal
+use Rattle.pcef_core.proofs.keeping.session_is_exact.Goals as goal
 
 pub returns-clause-exact : goal.returns-clause-exact
 returns-clause-exact c =
