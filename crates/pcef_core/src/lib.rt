@@ -3,7 +3,7 @@
 //!
 //! Its contracts tell: that what a session keeps is exact, in one statement (`kept_by`), and what a list of steps makes of
 //! a new session. `kept_by` speaks of every `SessionState`, so of those of all programs, and need not be called; `Session`
-//! and `World` are used by tests and by `pcef_steps` alone.
+//! and `World` are used by tests and by `pcef_worked_examples` alone.
 //!
 //! In the order of reading: `keeping`, `session`, `world`, `steps`.
 #![tactic(auto)]

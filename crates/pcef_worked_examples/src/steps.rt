@@ -1,41 +1,34 @@
-//! A program that makes the steps of a script through the calls of `pcef_core`, each once more where it found no
-//! memory.
-//!
-//! Its contracts tell: nothing of its answers: it shows that a refused call leaves a world and a session as they were,
-//! with each allocation refused in turn.
+//! Makes the steps of a file through the calls of `pcef_core`, each once more where it found no memory.
 //!
 //! A refusal leaves a world and a session as they were. So with one allocation refused the program writes what it
-//! writes with memory, or, where its input, its writer or its catalog found none, nothing and ends with 3
-//! (`.ci/refused-memory`). The script has no line at fault, and no `show`.
-#![tactic(auto)]
-
-mod calls;
+//! writes with memory, or, where its files, its writer or its catalog found none, nothing and ends with 3
+//! (`.ci/refused-memory`).
 
 ghost use Rattle.std.specs.Prelude.{◌≡◌, [], ◌∷◌};
 ghost use Rattle.pcef_catalog.specs.Shapes.{test_holds};
 ghost use Rattle.pcef_catalog.specs.declared.shape.Test.TheVariants.{Dscp};
 
+use crate::calls::{answer_commands, answer_list, answer_steps};
 use arrayvec::ArrayVec;
-use calls::{answer_commands, answer_list, answer_steps};
 use pcef_catalog::{Alternative, Catalog, Detect, Predefined, Shape, Test};
 use pcef_packet::Header;
 use pcef_rule::{Arp, Gate, Properties, Qci, Qos, RuleName};
 use std::alloc::AllocError;
-use std::io::{self, BufWriter, Read, Write};
-use std::process::ExitCode;
+use std::fs;
+use std::io::{self, BufWriter, Write};
 use std::sync::Arc;
 
-/// Answers the script of standard input in three ways.
-fn run(rt: &HostRuntime, catalog: Arc<Catalog>) -> io::Result<()> {
+/// Answers the steps of a file in three ways.
+fn answer_file(rt: &HostRuntime, catalog: Arc<Catalog>, path: &str) -> io::Result<()> {
     let alloc = rt.alloc();
-    let mut script = String::new(alloc);
-    rt.stdin().read_to_string(&mut script)?;
+    let profile = fs::read_to_string(rt, "profile.toml")?;
+    let script = fs::read_to_string(rt, path)?;
     let mut writer = BufWriter::new(alloc, io::writer(rt))?;
     let for_list = Arc::try_clone(&catalog)?;
     let for_commands = Arc::try_clone(&catalog)?;
-    answer_steps(alloc, catalog, &script, &mut writer)?;
-    answer_list(alloc, for_list, &script, &mut writer)?;
-    answer_commands(alloc, for_commands, &script, &mut writer)?;
+    answer_steps(alloc, catalog, &profile, &script, &mut writer)?;
+    answer_list(alloc, for_list, &profile, &script, &mut writer)?;
+    answer_commands(alloc, for_commands, &profile, &script, &mut writer)?;
     writer.flush()
 }
 
@@ -65,8 +58,8 @@ fn properties() -> Properties {
     }
 }
 
-/// Answers the script with a catalog of one predefined rule.
-fn run_with_rule(rt: &HostRuntime) -> io::Result<()> {
+/// Writes the answers to the steps of a file, on a catalog of one predefined rule.
+pub fn tell_steps(rt: &HostRuntime, path: &str) -> io::Result<()> {
     let alloc = rt.alloc();
     let detect: Detect = Box::new(
         alloc,
@@ -79,12 +72,5 @@ fn run_with_rule(rt: &HostRuntime) -> io::Result<()> {
     let Ok(catalog) = Catalog::new(alloc, rules) else {
         return Err(AllocError)?;
     };
-    run(rt, Arc::new(alloc, catalog)?)
-}
-
-fn main(rt: HostRuntime) -> ExitCode {
-    match run_with_rule(&rt) {
-        Ok(()) => ExitCode::from(0),
-        Err(_) => ExitCode::from(3),
-    }
+    answer_file(rt, Arc::new(alloc, catalog)?, path)
 }

@@ -9,7 +9,6 @@ use pcef_journal::Journal;
 use pcef_line::{Line, read_line};
 use pcef_model::{Command, Profile, Refusal, Step};
 use pcef_profile::read_profile;
-use pcef_test_scripts::PROFILE;
 use pcef_usage::Usage;
 use pcef_world::StepAnswer;
 use std::alloc::{AllocError, Global};
@@ -17,18 +16,18 @@ use std::io::{self, Write};
 use std::sync::Arc;
 
 /// The profile that a session is opened with.
-fn profile(alloc: Global) -> Result<Profile, AllocError> {
-    match read_profile(alloc, PROFILE) {
+fn profile_of(alloc: Global, text: &str) -> Result<Profile, AllocError> {
+    match read_profile(alloc, text) {
         Ok(profile) => Ok(profile),
         Err(_) => Err(AllocError),
     }
 }
 
 /// The profile, read once more where the first reading found no memory.
-fn profile_at_last(alloc: Global) -> Result<Profile, AllocError> {
-    match profile(alloc) {
+fn profile_at_last(alloc: Global, text: &str) -> Result<Profile, AllocError> {
+    match profile_of(alloc, text) {
         Ok(profile) => Ok(profile),
-        Err(_) => profile(alloc),
+        Err(_) => profile_of(alloc, text),
     }
 }
 
@@ -84,13 +83,14 @@ fn text_of(
 pub(crate) fn answer_steps<W: Write>(
     alloc: Global,
     catalog: Arc<Catalog>,
+    profile: &str,
     script: &str,
     writer: &mut W,
 ) -> io::Result<()> {
     let spare = Arc::try_clone(&catalog)?;
-    let opened = match World::open(alloc, profile_at_last(alloc)?, catalog) {
+    let opened = match World::open(alloc, profile_at_last(alloc, profile)?, catalog) {
         Ok(world) => Ok(world),
-        Err(_) => World::open(alloc, profile(alloc)?, spare),
+        Err(_) => World::open(alloc, profile_of(alloc, profile)?, spare),
     };
     let Ok(mut world) = opened else {
         return Err(AllocError)?;
@@ -120,9 +120,14 @@ fn octets_of(usage: &Usage) -> (u64, u64) {
 
 /// How many steps a run of a list answers, and what its world then has: the number of its generation, its rows, its
 /// reports, and the octets that were reported for its keys and that were not.
-fn listed(alloc: Global, catalog: Arc<Catalog>, script: &str) -> Result<[u64; 6], AllocError> {
+fn listed(
+    alloc: Global,
+    catalog: Arc<Catalog>,
+    profile: &str,
+    script: &str,
+) -> Result<[u64; 6], AllocError> {
     let steps = steps_of(alloc, script)?;
-    let Ok((world, answers)) = run(alloc, profile(alloc)?, catalog, steps) else {
+    let Ok((world, answers)) = run(alloc, profile_of(alloc, profile)?, catalog, steps) else {
         return Err(AllocError);
     };
     let session = world.session();
@@ -141,13 +146,14 @@ fn listed(alloc: Global, catalog: Arc<Catalog>, script: &str) -> Result<[u64; 6]
 pub(crate) fn answer_list<W: Write>(
     alloc: Global,
     catalog: Arc<Catalog>,
+    profile: &str,
     script: &str,
     writer: &mut W,
 ) -> io::Result<()> {
     let spare = Arc::try_clone(&catalog)?;
-    let told = match listed(alloc, catalog, script) {
+    let told = match listed(alloc, catalog, profile, script) {
         Ok(told) => told,
-        Err(_) => listed(alloc, spare, script)?,
+        Err(_) => listed(alloc, spare, profile, script)?,
     };
     let [steps, generation, rows, reports, reported, unreported] = told;
     writeln!(
@@ -160,13 +166,14 @@ pub(crate) fn answer_list<W: Write>(
 pub(crate) fn answer_commands<W: Write>(
     alloc: Global,
     catalog: Arc<Catalog>,
+    profile: &str,
     script: &str,
     writer: &mut W,
 ) -> io::Result<()> {
     let spare = Arc::try_clone(&catalog)?;
-    let opened = match Session::open(alloc, profile_at_last(alloc)?, catalog) {
+    let opened = match Session::open(alloc, profile_at_last(alloc, profile)?, catalog) {
         Ok(session) => Ok(session),
-        Err(_) => Session::open(alloc, profile(alloc)?, spare),
+        Err(_) => Session::open(alloc, profile_of(alloc, profile)?, spare),
     };
     let Ok(mut session) = opened else {
         return Err(AllocError)?;
