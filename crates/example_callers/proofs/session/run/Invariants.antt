@@ -1,5 +1,5 @@
 use Rattle.std.proofs.Common.{◌≡◌}
-use Rattle.example_session.proofs.main.Given as goal
+use Rattle.example_callers.proofs.session.run.Given as goal
 
 -- the rules are those of the session
 abbrev pub invariant-loop-line : goal.invariant-loop-line

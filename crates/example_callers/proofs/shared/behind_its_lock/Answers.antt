@@ -1,6 +1,6 @@
 use Rattle.std.proofs.Common.{ap}
 use Rattle.pcef_model.specs.Journals.{attach_count}
-use Rattle.example_shared.proofs.behind_its_lock.Goals as goal
+use Rattle.example_callers.proofs.shared.behind_its_lock.Goals as goal
 
 pub open-requires-clause-fresh : goal.open-requires-clause-fresh
 unfolding attach_count

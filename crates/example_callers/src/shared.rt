@@ -1,6 +1,8 @@
-//! An example for callers in Rattle: two threads share a session. One is at its desk and gives commands; the other is a
-//! worker, which judges packets and hands them over.
-#![tactic(auto)]
+//! Two threads share a session. One is at its desk and gives commands; the other is a worker, which judges packets and
+//! hands them over.
+//!
+//! Its libraries: `pcef_built_in`, `pcef_profile`, `pcef_worker`, `pcef_lock`, `pcef_publish`, `pcef_share`,
+//! `pcef_journaled`, `pcef_session`, `pcef_model`, `pcef_catalog`, `pcef_rule`, `pcef_packet`.
 
 ghost use Rattle.std.specs.Prelude.{◌≡◌, ◌+◌, [], All, IfSome};
 ghost use Rattle.std.specs.Arc.{arc_value};
@@ -128,8 +130,10 @@ fn shared<R: Threads + Wait + Sync>(rt: &R, alloc: Global) -> Option<Totals> {
     behind_its_lock::<ShapedCatalog, Brand, _>(rt, alloc, catalog, session, opened, blanks)
 }
 
-fn main(rt: HostRuntime) -> io::Result<()> {
-    match shared(&rt, rt.alloc()) {
+/// Tells how many packets were handed over. The runtime comes twice: outside `main` a function may start threads and wait
+/// only by a bound that says so.
+pub fn run<R: Threads + Wait + Sync>(threads: &R, rt: &HostRuntime) -> io::Result<()> {
+    match shared(threads, rt.alloc()) {
         Some(totals) => println!(rt; "{} packets were handed over", totals.rows),
         None => println!(rt; "no memory or no thread"),
     }

@@ -1,5 +1,6 @@
-//! An example for callers in Rattle: makes a table of one rule, with its index, and tells what it decides of packets.
-#![tactic(auto)]
+//! Makes a table of one rule, with its index, and tells what it decides of packets.
+//!
+//! Its libraries: `pcef_index`, `pcef_table`, `pcef_model`, `pcef_catalog`, `pcef_rule`, `pcef_filter`, `pcef_packet`.
 
 ghost use Rattle.std.specs.Prelude.{◌≡◌, Err, IfSome, MatchResult, Ok};
 ghost use Rattle.pcef_catalog.specs.Catalogs.{offers_of};
@@ -85,7 +86,8 @@ fn verdict(
     Ok(table.classify(catalog, ue, &header))
 }
 
-fn main(rt: HostRuntime) -> io::Result<()> {
+/// Tells what the table decides of three packets, of which one is cut.
+pub fn run(rt: &HostRuntime) -> io::Result<()> {
     // No predefined rules: all rules come from the PCRF.
     let Ok(catalog) = Catalog::new(rt.alloc(), Vec::new(rt.alloc())) else {
         return println!(rt; "no memory for a catalog");

@@ -1,5 +1,7 @@
-//! An example for callers in Rattle: opens a session by the text of a profile, and answers lines as a script does.
-#![tactic(auto)]
+//! Opens a session by the text of a profile, and answers lines as a script does.
+//!
+//! Its libraries: `pcef_built_in`, `pcef_script`, `pcef_profile`, `pcef_line`, `pcef_world`, `pcef_model`,
+//! `pcef_catalog`.
 
 ghost use Rattle.std.specs.Prelude.{◌≡◌, IfSome, Ok};
 ghost use Rattle.pcef_model.specs.ProfileModel.{ProfileModel, setting_of};
@@ -69,7 +71,8 @@ fn answered(
     answer_alone(alloc, catalog, world, lines, line.as_bytes()).ok()?
 }
 
-fn main(rt: HostRuntime) -> io::Result<()> {
+/// Opens a session, and tells the answer to each line.
+pub fn run(rt: &HostRuntime) -> io::Result<()> {
     let alloc = rt.alloc();
     let Ok(catalog) = ShapedCatalog::built_in(alloc) else {
         return println!(rt; "no memory for the predefined rules");

@@ -1,6 +1,6 @@
 use Rattle.pcef_model.specs.Journals.{gen}
 use Rattle.pcef_share.specs.Names.{name_at}
-use Rattle.example_shared.proofs.shared.Given as goal
+use Rattle.example_callers.proofs.shared.shared.Given as goal
 
 -- the name of the session, of the blanks and of the opened history
 abbrev pub ghosts-behind_its_lock : goal.ghosts-behind_its_lock
