@@ -1,164 +1,58 @@
-//! A program that judges recorded packets by a table of rules, again and again: what the index takes, and what a linear
-//! scan.
+//! A program that measures, again and again, what a packet's verdict takes, a refresh, and workers behind a lock.
 //!
-//! `pcef_bench RULES PACKETS PASSES [ADDRESS] [scan]`. RULES has a line for each filter,
-//! `NAME PRECEDENCE FLOW TEXT`, where FLOW is a flow word or `-`, and the filters of a rule stand together.
-//! PACKETS has a count of four octets, and for each packet its length in two octets, its direction (0 uplink,
-//! 1 downlink) and its octets, little endian. With PASSES 0 the verdict on each packet is written, one a line,
-//! else how many packets of all passes went which way. ADDRESS is the session's, of either version; without
-//! it the session has 10.0.0.2. With `scan` no index is asked.
+//! - `pcef_bench classify ..` judges recorded packets by a table of rules, with its index or by a linear scan.
+//! - `pcef_bench refresh ..` publishes tables and refreshes subscribers.
+//! - `pcef_bench workers ..` has workers judge packets and hand them over, each in a thread of its own.
 //!
-//! `pcef_bench RULES build TIMES` builds the index so many times, and writes the number of rules.
+//! The module of each measurement says what follows its word. Several measurements come one behind the other, with the
+//! word `then` between two. Their output is the same each time; what passed stands on standard error.
+//!
+//! The exit status is 2 where the words ask for nothing that is measured, and 4 where a file can't be read, memory is
+//! out or a thread doesn't start.
 #![tactic(auto)]
 
-mod packets;
-mod rules;
+mod arguments;
+mod classify;
+mod laps;
+mod refresh;
+mod workers;
 
-ghost use Rattle.pcef_catalog.specs.Catalogs.{offers_of};
-ghost use Rattle.pcef_table.specs.Tables.{IsTable};
-
-use packets::{Tally, Way, judge_all, without_count, write_verdicts};
-use pcef_catalog::Catalog;
-use pcef_index::{Index, Indexed};
-use pcef_packet::Addr;
-use std::io::{self, BufWriter, Write};
+use arguments::words;
+use std::io;
 use std::process::ExitCode;
-use std::{env, fs};
+use std::sync::Wait;
+use std::thread::Threads;
 
-/// The session's address where no word gives one: 10.0.0.2.
-const UE: Addr = Addr::V4(0x0A00_0002);
-
-/// How the packets are judged.
-#[derive(Clone, Copy)]
-struct Work {
-    /// How many times, or 0 for the verdict on each.
-    passes: u32,
-    /// The session's address.
-    ue: Addr,
-    /// By the index or by a scan.
-    way: Way,
-}
-
-/// The arguments after the program's name.
-fn words(rt: &HostRuntime) -> io::Result<Vec<String>> {
-    let mut words = Vec::new(rt.alloc());
-    for word in env::args(rt)?.skip(1) {
-        words.push(word)?;
-    }
-    Ok(words)
-}
-
-/// An address in text.
-fn address_of(word: &String) -> Option<Addr> {
-    Addr::from_text(word.as_bytes())
-}
-
-/// Builds the index of the rules of a file again and again, or tells that these are none.
-fn build(rt: &HostRuntime, catalog: &Catalog, rules: &str, times: u32) -> io::Result<bool> {
-    let text = fs::read_to_string(rt, rules)?;
-    let mut writer = io::writer(rt);
-    let Ok(table) = rules::table(rt.alloc(), catalog, text.as_str()) else {
-        return Ok(false);
-    };
-    for _ in 0..times {
-        let _index = Index::build(rt.alloc(), &table, catalog)?;
-    }
-    writeln!(writer, "rules {}", table.len())?;
-    Ok(true)
-}
-
-/// Judges recorded packets so many times, and writes how many went which way, or the verdict on each packet.
-fn judge<W: Write>(
-    catalog: &Catalog,
-    rules: &Indexed,
-    recorded: &[u8],
-    work: Work,
-    writer: &mut W,
-) -> io::Result<()>
-    requires { IsTable (offers_of catalog.now) rules.now.entries }
-{
-    let Work { passes, ue, way } = work;
-    if passes == 0 {
-        return write_verdicts(catalog, rules, way, ue, recorded, writer);
-    }
-    let mut tally = Tally::default();
-    for _ in 0..passes {
-        judge_all(catalog, rules, way, ue, recorded, &mut tally);
-    }
-    writeln!(
-        writer,
-        "passed {} gated {} unmatched {} stray {} octets {}",
-        tally.passed, tally.gated, tally.unmatched, tally.stray, tally.octets
-    )
-}
-
-/// Judges the packets of a file.
-fn judge_file(
+/// Makes the measurement that these words ask for, or tells that they ask for none.
+fn measure<T: Threads + Wait + Sync>(
+    threads: &T,
     rt: &HostRuntime,
-    catalog: &Catalog,
-    rules: &Indexed,
-    packets: &str,
-    work: Work,
-) -> io::Result<()>
-    requires { IsTable (offers_of catalog.now) rules.now.entries }
-{
-    let file = fs::read(rt, packets)?;
-    let mut writer = BufWriter::new(rt.alloc(), io::writer(rt))?;
-    judge(catalog, rules, without_count(&file), work, &mut writer)?;
-    writer.flush()
-}
-
-/// Judges the packets of one file by the rules of another, or tells that these are none.
-fn run(
-    rt: &HostRuntime,
-    catalog: &Catalog,
-    rules: &str,
-    packets: &str,
-    work: Work,
+    asked: &[String],
 ) -> io::Result<bool> {
-    let text = fs::read_to_string(rt, rules)?;
-    let Ok(table) = rules::table(rt.alloc(), catalog, text.as_str()) else {
+    let [name, words @ ..] = asked else {
         return Ok(false);
     };
-    let rules = Indexed::new(rt.alloc(), table, catalog)?;
-    judge_file(rt, catalog, &rules, packets, work)?;
-    Ok(true)
+    match name.as_str() {
+        "classify" => classify::measure(rt, words),
+        "refresh" => refresh::measure(threads, rt, words),
+        "workers" => workers::measure(threads, rt, words),
+        _ => Ok(false),
+    }
 }
 
-/// Does what the words ask for, or tells that they ask for nothing.
-fn done(rt: &HostRuntime, catalog: &Catalog, words: &[String]) -> io::Result<bool> {
-    let (rules, packets, passes, ue, way) = match words {
-        [rules, packets, passes] => (rules, packets, passes, Some(UE), Way::Index),
-        [rules, packets, passes, word] if word.as_str() == "scan" => {
-            (rules, packets, passes, Some(UE), Way::Scan)
+/// Makes each measurement in turn, up to one that isn't asked for as it should be.
+fn measure_each<T: Threads + Wait + Sync>(threads: &T, rt: &HostRuntime) -> io::Result<bool> {
+    let words = words(rt)?;
+    for asked in words.as_slice().split(|word| word.as_str() == "then") {
+        if !measure(threads, rt, asked)? {
+            return Ok(false);
         }
-        [rules, packets, passes, ue] => (rules, packets, passes, address_of(ue), Way::Index),
-        [rules, packets, passes, ue, word] if word.as_str() == "scan" => {
-            (rules, packets, passes, address_of(ue), Way::Scan)
-        }
-        _ => return Ok(false),
-    };
-    let Some(ue) = ue else {
-        return Ok(false);
-    };
-    match passes.as_str().parse::<u32>() {
-        Ok(times) if packets.as_str() == "build" => build(rt, catalog, rules.as_str(), times),
-        Ok(passes) => {
-            let work = Work { passes, ue, way };
-            run(rt, catalog, rules.as_str(), packets.as_str(), work)
-        }
-        Err(_) => Ok(false),
     }
+    Ok(true)
 }
 
 fn main(rt: HostRuntime) -> ExitCode {
-    let Ok(words) = words(&rt) else {
-        return ExitCode::from(3);
-    };
-    let Ok(catalog) = Catalog::new(rt.alloc(), Vec::new(rt.alloc())) else {
-        return ExitCode::from(4);
-    };
-    match done(&rt, &catalog, words.as_slice()) {
+    match measure_each(&rt, &rt) {
         Ok(true) => ExitCode::from(0),
         Ok(false) => ExitCode::from(2),
         Err(_) => ExitCode::from(4),

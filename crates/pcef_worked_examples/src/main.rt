@@ -1,13 +1,20 @@
-//! A program that goes through the worked examples that its words name: scripts, files of lines and files of profiles.
+//! A program that goes through the worked examples that its words name: scripts, and files of steps, of lines and of
+//! profiles.
 //!
 //! Its contracts tell: nothing of its answers: the gate wants a line for each script, and what was worked out by hand
-//! for each line and profile.
+//! for each line and profile; it shows that a refused call leaves a world and a session as they were, with each
+//! allocation refused in turn.
 //!
-//! A word that ends in `.lines` or `.profiles` names a file. Any other names a script: `NAME.jsonl` has its lines, and
-//! `NAME.answers.jsonl` their answers, which were worked out by hand. The session's profile is `NAME.toml` where there
-//! is such a file, else `profile.toml`. Each script runs twice: for a writer that takes all that it is offered, and for
-//! one that takes half. For each script a line is written: how many answers it has and how many of its lines are at
-//! fault, or the first answer that isn't as worked out.
+//! A word that ends in `.steps`, `.lines` or `.profiles` names a file. Any other names a script: `NAME.jsonl` has its
+//! lines, and `NAME.answers.jsonl` their answers, which were worked out by hand. The session's profile is `NAME.toml`
+//! where there is such a file, else `profile.toml`. Each script runs twice: for a writer that takes all that it is
+//! offered, and for one that takes half. For each script a line is written: how many answers it has and how many of its
+//! lines are at fault, or the first answer that isn't as worked out.
+//!
+//! A file of steps has the lines of a script, without faults and without `show`. They are answered through the calls of
+//! `pcef_core`, on the profile `profile.toml`: one by one on a world, all at once, and the commands alone on a session.
+//! The answers are written, and below those of the world what it has after all steps at once. A call that found no
+//! memory is made once more.
 //!
 //! A file of lines has a line of a script in each line, and what it is read as is written below it. Blank lines and
 //! lines that begin with `#` stand between them, and are written as they are. A control picture stands for its control
@@ -16,18 +23,20 @@
 //! of each of its octets.
 //!
 //! A file of profiles has a profile behind each line that begins with `===`. Only these lines are written, and below
-//! each what its profile is read as. At the end come the faults that no text has.
+//! each what its profile is read as. The word `faults_that_no_text_has` has those faults written that no file shows.
 //!
 //! The exit status is 1 where an answer isn't as worked out, and 3 where a file can't be read, the profile of a script
 //! is at fault or a script ends early.
 #![tactic(auto)]
 
 mod addresses;
+mod calls;
 mod comparing;
 mod lines;
 mod profiles;
 mod reading;
 mod scripts;
+mod steps;
 mod taker;
 mod telling;
 
@@ -37,15 +46,20 @@ use scripts::compare;
 use std::process::ExitCode;
 use std::sync::Arc;
 use std::{env, io};
+use steps::tell_steps;
 
 /// Tells what an example comes to, and gives whether each answer of a script is as worked out.
 fn tell_example(rt: &HostRuntime, catalog: &Arc<Catalog>, word: &str) -> io::Result<bool> {
-    if word.ends_with(".lines") || word.ends_with(".profiles") {
+    if word == "faults_that_no_text_has" {
+        tell_other_faults(rt)?;
+    } else if word.ends_with(".steps") {
+        tell_steps(rt, word)?;
+    } else if word.ends_with(".lines") || word.ends_with(".profiles") {
         tell_file(rt, word)?;
-        Ok(true)
     } else {
-        compare(rt, Arc::try_clone(catalog)?, word)
+        return compare(rt, Arc::try_clone(catalog)?, word);
     }
+    Ok(true)
 }
 
 /// Tells what all examples come to that the words name, and gives whether each answer of each script is as worked out.
@@ -54,7 +68,6 @@ fn tell_examples(rt: &HostRuntime, catalog: &Arc<Catalog>) -> io::Result<bool> {
     for word in env::args(rt)?.skip(1) {
         are_all &= tell_example(rt, catalog, word.as_str())?;
     }
-    tell_other_faults(rt)?;
     Ok(are_all)
 }
 

@@ -1,0 +1,227 @@
+//! What a refresh takes: tables are published and subscribers refreshed, again and again.
+//!
+//! `refresh SUBSCRIBERS TABLES REFRESHES` publishes so many empty tables, one after the other, and after each lets each
+//! of so many subscribers refresh so many times. At the end the newest generation and the one that the last subscriber
+//! holds are written.
+//!
+//! `refresh SUBSCRIBERS TABLES REFRESHES times` tells on standard error, too, what a refresh that finds a newer table
+//! took, what one that finds none, and what the swap of an own `Arc` for the newest table, all of the same subscribers,
+//! tables and run, in turn: of all tables the least, the median and the ninetieth of a hundred, the time of a look at
+//! the clock left out.
+
+mod times;
+
+ghost use Rattle.std.specs.Prelude.{◌≡◌, ◌<◌, [], IfOk};
+ghost use Rattle.std.specs.Arc.{arc_value};
+
+use crate::arguments::number;
+use crate::laps::Lap;
+use pcef_index::Indexed;
+use pcef_publish::{Board, Opened, Publisher, Slot, Subscriber};
+use pcef_share::Naming;
+use std::alloc::{AllocError, Global};
+use std::io;
+use std::marker::Brand;
+use std::sync::{Arc, Wait};
+use std::time::Clock;
+use times::{Spreads, Times, of_each};
+
+/// What is to be done.
+#[derive(Clone, Copy)]
+struct Load {
+    subscribers: u32,
+    tables: u32,
+    refreshes: u32,
+    is_timed: bool,
+}
+
+/// What the words ask for, where three numbers are there, and `times` or nothing.
+fn load_of(words: &[String]) -> Option<Load> {
+    let (subscribers, tables, refreshes, is_timed) = match words {
+        [subscribers, tables, refreshes] => (subscribers, tables, refreshes, false),
+        [subscribers, tables, refreshes, word] if word.as_str() == "times" => {
+            (subscribers, tables, refreshes, true)
+        }
+        _ => return None,
+    };
+    Some(Load {
+        subscribers: number(subscribers)?,
+        tables: number(tables)?,
+        refreshes: number(refreshes)?,
+        is_timed,
+    })
+}
+
+/// The empty table of a generation.
+fn empty_table(alloc: Global, generation: u32) -> Result<Arc<Indexed>, AllocError>
+    ensures number { IfOk result (λ t. (arc_value t).number ≡ generation) }
+    ensures entries { IfOk result (λ t. (arc_value t).entries ≡ []) }
+{
+    Ok(Arc::new(alloc, Indexed::empty(alloc, generation)?)?)
+}
+
+fn refresh_each<N: Naming>(subscribers: &mut [Subscriber<N>], times: u32) {
+    for subscriber in subscribers {
+        for _ in 0..times {
+            subscriber.refresh();
+        }
+    }
+}
+
+/// Swaps each of these for another owner of the newest table.
+fn swap_each(held: &mut [Arc<Indexed>], newest: &Arc<Indexed>) -> Result<(), AllocError> {
+    for own in held {
+        *own = Arc::try_clone(newest)?;
+    }
+    Ok(())
+}
+
+/// So many owners of a table.
+fn owners(
+    alloc: Global,
+    table: &Arc<Indexed>,
+    count: u32,
+) -> Result<Vec<Arc<Indexed>>, AllocError> {
+    let mut owners = Vec::new(alloc);
+    for _ in 0..count {
+        owners.push(Arc::try_clone(table)?)?;
+    }
+    Ok(owners)
+}
+
+/// Refreshes all subscribers, and swaps as many owners, each after a look at the clock.
+fn time_each<N: Naming, C: Clock>(
+    clock: &C,
+    subscribers: &mut [Subscriber<N>],
+    held: &mut [Arc<Indexed>],
+    newest: &Arc<Indexed>,
+    times: &mut Times,
+) -> io::Result<()> {
+    let mut lap = Lap::begin(clock)?;
+    refresh_each(subscribers, 1);
+    times.newer.push(lap.end(clock)?)?;
+    refresh_each(subscribers, 1);
+    times.same.push(lap.end(clock)?)?;
+    swap_each(held, newest)?;
+    times.own.push(lap.end(clock)?)?;
+    times.clock.push(lap.end(clock)?)?;
+    Ok(())
+}
+
+/// What was reached in the end, and what it took.
+#[derive(Clone, Copy)]
+struct Reached {
+    newest: u32,
+    held: u32,
+    spreads: Spreads,
+}
+
+/// Publishes the next table, and lets each subscriber refresh. Where it is timed, so many owners of tables are swapped
+/// beside them.
+fn publish_next<N: Naming, W: Board<Slot<N>> + Drop, C: Clock>(
+    clock: &C,
+    alloc: Global,
+    load: Load,
+    publisher: &mut Publisher<N, W>,
+    subscribers: &mut [Subscriber<N>],
+    held: &mut [Arc<Indexed>],
+    times: &mut Times,
+) -> Option<()> {
+    let generation = publisher.generation().checked_add(1)?;
+    let table = empty_table(alloc, generation).ok()?;
+    let newest = Arc::try_clone(&table).ok()?;
+    publisher.publish(table).ok()?;
+    if load.is_timed {
+        time_each(clock, subscribers, held, &newest, times).ok()?;
+    }
+    refresh_each(subscribers, load.refreshes);
+    Some(())
+}
+
+/// Publishes all tables: the newest generation, the one that the last subscriber holds, and what it took.
+fn publish_all<N: Naming, W: Board<Slot<N>> + Drop, C: Clock>(
+    clock: &C,
+    alloc: Global,
+    load: Load,
+    publisher: &mut Publisher<N, W>,
+    subscribers: &mut [Subscriber<N>],
+) -> Option<Reached> {
+    let mut held = owners(alloc, subscribers.last()?.current().1, load.subscribers).ok()?;
+    let mut times = Times::new(alloc);
+    for _ in 0..load.tables {
+        publish_next(
+            clock,
+            alloc,
+            load,
+            publisher,
+            subscribers,
+            &mut held,
+            &mut times,
+        )?;
+    }
+    Some(Reached {
+        newest: publisher.generation(),
+        held: subscribers.last()?.current().0,
+        spreads: times.spreads().ok()?,
+    })
+}
+
+/// What is reached by a publisher of its own.
+fn measured<N: Naming, R: Wait + Drop, C: Clock>(
+    rt: R,
+    clock: &C,
+    alloc: Global,
+    opened: Opened,
+    load: Load,
+) -> Option<Reached>
+    requires book { (opened.book ≡ N.book) × (opened.root ≡ N.root) }
+    requires first { opened.table.number ≡ N.first }
+    requires entries { opened.table.entries ≡ [] }
+    requires subscribers { 0 < load.subscribers }
+{
+    match Publisher::<N, _>::new(rt, alloc, opened, load.subscribers as usize) {
+        Ok((mut publisher, mut subscribers)) => {
+            publish_all(clock, alloc, load, &mut publisher, &mut subscribers)
+        }
+        Err(_) => None,
+    }
+}
+
+/// Tells what one refresh or swap of a kind took, in hundredths of a nanosecond.
+fn tell(rt: &HostRuntime, name: &str, load: Load, rounds: [u64; 3], look: u64) {
+    let [least, median, late] = rounds;
+    let least = of_each(least, look, load.subscribers);
+    let median = of_each(median, look, load.subscribers);
+    let late = of_each(late, look, load.subscribers);
+    let _ = eprintln!(rt; "{name}: least {least}, median {median}, ninetieth {late} (1/100 ns)");
+}
+
+/// Tells what each kind took.
+fn tell_each(rt: &HostRuntime, load: Load, spreads: Spreads) {
+    let [look, _, _] = spreads.clock;
+    tell(rt, "newer", load, spreads.newer, look);
+    tell(rt, "same", load, spreads.same, look);
+    tell(rt, "own Arc", load, spreads.own, look);
+}
+
+/// Publishes and refreshes as the words ask, or tells that they ask for nothing.
+pub fn measure<R: Wait>(waiting: &R, rt: &HostRuntime, words: &[String]) -> io::Result<bool> {
+    let Some(load) = load_of(words) else {
+        return Ok(false);
+    };
+    if load.subscribers == 0 {
+        return Ok(false);
+    }
+    let Ok(first) = empty_table(rt.alloc(), 0) else {
+        return Err(AllocError.into());
+    };
+    let opened = Opened::new(first);
+    let Some(reached) = measured::<Brand, _, _>(waiting, rt, rt.alloc(), opened, load) else {
+        return Err(AllocError.into());
+    };
+    if load.is_timed {
+        tell_each(rt, load, reached.spreads);
+    }
+    println!(rt; "newest {} held {}", reached.newest, reached.held)?;
+    Ok(true)
+}

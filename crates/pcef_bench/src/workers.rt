@@ -1,0 +1,178 @@
+//! What workers of one session reach, beside workers that share nothing: each in a thread of its own, they judge
+//! packets and hand them over.
+//!
+//! `workers WORKERS BATCHES RULES` opens a session with 1 to 64 rules behind a lock. Each of 1 to 16 workers attaches,
+//! takes 32 packets and flushes, so many times, and finishes. Then all is gathered, and the rows of the journal and the
+//! octets that were counted for the key of the rules are written.
+//!
+//! With a fourth word the workers do something else:
+//!
+//! - `counted`: as without a word, but neither the session nor a worker stores the rows.
+//! - `times`: each flush is timed, and on standard error stand the least, the median and the ninetieth of a hundred.
+//! - `own`: each judges 32 packets by the table that it holds and lets their rows go. Nothing is shared.
+//! - `read`: as `own`, and each refreshes before it judges 32 packets.
+//!
+//! With the last two no row reaches the session, and the rows that were judged are written. What all workers together
+//! took, in nanoseconds, stands on standard error.
+
+mod alone;
+mod opening;
+mod working;
+
+ghost use Rattle.std.specs.Prelude.{◌≡◌, []};
+ghost use Rattle.std.specs.Arc.{arc_value};
+ghost use Rattle.pcef_lock.specs.Opening.{GoesBy};
+
+use crate::arguments::number;
+use opening::{packets, session};
+use pcef_catalog::{Catalog, Detects};
+use pcef_journaled::JournaledState;
+use pcef_lock::{Shared, opened};
+use pcef_packet::Header;
+use pcef_publish::Opened;
+use pcef_share::{Blanks, Naming};
+use std::alloc::{AllocError, Global};
+use std::io;
+use std::marker::Brand;
+use std::sync::{Arc, Wait};
+use std::thread::Threads;
+use std::time::Clock;
+use working::{Reached, outcome_of};
+
+/// What the workers do.
+#[derive(Clone, Copy, Debug, PartialEq, Eq)]
+pub enum Work {
+    /// Take and flush.
+    Flush,
+    /// Take and flush, with rows that are counted and not stored.
+    CountedFlush,
+    /// Take and flush, each flush timed.
+    TimedFlush,
+    /// Judge by the table that is held.
+    Own,
+    /// Refresh, and judge by the table that is then held.
+    Read,
+}
+
+/// What is to be done.
+#[derive(Clone, Copy)]
+pub struct Load {
+    /// How many workers there are.
+    pub workers: u8,
+    /// How many times each has 32 packets.
+    pub batches: u32,
+    /// How many rules the session has.
+    pub rules: u8,
+    /// What the workers do.
+    pub work: Work,
+}
+
+/// The work that a word names.
+fn work_named(word: &str) -> Option<Work> {
+    match word {
+        "counted" => Some(Work::CountedFlush),
+        "times" => Some(Work::TimedFlush),
+        "own" => Some(Work::Own),
+        "read" => Some(Work::Read),
+        _ => None,
+    }
+}
+
+/// What these numbers ask for, where they are within their limits.
+fn load_within(workers: u32, batches: u32, rules: u32, work: Work) -> Option<Load> {
+    if !(1..=16).contains(&workers) || !(1..=64).contains(&rules) {
+        return None;
+    }
+    Some(Load {
+        workers: workers as u8,
+        batches,
+        rules: rules as u8,
+        work,
+    })
+}
+
+/// What the words ask for, where three numbers are there, and a word for the work or nothing.
+fn load_of(words: &[String]) -> Option<Load> {
+    let (workers, batches, rules, work) = match words {
+        [workers, batches, rules] => (workers, batches, rules, Work::Flush),
+        [workers, batches, rules, word] => (workers, batches, rules, work_named(word.as_str())?),
+        _ => return None,
+    };
+    load_within(number(workers)?, number(batches)?, number(rules)?, work)
+}
+
+/// What the workers of a session reach.
+fn measured<R: Threads + Wait + Sync, K: Clock + Sync>(
+    rt: &R,
+    clock: &K,
+    alloc: Global,
+    load: Load,
+) -> Option<Reached> {
+    let packets = packets(alloc, load)?;
+    let session = session(alloc, load)?;
+    let Ok(opened) = opened(&session) else {
+        return None;
+    };
+    let offered = Catalog::new(alloc, Vec::new(alloc)).ok()?;
+    let catalog = Arc::new(alloc, offered).ok()?;
+    behind_its_lock::<Catalog, Brand, _, _>(
+        rt,
+        clock,
+        alloc,
+        catalog,
+        session,
+        opened,
+        Blanks::new(),
+        packets.as_slice(),
+        load,
+    )
+}
+
+/// What the workers of a session reach that comes behind its lock and takes its rules.
+fn behind_its_lock<
+    C: Detects + Drop + Send + Sync,
+    N: Naming + Send + Sync,
+    R: Threads + Wait + Sync,
+    K: Clock + Sync,
+>(
+    rt: &R,
+    clock: &K,
+    alloc: Global,
+    catalog: Arc<C>,
+    session: JournaledState,
+    opened: Opened,
+    blanks: Blanks,
+    packets: &[Header],
+    load: Load,
+) -> Option<Reached>
+    requires named { GoesBy N.ledger N.setting N.first N.book N.root
+        session.session opened blanks }
+    requires fresh { session.session.journal ≡ [] }
+    requires offers { C.offers (arc_value catalog) ≡ session.session.setting.catalog }
+{
+    match Shared::<C, N, _>::open(rt, alloc, catalog, session, opened, blanks, load.workers) {
+        Ok((shared, desk)) => outcome_of(rt, clock, alloc, shared, desk, packets, load),
+        Err(_) => None,
+    }
+}
+
+/// Has the workers do as the words ask, or tells that they ask for nothing.
+pub fn measure<T: Threads + Wait + Sync>(
+    threads: &T,
+    rt: &HostRuntime,
+    words: &[String],
+) -> io::Result<bool> {
+    let Some(load) = load_of(words) else {
+        return Ok(false);
+    };
+    let Some(reached) = measured(threads, rt, rt.alloc(), load) else {
+        return Err(AllocError.into());
+    };
+    let _ = eprintln!(rt; "nanoseconds {}", reached.nanoseconds);
+    if load.work == Work::TimedFlush {
+        let [least, median, late] = reached.flushes;
+        let _ = eprintln!(rt; "flush: least {least}, median {median}, ninetieth {late} ns");
+    }
+    println!(rt; "rows {} counted {}", reached.rows, reached.counted)?;
+    Ok(true)
+}

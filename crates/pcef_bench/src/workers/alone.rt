@@ -1,0 +1,105 @@
+//! Workers that judge by the table that they hold, and hand nothing over.
+
+ghost use Rattle.std.specs.Prelude.{◌≡◌};
+ghost use Rattle.pcef_share.specs.Amounts.{zeros};
+
+use super::opening::packets_of;
+use super::working::Left;
+use pcef_catalog::Detects;
+use pcef_lock::{Departure, Finished, OwnRows, Seat, Shared};
+use pcef_packet::Header;
+use pcef_publish::{Board, Slot};
+use pcef_session::{Batch, MAX_WAITING};
+use pcef_share::{Naming, Shares};
+use std::alloc::Global;
+use std::sync::Wait;
+
+/// Judges the packets of a batch, whose rows then wait.
+fn judge_each<C: Detects, N: Naming>(
+    catalog: &C,
+    seat: &Seat<N>,
+    batch: &mut Batch,
+    packets: &[Header],
+)
+    requires offers { C.offers catalog.now ≡ N.setting.catalog }
+    requires ue { seat.now.ue ≡ N.setting.ue }
+{
+    for packet in packets {
+        let waiting = batch.len();
+        if waiting < MAX_WAITING {
+            batch.push(seat.judge(catalog, waiting as u64, packet));
+        }
+    }
+}
+
+/// How many rows wait, where the last one counts for a key.
+fn counting(batch: &Batch) -> u64 {
+    match batch.items().last() {
+        Some(item) if !item.slots.is_empty() => batch.len() as u64,
+        _ => 0,
+    }
+}
+
+/// Judges packets, so many times, each time by the newest table if it refreshes: how many rows were judged.
+fn judge_batches<C: Detects, N: Naming>(
+    catalog: &C,
+    seat: &mut Seat<N>,
+    batch: &mut Batch,
+    packets: &[Header],
+    batches: u32,
+    refreshes: bool,
+) -> u64
+    requires offers { C.offers catalog.now ≡ N.setting.catalog }
+    requires ue { seat.old.ue ≡ N.setting.ue }
+    ensures shares { seat.new.shares ≡ seat.old.shares }
+{
+    let mut judged: u64 = 0;
+    for number in 0..batches {
+        if refreshes {
+            seat.subscriber.refresh();
+        }
+        judge_each(catalog, seat, batch, packets_of(packets, number));
+        judged = judged.saturating_add(counting(batch));
+        batch.clear();
+    }
+    judged
+}
+
+/// What a worker hands in that handed no row over.
+fn without_rows<N: Naming>(alloc: Global, departure: Departure<N>, shares: Shares<N>) -> Finished<N>
+    requires { shares ≡ zeros }
+{
+    Finished::new(departure, OwnRows::new(alloc), shares)
+}
+
+/// A worker attaches, judges packets for itself alone and leaves.
+pub fn judged_alone<C: Detects + Drop, N: Naming, W: Board<Slot<N>> + Drop, R: Wait>(
+    rt: &R,
+    alloc: Global,
+    shared: &Shared<C, N, W>,
+    packets: &[Header],
+    batches: u32,
+    refreshes: bool,
+) -> Option<Left<N>> {
+    let catalog = shared.catalog().ok()?;
+    let mut batch = Batch::new(alloc).ok()?;
+    let Ok(mut seat) = shared.attach(rt) else {
+        return None;
+    };
+    let judged = judge_batches(
+        &*catalog, &mut seat, &mut batch, packets, batches, refreshes,
+    );
+    batch.clear();
+    let departure = shared.abandon(rt, &seat, &batch);
+    let Seat {
+        worker: _,
+        shares,
+        subscriber: _,
+        ue: _,
+    } = seat;
+    Some(Left {
+        finished: without_rows(alloc, departure, shares),
+        judged,
+        flushes: Vec::new(alloc),
+    })
+}

@@ -1,0 +1,302 @@
+//! What the workers do, each in a thread of its own.
+
+use super::alone::judged_alone;
+use super::opening::{give_commands, packets_of};
+use super::{Load, Work};
+use crate::laps::{Lap, spread};
+use pcef_catalog::Detects;
+use pcef_lock::{Desk, Finished, Shared, Totals};
+use pcef_packet::Header;
+use pcef_publish::{Board, Slot};
+use pcef_share::Naming;
+use pcef_worker::{OpenGate, Worker};
+use std::alloc::Global;
+use std::sync::Wait;
+use std::thread::{Threads, map_indices};
+use std::time::Clock;
+
+/// What a worker leaves.
+#[derive(Drop)]
+pub struct Left<N: Naming> {
+    /// What it hands in.
+    pub finished: Finished<N>,
+    /// How many rows it judged for itself alone.
+    pub judged: u64,
+    /// What each of its flushes took, in nanoseconds, where they were timed.
+    pub flushes: Vec<u64>,
+}
+
+/// What all workers leave.
+#[derive(Drop)]
+struct AllLeft<N: Naming> {
+    finished: Vec<Finished<N>>,
+    judged: u64,
+    flushes: Vec<u64>,
+}
+
+/// What the workers of a session reached.
+#[derive(Drop)]
+pub struct Reached {
+    /// The rows of the journal, or those that were judged where none was handed over.
+    pub rows: u64,
+    /// The octets that were counted for the key.
+    pub counted: u64,
+    /// What all workers together took, in nanoseconds.
+    pub nanoseconds: u64,
+    /// The least, the median and the ninetieth of a hundred timed flushes, in nanoseconds.
+    pub flushes: [u64; 3],
+}
+
+/// Takes the packets of a batch.
+fn take_each<C: Detects + Drop, N: Naming>(
+    worker: &mut Worker<C, N, OpenGate>,
+    packets: &[Header],
+) {
+    for packet in packets {
+        let _ = worker.take(packet).is_ok();
+    }
+}
+
+/// Takes packets and flushes, so many times, or until a flush is refused.
+fn flush_each<C: Detects + Drop, N: Naming, W: Board<Slot<N>> + Drop, R: Wait>(
+    rt: &R,
+    shared: &Shared<C, N, W>,
+    worker: &mut Worker<C, N, OpenGate>,
+    packets: &[Header],
+    batches: u32,
+) {
+    for batch in 0..batches {
+        take_each(worker, packets_of(packets, batch));
+        if worker.flush(rt, shared).is_err() {
+            return;
+        }
+    }
+}
+
+/// Takes packets and flushes, so many times: what each flush took.
+fn time_each<C: Detects + Drop, N: Naming, W: Board<Slot<N>> + Drop, R: Wait, K: Clock>(
+    rt: &R,
+    clock: &K,
+    shared: &Shared<C, N, W>,
+    worker: &mut Worker<C, N, OpenGate>,
+    packets: &[Header],
+    batches: u32,
+    flushes: &mut Vec<u64>,
+) -> Option<()> {
+    for batch in 0..batches {
+        take_each(worker, packets_of(packets, batch));
+        let mut lap = Lap::begin(clock).ok()?;
+        worker.flush(rt, shared).ok()?;
+        flushes.push(lap.end(clock).ok()?).ok()?;
+    }
+    Some(())
+}
+
+/// A worker attaches, takes packets, flushes and finishes. It stores the rows, or counts them.
+fn handed_over<C: Detects + Drop, N: Naming, W: Board<Slot<N>> + Drop, R: Wait>(
+    rt: &R,
+    alloc: Global,
+    shared: &Shared<C, N, W>,
+    packets: &[Header],
+    batches: u32,
+    stores: bool,
+) -> Option<Left<N>> {
+    let attached = if stores {
+        Worker::attach(rt, alloc, shared, OpenGate)
+    } else {
+        Worker::attach_without_rows(rt, alloc, shared, OpenGate)
+    };
+    let mut worker = attached.ok()?;
+    flush_each(rt, shared, &mut worker, packets, batches);
+    finished(rt, shared, worker, Vec::new(alloc))
+}
+
+/// A worker attaches, takes packets, flushes, each flush timed, and finishes.
+fn timed<C: Detects + Drop, N: Naming, W: Board<Slot<N>> + Drop, R: Wait, K: Clock>(
+    rt: &R,
+    clock: &K,
+    alloc: Global,
+    shared: &Shared<C, N, W>,
+    packets: &[Header],
+    batches: u32,
+) -> Option<Left<N>> {
+    let mut flushes = Vec::with_capacity(alloc, batches as usize).ok()?;
+    let mut worker = Worker::attach(rt, alloc, shared, OpenGate).ok()?;
+    let _ = time_each(
+        rt,
+        clock,
+        shared,
+        &mut worker,
+        packets,
+        batches,
+        &mut flushes,
+    );
+    finished(rt, shared, worker, flushes)
+}
+
+/// What a worker leaves that finishes.
+fn finished<C: Detects + Drop, N: Naming, W: Board<Slot<N>> + Drop, R: Wait>(
+    rt: &R,
+    shared: &Shared<C, N, W>,
+    worker: Worker<C, N, OpenGate>,
+    flushes: Vec<u64>,
+) -> Option<Left<N>> {
+    let (finished, _) = worker.finish(rt, shared).ok()?;
+    Some(Left {
+        finished,
+        judged: 0,
+        flushes,
+    })
+}
+
+/// What a worker does.
+fn worked<C: Detects + Drop, N: Naming, W: Board<Slot<N>> + Drop, R: Wait, K: Clock>(
+    rt: &R,
+    clock: &K,
+    alloc: Global,
+    shared: &Shared<C, N, W>,
+    packets: &[Header],
+    load: Load,
+) -> Option<Left<N>> {
+    match load.work {
+        Work::Flush => handed_over(rt, alloc, shared, packets, load.batches, true),
+        Work::CountedFlush => handed_over(rt, alloc, shared, packets, load.batches, false),
+        Work::TimedFlush => timed(rt, clock, alloc, shared, packets, load.batches),
+        Work::Own => judged_alone(rt, alloc, shared, packets, load.batches, false),
+        Work::Read => judged_alone(rt, alloc, shared, packets, load.batches, true),
+    }
+}
+
+/// Adds what one more worker leaves.
+fn add<N: Naming>(all: &mut AllLeft<N>, one: Left<N>) -> Option<()> {
+    let Left {
+        finished,
+        judged,
+        flushes,
+    } = one;
+    all.judged = all.judged.saturating_add(judged);
+    all.finished.push(finished).ok()?;
+    for flush in flushes {
+        all.flushes.push(flush).ok()?;
+    }
+    Some(())
+}
+
+/// What all workers leave, in one.
+fn together<N: Naming>(alloc: Global, left: Vec<Option<Left<N>>>) -> Option<AllLeft<N>> {
+    let mut all = AllLeft {
+        finished: Vec::new(alloc),
+        judged: 0,
+        flushes: Vec::new(alloc),
+    };
+    for one in left {
+        add(&mut all, one?)?;
+    }
+    Some(all)
+}
+
+/// What all workers leave, and what they took together, in nanoseconds.
+fn work_each<
+    C: Detects + Drop + Send + Sync,
+    N: Naming + Send + Sync,
+    W: Board<Slot<N>> + Drop + Send,
+    R: Threads + Wait + Sync,
+    K: Clock + Sync,
+>(
+    rt: &R,
+    clock: &K,
+    alloc: Global,
+    shared: &Shared<C, N, W>,
+    packets: &[Header],
+    load: Load,
+) -> Option<(AllLeft<N>, u64)> {
+    let workers = usize::from(load.workers);
+    let mut lap = Lap::begin(clock).ok()?;
+    let work = |_: usize| worked(rt, clock, alloc, shared, packets, load);
+    let left = map_indices(rt, alloc, workers, &work).ok()?;
+    let nanoseconds = lap.end(clock).ok()?;
+    Some((together(alloc, left)?, nanoseconds))
+}
+
+/// Gives the commands, and has the workers do their work.
+fn worked_off<
+    C: Detects + Drop + Send + Sync,
+    N: Naming + Send + Sync,
+    W: Board<Slot<N>> + Drop + Send,
+    R: Threads + Wait + Sync,
+    K: Clock + Sync,
+>(
+    rt: &R,
+    clock: &K,
+    alloc: Global,
+    shared: &Shared<C, N, W>,
+    desk: &mut Desk<N>,
+    packets: &[Header],
+    load: Load,
+) -> Option<(AllLeft<N>, u64)> {
+    give_commands(rt, alloc, shared, desk, load)?;
+    work_each(rt, clock, alloc, shared, packets, load)
+}
+
+/// What the workers of a session reach.
+pub fn outcome_of<
+    C: Detects + Drop + Send + Sync,
+    N: Naming + Send + Sync,
+    W: Board<Slot<N>> + Drop + Send,
+    R: Threads + Wait + Sync,
+    K: Clock + Sync,
+>(
+    rt: &R,
+    clock: &K,
+    alloc: Global,
+    shared: Shared<C, N, W>,
+    mut desk: Desk<N>,
+    packets: &[Header],
+    load: Load,
+) -> Option<Reached> {
+    match worked_off(rt, clock, alloc, &shared, &mut desk, packets, load) {
+        Some((left, nanoseconds)) => comes_to(rt, shared, desk, left, nanoseconds),
+        None => None,
+    }
+}
+
+/// What a session comes to whose workers left this after so many nanoseconds.
+fn comes_to<C: Detects + Drop, N: Naming, W: Board<Slot<N>> + Drop, R: Wait>(
+    rt: &R,
+    shared: Shared<C, N, W>,
+    desk: Desk<N>,
+    left: AllLeft<N>,
+    nanoseconds: u64,
+) -> Option<Reached> {
+    let AllLeft {
+        finished,
+        judged,
+        flushes,
+    } = left;
+    match gathered(rt, shared, desk, finished) {
+        Some(totals) => told(&totals, judged, flushes, nanoseconds),
+        None => None,
+    }
+}
+
+fn told(totals: &Totals, judged: u64, flushes: Vec<u64>, nanoseconds: u64) -> Option<Reached> {
+    Some(Reached {
+        rows: totals.rows.saturating_add(judged),
+        counted: totals.keys.as_slice().first()?.counted,
+        nanoseconds,
+        flushes: spread(flushes).ok()?,
+    })
+}
+
+/// The totals of a session whose workers have left.
+fn gathered<C: Detects + Drop, N: Naming, W: Board<Slot<N>> + Drop, R: Wait>(
+    rt: &R,
+    shared: Shared<C, N, W>,
+    desk: Desk<N>,
+    finished: Vec<Finished<N>>,
+) -> Option<Totals> {
+    if finished.len() > 16 {
+        return None;
+    }
+    shared.gather(rt, desk, finished).ok()
+}
