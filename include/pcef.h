@@ -12,7 +12,7 @@
  * handle, to the buffers that it is given and to the heap, or runs on without end. On a handle without a session each
  * call says so, and does nothing.
  *
- * WHAT YOU OWE, and no call can see: pointers to live memory of the length that is told, never null, also where the length
+ * WHAT YOU OWE, and no call can see: pointers to live memory of the length that you give, never null, also where the length
  * is 0; buffers that don't overlap one another or the handle; lengths below 2^63; and malloc, realloc and free of one
  * allocator, which align a block to each power of two up to 16 that divides its size (glibc's do).
  *
@@ -60,14 +60,14 @@ uint8_t pcef_open(pcef_session *at, const uint8_t *profile, size_t profile_lengt
 size_t pcef_line(pcef_session *at, const uint8_t *line, size_t line_length, uint8_t *answer, size_t answer_room);
 
 /* Gives how long the text of the session's reports is, from the one of this number on: a JSON array, the oldest first, each as
- * answers tell it. Reports are numbered from 0. As much as fits is written to `answer`: where the text is longer, call
+ * answers have it. Reports are numbered from 0. As much as fits is written to `answer`: where the text is longer, call
  * again with more room. Takes memory. PCEF_NO_SESSION, PCEF_NO_MEMORY, or PCEF_FORGOTTEN where one of these reports was
  * let go. */
 size_t pcef_reports(pcef_session *at, uint64_t first, uint8_t *answer, size_t answer_room);
 
 /* Lets go of the reports that the session made so far, and gives how many these are, which is the number of the next one.
  * Until then a session keeps them all. A gateway calls pcef_reports from the number on that this gave last, hands the
- * text on, and then calls this, before the next line. Reports that went still count; they can't be told again, and their
+ * text on, and then calls this, before the next line. Reports that went still count; they can't be written again, and their
  * memory serves for the next ones. Nothing else changes. Takes no memory. PCEF_NO_SESSION. */
 size_t pcef_forget(pcef_session *at);
 
