@@ -1,6 +1,8 @@
 //! What is wrong with the octets of a packet: how many there are, and how many its header asks for (RFC 791, clause 3.1;
 //! RFC 8200, clauses 3 and 4).
 
+ghost use Rattle.std.specs.Prelude.{◌<◌, ◌≤◌};
+
 use pcef_packet::PacketFault;
 use std::alloc::{AllocError, Global};
 use std::fmt::{self, Display, Formatter, Write};
@@ -88,6 +90,17 @@ struct Extension {
     len: usize,
 }
 
+/// The length of an extension header of this kind at a place, in units of eight octets behind the first eight.
+fn units_at(octets: &[u8], volume: usize, kind: usize, place: usize) -> usize
+    ensures { result ≤ 255 }
+{
+    if kind == 44 || volume < place.saturating_add(2) {
+        0
+    } else {
+        octet_at(octets, place.saturating_add(1))
+    }
+}
+
 /// The extension header at which a packet of version 6 with this volume ends too early.
 fn cut_extension(octets: &[u8], volume: usize) -> Option<Extension> {
     let mut kind = octet_at(octets, 6);
@@ -96,12 +109,7 @@ fn cut_extension(octets: &[u8], volume: usize) -> Option<Extension> {
         if !matches!(kind, 0 | 43 | 44 | 60) {
             return None;
         }
-        let words = if kind == 44 || volume < place.saturating_add(2) {
-            0
-        } else {
-            octet_at(octets, place.saturating_add(1))
-        };
-        let len = 8 + 8 * words;
+        let len = 8 + 8 * units_at(octets, volume, kind, place);
         if volume < place.saturating_add(len) {
             return Some(Extension { kind, place, len });
         }
