@@ -1,5 +1,7 @@
 -- What the octets from a fault of a capture on say of it (own choice).
 use Rattle.std.specs.Prelude.{ℕ, ◌+◌, ◌*◌, ◌==◌, List, ◌++◌, codes, decimal, slice_index_or, if◌then◌else◌}
+use Rattle.pcef_capture_file.specs.declared.fault.CaptureFault.{CaptureFault}
+use Rattle.pcef_capture_file.specs.declared.fault.CaptureFault.TheVariants.{TooManyInterfaces}
 
 -- the number in two octets from a place on, the lower one first or last; beyond the end there are zeros
 abbrev pub octet_at : List ℕ → ℕ → ℕ
@@ -50,3 +52,10 @@ abbrev pub version_text : List ℕ → List ℕ
 version_text octets =
     if octet_at octets 0 == 10 then version_with (version_of octets) (codes ": of pcapng 1.0 and 1.2 are read")
     else version_with (version_of octets) (codes ": of libpcap's format 2.4 is read")
+
+-- what to do about a fault that the octets don't explain
+abbrev pub advice_on : CaptureFault → List ℕ
+advice_on TooManyInterfaces =
+    codes "tshark -F pcap -r FILE -w NEW makes a capture of it without interfaces, if all have one link type"
+advice_on _ =
+    codes "it is cut or damaged there: copy or capture it anew; the lines of the packets before that are written"

@@ -1,14 +1,14 @@
 //! What a fault of a capture needs beside its name: what the octets are, or which number is unknown, and which are read.
 
-ghost use Rattle.std.specs.Prelude.{◌≡◌, ◌≢◌, ◌<◌, IfOk, IsSome, IsSomeAnd, string_bytes};
-ghost use Rattle.pcef_capture_file.specs.declared.fault.CaptureFault.TheVariants.{LinkType, NotACapture, TooManyInterfaces, Version};
-ghost use Rattle.pcef_capture.specs.Hints.{big_at, link_number, link_text, little_at, octet_at, pair_at, version_of, version_text};
+ghost use Rattle.std.specs.Prelude.{◌≡◌, ◌≢◌, ◌<◌, IfOk, string_bytes};
+ghost use Rattle.pcef_capture_file.specs.declared.fault.CaptureFault.TheVariants.{LinkType, NotACapture, Version};
+ghost use Rattle.pcef_capture.specs.Hints.{advice_on, big_at, link_number, link_text, little_at, octet_at, pair_at, version_of, version_text};
 
 use pcef_capture_file::CaptureFault;
 use std::alloc::{AllocError, Global};
 
 /// The formats that are no captures of these here, by their first octets.
-const OTHERS: [(&[u8], &str); 9] = [
+const OTHERS: [(&[u8], &str); 13] = [
     (
         b"\x1f\x8b",
         "gzip: unpack it first, as by gunzip -c FILE | pcef_capture .. -",
@@ -25,7 +25,12 @@ const OTHERS: [(&[u8], &str); 9] = [
         b"\x28\xb5\x2f\xfd",
         "zstd: unpack it first, as by unzstd -c FILE | pcef_capture .. -",
     ),
+    (
+        b"\x04\x22\x4d\x18",
+        "lz4: unpack it first, as by lz4 -dc FILE | pcef_capture .. -",
+    ),
     (b"PK\x03\x04", "zip: unpack it first"),
+    (b"7z\xbc\xaf", "7z: unpack it first"),
     (
         b"snoop\0\0\0",
         "snoop's format: tshark -F pcap -r FILE -w NEW makes a capture of it",
@@ -38,12 +43,31 @@ const OTHERS: [(&[u8], &str); 9] = [
         b"\xa1\xb2\xcd\x34",
         "libpcap's modified format: tshark -F pcap -r FILE -w NEW makes a capture of it",
     ),
-    (b"\xef\xbb\xbf", "text, which begins with a byte order mark"),
+    (
+        b"\xef\xbb\xbf",
+        "text, which begins with a byte order mark: a capture is none, as tcpdump -w FILE writes it",
+    ),
+    (
+        b"\xff\xfe",
+        "text in UTF-16: a capture is none, as tcpdump -w FILE writes it",
+    ),
+    (
+        b"\xfe\xff",
+        "text in UTF-16: a capture is none, as tcpdump -w FILE writes it",
+    ),
 ];
+
+/// What is told of other text.
+const TEXT: &str =
+    "text: a capture is none, as tcpdump -w FILE writes it, or text2pcap of a dump in hexadecimal";
 
 /// What to do with a capture of too many interfaces.
 const FEWER: &str =
     "tshark -F pcap -r FILE -w NEW makes a capture of it without interfaces, if all have one link type";
+
+/// What to do with a capture that ends too early, or has numbers that can't be.
+const ANEW: &str =
+    "it is cut or damaged there: copy or capture it anew; the lines of the packets before that are written";
 
 /// Whether an octet stands in a text of ASCII.
 fn is_text(octet: u8) -> bool {
@@ -58,9 +82,9 @@ fn other_format(octets: &[u8]) -> Option<&'static str> {
         }
     }
     if octets.is_empty() {
-        Some("it is empty")
+        Some("it is empty: tcpdump -w FILE writes a capture")
     } else if octets.iter().all(|octet| is_text(*octet)) {
-        Some("text")
+        Some(TEXT)
     } else {
         None
     }
@@ -153,29 +177,35 @@ fn link_line(alloc: Global, octets: &[u8]) -> Result<String, AllocError>
     )
 }
 
-/// A line on a fault that the octets from it on explain, or that says what to do, if there is one: of an unknown link type
-/// or version its number, and which are read. Takes memory for it.
-pub fn hint_of(
-    alloc: Global,
-    fault: CaptureFault,
-    octets: &[u8],
-) -> Result<Option<String>, AllocError>
-    ensures link { fault ≡ LinkType → IfOk result (λ hint. IsSomeAnd hint
-        (λ text. string_bytes text ≡ link_text octets.now)) }
-    ensures version { fault ≡ Version → IfOk result (λ hint. IsSomeAnd hint
-        (λ text. string_bytes text ≡ version_text octets.now)) }
-    ensures named { fault ≢ LinkType → fault ≢ Version → fault ≢ NotACapture → fault ≢ TooManyInterfaces
-        → IfOk result (λ hint. hint ≡ None) }
-    ensures advised { fault ≡ TooManyInterfaces → IfOk result IsSome }
+/// What is told of octets that begin no capture and no other format that is known.
+fn first_line(alloc: Global, octets: &[u8]) -> Result<String, AllocError> {
+    let mut line = String::from_str(alloc, "it begins with")?;
+    for octet in octets.iter().take(4) {
+        let octet = *octet;
+        line.push_str(format!(in alloc; " {octet:02x}")?.as_str())?;
+    }
+    line.push_str(
+        ": a capture begins with d4 c3 b2 a1 or 4d 3c b2 a1, with these turned round, or with 0a 0d 0d 0a",
+    )?;
+    Ok(line)
+}
+
+/// A line on a fault: what the octets from it on are that begin no capture, of an unknown link type or version its number
+/// and which are read, and of another fault what to do. Takes memory for it.
+pub fn hint_of(alloc: Global, fault: CaptureFault, octets: &[u8]) -> Result<String, AllocError>
+    ensures link { fault ≡ LinkType → IfOk result (λ hint. string_bytes hint ≡ link_text octets.now) }
+    ensures version { fault ≡ Version → IfOk result (λ hint. string_bytes hint ≡ version_text octets.now) }
+    ensures advised { fault ≢ LinkType → fault ≢ Version → fault ≢ NotACapture
+        → IfOk result (λ hint. string_bytes hint ≡ advice_on fault) }
 {
     match fault {
         CaptureFault::NotACapture => match other_format(octets) {
-            Some(name) => Ok(Some(String::from_str(alloc, name)?)),
-            None => Ok(None),
+            Some(name) => String::from_str(alloc, name),
+            None => first_line(alloc, octets),
         },
-        CaptureFault::Version => Ok(Some(version_line(alloc, octets)?)),
-        CaptureFault::LinkType => Ok(Some(link_line(alloc, octets)?)),
-        CaptureFault::TooManyInterfaces => Ok(Some(String::from_str(alloc, FEWER)?)),
-        _ => Ok(None),
+        CaptureFault::Version => version_line(alloc, octets),
+        CaptureFault::LinkType => link_line(alloc, octets),
+        CaptureFault::TooManyInterfaces => String::from_str(alloc, FEWER),
+        _ => String::from_str(alloc, ANEW),
     }
 }

@@ -92,7 +92,7 @@ fn told(rt: &HostRuntime, file: &str, end: &End, octets: &[u8]) -> u8 {
         End::Capture(fault) => {
             let number = fault.number();
             let _ = eprintln!(rt; "capture fault {number}\n{fault}");
-            if let Ok(Some(hint)) = hint_of(rt.alloc(), *fault, octets) {
+            if let Ok(hint) = hint_of(rt.alloc(), *fault, octets) {
                 let _ = eprintln!(rt; "{hint}");
             }
         }

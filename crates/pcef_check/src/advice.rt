@@ -1,6 +1,7 @@
 //! What to do about a refusal.
 
 use pcef_findings::Found;
+use pcef_line::Field;
 use pcef_model::{AttachFault, FlushRefusal, Refusal};
 
 /// What to do about the refusal of a command.
@@ -19,7 +20,7 @@ fn on_command(refusal: Refusal) -> Option<&'static str> {
         Refusal::RulesFull => "remove one of the 64 that are active first",
         Refusal::LevelClash => "take the level that the key has, or another key",
         Refusal::KeysFull => "take one of the 8 that have one",
-        Refusal::UnknownQci => "take a standard one, or declare it in the profile",
+        Refusal::UnknownQci => "take a standard one, 1 to 9, or declare it in the profile",
         Refusal::RatesMissing => "its QCI wants gbr, with up and down in bit/s",
         Refusal::RatesNotWanted => "leave gbr out, or take a QCI with guaranteed bit rate",
         Refusal::TooManyBearers => "take the qci and arp of a rule that is active",
@@ -31,6 +32,28 @@ fn on_command(refusal: Refusal) -> Option<&'static str> {
         Refusal::PoolUp | Refusal::PoolDown => "lower gbr, or remove a rule",
         Refusal::NoMemory => return None,
     })
+}
+
+/// The field of a line at which a command is refused, if it's always there or the one that lacks.
+fn field_of(refusal: Refusal) -> Option<Field> {
+    match refusal {
+        Refusal::NameIsPredefined => Some(Field::Name),
+        Refusal::UnknownKey => Some(Field::Key),
+        Refusal::ZeroGrant => Some(Field::Grant),
+        Refusal::UnknownBearer | Refusal::DefaultBearer => Some(Field::Bearer),
+        Refusal::UnknownQci => Some(Field::Qci),
+        Refusal::RatesMissing | Refusal::RatesNotWanted => Some(Field::Gbr),
+        _ => None,
+    }
+}
+
+/// The field of a line that isn't at fault to which the advice belongs, if it is one.
+pub(crate) fn field_on(found: Found) -> Option<Field> {
+    match found {
+        Found::Command(refusal) => field_of(refusal),
+        Found::NoWorker | Found::Flush(FlushRefusal::NotAttached) => Some(Field::Worker),
+        _ => None,
+    }
 }
 
 /// What to do about what was found in a line that isn't at fault, if something can be done.

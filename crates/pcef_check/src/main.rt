@@ -46,9 +46,15 @@ fn read(rt: &HostRuntime, path: &str) -> io::Result<Vec<u8>> {
 }
 
 /// Writes what was found in lines.
-fn write(rt: &HostRuntime, file: &str, input: &[u8], findings: &[Finding]) -> io::Result<()> {
+fn write(
+    rt: &HostRuntime,
+    catalog: &ShapedCatalog,
+    file: &str,
+    input: &[u8],
+    findings: &[Finding],
+) -> io::Result<()> {
     let mut writer = BufWriter::new(rt.alloc(), io::writer(rt))?;
-    tell_all(rt.alloc(), &mut writer, file, input, findings)?;
+    tell_all(rt.alloc(), &mut writer, catalog, file, input, findings)?;
     writer.flush()
 }
 
@@ -72,7 +78,7 @@ fn check_lines<'a>(
         Ok(findings) => findings,
         Err(_) => return End::NoMemory,
     };
-    match write(rt, file, &input, &findings) {
+    match write(rt, catalog, file, &input, &findings) {
         Ok(()) if findings.is_empty() => End::Clean,
         Ok(()) => End::Found,
         Err(error) => end_of(error, End::Write(error)),

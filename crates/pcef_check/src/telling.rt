@@ -1,31 +1,72 @@
 //! Tells what was found.
 
-use crate::advice::advice_on;
-use pcef_explain::explain;
+use crate::advice::{advice_on, field_on};
+use pcef_built_in::ShapedCatalog;
+use pcef_catalog::Offers;
+use pcef_explain::{Explanation, explain, explain_field, explain_rule_name};
 use pcef_findings::{Finding, Found};
-use std::alloc::Global;
+use pcef_model::Refusal;
+use std::alloc::{AllocError, Global};
 use std::io::{self, Write};
+
+/// What is told of a line that isn't at fault, beside what was found in it.
+fn advised(
+    alloc: Global,
+    catalog: &ShapedCatalog,
+    line: &[u8],
+    found: Found,
+) -> Result<Option<Explanation>, AllocError> {
+    if let Found::Command(Refusal::UnknownRule) = found {
+        let mut predefined = Vec::new(alloc);
+        for offer in catalog.listing().offers() {
+            predefined.push(offer.properties.name.as_str())?;
+        }
+        return Ok(Some(explain_rule_name(alloc, line, predefined.as_slice())?));
+    }
+    match (advice_on(found), field_on(found)) {
+        (Some(advice), Some(field)) => Ok(Some(explain_field(alloc, line, field, advice)?)),
+        (Some(advice), None) => Ok(Some(Explanation {
+            column: None,
+            text: String::from_str(alloc, advice)?,
+        })),
+        (None, _) => Ok(None),
+    }
+}
+
+/// What is told of a line beside its answer.
+fn explained(
+    alloc: Global,
+    catalog: &ShapedCatalog,
+    line: &[u8],
+    found: Found,
+) -> Result<Explanation, AllocError> {
+    if let Found::Fault(fault) = found {
+        return explain(alloc, line, fault);
+    }
+    match advised(alloc, catalog, line, found)? {
+        Some(Explanation { column, text }) => Ok(Explanation {
+            column,
+            text: format!(in alloc; "{found}: {text}")?,
+        }),
+        None => Ok(Explanation {
+            column: None,
+            text: format!(in alloc; "{found}")?,
+        }),
+    }
+}
 
 /// Tells what was found in a line of a file.
 fn tell<W: Write>(
     alloc: Global,
     writer: &mut W,
+    catalog: &ShapedCatalog,
     file: &str,
     line: &[u8],
     finding: &Finding,
 ) -> io::Result<()> {
     let number = finding.line;
     let answer = finding.answer.as_str();
-    let fault = match finding.found {
-        Found::Fault(fault) => fault,
-        found => {
-            return match advice_on(found) {
-                Some(advice) => writeln!(writer, "{file}:{number}: {answer} {found}: {advice}"),
-                None => writeln!(writer, "{file}:{number}: {answer} {found}"),
-            };
-        }
-    };
-    let explanation = explain(alloc, line, fault)?;
+    let explanation = explained(alloc, catalog, line, finding.found)?;
     let text = explanation.text.as_str();
     match explanation.column {
         Some(column) => writeln!(writer, "{file}:{number}:{column}: {answer} {text}"),
@@ -38,6 +79,7 @@ fn tell<W: Write>(
 pub(crate) fn tell_all<W: Write>(
     alloc: Global,
     writer: &mut W,
+    catalog: &ShapedCatalog,
     file: &str,
     input: &[u8],
     findings: &[Finding],
@@ -49,7 +91,7 @@ pub(crate) fn tell_all<W: Write>(
             break;
         };
         if finding.line == (before as u64).saturating_add(1) {
-            tell(alloc, writer, file, line, finding)?;
+            tell(alloc, writer, catalog, file, line, finding)?;
             next = findings.next();
         }
     }

@@ -6,15 +6,21 @@ ghost use Rattle.pcef_line.specs.declared.fault.LineFault.TheVariants.{LineTooLo
 
 use crate::column::column_of;
 use crate::filters::filter_told;
-use crate::parts::{field_in, field_told, unknown_told, word_told};
+use crate::nearest::nearest;
+use crate::packets::packet_told;
+use crate::parts::{field_in, field_told, unknown_told, word_of, word_told};
 use crate::place::Place;
 use crate::plain::plain_text;
 use crate::syntax::misplaced;
 use crate::told::Told;
-use crate::wanted::Shown;
+use crate::wanted::{Shown, write_words};
+use crate::wide::is_wide;
+use hex::FromHexError;
 use pcef_line::{Field, LineFault};
+use pcef_packet::PacketFault;
 use serde_json::{Error, Value};
 use std::alloc::{AllocError, Global};
+use std::fmt::{self, Display, Formatter, Write};
 use std::str;
 
 /// The most bytes of a line.
@@ -37,9 +43,18 @@ fn without_place(message: &str) -> &str {
     }
 }
 
+/// What is told of a line in UTF-16.
+const WIDE: &str =
+    "the line is UTF-16, by its byte order mark or its octets 0: UTF-8 is expected, as iconv -f UTF-16 -t UTF-8 writes it";
+
 /// What is told of a text that isn't JSON.
 fn not_json(alloc: Global, text: &str, error: &Error) -> Result<Explanation, AllocError> {
-    if let Some((place, text)) = misplaced(alloc, text)? {
+    if let Some((place, told)) = misplaced(alloc, text)? {
+        let text = if is_wide(text.as_bytes()) {
+            String::from_str(alloc, WIDE)?
+        } else {
+            told
+        };
         return Ok(Explanation {
             column: Some(place.saturating_add(1)),
             text,
@@ -53,23 +68,40 @@ fn not_json(alloc: Global, text: &str, error: &Error) -> Result<Explanation, All
     })
 }
 
-/// How many octets a text spells in hexadecimal.
-fn octets_in(found: Option<&Value>) -> usize {
-    match found.and_then(Value::as_str) {
-        Some(text) => text.len() / 2,
-        None => 0,
-    }
+/// What is told of octets that are no packet.
+fn octets_told(
+    alloc: Global,
+    place: Place<'static>,
+    found: Option<&Value>,
+    fault: PacketFault,
+) -> Result<Told<'static>, AllocError> {
+    let text = match found.and_then(Value::as_str) {
+        Some(text) => text,
+        None => "",
+    };
+    let told = match hex::decode(alloc, text) {
+        Ok(octets) => packet_told(alloc, octets.as_slice(), fault)?,
+        Err(FromHexError::OutOfMemory) => return Err(AllocError),
+        Err(_) => format!(in alloc; "is no packet: {fault}")?,
+    };
+    Ok(Told {
+        place: Some(place),
+        text: format!(in alloc; "{place} {told}")?,
+    })
 }
 
 /// What is told of a text that isn't hexadecimal.
 fn hex_told(alloc: Global, place: Place<'static>, text: &str) -> Result<Told<'static>, AllocError> {
-    let number = text
+    let other = text
         .chars()
-        .position(|character| !character.is_ascii_hexdigit());
-    let text = match number {
-        Some(number) => {
+        .enumerate()
+        .find(|(_, character)| !character.is_ascii_hexdigit());
+    let text = match other {
+        Some((number, character)) => {
             let number = number.saturating_add(1);
-            format!(in alloc; "{place}: character {number} is no hexadecimal digit")?
+            format!(in alloc;
+                "{place}: character {number} is '{character}': pairs of hexadecimal digits alone, as 4500, are expected"
+            )?
         }
         None => {
             let count = text.len();
@@ -125,13 +157,7 @@ fn value_told(
         (LineFault::BadHex(_), Some(Value::String(text))) => {
             hex_told(alloc, place, text.as_str())
         }
-        (LineFault::BadPacket(_, inner), _) => {
-            let count = octets_in(found);
-            Ok(Told {
-                place: Some(place),
-                text: format!(in alloc; "{place} has {count} octets: {inner}")?,
-            })
-        }
+        (LineFault::BadPacket(_, inner), _) => octets_told(alloc, place, found, inner),
         (LineFault::BadFilter(_, inner), _) => filter_told(alloc, found, inner),
         (LineFault::BadRule(_, _), _) => rule_told(alloc, line),
         _ => field_told(alloc, line, field),
@@ -187,6 +213,10 @@ fn of_text(alloc: Global, text: &str, fault: LineFault) -> Result<Explanation, A
 fn found(alloc: Global, line: &[u8], fault: LineFault) -> Result<Explanation, AllocError> {
     match str::from_utf8(line) {
         Ok(text) => of_text(alloc, text, fault),
+        Err(error) if is_wide(line) => Ok(Explanation {
+            column: Some(error.valid_up_to().saturating_add(1)),
+            text: String::from_str(alloc, WIDE)?,
+        }),
         Err(error) => {
             let octet = match line.get(error.valid_up_to()) {
                 Some(octet) => *octet,
@@ -235,25 +265,82 @@ pub fn explain(alloc: Global, line: &[u8], fault: LineFault) -> Result<Explanati
     in_plain(alloc, found)
 }
 
-/// What stands at a field of a line that is JSON, and what is told of it.
+/// What is expected at a field.
+#[derive(Clone, Copy)]
+enum Expected<'a> {
+    /// What this text tells.
+    Told(&'a str),
+    /// The name of a rule: one of these, which are predefined, in an `activate`, and of an active one in other lines.
+    Rule(&'a [&'a str]),
+}
+
+/// Some words, of which one is expected.
+#[derive(Clone, Copy)]
+struct OneOf<'a>(&'a [&'a str]);
+
+impl Display for OneOf<'_> {
+    fn fmt<W: Write>(&self, f: &mut Formatter<W>) -> fmt::Result {
+        f.write_str("one of ")?;
+        write_words(f, self.0)?;
+        f.write_str(" is expected")
+    }
+}
+
+/// What is told of a name that no predefined rule has: the nearest one, or all of them where none is near.
+fn predefined_told(alloc: Global, found: &Value, names: &[&str]) -> Result<String, AllocError> {
+    let near = match found.as_str() {
+        Some(text) => nearest(alloc, text, names)?,
+        None => None,
+    };
+    match near {
+        Some(name) => format!(in alloc; "did you mean \"{name}\"?"),
+        None => {
+            let all = OneOf(names);
+            format!(in alloc; "{all}")
+        }
+    }
+}
+
+/// What is expected in the place of what was found in a line.
+fn expected_at(
+    alloc: Global,
+    line: &Value,
+    found: &Value,
+    expected: Expected<'_>,
+) -> Result<String, AllocError> {
+    match expected {
+        Expected::Told(text) => String::from_str(alloc, text),
+        Expected::Rule(names) if word_of(line) == "activate" => {
+            predefined_told(alloc, found, names)
+        }
+        Expected::Rule(_) => String::from_str(
+            alloc,
+            "an active rule is expected, and show tells these",
+        ),
+    }
+}
+
+/// What stands at a field of a line that is JSON, and what is expected of it.
 fn of_field(
     alloc: Global,
     text: &str,
     line: &Value,
     field: Field,
-    told: &str,
+    expected: Expected<'_>,
 ) -> Result<Explanation, AllocError> {
     let (place, found) = field_in(line, field);
     let Some(found) = found else {
+        let expected = expected_at(alloc, line, &Value::Null, expected)?;
         return Ok(Explanation {
             column: None,
-            text: format!(in alloc; "{place} is missing: {told}")?,
+            text: format!(in alloc; "{place} is missing: {expected}")?,
         });
     };
     let shown = Shown(found);
+    let expected = expected_at(alloc, line, found, expected)?;
     Ok(Explanation {
         column: column_of(alloc, text, place)?,
-        text: format!(in alloc; "{place} is {shown}: {told}")?,
+        text: format!(in alloc; "{place} is {shown}: {expected}")?,
     })
 }
 
@@ -262,18 +349,18 @@ fn at_field(
     alloc: Global,
     line: &[u8],
     field: Field,
-    told: &str,
+    expected: Expected<'_>,
 ) -> Result<Explanation, AllocError> {
     if let Ok(text) = str::from_utf8(line) {
         match Value::from_str(alloc, text) {
-            Ok(line) => return of_field(alloc, text, &line, field, told),
+            Ok(line) => return of_field(alloc, text, &line, field, expected),
             Err(error) if error.is_memory() => return Err(AllocError),
             Err(_) => {}
         }
     }
     Ok(Explanation {
         column: None,
-        text: String::from_str(alloc, told)?,
+        text: expected_at(alloc, &Value::Null, &Value::Null, expected)?,
     })
 }
 
@@ -288,5 +375,20 @@ pub fn explain_field(
 ) -> Result<Explanation, AllocError>
     ensures { IfOk result (λ e. IsPlain (string_bytes e.text)) }
 {
-    in_plain(alloc, at_field(alloc, line, field, told)?)
+    in_plain(alloc, at_field(alloc, line, field, Expected::Told(told))?)
+}
+
+/// Says what stands at the `name` of a line that has no fault and still isn't taken, since no rule has that name: the
+/// column, what was found there, and what is expected: of an `activate` the nearest of the predefined rules, whose names
+/// these are, or all of them where none is near. The text is for people, as that of [`explain`]. Takes memory for it, and
+/// for the line as JSON.
+pub fn explain_rule_name(
+    alloc: Global,
+    line: &[u8],
+    predefined: &[&str],
+) -> Result<Explanation, AllocError>
+    ensures { IfOk result (λ e. IsPlain (string_bytes e.text)) }
+{
+    let told = at_field(alloc, line, Field::Name, Expected::Rule(predefined))?;
+    in_plain(alloc, told)
 }

@@ -3,7 +3,9 @@
 ghost use Rattle.std.specs.Prelude.{◌≤◌};
 
 use crate::place::Place;
+use crate::ports::{address_told, ports_told};
 use crate::told::Told;
+use crate::wanted::MOST_SHOWN;
 use pcef_filter::{FilterFault, Flow, read_filter};
 use serde_json::Value;
 use std::alloc::{AllocError, Global};
@@ -90,7 +92,37 @@ fn expected(fault: FilterFault) -> &'static str {
             "one to eight ports without blanks, as 53 or 80,8000-8080,"
         }
         FilterFault::Rest => "nothing more",
-        FilterFault::Flow => "no flow word beside \"permit in\"",
+        FilterFault::Flow => "no flow word",
+    }
+}
+
+/// What is wrong in a list of ports or in an address, if that can be told.
+fn within(alloc: Global, token: &str, fault: FilterFault) -> Result<Option<String>, AllocError> {
+    match fault {
+        FilterFault::SourcePorts | FilterFault::TargetPorts => ports_told(alloc, token),
+        FilterFault::Source | FilterFault::Target => address_told(alloc, token),
+        _ => Ok(None),
+    }
+}
+
+/// What is told of a token of this number, from 1.
+fn token_told(
+    alloc: Global,
+    place: Place<'_>,
+    count: usize,
+    token: &str,
+    fault: FilterFault,
+) -> Result<String, AllocError> {
+    let expected = expected(fault);
+    let len = token.len();
+    if len > MOST_SHOWN {
+        return format!(in alloc;
+            "{place}: token {count} is a text of {len} bytes: {expected} is expected"
+        );
+    }
+    match within(alloc, token, fault)? {
+        Some(told) => format!(in alloc; "{place}: token {count} is {token:?}: {told}"),
+        None => format!(in alloc; "{place}: token {count} is {token:?}: {expected} is expected"),
     }
 }
 
@@ -102,19 +134,28 @@ fn told_of(
     fault: FilterFault,
 ) -> Result<String, AllocError> {
     let expected = expected(fault);
-    if fault == FilterFault::Flow {
-        return format!(in alloc; "{place} has a flow word: {expected} is expected");
-    }
     let tokens = tokens_of(alloc, text)?;
     let number = token_at(tokens.as_slice(), fault);
     let count = number.saturating_add(1);
     match tokens.get(number) {
-        Some(token) => {
-            let token = *token;
-            format!(in alloc; "{place}: token {count} is {token:?}: {expected} is expected")
-        }
+        Some(token) => token_told(alloc, place, count, *token, fault),
         None => format!(in alloc; "{place}: token {count} is missing: {expected} is expected"),
     }
+}
+
+/// What is told of a flow word that may not stand.
+fn flow_told(alloc: Global, number: usize) -> Result<Told<'static>, AllocError> {
+    let place = Place {
+        item: Some(number),
+        inner: Some("flow"),
+        ..Place::new(true, "filters")
+    };
+    Ok(Told {
+        place: Some(place),
+        text: format!(in alloc;
+            "{place} stands beside \"permit in\": leave it out, or begin the text with \"permit out\""
+        )?,
+    })
 }
 
 /// What is told of the first filter of a rule whose text is wrong.
@@ -132,6 +173,9 @@ pub(crate) fn filter_told(
             text: format!(in alloc; "{fault}")?,
         });
     };
+    if fault == FilterFault::Flow {
+        return flow_told(alloc, number);
+    }
     let place = Place {
         item: Some(number),
         inner: Some("text"),

@@ -4,22 +4,25 @@
 //! Its contracts tell: that what is said of a line stands on one line of printable ASCII; the line and the column of an
 //! octet.
 //!
-//! In the order of reading: `text`, `place`, `plain`, `wanted`, `column`, `nearest`, `told`, `filters`, `parts`,
-//! `syntax`, `explaining`.
+//! In the order of reading: `wide`, `text`, `place`, `plain`, `wanted`, `column`, `nearest`, `told`, `ports`, `filters`,
+//! `packets`, `parts`, `syntax`, `explaining`.
 #![tactic(auto)]
 
 mod column;
 mod explaining;
 mod filters;
 mod nearest;
+mod packets;
 mod parts;
 mod place;
 mod plain;
+mod ports;
 mod syntax;
 mod text;
 mod told;
 mod wanted;
+mod wide;
 
-pub use explaining::{Explanation, explain, explain_field};
+pub use explaining::{Explanation, explain, explain_field, explain_rule_name};
 pub use plain::plain_text;
 pub use text::text_in;

@@ -1,5 +1,6 @@
 //! The parts of a line, and the first of them that has a fault.
 
+use crate::nearest::nearest;
 use crate::place::Place;
 use crate::told::{Told, missing, wrong};
 use crate::wanted::{ARP_LEVEL, TRIGGER, Wanted, wanted_at};
@@ -261,6 +262,19 @@ fn push_fields(text: &mut String, fields: &[Field]) -> Result<(), AllocError> {
     Ok(())
 }
 
+/// The field that was meant by the name of a member, if one is near.
+fn field_meant(
+    alloc: Global,
+    key: &str,
+    fields: &[Field],
+) -> Result<Option<&'static str>, AllocError> {
+    let mut texts = Vec::new(alloc);
+    for field in fields {
+        texts.push(field.text())?;
+    }
+    nearest(alloc, key, texts.as_slice())
+}
+
 /// What is told of a member that there isn't.
 pub(crate) fn unknown_told<'a>(alloc: Global, line: &'a Value) -> Result<Told<'a>, AllocError> {
     let Some(place) = unknown(line) else {
@@ -269,8 +283,16 @@ pub(crate) fn unknown_told<'a>(alloc: Global, line: &'a Value) -> Result<Told<'a
             text: String::from_str(alloc, "a field is unknown")?,
         });
     };
-    let mut text = format!(in alloc; "{place} is unknown: the fields are ")?;
-    push_fields(&mut text, fields_at(line, place))?;
+    let fields = fields_at(line, place);
+    let key = place.inner.unwrap_or(place.key);
+    let text = match field_meant(alloc, key, fields)? {
+        Some(meant) => format!(in alloc; "{place} is unknown: did you mean \"{meant}\"?")?,
+        None => {
+            let mut text = format!(in alloc; "{place} is unknown: leave it out; the fields are ")?;
+            push_fields(&mut text, fields)?;
+            text
+        }
+    };
     Ok(Told {
         place: Some(place),
         text,

@@ -264,6 +264,9 @@ fn found_at(alloc: Global, text: &str, place: usize) -> Result<String, AllocErro
     let Some((_, first)) = rest.next() else {
         return format!(in alloc; "the line ends");
     };
+    if first == '\u{feff}' {
+        return format!(in alloc; "a byte order mark (U+FEFF), which has to be left out, stands");
+    }
     if !first.is_ascii_graphic() {
         let code = u32::from(first);
         return format!(in alloc; "the character U+{code:04X} stands");
@@ -291,6 +294,15 @@ pub(crate) fn misplaced(alloc: Global, text: &str) -> Result<Option<(usize, Stri
         return Ok(None);
     };
     let found = found_at(alloc, text, place)?;
+    let of_lines = match due {
+        Due::Nothing => ": a line holds one object",
+        Due::Object => "",
+        _ if place >= text.len() => ": a line holds a whole object, up to its last '}'",
+        _ => "",
+    };
     let due = due.text();
-    Ok(Some((place, format!(in alloc; "{found} where {due} is expected")?)))
+    Ok(Some((
+        place,
+        format!(in alloc; "{found} where {due} is expected{of_lines}")?,
+    )))
 }

@@ -6,6 +6,7 @@ ghost use Rattle.std.specs.Str.{IsUtf8};
 ghost use Rattle.std.specs.declared.io.ErrorKind.TheVariants.{InvalidData, OutOfMemory};
 ghost use Rattle.pcef_explain.specs.Places.{column_behind, line_behind};
 
+use crate::wide::is_wide;
 use std::alloc::{AllocError, Global};
 use std::io::{self, ErrorKind};
 
@@ -34,6 +35,11 @@ fn not_utf8(alloc: Global, octets: &[u8], place: usize) -> Result<String, AllocE
     match rest.first() {
         Some(octet) => {
             let octet = *octet;
+            if is_wide(octets) {
+                return format!(in alloc;
+                    "line {line}, column {column}: the octet {octet:#04x} isn't UTF-8: save the UTF-16 text as UTF-8"
+                );
+            }
             format!(in alloc; "line {line}, column {column}: the octet {octet:#04x} isn't UTF-8")
         }
         None => format!(in alloc; "line {line}, column {column}: the text ends too early"),

@@ -111,7 +111,7 @@ impl Wanted {
     }
 }
 
-fn write_words<W: Write>(f: &mut Formatter<W>, words: &[&str]) -> fmt::Result {
+pub(crate) fn write_words<W: Write>(f: &mut Formatter<W>, words: &[&str]) -> fmt::Result {
     let mut is_first = true;
     for word in words {
         if !is_first {
@@ -142,7 +142,7 @@ impl Display for Wanted {
 }
 
 /// The longest text that is shown whole, in bytes.
-const MOST_SHOWN: usize = 80;
+pub(crate) const MOST_SHOWN: usize = 80;
 
 /// A value as it is told: a short text, a number or a flag as such, others by their kind.
 #[derive(Clone, Copy)]

@@ -25,8 +25,17 @@ fn line_at(text: &str, place: usize) -> (usize, &str) {
     }
 }
 
+/// Whether a text seems to be one in UTF-16 that was read as UTF-8: one of its first two octets is NUL, and the other not.
+fn is_wide(text: &str) -> bool {
+    let octets = text.as_bytes();
+    (octets.first() == Some(&0)) != (octets.get(1) == Some(&0))
+}
+
 /// What is told of a text that isn't TOML: the line, and what the reader of TOML says.
 fn not_toml(alloc: Global, text: &str, error: &Error) -> Result<String, AllocError> {
+    if is_wide(text) {
+        return format!(in alloc; "line 1: the text is UTF-16: save it as UTF-8");
+    }
     let place = match error.span() {
         Some(span) => span.start,
         None => 0,

@@ -15,6 +15,8 @@ pub(crate) const MAX_ROWS: u64 = 4_294_967_295;
 pub(crate) enum Wanted {
     Address,
     Number(u64, u64),
+    /// A rate in bit/s, up to this.
+    Rate(u64),
     Flag,
     Kind,
     Table,
@@ -35,7 +37,7 @@ pub(crate) fn wanted_at(level: Level, key: Key) -> Wanted {
         },
         Key::Level => Wanted::Number(1, 15),
         Key::Capability | Key::Vulnerability => Wanted::Flag,
-        Key::Up | Key::Down => Wanted::Number(0, MAX_CAPACITY),
+        Key::Up | Key::Down => Wanted::Rate(MAX_CAPACITY),
         Key::Kind => Wanted::Kind,
     }
 }
@@ -55,6 +57,7 @@ impl Wanted {
                 .as_str()
                 .is_some_and(|text| Addr::from_text(text.as_bytes()).is_some()),
             Wanted::Number(least, most) => is_within(value, least, most),
+            Wanted::Rate(most) => is_within(value, 0, most),
             Wanted::Flag => value.is_bool(),
             Wanted::Kind => value
                 .as_str()
@@ -72,6 +75,7 @@ impl Display for Wanted {
                 "an address in quotes, as \"10.0.0.2\" or \"2001:db8::2\",",
             ),
             Wanted::Number(least, most) => write!(f, "a whole number from {least} to {most}"),
+            Wanted::Rate(most) => write!(f, "a whole number of bit/s from 0 to {most}"),
             Wanted::Flag => f.write_str("true or false"),
             Wanted::Kind => f.write_str("\"GBR\" or \"NON-GBR\""),
             Wanted::Table => f.write_str("a table"),
@@ -106,7 +110,7 @@ impl Display for Shown<'_> {
             Value::String(text) => write!(f, "{:?}", text.as_str()),
             Value::Integer(number) => write!(f, "{number}"),
             Value::Boolean(flag) => write!(f, "{flag}"),
-            Value::Float(_) => f.write_str("a float"),
+            Value::Float(_) => f.write_str("a number with a point or an exponent"),
             Value::Datetime(_) => f.write_str("a date or a time"),
             Value::Array(_) => f.write_str("an array"),
             Value::Table(_) => f.write_str("a table"),

@@ -11,8 +11,8 @@ use std::io;
 pub(crate) enum End<'a> {
     /// Well.
     Done,
-    /// These lines and answers don't belong together.
-    Apart(Options<'a>, CollectFault),
+    /// These lines and answers don't belong together, and what they seem to be.
+    Apart(Options<'a>, CollectFault, &'static str),
     /// There is no memory left.
     NoMemory,
     /// The file of this name can't be read.

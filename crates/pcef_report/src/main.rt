@@ -65,6 +65,19 @@ fn write(rt: &HostRuntime, format: Format, figures: &Figures) -> io::Result<()> 
     }
 }
 
+/// What lines and answers that don't belong together seem to be: a line behind a line feed, or nothing.
+fn seeming(lines: &[u8], answers: &[u8]) -> &'static str {
+    for octets in &[lines, answers] {
+        if octets.starts_with(b"\xff\xfe") || octets.starts_with(b"\xfe\xff") {
+            return "\na file in UTF-16 has to be saved as UTF-8 before";
+        }
+    }
+    if answers.starts_with(b"{\"do\":") {
+        return "\nthe answers are lines of a script: are the files exchanged?";
+    }
+    ""
+}
+
 /// Collects what the files tell.
 fn read<'a>(rt: &HostRuntime, options: Options<'a>) -> Result<Figures, End<'a>> {
     let lines = match fs::read(rt, options.lines) {
@@ -78,7 +91,7 @@ fn read<'a>(rt: &HostRuntime, options: Options<'a>) -> Result<Figures, End<'a>> 
     match collect(rt.alloc(), &lines, &answers) {
         Ok(figures) => Ok(figures),
         Err(CollectFault::NoMemory) => Err(End::NoMemory),
-        Err(fault) => Err(End::Apart(options, fault)),
+        Err(fault) => Err(End::Apart(options, fault, seeming(&lines, &answers))),
     }
 }
 
@@ -100,10 +113,10 @@ fn told(rt: &HostRuntime, end: &End<'_>) -> u8
 {
     match end {
         End::Done => {}
-        End::Apart(options, fault) => {
+        End::Apart(options, fault, seeming) => {
             let (lines, answers) = (options.lines, options.answers);
             let _ = eprintln!(rt;
-                "{fault}\n{lines} has to be the script, and {answers} what pcef script wrote for it"
+                "{fault}\n{lines} has to be the script, and {answers} what pcef script wrote for it{seeming}"
             );
         }
         End::NoMemory => {

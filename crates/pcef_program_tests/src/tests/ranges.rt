@@ -78,22 +78,22 @@ static BEYOND: [(&str, &str, &str); 14] = [
     (
         "up = 0\n",
         "up = -1\n",
-        "capacity.up = -1: a whole number from 0 to 1099511627775",
+        "capacity.up = -1: a whole number of bit/s from 0 to 1099511627775",
     ),
     (
         "up = 0\n",
         "up = 1099511627776\n",
-        "capacity.up = 1099511627776: a whole number from 0 to 1099511627775",
+        "capacity.up = 1099511627776: a whole number of bit/s from 0 to 1099511627775",
     ),
     (
         "down = 0\n",
         "down = -1\n",
-        "capacity.down = -1: a whole number from 0 to 1099511627775",
+        "capacity.down = -1: a whole number of bit/s from 0 to 1099511627775",
     ),
     (
         "down = 0\n",
         "down = 1099511627776\n",
-        "capacity.down = 1099511627776: a whole number from 0 to 1099511627775",
+        "capacity.down = 1099511627776: a whole number of bit/s from 0 to 1099511627775",
     ),
 ];
 

@@ -181,7 +181,7 @@ static UNFIT: [(&str, &str, &str); 13] = [
     (
         "2",
         "{\"do\":\"stop\",\"keys\":\"vid\"}",
-        "line 4 fault\nUnknownField: column 21: keys is unknown: the fields are do, key\nNothing was run.\n",
+        "line 4 fault\nUnknownField: column 21: keys is unknown: did you mean \"key\"?\nNothing was run.\n",
     ),
     (
         "2",
@@ -201,12 +201,12 @@ static UNFIT: [(&str, &str, &str); 13] = [
     (
         "2",
         "{\"do\":\"take\",\"worker\":0,\"dir\":\"up\",\"packet\":\"4x\"}",
-        "line 4 fault\nBadHex: column 45: packet: character 2 is no hexadecimal digit\nNothing was run.\n",
+        "line 4 fault\nBadHex: column 45: packet: character 2 is 'x': pairs of hexadecimal digits alone, as 4500, are expected\nNothing was run.\n",
     ),
     (
         "2",
         "{\"do\":\"take\",\"worker\":0,\"dir\":\"up\",\"packet\":\"45\"}",
-        "line 4 fault\nBadPacket: column 45: packet has 1 octets: the packet is shorter than a header\nNothing was run.\n",
+        "line 4 fault\nBadPacket: column 45: packet has 1 octet: the header of IPv4 alone has 20\nNothing was run.\n",
     ),
 ];
 
