@@ -45,21 +45,21 @@ const OTHERS: [(&[u8], &str); 13] = [
     ),
     (
         b"\xef\xbb\xbf",
-        "text, which begins with a byte order mark: a capture is none, as tcpdump -w FILE writes it",
+        "text, which begins with a byte order mark: a capture is expected, as tcpdump -w FILE writes it",
     ),
     (
         b"\xff\xfe",
-        "text in UTF-16: a capture is none, as tcpdump -w FILE writes it",
+        "text in UTF-16: a capture is expected, as tcpdump -w FILE writes it",
     ),
     (
         b"\xfe\xff",
-        "text in UTF-16: a capture is none, as tcpdump -w FILE writes it",
+        "text in UTF-16: a capture is expected, as tcpdump -w FILE writes it",
     ),
 ];
 
 /// What is told of other text.
 const TEXT: &str =
-    "text: a capture is none, as tcpdump -w FILE writes it, or text2pcap of a dump in hexadecimal";
+    "text: a capture is expected, as tcpdump -w FILE writes it, or text2pcap of a dump in hexadecimal";
 
 /// What to do with a capture of too many interfaces.
 const FEWER: &str =
