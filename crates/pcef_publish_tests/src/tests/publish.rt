@@ -252,17 +252,18 @@ fn publish_two<N: Naming, W: Board<Slot<N>> + Drop>(
     publisher: &mut Publisher<N, W>,
     subscriber: &mut Subscriber<N>,
 ) -> Option<(u32, u32)> {
-    publish_next(alloc, publisher, subscriber)?;
-    publish_next(alloc, publisher, subscriber)?;
+    let _all_seen = publish_next(alloc, publisher, subscriber)?
+        && publish_next(alloc, publisher, subscriber)?;
     Some((publisher.generation(), subscriber.current().0))
 }
 
-// Publishes the next table, where it is refused once more. A refused table leaves no trace.
+// Publishes the next table, where it is refused once more, and tells whether the subscriber finds it. A refused table
+// leaves no trace.
 fn publish_next<N: Naming, W: Board<Slot<N>> + Drop>(
     alloc: Global,
     publisher: &mut Publisher<N, W>,
     subscriber: &mut Subscriber<N>,
-) -> Option<()> {
+) -> Option<bool> {
     for _ in 0..2u8 {
         let before = publisher.generation();
         let Ok(next) = table(alloc, before.checked_add(1)?) else {
@@ -270,10 +271,10 @@ fn publish_next<N: Naming, W: Board<Slot<N>> + Drop>(
         };
         let published = publisher.publish(next).is_ok();
         if subscriber.refresh() != publisher.generation() {
-            return None;
+            return Some(false);
         }
         if published {
-            return Some(());
+            return Some(true);
         }
         if publisher.generation() != before {
             return None;
