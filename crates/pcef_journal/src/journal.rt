@@ -78,7 +78,12 @@ impl Journal {
         if u64::MAX - most < additional as u64 {
             return Err(AllocError);
         }
-        self.reports.reserve(additional)
+        // A session that forgets its reports keeps no more room than it ever asked for at once.
+        if self.reports.is_empty() {
+            self.reports.reserve_exact(additional)
+        } else {
+            self.reports.reserve(additional)
+        }
     }
 
     /// Adds an entry. Takes no memory.
