@@ -5,15 +5,14 @@ use Rattle.std.specs.Option.{option_map}
 use Rattle.std.proofs.lemmas.Bool.{leb-false}
 use Rattle.pcef_rule.specs.declared.rule.Properties.{Properties}
 use Rattle.pcef_catalog.specs.declared.listing.Offer.{Offer}
-use Rattle.pcef_model.specs.Refusals.{becoming_active, clashes, first_of, is_active, refusals}
+use Rattle.pcef_model.specs.Refusals.{becoming_active, first_of, is_active, refusals}
 use Rattle.pcef_model.specs.declared.answer.Accepted.{Accepted}
 use Rattle.pcef_model.specs.declared.answer.Refusal.{Refusal}
 use Rattle.pcef_model.specs.declared.command.Command.{Command}
 use Rattle.pcef_model.specs.declared.command.Command.TheVariants.{Install, Activate, Remove, Monitor, Stop, ReportNow, Triggers, Notice, LoseBearer, Close, Terminate}
-use Rattle.pcef_model.specs.declared.level.Level.TheVariants.{Rule}
 use Rattle.pcef_model.specs.Setting.{most_rules, Setting, offer_named}
 use Rattle.pcef_model.specs.ActiveRules.{predefined}
-use Rattle.pcef_model.specs.Commands.{key_named, key_offered, level_named, activated}
+use Rattle.pcef_model.specs.Commands.{key_named, key_offered, activated}
 use Rattle.pcef_model.specs.Entries.{Journal}
 use Rattle.pcef_model.specs.Journals.{now, slots}
 use Rattle.pcef_usage.specs.declared.usage.KeyState.{KeyState}
@@ -82,24 +81,6 @@ served_slot p j (Notice kind value) states keys accepted changing = refl
 served_slot p j (LoseBearer id) states keys accepted changing = refl
 served_slot p j Close states keys accepted changing = refl
 served_slot p j Terminate states keys accepted changing = refl
-
--- its key keeps its level
-pub served_level : (p : Setting) (j : Journal) (c : Command) → first_of (refusals p j c) ≡ None → changes p j c ≡ true → clashes p j (level_named c) (key_named p c) ≡ false
-served_level p j (Install rule) accepted changing = (can_become p j rule.properties (install_accepted p j rule accepted)).level
-served_level p j (Activate name) accepted changing = from (offer_named p name) refl
-  where
-    from : (o : Option Offer) → offer_named p name ≡ o → clashes p j Rule (key_offered o) ≡ false
-    from None there = refl
-    from (Some o) there = (can_become p j o.properties (activate_accepted p j name o accepted changing there)).level
-served_level p j (Remove name) accepted changing = refl
-served_level p j (Monitor key amount level) accepted changing = (monitor_accepted p j key amount level accepted).0
-served_level p j (Stop key) accepted changing = refl
-served_level p j (ReportNow key) accepted changing = refl
-served_level p j (Triggers set) accepted changing = refl
-served_level p j (Notice kind value) accepted changing = refl
-served_level p j (LoseBearer id) accepted changing = refl
-served_level p j Close accepted changing = refl
-served_level p j Terminate accepted changing = refl
 
 -- ---- the rule can be bound
 pub binds_rule : (p : Setting) (j : Journal) (rule : Properties) → first_of (becoming_active p j rule) ≡ None → Binds rule (binding_of p (now p j))

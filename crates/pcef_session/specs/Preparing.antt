@@ -9,13 +9,14 @@ use Rattle.pcef_model.specs.declared.command.Command.{Command}
 use Rattle.pcef_model.specs.declared.command.Command.TheVariants.{Activate}
 use Rattle.pcef_model.specs.Outcomes.{changes}
 use Rattle.pcef_model.specs.ActiveRules.{Active}
-use Rattle.pcef_model.specs.Commands.{activated, is_table}
+use Rattle.pcef_model.specs.Commands.{activated, is_table, key_named}
 use Rattle.pcef_model.specs.Entries.{Journal}
-use Rattle.pcef_model.specs.Journals.{attached, gen, now}
+use Rattle.pcef_model.specs.Journals.{attached, gen, now, slots}
 use Rattle.pcef_model.specs.Refusals.{first_of, is_active, refusals}
 use Rattle.pcef_model.specs.Reports.{after_command, plan}
 use Rattle.pcef_model.specs.Setting.{Setting}
 use Rattle.pcef_table.specs.Tables.{TableValue}
+use Rattle.pcef_usage.specs.Keys.{HasPlaceFor}
 use Rattle.pcef_session.specs.declared.prepared.Activation.{Activation}
 use Rattle.pcef_session.specs.declared.prepared.Prepared.{Prepared}
 use Rattle.pcef_session.specs.declared.prepared.Prepared.TheVariants.{Changing, Unchanged}
@@ -53,14 +54,18 @@ abbrev pub HasPlacesFor : Binding → Option Activation → ℕ → Type 0
 HasPlacesFor b None places = Unit {0}
 HasPlacesFor b (Some x) places = HasRoom x.properties.name places b.bound
 
+-- memory is prepared for the key that a command names to get a slot
+abbrev pub HasKeyPlaces : Setting → Journal → Command → ℕ → Type 0
+HasKeyPlaces p j c places = HasPlaceFor (key_named p c) places (slots p j)
+
 -- a table is made exactly by a table command, and shows the newest generation of the journal after it
 pub record IsTableAfter (p : Setting) (after : Journal) (c : Command) (made : Option TableValue) : Type 0 where
   pub makes : is_some made ≡ is_table c
   pub shows : IfSome made (λ t. Shows p after (gen after) t)
 
 -- a command that the session accepts next and that changes something, with the table of the journal after it, the
--- rule that it makes active, the bearer of this rule and memory to bind it, what it reports by itself, room in the journal for that, for
--- the thresholds of eight keys and for the leaving of each worker, and a place for a rule
+-- rule that it makes active, the bearer of this rule and memory to bind it, memory for the key that it names, what it reports by
+-- itself, room in the journal for that, for the thresholds of eight keys and for the leaving of each worker, and a place for a rule
 pub record IsReady (s : SessionModel) (d : PreparedChange) : Type 0 where
   pub accepted : first_of (refusals s.setting s.journal d.command) ≡ None
   pub changing : changes s.setting s.journal d.command ≡ true
@@ -68,6 +73,7 @@ pub record IsReady (s : SessionModel) (d : PreparedChange) : Type 0 where
   pub rule : Activates s.setting (activated s.setting d.command) d.rule
   pub bearer : GetsBearer s.setting s.journal d.rule d.bearer
   pub places : HasPlacesFor (binding_of s.setting (now s.setting s.journal)) d.rule d.places
+  pub key_places : HasKeyPlaces s.setting s.journal d.command d.key_places
   pub plan_is : d.reports.items ≡ plan s.setting s.journal d.command
   pub has_room : length d.reports.items + 9 + length (attached s.journal) ≤ s.room.entries
   pub has_place : 0 < s.room.rules

@@ -1,15 +1,14 @@
 //! What an accepted command does to what a session keeps. Nothing here takes memory.
 
-ghost use Rattle.std.specs.Prelude.{◌≡◌, ◌||◌, ◌<◌, ◌≤◌, ◌+◌, ◌∷◌, length, false, unwrap_or, Some};
+ghost use Rattle.std.specs.Prelude.{◌≡◌, ◌||◌, ◌<◌, ◌≤◌, ◌+◌, ◌∷◌, length, false, unwrap_or, Some, IfOk};
 ghost use Rattle.std.specs.Arc.{arc_value};
 ghost use Rattle.std.specs.Option.{option_copied, option_map};
 ghost use Rattle.pcef_active.specs.ByName.{put_kept};
-ghost use Rattle.pcef_model.specs.Commands.{level_named};
 ghost use Rattle.pcef_model.specs.Refusals.{is_close, is_terminate};
 ghost use Rattle.pcef_session.specs.Preparing.{HasPlacesFor, IsBearerFor, IsBearerOf};
 ghost use Rattle.pcef_bearer.specs.Bindings as binding;
 ghost use Rattle.pcef_usage.specs.Commands.{subscribed_by};
-ghost use Rattle.pcef_usage.specs.Keys.{clashes, finds_no_slot, keys_of};
+ghost use Rattle.pcef_usage.specs.Keys.{HasPlaceFor, finds_no_slot, keys_of};
 ghost use Rattle.pcef_usage.specs.PendingReports.{KnowsAll};
 ghost use Rattle.pcef_session.specs.private.Changes.{Binds, CanBind, IsBoundTo, IsRebound, active_after, counters_told, entered_by, journal_told, key_of, still_active, rule_key};
 
@@ -19,7 +18,8 @@ use pcef_bearer::{Bearers, Places};
 use pcef_index::Indexed;
 use pcef_model::{Command, Entry, Level, PendingReport, TriggerSet};
 use pcef_rule::{BearerId, KeyName};
-use pcef_usage::CountedJournal;
+use pcef_usage::{CountedJournal, KeyPlaces, Usage};
+use std::alloc::{AllocError, Global};
 use std::sync::Arc;
 
 /// The key of the rule that becomes active.
@@ -32,12 +32,36 @@ pub(crate) fn rule_key(rule: Option<&Activation>) -> Option<KeyName>
     }
 }
 
-/// Gives the key that a command names a slot, and switches on that of a Monitor.
-fn enter_key(counted: &mut CountedJournal, command: &Command, of_rule: Option<&KeyName>)
-    requires clash { clashes (key_of (option_copied of_rule) command.now)
-        (level_named command.now) counted.old.states ≡ false }
+/// Memory for the key that a command names to get a slot.
+pub(crate) fn key_places(
+    alloc: Global,
+    usage: &Usage,
+    command: &Command,
+    of_rule: Option<&KeyName>,
+) -> Result<KeyPlaces, AllocError>
+    ensures { IfOk result (λ places.
+        HasPlaceFor (key_of (option_copied of_rule.entry) command.now) places (keys_of usage.now)) }
+{
+    match command {
+        Command::Monitor { key, .. } => usage.places_for(key),
+        _ => match of_rule {
+            Some(key) => usage.places_for(key),
+            None => Ok(KeyPlaces::none(alloc)),
+        },
+    }
+}
+
+/// Gives the key that a command names a slot, in these places, and switches on that of a Monitor.
+fn enter_key(
+    counted: &mut CountedJournal,
+    command: &Command,
+    of_rule: Option<&KeyName>,
+    places: KeyPlaces,
+)
     requires slot { finds_no_slot (key_of (option_copied of_rule) command.now)
         counted.old.states ≡ false }
+    requires places { HasPlaceFor (key_of (option_copied of_rule) command.now) places
+        (keys_of counted.old.states) }
     ensures journal { counted.new.journal ≡ counted.old.journal }
     ensures forgotten { counted.new.forgotten ≡ counted.old.forgotten }
     ensures states { counted.new.states
@@ -46,25 +70,29 @@ fn enter_key(counted: &mut CountedJournal, command: &Command, of_rule: Option<&K
 {
     match command {
         Command::Monitor { key, grant, level } => {
-            counted.keep_slot(Some(key), *level);
+            counted.keep_slot(Some(key), *level, places);
             counted.start(key, *grant);
         }
-        _ => counted.keep_slot(of_rule, Level::Rule),
+        _ => counted.keep_slot(of_rule, Level::Rule, places),
     }
 }
 
-/// Adds a command to the journal, with the key that it names.
-pub(crate) fn enter(counted: &mut CountedJournal, command: Command, of_rule: Option<KeyName>)
-    requires clash { clashes (key_of of_rule command) (level_named command)
-        counted.old.states ≡ false }
+/// Adds a command to the journal, with the key that it names, which gets its slot in these places.
+pub(crate) fn enter(
+    counted: &mut CountedJournal,
+    command: Command,
+    of_rule: Option<KeyName>,
+    places: KeyPlaces,
+)
     requires slot { finds_no_slot (key_of of_rule command) counted.old.states ≡ false }
+    requires places { HasPlaceFor (key_of of_rule command) places (keys_of counted.old.states) }
     requires room { 0 < counted.old.room }
     ensures journal { counted.new.journal ≡ Entry.Command command ∷ counted.old.journal }
     ensures forgotten { counted.new.forgotten ≡ counted.old.forgotten }
     ensures states { counted.new.states ≡ entered_by of_rule command counted.old.states }
     ensures room { counted.old.room ≤ counted.new.room + 1 }
 {
-    enter_key(counted, &command, of_rule.as_ref());
+    enter_key(counted, &command, of_rule.as_ref(), places);
     counted.enter(Entry::Command(command));
 }
 

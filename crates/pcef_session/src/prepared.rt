@@ -10,6 +10,7 @@ use pcef_index::Indexed;
 use pcef_model::{Command, PendingReport};
 use pcef_rule::{BearerId, Properties, RuleName};
 use pcef_table::Source;
+use pcef_usage::KeyPlaces;
 use std::sync::Arc;
 
 /// A rule that becomes active.
@@ -35,6 +36,8 @@ pub struct PreparedChange {
     pub bearer: Option<BearerId>,
     /// Memory to bind this rule.
     pub places: Places,
+    /// Memory for the key that the command names to get a slot.
+    pub key_places: KeyPlaces,
     /// What the command reports by itself, in order.
     pub reports: Vec<PendingReport>,
 }

@@ -5,7 +5,6 @@ use Rattle.pcef_model.specs.declared.command.Command.{Command}
 use Rattle.pcef_model.specs.declared.command.Command.TheVariants.{Install, Activate, Remove, Monitor, Stop, ReportNow, Triggers, Notice, LoseBearer, Close, Terminate}
 use Rattle.pcef_model.specs.declared.entry.Entry.TheVariants as entry
 use Rattle.pcef_model.specs.declared.pending_report.PendingReport.{PendingReport}
-use Rattle.pcef_model.specs.declared.level.Level.TheVariants.{Rule}
 use Rattle.pcef_model.specs.Setting.{Setting, most_keys}
 use Rattle.pcef_model.specs.Commands.{key_named, level_named}
 use Rattle.pcef_model.specs.Entries.{Journal}

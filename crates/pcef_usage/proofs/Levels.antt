@@ -1,5 +1,5 @@
 -- The levels of keys that have a slot: nothing changes them, and they agree with the journal.
-use Rattle.std.proofs.Common.{◌≡◌, ◌∙◌, ◌&&◌, not, ℕ, Bool, true, false, zero, suc, List, [], ◌∷◌, ◌++◌, Some, None, map, refl, sym, ap, ap₂, inl, inr}
+use Rattle.std.proofs.Common.{◌≡◌, ◌∙◌, not, ℕ, Bool, true, false, zero, suc, List, [], ◌∷◌, ◌++◌, Some, None, map, refl, sym, ap, ap₂, inl, inr}
 use Rattle.std.specs.Prelude.{Option, if◌then◌else◌}
 use Rattle.std.specs.List.{AllByRecursion}
 use Rattle.std.proofs.lemmas.Bool.{cases_Bool}

@@ -2,7 +2,7 @@
 use Rattle.std.proofs.Common.{◌≡◌, ◌≤◌, ◌<◌, ℕ, ◌+◌, Bool, true, false, List, [], ◌∷◌, ◌++◌, length, refl, sym, ap, ◌∙◌, arith, if◌then◌else◌, inl, inr, zero, suc, subst, map, take, drop, set, get_or, append-nil}
 use Rattle.std.specs.Prelude.{◌||◌}
 use Rattle.std.specs.List.{AllByRecursion, refill}
-use Rattle.std.proofs.lemmas.List.{take_all, drop_all, length-set, take_more, drop_more, get_or_at, length-map, length-take-le, get_or_default}
+use Rattle.std.proofs.lemmas.List.{take_all, drop_all, take_more, drop_more, get_or_at, length-map, length-take-le, get_or_default}
 use Rattle.std.proofs.lemmas.Bool.{cases_Bool}
 use Rattle.std.proofs.lemmas.List.Edits.{map_over_more}
 use Rattle.pcef_model.specs.Setting.{same_name}
@@ -48,11 +48,9 @@ all_state_at P [] i h a = absurd (omega arith)
 all_state_at P (x ∷ xs) zero h a = a.0
 all_state_at P (x ∷ xs) (suc i) h a = all_state_at P xs i (omega arith) a.1
 
--- what a write through the slice leaves
-pub written : (f : KeyState → KeyState) (n : ℕ) (v xs ws : List KeyState) (i : ℕ) (y d : KeyState) → n ≡ length xs → xs ≡ v → i < length v → ws ≡ xs → y ≡ f (get_or ws i d) →
-    refill n xs (set ws i y) ≡ at_place i f v
-written f n v xs ws i y d m a h e g =
-    refilled n xs (set ws i y) m (length-set ws i y ∙ ap length e) ∙ ap (set ws i) g ∙ ap (λ ys. set ys i (f (get_or ys i d))) (e ∙ a) ∙ at_place_set f v i d h
+-- what a write at a place leaves
+pub written : (f : KeyState → KeyState) (v xs : List KeyState) (i : ℕ) (y d : KeyState) → xs ≡ v → i < length v → y ≡ f (get_or xs i d) → set xs i y ≡ at_place i f v
+written f v xs i y d a h g = ap (set xs i) g ∙ ap (λ ys. set ys i (f (get_or ys i d))) a ∙ at_place_set f v i d h
 
 pub read : (v xs ws : List KeyState) (i : ℕ) (d : KeyState) → xs ≡ v → i < length v → ws ≡ xs → get_or ws i d ≡ state_at i v
 read v xs ws i d a h e = ap (λ ys. get_or ys i d) (e ∙ a) ∙ state_read v i d h

@@ -1,25 +1,21 @@
 -- What commands report by themselves, by the counters.
-use Rattle.std.proofs.Common.{◌≡◌, ◌∙◌, ℕ, Bool, true, false, List, [], ◌∷◌, ◌++◌, refl, sym, ap, map, inl, inr, arith, nat_lt, append-nil}
+use Rattle.std.proofs.Common.{◌≡◌, ◌∙◌, ℕ, Bool, true, false, List, [], ◌∷◌, refl, sym, ap, map, inl, inr, arith, nat_lt}
 use Rattle.std.specs.Prelude.{not, ◌||◌, ◌&&◌, ◌≢◌, filter}
 use Rattle.std.specs.List.{AllByRecursion}
 use Rattle.std.proofs.lemmas.Bool.{cases_Bool}
-use Rattle.pcef_rule.specs.declared.quantity.BearerId.{BearerId}
-use Rattle.pcef_rule.specs.Definition.{Definition}
 use Rattle.pcef_model.specs.declared.command.Command.{Command}
 use Rattle.pcef_model.specs.declared.command.Command.TheVariants.{Install, Activate, Remove, Monitor, Stop, ReportNow, Triggers, Notice, LoseBearer, Close, Terminate}
 use Rattle.pcef_model.specs.declared.report.Cause.{Cause}
-use Rattle.pcef_model.specs.declared.report.Cause.TheVariants.{Disabled, Requested, RulesGone, Terminated}
+use Rattle.pcef_model.specs.declared.report.Cause.TheVariants.{RulesGone, Terminated}
 use Rattle.pcef_model.specs.declared.pending_report.PendingReport.{PendingReport}
 use Rattle.pcef_model.specs.declared.pending_report.PendingReport.TheVariants.{Usage}
-use Rattle.pcef_model.specs.declared.trigger.AccessKind.{AccessKind}
-use Rattle.pcef_model.specs.declared.trigger.TriggerSet.{TriggerSet}
 use Rattle.pcef_model.specs.Setting.{Setting}
 use Rattle.pcef_model.specs.ActiveRules.{has_key, Active}
 use Rattle.pcef_model.specs.Commands.{is_among, switched}
 use Rattle.pcef_model.specs.Generations.{rules_after}
 use Rattle.pcef_model.specs.Entries.{Journal}
 use Rattle.pcef_model.specs.Journals.{now, slots, unreported}
-use Rattle.pcef_model.specs.Reports.{keys_ended, inactive, noticed, plan}
+use Rattle.pcef_model.specs.Reports.{keys_ended}
 use Rattle.pcef_usage.specs.declared.usage.KeyState.{KeyState}
 use Rattle.pcef_usage.specs.Commands.{loses_rules, usage_of}
 use Rattle.pcef_usage.specs.Keys.{keys_of}

@@ -1,6 +1,6 @@
 -- Keys that have a slot: each stands once, and a key that has none was never on and counts nothing.
 use Rattle.std.proofs.Common.{◌≡◌, ◌∙◌, ℕ, Bool, true, false, List, [], ◌∷◌, ◌++◌, length, refl, sym, ap, arith, inl, inr, nat_le}
-use Rattle.std.specs.Prelude.{Err, IfOk, Ok, OnOk, Option, Result, Some, None, not, ◌||◌, ◌&&◌, filter}
+use Rattle.std.specs.Prelude.{Err, IfOk, Ok, OnOk, Option, Result, Some, None, is_some, not, ◌||◌, ◌&&◌, filter}
 use Rattle.pcef_rule.specs.declared.quantity.Slot.{Slot}
 use Rattle.pcef_usage.specs.declared.usage.SlotFault.{SlotFault}
 use Rattle.std.proofs.lemmas.Bool.{cases_Bool}
@@ -17,7 +17,7 @@ use Rattle.pcef_model.specs.Entries.{Journal, rows}
 use Rattle.pcef_model.specs.Journals.{at, counted, counts, decision, now, octets_of, passed_for, slots, tables}
 use Rattle.pcef_model.proofs.Sameness.{same_name_is, same_name_not, same_name_of}
 use Rattle.pcef_usage.specs.declared.usage.KeyState.{KeyState}
-use Rattle.pcef_usage.specs.Keys.{fresh, has_slot, keys_of, place_of, with_slot}
+use Rattle.pcef_usage.specs.Keys.{IsSlotOf, fresh, has_slot, keys_of, place_of, with_slot}
 use Rattle.pcef_usage.specs.PendingReports.{Distinct}
 use Rattle.pcef_usage.proofs.Places.{or_no}
 use Rattle.pcef_usage.proofs.Tells.{has_slot_is}
@@ -35,6 +35,10 @@ and_no true b absent = absent
 and_no false b absent = refl
 
 -- ---- a key that gets a slot
+pub without_slot : (k : List ℕ) (states : List KeyState) (slot : Option Slot) → IsSlotOf k states slot → is_some slot ≡ false → has_slot k states ≡ false
+without_slot k states None is none = is
+without_slot k states (Some s) is none = cc
+
 place_fresh : (k : List ℕ) (level : Level) (states : List KeyState) → has_slot k states ≡ false → place_of k (states ++ fresh k level ∷ []) ≡ length states
 place_fresh k level [] absent = rw (same_name_of k k refl) refl
 place_fresh k level (s ∷ states) absent =

@@ -4,6 +4,7 @@ use Rattle.std.specs.List.{list_any, AllByRecursion}
 use Rattle.pcef_rule.specs.declared.quantity.Slot.{Slot}
 use Rattle.pcef_model.specs.declared.level.Level.{Level}
 use Rattle.pcef_model.specs.declared.level.Level.TheVariants.{Rule}
+use Rattle.pcef_model.specs.Commands.{is_among}
 use Rattle.pcef_model.specs.Setting.{most_keys, same_level, same_name}
 use Rattle.pcef_model.specs.Reports.{is_reached_by}
 use Rattle.pcef_model.specs.Slots.{AreSlotsBelow}
@@ -80,6 +81,11 @@ clashes (Some key) level states = has_slot key states && not (same_level level (
 abbrev pub finds_no_slot : Option (List ℕ) → List KeyState → Bool
 finds_no_slot None states = false
 finds_no_slot (Some key) states = not (has_slot key states) && nat_le most_keys (length states)
+
+-- memory for one more key, where this one has no slot yet
+abbrev pub HasPlaceFor : Option (List ℕ) → ℕ → List (List ℕ) → Type 0
+HasPlaceFor None places keys = Unit {0}
+HasPlaceFor (Some key) places keys = is_among key keys ≡ false → length keys < places
 
 -- the states after a packet's octets are counted for the keys of its slots
 abbrev pub with_octets : List Slot → ℕ → List KeyState → List KeyState

@@ -6,9 +6,10 @@ ghost use Rattle.pcef_model.specs.Commands.{is_among};
 ghost use Rattle.pcef_model.specs.Entries.{reports};
 ghost use Rattle.pcef_model.specs.Journals.{ends_grant};
 ghost use Rattle.pcef_usage.specs.Counted.{IsEvent};
-ghost use Rattle.pcef_usage.specs.Keys.{CanCount, at_place, clashes, finds_no_slot, keys_of, place_of, reported_on, started, state_at, stopped, with_octets, with_slot, with_started};
+ghost use Rattle.pcef_usage.specs.Keys.{CanCount, HasPlaceFor, at_place, finds_no_slot, keys_of, place_of, reported_on, started, state_at, stopped, with_octets, with_slot, with_started};
 ghost use Rattle.pcef_usage.specs.PendingReports.{Knows, KnowsAll, after_stop, after_report, body_by, states_stopped, states_told, thresholds_at, thresholds_told, with_report, with_thresholds, appended};
 
+use crate::key_places::KeyPlaces;
 use crate::usage::{KeyState, Usage};
 use pcef_journal::Journal;
 use pcef_model::{Body, Cause, Entry, InactiveCause, Level, PendingReport, Report, Row};
@@ -51,7 +52,7 @@ impl CountedJournal {
     {
         CountedJournal {
             journal: Journal::new(alloc),
-            usage: Usage::new(),
+            usage: Usage::new(alloc),
         }
     }
 
@@ -93,10 +94,10 @@ impl CountedJournal {
         self.journal.append(Entry::Row(row));
     }
 
-    /// Gives a key a slot at this level, unless it has one. Takes no memory.
-    pub fn keep_slot(&mut self, key: Option<&KeyName>, level: Level)
-        requires clash { clashes (option_copied key) level self.old.states ≡ false }
+    /// Gives a key a slot at this level, unless it has one. Takes no memory but these places.
+    pub fn keep_slot(&mut self, key: Option<&KeyName>, level: Level, places: KeyPlaces)
         requires slot { finds_no_slot (option_copied key) self.old.states ≡ false }
+        requires places { HasPlaceFor (option_copied key) places (keys_of self.old.states) }
         ensures journal { self.new.journal ≡ self.old.journal }
         ensures forgotten { self.new.forgotten ≡ self.old.forgotten }
         ensures states { self.new.states
@@ -104,7 +105,7 @@ impl CountedJournal {
         ensures room { self.new.room ≡ self.old.room }
     {
         if let Some(key) = key {
-            keep_slot(&mut self.usage, key, level);
+            self.usage.keep_slot(key, level, places);
         }
     }
 
@@ -228,17 +229,6 @@ impl CountedJournal {
                 stop_key(&mut self.usage, key);
             }
         }
-    }
-}
-
-fn keep_slot(usage: &mut Usage, key: &KeyName, level: Level)
-    requires clash { clashes (Some key.now) level usage.old ≡ false }
-    requires slot { finds_no_slot (Some key.now) usage.old ≡ false }
-    ensures { usage.new ≡ with_slot (Some key.now) level usage.old }
-{
-    match usage.slot(key, level) {
-        Ok(_) => {}
-        Err(_) => unreachable!(),
     }
 }
 

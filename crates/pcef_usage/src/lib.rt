@@ -3,12 +3,13 @@
 //! Its contracts tell: what each call does to the counter of its slot and to no other; what is reported tells exactly
 //! what the counters hold.
 //!
-//! In the order of reading: `vacant`, `usage`, `counted`.
+//! In the order of reading: `key_places`, `usage`, `counted`.
 #![tactic(auto)]
 
 mod counted;
+mod key_places;
 mod usage;
-mod vacant;
 
 pub use counted::CountedJournal;
+pub use key_places::KeyPlaces;
 pub use usage::{KeyState, MAX_KEYS, SlotFault, Usage, is_same_level};

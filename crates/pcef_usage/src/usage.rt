@@ -2,12 +2,13 @@
 
 ghost use Rattle.std.specs.Prelude.{◌≡◌, ◌<◌, ◌≤◌, ◌+◌, ◌^◌, ◌↔◌, [], ◌++◌, ◌∷◌, map, length, true, false, IfOk, IsErr, OnErr, OnOk, Some, if◌then◌else◌, ◌≢◌, Err, Ok};
 ghost use Rattle.pcef_model.specs.Setting.{same_level};
-ghost use Rattle.pcef_usage.specs.Keys.{FitsMore, IsSlotOf, added, at_place, clashes, finds_no_slot, fresh, has_slot, is_reached, place_if, place_of, places_of, reached_places, reported_on, started, state_at, stopped, ungranted_if_reached, with_slot};
+ghost use Rattle.pcef_usage.specs.Keys.{FitsMore, HasPlaceFor, IsSlotOf, added, at_place, clashes, finds_no_slot, fresh, has_slot, is_reached, keys_of, place_if, place_of, places_of, reached_places, reported_on, started, state_at, stopped, ungranted_if_reached, with_slot};
 
-use crate::vacant::{KeyStates, Vacant};
+use crate::key_places::KeyPlaces;
 use arrayvec::ArrayVec;
 use pcef_model::Level;
 use pcef_rule::{KeyName, Slot};
+use std::alloc::{AllocError, Global};
 use std::marker::Model;
 use thiserror::Error;
 
@@ -23,6 +24,9 @@ pub enum SlotFault {
     /// The key has no slot, and there is none left for it.
     #[error("eight keys have a slot already")]
     KeysFull,
+    /// There is no memory left.
+    #[error("there is no memory left")]
+    NoMemory,
 }
 
 /// What is kept of a key that has a slot.
@@ -97,15 +101,19 @@ impl KeyState {
     }
 }
 
-/// The keys that have a slot, in slot order. It holds all that may come in itself, and takes no memory.
+/// The keys that have a slot, in slot order. It takes memory key by key: see [`KeyPlaces`].
 pub struct Usage {
-    states: KeyStates,
+    alloc: Global,
+    states: Vec<KeyState>,
 }
 
 // Written out, so that an owner proves one call at each way out.
 impl Drop for Usage {
     fn drop(self) {
-        let Usage { states: _ } = self;
+        let Usage {
+            alloc: _,
+            states: _,
+        } = self;
     }
 }
 
@@ -143,12 +151,13 @@ fn note(reached: &mut ArrayVec<Slot, 8>, is_reached: bool, place: u8)
 }
 
 impl Usage {
-    /// No key has a slot.
-    pub fn new() -> Usage
+    /// No key has a slot. Takes no memory.
+    pub fn new(alloc: Global) -> Usage
         ensures { result ≡ [] }
     {
         Usage {
-            states: ArrayVec::new_in(Vacant),
+            alloc,
+            states: Vec::new(alloc),
         }
     }
 
@@ -172,8 +181,45 @@ impl Usage {
         None
     }
 
+    /// Memory for a key to get a slot: none where it has one.
+    pub fn places_for(&self, key: &KeyName) -> Result<KeyPlaces, AllocError>
+        ensures { IfOk result (λ places. HasPlaceFor (Some key.now) places (keys_of self.now)) }
+    {
+        match self.find(key) {
+            Some(_) => Ok(KeyPlaces::none(self.alloc)),
+            None => KeyPlaces::new(self.alloc, self.states.len() + 1),
+        }
+    }
+
+    /// Gives a key a slot at this level, unless it has one. Takes no memory but these places.
+    pub fn keep_slot(&mut self, key: &KeyName, level: Level, places: KeyPlaces)
+        requires slot { finds_no_slot (Some key.now) self.old ≡ false }
+        requires places { HasPlaceFor (Some key.now) places (keys_of self.old) }
+        ensures { self.new ≡ with_slot (Some key.now) level self.old }
+    {
+        if self.find(key).is_none() {
+            self.add(key, level, places);
+        }
+    }
+
+    fn add(&mut self, key: &KeyName, level: Level, places: KeyPlaces)
+        requires few { length self.old < 8 }
+        requires places { length self.old < places }
+        ensures { self.new ≡ self.old ++ fresh key.now level ∷ [] }
+    {
+        let state = KeyState {
+            key: key.copy(),
+            level,
+            on: false,
+            grant: None,
+            reported: 0,
+            unreported: 0,
+        };
+        places.take_in(&mut self.states, state);
+    }
+
     /// The slot of a key, which gets the next one and this level where it has none, or the first fault in the order of
-    /// [`SlotFault`], which changes nothing.
+    /// [`SlotFault`], which changes nothing. Takes memory for a new key.
     pub fn slot(&mut self, key: &KeyName, level: Level) -> Result<Slot, SlotFault>
         ensures clash { (result ≡ Err SlotFault.LevelClash)
             ↔ (clashes (Some key.now) level self.old ≡ true) }
@@ -214,14 +260,10 @@ impl Usage {
         if place >= MAX_KEYS {
             return Err(SlotFault::KeysFull);
         }
-        self.states.push(KeyState {
-            key: key.copy(),
-            level,
-            on: false,
-            grant: None,
-            reported: 0,
-            unreported: 0,
-        });
+        let Ok(places) = KeyPlaces::new(self.alloc, place + 1) else {
+            return Err(SlotFault::NoMemory);
+        };
+        self.add(key, level, places);
         Ok(Slot(place as u8))
     }
 
@@ -239,8 +281,7 @@ impl Usage {
         requires { slot.0 < length self.old }
         ensures { self.new ≡ at_place slot.0 (started amount) self.old }
     {
-        let states = self.states.as_mut_slice();
-        states[slot.0 as usize].start(amount);
+        self.states[slot.0 as usize].start(amount);
     }
 
     /// Switches the key of a slot off and takes its grant.
@@ -248,8 +289,7 @@ impl Usage {
         requires { slot.0 < length self.old }
         ensures { self.new ≡ at_place slot.0 stopped self.old }
     {
-        let states = self.states.as_mut_slice();
-        states[slot.0 as usize].stop();
+        self.states[slot.0 as usize].stop();
     }
 
     /// Counts octets for the key of a slot.
@@ -258,8 +298,7 @@ impl Usage {
         requires fits { FitsMore slot.0 octets self.old }
         ensures { self.new ≡ at_place slot.0 (added octets) self.old }
     {
-        let states = self.states.as_mut_slice();
-        states[slot.0 as usize].count(octets);
+        self.states[slot.0 as usize].count(octets);
     }
 
     /// Moves the unreported octets of the key of a slot to the reported ones, and answers how many
@@ -269,8 +308,7 @@ impl Usage {
         ensures told { result ≡ (state_at slot.0 self.old).unreported }
         ensures states { self.new ≡ at_place slot.0 reported_on self.old }
     {
-        let states = self.states.as_mut_slice();
-        states[slot.0 as usize].report()
+        self.states[slot.0 as usize].report()
     }
 
     /// While usage reports are subscribed, the slots whose grants are reached, in order: their grants are
@@ -286,7 +324,7 @@ impl Usage {
             return reached;
         }
         let mut place: u8 = 0;
-        for state in self.states.as_mut_slice().iter_mut() {
+        for state in self.states.iter_mut() {
             let is_reached = state.settle();
             note(&mut reached, is_reached, place);
             place += 1;

@@ -66,7 +66,8 @@ fn monitor(
     }));
     if counted.usage().find(key).is_none() {
         assert!(rt; counted.usage().states().len() < MAX_KEYS);
-        counted.keep_slot(Some(key), Level::Rule);
+        let places = counted.usage().places_for(key)?;
+        counted.keep_slot(Some(key), Level::Rule, places);
     }
     expect_slot(rt, counted, key);
     counted.start(key, grant);
@@ -178,14 +179,14 @@ fn seen_empty(alloc: Global) -> (Result<(), AllocError>, Seen, Option<Slot>) {
 }
 
 /// How many keys have a slot in new counters.
-fn new_len() -> usize {
-    let usage = Usage::new();
+fn new_len(alloc: Global) -> usize {
+    let usage = Usage::new(alloc);
     usage.states().len()
 }
 
 #[test]
 fn an_empty_journal(rt: HostRuntime) {
-    let found = (seen_empty(rt.alloc()), new_len());
+    let found = (seen_empty(rt.alloc()), new_len(rt.alloc()));
     assert_eq!(rt; found, ((Ok(()), (0, 0, [None; 3]), None), 0));
 }
 
@@ -322,8 +323,8 @@ fn add_keys(usage: &mut Usage, names: &[&str]) -> Result<(), Fail> {
 }
 
 /// Counters of these keys.
-fn usage_of(names: &[&str]) -> Result<Usage, Fail> {
-    let mut usage = Usage::new();
+fn usage_of(alloc: Global, names: &[&str]) -> Result<Usage, Fail> {
+    let mut usage = Usage::new(alloc);
     match add_keys(&mut usage, names) {
         Ok(()) => Ok(usage),
         Err(fail) => Err(fail),
@@ -391,7 +392,7 @@ fn in_place(usage: &mut Usage) -> u8 {
 
 #[test]
 fn eight_keys_have_slots(rt: HostRuntime) -> Result<(), Fail> {
-    let mut usage = usage_of(&EIGHT)?;
+    let mut usage = usage_of(rt.alloc(), &EIGHT)?;
     let before = usage.states().len();
     let in_place = in_place(&mut usage);
     let ninth = slots_of(&mut usage, "k8");
@@ -416,7 +417,7 @@ fn levels_of(usage: &mut Usage, name: &str) -> Option<([Result<Slot, SlotFault>;
 
 #[test]
 fn a_key_keeps_its_level(rt: HostRuntime) {
-    let mut usage = Usage::new();
+    let mut usage = Usage::new(rt.alloc());
     let slot = Ok(Slot(0));
     let answers = [slot, Err(SlotFault::LevelClash), slot];
     assert_eq!(rt;
@@ -447,7 +448,7 @@ fn switched_and_counted(
 
 #[test]
 fn a_key_is_switched_and_counts(rt: HostRuntime) -> Result<(), Fail> {
-    let mut usage = usage_of(&["video", "audio"])?;
+    let mut usage = usage_of(rt.alloc(), &["video", "audio"])?;
     let found = switched_and_counted(&rt, &mut usage);
     let second = [(false, 0, 0), (true, 0, 67), (true, 67, 3), (false, 67, 3)];
     assert_eq!(rt; found, (second, (false, 0, 0), 67));
@@ -480,7 +481,7 @@ fn settled(rt: &impl Abort, usage: &mut Usage) -> [bool; 4] {
 
 #[test]
 fn reached_grants_are_taken_while_subscribed(rt: HostRuntime) -> Result<(), Fail> {
-    let mut usage = usage_of(&["video", "audio", "text"])?;
+    let mut usage = usage_of(rt.alloc(), &["video", "audio", "text"])?;
     start_three(&rt, &mut usage);
     let settled = settled(&rt, &mut usage);
     let first = figures(&rt, &usage, Slot(0));

@@ -29,6 +29,7 @@ impl SessionState {
             rule,
             bearer,
             places,
+            key_places,
             reports,
         } = change;
         let first_report = self.counted.journal().reports_len();
@@ -45,7 +46,7 @@ impl SessionState {
         self.subscribed = subscribed_by(&command, self.subscribed);
         self.closed = closed_by(&command, self.closed);
         self.terminated = terminated_by(&command, self.terminated);
-        enter(&mut self.counted, command, key);
+        enter(&mut self.counted, command, key, key_places);
         tell(&mut self.counted, &reports, self.subscribed.usage_report);
         Accepted {
             generation: self.newest.generation(),

@@ -8,13 +8,14 @@ ghost use Rattle.pcef_model.specs.Commands.{activated, is_table};
 ghost use Rattle.pcef_model.specs.Journals.{attached, now};
 ghost use Rattle.pcef_model.specs.Reports.{inactive, keys_ended, plan};
 ghost use Rattle.pcef_session.specs.Answers.{AcceptsWithin, KeepsPrepared, Refuses, RefusesWithin, binding_now};
-ghost use Rattle.pcef_session.specs.Preparing.{GetsBearer, HasPlacesFor, IsPreparedFor, IsReady, command_of};
+ghost use Rattle.pcef_session.specs.Preparing.{GetsBearer, HasKeyPlaces, HasPlacesFor, IsPreparedFor, IsReady, command_of};
 ghost use Rattle.pcef_session.specs.private.Entries.{ShowsNext};
 ghost use Rattle.pcef_session.specs.private.Keys.{key_switched};
 ghost use Rattle.pcef_session.specs.private.Sessions.{Accepts, ActivatesAgain, IsNextTable, MakesActive, Offers};
 ghost use Rattle.pcef_session.specs.SessionModel.{HasAtLeast};
 
 use super::SessionState;
+use crate::applying::{key_places, rule_key};
 use crate::ended_keys::add_ended_keys;
 use crate::entries::{bearer_for, entry_of};
 use crate::inactive::inactive;
@@ -28,6 +29,7 @@ use pcef_index::Indexed;
 use pcef_model::{Command, PendingReport, Refusal};
 use pcef_rule::{BearerId, KeyName, RuleName, Sums};
 use pcef_table::{Source, Table};
+use pcef_usage::KeyPlaces;
 use std::alloc::{AllocError, Global};
 use std::sync::Arc;
 
@@ -91,6 +93,19 @@ impl SessionState {
             Some(rule) => self.bearers.places_for(&rule.properties.name),
             None => Ok(Places::none(self.alloc)),
         }
+    }
+
+    /// Memory for the key that a command names to get a slot.
+    fn key_places_for(
+        &self,
+        command: &Command,
+        rule: Option<&Activation>,
+    ) -> Result<KeyPlaces, AllocError>
+        requires rule { MakesActive self.now command.now (option_copied rule) }
+        ensures { IfOk result (HasKeyPlaces self.now.setting self.now.journal command.now) }
+    {
+        let key = rule_key(rule);
+        key_places(self.alloc, self.counted.usage(), command, key.as_ref())
     }
 
     /// The table with the rule that a command makes active.
@@ -308,6 +323,7 @@ impl SessionState {
     {
         let rule = self.activation(&command)?;
         let bearer = self.bearer_for_rule(&command, rule.as_ref());
+        let key_places = self.key_places_for(&command, rule.as_ref())?;
         match self.ready_with(&command, rule.as_ref(), bearer) {
             Ok((table, reports, places)) => Ok(PreparedChange {
                 command,
@@ -315,6 +331,7 @@ impl SessionState {
                 rule,
                 bearer,
                 places,
+                key_places,
                 reports,
             }),
             Err(refused) => Err(refused),

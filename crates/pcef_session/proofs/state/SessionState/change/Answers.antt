@@ -12,8 +12,7 @@ use Rattle.pcef_table.specs.Tables.{TableValue}
 use Rattle.pcef_usage.specs.declared.usage.KeyState.{KeyState}
 use Rattle.pcef_model.specs.declared.trigger.TriggerSet.{TriggerSet}
 use Rattle.pcef_usage.specs.Commands.{subscribed_by}
-use Rattle.pcef_usage.specs.Keys.{clashes, finds_no_slot, keys_of}
-use Rattle.pcef_usage.proofs.Levels.{clashes_is}
+use Rattle.pcef_usage.specs.Keys.{HasPlaceFor, finds_no_slot, keys_of}
 use Rattle.pcef_usage.specs.PendingReports.{KnowsAll}
 use Rattle.pcef_usage.proofs.Commanded.{keys_entered}
 use Rattle.pcef_usage.proofs.Planned.{knows_plan}
@@ -25,15 +24,15 @@ use Rattle.pcef_session.specs.SessionModel.{SessionModel}
 use Rattle.pcef_session.specs.Shown.{Shows}
 use Rattle.pcef_session.specs.private.Soundness.{parts_of, model_of}
 use Rattle.pcef_model.specs.ProfileModel.{setting_of}
-use Rattle.pcef_model.specs.Commands.{key_named, level_named}
+use Rattle.pcef_model.specs.Commands.{key_named}
 use Rattle.pcef_session.proofs.Activations.{served_key}
-use Rattle.pcef_session.proofs.Acceptance.{asks_known, can_bind, served_level, served_slot}
+use Rattle.pcef_session.proofs.Acceptance.{asks_known, can_bind, served_slot}
 use Rattle.pcef_session.proofs.CommandAgrees.{IsCommanded, bearer_commanded, entering, journal_commanded, left_by, outcome_commanded, told_by}
 use Rattle.pcef_session.proofs.InvariantKept.{few_entered_by, sound_commanded}
 use Rattle.pcef_session.proofs.state.SessionState.change.Goals as goal
 use Rattle.pcef_bearer.specs.Bindings.{Binding}
 use Rattle.pcef_session.specs.Preparing.{HasPlacesFor, IsBearerFor, IsReady}
-use Rattle.pcef_session.proofs.NextTables.{all_levels_from, table_after}
+use Rattle.pcef_session.proofs.NextTables.{table_after}
 
 pub change_rules-requires-clause-can : goal.change_rules-requires-clause-can
 change_rules-requires-clause-can c =
@@ -54,18 +53,6 @@ change_rules-requires-clause-places c =
     let ready : IsReady (model_of s) c.args.change = subst (λ (v : SessionModel). IsReady v c.args.change) (sym c.self.view_is) c.requires in
     subst (λ (b : Binding). HasPlacesFor b c.args.change.rule c.args.change.places) (sym c.self.invariant.agrees.binding_is) ready.places
 
-pub enter-requires-clause-clash : goal.enter-requires-clause-clash
-enter-requires-clause-clash c =
-    let s = c.self.inside in
-    let ready : IsReady (model_of s) c.args.change = subst (λ (v : SessionModel). IsReady v c.args.change) (sym c.self.view_is) c.requires in
-    let p = setting_of s.profile s.listing in
-    let command = c.args.change.command in
-    let key : key_of c.rule_key-key.result command ≡ key_named p command =
-    ap (λ (k : Option (List ℕ)). key_of k command) (c.rule_key-key.ensures ∙ ap rule_key c.as_ref.ensures.value) ∙ sym (served_key p command c.args.change.rule ready.rule) in
-    ap (λ (k : Option (List ℕ)). clashes k (level_named command) s.counted.states) key
-    ∙ clashes_is p s.counted.journal (key_named p command) (level_named command) s.counted.states c.self.invariant.agrees.keys_are (all_levels_from p s.counted.journal s.counted.states c.self.invariant.agrees.usage_is)
-    ∙ served_level p s.counted.journal command ready.accepted ready.changing
-
 pub enter-requires-clause-slot : goal.enter-requires-clause-slot
 enter-requires-clause-slot c =
     let s = c.self.inside in
@@ -75,6 +62,16 @@ enter-requires-clause-slot c =
     ap (λ (k : Option (List ℕ)). key_of k c.args.change.command) (c.rule_key-key.ensures ∙ ap rule_key c.as_ref.ensures.value) ∙ sym (served_key p c.args.change.command c.args.change.rule ready.rule) in
     ap (λ (k : Option (List ℕ)). finds_no_slot k s.counted.states) key
     ∙ served_slot p s.counted.journal c.args.change.command s.counted.states c.self.invariant.agrees.keys_are ready.accepted ready.changing
+
+pub enter-requires-clause-places : goal.enter-requires-clause-places
+enter-requires-clause-places c =
+    let s = c.self.inside in
+    let ready : IsReady (model_of s) c.args.change = subst (λ (v : SessionModel). IsReady v c.args.change) (sym c.self.view_is) c.requires in
+    let p = setting_of s.profile s.listing in
+    let key : key_named p c.args.change.command ≡ key_of c.rule_key-key.result c.args.change.command =
+    served_key p c.args.change.command c.args.change.rule ready.rule ∙ sym (ap (λ (k : Option (List ℕ)). key_of k c.args.change.command) (c.rule_key-key.ensures ∙ ap rule_key c.as_ref.ensures.value)) in
+    subst (λ (k : Option (List ℕ)). HasPlaceFor k c.args.change.key_places (keys_of s.counted.states)) key
+    (subst (λ (ks : List (List ℕ)). HasPlaceFor (key_named p c.args.change.command) c.args.change.key_places ks) (sym c.self.invariant.agrees.keys_are) ready.key_places)
 
 pub tell-requires-clause-known : goal.tell-requires-clause-known
 tell-requires-clause-known c =

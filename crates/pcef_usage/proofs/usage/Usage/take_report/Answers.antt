@@ -6,7 +6,8 @@ use Rattle.pcef_usage.proofs.usage.Usage.take_report.Goals as goal
 
 pub returns-clause-told : goal.returns-clause-told
 returns-clause-told c =
-    c.report.ensures.told ∙ ap (λ (s : KeyState). s.unreported) (read _ _ _ _ _ c.self.view_is c.requires c.as_mut_slice-states.ensures.value)
+    c.report.ensures.told ∙ ap (λ (s : KeyState). s.unreported) (c.index_mut.ensures.value ∙ read _ _ _ _ _ c.self.view_is c.requires refl)
 
 pub returns-clause-states : goal.returns-clause-states
-returns-clause-states c = written reported_on _ _ _ _ _ _ _ refl c.self.view_is c.requires c.as_mut_slice-states.ensures.value c.report.ensures.state
+returns-clause-states c =
+    written reported_on _ _ _ _ _ c.self.view_is c.requires (c.report.ensures.state ∙ ap reported_on c.index_mut.ensures.value)
