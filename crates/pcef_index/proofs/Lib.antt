@@ -5,4 +5,5 @@ pub mod Marked
 pub mod Passing
 pub mod Searching
 pub mod Sieving
+pub mod Stepping
 pub mod Within

@@ -10,6 +10,7 @@ use Rattle.pcef_filter.specs.declared.filter.PortRange.{PortRange}
 use Rattle.pcef_filter.specs.declared.filter.Place.{Place}
 use Rattle.pcef_index.specs.declared.cells.Cells.{Cells}
 use Rattle.pcef_index.specs.declared.cells.Half.{Half}
+use Rattle.pcef_index.specs.declared.steps.Steps.{Steps}
 use Rattle.pcef_index.specs.private.Cells.{is_in, place_passes, ports_pass}
 use Rattle.pcef_index.specs.private.Marks.{Has, Marks, Sets, Shows, Spreads}
 
@@ -109,5 +110,5 @@ as_cells {old} {new} {at} {bit} same m = subst (λ (x : Cells). Marks old new at
 pub as_place : {old new : List ℕ} {at bit : ℕ} {a b : Place} → a ≡ b → Marks old new at bit (place_passes a) → Marks old new at bit (place_passes b)
 as_place {old} {new} {at} {bit} same m = subst (λ (x : Place). Marks old new at bit (place_passes x)) same m
 
-pub as_ports : {old new : List ℕ} {at bit : ℕ} (half : Half) (base : ℕ) {xs ys : List PortRange} → xs ≡ ys → Marks old new at bit (ports_pass half base xs) → Marks old new at bit (ports_pass half base ys)
-as_ports {old} {new} {at} {bit} half base same m = subst (λ (x : List PortRange). Marks old new at bit (ports_pass half base x)) same m
+pub as_ports : {old new : List ℕ} {at bit : ℕ} (half : Half) (base : ℕ) (steps : Steps) {xs ys : List PortRange} → xs ≡ ys → Marks old new at bit (ports_pass half base steps xs) → Marks old new at bit (ports_pass half base steps ys)
+as_ports {old} {new} {at} {bit} half base steps same m = subst (λ (x : List PortRange). Marks old new at bit (ports_pass half base steps x)) same m

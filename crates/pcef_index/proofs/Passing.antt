@@ -1,5 +1,5 @@
 -- A filter that matches a packet lets each of its cells pass.
-use Rattle.std.proofs.Common.{◌≡◌, ◌==◌, ◌<◌, ◌≤◌, ◌+◌, ◌-◌, ◌*◌, ◌/◌, ◌%◌, ◌^◌, ◌&&◌, ◌||◌, ◌∙◌, ◌⊎◌, ℕ, zero, suc, Bool, true, false, List, [], ◌∷◌, Option, Some, None, All, nat_le, nat_lt, ap, refl, sym, arith, inl, inr}
+use Rattle.std.proofs.Common.{◌≡◌, ◌<◌, ◌≤◌, ◌+◌, ◌-◌, ◌*◌, ◌/◌, ◌%◌, ◌^◌, ◌&&◌, ◌||◌, ◌∙◌, ◌⊎◌, ℕ, zero, suc, Bool, true, false, List, [], ◌∷◌, Option, Some, None, All, nat_le, nat_lt, ap, refl, sym, arith, inl, inr}
 use Rattle.std.proofs.Math.Nat.{div-div-eq-div-mul}
 use Rattle.std.proofs.lemmas.Nat.{pow-add}
 use Rattle.std.proofs.lemmas.Bool.{and_parts, cases_Bool, cond_both, eqb-true, leb-true, ltb-true, or_left, or_right}
@@ -24,12 +24,12 @@ use Rattle.pcef_filter.specs.Matching.{dst_port, endpoint_fits, in_ranges, match
 use Rattle.pcef_index.specs.declared.cells.Cells.{Cells}
 use Rattle.pcef_index.specs.declared.cells.Half.{Half}
 use Rattle.pcef_index.specs.declared.cells.Half.TheVariants.{High, Low}
-use Rattle.pcef_index.specs.private.Cells.{are_whole, block, filter_passes, half_cells, header_cells, high_cells, is_in, local_end, local_in, loose_of, octet_of, only, place_cells, place_passes, port_cells, ports_pass, proto_cells, ranges_pass, remote_end, remote_in, rest_of, shift_of, wide_shift, way_cell, way_in, whole}
+use Rattle.pcef_index.specs.declared.steps.PortSteps.{PortSteps}
+use Rattle.pcef_index.specs.declared.steps.Steps.{Steps}
+use Rattle.pcef_index.specs.private.Cells.{are_whole, block, filter_passes, half_cells, header_cells, high_cells, is_in, local_end, local_in, loose_of, low_cell, octet_of, only, place_cells, place_passes, port_cells, ports_pass, proto_cells, ranges_pass, remote_end, remote_in, shift_of, wide_shift, way_cell, way_in, whole}
 use Rattle.pcef_index.specs.private.Marks.{ArePortsRanged, IsRanged}
-use Rattle.pcef_index.proofs.Within.{inside}
-
-in_whole : (base k : ℕ) → k < 256 → is_in (base + k) (whole base) ≡ true
-in_whole base k small = inside (base + k) (whole base) (omega arith) (omega arith)
+use Rattle.pcef_index.proofs.Within.{in_whole, inside}
+use Rattle.pcef_index.proofs.Stepping.{low_cell_in, low_cell_small}
 
 in_only : (k : ℕ) → is_in k (only k) ≡ true
 in_only k = inside k (only k) (omega arith) (omega arith)
@@ -103,42 +103,39 @@ place_in base shift (Net net) ue addr fits =
     (λ few. octets_agree base net.bits shift (loose_of shift net) addr net.addr (omega arith) (ltb-true (loose_of shift net) 8 few) fits)
     (λ _. in_whole base (octet_of shift addr) (octet_small shift addr))
 
--- an octet of a port, and the cell of one
-abbrev octet_in : Half → ℕ → ℕ
-octet_in High port = port / 256
-octet_in Low port = port % 256
+-- the cell of a port in one of its fields
+abbrev port_in : Half → Steps → ℕ → ℕ
+port_in High steps port = port / 256
+port_in Low steps port = low_cell steps port
 
-range_in : (half : Half) (base : ℕ) (r : PortRange) (port : ℕ) → r.first ≤ port → port ≤ r.last → is_in (base + octet_in half port) (half_cells half base r) ≡ true
-range_in High base r port low high = inside (base + port / 256) (high_cells base r) (omega arith) (omega arith)
-range_in Low base r port low high =
-    cond_both ((r.first / 256) == (r.last / 256)) (record { first = base + r.first % 256; last = base + r.last % 256 }) (whole base) (λ (c : Cells). is_in (base + port % 256) c ≡ true)
-    (λ one. let same = eqb-true (r.first / 256) (r.last / 256) one in inside (base + port % 256) (record { first = base + r.first % 256; last = base + r.last % 256 }) (omega arith) (omega arith))
-    (λ _. in_whole base (port % 256) (omega arith))
+range_in : (half : Half) (base : ℕ) (steps : Steps) (r : PortRange) (port : ℕ) → r.first ≤ port → port ≤ r.last → is_in (base + port_in half steps port) (half_cells half base steps r) ≡ true
+range_in High base steps r port low high = inside (base + port / 256) (high_cells base r) (omega arith) (omega arith)
+range_in Low base steps r port low high = low_cell_in base steps r port low high
 
-ranges_in : (half : Half) (base : ℕ) (rs : List PortRange) (port : ℕ) → in_ranges rs port ≡ true → ranges_pass half base rs (base + octet_in half port) ≡ true
-ranges_in half base [] port fits = fits
-ranges_in half base (r ∷ rs) port fits =
+ranges_in : (half : Half) (base : ℕ) (steps : Steps) (rs : List PortRange) (port : ℕ) → in_ranges rs port ≡ true → ranges_pass half base steps rs (base + port_in half steps port) ≡ true
+ranges_in half base steps [] port fits = fits
+ranges_in half base steps (r ∷ rs) port fits =
     elim (cases_Bool (nat_le r.first port && nat_le port r.last)) [
       | inl here ↦
           (let both = and_parts (nat_le r.first port) (nat_le port r.last) here in
-          or_left (is_in (base + octet_in half port) (half_cells half base r)) (ranges_pass half base rs (base + octet_in half port))
-          (range_in half base r port (leb-true r.first port both.0) (leb-true port r.last both.1)))
+          or_left (is_in (base + port_in half steps port) (half_cells half base steps r)) (ranges_pass half base steps rs (base + port_in half steps port))
+          (range_in half base steps r port (leb-true r.first port both.0) (leb-true port r.last both.1)))
       | inr not_here ↦
-          or_right (is_in (base + octet_in half port) (half_cells half base r)) (ranges_pass half base rs (base + octet_in half port))
-          (ranges_in half base rs port (rw not_here at fits))
+          or_right (is_in (base + port_in half steps port) (half_cells half base steps r)) (ranges_pass half base steps rs (base + port_in half steps port))
+          (ranges_in half base steps rs port (rw not_here at fits))
     ]
 
-octet_in_small : (half : Half) (port : ℕ) → port < 2 ^ 16 → octet_in half port < 256
-octet_in_small High port small = omega arith
-octet_in_small Low port small = omega arith
+port_in_small : (half : Half) (steps : Steps) (port : ℕ) → port < 2 ^ 16 → port_in half steps port < 256
+port_in_small High steps port small = omega arith
+port_in_small Low steps port small = low_cell_small steps port
 
-ports_in : (half : Half) (base : ℕ) (rs : List PortRange) (port : ℕ) → port < 2 ^ 16 → ports_fit rs (Some port) ≡ true → ports_pass half base rs (base + octet_in half port) ≡ true
-ports_in High base [] port small fits = in_whole base (octet_in High port) (octet_in_small High port small)
-ports_in Low base [] port small fits = in_whole base (octet_in Low port) (octet_in_small Low port small)
-ports_in half base (r ∷ rs) port small fits =
-    cond_both (are_whole half (r ∷ rs)) (is_in (base + octet_in half port) (whole base)) (ranges_pass half base (r ∷ rs) (base + octet_in half port)) (λ (b : Bool). b ≡ true)
-    (λ _. in_whole base (octet_in half port) (octet_in_small half port small))
-    (λ _. ranges_in half base (r ∷ rs) port fits)
+ports_in : (half : Half) (base : ℕ) (steps : Steps) (rs : List PortRange) (port : ℕ) → port < 2 ^ 16 → ports_fit rs (Some port) ≡ true → ports_pass half base steps rs (base + port_in half steps port) ≡ true
+ports_in High base steps [] port small fits = in_whole base (port_in High steps port) (port_in_small High steps port small)
+ports_in Low base steps [] port small fits = in_whole base (port_in Low steps port) (port_in_small Low steps port small)
+ports_in half base steps (r ∷ rs) port small fits =
+    cond_both (are_whole half steps (r ∷ rs)) (is_in (base + port_in half steps port) (whole base)) (ranges_pass half base steps (r ∷ rs) (base + port_in half steps port)) (λ (b : Bool). b ≡ true)
+    (λ _. in_whole base (port_in half steps port) (port_in_small half steps port small))
+    (λ _. ranges_in half base steps (r ∷ rs) port fits)
 
 abbrev pub remote_of : Dir → Option Ports → Option ℕ
 remote_of Up ports = dst_port ports
@@ -205,56 +202,56 @@ one_of false false false false false false false some = elim some [
 ]
 
 -- the tests of a filter at a cell
-abbrev pub Passed : Filter → ℕ → Type 0
-Passed f k =
+abbrev pub Passed : PortSteps → Filter → ℕ → Type 0
+Passed steps f k =
     (is_in k (way_in f.direction f.flow) ≡ true) ⊎ ((is_in k (proto_cells f.proto) ≡ true) ⊎ ((place_passes (remote_end f).place k ≡ true)
-    ⊎ ((ports_pass High 1280 (remote_end f).ports.items k ≡ true) ⊎ ((ports_pass Low 1536 (remote_end f).ports.items k ≡ true)
-    ⊎ ((ports_pass High 1792 (local_end f).ports.items k ≡ true) ⊎ (ports_pass Low 2048 (local_end f).ports.items k ≡ true))))))
+    ⊎ ((ports_pass High 1280 steps.remote (remote_end f).ports.items k ≡ true) ⊎ ((ports_pass Low 1536 steps.remote (remote_end f).ports.items k ≡ true)
+    ⊎ ((ports_pass High 1792 steps.local (local_end f).ports.items k ≡ true) ⊎ (ports_pass Low 2048 steps.local (local_end f).ports.items k ≡ true))))))
 
-passed : (f : Filter) (k : ℕ) → Passed f k → filter_passes f k ≡ true
-passed f k some =
+passed : (steps : PortSteps) (f : Filter) (k : ℕ) → Passed steps f k → filter_passes steps f k ≡ true
+passed steps f k some =
     one_of (is_in k (way_in f.direction f.flow)) (is_in k (proto_cells f.proto)) (place_passes (remote_end f).place k)
-    (ports_pass High 1280 (remote_end f).ports.items k) (ports_pass Low 1536 (remote_end f).ports.items k)
-    (ports_pass High 1792 (local_end f).ports.items k) (ports_pass Low 2048 (local_end f).ports.items k) some
+    (ports_pass High 1280 steps.remote (remote_end f).ports.items k) (ports_pass Low 1536 steps.remote (remote_end f).ports.items k)
+    (ports_pass High 1792 steps.local (local_end f).ports.items k) (ports_pass Low 2048 steps.local (local_end f).ports.items k) some
 
 -- a filter lets a cell pass
-abbrev pub Lets : Filter → ℕ → Type 0
-Lets f k = filter_passes f k ≡ true
+abbrev pub Lets : PortSteps → Filter → ℕ → Type 0
+Lets steps f k = filter_passes steps f k ≡ true
 
-remote_ports_in : (f : Filter) (dir : Dir) (ports : Ports) → ArePortsRanged (Some ports) → ports_fit (remote_end f).ports.items (remote_of dir (Some ports)) ≡ true
-    → (Lets f (1280 + remote_port dir ports / 256)) × (Lets f (1536 + remote_port dir ports % 256))
-remote_ports_in f Up ports ranged fits = (
-  passed f (1280 + ports.dst / 256) (inr (inr (inr (inl (ports_in High 1280 (remote_end f).ports.items ports.dst ranged.1 fits))))),
-  passed f (1536 + ports.dst % 256) (inr (inr (inr (inr (inl (ports_in Low 1536 (remote_end f).ports.items ports.dst ranged.1 fits)))))),
+remote_ports_in : (steps : PortSteps) (f : Filter) (dir : Dir) (ports : Ports) → ArePortsRanged (Some ports) → ports_fit (remote_end f).ports.items (remote_of dir (Some ports)) ≡ true
+    → (Lets steps f (1280 + remote_port dir ports / 256)) × (Lets steps f (1536 + low_cell steps.remote (remote_port dir ports)))
+remote_ports_in steps f Up ports ranged fits = (
+  passed steps f (1280 + ports.dst / 256) (inr (inr (inr (inl (ports_in High 1280 steps.remote (remote_end f).ports.items ports.dst ranged.1 fits))))),
+  passed steps f (1536 + low_cell steps.remote ports.dst) (inr (inr (inr (inr (inl (ports_in Low 1536 steps.remote (remote_end f).ports.items ports.dst ranged.1 fits)))))),
 )
-remote_ports_in f Down ports ranged fits = (
-  passed f (1280 + ports.src / 256) (inr (inr (inr (inl (ports_in High 1280 (remote_end f).ports.items ports.src ranged.0 fits))))),
-  passed f (1536 + ports.src % 256) (inr (inr (inr (inr (inl (ports_in Low 1536 (remote_end f).ports.items ports.src ranged.0 fits)))))),
+remote_ports_in steps f Down ports ranged fits = (
+  passed steps f (1280 + ports.src / 256) (inr (inr (inr (inl (ports_in High 1280 steps.remote (remote_end f).ports.items ports.src ranged.0 fits))))),
+  passed steps f (1536 + low_cell steps.remote ports.src) (inr (inr (inr (inr (inl (ports_in Low 1536 steps.remote (remote_end f).ports.items ports.src ranged.0 fits)))))),
 )
 
-local_ports_in : (f : Filter) (dir : Dir) (ports : Ports) → ArePortsRanged (Some ports) → ports_fit (local_end f).ports.items (local_of dir (Some ports)) ≡ true
-    → (Lets f (1792 + local_port dir ports / 256)) × (Lets f (2048 + local_port dir ports % 256))
-local_ports_in f Up ports ranged fits = (
-  passed f (1792 + ports.src / 256) (inr (inr (inr (inr (inr (inl (ports_in High 1792 (local_end f).ports.items ports.src ranged.0 fits))))))),
-  passed f (2048 + ports.src % 256) (inr (inr (inr (inr (inr (inr (ports_in Low 2048 (local_end f).ports.items ports.src ranged.0 fits))))))),
+local_ports_in : (steps : PortSteps) (f : Filter) (dir : Dir) (ports : Ports) → ArePortsRanged (Some ports) → ports_fit (local_end f).ports.items (local_of dir (Some ports)) ≡ true
+    → (Lets steps f (1792 + local_port dir ports / 256)) × (Lets steps f (2048 + low_cell steps.local (local_port dir ports)))
+local_ports_in steps f Up ports ranged fits = (
+  passed steps f (1792 + ports.src / 256) (inr (inr (inr (inr (inr (inl (ports_in High 1792 steps.local (local_end f).ports.items ports.src ranged.0 fits))))))),
+  passed steps f (2048 + low_cell steps.local ports.src) (inr (inr (inr (inr (inr (inr (ports_in Low 2048 steps.local (local_end f).ports.items ports.src ranged.0 fits))))))),
 )
-local_ports_in f Down ports ranged fits = (
-  passed f (1792 + ports.dst / 256) (inr (inr (inr (inr (inr (inl (ports_in High 1792 (local_end f).ports.items ports.dst ranged.1 fits))))))),
-  passed f (2048 + ports.dst % 256) (inr (inr (inr (inr (inr (inr (ports_in Low 2048 (local_end f).ports.items ports.dst ranged.1 fits))))))),
+local_ports_in steps f Down ports ranged fits = (
+  passed steps f (1792 + ports.dst / 256) (inr (inr (inr (inr (inr (inl (ports_in High 1792 steps.local (local_end f).ports.items ports.dst ranged.1 fits))))))),
+  passed steps f (2048 + low_cell steps.local ports.dst) (inr (inr (inr (inr (inr (inr (ports_in Low 2048 steps.local (local_end f).ports.items ports.dst ranged.1 fits))))))),
 )
 
 All4 : (P : ℕ → Type 0) (a b c d : ℕ) → P a → P b → P c → P d → All P (a ∷ b ∷ c ∷ d ∷ [])
 All4 P a b c d pa pb pc pd =
     All-cons P a (b ∷ c ∷ d ∷ []) pa (All-cons P b (c ∷ d ∷ []) pb (All-cons P c (d ∷ []) pc (All-cons P d [] pd (All-nil P))))
 
-port_cells_pass : (f : Filter) (dir : Dir) (ports : Option Ports) → ArePortsRanged ports → Lets f (way_cell dir)
+port_cells_pass : (steps : PortSteps) (f : Filter) (dir : Dir) (ports : Option Ports) → ArePortsRanged ports → Lets steps f (way_cell dir)
     → ports_fit (remote_end f).ports.items (remote_of dir ports) ≡ true → ports_fit (local_end f).ports.items (local_of dir ports) ≡ true
-    → All (Lets f) (port_cells dir ports)
-port_cells_pass f dir None ranged way remote local = All4 (Lets f) (way_cell dir) (way_cell dir) (way_cell dir) (way_cell dir) way way way way
-port_cells_pass f dir (Some ports) ranged way remote local =
-    let far = remote_ports_in f dir ports ranged remote in
-    let near = local_ports_in f dir ports ranged local in
-    All4 (Lets f) (1280 + remote_port dir ports / 256) (1536 + remote_port dir ports % 256) (1792 + local_port dir ports / 256) (2048 + local_port dir ports % 256)
+    → All (Lets steps f) (port_cells steps dir ports)
+port_cells_pass steps f dir None ranged way remote local = All4 (Lets steps f) (way_cell dir) (way_cell dir) (way_cell dir) (way_cell dir) way way way way
+port_cells_pass steps f dir (Some ports) ranged way remote local =
+    let far = remote_ports_in steps f dir ports ranged remote in
+    let near = local_ports_in steps f dir ports ranged local in
+    All4 (Lets steps f) (1280 + remote_port dir ports / 256) (1536 + low_cell steps.remote (remote_port dir ports)) (1792 + local_port dir ports / 256) (2048 + low_cell steps.local (local_port dir ports))
     far.0 far.1 near.0 near.1
 
 -- an octet of an address is among those of a place, whatever the others are
@@ -277,46 +274,55 @@ places_in place ue addr fits =
     )
 
 -- a filter that matches a packet lets each of its cells pass
-pub matching_passes : (f : Filter) (ue : Addr) (h : Header) → IsRanged h → matches f ue h ≡ true → All (Lets f) (header_cells h)
-matching_passes f ue h ranged matching =
+pub matching_passes : (steps : PortSteps) (f : Filter) (ue : Addr) (h : Header) → IsRanged h → matches f ue h ≡ true → All (Lets steps f) (header_cells steps h)
+matching_passes steps f ue h ranged matching =
     let parts = and_parts (proto_fits f.proto h.proto) (oriented_fits (orientation_of f.direction f.flow h.dir) f ue h) matching in
     let e = ends f.direction f.flow h.dir f ue h parts.1 in
     let remote = and_parts (place_fits (remote_end f).place ue (remote_side h)) (ports_fit (remote_end f).ports.items (remote_of h.dir h.ports)) e.remote in
     let local = and_parts (place_fits (local_end f).place ue (ue_side_in h.dir h)) (ports_fit (local_end f).ports.items (local_of h.dir h.ports)) e.local in
     let places = places_in (remote_end f).place ue (remote_side h) remote.0 in
-    let way : Lets f (way_cell h.dir) = passed f (way_cell h.dir) (inl e.way) in
+    let way : Lets steps f (way_cell h.dir) = passed steps f (way_cell h.dir) (inl e.way) in
     let a = 256 + octet_of 24 (remote_side h) in
     let b = 512 + octet_of 16 (remote_side h) in
     let c = 768 + octet_of 8 (remote_side h) in
     let d = 1024 + octet_of 0 (remote_side h) in
-    let ports = port_cells h.dir h.ports in
-    All-cons (Lets f) (way_cell h.dir) (h.proto ∷ a ∷ b ∷ c ∷ d ∷ ports) way
-    (All-cons (Lets f) h.proto (a ∷ b ∷ c ∷ d ∷ ports) (passed f h.proto (inr (inl (proto_in f.proto h.proto ranged.proto parts.0))))
-    (All-cons (Lets f) a (b ∷ c ∷ d ∷ ports) (passed f a (inr (inr (inl places.0))))
-    (All-cons (Lets f) b (c ∷ d ∷ ports) (passed f b (inr (inr (inl places.1))))
-    (All-cons (Lets f) c (d ∷ ports) (passed f c (inr (inr (inl places.2))))
-    (All-cons (Lets f) d ports (passed f d (inr (inr (inl places.3))))
-    (port_cells_pass f h.dir h.ports ranged.ports way remote.1 local.1))))))
+    let ports = port_cells steps h.dir h.ports in
+    All-cons (Lets steps f) (way_cell h.dir) (h.proto ∷ a ∷ b ∷ c ∷ d ∷ ports) way
+    (All-cons (Lets steps f) h.proto (a ∷ b ∷ c ∷ d ∷ ports) (passed steps f h.proto (inr (inl (proto_in f.proto h.proto ranged.proto parts.0))))
+    (All-cons (Lets steps f) a (b ∷ c ∷ d ∷ ports) (passed steps f a (inr (inr (inl places.0))))
+    (All-cons (Lets steps f) b (c ∷ d ∷ ports) (passed steps f b (inr (inr (inl places.1))))
+    (All-cons (Lets steps f) c (d ∷ ports) (passed steps f c (inr (inr (inl places.2))))
+    (All-cons (Lets steps f) d ports (passed steps f d (inr (inr (inl places.3))))
+    (port_cells_pass steps f h.dir h.ports ranged.ports way remote.1 local.1))))))
 
-port_cells_within : (dir : Dir) (ports : Option Ports) → ArePortsRanged ports → All (λ k. k ≤ 2305) (port_cells dir ports)
-port_cells_within Up None ranged = All4 (λ k. k ≤ 2305) 2304 2304 2304 2304 (omega arith) (omega arith) (omega arith) (omega arith)
-port_cells_within Down None ranged = All4 (λ k. k ≤ 2305) 2305 2305 2305 2305 (omega arith) (omega arith) (omega arith) (omega arith)
-port_cells_within Up (Some ports) ranged =
+low_within : (base k : ℕ) → base ≤ 2048 → k < 256 → base + k ≤ 2305
+low_within base k low small = omega arith
+
+port_cells_within : (steps : PortSteps) (dir : Dir) (ports : Option Ports) → ArePortsRanged ports → All (λ k. k ≤ 2305) (port_cells steps dir ports)
+port_cells_within steps Up None ranged = All4 (λ k. k ≤ 2305) 2304 2304 2304 2304 (omega arith) (omega arith) (omega arith) (omega arith)
+port_cells_within steps Down None ranged = All4 (λ k. k ≤ 2305) 2305 2305 2305 2305 (omega arith) (omega arith) (omega arith) (omega arith)
+port_cells_within steps Up (Some ports) ranged =
     let far = ranged.1 in
     let near = ranged.0 in
-    All4 (λ k. k ≤ 2305) (1280 + ports.dst / 256) (1536 + ports.dst % 256) (1792 + ports.src / 256) (2048 + ports.src % 256) (omega arith) (omega arith) (omega arith) (omega arith)
-port_cells_within Down (Some ports) ranged =
+    let low_far = low_cell_small steps.remote ports.dst in
+    let low_near = low_cell_small steps.local ports.src in
+    All4 (λ k. k ≤ 2305) (1280 + ports.dst / 256) (1536 + low_cell steps.remote ports.dst) (1792 + ports.src / 256) (2048 + low_cell steps.local ports.src)
+    (omega (arith, far)) (low_within 1536 (low_cell steps.remote ports.dst) (omega arith) low_far) (omega (arith, near)) (low_within 2048 (low_cell steps.local ports.src) (omega arith) low_near)
+port_cells_within steps Down (Some ports) ranged =
     let far = ranged.0 in
     let near = ranged.1 in
-    All4 (λ k. k ≤ 2305) (1280 + ports.src / 256) (1536 + ports.src % 256) (1792 + ports.dst / 256) (2048 + ports.dst % 256) (omega arith) (omega arith) (omega arith) (omega arith)
+    let low_far = low_cell_small steps.remote ports.src in
+    let low_near = low_cell_small steps.local ports.dst in
+    All4 (λ k. k ≤ 2305) (1280 + ports.src / 256) (1536 + low_cell steps.remote ports.src) (1792 + ports.dst / 256) (2048 + low_cell steps.local ports.dst)
+    (omega (arith, far)) (low_within 1536 (low_cell steps.remote ports.src) (omega arith) low_far) (omega (arith, near)) (low_within 2048 (low_cell steps.local ports.dst) (omega arith) low_near)
 
 way_within : (dir : Dir) → way_cell dir ≤ 2305
 way_within Up = omega arith
 way_within Down = omega arith
 
 -- the cells of a header are there
-pub cells_within : (h : Header) → IsRanged h → All (λ k. k ≤ 2305) (header_cells h)
-cells_within h ranged =
+pub cells_within : (steps : PortSteps) (h : Header) → IsRanged h → All (λ k. k ≤ 2305) (header_cells steps h)
+cells_within steps h ranged =
     let P = λ (k : ℕ). k ≤ 2305 in
     let small = ranged.proto in
     let sa = octet_small 24 (remote_side h) in
@@ -327,11 +333,11 @@ cells_within h ranged =
     let b = 512 + octet_of 16 (remote_side h) in
     let c = 768 + octet_of 8 (remote_side h) in
     let d = 1024 + octet_of 0 (remote_side h) in
-    let ports = port_cells h.dir h.ports in
+    let ports = port_cells steps h.dir h.ports in
     All-cons P (way_cell h.dir) (h.proto ∷ a ∷ b ∷ c ∷ d ∷ ports) (way_within h.dir)
     (All-cons P h.proto (a ∷ b ∷ c ∷ d ∷ ports) (omega arith)
     (All-cons P a (b ∷ c ∷ d ∷ ports) (omega arith)
     (All-cons P b (c ∷ d ∷ ports) (omega arith)
     (All-cons P c (d ∷ ports) (omega arith)
     (All-cons P d ports (omega arith)
-    (port_cells_within h.dir h.ports ranged.ports))))))
+    (port_cells_within steps h.dir h.ports ranged.ports))))))

@@ -1,8 +1,9 @@
 //! The cells that a filter lets pass: one cell for each octet of each field that filters look at.
 
 ghost use Rattle.std.specs.Prelude.{◌≡◌, ◌<◌, ◌≤◌, ◌+◌, ◌*◌, IfSome};
-ghost use Rattle.pcef_index.specs.private.Cells.{block, half_cells, high_cells, local_end, low_cells, net_cells, octet_of, place_cells, proto_cells, remote_end, rest_of, shift_of, way_in, whole, wide_shift};
+ghost use Rattle.pcef_index.specs.private.Cells.{block, half_cells, high_cells, local_end, low_cell, low_cells, net_cells, octet_of, place_cells, proto_cells, remote_end, rest_of, shift_of, way_in, whole, wide_shift};
 
+use crate::steps::Steps;
 use pcef_filter::{Direction, Endpoint, Filter, Flow, Net, Place, PortRange};
 use pcef_packet::Addr;
 
@@ -11,11 +12,11 @@ use pcef_packet::Addr;
 pub(crate) const PROTO: u16 = 0;
 /// The high octet of the remote port.
 pub(crate) const REMOTE_HIGH: u16 = 1280;
-/// The low octet of the remote port.
+/// The low octet of the remote port, or how many steps it has reached.
 pub(crate) const REMOTE_LOW: u16 = 1536;
 /// The high octet of the local port.
 pub(crate) const LOCAL_HIGH: u16 = 1792;
-/// The low octet of the local port.
+/// The low octet of the local port, or how many steps it has reached.
 pub(crate) const LOCAL_LOW: u16 = 2048;
 /// Uplink.
 pub(crate) const UPLINK: u16 = 2304;
@@ -34,12 +35,12 @@ pub(crate) struct Cells {
     pub last: u16,
 }
 
-/// An octet of a port.
+/// Which of the two fields of a port.
 #[derive(Clone, Copy, Debug, PartialEq, Eq)]
 pub(crate) enum Half {
     /// The high octet.
     High,
-    /// The low octet.
+    /// The low octet, or the steps.
     Low,
 }
 
@@ -219,32 +220,45 @@ fn high_cells(base: u16, range: &PortRange) -> Cells
     }
 }
 
-/// The low octets of the ports of a range: all where the high octets differ.
-fn low_cells(base: u16, range: &PortRange) -> Cells
-    requires { base ≤ 2048 }
-    ensures is { result ≡ low_cells base range.now }
-    ensures within { result.last ≤ 2305 }
+/// The cell of a port in a low field that begins with cell 0: how many steps the port has reached or, where there
+/// are no steps, its low octet.
+pub(crate) fn low_cell(steps: &Steps, port: u16) -> u16
+    ensures is { result ≡ low_cell steps.now port }
+    ensures small { result < 256 }
 {
-    let PortRange { first, last } = *range;
-    if first / 256 == last / 256 {
-        Cells {
-            first: base + first % 256,
-            last: base + last % 256,
-        }
+    if steps.ports.is_empty() {
+        port % 256
     } else {
-        whole(base)
+        steps.count_to(port)
     }
 }
 
-/// An octet of the ports of a range.
-pub(crate) fn range_cells(half: Half, base: u16, range: &PortRange) -> Cells
+/// The cells of the ports of a range in a low field: all where there are no steps and the high octets differ.
+fn low_cells(base: u16, steps: &Steps, range: &PortRange) -> Cells
     requires { base ≤ 2048 }
-    ensures is { result ≡ half_cells half base range.now }
+    ensures is { result ≡ low_cells base steps.now range.now }
+    ensures within { result.last ≤ 2305 }
+{
+    let PortRange { first, last } = *range;
+    if steps.ports.is_empty() && first / 256 != last / 256 {
+        whole(base)
+    } else {
+        Cells {
+            first: base + low_cell(steps, first),
+            last: base + low_cell(steps, last),
+        }
+    }
+}
+
+/// The cells of the ports of a range in one of their fields.
+pub(crate) fn range_cells(half: Half, base: u16, steps: &Steps, range: &PortRange) -> Cells
+    requires { base ≤ 2048 }
+    ensures is { result ≡ half_cells half base steps.now range.now }
     ensures within { result.last ≤ 2305 }
 {
     match half {
         Half::High => high_cells(base, range),
-        Half::Low => low_cells(base, range),
+        Half::Low => low_cells(base, steps, range),
     }
 }
 

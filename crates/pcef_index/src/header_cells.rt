@@ -7,8 +7,9 @@ ghost use Rattle.pcef_index.specs.private.Cells.{header_cells, way_cell};
 ghost use Rattle.pcef_index.specs.private.Marks.{IsRanged};
 
 use crate::cells::{
-    DOWNLINK, LOCAL_HIGH, LOCAL_LOW, PROTO, REMOTE_HIGH, REMOTE_LOW, UPLINK, octet_of,
+    DOWNLINK, LOCAL_HIGH, LOCAL_LOW, PROTO, REMOTE_HIGH, REMOTE_LOW, UPLINK, low_cell, octet_of,
 };
+use crate::steps::PortSteps;
 use pcef_packet::{Addr, Dir, Header, Ports};
 
 fn way_cell(dir: Dir) -> u16
@@ -48,8 +49,8 @@ fn local_port(dir: Dir, ports: Ports) -> u16
 }
 
 /// The cells of a header.
-pub(crate) fn header_cells(header: &Header) -> [usize; 10]
-    ensures is { result ≡ header_cells header.now }
+pub(crate) fn header_cells(steps: &PortSteps, header: &Header) -> [usize; 10]
+    ensures is { result ≡ header_cells steps.now header.now }
     ensures ranged { IsRanged header.now }
 {
     let Header {
@@ -68,8 +69,8 @@ pub(crate) fn header_cells(header: &Header) -> [usize; 10]
     match ports {
         None => [way, proto, first, second, third, fourth, way, way, way, way],
         Some(ports) => {
-            let far = usize::from(remote_port(dir, ports));
-            let near = usize::from(local_port(dir, ports));
+            let far = remote_port(dir, ports);
+            let near = local_port(dir, ports);
             [
                 way,
                 proto,
@@ -77,10 +78,10 @@ pub(crate) fn header_cells(header: &Header) -> [usize; 10]
                 second,
                 third,
                 fourth,
-                usize::from(REMOTE_HIGH) + far / 256,
-                usize::from(REMOTE_LOW) + far % 256,
-                usize::from(LOCAL_HIGH) + near / 256,
-                usize::from(LOCAL_LOW) + near % 256,
+                usize::from(REMOTE_HIGH) + usize::from(far / 256),
+                usize::from(REMOTE_LOW) + usize::from(low_cell(&steps.remote, far)),
+                usize::from(LOCAL_HIGH) + usize::from(near / 256),
+                usize::from(LOCAL_LOW) + usize::from(low_cell(&steps.local, near)),
             ]
         }
     }

@@ -128,7 +128,14 @@ fn first_sieved<'a, C: Detects>(
     ensures first { option_copied result
         ≡ find (λ e. fits (C.offers catalog.now) ue.now header.now e.source) table.now.entries }
 {
-    let Some(place) = first_place(&sieve.lines, &sieve.words, catalog, ue, header) else {
+    let Some(place) = first_place(
+        &sieve.lines,
+        &sieve.steps,
+        &sieve.words,
+        catalog,
+        ue,
+        header,
+    ) else {
         return None;
     };
     table.entry(usize::from(place))

@@ -2,12 +2,13 @@
 //!
 //! Its contracts tell: the same verdict and slots as the table's, by one look-up, and which entries may match a header.
 //!
-//! In the order of reading: `candidates`, `rule_filter`, `lines`, `cells`, `header_cells`, `marking`, `sieve`,
-//! `index`, `indexed`.
+//! In the order of reading: `candidates`, `rule_filter`, `lines`, `steps`, `cells`, `choosing`, `header_cells`,
+//! `marking`, `sieve`, `index`, `indexed`.
 #![tactic(auto)]
 
 mod candidates;
 mod cells;
+mod choosing;
 mod header_cells;
 mod index;
 mod indexed;
@@ -15,6 +16,7 @@ mod lines;
 mod marking;
 mod rule_filter;
 mod sieve;
+mod steps;
 
 pub use index::Index;
 pub use indexed::Indexed;

@@ -10,6 +10,7 @@ use crate::cells::{
     local_end, only, place_cells, proto_cells, range_cells, remote_end, way_cells,
 };
 use crate::lines::{Line, Part};
+use crate::steps::{PortSteps, Steps};
 use pcef_filter::{Filter, Place, PortRange};
 
 /// Where the marks of a line stand: its bit, in the words from one on.
@@ -80,65 +81,109 @@ fn any_spans(ranges: &[PortRange]) -> bool
         .any(|range| range.first / 256 != range.last / 256)
 }
 
-/// Whether a port list lets all octets of this half pass: where it is empty, and all low ones where a range has
-/// several high ones.
-fn are_whole(half: Half, ranges: &[PortRange]) -> bool
-    ensures { result ≡ are_whole half ranges.now }
+/// Whether a port list lets all cells of this half pass: where it is empty, and all low ones where there are no
+/// steps and a range has several high octets.
+fn are_whole(half: Half, steps: &Steps, ranges: &[PortRange]) -> bool
+    ensures { result ≡ are_whole half steps.now ranges.now }
 {
     match half {
         Half::High => ranges.is_empty(),
-        Half::Low => ranges.is_empty() || any_spans(ranges),
+        Half::Low => ranges.is_empty() || (steps.ports.is_empty() && any_spans(ranges)),
     }
 }
 
-fn mark_ports(words: &mut [u64], spot: Spot, half: Half, base: u16, ranges: &[PortRange])
+fn mark_ports(
+    words: &mut [u64],
+    spot: Spot,
+    half: Half,
+    base: u16,
+    steps: &Steps,
+    ranges: &[PortRange],
+)
     requires bit { spot.bit < 64 }
     requires within { spot.at + 2316 ≤ length words.old }
     requires low { base ≤ 2048 }
-    ensures { Marks words.old words.new spot.at spot.bit (ports_pass half base ranges.now) }
+    ensures { Marks words.old words.new spot.at spot.bit
+        (ports_pass half base steps.now ranges.now) }
 {
-    if are_whole(half, ranges) {
+    if are_whole(half, steps, ranges) {
         mark(words, spot, all_octets(base));
     } else {
-        mark_ranges(words, spot, half, base, ranges);
+        mark_ranges(words, spot, half, base, steps, ranges);
     }
 }
 
-fn mark_ranges(words: &mut [u64], spot: Spot, half: Half, base: u16, ranges: &[PortRange])
+fn mark_ranges(
+    words: &mut [u64],
+    spot: Spot,
+    half: Half,
+    base: u16,
+    steps: &Steps,
+    ranges: &[PortRange],
+)
     requires bit { spot.bit < 64 }
     requires within { spot.at + 2316 ≤ length words.old }
     requires low { base ≤ 2048 }
-    ensures { Marks words.old words.new spot.at spot.bit (ranges_pass half base ranges.now) }
+    ensures { Marks words.old words.new spot.at spot.bit
+        (ranges_pass half base steps.now ranges.now) }
 {
     for range in ranges {
-        mark(words, spot, range_cells(half, base, range));
+        mark(words, spot, range_cells(half, base, steps, range));
     }
 }
 
-fn mark_filter(words: &mut [u64], spot: Spot, filter: &Filter)
+fn mark_filter(words: &mut [u64], spot: Spot, steps: &PortSteps, filter: &Filter)
     requires bit { spot.bit < 64 }
     requires within { spot.at + 2316 ≤ length words.old }
-    ensures { Marks words.old words.new spot.at spot.bit (filter_passes filter.now) }
+    ensures { Marks words.old words.new spot.at spot.bit (filter_passes steps.now filter.now) }
 {
     let remote = remote_end(filter);
     let local = local_end(filter);
     mark(words, spot, way_cells(filter));
     mark(words, spot, proto_cells(filter.proto));
     mark_place(words, spot, &remote.place);
-    mark_ports(words, spot, Half::High, REMOTE_HIGH, &remote.ports);
-    mark_ports(words, spot, Half::Low, REMOTE_LOW, &remote.ports);
-    mark_ports(words, spot, Half::High, LOCAL_HIGH, &local.ports);
-    mark_ports(words, spot, Half::Low, LOCAL_LOW, &local.ports);
+    mark_ports(
+        words,
+        spot,
+        Half::High,
+        REMOTE_HIGH,
+        &steps.remote,
+        &remote.ports,
+    );
+    mark_ports(
+        words,
+        spot,
+        Half::Low,
+        REMOTE_LOW,
+        &steps.remote,
+        &remote.ports,
+    );
+    mark_ports(
+        words,
+        spot,
+        Half::High,
+        LOCAL_HIGH,
+        &steps.local,
+        &local.ports,
+    );
+    mark_ports(
+        words,
+        spot,
+        Half::Low,
+        LOCAL_LOW,
+        &steps.local,
+        &local.ports,
+    );
 }
 
 /// Marks a line at each cell that it lets pass.
-pub(crate) fn mark_line(words: &mut [u64], spot: Spot, line: &Line)
+pub(crate) fn mark_line(words: &mut [u64], spot: Spot, steps: &PortSteps, line: &Line)
     requires bit { spot.bit < 64 }
     requires within { spot.at + 2316 ≤ length words.old }
-    ensures { Marks words.old words.new spot.at spot.bit (line_passes line.now) }
+    ensures { Marks words.old words.new spot.at spot.bit (line_passes steps.now line.now) }
 {
     match &line.part {
-        Part::Filter(filter) => mark_filter(words, spot, filter.get()),
+        Part::Filter(filter) => mark_filter(words, spot, steps, filter.get()),
         Part::Offer(_) => mark_all(words, spot),
     }
 }

@@ -4,15 +4,18 @@ ghost use Rattle.std.specs.Prelude.{◌≡◌, ◌≤◌, ◌<◌, ◌+◌, ◌*
 ghost use Rattle.std.specs.Int.{bit_at};
 ghost use Rattle.std.specs.Option.{option_map};
 ghost use Rattle.pcef_index.specs.declared.lines.Line.{Line};
+ghost use Rattle.pcef_index.specs.declared.steps.PortSteps.{PortSteps};
 ghost use Rattle.pcef_index.specs.private.Lines.{line_fits};
 ghost use Rattle.pcef_index.specs.private.Cells.{is_in};
 ghost use Rattle.pcef_index.specs.private.Indexes.{IsSieveOf};
 ghost use Rattle.pcef_index.specs.private.Marks.{AreSieved, Has, IsFirstIn, IsMarked, IsSieve, Spreads, blocks};
 
 use crate::cells::{Cells, DOWNLINK, FIELDS, UPLINK, all_octets};
+use crate::choosing::steps_of;
 use crate::header_cells::header_cells;
 use crate::lines::{Line, lines_of};
 use crate::marking::{Spot, mark_line};
+use crate::steps::PortSteps;
 use pcef_catalog::Detects;
 use pcef_packet::{Addr, Header};
 use pcef_table::Source;
@@ -26,6 +29,8 @@ const BLOCK: usize = 2316;
 pub(crate) struct Sieve {
     /// The lines.
     pub lines: Vec<Line>,
+    /// What the low fields of ports have cells for.
+    pub steps: PortSteps,
     /// For each 64 lines a block of words.
     pub words: Vec<u64>,
 }
@@ -36,34 +41,47 @@ pub(crate) fn sieve_of(alloc: Global, sources: &[Source]) -> Result<Sieve, Alloc
     ensures { IfOk result (IsSieveOf sources.now) }
 {
     let lines = lines_of(alloc, sources)?;
-    let words = words_of(alloc, &lines)?;
-    Ok(Sieve { lines, words })
+    let steps = steps_of(alloc, &lines)?;
+    let words = words_of(alloc, &steps, &lines)?;
+    Ok(Sieve {
+        lines,
+        steps,
+        words,
+    })
 }
 
 /// The words of some lines, or want of memory.
-fn words_of(alloc: Global, lines: &[Line]) -> Result<Vec<u64>, AllocError>
-    ensures { IfOk result (λ v. IsSieve lines.now v.items) }
+fn words_of(alloc: Global, steps: &PortSteps, lines: &[Line]) -> Result<Vec<u64>, AllocError>
+    ensures { IfOk result (λ v. IsSieve steps.now lines.now v.items) }
 {
     let Some(count) = lines.len().div_ceil(64).checked_mul(BLOCK) else {
         return Err(AllocError);
     };
     let mut words = vec![in alloc; 0u64; count]?;
-    mark_lines(&mut words, lines);
-    spread_blocks(&mut words, lines);
+    fill(&mut words, steps, lines);
     Ok(words)
 }
 
-/// Marks each line at its cells, or at their fields.
-fn mark_lines(words: &mut [u64], lines: &[Line])
+/// Fills words that are 0: each line has its bit at the cells that it lets pass.
+fn fill(words: &mut [u64], steps: &PortSteps, lines: &[Line])
     requires { length words.old ≡ blocks lines.now * 2316 }
-    ensures { IsMarked lines.now words.new }
+    ensures { IsSieve steps.now lines.now words.new }
+{
+    mark_lines(words, steps, lines);
+    spread_blocks(words, lines);
+}
+
+/// Marks each line at its cells, or at their fields.
+fn mark_lines(words: &mut [u64], steps: &PortSteps, lines: &[Line])
+    requires { length words.old ≡ blocks lines.now * 2316 }
+    ensures { IsMarked steps.now lines.now words.new }
 {
     for place in 0..lines.len() {
         let spot = Spot {
             at: place / 64 * BLOCK,
             bit: (place % 64) as u32,
         };
-        mark_line(words, spot, &lines[place]);
+        mark_line(words, spot, steps, &lines[place]);
     }
 }
 
@@ -105,8 +123,9 @@ fn spread_block(words: &mut [u64], at: usize)
 
 /// Gives the cells of each block the bits of their fields' words.
 fn spread_blocks(words: &mut [u64], lines: &[Line])
-    requires { IsMarked lines.now words.old }
-    ensures { IsSieve lines.now words.new }
+    requires { length words.old ≡ blocks lines.now * 2316 }
+    ensures { (steps : PortSteps) → IsMarked steps lines.now words.old
+        → IsSieve steps lines.now words.new }
 {
     for block in 0..lines.len().div_ceil(64) {
         spread_block(words, block * BLOCK);
@@ -155,16 +174,17 @@ fn first_in<C: Detects>(
 /// The place of the rule of the first line that fits.
 pub(crate) fn first_place<C: Detects>(
     lines: &[Line],
+    steps: &PortSteps,
     words: &[u64],
     catalog: &C,
     ue: &Addr,
     header: &Header,
 ) -> Option<u8>
-    requires { IsSieve lines.now words.now }
+    requires { IsSieve steps.now lines.now words.now }
     ensures { result ≡ option_map (λ (l : Line). l.place)
         (find (line_fits (C.offers catalog.now) ue.now header.now) lines.now) }
 {
-    let cells = header_cells(header);
+    let cells = header_cells(steps, header);
     for block in 0..lines.len().div_ceil(64) {
         let word = word_of(&words[block * BLOCK..], &cells);
         if let Some(place) = first_in(lines, block * 64, word, catalog, ue, header) {

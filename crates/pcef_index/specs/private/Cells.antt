@@ -1,6 +1,7 @@
--- The cells that a filter lets pass, and those of a header: one cell for each octet of each field.
+-- The cells that a filter lets pass, and those of a header: one cell for each octet of each field. Of a port the low field
+-- may have one for each interval between steps instead.
 use Rattle.std.specs.Prelude.{ℕ, ◌+◌, ◌-◌, ◌*◌, ◌/◌, ◌%◌, ◌^◌, ◌==◌, nat_le, nat_lt, Bool, not, length, Option, Some, None, List, [], ◌∷◌, if◌then◌else◌, ◌&&◌, ◌||◌}
-use Rattle.std.specs.List.{list_any}
+use Rattle.std.specs.List.{count_by, list_any}
 use Rattle.pcef_packet.specs.declared.header.Addr.{Addr}
 use Rattle.pcef_packet.specs.declared.header.Addr.TheVariants.{V4, V6}
 use Rattle.pcef_packet.specs.declared.header.Dir.{Dir}
@@ -25,6 +26,8 @@ use Rattle.pcef_index.specs.declared.cells.Half.TheVariants.{High, Low}
 use Rattle.pcef_index.specs.declared.lines.Line.{Line}
 use Rattle.pcef_index.specs.declared.lines.Part.{Part}
 use Rattle.pcef_index.specs.declared.lines.Part.TheVariants as part
+use Rattle.pcef_index.specs.declared.steps.Steps.{Steps}
+use Rattle.pcef_index.specs.declared.steps.PortSteps.{PortSteps}
 
 abbrev pub is_in : ℕ → Cells → Bool
 is_in k c = nat_le c.first k && nat_le k c.last
@@ -96,29 +99,39 @@ place_cells base shift (place.Net net) = net_cells base shift net
 abbrev pub high_cells : ℕ → PortRange → Cells
 high_cells base r = record { first = base + r.first / 256; last = base + r.last / 256 }
 
--- the low octets of the ports of a range: all where the high octets differ
-abbrev pub low_cells : ℕ → PortRange → Cells
-low_cells base r =
-    if (r.first / 256) == (r.last / 256) then record { first = base + r.first % 256; last = base + r.last % 256 } else whole base
+abbrev pub are_none : Steps → Bool
+are_none steps = length steps.ports.items == 0
 
-abbrev pub half_cells : Half → ℕ → PortRange → Cells
-half_cells High base r = high_cells base r
-half_cells Low base r = low_cells base r
+-- of a port in a low field: how many steps are at or below it or, where there are none, its low octet
+abbrev pub low_cell : Steps → ℕ → ℕ
+low_cell steps port = if are_none steps then port % 256 else count_by (λ step. nat_le step port) steps.ports.items
 
-abbrev pub ranges_pass : Half → ℕ → List PortRange → ℕ → Bool
-ranges_pass half base ranges k = list_any (λ r. is_in k (half_cells half base r)) ranges
-
--- a port list lets all octets pass where it is empty, and all low ones where a range has several high ones
 abbrev pub spans : PortRange → Bool
 spans r = not ((r.first / 256) == (r.last / 256))
 
-abbrev pub are_whole : Half → List PortRange → Bool
-are_whole High ranges = length ranges == 0
-are_whole Low ranges = (length ranges == 0) || list_any spans ranges
+-- of the ports of a range in a low field: all where there are no steps and the high octets differ
+abbrev pub low_cells : ℕ → Steps → PortRange → Cells
+low_cells base steps r =
+    if are_none steps && spans r then whole base
+    else record { first = base + low_cell steps r.first; last = base + low_cell steps r.last }
 
--- a cell of this octet of ports that a port list lets pass
-abbrev pub ports_pass : Half → ℕ → List PortRange → ℕ → Bool
-ports_pass half base ranges k = if are_whole half ranges then is_in k (whole base) else ranges_pass half base ranges k
+abbrev pub half_cells : Half → ℕ → Steps → PortRange → Cells
+half_cells High base steps r = high_cells base r
+half_cells Low base steps r = low_cells base steps r
+
+abbrev pub ranges_pass : Half → ℕ → Steps → List PortRange → ℕ → Bool
+ranges_pass half base steps ranges k = list_any (λ r. is_in k (half_cells half base steps r)) ranges
+
+-- a port list lets all cells pass where it is empty, and all low ones where there are no steps and a range has several
+-- high octets
+abbrev pub are_whole : Half → Steps → List PortRange → Bool
+are_whole High steps ranges = length ranges == 0
+are_whole Low steps ranges = (length ranges == 0) || (are_none steps && list_any spans ranges)
+
+-- a cell of this field of ports that a port list lets pass
+abbrev pub ports_pass : Half → ℕ → Steps → List PortRange → ℕ → Bool
+ports_pass half base steps ranges k =
+    if are_whole half steps ranges then is_in k (whole base) else ranges_pass half base steps ranges k
 
 -- a cell of the remote address that a place lets pass
 abbrev pub place_passes : Place → ℕ → Bool
@@ -127,33 +140,33 @@ place_passes place k =
     || (is_in k (place_cells 768 8 place) || is_in k (place_cells 1024 0 place)))
 
 -- a cell that a filter lets pass
-abbrev pub filter_passes : Filter → ℕ → Bool
-filter_passes f k =
+abbrev pub filter_passes : PortSteps → Filter → ℕ → Bool
+filter_passes steps f k =
     is_in k (way_in f.direction f.flow) || (is_in k (proto_cells f.proto) || (place_passes (remote_end f).place k
-    || (ports_pass High 1280 (remote_end f).ports.items k || (ports_pass Low 1536 (remote_end f).ports.items k
-    || (ports_pass High 1792 (local_end f).ports.items k || ports_pass Low 2048 (local_end f).ports.items k)))))
+    || (ports_pass High 1280 steps.remote (remote_end f).ports.items k || (ports_pass Low 1536 steps.remote (remote_end f).ports.items k
+    || (ports_pass High 1792 steps.local (local_end f).ports.items k || ports_pass Low 2048 steps.local (local_end f).ports.items k)))))
 
 -- a predefined rule lets every cell pass
-abbrev pub part_passes : Part → ℕ → Bool
-part_passes (part.Filter f) k = filter_passes f k
-part_passes (part.Offer index) k = is_in k (record { first = 0; last = 2305 })
+abbrev pub part_passes : PortSteps → Part → ℕ → Bool
+part_passes steps (part.Filter f) k = filter_passes steps f k
+part_passes steps (part.Offer index) k = is_in k (record { first = 0; last = 2305 })
 
-abbrev pub line_passes : Line → ℕ → Bool
-line_passes l k = part_passes l.part k
+abbrev pub line_passes : PortSteps → Line → ℕ → Bool
+line_passes steps l k = part_passes steps l.part k
 
 abbrev pub way_cell : Dir → ℕ
 way_cell Up = 2304
 way_cell Down = 2305
 
 -- without ports the direction's cell stands for theirs
-abbrev pub port_cells : Dir → Option Ports → List ℕ
-port_cells dir None = way_cell dir ∷ way_cell dir ∷ way_cell dir ∷ way_cell dir ∷ []
-port_cells dir (Some ports) =
-    (1280 + remote_port dir ports / 256) ∷ (1536 + remote_port dir ports % 256)
-    ∷ (1792 + local_port dir ports / 256) ∷ (2048 + local_port dir ports % 256) ∷ []
+abbrev pub port_cells : PortSteps → Dir → Option Ports → List ℕ
+port_cells steps dir None = way_cell dir ∷ way_cell dir ∷ way_cell dir ∷ way_cell dir ∷ []
+port_cells steps dir (Some ports) =
+    (1280 + remote_port dir ports / 256) ∷ (1536 + low_cell steps.remote (remote_port dir ports))
+    ∷ (1792 + local_port dir ports / 256) ∷ (2048 + low_cell steps.local (local_port dir ports)) ∷ []
 
 -- the cells of a header
-abbrev pub header_cells : Header → List ℕ
-header_cells h =
+abbrev pub header_cells : PortSteps → Header → List ℕ
+header_cells steps h =
     way_cell h.dir ∷ h.proto ∷ (256 + octet_of 24 (remote_side h)) ∷ (512 + octet_of 16 (remote_side h))
-    ∷ (768 + octet_of 8 (remote_side h)) ∷ (1024 + octet_of 0 (remote_side h)) ∷ port_cells h.dir h.ports
+    ∷ (768 + octet_of 8 (remote_side h)) ∷ (1024 + octet_of 0 (remote_side h)) ∷ port_cells steps h.dir h.ports

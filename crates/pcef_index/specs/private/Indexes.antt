@@ -1,5 +1,5 @@
 -- What an index keeps of the rules that it stands for.
-use Rattle.std.specs.Prelude.{ℕ, ◌≡◌, ◌≤◌, IfSome, List, Option, length}
+use Rattle.std.specs.Prelude.{◌≡◌, ◌≤◌, IfSome, List, Option, length}
 use Rattle.pcef_table.specs.declared.entry.Source.{Source}
 use Rattle.pcef_table.specs.Tables.{most_entries}
 use Rattle.pcef_index.specs.declared.sieve.Sieve.{Sieve}
@@ -9,7 +9,7 @@ use Rattle.pcef_index.specs.private.Marks.{IsSieve}
 -- the lines are those of some rules, and the words sieve the lines
 pub record IsSieveOf (sources : List Source) (sieve : Sieve) : Type 0 where
   pub lines_are : sieve.lines.items ≡ lines_from 0 sources
-  pub sieves : IsSieve sieve.lines.items sieve.words.items
+  pub sieves : IsSieve sieve.steps sieve.lines.items sieve.words.items
 
 -- the sieve of some rules, where they have one
 abbrev pub Sieves : List Source → Option Sieve → Type 0

@@ -5,6 +5,7 @@ use Rattle.std.specs.Option.{option_map_or}
 use Rattle.pcef_packet.specs.declared.header.Header.{Header}
 use Rattle.pcef_packet.specs.declared.header.Ports.{Ports}
 use Rattle.pcef_index.specs.declared.lines.Line.{Line}
+use Rattle.pcef_index.specs.declared.steps.PortSteps.{PortSteps}
 use Rattle.pcef_index.specs.private.Cells.{line_passes}
 
 -- the word at place k has bit i
@@ -28,8 +29,8 @@ pub record Marks (old new : List ℕ) (at bit : ℕ) (test : ℕ → Bool) : Typ
   pub marks : (k : ℕ) → test k ≡ true → Shows new at k bit
 
 -- line j is there, and lets cell k pass
-abbrev pub passes_at : List Line → ℕ → ℕ → Bool
-passes_at lines j k = option_map_or (λ l. line_passes l k) (slice_get lines j) false
+abbrev pub passes_at : PortSteps → List Line → ℕ → ℕ → Bool
+passes_at steps lines j k = option_map_or (λ l. line_passes steps l k) (slice_get lines j) false
 
 abbrev pub fits_at : (Line → Bool) → List Line → ℕ → Bool
 fits_at test lines j = option_map_or test (slice_get lines j) false
@@ -54,14 +55,14 @@ blocks lines = (length lines + 63) / 64
 
 -- for each 64 lines a block of 2316 words, one for each cell and then one for each field: they show each line's bit at the
 -- cells that it lets pass
-pub record IsMarked (lines : List Line) (words : List ℕ) : Type 0 where
+pub record IsMarked (steps : PortSteps) (lines : List Line) (words : List ℕ) : Type 0 where
   pub long : length words ≡ blocks lines * 2316
-  pub marked : (j k : ℕ) → passes_at lines j k ≡ true → Shows words (j / 64 * 2316) k (j % 64)
+  pub marked : (j k : ℕ) → passes_at steps lines j k ≡ true → Shows words (j / 64 * 2316) k (j % 64)
 
 -- the same, where each line has its bit in the words of the cells
-pub record IsSieve (lines : List Line) (words : List ℕ) : Type 0 where
+pub record IsSieve (steps : PortSteps) (lines : List Line) (words : List ℕ) : Type 0 where
   pub long : length words ≡ blocks lines * 2316
-  pub sieves : (j k : ℕ) → passes_at lines j k ≡ true → Has words (j / 64 * 2316 + k) (j % 64)
+  pub sieves : (j k : ℕ) → passes_at steps lines j k ≡ true → Has words (j / 64 * 2316 + k) (j % 64)
 
 -- no bit is lost, and of the words of 64 lines those of the cells that pass a test have the bits of their fields
 pub record Spreads (old new : List ℕ) (at : ℕ) (test : ℕ → Bool) : Type 0 where

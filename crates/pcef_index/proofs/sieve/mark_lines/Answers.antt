@@ -25,7 +25,7 @@ loop-place-preserved c =
         | inr not_before ↦
             (let same : place ≡ j = omega (arith, below, not_before) in
             let here : slice_get lines j ≡ Some line = ap (slice_get lines) (sym same) ∙ there in
-            let lets : line_passes line k ≡ true = sym (ap (λ (o : Option Line). option_map_or (λ l. line_passes l k) o false) here) ∙ passes in
+            let lets : line_passes c.args.steps.now line k ≡ true = sym (ap (λ (o : Option Line). option_map_or (λ l. line_passes c.args.steps.now l k) o false) here) ∙ passes in
             subst (λ (n : ℕ). Shows new (n / 64 * 2316) k (n % 64)) same (c.mark_line.ensures.marks k lets))
       ];
     }

@@ -1,6 +1,6 @@
-use Rattle.std.proofs.Common.{◌≡◌, ◌<◌, ◌≤◌, ◌+◌, ◌*◌, ◌/◌, ◌%◌, ◌∙◌, ℕ, nat_lt, true, inl, inr, subst, arith, length}
+use Rattle.std.proofs.Common.{◌≡◌, ◌+◌, ◌*◌, ◌/◌, ◌∙◌, ℕ, inl, inr, subst, arith}
 use Rattle.std.proofs.lemmas.Bool.{cases_lt, lt-ltb}
-use Rattle.pcef_index.specs.private.Marks.{Has, blocks}
+use Rattle.pcef_index.specs.private.Marks.{Has}
 use Rattle.pcef_index.proofs.Marked.{sieved}
 use Rattle.pcef_index.proofs.sieve.spread_blocks.Goals as goal
 
@@ -22,9 +22,9 @@ loop-block-preserved c =
     }
 
 pub returns : goal.returns
-returns c =
+returns c steps marked =
     record {
       long = c.loop-block.invariant.long;
-      sieves = sieved c.args.lines.now c.args.words.now c.loop-block.words c.requires.marked c.loop-block.invariant.grows
+      sieves = sieved steps c.args.lines.now c.args.words.now c.loop-block.words marked.marked c.loop-block.invariant.grows
           (λ b k i below few has. c.loop-block.invariant.spreads b k i (omega (arith, below)) few has);
     }
