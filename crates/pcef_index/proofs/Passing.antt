@@ -24,7 +24,7 @@ use Rattle.pcef_filter.specs.Matching.{dst_port, endpoint_fits, in_ranges, match
 use Rattle.pcef_index.specs.declared.cells.Cells.{Cells}
 use Rattle.pcef_index.specs.declared.cells.Half.{Half}
 use Rattle.pcef_index.specs.declared.cells.Half.TheVariants.{High, Low}
-use Rattle.pcef_index.specs.private.Cells.{are_whole, block, filter_passes, half_cells, header_cells, high_cells, is_in, local_end, local_in, loose_of, octet_of, only, place_cells, place_passes, port_cells, ports_pass, proto_cells, ranges_pass, remote_end, remote_in, rest_of, shift_of, wide_shift, way_cell, way_in, whole}
+use Rattle.pcef_index.specs.private.Cells.{are_whole, block, filter_passes, half_cells, header_cells, high_cells, is_in, local_end, local_in, loose_of, octet_of, only, place_cells, place_passes, port_cells, ports_pass, proto_cells, ranges_pass, remote_end, remote_in, shift_of, wide_shift, way_cell, way_in, whole}
 use Rattle.pcef_index.specs.private.Marks.{ArePortsRanged, IsRanged}
 use Rattle.pcef_index.proofs.Within.{inside}
 

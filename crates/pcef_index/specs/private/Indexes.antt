@@ -1,5 +1,5 @@
 -- What an index keeps of the rules that it stands for.
-use Rattle.std.specs.Prelude.{ℕ, ◌≡◌, ◌≤◌, IfSome, List, Option, length}
+use Rattle.std.specs.Prelude.{◌≡◌, ◌≤◌, IfSome, List, Option, length}
 use Rattle.pcef_table.specs.declared.entry.Source.{Source}
 use Rattle.pcef_table.specs.Tables.{most_entries}
 use Rattle.pcef_index.specs.declared.sieve.Sieve.{Sieve}

@@ -1,6 +1,6 @@
-use Rattle.std.proofs.Common.{◌≡◌, ◌<◌, ◌≤◌, ◌+◌, ◌*◌, ◌/◌, ◌%◌, ◌∙◌, ℕ, nat_lt, true, inl, inr, subst, arith, length}
+use Rattle.std.proofs.Common.{◌≡◌, ◌+◌, ◌*◌, ◌/◌, ◌∙◌, ℕ, inl, inr, subst, arith}
 use Rattle.std.proofs.lemmas.Bool.{cases_lt, lt-ltb}
-use Rattle.pcef_index.specs.private.Marks.{Has, blocks}
+use Rattle.pcef_index.specs.private.Marks.{Has}
 use Rattle.pcef_index.proofs.Marked.{sieved}
 use Rattle.pcef_index.proofs.sieve.spread_blocks.Goals as goal
 
