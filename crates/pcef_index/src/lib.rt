@@ -5,12 +5,13 @@
 //! that a shared index changes nothing.
 //!
 //! In the order of reading: `candidates`, `rule_filter`, `lines`, `cells`, `header_cells`, `marking`, `sieve`,
-//! `index`, `indexed`, `equal`, `shelf`.
+//! `index`, `indexed`, `equal`, `fingerprint`, `shelf`.
 #![tactic(auto)]
 
 mod candidates;
 mod cells;
 mod equal;
+mod fingerprint;
 mod header_cells;
 mod index;
 mod indexed;

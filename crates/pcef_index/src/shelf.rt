@@ -5,6 +5,7 @@ ghost use Rattle.std.specs.Arc.{arc_value};
 ghost use Rattle.pcef_index.specs.Shelves.{most_shelved};
 
 use crate::equal::are_equal;
+use crate::fingerprint::fingerprint;
 use crate::index::Index;
 use crate::indexed::Indexed;
 use pcef_table::Source;
@@ -15,9 +16,16 @@ use std::sync::Arc;
 /// The most indexes of a shelf.
 pub const MAX_SHELVED: usize = 16;
 
+/// An index, and the fingerprint of its rules: lists with other ones needn't be compared.
+#[derive(Drop)]
+struct Shelved {
+    fingerprint: u64,
+    index: Arc<Index>,
+}
+
 /// At most 16 indexes of tables, so that tables whose rules are equal share one. Contracts see the rules of each.
 pub struct IndexShelf {
-    indexes: Vec<Arc<Index>>,
+    indexes: Vec<Shelved>,
 }
 
 // Written out, so that an owner proves one call at each way out.
@@ -35,31 +43,40 @@ impl Model for IndexShelf {
 
     ghost Value = { List (List Source) };
 
-    ghost view = { λ s. map (λ i. arc_value i) s.indexes.items };
+    ghost view = { λ s. map (λ i. arc_value i.index) s.indexes.items };
 
     ghost invariant = { λ s. length s.indexes.items ≤ most_shelved };
 }
 
-/// The first index of these rules.
-fn equal_to<'a>(indexes: &'a [Arc<Index>], sources: &[Source]) -> Option<&'a Arc<Index>>
+/// The index of these rules, which have this fingerprint.
+fn equal_to<'a>(
+    indexes: &'a [Shelved],
+    fingerprint: u64,
+    sources: &[Source],
+) -> Option<&'a Arc<Index>>
     ensures { IfSome result (λ i. arc_value i.now ≡ sources.now) }
 {
-    for index in indexes {
-        if are_equal(index.sources(), sources) {
-            return Some(index);
+    for shelved in indexes {
+        if shelved.fingerprint == fingerprint && are_equal(shelved.index.sources(), sources) {
+            return Some(&shelved.index);
         }
     }
     None
 }
 
+/// How many own an index, the shelf among them.
+fn owners(shelved: &Shelved) -> usize {
+    Arc::strong_count(&shelved.index)
+}
+
 /// The place of the first index that has the fewest owners.
-fn least_owned(indexes: &[Arc<Index>]) -> usize
+fn least_owned(indexes: &[Shelved]) -> usize
     requires { 0 < length indexes.now }
     ensures { result < length indexes.now }
 {
     let mut least = 0;
     for place in 1..indexes.len() {
-        if Arc::strong_count(&indexes[place]) < Arc::strong_count(&indexes[least]) {
+        if owners(&indexes[place]) < owners(&indexes[least]) {
             least = place;
         }
     }
@@ -67,14 +84,14 @@ fn least_owned(indexes: &[Arc<Index>]) -> usize
 }
 
 /// Lets the indexes go that nobody else owns: a table that comes brings an index of its own.
-fn let_go(indexes: &mut Vec<Arc<Index>>)
+fn let_go(indexes: &mut Vec<Shelved>)
     ensures { length indexes.new.items ≤ length indexes.old.items }
 {
-    indexes.retain(|index| Arc::strong_count(index) > 1);
+    indexes.retain(|shelved| owners(shelved) > 1);
 }
 
 /// Makes a place for one more index. Of those that have the fewest owners the oldest goes.
-fn make_place(indexes: &mut Vec<Arc<Index>>)
+fn make_place(indexes: &mut Vec<Shelved>)
     requires { length indexes.old.items ≤ most_shelved }
     ensures { length indexes.new.items < most_shelved }
 {
@@ -103,12 +120,12 @@ impl IndexShelf {
     }
 
     /// Puts the index of a table here, unless there is no memory for it.
-    fn put(&mut self, indexed: &mut Indexed)
+    fn put(&mut self, indexed: &mut Indexed, fingerprint: u64)
         ensures { indexed.new ≡ indexed.old }
     {
         make_place(&mut self.indexes);
         if let Ok(index) = indexed.shelved() {
-            drop(self.indexes.push(index));
+            drop(self.indexes.push(Shelved { fingerprint, index }));
         }
     }
 
@@ -121,9 +138,10 @@ impl IndexShelf {
         if !indexed.is_to_share() {
             return;
         }
-        match equal_to(&self.indexes, indexed.index().sources()) {
+        let fingerprint = fingerprint(indexed.index().sources());
+        match equal_to(&self.indexes, fingerprint, indexed.index().sources()) {
             Some(index) => indexed.share(index),
-            None => self.put(indexed),
+            None => self.put(indexed, fingerprint),
         }
     }
 }
