@@ -1,2 +1,3 @@
 pub mod Candidates
+pub mod Shelves
 pub mod private

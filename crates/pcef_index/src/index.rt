@@ -151,6 +151,18 @@ impl Index {
         index_of(alloc, sources)
     }
 
+    /// The rules, in order.
+    pub(crate) fn sources(&self) -> &[Source]
+        ensures { result.now ≡ self.now }
+    {
+        &self.sources
+    }
+
+    /// Whether there is a sieve, which takes memory for each 64 filters.
+    pub(crate) fn is_sieved(&self) -> bool {
+        self.sieve.is_some()
+    }
+
     /// The first entry of the table that fits.
     pub(crate) fn first_fitting<'a, C: Detects>(
         &self,

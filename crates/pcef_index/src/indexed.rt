@@ -1,6 +1,7 @@
 //! A table with its index.
 
 ghost use Rattle.std.specs.Prelude.{◌≡◌, [], IfOk, IfSome, find, map};
+ghost use Rattle.std.specs.Arc.{arc_value};
 ghost use Rattle.std.specs.Option.{option_copied};
 ghost use Rattle.pcef_table.specs.SessionSlots.{no_slots, slots_counted};
 ghost use Rattle.pcef_table.specs.Sources.{IsKnown, fits};
@@ -23,12 +24,18 @@ use std::sync::Arc;
 pub struct Indexed {
     table: Table,
     index: Arc<Index>,
+    // The index was put on a shelf or taken from one, so there is no need to look for it again.
+    is_shelved: bool,
 }
 
 // Written out, so that an owner proves one call at each way out.
 impl Drop for Indexed {
     fn drop(self) {
-        let Indexed { table: _, index: _ } = self;
+        let Indexed {
+            table: _,
+            index: _,
+            is_shelved: _,
+        } = self;
     }
 }
 
@@ -53,7 +60,11 @@ impl Indexed {
     {
         let table = Table::empty(alloc, generation)?;
         let index = Arc::new(alloc, index_of(alloc, Vec::new(alloc))?)?;
-        Ok(Indexed { table, index })
+        Ok(Indexed {
+            table,
+            index,
+            is_shelved: false,
+        })
     }
 
     /// The table with its index, or want of memory, which gives the table up.
@@ -61,7 +72,11 @@ impl Indexed {
         ensures { IfOk result (λ i. i ≡ table) }
     {
         let index = Arc::new(alloc, Index::build(alloc, &table, catalog)?)?;
-        Ok(Indexed { table, index })
+        Ok(Indexed {
+            table,
+            index,
+            is_shelved: false,
+        })
     }
 
     /// A table that has the rules of this one, with the same index, or want of memory, which gives the table up.
@@ -70,7 +85,11 @@ impl Indexed {
         ensures { IfOk result (λ i. i ≡ table) }
     {
         let index = Arc::try_clone(&self.index)?;
-        Ok(Indexed { table, index })
+        Ok(Indexed {
+            table,
+            index,
+            is_shelved: self.is_shelved,
+        })
     }
 
     /// The table.
@@ -85,6 +104,32 @@ impl Indexed {
         ensures { result.now ≡ map (λ e. e.source) self.now.entries }
     {
         &self.index
+    }
+
+    /// Whether the index takes memory that other tables could share, and no shelf knows it yet.
+    pub(crate) fn is_to_share(&self) -> bool {
+        self.index.is_sieved() && !self.is_shelved
+    }
+
+    /// Another owner of the index, for a shelf, or want of memory.
+    pub(crate) fn shelved(&mut self) -> Result<Arc<Index>, AllocError>
+        ensures index { IfOk result (λ i. arc_value i ≡ map (λ e. e.source) self.old.entries) }
+        ensures table { self.new ≡ self.old }
+    {
+        let shelved = Arc::try_clone(&self.index);
+        self.is_shelved = shelved.is_ok();
+        shelved
+    }
+
+    /// Takes an index of a shelf in the place of its own, or keeps its own for want of memory.
+    pub(crate) fn share(&mut self, index: &Arc<Index>)
+        requires { arc_value index.now ≡ map (λ e. e.source) self.old.entries }
+        ensures { self.new ≡ self.old }
+    {
+        if let Ok(index) = Arc::try_clone(index) {
+            self.index = index;
+            self.is_shelved = true;
+        }
     }
 
     /// The number of the table's generation.

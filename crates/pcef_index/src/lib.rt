@@ -1,22 +1,28 @@
-//! A compiled index of a table: `Index`, made for fast look-ups, and `Indexed`, a table with its index.
+//! A compiled index of a table: `Index`, made for fast look-ups, and `Indexed`, a table with its index. Tables of equal
+//! rules share one by an `IndexShelf`.
 //!
-//! Its contracts tell: the same verdict and slots as the table's, by one look-up, and which entries may match a header.
+//! Its contracts tell: the same verdict and slots as the table's, by one look-up, and which entries may match a header;
+//! that a shared index changes nothing.
 //!
 //! In the order of reading: `candidates`, `rule_filter`, `lines`, `steps`, `cells`, `choosing`, `header_cells`,
-//! `marking`, `sieve`, `index`, `indexed`.
+//! `marking`, `sieve`, `index`, `indexed`, `equal`, `fingerprint`, `shelf`.
 #![tactic(auto)]
 
 mod candidates;
 mod cells;
 mod choosing;
+mod equal;
+mod fingerprint;
 mod header_cells;
 mod index;
 mod indexed;
 mod lines;
 mod marking;
 mod rule_filter;
+mod shelf;
 mod sieve;
 mod steps;
 
 pub use index::Index;
 pub use indexed::Indexed;
+pub use shelf::{IndexShelf, MAX_SHELVED};

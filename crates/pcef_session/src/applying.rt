@@ -15,7 +15,7 @@ ghost use Rattle.pcef_session.specs.private.Changes.{Binds, CanBind, IsBoundTo, 
 use crate::prepared::Activation;
 use pcef_active::ActiveRules;
 use pcef_bearer::{Bearers, Places};
-use pcef_index::Indexed;
+use pcef_index::{IndexShelf, Indexed};
 use pcef_model::{Command, Entry, Level, PendingReport, TriggerSet};
 use pcef_rule::{BearerId, KeyName};
 use pcef_usage::{CountedJournal, KeyPlaces, Usage};
@@ -143,6 +143,15 @@ pub(crate) fn keep_table(held: &mut Arc<Indexed>, made: Option<Arc<Indexed>>)
 {
     if let Some(table) = made {
         *held = table;
+    }
+}
+
+/// Lets a table that has no other owner share an index of a shelf.
+pub(crate) fn share_index_of(held: &mut Arc<Indexed>, shelf: &mut IndexShelf)
+    ensures { arc_value held.new ≡ arc_value held.old }
+{
+    if let Some(table) = Arc::get_mut(held) {
+        shelf.share(table);
     }
 }
 

@@ -35,6 +35,7 @@ mod forgetting;
 mod leaving;
 mod preparing;
 mod refusing;
+mod sharing;
 
 /// How many rules may be active.
 pub const MAX_RULES: usize = 64;

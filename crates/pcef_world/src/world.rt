@@ -17,7 +17,7 @@ use crate::answer::{StepAnswer, attach_told, command_told};
 use crate::places::{abandon_at, finish_at, flush_at, refresh_at, take_at};
 use crate::worker::Worker;
 use pcef_catalog::{Detects, Listing};
-use pcef_index::Indexed;
+use pcef_index::{IndexShelf, Indexed};
 use pcef_model::{AttachFault, Command, OpenFault, Profile, Step};
 use pcef_packet::Header;
 use pcef_session::{SessionState, WaitingRows};
@@ -119,6 +119,13 @@ impl WorldState {
         ensures forgotten { self.new.session.forgotten ≡ report_count self.old.session.journal }
     {
         self.session.forget();
+    }
+
+    /// Lets the newest table share an index of this shelf, as [`SessionState::share_index`]. Nothing else changes.
+    pub fn share_index(&mut self, shelf: &mut IndexShelf)
+        ensures { self.new ≡ self.old }
+    {
+        self.session.share_index(shelf);
     }
 
     fn command(&mut self, command: Command) -> Result<StepAnswer, AllocError>
