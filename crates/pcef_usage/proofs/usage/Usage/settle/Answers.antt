@@ -9,10 +9,10 @@ pub invariant_of-self : goal.invariant_of-self
 invariant_of-self c =
     let s = c.self.inside.states in
     let long : s.len ≡ length s.items = omega (arith, c.deref_mut-state-items.ensures.len, ap (λ (v : List KeyState). length v) c.deref_mut-state-items.ensures.value) in (
-  omega (arith, length_refill s.len s.items c.loop-state.state-items long, c.self.invariant.0),
-  fit_settled _ s.items _ _ c.loop-state.state-index long c.deref_mut-state-items.ensures.value c.self.invariant.1 c.loop-state-test.false
-      c.loop-state.auto.state-items c.loop-state.invariant.states,
-)
+      omega (arith, length_refill s.len s.items c.loop-state.state-items long, c.self.invariant.0),
+      fit_settled _ s.items _ _ c.loop-state.state-index long c.deref_mut-state-items.ensures.value c.self.invariant.1 c.loop-state-test.false
+          c.loop-state.auto.state-items c.loop-state.invariant.states,
+    )
 
 pub loop-state-preserved : goal.loop-state-preserved
 loop-state-preserved c = record {
