@@ -3,3 +3,4 @@ pub mod Indexes
 pub mod Lines
 pub mod Marks
 pub mod RuleFilters
+pub mod Starts

@@ -226,10 +226,10 @@ pub(crate) fn low_cell(steps: &Steps, port: u16) -> u16
     ensures is { result ≡ low_cell steps.now port }
     ensures small { result < 256 }
 {
-    if steps.ports.is_empty() {
+    if steps.starts.is_empty() {
         port % 256
     } else {
-        steps.count_to(port)
+        steps.cell_of(port)
     }
 }
 
@@ -240,7 +240,7 @@ fn low_cells(base: u16, steps: &Steps, range: &PortRange) -> Cells
     ensures within { result.last ≤ 2305 }
 {
     let PortRange { first, last } = *range;
-    if steps.ports.is_empty() && first / 256 != last / 256 {
+    if steps.starts.is_empty() && first / 256 != last / 256 {
         whole(base)
     } else {
         Cells {

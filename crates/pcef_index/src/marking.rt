@@ -88,7 +88,7 @@ fn are_whole(half: Half, steps: &Steps, ranges: &[PortRange]) -> bool
 {
     match half {
         Half::High => ranges.is_empty(),
-        Half::Low => ranges.is_empty() || (steps.ports.is_empty() && any_spans(ranges)),
+        Half::Low => ranges.is_empty() || (steps.starts.is_empty() && any_spans(ranges)),
     }
 }
 

@@ -1,14 +1,18 @@
 //! Steps: the ports at which the intervals begin that the low field of a side has cells for.
 
-ghost use Rattle.std.specs.Prelude.{◌≡◌, ◌≤◌, length, nat_le};
-ghost use Rattle.std.specs.List.{count_by};
+ghost use Rattle.std.specs.Prelude.{◌≡◌, ◌≤◌, ◌<◌, IfOk, length};
+ghost use Rattle.pcef_index.specs.private.Starts.{ArePlaced, cell_of, count_to};
 
-/// The ports at which an interval begins. Where there are none, the low field has a cell for each low octet.
+use std::alloc::{AllocError, Global};
+
+/// The ports at which an interval begins, in ascending order, and where those of each high octet begin among them, and
+/// where they end. Where there are none, the low field has a cell for each low octet.
 #[derive(Drop)]
 pub(crate) struct Steps {
-    /// The ports.
-    pub ports: Vec<u16>,
-    ghost few: { length ports.items ≤ 255 },
+    /// Where the steps of each high octet begin, and where the last end; empty where there are none.
+    pub starts: Vec<u8>,
+    ports: Vec<u16>,
+    ghost placed: { 0 < length starts.items → ArePlaced starts.items ports.items },
 }
 
 /// The steps of the remote port, and of the local port.
@@ -20,18 +24,67 @@ pub(crate) struct PortSteps {
     pub local: Steps,
 }
 
-impl Steps {
-    /// How many steps are at or below a port. All are compared: the processor compares several at once.
-    pub(crate) fn count_to(&self, port: u16) -> u16
-        ensures is { result ≡ count_by (λ step. nat_le step port) self.now.ports.items }
-        ensures few { result ≤ 255 }
-    {
-        let mut count = 0;
-        for step in &self.ports {
-            if *step <= port {
-                count += 1;
-            }
+/// How many steps are at or below a port.
+fn count_to(ports: &[u16], port: u16) -> u16
+    requires { length ports.now ≤ 255 }
+    ensures { result ≡ count_to port ports.now }
+{
+    let mut count = 0;
+    for step in ports {
+        if *step <= port {
+            count += 1;
         }
-        count
+    }
+    count
+}
+
+/// Where the first of these ports stands that isn't below a limit, from a place on.
+fn reached(ports: &[u16], from: usize, limit: u32) -> usize
+    requires { from ≤ length ports.now }
+    ensures least { from ≤ result }
+    ensures most { result ≤ length ports.now }
+{
+    for place in from..ports.len() {
+        if u32::from(ports[place]) >= limit {
+            return place;
+        }
+    }
+    ports.len()
+}
+
+impl Steps {
+    /// No steps.
+    pub(crate) fn none(alloc: Global) -> Steps {
+        Steps {
+            starts: Vec::new(alloc),
+            ports: Vec::new(alloc),
+        }
+    }
+
+    /// These steps, in ascending order, or want of memory.
+    pub(crate) fn new(alloc: Global, ports: Vec<u16>) -> Result<Steps, AllocError>
+        requires { length ports.items ≤ 255 }
+    {
+        let mut starts = Vec::with_capacity(alloc, 257)?;
+        let mut start = 0;
+        for octet in 0..257u32 {
+            start = reached(&ports, start, octet * 256);
+            starts.push(start as u8)?;
+        }
+        Ok(Steps { starts, ports })
+    }
+
+    /// How many steps a port has reached. Those of lower octets aren't compared.
+    #[tactic(auto, unfolding(crate::specs::private::Starts::cell_of))]
+    pub(crate) fn cell_of(&self, port: u16) -> u16
+        requires { 0 < length self.now.starts.items }
+        ensures is { result ≡ cell_of self.now.starts.items self.now.ports.items port }
+        ensures small { result < 256 }
+    {
+        let octet = usize::from(port / 256);
+        let from = self.starts[octet];
+        let to = self.starts[octet + 1];
+        let steps = &self.ports[usize::from(from)..usize::from(to)];
+        u16::from(from) + count_to(steps, port)
     }
 }

@@ -1,7 +1,7 @@
 -- The cells that a filter lets pass, and those of a header: one cell for each octet of each field. Of a port the low field
 -- may have one for each interval between steps instead.
 use Rattle.std.specs.Prelude.{ℕ, ◌+◌, ◌-◌, ◌*◌, ◌/◌, ◌%◌, ◌^◌, ◌==◌, nat_le, nat_lt, Bool, not, length, Option, Some, None, List, [], ◌∷◌, if◌then◌else◌, ◌&&◌, ◌||◌}
-use Rattle.std.specs.List.{count_by, list_any}
+use Rattle.std.specs.List.{list_any}
 use Rattle.pcef_packet.specs.declared.header.Addr.{Addr}
 use Rattle.pcef_packet.specs.declared.header.Addr.TheVariants.{V4, V6}
 use Rattle.pcef_packet.specs.declared.header.Dir.{Dir}
@@ -28,6 +28,7 @@ use Rattle.pcef_index.specs.declared.lines.Part.{Part}
 use Rattle.pcef_index.specs.declared.lines.Part.TheVariants as part
 use Rattle.pcef_index.specs.declared.steps.Steps.{Steps}
 use Rattle.pcef_index.specs.declared.steps.PortSteps.{PortSteps}
+use Rattle.pcef_index.specs.private.Starts.{cell_of}
 
 abbrev pub is_in : ℕ → Cells → Bool
 is_in k c = nat_le c.first k && nat_le k c.last
@@ -100,11 +101,11 @@ abbrev pub high_cells : ℕ → PortRange → Cells
 high_cells base r = record { first = base + r.first / 256; last = base + r.last / 256 }
 
 abbrev pub are_none : Steps → Bool
-are_none steps = length steps.ports.items == 0
+are_none steps = length steps.starts.items == 0
 
--- of a port in a low field: how many steps are at or below it or, where there are none, its low octet
+-- of a port in a low field: how many steps it has reached or, where there are none, its low octet
 abbrev pub low_cell : Steps → ℕ → ℕ
-low_cell steps port = if are_none steps then port % 256 else count_by (λ step. nat_le step port) steps.ports.items
+low_cell steps port = if are_none steps then port % 256 else cell_of steps.starts.items steps.ports.items port
 
 abbrev pub spans : PortRange → Bool
 spans r = not ((r.first / 256) == (r.last / 256))
