@@ -65,7 +65,7 @@ fn steps_of(alloc: Global, script: &str) -> Result<Vec<Step>, AllocError> {
 }
 
 /// The text of an answer, made once more where the first making found no memory.
-fn text_of(
+pub(crate) fn text_of(
     alloc: Global,
     journal: &Journal,
     generation: u32,
@@ -79,6 +79,34 @@ fn text_of(
     }
 }
 
+/// A new world, opened once more where the first opening found no memory.
+fn opened_world(alloc: Global, catalog: Arc<Catalog>, profile: &str) -> Result<World, AllocError> {
+    let spare = Arc::try_clone(&catalog)?;
+    match World::open(alloc, profile_at_last(alloc, profile)?, catalog) {
+        Ok(world) => Ok(world),
+        Err(_) => match World::open(alloc, profile_of(alloc, profile)?, spare) {
+            Ok(world) => Ok(world),
+            Err(_) => Err(AllocError),
+        },
+    }
+}
+
+/// Makes the step of a line, and writes the answer.
+fn answer_step<W: Write>(
+    alloc: Global,
+    world: &mut World,
+    line: &str,
+    writer: &mut W,
+) -> io::Result<()> {
+    let answer = match world.step(step_at_last(alloc, line)?) {
+        Ok(answer) => answer,
+        Err(_) => world.step(step_of(alloc, line)?)?,
+    };
+    let session = world.session();
+    let text = text_of(alloc, session.journal(), session.generation(), &answer)?;
+    writeln!(writer, "{text}")
+}
+
 /// Makes the steps one by one on a new world, and writes the answer to each.
 pub(crate) fn answer_steps<W: Write>(
     alloc: Global,
@@ -87,22 +115,9 @@ pub(crate) fn answer_steps<W: Write>(
     script: &str,
     writer: &mut W,
 ) -> io::Result<()> {
-    let spare = Arc::try_clone(&catalog)?;
-    let opened = match World::open(alloc, profile_at_last(alloc, profile)?, catalog) {
-        Ok(world) => Ok(world),
-        Err(_) => World::open(alloc, profile_of(alloc, profile)?, spare),
-    };
-    let Ok(mut world) = opened else {
-        return Err(AllocError)?;
-    };
+    let mut world = opened_world(alloc, catalog, profile)?;
     for line in script.lines() {
-        let answer = match world.step(step_at_last(alloc, line)?) {
-            Ok(answer) => answer,
-            Err(_) => world.step(step_of(alloc, line)?)?,
-        };
-        let session = world.session();
-        let text = text_of(alloc, session.journal(), session.generation(), &answer)?;
-        writeln!(writer, "{text}")?;
+        answer_step(alloc, &mut world, line, writer)?;
     }
     Ok(())
 }
@@ -162,6 +177,39 @@ pub(crate) fn answer_list<W: Write>(
     )
 }
 
+/// A new session, opened once more where the first opening found no memory.
+fn opened_session(
+    alloc: Global,
+    catalog: Arc<Catalog>,
+    profile: &str,
+) -> Result<Session, AllocError> {
+    let spare = Arc::try_clone(&catalog)?;
+    match Session::open(alloc, profile_at_last(alloc, profile)?, catalog) {
+        Ok(session) => Ok(session),
+        Err(_) => match Session::open(alloc, profile_of(alloc, profile)?, spare) {
+            Ok(session) => Ok(session),
+            Err(_) => Err(AllocError),
+        },
+    }
+}
+
+/// Gives a command, that of the line, and writes the answer.
+fn answer_command<W: Write>(
+    alloc: Global,
+    session: &mut Session,
+    command: Command,
+    line: &str,
+    writer: &mut W,
+) -> io::Result<()> {
+    let answer = match session.command(command) {
+        Err(Refusal::NoMemory) => session.command(command_of(alloc, line)?),
+        answer => answer,
+    };
+    let answer = StepAnswer::Command(answer);
+    let text = text_of(alloc, session.journal(), session.generation(), &answer)?;
+    writeln!(writer, "{text}")
+}
+
 /// Gives the commands alone to a new session, and writes the answer to each.
 pub(crate) fn answer_commands<W: Write>(
     alloc: Global,
@@ -170,25 +218,11 @@ pub(crate) fn answer_commands<W: Write>(
     script: &str,
     writer: &mut W,
 ) -> io::Result<()> {
-    let spare = Arc::try_clone(&catalog)?;
-    let opened = match Session::open(alloc, profile_at_last(alloc, profile)?, catalog) {
-        Ok(session) => Ok(session),
-        Err(_) => Session::open(alloc, profile_of(alloc, profile)?, spare),
-    };
-    let Ok(mut session) = opened else {
-        return Err(AllocError)?;
-    };
+    let mut session = opened_session(alloc, catalog, profile)?;
     for line in script.lines() {
-        let Step::Command(command) = step_at_last(alloc, line)? else {
-            continue;
-        };
-        let answer = match session.command(command) {
-            Err(Refusal::NoMemory) => session.command(command_of(alloc, line)?),
-            answer => answer,
-        };
-        let answer = StepAnswer::Command(answer);
-        let text = text_of(alloc, session.journal(), session.generation(), &answer)?;
-        writeln!(writer, "{text}")?;
+        if let Step::Command(command) = step_at_last(alloc, line)? {
+            answer_command(alloc, &mut session, command, line, writer)?;
+        }
     }
     Ok(())
 }
