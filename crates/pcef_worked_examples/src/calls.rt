@@ -79,18 +79,6 @@ pub(crate) fn text_of(
     }
 }
 
-/// A new world, opened once more where the first opening found no memory.
-fn opened_world(alloc: Global, catalog: Arc<Catalog>, profile: &str) -> Result<World, AllocError> {
-    let spare = Arc::try_clone(&catalog)?;
-    match World::open(alloc, profile_at_last(alloc, profile)?, catalog) {
-        Ok(world) => Ok(world),
-        Err(_) => match World::open(alloc, profile_of(alloc, profile)?, spare) {
-            Ok(world) => Ok(world),
-            Err(_) => Err(AllocError),
-        },
-    }
-}
-
 /// Makes the step of a line, and writes the answer.
 fn answer_step<W: Write>(
     alloc: Global,
@@ -115,7 +103,14 @@ pub(crate) fn answer_steps<W: Write>(
     script: &str,
     writer: &mut W,
 ) -> io::Result<()> {
-    let mut world = opened_world(alloc, catalog, profile)?;
+    let spare = Arc::try_clone(&catalog)?;
+    let opened = match World::open(alloc, profile_at_last(alloc, profile)?, catalog) {
+        Ok(world) => Ok(world),
+        Err(_) => World::open(alloc, profile_of(alloc, profile)?, spare),
+    };
+    let Ok(mut world) = opened else {
+        return Err(AllocError)?;
+    };
     for line in script.lines() {
         answer_step(alloc, &mut world, line, writer)?;
     }
@@ -177,22 +172,6 @@ pub(crate) fn answer_list<W: Write>(
     )
 }
 
-/// A new session, opened once more where the first opening found no memory.
-fn opened_session(
-    alloc: Global,
-    catalog: Arc<Catalog>,
-    profile: &str,
-) -> Result<Session, AllocError> {
-    let spare = Arc::try_clone(&catalog)?;
-    match Session::open(alloc, profile_at_last(alloc, profile)?, catalog) {
-        Ok(session) => Ok(session),
-        Err(_) => match Session::open(alloc, profile_of(alloc, profile)?, spare) {
-            Ok(session) => Ok(session),
-            Err(_) => Err(AllocError),
-        },
-    }
-}
-
 /// Gives a command, that of the line, and writes the answer.
 fn answer_command<W: Write>(
     alloc: Global,
@@ -218,7 +197,14 @@ pub(crate) fn answer_commands<W: Write>(
     script: &str,
     writer: &mut W,
 ) -> io::Result<()> {
-    let mut session = opened_session(alloc, catalog, profile)?;
+    let spare = Arc::try_clone(&catalog)?;
+    let opened = match Session::open(alloc, profile_at_last(alloc, profile)?, catalog) {
+        Ok(session) => Ok(session),
+        Err(_) => Session::open(alloc, profile_of(alloc, profile)?, spare),
+    };
+    let Ok(mut session) = opened else {
+        return Err(AllocError)?;
+    };
     for line in script.lines() {
         if let Step::Command(command) = step_at_last(alloc, line)? {
             answer_command(alloc, &mut session, command, line, writer)?;
