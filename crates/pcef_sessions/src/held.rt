@@ -7,6 +7,7 @@ ghost use Rattle.pcef_script.specs.ScriptLines.{is_blank};
 ghost use Rattle.pcef_world.specs.Steps.{standing_of};
 
 use pcef_built_in::ShapedCatalog;
+use pcef_index::IndexShelf;
 use pcef_line::LineReader;
 use pcef_script::{Answer, answer_alone};
 use pcef_world::WorldState;
@@ -76,5 +77,12 @@ impl Held {
             Ok(None) => unreachable!(),
             Err(error) => Err(error),
         }
+    }
+
+    /// Lets the session share the index of another one whose rules are equal, by this shelf. Nothing else changes.
+    pub(crate) fn share_index(&mut self, shelf: &mut IndexShelf)
+        ensures { self.new ≡ self.old }
+    {
+        self.world.share_index(shelf);
     }
 }

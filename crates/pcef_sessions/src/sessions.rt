@@ -20,6 +20,7 @@ use crate::name::{SessionName, addressed};
 use crate::saying::{Told, says, says_fault};
 use pcef_built_in::ShapedCatalog;
 use pcef_catalog::Offers;
+use pcef_index::IndexShelf;
 use pcef_line::LineReader;
 use pcef_model::{OpenFault, Profile};
 use pcef_packet::Addr;
@@ -30,12 +31,14 @@ use std::collections::HashMap;
 use std::hash::RandomState;
 use std::sync::Arc;
 
-/// Sessions of one profile, each under its name, with the predefined rules that all of them are offered.
+/// Sessions of one profile, each under its name, with the predefined rules that all of them are offered. Sessions whose
+/// rules are equal share an index.
 pub struct Sessions {
     alloc: Global,
     profile: Profile,
     catalog: Arc<ShapedCatalog>,
     lines: LineReader,
+    shelf: IndexShelf,
     table: HashMap<SessionName, Box<Held>, RandomState>,
 }
 
@@ -47,6 +50,7 @@ impl Drop for Sessions {
             profile: _,
             catalog: _,
             lines: _,
+            shelf: _,
             table: _,
         } = self;
     }
@@ -105,6 +109,7 @@ impl Sessions {
             profile,
             catalog,
             lines: LineReader::new(alloc),
+            shelf: IndexShelf::new(alloc),
             table: HashMap::with_hasher(alloc, keys),
         })
     }
@@ -141,7 +146,8 @@ impl Sessions {
         self.table.remove(name).is_some()
     }
 
-    /// The answer of a script to a line for a name, if there is a session.
+    /// The answer of a script to a line for a name, if there is a session. Where the line changed its rules, it may share
+    /// an index then.
     fn run(&mut self, name: &SessionName, line: &[u8]) -> Result<Option<Answer>, AllocError>
         requires { is_blank line.now ≡ false }
         ensures there { IfOk result (λ a. Runs (held self.old name.now) line.now a
@@ -152,7 +158,10 @@ impl Sessions {
         match self.table.get_mut(name) {
             None => Ok(None),
             Some(held) => match held.answer(self.alloc, &mut self.lines, line) {
-                Ok(answer) => Ok(Some(answer)),
+                Ok(answer) => {
+                    held.share_index(&mut self.shelf);
+                    Ok(Some(answer))
+                }
                 Err(error) => Err(error),
             },
         }
