@@ -2,14 +2,21 @@
 
 ghost use Rattle.std.specs.Prelude.{◌≤◌};
 
-use crate::escape::push_text;
-use std::alloc::AllocError;
+use crate::sheet::Sheet;
 
 /// The width of a chart's field, in its own units.
 pub(crate) const WIDTH: u64 = 720;
 
 /// The height of a chart's field.
 pub(crate) const HEIGHT: u64 = 160;
+
+/// The axes of the field, up to the most that goes up.
+const AXES: &str =
+    "<path d=\"M0 0V160H720\" class=\"axis\"/><text x=\"-6\" y=\"4\" text-anchor=\"end\">";
+
+/// The least that goes up, up to what goes along.
+const LEAST: &str =
+    "</text><text x=\"-6\" y=\"160\" text-anchor=\"end\">0</text><text x=\"720\" y=\"180\" text-anchor=\"end\">";
 
 /// The colors of series, in turn: told apart also by those who see red and green alike.
 const COLORS: &[&str] = &[
@@ -37,46 +44,47 @@ pub(crate) fn scaled(value: u64, most: u64, room: u64) -> u64
 }
 
 /// Begins a chart, whose axes tell the most that goes up and along.
-pub(crate) fn begin(
-    page: &mut String,
-    title: &str,
-    most: u64,
-    along: &str,
-    last: u64,
-) -> Result<(), AllocError> {
-    page.push_str("<svg viewBox=\"-90 -16 830 210\" role=\"img\"><title>")?;
-    push_text(page, title)?;
-    page.push_str("</title>")?;
-    write!(
-        page,
-        "<path d=\"M0 0V{HEIGHT}H{WIDTH}\" class=\"axis\"/>\
-         <text x=\"-6\" y=\"4\" text-anchor=\"end\">{most}</text>\
-         <text x=\"-6\" y=\"{HEIGHT}\" text-anchor=\"end\">0</text>\
-         <text x=\"{WIDTH}\" y=\"180\" text-anchor=\"end\">"
-    )?;
-    push_text(page, along)?;
-    write!(page, " {last}</text>")
+pub(crate) fn begin(page: &mut Sheet, title: &str, most: u64, along: &str, last: u64) {
+    page.raw("<svg viewBox=\"-90 -16 830 210\" role=\"img\"><title>");
+    page.text(title);
+    page.raw("</title>");
+    page.raw(AXES);
+    page.number(most);
+    page.raw(LEAST);
+    page.text(along);
+    page.raw(" ");
+    page.number(last);
+    page.raw("</text>");
 }
 
 /// Ends a chart.
-pub(crate) fn end(page: &mut String) -> Result<(), AllocError> {
-    page.push_str("</svg>\n")
+pub(crate) fn end(page: &mut Sheet) {
+    page.raw("</svg>\n");
+}
+
+/// Adds a number to an element of SVG.
+fn attribute(page: &mut Sheet, name: &str, value: u64) {
+    page.raw(" ");
+    page.raw(name);
+    page.raw("=\"");
+    page.number(value);
+    page.raw("\"");
 }
 
 /// Adds a bar, whose foot stands so high, with what it tells.
-pub(crate) fn bar(
-    page: &mut String,
-    x: u64,
-    width: u64,
-    foot: u64,
-    height: u64,
-    color: &str,
-) -> Result<(), AllocError> {
-    let y = HEIGHT.saturating_sub(foot).saturating_sub(height);
-    write!(
+pub(crate) fn bar(page: &mut Sheet, x: u64, width: u64, foot: u64, height: u64, color: &str) {
+    page.raw("<rect");
+    attribute(page, "x", x);
+    attribute(
         page,
-        "<rect x=\"{x}\" y=\"{y}\" width=\"{width}\" height=\"{height}\" fill=\"{color}\"/>"
-    )
+        "y",
+        HEIGHT.saturating_sub(foot).saturating_sub(height),
+    );
+    attribute(page, "width", width);
+    attribute(page, "height", height);
+    page.raw(" fill=\"");
+    page.raw(color);
+    page.raw("\"/>");
 }
 
 /// A line of steps: each value holds until the next.
@@ -92,49 +100,50 @@ pub(crate) struct Steps<'a> {
     pub last: u64,
 }
 
-/// Adds steps through points, of which each has its place along and its value, from 0 on.
-pub(crate) fn push_steps(
-    page: &mut String,
-    points: &[(u64, u64)],
-    style: Steps<'_>,
-) -> Result<(), AllocError> {
-    let color = style.color;
-    let dashes = if style.is_dashed { "6 4" } else { "none" };
-    write!(
-        page,
-        "<path fill=\"none\" stroke=\"{color}\" stroke-width=\"2\" stroke-dasharray=\"{dashes}\" d=\"M0 {HEIGHT}"
-    )?;
-    for point in points {
-        let x = scaled(point.0, style.last, WIDTH);
-        let y = HEIGHT - scaled(point.1, style.most, HEIGHT);
-        write!(page, "H{x}V{y}")?;
-    }
-    write!(page, "H{WIDTH}\"/>")
+/// Begins a line of steps, from 0 on.
+pub(crate) fn begin_steps(page: &mut Sheet, style: Steps<'_>) {
+    page.raw("<path fill=\"none\" stroke=\"");
+    page.raw(style.color);
+    page.raw("\" stroke-width=\"2\" stroke-dasharray=\"");
+    page.raw(if style.is_dashed { "6 4" } else { "none" });
+    page.raw("\" d=\"M0 ");
+    page.number(HEIGHT);
 }
 
-/// Adds a dot on the axis along, with what it tells.
-pub(crate) fn dot(
-    page: &mut String,
-    place: u64,
-    last: u64,
-    color: &str,
-    text: &str,
-) -> Result<(), AllocError> {
-    let x = scaled(place, last, WIDTH);
-    write!(
-        page,
-        "<circle cx=\"{x}\" cy=\"{HEIGHT}\" r=\"5\" fill=\"{color}\"><title>"
-    )?;
-    push_text(page, text)?;
-    page.push_str("</title></circle>")
+/// Adds a step to this value at this place along.
+pub(crate) fn step(page: &mut Sheet, place: u64, value: u64, style: Steps<'_>) {
+    page.raw("H");
+    page.number(scaled(place, style.last, WIDTH));
+    page.raw("V");
+    page.number(HEIGHT - scaled(value, style.most, HEIGHT));
 }
 
-/// Adds an entry of a legend below a chart.
-pub(crate) fn legend(page: &mut String, color: &str, text: &str) -> Result<(), AllocError> {
-    write!(
-        page,
-        "<span class=\"key\" style=\"background:{color}\"></span>"
-    )?;
-    push_text(page, text)?;
-    page.push_str(" ")
+/// Ends a line of steps.
+pub(crate) fn end_steps(page: &mut Sheet) {
+    page.raw("H");
+    page.number(WIDTH);
+    page.raw("\"/>");
+}
+
+/// Begins a dot on the axis along; what it tells stands between this and its end.
+pub(crate) fn begin_dot(page: &mut Sheet, place: u64, style: Steps<'_>) {
+    page.raw("<circle");
+    attribute(page, "cx", scaled(place, style.last, WIDTH));
+    attribute(page, "cy", HEIGHT);
+    attribute(page, "r", 5);
+    page.raw(" fill=\"");
+    page.raw(style.color);
+    page.raw("\"><title>");
+}
+
+/// Ends a dot.
+pub(crate) fn end_dot(page: &mut Sheet) {
+    page.raw("</title></circle>");
+}
+
+/// Begins an entry of a legend below a chart; what it tells stands behind.
+pub(crate) fn mark(page: &mut Sheet, color: &str) {
+    page.raw("<span class=\"key\" style=\"background:");
+    page.raw(color);
+    page.raw("\"></span>");
 }

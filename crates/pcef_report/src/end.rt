@@ -7,7 +7,7 @@ use pcef_figures::CollectFault;
 use std::io;
 
 /// How the program ends.
-#[derive(Drop)]
+#[derive(Clone, Copy)]
 pub(crate) enum End<'a> {
     /// Well.
     Done,

@@ -14,6 +14,7 @@ mod names;
 mod options;
 mod page;
 mod rates;
+mod sheet;
 mod table;
 
 ghost use Rattle.std.specs.Prelude.{◌≤◌};
@@ -24,6 +25,7 @@ use options::{Format, Options, asked};
 use page::html_page;
 use pcef_command_line::{gather, refuse, tell_no_memory};
 use pcef_figures::{CollectFault, Figures, collect};
+use std::alloc::Global;
 use std::fs;
 use std::io::{self, BufWriter, ErrorKind, Write};
 use std::process::ExitCode;
@@ -78,21 +80,33 @@ fn seeming(lines: &[u8], answers: &[u8]) -> &'static str {
     ""
 }
 
-/// Collects what the files tell.
-fn read<'a>(rt: &HostRuntime, options: Options<'a>) -> Result<Figures, End<'a>> {
-    let lines = match fs::read(rt, options.lines) {
-        Ok(lines) => lines,
-        Err(error) => return Err(end_of(error, End::Read(options.lines, error))),
-    };
-    let answers = match fs::read(rt, options.answers) {
-        Ok(answers) => answers,
-        Err(error) => return Err(end_of(error, End::Read(options.answers, error))),
-    };
-    match collect(rt.alloc(), &lines, &answers) {
+/// The octets of a file.
+fn octets_of<'a>(rt: &HostRuntime, file: &'a str) -> Result<Vec<u8>, End<'a>> {
+    match fs::read(rt, file) {
+        Ok(octets) => Ok(octets),
+        Err(error) => Err(end_of(error, End::Read(file, error))),
+    }
+}
+
+/// Collects what the octets of the files tell.
+fn collected<'a>(
+    alloc: Global,
+    options: Options<'a>,
+    lines: &[u8],
+    answers: &[u8],
+) -> Result<Figures, End<'a>> {
+    match collect(alloc, lines, answers) {
         Ok(figures) => Ok(figures),
         Err(CollectFault::NoMemory) => Err(End::NoMemory),
-        Err(fault) => Err(End::Apart(options, fault, seeming(&lines, &answers))),
+        Err(fault) => Err(End::Apart(options, fault, seeming(lines, answers))),
     }
+}
+
+/// Collects what the files tell.
+fn read<'a>(rt: &HostRuntime, options: Options<'a>) -> Result<Figures, End<'a>> {
+    let lines = octets_of(rt, options.lines)?;
+    let answers = octets_of(rt, options.answers)?;
+    collected(rt.alloc(), options, &lines, &answers)
 }
 
 /// Shows what the files tell.

@@ -3,14 +3,15 @@
 ghost use Rattle.std.specs.Prelude.{◌≡◌, ◌++◌, OnOk, string_bytes};
 ghost use Rattle.pcef_report.specs.Labels.{label_of};
 
-use crate::keys::keys_of;
+use crate::keys::{Key, keys_of};
 use crate::names::ByName;
-use pcef_figures::{Figures, Rates, Verdict, octets_by_key, octets_by_rule, sum_of};
+use crate::sheet::Sheet;
+use pcef_figures::{Figures, Rates, Sums, Verdict, octets_by_key, octets_by_rule, sum_of};
 use std::alloc::{AllocError, Global};
 
 /// Adds the value of a label: a quotation mark, a backslash and a line feed are escaped, and other characters stand as
 /// they are.
-fn push_label(text: &mut String, value: &str) -> Result<(), AllocError>
+pub(crate) fn push_label(text: &mut String, value: &str) -> Result<(), AllocError>
     ensures { OnOk result (string_bytes text.new ≡ string_bytes text.old ++ label_of value.now) }
 {
     for character in value.chars() {
@@ -25,8 +26,40 @@ fn push_label(text: &mut String, value: &str) -> Result<(), AllocError>
 }
 
 /// Begins a family of metrics.
-fn family(text: &mut String, name: &str, kind: &str, help: &str) -> Result<(), AllocError> {
-    write!(text, "# TYPE {name} {kind}\n# HELP {name} {help}\n")
+fn family(text: &mut Sheet, name: &str, kind: &str, help: &str) {
+    text.raw("# TYPE ");
+    text.raw(name);
+    text.raw(" ");
+    text.raw(kind);
+    text.raw("\n# HELP ");
+    text.raw(name);
+    text.raw(" ");
+    text.raw(help);
+    text.raw("\n");
+}
+
+/// Adds a sample of a number behind its labels.
+fn push_number(text: &mut Sheet, number: u64) {
+    text.raw("\"} ");
+    text.number(number);
+    text.raw("\n");
+}
+
+/// Adds a sample with one label.
+fn push_sample(text: &mut Sheet, name: &str, label: &str, value: &str, number: u64) {
+    text.raw(name);
+    text.raw("{");
+    text.raw(label);
+    text.raw("=\"");
+    text.label(value);
+    push_number(text, number);
+}
+
+/// Adds a sample for each of these values of a label.
+fn push_samples(text: &mut Sheet, name: &str, label: &str, samples: &[(&str, u64)]) {
+    for (value, number) in samples {
+        push_sample(text, name, label, value, *number);
+    }
 }
 
 /// How many packets have which verdict.
@@ -79,44 +112,56 @@ fn rules<'a>(alloc: Global, figures: &'a Figures) -> Result<ByName<'a, Counts>, 
     Ok(rules)
 }
 
-fn push_packets(alloc: Global, text: &mut String, figures: &Figures) -> Result<(), AllocError> {
+/// The verdicts in the order of their samples.
+const VERDICTS: &[Verdict] = &[
+    Verdict::Passed,
+    Verdict::Gated,
+    Verdict::Unmatched,
+    Verdict::Stray,
+];
+
+/// Adds a sample for each verdict on packets of a rule.
+fn push_counts(text: &mut Sheet, rule: &str, counts: &Counts) {
+    for verdict in VERDICTS {
+        let count = counts.of(*verdict);
+        if count > 0 {
+            text.raw("pcef_packets_total{rule=\"");
+            text.label(rule);
+            text.raw("\",verdict=\"");
+            text.raw(verdict.text());
+            push_number(text, count);
+        }
+    }
+}
+
+/// Adds the packets of the rules, and the octets that passed by them.
+fn push_rules<'a>(text: &mut Sheet, rules: &[(&'a str, Counts)], octets: &Sums<'a>) {
     family(
         text,
         "pcef_packets",
         "counter",
         "Packets by their rule and verdict.",
-    )?;
-    let rules = rules(alloc, figures)?;
-    for (rule, counts) in rules.entries() {
-        for verdict in &[
-            Verdict::Passed,
-            Verdict::Gated,
-            Verdict::Unmatched,
-            Verdict::Stray,
-        ] {
-            let count = counts.of(*verdict);
-            if count > 0 {
-                text.push_str("pcef_packets_total{rule=\"")?;
-                push_label(text, rule)?;
-                let verdict = verdict.text();
-                write!(text, "\",verdict=\"{verdict}\"}} {count}\n")?;
-            }
-        }
+    );
+    for (rule, counts) in rules {
+        push_counts(text, rule, counts);
     }
     family(
         text,
         "pcef_passed_octets",
         "counter",
         "Octets that passed by a rule.",
-    )?;
-    let octets = octets_by_rule(alloc, figures.judged.as_slice())?;
-    for (rule, _) in rules.entries() {
-        if let (false, Some(octets)) = (rule.is_empty(), sum_of(&octets, *rule)) {
-            text.push_str("pcef_passed_octets_total{rule=\"")?;
-            push_label(text, rule)?;
-            write!(text, "\"}} {octets}\n")?;
+    );
+    for (rule, _) in rules {
+        if let (false, Some(octets)) = (rule.is_empty(), sum_of(octets, *rule)) {
+            push_sample(text, "pcef_passed_octets_total", "rule", rule, octets);
         }
     }
+}
+
+fn push_packets(alloc: Global, text: &mut Sheet, figures: &Figures) -> Result<(), AllocError> {
+    let rules = rules(alloc, figures)?;
+    let octets = octets_by_rule(alloc, figures.judged.as_slice())?;
+    push_rules(text, rules.entries(), &octets);
     Ok(())
 }
 
@@ -129,34 +174,37 @@ fn unreported<'a>(alloc: Global, figures: &'a Figures) -> Result<ByName<'a, u64>
     Ok(keys)
 }
 
-fn push_keys(alloc: Global, text: &mut String, figures: &Figures) -> Result<(), AllocError> {
+/// Adds the octets of each key that reports told, but those of 2^64 or more.
+fn push_reported<'a>(text: &mut Sheet, keys: &[(&'a str, Key<'a>)], octets: &Sums<'a>) {
     family(
         text,
         "pcef_reported_octets",
         "counter",
         "Octets that reports of usage tell of a key.",
-    )?;
-    let octets = octets_by_key(alloc, figures.usage.as_slice())?;
-    let keys = keys_of(alloc, figures)?;
-    for (key, _) in keys.entries() {
-        if let Some(octets) = sum_of(&octets, *key) {
-            text.push_str("pcef_reported_octets_total{key=\"")?;
-            push_label(text, key)?;
-            write!(text, "\"}} {octets}\n")?;
+    );
+    for (key, _) in keys {
+        if let Some(octets) = sum_of(octets, *key) {
+            push_sample(text, "pcef_reported_octets_total", "key", key, octets);
         }
     }
+}
+
+fn push_keys(alloc: Global, text: &mut Sheet, figures: &Figures) -> Result<(), AllocError> {
+    let octets = octets_by_key(alloc, figures.usage.as_slice())?;
+    let keys = keys_of(alloc, figures)?;
+    push_reported(text, keys.entries(), &octets);
+    Ok(())
+}
+
+fn push_unreported(alloc: Global, text: &mut Sheet, figures: &Figures) -> Result<(), AllocError> {
+    let keys = unreported(alloc, figures)?;
     family(
         text,
         "pcef_unreported_octets",
         "gauge",
         "Octets of a key that no report told by the last show.",
-    )?;
-    let keys = unreported(alloc, figures)?;
-    for (key, unreported) in keys.entries() {
-        text.push_str("pcef_unreported_octets{key=\"")?;
-        push_label(text, key)?;
-        write!(text, "\"}} {unreported}\n")?;
-    }
+    );
+    push_samples(text, "pcef_unreported_octets", "key", keys.entries());
     Ok(())
 }
 
@@ -173,19 +221,15 @@ fn refused<'a>(alloc: Global, figures: &'a Figures) -> Result<ByName<'a, u64>, A
     Ok(names)
 }
 
-fn push_refused(alloc: Global, text: &mut String, figures: &Figures) -> Result<(), AllocError> {
+fn push_refused(alloc: Global, text: &mut Sheet, figures: &Figures) -> Result<(), AllocError> {
+    let names = refused(alloc, figures)?;
     family(
         text,
         "pcef_refused_lines",
         "counter",
         "Lines that were refused or at fault.",
-    )?;
-    let names = refused(alloc, figures)?;
-    for (name, count) in names.entries() {
-        text.push_str("pcef_refused_lines_total{name=\"")?;
-        push_label(text, name)?;
-        write!(text, "\"}} {count}\n")?;
-    }
+    );
+    push_samples(text, "pcef_refused_lines_total", "name", names.entries());
     Ok(())
 }
 
@@ -199,39 +243,46 @@ fn last_rates(figures: &Figures, bearer: u64) -> Option<Rates> {
         .copied()
 }
 
-fn push_rates(text: &mut String, figures: &Figures) -> Result<(), AllocError> {
+/// Adds the guaranteed rate of a bearer in a direction.
+fn push_rate(text: &mut Sheet, bearer: u64, direction: &str, rate: u64) {
+    text.raw("pcef_guaranteed_bits_per_second{bearer=\"");
+    text.number(bearer);
+    text.raw("\",direction=\"");
+    text.raw(direction);
+    push_number(text, rate);
+}
+
+fn push_rates(text: &mut Sheet, figures: &Figures) {
     family(
         text,
         "pcef_guaranteed_bits_per_second",
         "gauge",
         "Guaranteed rates of a bearer.",
-    )?;
+    );
     for bearer in 5u64..16 {
         if let Some(Rates { up, down, .. }) = last_rates(figures, bearer) {
-            write!(
-                text,
-                "pcef_guaranteed_bits_per_second{{bearer=\"{bearer}\",direction=\"up\"}} {up}\n\
-                 pcef_guaranteed_bits_per_second{{bearer=\"{bearer}\",direction=\"down\"}} {down}\n"
-            )?;
+            push_rate(text, bearer, "up", up);
+            push_rate(text, bearer, "down", down);
         }
     }
+}
+
+fn push_metrics(alloc: Global, text: &mut Sheet, figures: &Figures) -> Result<(), AllocError> {
+    push_packets(alloc, text, figures)?;
+    push_keys(alloc, text, figures)?;
+    push_unreported(alloc, text, figures)?;
+    push_refused(alloc, text, figures)?;
+    push_rates(text, figures);
+    family(text, "pcef_generation", "gauge", "The newest generation.");
+    text.raw("pcef_generation ");
+    text.number(figures.generation);
+    text.raw("\n# EOF\n");
     Ok(())
 }
 
 /// The figures as OpenMetrics text. Takes memory for it.
 pub(crate) fn metrics_text(alloc: Global, figures: &Figures) -> Result<String, AllocError> {
-    let mut text = String::new(alloc);
-    push_packets(alloc, &mut text, figures)?;
-    push_keys(alloc, &mut text, figures)?;
-    push_refused(alloc, &mut text, figures)?;
-    push_rates(&mut text, figures)?;
-    family(
-        &mut text,
-        "pcef_generation",
-        "gauge",
-        "The newest generation.",
-    )?;
-    let generation = figures.generation;
-    write!(text, "pcef_generation {generation}\n# EOF\n")?;
-    Ok(text)
+    let mut text = Sheet::new(alloc);
+    push_metrics(alloc, &mut text, figures)?;
+    text.whole()
 }

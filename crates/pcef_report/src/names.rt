@@ -5,10 +5,19 @@ use std::collections::BTreeMap;
 
 /// A value for each name, in the order in which the names come first. A name is found in so many steps as the logarithm
 /// of their number.
-#[derive(Drop)]
 pub(crate) struct ByName<'a, T: Drop> {
     entries: Vec<(&'a str, T)>,
     places: BTreeMap<&'a str, usize>,
+}
+
+// Written out, so that an owner proves one call at each way out.
+impl<'a, T: Drop> Drop for ByName<'a, T> {
+    fn drop(self) {
+        let ByName {
+            entries: _,
+            places: _,
+        } = self;
+    }
 }
 
 impl<'a, T: Drop> ByName<'a, T> {

@@ -1,7 +1,7 @@
 //! What the program is asked for.
 
-use clap::{Arg, ArgAction, Command, Error};
-use std::alloc::Global;
+use clap::{Arg, ArgAction, ArgMatches, Command, Error};
+use std::alloc::{AllocError, Global};
 
 /// What is written.
 #[derive(Clone, Copy, PartialEq, Eq)]
@@ -34,46 +34,53 @@ fn format_of(text: &str) -> Option<Format> {
     }
 }
 
-/// The command line.
-fn command<'a>(alloc: Global) -> Result<Command<'a>, Error> {
-    let format = Arg::new(alloc, "format")
+fn format_argument<'a>(alloc: Global) -> Arg<'a> {
+    Arg::new(alloc, "format")
         .long("format")
         .value_name("FORMAT")
         .action(ArgAction::Set)
         .default_value("html")
-        .help("html: a page with pictures; csv: a record for each packet; openmetrics: counters");
-    let lines = Arg::new(alloc, "lines")
+        .help("html: a page with pictures; csv: a record for each packet; openmetrics: counters")
+}
+
+fn lines_argument<'a>(alloc: Global) -> Arg<'a> {
+    Arg::new(alloc, "lines")
         .value_name("LINES")
         .required(true)
         .action(ArgAction::Set)
-        .help("The lines of a script of pcef");
-    let answers = Arg::new(alloc, "answers")
+        .help("The lines of a script of pcef")
+}
+
+fn answers_argument<'a>(alloc: Global) -> Arg<'a> {
+    Arg::new(alloc, "answers")
         .value_name("ANSWERS")
         .required(true)
         .action(ArgAction::Set)
-        .help("The answers of pcef script to them");
-    let command = Command::new(alloc, "pcef_report")
+        .help("The answers of pcef script to them")
+}
+
+/// The command line.
+fn command<'a>(alloc: Global) -> Result<Command<'a>, AllocError> {
+    Command::new(alloc, "pcef_report")
         .about("Shows what a script of pcef and its answers tell of a session")
-        .arg(format)?
-        .arg(lines)?
-        .arg(answers)?;
-    Ok(command)
+        .arg(format_argument(alloc))?
+        .arg(lines_argument(alloc))?
+        .arg(answers_argument(alloc))
+}
+
+/// What a command line that clap took asks for, or none where the format is none.
+fn found<'a>(matches: &ArgMatches<'a>) -> Option<Options<'a>> {
+    Some(Options {
+        format: matches.get_str("format").and_then(format_of)?,
+        lines: matches.get_str("lines")?,
+        answers: matches.get_str("answers")?,
+    })
 }
 
 /// What the words ask for, of which the first is the program's name, or none where the format is none. Other wrong words
 /// are clap's error, and so are the questions for help and for the version; want of memory too. Takes memory.
 pub(crate) fn asked<'a>(alloc: Global, words: &'a [String]) -> Result<Option<Options<'a>>, Error> {
-    let matches = command(alloc)?.try_get_matches_from(words)?;
-    let (Some(format), Some(lines), Some(answers)) = (
-        matches.get_str("format").and_then(format_of),
-        matches.get_str("lines"),
-        matches.get_str("answers"),
-    ) else {
-        return Ok(None);
-    };
-    Ok(Some(Options {
-        format,
-        lines,
-        answers,
-    }))
+    let command = command(alloc)?;
+    let matches = command.try_get_matches_from(words)?;
+    Ok(found(&matches))
 }

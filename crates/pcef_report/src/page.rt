@@ -2,11 +2,11 @@
 
 ghost use Rattle.std.specs.Prelude.{◌<◌};
 
-use crate::chart::{self, HEIGHT, bar, legend, scaled};
-use crate::escape::push_text;
+use crate::chart::{self, HEIGHT, bar, mark, scaled};
 use crate::keys::push_keys;
 use crate::rates::push_rates;
-use pcef_figures::{Figures, Verdict};
+use crate::sheet::Sheet;
+use pcef_figures::{Figures, Refused, Verdict};
 use std::alloc::{AllocError, Global};
 
 /// How many bars the verdicts have.
@@ -27,29 +27,31 @@ h1{font-size:1.5em}h2{font-size:1.15em;margin-top:2em}svg{width:100%;height:auto
 text-align:right}td:first-child,th:first-child{text-align:left}\
 .key{display:inline-block;width:.8em;height:.8em;margin:0 .3em 0 1em}";
 
-/// Begins the page.
-fn push_head(page: &mut String) -> Result<(), AllocError> {
-    page.push_str(
-        "<!doctype html>\n<html lang=\"en\"><head><meta charset=\"utf-8\">\
+/// The front of the page.
+const FRONT: &str = "<!doctype html>\n<html lang=\"en\"><head><meta charset=\"utf-8\">\
 <meta http-equiv=\"Content-Security-Policy\" content=\"default-src 'none'; style-src 'unsafe-inline'\">\
-<title>A session of pcef</title><style>",
-    )?;
-    page.push_str(STYLE)?;
-    page.push_str("</style></head><body>\n<h1>A session of pcef</h1>\n")
+<title>A session of pcef</title><style>";
+
+/// Begins the page.
+fn push_head(page: &mut Sheet) {
+    page.raw(FRONT);
+    page.raw(STYLE);
+    page.raw("</style></head><body>\n<h1>A session of pcef</h1>\n");
 }
 
 /// Says how much is told.
-fn push_summary(page: &mut String, figures: &Figures) -> Result<(), AllocError> {
-    let lines = figures.lines;
-    let packets = figures.judged.len();
-    let reports = figures.usage.len();
-    let refused = figures.refused.len();
-    let generation = figures.generation;
-    write!(
-        page,
-        "<p>Lines with an answer: {lines}. Packets with a verdict: {packets}. Reports of usage: {reports}. \
-         Lines refused or at fault: {refused}. Newest generation: {generation}.</p>\n"
-    )
+fn push_summary(page: &mut Sheet, figures: &Figures) {
+    page.raw("<p>Lines with an answer: ");
+    page.number(figures.lines);
+    page.raw(". Packets with a verdict: ");
+    page.number(figures.judged.len() as u64);
+    page.raw(". Reports of usage: ");
+    page.number(figures.usage.len() as u64);
+    page.raw(". Lines refused or at fault: ");
+    page.number(figures.refused.len() as u64);
+    page.raw(". Newest generation: ");
+    page.number(figures.generation);
+    page.raw(".</p>\n");
 }
 
 /// The bar to which a line belongs, of so many lines.
@@ -88,25 +90,23 @@ fn highest(figures: &Figures, last: u64) -> u64 {
 
 /// Adds the bars of a kind on the feet that the others left.
 fn push_bars(
-    page: &mut String,
+    page: &mut Sheet,
     counts: &[u64; BARS],
     feet: &mut [u64; BARS],
     most: u64,
     color: &str,
-) -> Result<(), AllocError> {
+) {
     for number in 0..BARS {
         let height = scaled(counts[number], most, HEIGHT);
         if height > 0 {
-            bar(page, number as u64 * 12, 10, feet[number], height, color)?;
+            bar(page, number as u64 * 12, 10, feet[number], height, color);
             feet[number] = feet[number].saturating_add(height);
         }
     }
-    Ok(())
 }
 
-/// Adds the verdicts over the lines.
-fn push_verdicts(page: &mut String, figures: &Figures) -> Result<(), AllocError> {
-    page.push_str("<h2>Verdicts over the lines</h2>\n")?;
+/// Adds the chart of the verdicts over the lines.
+fn push_chart(page: &mut Sheet, figures: &Figures) {
     let last = figures.last.max(1);
     let most = highest(figures, last);
     chart::begin(
@@ -115,65 +115,93 @@ fn push_verdicts(page: &mut String, figures: &Figures) -> Result<(), AllocError>
         most,
         "line",
         last,
-    )?;
+    );
     let mut feet = [0u64; BARS];
     for (verdict, color) in VERDICTS {
         let counts = counts_of(figures, *verdict, last);
-        push_bars(page, &counts, &mut feet, most, color)?;
+        push_bars(page, &counts, &mut feet, most, color);
     }
-    chart::end(page)?;
-    page.push_str("<p>")?;
+    chart::end(page);
+}
+
+/// How many packets have a verdict.
+fn count_of(figures: &Figures, verdict: Verdict) -> usize {
+    figures
+        .judged
+        .iter()
+        .filter(|judged| judged.verdict == verdict)
+        .count()
+}
+
+/// Adds the verdicts over the lines, and how many packets have which.
+fn push_verdicts(page: &mut Sheet, figures: &Figures) {
+    page.raw("<h2>Verdicts over the lines</h2>\n");
+    push_chart(page, figures);
+    page.raw("<p>");
     for (verdict, color) in VERDICTS {
-        legend(page, color, verdict.text())?;
-        let verdict = *verdict;
-        let count = figures
-            .judged
-            .iter()
-            .filter(|judged| judged.verdict == verdict)
-            .count();
-        write!(page, "{count}")?;
+        mark(page, color);
+        page.raw(verdict.text());
+        page.raw(" ");
+        page.number(count_of(figures, *verdict) as u64);
     }
-    page.push_str("</p>\n")
+    page.raw("</p>\n");
 }
 
 /// The most lines of the table of refusals.
 const MOST_REFUSED: usize = 200;
 
-/// Adds the lines that were refused or at fault.
-fn push_refused(page: &mut String, figures: &Figures) -> Result<(), AllocError> {
-    page.push_str("<h2>Refusals and faults</h2>\n")?;
-    if figures.refused.is_empty() {
-        return page.push_str("<p>There are none.</p>\n");
-    }
-    page.push_str("<table><tr><th>Line</th><th></th><th>Number</th><th>Name</th></tr>\n")?;
-    for refused in figures.refused.iter().take(MOST_REFUSED) {
-        let kind = if refused.is_fault { "fault" } else { "refused" };
-        let (line, number) = (refused.line, refused.number);
-        write!(
-            page,
-            "<tr><td>{line}</td><td>{kind}</td><td>{number}</td><td>"
-        )?;
-        push_text(page, refused.name.as_str())?;
-        page.push_str("</td></tr>\n")?;
-    }
-    page.push_str("</table>\n")?;
-    let more = figures.refused.len().saturating_sub(MOST_REFUSED);
+/// Adds a row of the table of refusals.
+fn push_row(page: &mut Sheet, refused: &Refused) {
+    page.raw("<tr><td>");
+    page.number(refused.line);
+    page.raw("</td><td>");
+    page.raw(if refused.is_fault { "fault" } else { "refused" });
+    page.raw("</td><td>");
+    page.number(refused.number);
+    page.raw("</td><td>");
+    page.text(refused.name.as_str());
+    page.raw("</td></tr>\n");
+}
+
+/// Tells how many lines of the table of refusals are left out.
+fn push_more(page: &mut Sheet, more: usize) {
     if more > 0 {
-        write!(page, "<p>And {more} more.</p>\n")?;
+        page.raw("<p>And ");
+        page.number(more as u64);
+        page.raw(" more.</p>\n");
     }
+}
+
+/// Adds the lines that were refused or at fault.
+fn push_refused(page: &mut Sheet, figures: &Figures) {
+    page.raw("<h2>Refusals and faults</h2>\n");
+    if figures.refused.is_empty() {
+        page.raw("<p>There are none.</p>\n");
+        return;
+    }
+    page.raw("<table><tr><th>Line</th><th></th><th>Number</th><th>Name</th></tr>\n");
+    for refused in figures.refused.iter().take(MOST_REFUSED) {
+        push_row(page, refused);
+    }
+    page.raw("</table>\n");
+    push_more(page, figures.refused.len().saturating_sub(MOST_REFUSED));
+}
+
+fn push_page(alloc: Global, page: &mut Sheet, figures: &Figures) -> Result<(), AllocError> {
+    push_head(page);
+    push_summary(page, figures);
+    push_verdicts(page, figures);
+    push_keys(alloc, page, figures)?;
+    push_rates(page, figures);
+    push_refused(page, figures);
+    page.raw("</body></html>\n");
     Ok(())
 }
 
 /// A page of HTML that shows the figures: verdicts over the lines, octets of the keys, guaranteed rates over generations,
 /// refusals. It has no script and names no other file. Takes memory for it.
 pub(crate) fn html_page(alloc: Global, figures: &Figures) -> Result<String, AllocError> {
-    let mut page = String::new(alloc);
-    push_head(&mut page)?;
-    push_summary(&mut page, figures)?;
-    push_verdicts(&mut page, figures)?;
-    push_keys(alloc, &mut page, figures)?;
-    push_rates(alloc, &mut page, figures)?;
-    push_refused(&mut page, figures)?;
-    page.push_str("</body></html>\n")?;
-    Ok(page)
+    let mut page = Sheet::new(alloc);
+    push_page(alloc, &mut page, figures)?;
+    page.whole()
 }

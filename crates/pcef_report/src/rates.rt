@@ -1,8 +1,8 @@
 //! The guaranteed rates of bearers in the page.
 
-use crate::chart::{self, Steps, color, legend, push_steps};
+use crate::chart::{self, Steps, begin_steps, color, end_steps, mark, step};
+use crate::sheet::Sheet;
 use pcef_figures::{Figures, Rates};
-use std::alloc::{AllocError, Global};
 
 /// A direction of rates.
 #[derive(Clone, Copy, PartialEq, Eq)]
@@ -16,22 +16,6 @@ fn rate(rates: &Rates, direction: Direction) -> u64 {
         Direction::Up => rates.up,
         Direction::Down => rates.down,
     }
-}
-
-/// The rates of a bearer in a direction, from each generation on in which they change.
-fn points(
-    alloc: Global,
-    figures: &Figures,
-    bearer: u64,
-    direction: Direction,
-) -> Result<Vec<(u64, u64)>, AllocError> {
-    let mut points = Vec::new(alloc);
-    for rates in &figures.rates {
-        if rates.bearer == bearer {
-            points.push((rates.generation, rate(rates, direction)))?;
-        }
-    }
-    Ok(points)
 }
 
 fn highest(figures: &Figures) -> u64 {
@@ -51,36 +35,25 @@ fn has_bearer(figures: &Figures, bearer: u64) -> bool {
     figures.rates.iter().any(|rates| rates.bearer == bearer)
 }
 
-/// Adds both lines of a bearer.
-fn push_bearer(
-    alloc: Global,
-    page: &mut String,
-    figures: &Figures,
-    bearer: u64,
-) -> Result<(), AllocError> {
-    for direction in &[Direction::Up, Direction::Down] {
-        let style = Steps {
-            color: bearer_color(bearer),
-            is_dashed: *direction == Direction::Down,
-            most: highest(figures),
-            last: figures.generation.saturating_add(1),
-        };
-        let points = points(alloc, figures, bearer, *direction)?;
-        push_steps(page, points.as_slice(), style)?;
+/// Adds the line of a bearer in a direction: a step from each generation on in which its rates change.
+fn push_line(page: &mut Sheet, figures: &Figures, bearer: u64, direction: Direction) {
+    let style = Steps {
+        color: bearer_color(bearer),
+        is_dashed: direction == Direction::Down,
+        most: highest(figures),
+        last: figures.generation.saturating_add(1),
+    };
+    begin_steps(page, style);
+    for rates in &figures.rates {
+        if rates.bearer == bearer {
+            step(page, rates.generation, rate(rates, direction), style);
+        }
     }
-    Ok(())
+    end_steps(page);
 }
 
-/// Adds the guaranteed rates over the generations.
-pub(crate) fn push_rates(
-    alloc: Global,
-    page: &mut String,
-    figures: &Figures,
-) -> Result<(), AllocError> {
-    page.push_str("<h2>Guaranteed rates over the generations, in bit/s</h2>\n")?;
-    if figures.rates.is_empty() {
-        return page.push_str("<p>No rule asks for guaranteed rates.</p>\n");
-    }
+/// Adds the chart of the guaranteed rates.
+fn push_chart(page: &mut Sheet, figures: &Figures) {
     let (most, last) = (highest(figures), figures.generation.max(1));
     chart::begin(
         page,
@@ -88,38 +61,55 @@ pub(crate) fn push_rates(
         most,
         "generation",
         last,
-    )?;
+    );
     for bearer in 5u64..16 {
         if has_bearer(figures, bearer) {
-            push_bearer(alloc, page, figures, bearer)?;
+            push_line(page, figures, bearer, Direction::Up);
+            push_line(page, figures, bearer, Direction::Down);
         }
     }
-    chart::end(page)?;
-    page.push_str("<p>Uplink is a full line, downlink a dashed one.")?;
+    chart::end(page);
+}
+
+/// Adds what the lines of the chart stand for.
+fn push_legend(page: &mut Sheet, figures: &Figures) {
+    page.raw("<p>Uplink is a full line, downlink a dashed one.");
     for bearer in 5u64..16 {
         if has_bearer(figures, bearer) {
-            let name = format!(in alloc; "bearer {bearer}")?;
-            legend(page, bearer_color(bearer), name.as_str())?;
+            mark(page, bearer_color(bearer));
+            page.raw("bearer ");
+            page.number(bearer);
+            page.raw(" ");
         }
     }
-    page.push_str("</p>\n")?;
-    push_table(page, figures)
+    page.raw("</p>\n");
+}
+
+/// Adds the guaranteed rates over the generations.
+pub(crate) fn push_rates(page: &mut Sheet, figures: &Figures) {
+    page.raw("<h2>Guaranteed rates over the generations, in bit/s</h2>\n");
+    if figures.rates.is_empty() {
+        page.raw("<p>No rule asks for guaranteed rates.</p>\n");
+        return;
+    }
+    push_chart(page, figures);
+    push_legend(page, figures);
+    push_table(page, figures);
 }
 
 /// Adds the table of the rates.
-fn push_table(page: &mut String, figures: &Figures) -> Result<(), AllocError> {
-    page.push_str("<table><tr><th>Generation</th><th>Bearer</th><th>Up</th><th>Down</th></tr>\n")?;
+fn push_table(page: &mut Sheet, figures: &Figures) {
+    page.raw("<table><tr><th>Generation</th><th>Bearer</th><th>Up</th><th>Down</th></tr>\n");
     for rates in &figures.rates {
-        let Rates {
-            generation,
-            bearer,
-            up,
-            down,
-        } = *rates;
-        write!(
-            page,
-            "<tr><td>{generation}</td><td>{bearer}</td><td>{up}</td><td>{down}</td></tr>\n"
-        )?;
+        page.raw("<tr><td>");
+        page.number(rates.generation);
+        page.raw("</td><td>");
+        page.number(rates.bearer);
+        page.raw("</td><td>");
+        page.number(rates.up);
+        page.raw("</td><td>");
+        page.number(rates.down);
+        page.raw("</td></tr>\n");
     }
-    page.push_str("</table>\n")
+    page.raw("</table>\n");
 }

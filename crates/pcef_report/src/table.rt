@@ -21,16 +21,28 @@ fn write_number<W: Write + Drop>(writer: &mut Writer<W>, number: u64) -> Result<
     writer.write_field(Buffer::new().format(number).as_bytes())
 }
 
+fn write_numbers<W: Write + Drop>(writer: &mut Writer<W>, numbers: &[u64]) -> Result<(), Error> {
+    for number in numbers {
+        write_number(writer, *number)?;
+    }
+    Ok(())
+}
+
+/// The record with the names of the columns.
+fn write_names<W: Write + Drop>(writer: &mut Writer<W>) -> Result<(), Error> {
+    for column in COLUMNS {
+        writer.write_field(column.as_bytes())?;
+    }
+    writer.end_record()
+}
+
 /// A record of a packet with its verdict.
 fn write_judged<W: Write + Drop>(writer: &mut Writer<W>, judged: &Judged) -> Result<(), Error> {
     let packet = judged.packet;
     let direction = if packet.is_up { "up" } else { "down" };
-    write_number(writer, packet.line)?;
-    write_number(writer, packet.worker)?;
+    write_numbers(writer, &[packet.line, packet.worker])?;
     writer.write_field(direction.as_bytes())?;
-    write_number(writer, packet.octets)?;
-    write_number(writer, judged.answered)?;
-    write_number(writer, judged.generation)?;
+    write_numbers(writer, &[packet.octets, judged.answered, judged.generation])?;
     writer.write_field(judged.verdict.text().as_bytes())?;
     writer.write_field(judged.rule.as_bytes())?;
     match judged.bearer {
@@ -40,15 +52,16 @@ fn write_judged<W: Write + Drop>(writer: &mut Writer<W>, judged: &Judged) -> Res
     writer.end_record()
 }
 
+fn write_records<W: Write + Drop>(writer: &mut Writer<W>, figures: &Figures) -> Result<(), Error> {
+    write_names(writer)?;
+    for judged in &figures.judged {
+        write_judged(writer, judged)?;
+    }
+    writer.flush()
+}
+
 /// Writes a record for each packet with a verdict, behind one with the names of the columns.
 pub(crate) fn write_table<W: Write + Drop>(writer: W, figures: &Figures) -> Result<(), Error> {
     let mut writer = WriterBuilder::new().from_writer(writer);
-    for column in COLUMNS {
-        writer.write_field(column.as_bytes())?;
-    }
-    writer.end_record()?;
-    for judged in &figures.judged {
-        write_judged(&mut writer, judged)?;
-    }
-    writer.flush()
+    write_records(&mut writer, figures)
 }
