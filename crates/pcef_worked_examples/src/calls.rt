@@ -79,22 +79,6 @@ pub(crate) fn text_of(
     }
 }
 
-/// Makes the step of a line, and writes the answer.
-fn answer_step<W: Write>(
-    alloc: Global,
-    world: &mut World,
-    line: &str,
-    writer: &mut W,
-) -> io::Result<()> {
-    let answer = match world.step(step_at_last(alloc, line)?) {
-        Ok(answer) => answer,
-        Err(_) => world.step(step_of(alloc, line)?)?,
-    };
-    let session = world.session();
-    let text = text_of(alloc, session.journal(), session.generation(), &answer)?;
-    writeln!(writer, "{text}")
-}
-
 /// Makes the steps one by one on a new world, and writes the answer to each.
 pub(crate) fn answer_steps<W: Write>(
     alloc: Global,
@@ -112,7 +96,13 @@ pub(crate) fn answer_steps<W: Write>(
         return Err(AllocError)?;
     };
     for line in script.lines() {
-        answer_step(alloc, &mut world, line, writer)?;
+        let answer = match world.step(step_at_last(alloc, line)?) {
+            Ok(answer) => answer,
+            Err(_) => world.step(step_of(alloc, line)?)?,
+        };
+        let session = world.session();
+        let text = text_of(alloc, session.journal(), session.generation(), &answer)?;
+        writeln!(writer, "{text}")?;
     }
     Ok(())
 }
@@ -172,23 +162,6 @@ pub(crate) fn answer_list<W: Write>(
     )
 }
 
-/// Gives a command, that of the line, and writes the answer.
-fn answer_command<W: Write>(
-    alloc: Global,
-    session: &mut Session,
-    command: Command,
-    line: &str,
-    writer: &mut W,
-) -> io::Result<()> {
-    let answer = match session.command(command) {
-        Err(Refusal::NoMemory) => session.command(command_of(alloc, line)?),
-        answer => answer,
-    };
-    let answer = StepAnswer::Command(answer);
-    let text = text_of(alloc, session.journal(), session.generation(), &answer)?;
-    writeln!(writer, "{text}")
-}
-
 /// Gives the commands alone to a new session, and writes the answer to each.
 pub(crate) fn answer_commands<W: Write>(
     alloc: Global,
@@ -206,9 +179,16 @@ pub(crate) fn answer_commands<W: Write>(
         return Err(AllocError)?;
     };
     for line in script.lines() {
-        if let Step::Command(command) = step_at_last(alloc, line)? {
-            answer_command(alloc, &mut session, command, line, writer)?;
-        }
+        let Step::Command(command) = step_at_last(alloc, line)? else {
+            continue;
+        };
+        let answer = match session.command(command) {
+            Err(Refusal::NoMemory) => session.command(command_of(alloc, line)?),
+            answer => answer,
+        };
+        let answer = StepAnswer::Command(answer);
+        let text = text_of(alloc, session.journal(), session.generation(), &answer)?;
+        writeln!(writer, "{text}")?;
     }
     Ok(())
 }
