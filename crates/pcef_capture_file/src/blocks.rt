@@ -19,7 +19,7 @@ const MAX_BLOCK: u32 = 16_777_216;
 const FRAME_LEN: usize = 12;
 
 /// A block as it stands in a file.
-#[derive(Clone, Copy, Debug, PartialEq, Eq)]
+#[derive(Clone, Copy)]
 pub(crate) struct Block<'a> {
     /// The order of its numbers.
     pub endianness: Endianness,

@@ -21,7 +21,7 @@ pub struct Packet<'a> {
 }
 
 /// The packets of a capture file, in order, up to its end or its first fault.
-#[derive(Debug, Drop)]
+#[derive(Drop)]
 pub struct Capture<'a> {
     /// The packets before the end or the fault.
     pub packets: Vec<Packet<'a>>,

@@ -17,7 +17,7 @@ const INTERFACE_DESCRIPTION: u32 = 1;
 const MAX_INTERFACES: usize = 65_536;
 
 /// What a section says of an interface.
-#[derive(Clone, Copy, Debug, PartialEq, Eq)]
+#[derive(Clone, Copy)]
 pub(crate) struct Interface {
     /// What its frames begin with.
     pub link: Link,

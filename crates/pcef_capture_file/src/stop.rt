@@ -3,7 +3,7 @@
 use crate::fault::CaptureFault;
 
 /// Why nothing more is read of the octets at hand.
-#[derive(Clone, Copy, Debug, PartialEq, Eq)]
+#[derive(Clone, Copy)]
 pub enum Stop {
     /// They are read, or end within a record or a block: more octets are wanted. If there are none, the
     /// capture ends with this fault, or well.

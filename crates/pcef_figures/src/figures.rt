@@ -48,7 +48,7 @@ impl Verdict {
 }
 
 /// A packet that was taken and waits for its verdict.
-#[derive(Clone, Copy, Debug, PartialEq, Eq)]
+#[derive(Clone, Copy)]
 pub struct Handed {
     /// The number of its line, from 1.
     pub line: u64,
@@ -61,7 +61,7 @@ pub struct Handed {
 }
 
 /// A packet with its verdict.
-#[derive(Debug, Drop)]
+#[derive(Drop)]
 pub struct Judged {
     /// The packet.
     pub packet: Handed,
@@ -78,7 +78,7 @@ pub struct Judged {
 }
 
 /// A report of usage.
-#[derive(Debug, Drop)]
+#[derive(Drop)]
 pub struct Usage {
     /// The number of the line with whose answer it came, from 1.
     pub line: u64,
@@ -91,7 +91,7 @@ pub struct Usage {
 }
 
 /// A grant that a key was given.
-#[derive(Debug, Drop)]
+#[derive(Drop)]
 pub struct Grant {
     /// The number of the line, from 1.
     pub line: u64,
@@ -102,7 +102,7 @@ pub struct Grant {
 }
 
 /// How a key stands by the last `show`.
-#[derive(Debug, Drop)]
+#[derive(Drop)]
 pub struct KeyState {
     /// The monitoring key.
     pub key: String,
@@ -115,7 +115,7 @@ pub struct KeyState {
 }
 
 /// The guaranteed rates of a bearer from a generation on, in bit/s.
-#[derive(Clone, Copy, Debug, PartialEq, Eq)]
+#[derive(Clone, Copy)]
 pub struct Rates {
     /// The generation.
     pub generation: u64,
@@ -128,7 +128,7 @@ pub struct Rates {
 }
 
 /// A line that was refused or at fault.
-#[derive(Debug, Drop)]
+#[derive(Drop)]
 pub struct Refused {
     /// The number of the line, from 1.
     pub line: u64,
@@ -141,7 +141,7 @@ pub struct Refused {
 }
 
 /// What a script and its answers tell of a session, each list in the order of the lines.
-#[derive(Debug, Drop)]
+#[derive(Drop)]
 pub struct Figures {
     /// How many lines have an answer.
     pub lines: u64,
