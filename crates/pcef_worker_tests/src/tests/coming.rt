@@ -1,5 +1,6 @@
 //! Workers that come and leave.
 
+use super::acting::numbers_of;
 use super::*;
 use pcef_session::Item;
 
@@ -73,6 +74,7 @@ pub fn seen<C: Detects + Drop, N: Naming, W: Board<Slot<N>> + Drop, R: Wait>(
     match step {
         Step::Come => comes(rt, alloc, shared, workers),
         Step::CanNotCome(reason) => can_not_come(rt, alloc, shared, reason),
+        Step::Turn => turn(workers),
         Step::HandedIn(number) => handed_in(workers, number),
         _ => match workers.there.pop() {
             Some(worker) => leaves(rt, shared, workers, worker, step),
@@ -107,6 +109,11 @@ fn can_not_come<C: Detects + Drop, N: Naming, W: Board<Slot<N>> + Drop, R: Wait>
     [u64::from(fault == Some(reason)), 0, 0, 0]
 }
 
+fn turn<C: Detects + Drop, N: Naming>(workers: &mut Workers<C, N>) -> Seen {
+    workers.there.reverse();
+    [1, 0, 0, 0]
+}
+
 fn leaves<C: Detects + Drop, N: Naming, W: Board<Slot<N>> + Drop, R: Wait>(
     rt: &R,
     shared: &Shared<C, N, W>,
@@ -115,7 +122,24 @@ fn leaves<C: Detects + Drop, N: Naming, W: Board<Slot<N>> + Drop, R: Wait>(
     step: Step,
 ) -> Seen {
     match step {
-        Step::Finish => finished(rt, shared, workers, worker),
+        Step::Finish => match finished(rt, shared, workers, worker) {
+            Ok(both) => {
+                let seen = both.0;
+                seen
+            }
+            Err(refusal) => refused(refusal == FlushRefusal::NoMemory),
+        },
+        Step::FinishTelling => match finished(rt, shared, workers, worker) {
+            Ok(both) => {
+                let told = both.1;
+                told
+            }
+            Err(_) => NOT_DONE,
+        },
+        Step::CanNotFinish(reason) => {
+            let refusal = finished(rt, shared, workers, worker).err();
+            [u64::from(refusal == Some(reason)), 0, 0, 0]
+        }
         _ => kept(workers, 1, worker.abandon(rt, shared)),
     }
 }
@@ -132,18 +156,23 @@ fn kept<C: Detects + Drop, N: Naming>(
     [before, number, rows, given_up]
 }
 
-// A finish that is refused gives the worker back, which is there as before.
+// Of a finish, what [`Step::Finish`] and [`Step::FinishTelling`] tell. One that is refused gives the worker back, which
+// is there as before: why.
 fn finished<C: Detects + Drop, N: Naming, W: Board<Slot<N>> + Drop, R: Wait>(
     rt: &R,
     shared: &Shared<C, N, W>,
     workers: &mut Workers<C, N>,
     worker: Worker<C, N, OpenGate>,
-) -> Seen {
+) -> Result<(Seen, Seen), FlushRefusal> {
     match worker.finish(rt, shared) {
-        Ok((left, verdicts)) => kept(workers, verdicts.rows.len() as u64, left),
+        Ok((left, verdicts)) => {
+            let told = numbers_of(&verdicts);
+            let seen = kept(workers, told[0], left);
+            Ok((seen, told))
+        }
         Err((worker, refusal)) => {
             workers.add(worker);
-            refused(refusal == FlushRefusal::NoMemory)
+            Err(refusal)
         }
     }
 }
