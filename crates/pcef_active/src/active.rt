@@ -65,7 +65,7 @@ impl ActiveRules {
         self.rules.get_index(place)
     }
 
-    /// Makes room for so many more rules, or leaves the room as it was for want of memory.
+    /// Makes room for `additional` more rules, or leaves the room as it was when out of memory.
     pub fn reserve(&mut self, additional: usize) -> Result<(), AllocError>
         ensures same { self.new.rules ≡ self.old.rules }
         ensures ok { OnOk result (additional ≤ self.new.room) }

@@ -161,7 +161,7 @@ abbrev pub refusal_in : Result BearerId Refusal → Option Refusal
 refusal_in (Ok _) = None
 refusal_in (Err refusal) = Some refusal
 
--- a binding is refused by the first refusal that is due, and where none is, only for want of memory
+-- a binding is refused by the first refusal that is due, and where none is, only when out of memory
 abbrev pub IsRefusalBy : Option Refusal → Refusal → Type 0
 IsRefusalBy (Some first) refusal = refusal ≡ first
 IsRefusalBy None refusal = refusal ≡ NoMemory

@@ -38,7 +38,7 @@ impl Places {
         }
     }
 
-    /// Memory for so many rules.
+    /// Memory for `count` rules.
     pub(crate) fn new(alloc: Global, count: usize) -> Result<Places, AllocError>
         ensures { IfOk result (λ places. places ≡ count) }
     {

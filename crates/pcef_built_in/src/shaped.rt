@@ -55,7 +55,7 @@ fn built_in_rules(alloc: Global) -> Result<Vec<Offer>, AllocError>
 }
 
 impl ShapedCatalog {
-    /// The catalog of the built-in rules, which the program `pcef` has too, or want of memory.
+    /// The catalog of the built-in rules, which the program `pcef` has too. Fails when out of memory.
     pub fn built_in(alloc: Global) -> Result<ShapedCatalog, AllocError>
         ensures { IfOk result (λ c. c ≡ built_in_offers) }
     {

@@ -135,7 +135,7 @@ fn found<'a>(matches: &ArgMatches<'a>) -> Option<Request<'a>>
 }
 
 /// What the words come to, of which the first is the program's name. Other wrong words than an address that isn't one
-/// are clap's error, and so are the questions for help and for the version; want of memory too. None would be an option
+/// are clap's error, and so are the questions for help and for the version; out of memory too. None would be an option
 /// without a value, which clap doesn't pass. Takes memory.
 pub fn asked<'a>(alloc: Global, words: &'a [String]) -> Result<Option<Request<'a>>, Error>
     ensures asks { IfOk result

@@ -252,7 +252,7 @@ fn write_rest<R: Read, W: Write>(
 /// fault up to which the capture was read, or none at its end.
 ///
 /// An `Err` is `Capture`, where the header of a classic file is at fault and nothing is written; the reader's error; or
-/// the writer's or want of memory, where a front of the lines is written. That it ends after 2 ^ 64 - 1 reads, with
+/// the writer's or out of memory, where a front of the lines is written. That it ends after 2 ^ 64 - 1 reads, with
 /// `NoMemory`, never comes to pass.
 ///
 /// `waiting` has the octets that were read and have no lines yet, and so takes memory: those of the record or the block

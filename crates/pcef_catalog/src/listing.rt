@@ -50,7 +50,7 @@ impl Model for Listing {
 }
 
 impl Listing {
-    /// The listing of these rules, at most 32, or want of memory.
+    /// The listing of these rules, at most 32. Fails when out of memory.
     pub fn new(alloc: Global, offers: Vec<Offer>) -> Result<Listing, AllocError>
         requires { length offers.items ≤ most_offers }
         ensures { IfOk result (λ l. l ≡ offers.items) }
@@ -60,7 +60,7 @@ impl Listing {
         })
     }
 
-    /// Another owner of the same rules, or want of memory.
+    /// Another owner of the same rules. Fails when out of memory.
     pub fn share(&self) -> Result<Listing, AllocError>
         ensures { IfOk result (λ l. l ≡ self.now) }
     {

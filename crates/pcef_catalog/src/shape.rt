@@ -47,7 +47,7 @@ pub struct Alternative {
 }
 
 impl Alternative {
-    /// Another one that is equal. Takes no memory.
+    /// A copy. Takes no memory.
     fn copy(&self) -> Alternative
         ensures { result ≡ self.now }
     {
@@ -87,7 +87,7 @@ impl Shape {
         Shape { alternatives }
     }
 
-    /// Another one that is equal. Takes no memory.
+    /// A copy. Takes no memory.
     pub fn copy(&self) -> Shape
         ensures { result ≡ self.now }
     {

@@ -7,7 +7,7 @@ ghost use Rattle.pcef_command_line.specs.Statuses.{IsDue};
 use clap::Error;
 use clap::error::ErrorKind;
 
-/// Tells want of memory on standard error, and gives its exit status. That it can't be told changes nothing.
+/// Reports `want of memory` on standard error, and gives its exit status. A failing write changes nothing.
 pub fn tell_no_memory(rt: &HostRuntime) -> u8
     ensures { result ≡ 3 }
 {
@@ -15,8 +15,9 @@ pub fn tell_no_memory(rt: &HostRuntime) -> u8
     3
 }
 
-/// Tells an error of clap, and gives the exit status: 3 for want of memory, 0 where help or the version was asked for, and
-/// else 2; or 4 where it can't be told. What was asked for stands on standard output: that it can't be written is told.
+/// Reports an error of clap, and returns the exit status: 3 when out of memory, 0 where help or the version was asked
+/// for, else 2; or 4 where nothing can be written. What was asked for stands on standard output: that it can't be
+/// written is reported.
 pub fn refuse(rt: &HostRuntime, error: &Error) -> u8
     ensures due { IsDue (kind_of error.now) result }
     ensures within { result ≤ 4 }

@@ -17,8 +17,8 @@ fn words_of(rt: &HostRuntime) -> io::Result<Vec<String>> {
 
 /// The words of the program, its name before them. Takes memory for them.
 ///
-/// Answers the exit status, 2 where a word isn't UTF-8 and 3 for want of memory, and tells why on standard error. That it
-/// can't be told changes nothing.
+/// Returns the exit status, 2 where a word isn't UTF-8 and 3 when out of memory, and reports why on standard error. A
+/// failing write changes nothing.
 pub fn gather(rt: &HostRuntime) -> Result<Vec<String>, u8>
     ensures status { IfErr result (λ status. (status ≡ 2) ⊎ (status ≡ 3)) }
 {

@@ -15,7 +15,7 @@ use std::alloc::Global;
 use std::sync::Arc;
 
 /// Opens a session and makes steps, one after the other. Gives the world after them, and one answer for each. Takes
-/// memory for both. A fault is the first that keeps the session from being opened, or want of memory, on which the run
+/// memory for both. A fault is the first that keeps the session from being opened, or out of memory, on which the run
 /// is given up.
 pub fn run(
     alloc: Global,

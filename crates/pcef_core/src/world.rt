@@ -69,7 +69,7 @@ impl World {
         self.state.step(&*self.catalog, step)
     }
 
-    /// Makes steps one after the other, as [`WorldState::play`]. Want of memory leaves some of them made, from the
+    /// Makes steps one after the other, as [`WorldState::play`]. Out of memory leaves some of them made, from the
     /// first on, and nothing else changed.
     pub fn play(&mut self, alloc: Global, steps: Vec<Step>) -> Result<Vec<StepAnswer>, AllocError>
         ensures answers { IfOk result (λ v.

@@ -147,7 +147,7 @@ fn copy_ports(ports: &ArrayVec<PortRange, 8>) -> ArrayVec<PortRange, 8>
 }
 
 impl Endpoint {
-    /// Another one that is equal. Takes no memory.
+    /// A copy. Takes no memory.
     pub fn copy(&self) -> Endpoint
         ensures { result ≡ self.now }
     {
@@ -159,7 +159,7 @@ impl Endpoint {
 }
 
 impl Filter {
-    /// Another one that is equal. Takes no memory.
+    /// A copy. Takes no memory.
     pub fn copy(&self) -> Filter
         ensures { result ≡ self.now }
     {

@@ -89,7 +89,7 @@ fn find_in<C: Detects>(
 /// fault or a refusal, in order, each with its number and answer. A line feed ends a line, and so does the end of the
 /// input. Takes memory for the session, for one line, and for what is found.
 ///
-/// Answers a fault of the profile, before any line, or want of memory.
+/// Answers a fault of the profile, before any line, or out of memory.
 pub fn find<C: Detects>(
     alloc: Global,
     profile: Profile,

@@ -25,7 +25,7 @@ fn fault_found(alloc: Global, number: u64, fault: LineFault) -> Result<Finding, 
     })
 }
 
-/// The same, or want of memory where the line's reader met that.
+/// The same, or out of memory where the line's reader met that.
 fn read_fault(alloc: Global, number: u64, fault: LineFault) -> Result<Finding, AllocError>
     ensures { IfOk result (λ x. (fault ≢ NoMemory) × IsOfFault number fault x) }
 {

@@ -11,11 +11,11 @@ unfoldable pub changing : List Command → List (Result Accepted Refusal) → Li
 changing (c ∷ cs) (a ∷ answers) = listed a c [] ++ changing cs answers
 changing cs answers = []
 
--- the answer of a command that met no want of memory
+-- the answer of a command that did not run out of memory
 abbrev pub FoundMemory : Result Accepted Refusal → Type 0
 FoundMemory answer = answer ≡ Err NoMemory → ⊥
 
--- Each of these commands has its answer, and met no want of memory. A list of commands, which had the first ones, has
+-- Each of these commands has its answer, and none ran out of memory. A list of commands, which had the first ones, has
 -- those too now that changed something.
 pub record HaveAnswers (first given now : List Command) (answers : List (Result Accepted Refusal)) : Type 0 where
   pub many : length answers ≡ length given

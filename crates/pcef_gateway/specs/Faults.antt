@@ -29,12 +29,12 @@ told_of failure.Thread = Thread
 told_of failure.Gather = Gather
 told_of failure.NoMemory = NoMemory
 
--- a worker that wasn't attached: want of memory is told as such
+-- a worker that wasn't attached: out of memory is told as such
 abbrev pub failure_of_attach : AttachFault → Failure
 failure_of_attach attach.NoMemory = failure.NoMemory
 failure_of_attach _ = failure.Attach
 
--- a session that didn't come behind its lock: want of memory is told as such
+-- a session that didn't come behind its lock: out of memory is told as such
 abbrev pub failure_of : SharedFault → Failure
 failure_of shared.NoMemory = failure.NoMemory
 failure_of _ = failure.Shared

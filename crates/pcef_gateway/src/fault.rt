@@ -1,4 +1,4 @@
-//! Why a session's run came to no end.
+//! Why a run of a session failed.
 
 ghost use Rattle.std.specs.Prelude.{◌≡◌};
 ghost use Rattle.pcef_gateway.specs.Faults.{number_of, told_of};
@@ -8,12 +8,12 @@ use pcef_model::AttachFault;
 use std::error::Error;
 use std::fmt::{self, Display, Formatter, Write};
 
-/// Why a run of a session came to no end. The session is then given up.
+/// Why a run of a session failed. The session is discarded.
 #[derive(Clone, Copy, Debug, PartialEq, Eq)]
 pub enum RunFault {
-    /// There is to be no worker, or more than sixteen.
+    /// The number of workers is not 1 to 16.
     Workers,
-    /// A packet arrives for a worker that there isn't.
+    /// A packet names a worker that does not exist.
     StrangeWorker,
     /// The session didn't come behind its lock.
     Shared,
@@ -71,7 +71,7 @@ impl RunFault {
     }
 }
 
-/// Why a run that had its workers, and packets for no others, came to no end.
+/// Why a run that had its workers, and packets for no others, failed.
 #[derive(Clone, Copy, Debug)]
 pub(crate) enum Failure {
     Shared,

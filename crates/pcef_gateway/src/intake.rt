@@ -32,7 +32,7 @@ pub(crate) struct Handed<N: Naming> {
     pub(crate) dropped: u64,
 }
 
-/// Puts one more at the end. Fails for want of memory.
+/// Puts one more at the end. Fails when out of memory.
 fn keep<T: Drop>(all: &mut Vec<T>, one: T) -> Result<(), Failure>
     ensures { OnOk result (all.new.items ≡ all.old.items ++ one ∷ []) }
 {
@@ -167,7 +167,7 @@ pub(crate) fn feed<N: Naming + Send + Sync, R: Wait>(
     }
 }
 
-/// Gives a command, and keeps its answer. Fails for want of memory.
+/// Gives a command, and keeps its answer. Fails when out of memory.
 fn give<C: Offers + Drop, N: Naming, W: Board<Slot<N>> + Drop, R: Wait>(
     rt: &R,
     shared: &Shared<C, N, W>,

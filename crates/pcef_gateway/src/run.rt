@@ -40,7 +40,7 @@ use std::thread::Threads;
 ///
 /// The catalog has to be that of the session, and no worker may ever have come to it: that is the caller's condition.
 /// Answers the first [`RunFault`] in their order for the first two of them, before anything is done; the session is
-/// given up with a fault. Want of memory ends the run with [`RunFault::NoMemory`], also where a command or a worker
+/// given up with a fault. Out of memory ends the run with [`RunFault::NoMemory`], also where a command or a worker
 /// meets it; where the publication gives no reader that is [`RunFault::Shared`]. Takes memory for rings, answers and
 /// reports. Waits for the lock, for places in the rings, and for the workers' threads.
 pub fn run_session<C: Detects + Drop + Send + Sync, G: Gate + Sync, R: Threads + Wait + Sync>(

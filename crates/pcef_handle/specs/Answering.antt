@@ -24,7 +24,7 @@ StaysOpen old new =
     (new.world.session.setting ≡ old.world.session.setting)
     × (new.world.session.forgotten ≡ old.world.session.forgotten)
 
--- a line is answered as in a script, into a buffer; for want of memory nothing is written
+-- a line is answered as in a script, into a buffer; when out of memory nothing is written
 abbrev pub AnswersInto : OpenSession → List ℕ → List ℕ → Result ℕ CallRefusal → OpenSession → List ℕ → Type 0
 AnswersInto old line before (Ok told) new after =
     StaysOpen old new × ((a : Option Answer) × AnswersAlone line old.world a new.world × IsPut a before after told)

@@ -15,7 +15,7 @@ use pcef_world::WorldState;
 use std::alloc::Global;
 use std::str;
 
-/// Why no session is opened. Of several reasons the first in this order is answered, but for want of memory, which
+/// Why no session is opened. Of several reasons the first in this order is answered, but when out of memory, which
 /// may come at any time.
 #[derive(Clone, Copy, Debug, PartialEq, Eq)]
 pub enum OpenRefusal {

@@ -142,7 +142,7 @@ fn first_sieved<'a, C: Detects>(
 }
 
 impl Index {
-    /// The index of a table, or want of memory. The catalog isn't read: what a predefined rule detects is
+    /// The index of a table, or out of memory. The catalog isn't read: what a predefined rule detects is
     /// asked of its closure when a packet comes.
     pub fn build<C: Offers>(alloc: Global, table: &Table, _catalog: &C) -> Result<Index, AllocError>
         ensures { IfOk result (λ i. i ≡ map (λ e. e.source) table.now.entries) }

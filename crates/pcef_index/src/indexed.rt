@@ -52,7 +52,7 @@ impl Model for Indexed {
 }
 
 impl Indexed {
-    /// The table of a generation without rules, with its index, or want of memory.
+    /// The table of a generation without rules, with its index. Fails when out of memory.
     pub fn empty(alloc: Global, generation: u32) -> Result<Indexed, AllocError>
         ensures number { IfOk result (λ i. i.number ≡ generation) }
         ensures entries { IfOk result (λ i. i.entries ≡ []) }
@@ -67,7 +67,7 @@ impl Indexed {
         })
     }
 
-    /// The table with its index, or want of memory, which gives the table up.
+    /// The table with its index. When out of memory, the table is given up.
     pub fn new<C: Offers>(alloc: Global, table: Table, catalog: &C) -> Result<Indexed, AllocError>
         ensures { IfOk result (λ i. i ≡ table) }
     {
@@ -79,7 +79,7 @@ impl Indexed {
         })
     }
 
-    /// A table that has the rules of this one, with the same index, or want of memory, which gives the table up.
+    /// A table that has the rules of this one, with the same index. When out of memory, the table is given up.
     pub fn with_table(&self, table: Table) -> Result<Indexed, AllocError>
         requires { map (λ e. e.source) table.entries ≡ map (λ e. e.source) self.now.entries }
         ensures { IfOk result (λ i. i ≡ table) }
@@ -111,7 +111,7 @@ impl Indexed {
         self.index.is_sieved() && !self.is_shelved
     }
 
-    /// Another owner of the index, for a shelf, or want of memory.
+    /// Another owner of the index, for a shelf. Fails when out of memory.
     pub(crate) fn shelved(&mut self) -> Result<Arc<Index>, AllocError>
         ensures index { IfOk result (λ i. arc_value i ≡ map (λ e. e.source) self.old.entries) }
         ensures table { self.new ≡ self.old }
@@ -121,7 +121,7 @@ impl Indexed {
         shelved
     }
 
-    /// Takes an index of a shelf in the place of its own, or keeps its own for want of memory.
+    /// Takes an index of a shelf in the place of its own, or keeps its own when out of memory.
     pub(crate) fn share(&mut self, index: &Arc<Index>)
         requires { arc_value index.now ≡ map (λ e. e.source) self.old.entries }
         ensures { self.new ≡ self.old }

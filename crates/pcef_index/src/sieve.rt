@@ -35,7 +35,7 @@ pub(crate) struct Sieve {
     pub words: Vec<u64>,
 }
 
-/// The sieve of some rules, which are no more than a table has, or want of memory.
+/// The sieve of some rules, which are no more than a table has. Fails when out of memory.
 pub(crate) fn sieve_of(alloc: Global, sources: &[Source]) -> Result<Sieve, AllocError>
     requires { length sources.now ≤ 64 }
     ensures { IfOk result (IsSieveOf sources.now) }
@@ -50,7 +50,7 @@ pub(crate) fn sieve_of(alloc: Global, sources: &[Source]) -> Result<Sieve, Alloc
     })
 }
 
-/// The words of some lines, or want of memory.
+/// The words of some lines. Fails when out of memory.
 fn words_of(alloc: Global, steps: &PortSteps, lines: &[Line]) -> Result<Vec<u64>, AllocError>
     ensures { IfOk result (λ v. IsSieve steps.now lines.now v.items) }
 {

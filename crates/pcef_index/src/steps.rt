@@ -61,7 +61,7 @@ impl Steps {
         }
     }
 
-    /// These steps, in ascending order, or want of memory.
+    /// These steps, in ascending order. Fails when out of memory.
     pub(crate) fn new(alloc: Global, ports: Vec<u16>) -> Result<Steps, AllocError>
         requires { length ports.items ≤ 255 }
     {

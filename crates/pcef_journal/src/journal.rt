@@ -65,7 +65,7 @@ impl Journal {
         }
     }
 
-    /// Takes memory for so many more entries, or finds none, and then nothing has changed but the room. Where there is
+    /// Takes memory for `additional` more entries. When out of memory, nothing has changed but the room. Where there is
     /// room already, none is taken.
     pub fn reserve(&mut self, additional: usize) -> Result<(), AllocError>
         ensures entries { self.new.entries ≡ self.old.entries }

@@ -74,8 +74,8 @@ impl Archive {
         self.store.is_some()
     }
 
-    /// Takes memory for so many more of each, as far as they are stored, or finds none, and then nothing has changed but
-    /// the room.
+    /// Takes memory for `additional` more of each, as far as they are stored. When out of memory, nothing has changed
+    /// but the room.
     pub fn reserve(&mut self, additional: usize) -> Result<(), AllocError>
         ensures rows { self.new.rows ≡ self.old.rows }
         ensures commands { self.new.commands ≡ self.old.commands }

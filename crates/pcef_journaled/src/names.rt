@@ -57,7 +57,7 @@ impl Names {
         }
     }
 
-    /// Takes memory for so many more names, or finds none, and then nothing has changed but the room.
+    /// Takes memory for `additional` more names. When out of memory, nothing has changed but the room.
     pub(crate) fn reserve(&mut self, additional: usize) -> Result<(), AllocError>
         ensures names { self.new.names ≡ self.old.names }
         ensures room { OnOk result (additional ≤ self.new.room) }

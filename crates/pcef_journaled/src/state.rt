@@ -208,7 +208,7 @@ impl JournaledState {
         self.state.abandon(worker)
     }
 
-    /// Looks whether a command is accepted, and takes all memory that it needs, as [`SessionState::prepare`].
+    /// Validates a command, and takes all memory that it needs, as [`SessionState::prepare`].
     pub fn prepare(&mut self, command: Command) -> Result<JournaledCommand, Refusal>
         ensures setting { self.new.session.setting ≡ self.old.session.setting }
         ensures keeps { self.new.keeps ≡ self.old.keeps }

@@ -47,7 +47,7 @@ impl Store {
         }
     }
 
-    /// Takes memory for so many more rows, or finds none, and then nothing has changed but the room.
+    /// Takes memory for `additional` more rows. When out of memory, nothing has changed but the room.
     pub(crate) fn reserve(&mut self, additional: usize) -> Result<(), AllocError>
         ensures rows { self.new.rows ≡ self.old.rows }
         ensures room { OnOk result (additional ≤ self.new.room) }

@@ -92,7 +92,7 @@ impl OwnRows {
         }
     }
 
-    /// Takes memory for so many more rows, where they are stored, or finds none, and then nothing has changed but the
+    /// Takes memory for `additional` more rows, where they are stored. When out of memory, nothing has changed but the
     /// room.
     pub fn reserve(&mut self, additional: usize) -> Result<(), AllocError>
         ensures items { self.new.items ≡ self.old.items }

@@ -2,10 +2,8 @@
 
 ghost use Rattle.std.specs.Prelude.{◌≡◌, ◌↔◌, IsTrue};
 
-use pcef_filter::{Endpoint, Filter};
 use pcef_model::{Command, Row, TriggerSet, Verdict};
 use pcef_packet::Header;
-use pcef_rule::{Properties, Rule};
 
 fn is_same_header(a: &Header, b: &Header) -> bool
     ensures { IsTrue result ↔ (a.now ≡ b.now) }
@@ -44,53 +42,6 @@ pub(crate) fn is_same_row(a: &Row, b: &Row) -> bool
         && is_same_verdict(&a.verdict, &b.verdict)
 }
 
-fn is_same_endpoint(a: &Endpoint, b: &Endpoint) -> bool
-    ensures { IsTrue result ↔ (a.now ≡ b.now) }
-{
-    a.place == b.place && a.ports.as_slice() == b.ports.as_slice()
-}
-
-fn is_same_filter(a: &Filter, b: &Filter) -> bool
-    ensures { IsTrue result ↔ (a.now ≡ b.now) }
-{
-    a.direction == b.direction
-        && a.flow == b.flow
-        && a.proto == b.proto
-        && is_same_endpoint(&a.source, &b.source)
-        && is_same_endpoint(&a.target, &b.target)
-}
-
-fn are_same_filters(a: &[Filter], b: &[Filter]) -> bool
-    ensures { IsTrue result ↔ (a.now ≡ b.now) }
-{
-    let mut rest = b;
-    for filter in a {
-        match rest.split_first() {
-            Some((first, others)) if is_same_filter(filter, first) => rest = others,
-            _ => return false,
-        }
-    }
-    rest.is_empty()
-}
-
-fn are_same_properties(a: &Properties, b: &Properties) -> bool
-    ensures { IsTrue result ↔ (a.now ≡ b.now) }
-{
-    a.name == b.name
-        && a.precedence == b.precedence
-        && a.qos == b.qos
-        && a.rates == b.rates
-        && a.gate == b.gate
-        && a.key == b.key
-}
-
-fn is_same_rule(a: &Rule, b: &Rule) -> bool
-    ensures { IsTrue result ↔ (a.now ≡ b.now) }
-{
-    are_same_properties(a.properties(), b.properties())
-        && are_same_filters(a.filters(), b.filters())
-}
-
 fn is_same_set(a: TriggerSet, b: TriggerSet) -> bool
     ensures { IsTrue result ↔ (a ≡ b) }
 {
@@ -106,7 +57,7 @@ pub(crate) fn is_same_command(a: &Command, b: &Command) -> bool
     ensures { IsTrue result ↔ (a.now ≡ b.now) }
 {
     match (a, b) {
-        (Command::Install(a), Command::Install(b)) => is_same_rule(a, b),
+        (Command::Install(a), Command::Install(b)) => a.is_equal(b),
         (Command::Activate(a), Command::Activate(b)) => *a == *b,
         (Command::Remove(a), Command::Remove(b)) => *a == *b,
         (

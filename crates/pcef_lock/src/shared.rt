@@ -105,7 +105,7 @@ impl<'p, C: Offers + Drop, N: Naming, W: Board<Slot<N>> + Drop, P: Pooling> Shar
         }
     }
 
-    /// The catalog, for one more owner, or want of memory.
+    /// The catalog, for one more owner. Fails when out of memory.
     pub fn catalog(&self) -> Result<Arc<C>, AllocError>
         ensures { IfOk result (λ c. C.offers (arc_value c) ≡ N.setting.catalog) }
     {

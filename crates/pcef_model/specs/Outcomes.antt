@@ -115,7 +115,7 @@ abbrev pub abandon_outcome : Journal → ℕ → ℕ × Journal
 abandon_outcome j worker = (lane_len j worker, if is_attached j worker then after_leave worker j else j)
 
 -- ---- promises
--- the first fault is told, or where there is none want of memory
+-- the first fault is told, or where there is none out of memory
 abbrev pub TellsFault : {R : Type 0} → Option R → R → R → Type 0
 TellsFault first want fault = (first ≡ Some fault) ⊎ ((first ≡ None) × (fault ≡ want))
 
@@ -134,7 +134,7 @@ IsRefusedWithin p j c room r = TellsFault (first_of (refusals_within p j c room)
 abbrev pub Gives : {A R : Type 0} → Outcome A R → Result A R → Journal → Type 0
 Gives due result after = (result ≡ due.0) × (after ≡ due.1)
 
--- what is due, or where nothing refuses it want of memory, which changes nothing
+-- what is due, or where nothing refuses it out of memory, which changes nothing
 abbrev pub GivesOrLacks : {A R : Type 0} → Option R → R → Outcome A R → Journal → Result A R → Journal → Type 0
 GivesOrLacks first want due before result after =
     Gives due result after ⊎ ((first ≡ None) × Gives (Err want, before) result after)

@@ -48,7 +48,7 @@ pub enum Command {
 }
 
 impl Command {
-    /// Another one that is equal, or want of memory.
+    /// A copy. Fails when out of memory.
     pub fn copy(&self) -> Result<Command, AllocError>
         ensures { IfOk result (λ c. c ≡ self.now) }
     {

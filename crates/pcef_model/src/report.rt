@@ -65,7 +65,7 @@ pub struct Report {
 }
 
 impl Body {
-    /// Another one that is equal. Takes no memory.
+    /// A copy. Takes no memory.
     pub fn copy(&self) -> Body
         ensures { result ≡ self.now }
     {
@@ -88,7 +88,7 @@ impl Body {
 }
 
 impl Report {
-    /// Another one that is equal. Takes no memory.
+    /// A copy. Takes no memory.
     pub fn copy(&self) -> Report
         ensures { result ≡ self.now }
     {

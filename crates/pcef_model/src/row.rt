@@ -21,7 +21,7 @@ pub struct Row {
 }
 
 impl Row {
-    /// Another one that is equal. Takes no memory.
+    /// A copy. Takes no memory.
     pub fn copy(&self) -> Row
         ensures { result ≡ self.now }
     {

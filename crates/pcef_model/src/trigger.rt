@@ -30,7 +30,7 @@ pub struct TriggerSet {
     pub ue_time_zone_change: bool,
 }
 
-/// Says of a name that it is the value of a notice.
+/// Marks the value of a notice.
 #[derive(Clone, Copy, Debug, PartialEq, Eq)]
 pub struct OfNotice;
 

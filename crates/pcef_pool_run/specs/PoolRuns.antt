@@ -19,7 +19,7 @@ abbrev pub TellsAt : ℕ → PooledModel → Result Accepted Refusal → List �
 TellsAt n after answer text = IfSome (slice_get after.sessions n) (λ s. text ≡ command_text s.journal answer ++ 10 ∷ [])
 
 -- A session answers an order in the room that the others leave it, which stay as they were, and this line tells the
--- answer. What the pool has granted is then again what the sessions have. Want of memory is no answer.
+-- answer. What the pool has granted is then again what the sessions have. Out of memory is no answer.
 pub record AnswersOrder (before : PooledModel) (o : Order) (text : List ℕ) (after : PooledModel) : Type 0 where
   pub answer : Result Accepted Refusal
   pub answers : AnswersAt o.session before o.command answer after

@@ -40,7 +40,7 @@ fn orders_of(alloc: Global, input: &[u8], sessions: usize) -> Result<Vec<Order>,
 /// command. Blank lines are passed over. Keeps the whole input, at most 1,073,741,824 bytes, until all lines are read.
 /// Takes memory for it and for the orders.
 ///
-/// Answers the first [`PlanFault`] that it meets: that of the reader, an input that is too long, want of memory, or,
+/// Answers the first [`PlanFault`] that it meets: that of the reader, an input that is too long, out of memory, or,
 /// once all is read, the first line that isn't of this form, names a session that there isn't, is at fault, or is no
 /// command, with the reason. Takes memory to tell that in words.
 pub fn read_orders<R: Read>(

@@ -45,7 +45,7 @@ fn run_named<P: Pooling, W: Write>(
 /// granted. That each order is for one of these sessions is the caller's condition. It doesn't flush. Takes memory.
 ///
 /// Answers why the sessions can't be opened, the writer's fault (an interruption too, and a write that takes no byte), or
-/// want of memory, which a command may meet too.
+/// that memory ran out, also at a command.
 pub fn run_pool<W: Write>(
     alloc: Global,
     capacity: Sums,

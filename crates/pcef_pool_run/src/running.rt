@@ -15,7 +15,7 @@ use pcef_share::Pooling;
 use std::alloc::{AllocError, Global};
 use std::io::Write;
 
-/// Gives an order to its session, and gives the line that tells the answer. Fails for want of memory, which the command
+/// Gives an order to its session, and gives the line that tells the answer. Fails when out of memory, which the command
 /// may meet too.
 fn answer_line<P: Pooling>(
     alloc: Global,

@@ -62,7 +62,7 @@ fn profile_of(qci: u8) -> Option<Profile> {
     })
 }
 
-/// A session that offers `radio`, and whose default bearer has this QCI, or nothing for want of memory.
+/// A session that offers `radio`, and whose default bearer has this QCI, or nothing when out of memory.
 fn asked(alloc: Global, qci: u8) -> Option<(Profile, Listing)> {
     let radio = Offer {
         properties: properties_of(RuleName::known("radio"), 70_000, 70_000),
@@ -73,7 +73,7 @@ fn asked(alloc: Global, qci: u8) -> Option<(Profile, Listing)> {
     Some((profile_of(qci)?, Listing::new(alloc, offers).ok()?))
 }
 
-/// So many sessions, of which the last one's default bearer has this QCI, or nothing for want of memory.
+/// So many sessions, of which the last one's default bearer has this QCI, or nothing when out of memory.
 fn all_asked(alloc: Global, sessions: u8, qci: u8) -> Option<Vec<(Profile, Listing)>>
     ensures { IfSome result (λ v. length v.items ≡ sessions) }
 {
@@ -100,14 +100,14 @@ fn properties_of(name: RuleName, up: u32, down: u32) -> Properties {
     }
 }
 
-/// The rule `voice` with these rates, or nothing for want of memory.
+/// The rule `voice` with these rates, or nothing when out of memory.
 fn voice(alloc: Global, up: u32, down: u32) -> Option<Rule> {
     let properties = properties_of(RuleName::known("voice"), up, down);
     let filter = read_filter("permit out ip from any to any", None).ok()?;
     Rule::new(alloc, properties, &[filter]).ok()
 }
 
-/// The session of a step, and its command, or nothing for want of memory.
+/// The session of a step, and its command, or nothing when out of memory.
 fn command_of(alloc: Global, step: Step) -> Option<(usize, Command)> {
     match step {
         Step::Install(session, up, down) => {

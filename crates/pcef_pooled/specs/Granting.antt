@@ -31,7 +31,7 @@ pub record PoolIsExact (v : PooledModel) : Type 0 where
   pub within_up : v.pool.books.granted.up ≤ v.pool.capacity.up
   pub within_down : v.pool.books.granted.down ≤ v.pool.capacity.down
 
--- the session of a number answers a command as due, in the room that the others leave it, or for want of memory refuses it
+-- the session of a number answers a command as due, in the room that the others leave it, or is out of memory
 abbrev pub AnswersAt : ℕ → PooledModel → Command → Result Accepted Refusal → PooledModel → Type 0
 AnswersAt n before command result after =
     IfSome (slice_get before.sessions n) (λ s.

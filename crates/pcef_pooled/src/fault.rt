@@ -10,7 +10,7 @@ pub enum PooledFault {
     /// There is to be no session, or more than sixty-four.
     #[error("a pool has one to sixty-four sessions")]
     Sessions,
-    /// The session of this number, counted from 0, can't be opened. Want of memory is told as
+    /// The session of this number, counted from 0, can't be opened. Out of memory is told as
     /// [`PooledFault::NoMemory`].
     #[error("session {0} can't be opened: {1}")]
     Session(u8, OpenFault),

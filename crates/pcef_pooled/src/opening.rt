@@ -14,7 +14,7 @@ use pcef_session::open_fault;
 use pcef_share::Pooling;
 use std::alloc::{AllocError, Global};
 
-/// The first session that can't be opened, want of memory aside, and why.
+/// The first session that can't be opened, out of memory aside, and why.
 pub(crate) fn first_fault(profiles: &[(Profile, Listing)]) -> Option<PooledFault>
     requires { length profiles.now ≤ 64 }
     ensures { result ≡ first_of (list_faults 0 profiles.now) }

@@ -60,7 +60,7 @@ pub enum End {
     Write,
     /// A line of the input of a run or of a pool doesn't fit: the first such line, and the text that names it.
     Line(FirstUnfit, String),
-    /// The run came to no end.
+    /// The run failed.
     Run(RunFault),
 }
 
@@ -138,7 +138,7 @@ fn run_text(fault: RunFault) -> &'static str
 fn run_note(fault: RunFault) -> &'static str {
     match fault {
         RunFault::Workers => "There are one to sixteen workers.\n",
-        RunFault::StrangeWorker => "A packet arrives for a worker that there isn't.\n",
+        RunFault::StrangeWorker => "A packet names a worker that does not exist.\n",
         RunFault::Shared => "The session didn't come behind its lock.\n",
         RunFault::Ring => "There is no ring to a worker, or one failed.\n",
         RunFault::Attach =>

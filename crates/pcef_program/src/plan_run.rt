@@ -50,7 +50,7 @@ fn report(outlet: Outlet, reports: &[Report]) -> bool {
     outlet.deliver(reports).refused.is_none()
 }
 
-/// Hands the reports of a run on, and writes what it came to. A reporter refuses for want of memory.
+/// Hands the reports of a run on, and writes what it came to. A reporter refuses when out of memory.
 fn tell_run<W: Write>(
     alloc: Global,
     ran: &Ran,

@@ -177,7 +177,7 @@ fn end_of<T: Threads + Wait + Sync, R: Read, W: Write>(
 }
 
 /// Runs the program and gives its exit status: 0; 1 for a profile fault or a line at fault; 2 for wrong
-/// arguments; 3 for want of memory; 4 for a failing end or a run that came to no end.
+/// arguments; 3 when out of memory; 4 for a failing end or a run that failed.
 ///
 /// `words` are the arguments after the program's name, `profiles` are the texts of the files that they name as
 /// profiles, in their order, or why these can't be read. Where there are more or fewer of them than are named, the
@@ -185,7 +185,7 @@ fn end_of<T: Threads + Wait + Sync, R: Read, W: Write>(
 /// `faults` is told why the program ends early: a line, and below it what a person needs to know. That it fails
 /// changes nothing else. A script is run as `run_script` does, and the writer is flushed at its end. A run reads the
 /// whole input first, starts a thread for each worker and waits for them; its reports go to `outlet`, whose reporters
-/// count them in `taken`, and one that refuses ends the program as want of memory does. Sessions on a pool read the whole
+/// count them in `taken`, and one that refuses ends the program as `want of memory`. Sessions on a pool read the whole
 /// input first, too, and are run as `run_pool` does; the writer is flushed at its end.
 pub fn program<T: Threads + Wait + Sync, R: Read, W: Write, E: Write>(
     rt: &T,

@@ -78,7 +78,7 @@ fn found<'a>(matches: &ArgMatches<'a>) -> Option<Options<'a>> {
 }
 
 /// What the words ask for, of which the first is the program's name, or none where the format is none. Other wrong words
-/// are clap's error, and so are the questions for help and for the version; want of memory too. Takes memory.
+/// are clap's error, and so are the questions for help and for the version; out of memory too. Takes memory.
 pub(crate) fn asked<'a>(alloc: Global, words: &'a [String]) -> Result<Option<Options<'a>>, Error> {
     let command = command(alloc)?;
     let matches = command.try_get_matches_from(words)?;

@@ -49,7 +49,7 @@ impl Sheet {
         }
     }
 
-    /// The whole text, or want of memory.
+    /// The whole text. Fails when out of memory.
     pub(crate) fn whole(self) -> Result<String, AllocError> {
         if self.is_refused {
             Err(AllocError)

@@ -1,11 +1,12 @@
 //! PCC rules (TS 23.203, clause 6.3): names, ARP, QoS, rates, gates, QCI kinds, `Properties`, `Rule`, and the order of
 //! rules.
 //!
-//! Its contracts tell: what is accepted, and that copies are equal.
+//! Its contracts tell: what is accepted, that copies are equal, and when rules are.
 //!
-//! In the order of reading: `gate`, `laws`, `name`, `priority`, `qci`, `quantity`, `rule`.
+//! In the order of reading: `gate`, `laws`, `name`, `priority`, `qci`, `quantity`, `rule`, `equal`.
 #![tactic(auto)]
 
+mod equal;
 mod gate;
 mod laws;
 mod name;

@@ -21,11 +21,11 @@ use thiserror::Error;
 #[error("a name is 1 to 64 visible ASCII characters")]
 pub struct NameFault;
 
-/// Says of a name that it is a rule's.
+/// Marks the name of a rule.
 #[derive(Clone, Copy, Debug, PartialEq, Eq)]
 pub struct OfRule;
 
-/// Says of a name that it is a monitoring key's.
+/// Marks the name of a monitoring key.
 #[derive(Clone, Copy, Debug, PartialEq, Eq)]
 pub struct OfKey;
 
@@ -107,7 +107,7 @@ impl<K> Name<K> {
         self.text.as_str()
     }
 
-    /// Another one that is equal. Takes no memory.
+    /// A copy. Takes no memory.
     pub fn copy(&self) -> Name<K>
         ensures { result ≡ self.now }
     {

@@ -35,7 +35,7 @@ pub struct Properties {
 }
 
 impl Properties {
-    /// Another one that is equal. Takes no memory.
+    /// A copy. Takes no memory.
     pub fn copy(&self) -> Properties
         ensures { result ≡ self.now }
     {
@@ -75,7 +75,7 @@ impl Origin {
     }
 }
 
-/// How two rules stand to each other: the one that goes first is less. The lowest precedence value goes
+/// Compares two rules by precedence: the one that is tried first is less. The lowest precedence value goes
 /// first; at equal values a dynamic rule goes before a predefined one (TS 23.203, clause 6.3.1), and
 /// rules of one origin go by the bytes of their names.
 pub fn compare_rules(a: &Properties, a_origin: Origin, b: &Properties, b_origin: Origin) -> Ordering
@@ -198,7 +198,7 @@ impl Rule {
         &self.shared.filters
     }
 
-    /// Another one that is equal, or want of memory, which leaves this one as it was.
+    /// A copy, or out of memory, which leaves this one as it was.
     pub fn copy(&self) -> Result<Rule, AllocError>
         ensures { IfOk result (λ r. r ≡ self.now) }
     {

@@ -102,8 +102,8 @@ IsFirstUnfit workers lines first =
     × (lines ≡ front ++ bytes ∷ rest) × (first.number ≡ length front + 1) × AskFor workers (answered front) before
     × IsUnfit workers bytes first.why × TellsReason first.why (string_bytes first.told)
 
--- The plan of an input that was read to its end, or its first line that is unfit; and else why it wasn't read. Want of memory
--- may come in either.
+-- The plan of an input that was read to its end, or its first line that is unfit; and else why it wasn't read. Either
+-- may run out of memory.
 abbrev pub Plans : ℕ → Result Plan PlanFault → Option (List ℕ) → Option (List ℕ) → Type 0
 Plans workers (Ok plan) before left = (input : List ℕ) × IsRead input before left × ArePlanned workers (all_lines input) plan
 Plans workers (Err (fault.Line first)) before left = (input : List ℕ) × IsRead input before left × IsFirstUnfit workers (all_lines input) first

@@ -44,14 +44,14 @@ RunsPlan p plan workers ran =
     × RunsTo p between plan.arrivals.items plan.later.items workers ran.ended
 
 -- A fault of a run with so many workers: there are none or more than 16, or a packet arrives for one that there isn't,
--- or what the run stands on failed. Want of memory has an end of its own.
+-- or what the run stands on failed. Out of memory has an end of its own.
 abbrev pub FailsRun : Plan → ℕ → RunFault → Type 0
 FailsRun plan workers fault.Workers = (workers ≡ 0) ⊎ (16 < workers)
 FailsRun plan workers fault.StrangeWorker = All (λ a. a.worker < workers) plan.arrivals.items → ⊥
 FailsRun plan workers fault.NoMemory = ⊥
 FailsRun plan workers other = Unit {0}
 
--- why a plan isn't run to its end: the first fault of its profile, a fault of the run, or want of memory
+-- why a plan isn't run to its end: the first fault of its profile, a fault of the run, or out of memory
 abbrev pub EndsPlan : Setting → Plan → ℕ → RunEnd → Type 0
 EndsPlan p plan workers (run.Open opening) = first_of (open_faults p) ≡ Some opening
 EndsPlan p plan workers (run.Run fault) = FailsRun plan workers fault
@@ -63,7 +63,7 @@ OpensNot p (run.Open opening) = first_of (open_faults p) ≡ Some opening
 OpensNot p (run.Run fault) = ⊥
 OpensNot p run.NoMemory = Unit {0}
 
--- the end that is told of a fault: want of memory is told as such
+-- the end that is told of a fault: out of memory is told as such
 abbrev pub end_of : RunFault → RunEnd
 end_of fault.NoMemory = run.NoMemory
 end_of other = run.Run other

@@ -46,7 +46,7 @@ pub enum RunEnd {
     /// The session can't be opened.
     #[error("the session can't be opened: {0}")]
     Open(OpenFault),
-    /// The run came to no end.
+    /// The run failed.
     #[error("the run came to no end: {0}")]
     Run(RunFault),
     /// There is no memory left.

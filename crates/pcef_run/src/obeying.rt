@@ -10,7 +10,7 @@ use pcef_journaled::JournaledState;
 use pcef_model::{Command, Refusal};
 use std::alloc::{AllocError, Global};
 
-/// Gives commands to a session, and keeps the answers. Fails for want of memory, which a command may meet too.
+/// Gives commands to a session, and keeps the answers. Fails when out of memory, also at a command.
 pub(crate) fn obey(
     alloc: Global,
     session: &mut JournaledState,

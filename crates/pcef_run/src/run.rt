@@ -74,7 +74,7 @@ fn run_fault(fault: RunFault) -> RunEnd
 
 /// Opens a session of a profile, gives it the commands that stand before the first packet, and then runs it with so
 /// many workers, each in a thread of its own, to which the packets go, while the other commands are given
-/// ([`pcef_gateway::run_session`]). Answers the first fault of the profile, a fault of the run, or want of memory; the
+/// ([`pcef_gateway::run_session`]). Answers the first fault of the profile, a fault of the run, or out of memory; the
 /// session is then given up. Takes memory. Waits for the workers.
 pub fn run_plan<C: Detects + Drop + Send + Sync, R: Threads + Wait + Sync>(
     rt: &R,

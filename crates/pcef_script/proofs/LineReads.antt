@@ -45,7 +45,7 @@ pub line_answered : (r : Result Answer AllocError) (p : Setting) (s t : Standing
 line_answered (Ok a) p s t text line read steps counts = (read.0, read.1, rw read.2 (steps, counts))
 line_answered (Err e) p s t text line read steps counts = tt
 
--- a reader's fault that isn't want of memory is the line's first fault
+-- a reader's fault that isn't out of memory is the line's first fault
 pub fault_read : (r : Result Answer AllocError) (p : Setting) (s : Standing) (text : List ℕ) (fault : LineFault) → (due : Result Line LineFault) × LineOf text due × Gives (λ l. l) (Err fault) due
     → IfOk r (λ a. (fault ≢ NoMemory) × AnswersAs p s (Err fault) (string_bytes a.text) a.is_fault s) → IfOk r (λ a. AnswersDue (LineOf text) p s (string_bytes a.text) a.is_fault s)
 fault_read r p s text fault (due, read, inl none) told = IfOk-weaker r _ _ (λ a known. absurd (known.0 none)) told

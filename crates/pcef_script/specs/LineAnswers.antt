@@ -30,7 +30,7 @@ abbrev pub AnswersFault : LineFault → Result Answer AllocError → Type 0
 AnswersFault fault result =
     (p : Setting) (before : Standing) → IfOk result (λ a. AnswersAs p before (Err fault) (string_bytes a.text) a.is_fault before)
 
--- so is one that is not want of memory
+-- so is one that is not out of memory
 abbrev pub AnswersReadFault : LineFault → Result Answer AllocError → Type 0
 AnswersReadFault fault result =
     (p : Setting) (before : Standing) →

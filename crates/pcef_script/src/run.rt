@@ -83,7 +83,7 @@ fn run<C: Detects, R: Read, W: Write>(
 /// keeps.
 ///
 /// Ends early with the first [`ScriptFault`] that it meets: the reader's or the writer's (an interruption too, a write
-/// that takes no byte, and a flush that fails), a script that is too long, want of memory, or a profile that no session
+/// that takes no byte, and a flush that fails), a script that is too long, out of memory, or a profile that no session
 /// can have, before anything is read.
 pub fn run_script<R: Read, W: Write>(
     alloc: Global,

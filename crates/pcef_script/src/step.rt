@@ -94,7 +94,7 @@ fn done<C: Detects>(
     })
 }
 
-/// The answer to a line with the fault that its reader met, or want of memory where it met that.
+/// The answer to a line with the fault that its reader met, or out of memory where it met that.
 fn read_fault(alloc: Global, at_fault: LineFault) -> Result<Answer, AllocError>
     ensures { AnswersReadFault at_fault result }
 {

@@ -58,7 +58,7 @@ DoesCommand before command told after =
 abbrev pub Settles : SessionModel → Prepared → Accepted → SessionModel → Type 0
 Settles before prepared told after = DoesCommand before (command_of prepared) told after
 
--- a command is answered as due, or for want of memory refused
+-- a command is answered as due, or refused when out of memory
 abbrev pub AnswersCommand : SessionModel → Command → Result Accepted Refusal → SessionModel → Type 0
 AnswersCommand before command result after = CommandStep before.setting command before.journal result after.journal
 
@@ -79,12 +79,12 @@ flushed_of result = result_map_both flush_answer_of (λ e. e) result
 abbrev pub finished_of : Result (Verdicts × ℕ) FlushRefusal → Result (FlushAnswer × ℕ) FlushRefusal
 finished_of result = result_map_both finish_answer_of (λ e. e) result
 
--- a worker's rows are answered as due, or for want of memory refused
+-- a worker's rows are answered as due, or refused when out of memory
 abbrev pub AnswersFlush : SessionModel → ℕ → List Item → Result Verdicts FlushRefusal → SessionModel → Type 0
 AnswersFlush before worker items result after =
     FlushStep before.setting worker (map row_of items) before.journal (flushed_of result) after.journal
 
--- a worker's last rows are answered as due, or for want of memory refused
+-- a worker's last rows are answered as due, or refused when out of memory
 abbrev pub AnswersFinish : SessionModel → ℕ → List Item → Result (Verdicts × ℕ) FlushRefusal → SessionModel → Type 0
 AnswersFinish before worker items result after =
     FinishStep before.setting worker (map row_of items) before.journal (finished_of result) after.journal

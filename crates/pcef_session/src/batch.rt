@@ -26,7 +26,7 @@ pub struct Item {
 }
 
 impl Item {
-    /// Another one that is equal. Takes no memory.
+    /// A copy. Takes no memory.
     pub fn copy(&self) -> Item
         ensures { result ≡ self.now }
     {
@@ -115,7 +115,7 @@ impl Batch {
         self.items.push_reserved(item);
     }
 
-    /// Lets all rows go.
+    /// Removes all rows.
     pub fn clear(&mut self)
         ensures { self.new ≡ [] }
     {

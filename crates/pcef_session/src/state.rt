@@ -86,7 +86,7 @@ impl Model for SessionState {
     ghost invariant = { IsSound };
 }
 
-/// Why a session of this profile can't be opened, want of memory aside.
+/// Why a session of this profile can't be opened, out of memory aside.
 pub fn open_fault(profile: &Profile) -> Option<OpenFault>
     ensures { result ≡ first_of (open_faults (setting_of profile.now [])) }
 {
@@ -156,7 +156,7 @@ impl SessionState {
         self.closed || self.terminated
     }
 
-    /// Why no worker can come, want of memory aside: the first reason in the order of [`AttachFault`].
+    /// Why no worker can come, out of memory aside: the first reason in the order of [`AttachFault`].
     pub fn attach_fault(&self) -> Option<AttachFault>
         ensures { result ≡ first_of (attach_faults self.now.journal) }
     {
@@ -171,7 +171,7 @@ impl SessionState {
 
     /// Attaches a worker and gives its number. Numbers go up from 0 and are never used again. Takes
     /// memory for what the journal says of the worker, its leaving included. Refused, in this order, where sixteen
-    /// workers came, where the session was closed or terminated, and for want of memory; a refusal leaves no less room.
+    /// workers came, where the session was closed or terminated, and when out of memory; a refusal leaves no less room.
     pub fn attach(&mut self) -> Result<u8, AttachFault>
         ensures answer { AttachStep self.old.journal result self.new.journal }
         ensures lane { IfOk result (λ worker. lane self.old.journal worker ≡ []) }

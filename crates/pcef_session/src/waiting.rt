@@ -72,7 +72,7 @@ impl WaitingRows {
         Ok(())
     }
 
-    /// Lets all rows go, and the memory of all but a few.
+    /// Removes all rows, and gives back the memory of all but a few.
     pub fn clear(&mut self)
         ensures { self.new ≡ [] }
     {

@@ -14,7 +14,7 @@ use std::str;
 /// The most octets of a script's line.
 const MAX_LINE: usize = 262_144;
 
-/// Says of a name that it is a session's.
+/// Marks the name of a session.
 #[derive(Clone, Copy, Debug, PartialEq, Eq)]
 pub struct OfSession;
 

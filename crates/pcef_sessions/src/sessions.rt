@@ -87,8 +87,8 @@ fn world_of(
 }
 
 impl Sessions {
-    /// No session, where one of this profile can be opened. Else the profile's fault, or want of memory, which may come at
-    /// any time. The names are hashed by these keys, which are to be random, since strangers choose names. Takes memory.
+    /// No session, where one of this profile can be opened. Else the profile's fault, or that memory ran out. The names
+    /// are hashed by these keys, which are to be random, since strangers choose names. Takes memory.
     pub fn new(
         alloc: Global,
         profile: Profile,

@@ -54,7 +54,7 @@ struct Started<N: Leading, W: Write + Drop> {
     handles: Vec<Handle<N, W>>,
 }
 
-/// Puts one more at the end. Fails for want of memory.
+/// Puts one more at the end. Fails when out of memory.
 fn keep<T: Drop>(all: &mut Vec<T>, one: T) -> Result<(), ScriptFault>
     ensures { OnOk result (all.new.items ≡ all.old.items ++ one ∷ []) }
 {
@@ -65,7 +65,7 @@ fn keep<T: Drop>(all: &mut Vec<T>, one: T) -> Result<(), ScriptFault>
 }
 
 impl<N: Leading, W: Write + Drop> Started<N, W> {
-    /// One thread more. Fails for want of memory.
+    /// One thread more. Fails when out of memory.
     fn add(&mut self, shard: Shard<N, W>) -> Result<(), ScriptFault>
         ensures lanes { OnOk result
             (self.new.lanes.items ≡ self.old.lanes.items ++ shard.lane ∷ []) }

@@ -28,7 +28,7 @@ pub struct Entry {
 }
 
 impl Source {
-    /// Another owner of the same rule, or want of memory.
+    /// Another owner of the same rule. Fails when out of memory.
     pub fn copy(&self) -> Result<Source, AllocError>
         ensures { IfOk result (λ copy. copy ≡ self.now) }
     {
@@ -40,7 +40,7 @@ impl Source {
 }
 
 impl Entry {
-    /// Another entry that is equal, or want of memory.
+    /// A copy. Fails when out of memory.
     pub fn copy(&self) -> Result<Entry, AllocError>
         ensures { IfOk result (λ copy. copy ≡ self.now) }
     {

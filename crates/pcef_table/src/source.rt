@@ -53,7 +53,7 @@ impl Source {
         }
     }
 
-    /// How two rules stand to each other: the one that goes first is less.
+    /// Compares two rules by precedence: the one that is tried first is less.
     pub(crate) fn compare<C: Offers>(&self, catalog: &C, other: &Source) -> Ordering
         requires known { IsKnown (C.offers catalog.now) self.now }
         requires other_known { IsKnown (C.offers catalog.now) other.now }

@@ -104,7 +104,7 @@ impl Table {
         self.entries.get(place)
     }
 
-    /// The next generation with this entry, which takes the place of one of its name, or want of memory.
+    /// The next generation with this entry, which takes the place of one of its name. Fails when out of memory.
     pub fn with<C: Offers>(&self, catalog: &C, entry: Entry) -> Result<Table, AllocError>
         requires number { self.now.number + 1 < 2 ^ 32 }
         requires table { IsTable (C.offers catalog.now) self.now.entries }
@@ -126,7 +126,7 @@ impl Table {
         })
     }
 
-    /// The next generation without the entry of this name, or want of memory.
+    /// The next generation without the entry of this name. Fails when out of memory.
     pub fn without<C: Offers>(&self, catalog: &C, name: &RuleName) -> Result<Table, AllocError>
         requires number { self.now.number + 1 < 2 ^ 32 }
         requires table { IsTable (C.offers catalog.now) self.now.entries }
@@ -139,7 +139,7 @@ impl Table {
         self.without_taken(catalog, &Command::Remove(name.copy()))
     }
 
-    /// The next generation without the entries on this bearer, or want of memory.
+    /// The next generation without the entries on this bearer. Fails when out of memory.
     pub fn without_bearer<C: Offers>(
         &self,
         catalog: &C,
@@ -155,7 +155,7 @@ impl Table {
         self.without_taken(catalog, &Command::LoseBearer(bearer))
     }
 
-    /// The next generation without the entries whose rules a command takes away, or want of memory.
+    /// The next generation without the entries whose rules a command takes away. Fails when out of memory.
     pub fn without_taken<C: Offers>(
         &self,
         catalog: &C,
@@ -178,7 +178,7 @@ impl Table {
         })
     }
 
-    /// The next generation, where this slot is counted or not, or want of memory.
+    /// The next generation, where this slot is counted or not. Fails when out of memory.
     pub fn counting(&self, slot: Slot, on: bool) -> Result<Table, AllocError>
         requires { self.now.number + 1 < 2 ^ 32 }
         ensures number { IfOk result (λ t. t.number ≡ self.now.number + 1) }
@@ -196,7 +196,7 @@ impl Table {
         })
     }
 
-    /// The next generation, where every packet that passes counts for this slot or doesn't, or want of memory.
+    /// The next generation, where every packet that passes counts for this slot or doesn't. Fails when out of memory.
     pub fn counting_session(&self, slot: Slot, on: bool) -> Result<Table, AllocError>
         requires number { self.now.number + 1 < 2 ^ 32 }
         requires slot { slot.0 < 8 }
@@ -215,7 +215,7 @@ impl Table {
         })
     }
 
-    /// The next generation without rules, or want of memory.
+    /// The next generation without rules. Fails when out of memory.
     pub fn cleared(&self) -> Result<Table, AllocError>
         requires { self.now.number + 1 < 2 ^ 32 }
         ensures number { IfOk result (λ t. t.number ≡ self.now.number + 1) }

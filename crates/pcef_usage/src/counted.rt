@@ -56,7 +56,7 @@ impl CountedJournal {
         }
     }
 
-    /// Takes memory for so many more entries, or answers want of it.
+    /// Takes memory for `additional` more entries. Fails when out of memory.
     pub fn reserve(&mut self, additional: usize) -> Result<(), AllocError>
         ensures journal { self.new.journal ≡ self.old.journal }
         ensures forgotten { self.new.forgotten ≡ self.old.forgotten }

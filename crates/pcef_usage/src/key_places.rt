@@ -39,7 +39,7 @@ impl KeyPlaces {
         }
     }
 
-    /// Memory for so many keys.
+    /// Memory for `count` keys.
     pub(crate) fn new(alloc: Global, count: usize) -> Result<KeyPlaces, AllocError>
         ensures { IfOk result (λ places. places ≡ count) }
     {

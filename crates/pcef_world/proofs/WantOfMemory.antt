@@ -1,4 +1,4 @@
--- Want of memory is never due: it comes only where nothing refuses.
+-- Out of memory is never due: it comes only where nothing refuses.
 use Rattle.std.proofs.Common.{◌≡◌, ◌∙◌, ℕ, Bool, true, false, not, List, [], ◌∷◌, length, refl, sym, ap, subst, inl, inr, Some, None, Ok, Err}
 use Rattle.std.specs.Prelude.{Option, Result, ◌&&◌, if◌then◌else◌}
 use Rattle.std.specs.List.{list_all}

@@ -18,7 +18,7 @@ pub struct Abandoned {
     pub rows: u64,
 }
 
-/// What is answered to a step. Want of memory is no answer: the step isn't made then.
+/// What is answered to a step. Out of memory is no answer: the step isn't made then.
 #[derive(Drop)]
 pub enum StepAnswer {
     /// A command is accepted or refused.
@@ -39,7 +39,7 @@ pub enum StepAnswer {
     NoWorker,
 }
 
-/// What is told of a command: want of memory is no answer.
+/// What is told of a command: out of memory is no answer.
 pub(crate) fn command_told(answer: Result<Accepted, Refusal>) -> Result<StepAnswer, AllocError>
     ensures told { IfOk result (λ a. (a ≡ step.Command answer) × (answer ≢ Err NoMemory)) }
     ensures lack { IfErr result (λ _. answer ≡ Err NoMemory) }
@@ -50,7 +50,7 @@ pub(crate) fn command_told(answer: Result<Accepted, Refusal>) -> Result<StepAnsw
     }
 }
 
-/// What is told of a worker that comes: want of memory is no answer.
+/// What is told of a worker that comes: out of memory is no answer.
 pub(crate) fn attach_told(answer: Result<u8, AttachFault>) -> Result<StepAnswer, AllocError>
     ensures { result ≡ attach_told answer }
 {
@@ -60,7 +60,7 @@ pub(crate) fn attach_told(answer: Result<u8, AttachFault>) -> Result<StepAnswer,
     }
 }
 
-/// What is told of a flush: want of memory is no answer.
+/// What is told of a flush: out of memory is no answer.
 pub(crate) fn flush_told(answer: Result<Verdicts, FlushRefusal>) -> Result<StepAnswer, AllocError>
     ensures { result ≡ flush_told answer }
 {
@@ -70,7 +70,7 @@ pub(crate) fn flush_told(answer: Result<Verdicts, FlushRefusal>) -> Result<StepA
     }
 }
 
-/// What is told of a finish: want of memory is no answer.
+/// What is told of a finish: out of memory is no answer.
 pub(crate) fn finish_told(
     answer: Result<(Verdicts, u64), FlushRefusal>,
 ) -> Result<StepAnswer, AllocError>

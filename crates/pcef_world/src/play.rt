@@ -11,7 +11,7 @@ use std::alloc::{AllocError, Global};
 
 impl WorldState {
     /// Makes steps one after the other, as [`WorldState::step`], and gives their answers in order. Takes memory for
-    /// these too. Want of memory ends it: some of the steps, from the first on, are made and stand, their answers are
+    /// these too. Out of memory ends it: some of the steps, from the first on, are made and stand, their answers are
     /// lost, and nothing else changes.
     pub fn play<C: Detects>(
         &mut self,

@@ -93,7 +93,7 @@ impl WorldState {
     /// generation that it holds, and up to 32 rows wait. A flush hands them over; where it is refused they go on
     /// waiting. A worker finishes with a last flush, or is abandoned, and then its waiting rows get no verdict. The
     /// step of a worker that isn't attached answers [`StepAnswer::NoWorker`] and changes nothing. Takes memory, but not
-    /// for `Abandon`. Want of memory comes only where the step isn't refused, and changes nothing.
+    /// for `Abandon`. Out of memory comes only where the step isn't refused, and changes nothing.
     pub fn step<C: Detects>(&mut self, catalog: &C, step: Step) -> Result<StepAnswer, AllocError>
         requires { C.offers catalog.now ≡ self.old.session.setting.catalog }
         ensures answer { IfOk result (λ a. MakesStep self.old step a self.new) }

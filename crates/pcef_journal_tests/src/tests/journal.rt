@@ -542,15 +542,10 @@ fn copies_of_the_reports_that_are_left(rt: HostRuntime) -> Result<(), Fail> {
     Ok(())
 }
 
-/// Whether two rules have the same name and the same filters.
-fn is_same_rule(a: &Rule, b: &Rule) -> bool {
-    a.properties().name == b.properties().name && a.filters() == b.filters()
-}
-
-/// Whether two commands are the same, where rules of the same name and filters are.
+/// Whether two commands are the same.
 fn is_same(a: &Command, b: &Command) -> bool {
     match (a, b) {
-        (Command::Install(a), Command::Install(b)) => is_same_rule(a, b),
+        (Command::Install(a), Command::Install(b)) => a.is_equal(b),
         (
             Command::Monitor {
                 key: a,

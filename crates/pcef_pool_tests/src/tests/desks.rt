@@ -47,7 +47,7 @@ struct Side {
     opened: Opened,
 }
 
-/// A new session, or nothing for want of memory.
+/// A new session, or nothing when out of memory.
 fn new_side(alloc: Global) -> Option<Side>
     ensures fresh { IfSome result (λ s. s.session.session.journal ≡ []) }
     ensures offers { IfSome result (λ s. arc_value s.catalog ≡ s.session.session.setting.catalog) }
@@ -315,7 +315,7 @@ fn pool_named<P: Pooling + Send + Sync, R: Threads + Wait + Sync>(
 }
 
 /// What two desks on a pool of this capacity are told, the number of each session's newest generation at the end, and
-/// what the pool has granted then; or nothing for want of memory.
+/// what the pool has granted then; or nothing when out of memory.
 pub fn tell_desks<R: Threads + Wait + Sync>(
     rt: &R,
     alloc: Global,

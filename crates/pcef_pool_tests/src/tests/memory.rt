@@ -1,4 +1,4 @@
-//! Commands on a pool that meet want of memory, in one thread and on two desks: they leave session and pool as they
+//! Commands on a pool that run out of memory, in one thread and on two desks: they leave session and pool as they
 //! were, and are done when they come again.
 //!
 //! With memory for everything each is done at once. `.ci/refused-memory` refuses each allocation in turn.

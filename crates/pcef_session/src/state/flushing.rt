@@ -25,7 +25,7 @@ fn rows_of(profile: &Profile) -> u64
 }
 
 impl SessionState {
-    /// Why rows of a worker aren't taken over, want of memory aside.
+    /// Why rows of a worker aren't taken over, out of memory aside.
     pub fn flush_refusal(&self, worker: u8, count: usize) -> Option<FlushRefusal>
         ensures { result
             ≡ first_of (flush_refusals self.now.setting self.now.journal worker count) }
@@ -78,7 +78,7 @@ impl SessionState {
     /// Takes over a worker's waiting rows, all or none. The rows have to be the worker's next ones, each
     /// with the verdict of its own generation and the slots of the keys that it counts for. Takes memory for the
     /// rows, their verdicts and the reports. Refused, in this order, where the worker isn't attached, where the
-    /// journal would hold more rows than the profile allows, and for want of memory; a refusal leaves no less room.
+    /// journal would hold more rows than the profile allows, and when out of memory; a refusal leaves no less room.
     pub fn flush(&mut self, worker: u8, batch: &Batch) -> Result<Verdicts, FlushRefusal>
         requires follow { MayFollow self.old worker batch.now }
         requires slots { HasItsSlots self.old.setting self.old.journal batch.now }

@@ -362,7 +362,7 @@ impl SessionState {
         }
     }
 
-    /// Looks whether a command is accepted, and takes all memory that it needs, or answers the first
+    /// Validates a command, and takes all memory that it needs, or answers the first
     /// refusal in the order of [`Refusal`]. Changes nothing that can be seen, and leaves no less room: what
     /// was prepared before can still be settled.
     pub fn prepare(&mut self, command: Command) -> Result<Prepared, Refusal>
@@ -380,7 +380,7 @@ impl SessionState {
 
     /// The same for a session whose pool leaves it this room, in bit/s, for the guaranteed rates of all its rules. An
     /// Install or an Activate that would bring them over it is refused: uplink with [`Refusal::PoolUp`], and then
-    /// downlink with [`Refusal::PoolDown`], after every other refusal and before want of memory.
+    /// downlink with [`Refusal::PoolDown`], after every other refusal and before out of memory.
     pub fn prepare_within(&mut self, command: Command, room: Sums) -> Result<Prepared, Refusal>
         ensures setting { self.new.setting ≡ self.old.setting }
         ensures forgotten { self.new.forgotten ≡ self.old.forgotten }

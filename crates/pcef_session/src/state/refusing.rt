@@ -291,7 +291,7 @@ impl SessionState {
         }
     }
 
-    /// Why a command is refused, want of memory aside: the first reason in the order of [`Refusal`].
+    /// Why a command is refused, out of memory aside: the first reason in the order of [`Refusal`].
     pub(crate) fn refusal(&self, command: &Command) -> Option<Refusal>
         ensures { result ≡ first_of (refusals self.now.setting self.now.journal command.now) }
     {

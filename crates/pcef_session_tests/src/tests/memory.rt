@@ -1,4 +1,4 @@
-//! Commands that meet want of memory: they leave no trace, and are done when they come again.
+//! Commands that run out of memory: they leave no trace, and are done when they come again.
 //!
 //! With memory for everything each command is done at once. `.ci/refused-memory` refuses each allocation in turn.
 

@@ -28,7 +28,7 @@ use Rattle.pcef_world.specs.Worlds.{Waiting}
 use Rattle.pcef_world.specs.private.Workers.{LacksForItem, TakesItem, after_flushing, held_by}
 
 -- ---- what is told
--- want of memory is no answer
+-- out of memory is no answer
 abbrev pub attach_told : Result ℕ AttachFault → Result StepAnswer AllocError
 attach_told (Ok number) = Ok (answer.Attach (Ok number))
 attach_told (Err lacks.NoMemory) = Err alloc_error

@@ -1,4 +1,4 @@
-//! Want of memory. `.ci/refused-memory` refuses each allocation in turn.
+//! Out of memory. `.ci/refused-memory` refuses each allocation in turn.
 
 use super::workers::TWO_COUNTED;
 use super::*;

@@ -2,7 +2,7 @@ use Rattle.std.proofs.Common.{◌≡◌, ◌∙◌, true, sym, ap, rules}
 use Rattle.std.specs.Cmp.Lexicographic.{pointwise, pointwise_decides}
 use Rattle.pcef_filter.specs.declared.filter.PortRange.{PortRange}
 use Rattle.pcef_filter.specs.contracts.filter.PortRangePartialEq.TheImpl.{eq-value}
-use Rattle.pcef_index.proofs.equal.are_equal_ports.Goals as goal
+use Rattle.pcef_rule.proofs.equal.are_equal_ports.Goals as goal
 
 pub returns : goal.returns
 returns c =
