@@ -8,6 +8,7 @@ mod declared_script;
 mod ends;
 mod finishing;
 mod fronts;
+mod many;
 mod memory;
 mod refused_profiles;
 

@@ -1,5 +1,6 @@
-//! Tests of workers of a session behind its lock, and of what they hand in. They stand above the workers' crate, to
-//! which a worker is no more than its model: so a test that holds one is proved in a few steps.
+//! Tests of a session behind its lock, of its workers and what they hand in, and of sessions that run over threads. They
+//! stand above the crates that they test, to which a lock, a session and a worker are no more than their models: so a test
+//! that holds one is proved in a few steps.
 #![tactic(auto)]
 
 #[cfg(test)]

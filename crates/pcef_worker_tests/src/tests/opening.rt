@@ -8,12 +8,12 @@ ghost use Rattle.pcef_session.specs.Shown.{Shows};
 ghost use Rattle.pcef_lock.specs.Opening.{GoesBy};
 
 use super::*;
+use crate::tests::sessions::{session, web};
 use pcef_catalog::Catalog;
 use pcef_journaled::JournaledState;
 use pcef_lock::{SharedFault, Unopened, opened};
 use pcef_publish::Opened;
 use pcef_share::Blanks;
-use pcef_test_sessions::{session, web};
 use std::marker::Brand;
 use std::sync::Arc;
 

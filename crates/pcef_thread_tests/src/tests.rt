@@ -1,4 +1,0 @@
-//! Sessions that threads share.
-
-mod gateway;
-mod lock;

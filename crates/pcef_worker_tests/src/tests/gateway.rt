@@ -1,0 +1,113 @@
+//! Sessions that run over threads, whose rows, octets, answers and reports were counted by hand.
+ghost use Rattle.std.specs.Prelude.{◌≡◌, [], IfOk};
+ghost use Rattle.pcef_model.specs.Journals.{attach_count};
+
+mod commands;
+mod flushes;
+mod limits;
+mod memory;
+mod open_rings;
+mod rounds;
+mod workers;
+
+use crate::tests::sessions::{monitor, packet, session, vid, web};
+use pcef_catalog::Catalog;
+use pcef_gateway::{Arrival, Ended, RunFault, run_session};
+use pcef_journaled::JournaledState;
+use pcef_model::Command;
+use pcef_packet::PackedHeader;
+use pcef_worker::Gate;
+use std::alloc::Global;
+use std::sync::{Arc, Wait};
+use std::test::Fail;
+use std::thread::Threads;
+
+/// What a run comes to, in numbers: packets, the commands of the journal, how many keys have a slot, and the octets of
+/// the one key.
+#[derive(Clone, Copy, Debug, Default, PartialEq, Eq)]
+struct Figures {
+    rows: u64,
+    abandoned: u64,
+    dropped: u64,
+    commands: u64,
+    keys: u64,
+    counted: u64,
+    reported: u64,
+    unreported: u64,
+}
+
+/// The session after a command that it accepts. No worker comes by it.
+fn accepted(session: JournaledState, command: Command) -> Result<JournaledState, Fail>
+    requires { (attach_count session.session.journal ≡ 0) × (session.session.setting.catalog ≡ []) }
+    ensures { IfOk result (λ s. (attach_count s.session.journal ≡ 0) × (s.session.setting.catalog ≡ [])) }
+{
+    let mut session = session;
+    session.command(command)?;
+    Ok(session)
+}
+
+/// A session of 1000 rows that has installed the rule and monitors its key with a grant of 1000 octets.
+fn monitored(alloc: Global) -> Result<JournaledState, Fail>
+    ensures { IfOk result (λ s. (attach_count s.session.journal ≡ 0) × (s.session.setting.catalog ≡ [])) }
+{
+    let installed = accepted(session(alloc, 1000)?, Command::Install(web(alloc)?))?;
+    accepted(installed, monitor(1000)?)
+}
+
+/// So many packets for each worker up to this one, in turn.
+fn packets(alloc: Global, each: u32, workers: u8) -> Result<Vec<Arrival>, Fail> {
+    let mut arrivals = Vec::new(alloc);
+    for _ in 0..each {
+        for worker in 0..workers {
+            let header = PackedHeader::new(&packet(28));
+            arrivals.push(Arrival { header, worker })?;
+        }
+    }
+    Ok(arrivals)
+}
+
+/// Runs a session with an empty catalog.
+fn run<G: Gate + Sync, R: Threads + Wait + Sync>(
+    rt: &R,
+    alloc: Global,
+    session: JournaledState,
+    arrivals: Vec<Arrival>,
+    commands: Vec<Command>,
+    workers: u8,
+    gate: &G,
+) -> Result<Result<Ended, RunFault>, Fail>
+    requires { (attach_count session.session.journal ≡ 0) × (session.session.setting.catalog ≡ []) }
+{
+    let catalog = Arc::new(alloc, Catalog::new(alloc, Vec::new(alloc))?)?;
+    Ok(run_session(
+        rt, alloc, catalog, session, arrivals, commands, workers, gate,
+    ))
+}
+
+/// What a run came to, where it has the key `vid` or none.
+fn told(ended: &Ended) -> Option<Figures> {
+    let totals = &ended.totals;
+    let keys = totals.keys.as_slice();
+    let mut told = Figures {
+        rows: totals.rows,
+        abandoned: totals.abandoned,
+        dropped: ended.dropped,
+        commands: totals.session.journal().commands_len(),
+        keys: keys.len() as u64,
+        ..Figures::default()
+    };
+    if let Some(key) = keys.first() {
+        if key.key.as_str() != "vid" {
+            return None;
+        }
+        told.counted = key.counted;
+        told.reported = key.reported;
+        told.unreported = key.unreported;
+    }
+    Some(told)
+}
+
+/// The same of a run that nothing else is asked of.
+fn figures_of(ended: Ended) -> Option<Figures> {
+    told(&ended)
+}
