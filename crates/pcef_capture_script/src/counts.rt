@@ -4,7 +4,7 @@ ghost use Rattle.std.specs.Prelude.{◌≡◌};
 ghost use Rattle.pcef_capture_script.specs.Counting.{counted};
 
 /// What became of a frame.
-#[derive(Clone, Copy, Debug, PartialEq, Eq)]
+#[derive(Clone, Copy)]
 pub enum Outcome {
     /// Its packet has a line.
     Taken,
@@ -17,7 +17,7 @@ pub enum Outcome {
 }
 
 /// How many frames came to what. None of the numbers goes beyond 2 ^ 64 - 1.
-#[derive(Clone, Copy, Debug, Default, PartialEq, Eq)]
+#[derive(Clone, Copy, Default)]
 pub struct Counts {
     /// All that were read.
     pub read: u64,

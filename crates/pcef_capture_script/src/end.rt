@@ -7,7 +7,7 @@ use pcef_capture_file::CaptureFault;
 use std::io;
 
 /// How the program ends.
-#[derive(Drop)]
+#[derive(Clone, Copy)]
 pub enum End {
     /// Well.
     Done,

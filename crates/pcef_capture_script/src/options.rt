@@ -1,7 +1,8 @@
 //! What the program is asked for.
 
-ghost use Rattle.std.specs.Prelude.{◌≡◌, ℕ, List, IfErr, IfOk, IfSome, false, map, string_bytes, true};
-ghost use Rattle.clap.specs.Words.{app_of, found_of, kind_of, matches_of, rows_of, rule_of, takes, with_rule};
+ghost use Rattle.std.specs.Prelude.{◌≡◌, ◌∷◌, [], ℕ, List, IfErr, IfOk, IfSome, Some, codes, false, map, string_bytes, true};
+ghost use Rattle.clap.specs.Words.{app_of, found_of, kind_of, matches_of, new_app, new_rule, rows_of, rule_of, takes, with_rule};
+ghost use Rattle.clap.specs.declared.builder.action.ArgAction.TheVariants.{Set};
 ghost use Rattle.clap.specs.declared.error.kind.ErrorKind.TheVariants.{OutOfMemory};
 ghost use Rattle.pcef_capture_script.specs.CommandLine.{batch_rule, command_line, file_rule, IsRequest, pad_rule, ue_rule, workers_rule};
 
@@ -33,42 +34,65 @@ pub enum Request<'a> {
     NoAddress(&'a str),
 }
 
+/// An option or a file that has one value.
+fn value<'a>(alloc: Global, id: &'a str, value_name: &'a str, help: &'a str) -> Arg<'a>
+    ensures rule { rule_of result
+        ≡ record (new_rule id.entry.now) { value_names = 1; action = Some Set } }
+    ensures place { result.global ≡ false }
+{
+    Arg::new(alloc, id)
+        .value_name(value_name)
+        .action(ArgAction::Set)
+        .help(help)
+}
+
 fn ue<'a>(alloc: Global) -> Arg<'a>
     ensures rule { rule_of result ≡ ue_rule }
     ensures place { result.global ≡ false }
 {
-    Arg::new(alloc, "ue")
+    let help = "The session's IPv4 or IPv6 address; an IPv6 session has all addresses of its /64";
+    value(alloc, "ue", "ADDRESS", help)
         .long("ue")
-        .value_name("ADDRESS")
         .required(true)
-        .action(ArgAction::Set)
-        .help("The session's IPv4 or IPv6 address; an IPv6 session has all addresses of its /64")
+}
+
+/// An option that has a number.
+fn number<'a>(alloc: Global, id: &'a str, default: &'a str, help: &'a str) -> Arg<'a>
+    ensures rule { rule_of result ≡ record (new_rule id.entry.now) {
+      long = Some id.entry.now;
+      value_names = 1;
+      action = Some Set;
+      defaults = default.entry.now ∷ [];
+    } }
+    ensures place { result.global ≡ false }
+{
+    value(alloc, id, "N", help).long(id).default_value(default)
 }
 
 fn workers<'a>(alloc: Global) -> Arg<'a>
     ensures rule { rule_of result ≡ workers_rule }
     ensures place { result.global ≡ false }
 {
-    Arg::new(alloc, "workers")
-        .long("workers")
-        .value_name("N")
-        .action(ArgAction::Set)
-        .value_parser(value_parser!(u8).range(1..=16))
-        .default_value("1")
-        .help("How many workers take packets in turn")
+    number(
+        alloc,
+        "workers",
+        "1",
+        "How many workers take packets in turn",
+    )
+    .value_parser(value_parser!(u8).range(1..=16))
 }
 
 fn batch<'a>(alloc: Global) -> Arg<'a>
     ensures rule { rule_of result ≡ batch_rule }
     ensures place { result.global ≡ false }
 {
-    Arg::new(alloc, "batch")
-        .long("batch")
-        .value_name("N")
-        .action(ArgAction::Set)
-        .value_parser(value_parser!(u8).range(1..=32))
-        .default_value("32")
-        .help("How many packets a worker takes before it flushes")
+    number(
+        alloc,
+        "batch",
+        "32",
+        "How many packets a worker takes before it flushes",
+    )
+    .value_parser(value_parser!(u8).range(1..=32))
 }
 
 fn pad<'a>(alloc: Global) -> Arg<'a>
@@ -85,31 +109,49 @@ fn file<'a>(alloc: Global) -> Arg<'a>
     ensures rule { rule_of result ≡ file_rule }
     ensures place { result.global ≡ false }
 {
-    Arg::new(alloc, "file")
-        .value_name("FILE")
-        .required(true)
-        .action(ArgAction::Set)
-        .help("A capture file: classic pcap, or pcapng; - is standard input")
+    let help = "A capture file: classic pcap, or pcapng; - is standard input";
+    value(alloc, "file", "FILE", help).required(true)
 }
 
-/// The command line with the options of who takes what.
-fn with_turns<'a>(alloc: Global, command: Command<'a>) -> Result<Command<'a>, AllocError>
+/// The command line with the session's address.
+fn with_ue<'a>(alloc: Global) -> Result<Command<'a>, AllocError>
     ensures { IfOk result (λ more. app_of more
-        ≡ with_rule (with_rule (app_of command.entry) workers_rule) batch_rule) }
+        ≡ with_rule (new_app (codes "pcef_capture")) ue_rule) }
 {
-    command.arg(workers(alloc))?.arg(batch(alloc))
+    Command::new(alloc, "pcef_capture")
+        .about("Writes the packets of a capture as lines of a script of pcef")
+        .arg(ue(alloc))
+}
+
+/// And with how many workers take packets.
+fn with_workers<'a>(alloc: Global) -> Result<Command<'a>, AllocError>
+    ensures { IfOk result (λ more. app_of more
+        ≡ with_rule (with_rule (new_app (codes "pcef_capture")) ue_rule) workers_rule) }
+{
+    with_ue(alloc)?.arg(workers(alloc))
+}
+
+/// And with how many packets each takes.
+fn with_batch<'a>(alloc: Global) -> Result<Command<'a>, AllocError>
+    ensures { IfOk result (λ more. app_of more ≡ with_rule (with_rule (with_rule
+        (new_app (codes "pcef_capture")) ue_rule) workers_rule) batch_rule) }
+{
+    with_workers(alloc)?.arg(batch(alloc))
+}
+
+/// And with whether packets are padded.
+fn with_pad<'a>(alloc: Global) -> Result<Command<'a>, AllocError>
+    ensures { IfOk result (λ more. app_of more ≡ with_rule (with_rule (with_rule (with_rule
+        (new_app (codes "pcef_capture")) ue_rule) workers_rule) batch_rule) pad_rule) }
+{
+    with_batch(alloc)?.arg(pad(alloc))
 }
 
 /// The command line.
 pub fn command<'a>(alloc: Global) -> Result<Command<'a>, AllocError>
     ensures { IfOk result (λ command. app_of command ≡ command_line) }
 {
-    let command = Command::new(alloc, "pcef_capture")
-        .about("Writes the packets of a capture as lines of a script of pcef")
-        .arg(ue(alloc))?;
-    with_turns(alloc, command)?
-        .arg(pad(alloc))?
-        .arg(file(alloc))
+    with_pad(alloc)?.arg(file(alloc))
 }
 
 /// What a command line that clap took comes to, or none where an option has no value.
@@ -134,6 +176,17 @@ fn found<'a>(matches: &ArgMatches<'a>) -> Option<Request<'a>>
     }))
 }
 
+/// What clap takes the words for.
+fn matched<'a>(alloc: Global, words: &'a [String]) -> Result<ArgMatches<'a>, Error>
+    ensures rows { IfOk result (λ matches. rows_of (found_of matches)
+        ≡ matches_of command_line (map string_bytes words.entry.now)) }
+    ensures takes { IfErr result (λ error.
+        takes command_line (map string_bytes words.entry.now) ≡ true →
+        kind_of error ≡ OutOfMemory) }
+{
+    command(alloc)?.try_get_matches_from(words)
+}
+
 /// What the words come to, of which the first is the program's name. Other wrong words than an address that isn't one
 /// are clap's error, and so are the questions for help and for the version; out of memory too. None would be an option
 /// without a value, which clap doesn't pass. Takes memory.
@@ -144,7 +197,8 @@ pub fn asked<'a>(alloc: Global, words: &'a [String]) -> Result<Option<Request<'a
         takes command_line (map string_bytes words.entry.now) ≡ true →
         kind_of error ≡ OutOfMemory) }
 {
-    let command = command(alloc)?;
-    let matches = command.try_get_matches_from(words)?;
-    Ok(found(&matches))
+    match matched(alloc, words) {
+        Ok(matches) => Ok(found(&matches)),
+        Err(error) => Err(error),
+    }
 }

@@ -4,7 +4,7 @@ ghost use Rattle.std.specs.Prelude.{◌≡◌, ◌<◌, Some as DueSome, None as
 ghost use Rattle.pcef_capture_script.specs.Turns.{full_after, taken_after};
 
 /// Which worker takes the next packet, and how many wait there.
-#[derive(Clone, Copy, Debug, PartialEq, Eq)]
+#[derive(Clone, Copy)]
 pub struct Turn {
     /// How many workers there are.
     pub workers: u8,

@@ -246,6 +246,29 @@ fn write_rest<R: Read, W: Write>(
     Err(End::NoMemory)
 }
 
+/// Lets the octets that were taken go, and writes the lines for the capture from those behind them on.
+fn write_behind<R: Read, W: Write>(
+    alloc: Global,
+    options: &Options<'_>,
+    stream: &mut CaptureStream,
+    taken: usize,
+    waiting: &mut Vec<u8>,
+    reader: &mut R,
+    writer: &mut W,
+) -> Result<(Counts, Option<CaptureFault>), End>
+    requires { taken ≤ length waiting.old.items }
+    ensures { (before : Option (List ℕ)) (input : List ℕ)
+        → Consumes before (R.remaining reader.old) input
+        → Reached input [] stream.old (drop taken waiting.old.items)
+        → WritesCapture options.now.ue options.now.pads (rota_of options.now) result before
+        (R.remaining reader.new) (W.contents writer.old) (W.contents writer.new) }
+{
+    match forget(waiting, taken) {
+        Ok(()) => write_rest(alloc, options, stream, waiting, reader, writer),
+        Err(_) => Err(End::NoMemory),
+    }
+}
+
 /// Writes the lines for a capture while it is read: a `take` line for each packet with the session's address on one
 /// side, workers in turn, a `flush` line after each batch, and one at the end where packets wait. Before it reads more,
 /// the lines of all frames that were read whole are written and the writer is flushed. Gives what was counted, and the
@@ -273,12 +296,12 @@ pub fn write_capture<R: Read, W: Write>(
     read_front(reader, waiting)?;
     let octets = waiting.as_slice();
     let len = octets.len();
-    let (mut stream, kept) = match CaptureStream::open(alloc, octets) {
-        Ok((stream, rest)) => (stream, rest.len()),
-        Err(fault) => return Err(End::Capture(fault)),
-    };
-    match forget(waiting, len.saturating_sub(kept)) {
-        Ok(()) => write_rest(alloc, options, &mut stream, waiting, reader, writer),
-        Err(_) => Err(End::NoMemory),
+    match CaptureStream::open(alloc, octets) {
+        Ok((stream, rest)) => {
+            let taken = len.saturating_sub(rest.len());
+            let mut stream = stream;
+            write_behind(alloc, options, &mut stream, taken, waiting, reader, writer)
+        }
+        Err(fault) => Err(End::Capture(fault)),
     }
 }
