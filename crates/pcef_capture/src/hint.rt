@@ -2,7 +2,7 @@
 
 ghost use Rattle.std.specs.Prelude.{◌≡◌, ◌≢◌, ◌<◌, IfOk, string_bytes};
 ghost use Rattle.pcef_capture_file.specs.declared.fault.CaptureFault.TheVariants.{LinkType, NotACapture, Version};
-ghost use Rattle.pcef_capture.specs.Hints.{advice_on, big_at, link_number, link_text, little_at, octet_at, pair_at, version_of, version_text};
+ghost use Rattle.pcef_capture.specs.Hints.{advice_on, big_at, link_number, link_text, little_at, octet_at, pair_at, version_of, version_text, version_with};
 
 use pcef_capture_file::CaptureFault;
 use std::alloc::{AllocError, Global};
@@ -155,16 +155,24 @@ fn version_of(octets: &[u8]) -> (u16, u16)
     }
 }
 
+/// Which versions are read, of the format that the octets have.
+fn versions_read(octets: &[u8]) -> &'static str
+    ensures { version_text octets.now ≡ version_with (version_of octets.now) result.now }
+{
+    if octet_at(octets, 0) == 0x0a {
+        ": of pcapng 1.0 and 1.2 are read"
+    } else {
+        ": of libpcap's format 2.4 is read"
+    }
+}
+
 /// What is told of a version that isn't read.
 fn version_line(alloc: Global, octets: &[u8]) -> Result<String, AllocError>
     ensures { IfOk result (λ text. string_bytes text ≡ version_text octets.now) }
 {
     let (major, minor) = version_of(octets);
-    if octet_at(octets, 0) == 0x0a {
-        format!(in alloc; "its version is {major}.{minor}: of pcapng 1.0 and 1.2 are read")
-    } else {
-        format!(in alloc; "its version is {major}.{minor}: of libpcap's format 2.4 is read")
-    }
+    let read = versions_read(octets);
+    format!(in alloc; "its version is {major}.{minor}{read}")
 }
 
 /// What is told of a link type that isn't known.
@@ -177,17 +185,29 @@ fn link_line(alloc: Global, octets: &[u8]) -> Result<String, AllocError>
     )
 }
 
-/// What is told of octets that begin no capture and no other format that is known.
-fn first_line(alloc: Global, octets: &[u8]) -> Result<String, AllocError> {
-    let mut line = String::from_str(alloc, "it begins with")?;
+/// Writes an octet in hexadecimal behind a space.
+fn push_octet(alloc: Global, line: &mut String, octet: u8) -> Result<(), AllocError> {
+    let text = format!(in alloc; " {octet:02x}")?;
+    line.push_str(text.as_str())
+}
+
+/// Writes the first octets, and how a capture begins.
+fn push_octets(alloc: Global, line: &mut String, octets: &[u8]) -> Result<(), AllocError> {
     for octet in octets.iter().take(4) {
-        let octet = *octet;
-        line.push_str(format!(in alloc; " {octet:02x}")?.as_str())?;
+        push_octet(alloc, line, *octet)?;
     }
     line.push_str(
         ": a capture begins with d4 c3 b2 a1 or 4d 3c b2 a1, with these turned round, or with 0a 0d 0d 0a",
-    )?;
-    Ok(line)
+    )
+}
+
+/// What is told of octets that begin no capture and no other format that is known.
+fn first_line(alloc: Global, octets: &[u8]) -> Result<String, AllocError> {
+    let mut line = String::from_str(alloc, "it begins with")?;
+    match push_octets(alloc, &mut line, octets) {
+        Ok(()) => Ok(line),
+        Err(error) => Err(error),
+    }
 }
 
 /// A line on a fault: what the octets from it on are that begin no capture, of an unknown link type or version its number

@@ -10,6 +10,7 @@ mod hint;
 ghost use Rattle.std.specs.Prelude.{◌≡◌, []};
 
 use hint::hint_of;
+use pcef_capture_file::CaptureFault;
 use pcef_capture_script::{Counts, End, Options, Request, asked, write_capture};
 use pcef_command_line::{gather, refuse, tell_no_memory};
 use std::fs::File;
@@ -39,6 +40,36 @@ fn tell_strangers(rt: &HostRuntime, counts: &Counts) {
     }
 }
 
+/// Tells what was counted up to the end or the fault.
+fn ended(rt: &HostRuntime, counts: &Counts, fault: Option<CaptureFault>) -> End {
+    tell(rt, counts);
+    tell_strangers(rt, counts);
+    match fault {
+        Some(fault) => End::Capture(fault),
+        None => End::Done,
+    }
+}
+
+/// Writes the lines of what is read to the writer, and flushes it.
+fn write_to<R: Read, W: Write>(
+    rt: &HostRuntime,
+    options: &Options<'_>,
+    waiting: &mut Vec<u8>,
+    reader: &mut R,
+    writer: &mut W,
+) -> End
+    requires { waiting.old.items ≡ [] }
+{
+    let told = write_capture(rt.alloc(), options, waiting, reader, writer);
+    if let Err(error) = writer.flush() {
+        return end_of(error, End::Write(error));
+    }
+    match told {
+        Ok((counts, fault)) => ended(rt, &counts, fault),
+        Err(end) => end,
+    }
+}
+
 /// Writes the lines of what is read, and leaves the octets that have none.
 fn write<R: Read>(
     rt: &HostRuntime,
@@ -48,23 +79,12 @@ fn write<R: Read>(
 ) -> End
     requires { waiting.old.items ≡ [] }
 {
-    let Ok(mut writer) = BufWriter::new(rt.alloc(), io::writer(rt)) else {
-        return End::NoMemory;
-    };
-    let told = write_capture(rt.alloc(), options, waiting, reader, &mut writer);
-    if let Err(error) = writer.flush() {
-        return end_of(error, End::Write(error));
-    }
-    match told {
-        Ok((counts, fault)) => {
-            tell(rt, &counts);
-            tell_strangers(rt, &counts);
-            match fault {
-                Some(fault) => End::Capture(fault),
-                None => End::Done,
-            }
+    match BufWriter::new(rt.alloc(), io::writer(rt)) {
+        Ok(writer) => {
+            let mut writer = writer;
+            write_to(rt, options, waiting, reader, &mut writer)
         }
-        Err(end) => end,
+        Err(_) => End::NoMemory,
     }
 }
 
@@ -109,23 +129,22 @@ fn told(rt: &HostRuntime, file: &str, end: &End, octets: &[u8]) -> u8 {
     end.status()
 }
 
-/// Does what the arguments ask for, and gives the exit status.
-fn status(rt: &HostRuntime) -> u8 {
-    let words = match gather(rt) {
-        Ok(words) => words,
-        Err(status) => return status,
+/// Writes the lines that are asked for, and tells how that ended.
+fn follow(rt: &HostRuntime, options: &Options<'_>) -> u8 {
+    let mut waiting = Vec::new(rt.alloc());
+    let end = run(rt, options, &mut waiting);
+    let file = if options.file == "-" {
+        "Standard input"
+    } else {
+        options.file
     };
-    match asked(rt.alloc(), words.as_slice()) {
-        Ok(Some(Request::Options(options))) => {
-            let mut waiting = Vec::new(rt.alloc());
-            let end = run(rt, &options, &mut waiting);
-            let file = if options.file == "-" {
-                "Standard input"
-            } else {
-                options.file
-            };
-            told(rt, file, &end, waiting.as_slice())
-        }
+    told(rt, file, &end, waiting.as_slice())
+}
+
+/// Does what the words ask for, and gives the exit status.
+fn answer(rt: &HostRuntime, words: &[String]) -> u8 {
+    match asked(rt.alloc(), words) {
+        Ok(Some(Request::Options(options))) => follow(rt, &options),
         Ok(Some(Request::NoAddress(text))) => {
             let _ = eprintln!(rt;
                 "usage: --ue {text:?}: an address is expected, as 10.0.0.2 or 2001:db8::2"
@@ -137,6 +156,14 @@ fn status(rt: &HostRuntime) -> u8 {
             2
         }
         Err(error) => refuse(rt, &error),
+    }
+}
+
+/// Does what the arguments ask for, and gives the exit status.
+fn status(rt: &HostRuntime) -> u8 {
+    match gather(rt) {
+        Ok(words) => answer(rt, words.as_slice()),
+        Err(status) => status,
     }
 }
 
