@@ -1,7 +1,6 @@
 //! Packets with their verdicts.
-use pcef_figures::{CollectFault, Figures, Verdict, collect, octets_by_rule, sum_of};
-use std::alloc::Global;
-use std::test::Fail;
+use pcef_figures::{CollectFault, Judged, Verdict, collect, octets_by_rule, sum_of};
+use std::alloc::{AllocError, Global};
 
 /// Two workers: the first takes a packet of 28 octets up, one of 60 down and one of 28 down, the second one of 48 octets of
 /// IPv6 up. The second is flushed first.
@@ -24,62 +23,92 @@ const ANSWERS: &[u8] =
 /// The lines of a packet and of its verdict, the worker, whether it goes up, the octets, and the verdict with its generation.
 type Row = (u64, u64, u64, bool, u64, (Verdict, u64, Option<u64>));
 
-fn rows(alloc: Global, figures: &Figures) -> Result<Vec<Row>, Fail> {
-    let mut rows = Vec::new(alloc);
-    for judged in &figures.judged {
-        let packet = judged.packet;
-        let verdict = (judged.verdict, judged.generation, judged.bearer);
-        rows.push((
-            packet.line,
-            judged.answered,
-            packet.worker,
-            packet.is_up,
-            packet.octets,
-            verdict,
-        ))?;
-    }
-    Ok(rows)
+/// The row of a packet with its verdict, where one stands at this place.
+fn row(judged: &[Judged], place: usize) -> Option<Row> {
+    let judged = judged.get(place)?;
+    let packet = judged.packet;
+    Some((
+        packet.line,
+        judged.answered,
+        packet.worker,
+        packet.is_up,
+        packet.octets,
+        (judged.verdict, judged.generation, judged.bearer),
+    ))
+}
+
+/// The first five rows.
+fn rows(judged: &[Judged]) -> [Option<Row>; 5] {
+    [
+        row(judged, 0),
+        row(judged, 1),
+        row(judged, 2),
+        row(judged, 3),
+        row(judged, 4),
+    ]
+}
+
+/// The first five rows of what a script and its answers tell.
+fn rows_by(alloc: Global, lines: &[u8], answers: &[u8]) -> Result<[Option<Row>; 5], CollectFault> {
+    let figures = collect(alloc, lines, answers)?;
+    Ok(rows(figures.judged.as_slice()))
+}
+
+/// The sums of `web`, `voice`, the rule without a name, and `w`.
+fn sums_of(alloc: Global, judged: &[Judged]) -> Result<[Option<u64>; 4], AllocError> {
+    let sums = octets_by_rule(alloc, judged)?;
+    Ok([
+        sum_of(&sums, "web"),
+        sum_of(&sums, "voice"),
+        sum_of(&sums, ""),
+        sum_of(&sums, "w"),
+    ])
+}
+
+/// The same of what a script and its answers tell.
+fn sums_by(alloc: Global, lines: &[u8], answers: &[u8]) -> Result<[Option<u64>; 4], CollectFault> {
+    let figures = collect(alloc, lines, answers)?;
+    Ok(sums_of(alloc, figures.judged.as_slice())?)
 }
 
 #[test]
-fn each_verdict_goes_to_the_first_packet_of_its_worker(rt: HostRuntime) -> Result<(), Fail> {
-    let figures = collect(rt.alloc(), LINES, ANSWERS)?;
+fn each_verdict_goes_to_the_first_packet_of_its_worker(rt: HostRuntime) {
+    let rows = rows_by(rt.alloc(), LINES, ANSWERS);
+    let sums = sums_by(rt.alloc(), LINES, ANSWERS);
     assert_eq!(rt;
-        rows(rt.alloc(), &figures)?.as_slice(),
-        [
-            (4, 7, 1, true, 48, (Verdict::Passed, 2, Some(6))),
-            (3, 8, 0, true, 28, (Verdict::Gated, 3, None)),
-            (5, 8, 0, false, 60, (Verdict::Passed, 3, Some(5))),
-            (6, 8, 0, false, 28, (Verdict::Stray, 3, None)),
-        ]
-        .as_slice()
+        (rows, sums),
+        (Ok(ROWS), Ok([Some(60), Some(48), Some(0), Some(0)]))
     );
-    let judged = figures.judged.as_slice();
-    let sums = octets_by_rule(rt.alloc(), judged)?;
-    for (rule, octets) in [("web", 60u64), ("voice", 48), ("", 0), ("w", 0)] {
-        assert_eq!(rt; sum_of(&sums, rule), Some(octets));
-    }
-    Ok(())
 }
+
+static ROWS: [Option<Row>; 5] = [
+    Some((4, 7, 1, true, 48, (Verdict::Passed, 2, Some(6)))),
+    Some((3, 8, 0, true, 28, (Verdict::Gated, 3, None))),
+    Some((5, 8, 0, false, 60, (Verdict::Passed, 3, Some(5)))),
+    Some((6, 8, 0, false, 28, (Verdict::Stray, 3, None))),
+    None,
+];
 
 #[test]
 fn verdicts_have_the_names_of_answers(rt: HostRuntime) {
-    assert_eq!(rt; Verdict::Passed.text(), "Passed");
-    assert_eq!(rt; Verdict::Gated.text(), "Gated");
-    assert_eq!(rt; Verdict::Unmatched.text(), "Unmatched");
-    assert_eq!(rt; Verdict::Stray.text(), "Stray");
+    let names = [
+        Verdict::Passed.text(),
+        Verdict::Gated.text(),
+        Verdict::Unmatched.text(),
+        Verdict::Stray.text(),
+    ];
+    assert_eq!(rt; names, ["Passed", "Gated", "Unmatched", "Stray"]);
 }
 
-/// What the lines and an answer to the next one tell.
+const TAKE_AND_FLUSH: &[u8] = b"{\"do\":\"take\",\"worker\":2,\"dir\":\"up\",\"packet\":\"00\"}\n\
+{\"do\":\"flush\",\"worker\":2}\n";
+
+const TAKEN: &[u8] = b"{\"ok\":true,\"waiting\":1}\n";
+
+/// How many verdicts the lines tell where a packet and a flush follow them, and this is the answer to the flush.
 fn with_flush(alloc: Global, answer: &[u8]) -> Result<usize, CollectFault> {
-    let mut lines = Vec::new(alloc);
-    let mut answers = Vec::new(alloc);
-    lines.extend_from_slice(LINES)?;
-    answers.extend_from_slice(ANSWERS)?;
-    lines.extend_from_slice(b"{\"do\":\"take\",\"worker\":2,\"dir\":\"up\",\"packet\":\"00\"}\n")?;
-    lines.extend_from_slice(b"{\"do\":\"flush\",\"worker\":2}\n")?;
-    answers.extend_from_slice(b"{\"ok\":true,\"waiting\":1}\n")?;
-    answers.extend_from_slice(answer)?;
+    let lines = [LINES, TAKE_AND_FLUSH].concat(alloc)?;
+    let answers = [ANSWERS, TAKEN, answer].concat(alloc)?;
     Ok(collect(alloc, &lines, &answers)?.judged.len())
 }
 
@@ -94,18 +123,19 @@ fn verdicts_that_have_no_packet_are_at_fault(rt: HostRuntime) {
     let two =
         b"{\"ok\":true,\"verdicts\":[{\"verdict\":\"Unmatched\"},{\"verdict\":\"Unmatched\"}]}";
     let refused = b"{\"name\":\"RowsFull\",\"refused\":2,\"verdicts\":[{\"verdict\":\"Lost\"}]}";
-    assert_eq!(rt; with_flush(alloc, one), Ok(5));
-    assert_eq!(rt; with_flush(alloc, none), Ok(4));
-    assert_eq!(rt;
+    let found = [
+        with_flush(alloc, one),
+        with_flush(alloc, none),
         with_flush(alloc, other),
-        Err(CollectFault::OtherPackets(10))
-    );
-    assert_eq!(rt; with_flush(alloc, two), Err(CollectFault::OtherPackets(10)));
-    assert_eq!(rt; with_flush(alloc, refused), Ok(4));
+        with_flush(alloc, two),
+        with_flush(alloc, refused),
+    ];
+    let other_packets = Err(CollectFault::OtherPackets(10));
+    assert_eq!(rt; found, [Ok(5), Ok(4), other_packets, other_packets, Ok(4)]);
 }
 
 #[test]
-fn packets_that_a_worker_abandons_have_no_verdict(rt: HostRuntime) -> Result<(), Fail> {
+fn packets_that_a_worker_abandons_have_no_verdict(rt: HostRuntime) {
     let lines = b"{\"do\":\"take\",\"worker\":0,\"dir\":\"up\",\"packet\":\"00\"}\n\
         {\"do\":\"take\",\"worker\":1,\"dir\":\"up\",\"packet\":\"00\"}\n{\"do\":\"abandon\",\"worker\":0}\n\
         {\"do\":\"take\",\"worker\":0,\"dir\":\"down\",\"packet\":\"00\"}\n\
@@ -114,21 +144,23 @@ fn packets_that_a_worker_abandons_have_no_verdict(rt: HostRuntime) -> Result<(),
         b"{\"ok\":true,\"waiting\":1}\n{\"ok\":true,\"waiting\":1}\n{\"abandoned\":1,\"ok\":true,\"rows\":0}\n\
         {\"ok\":true,\"waiting\":1}\n{\"ok\":true,\"verdicts\":[{\"generation\":0,\"verdict\":\"Unmatched\"}]}\n\
         {\"ok\":true,\"verdicts\":[{\"generation\":0,\"verdict\":\"Stray\"}]}\n";
-    let figures = collect(rt.alloc(), lines, answers)?;
     assert_eq!(rt;
-        rows(rt.alloc(), &figures)?.as_slice(),
-        [
-            (4, 5, 0, false, 0, (Verdict::Unmatched, 0, None)),
-            (2, 6, 1, true, 0, (Verdict::Stray, 0, None)),
-        ]
-        .as_slice()
+        rows_by(rt.alloc(), lines, answers),
+        Ok(ROWS_BESIDE_AN_ABANDONED_ONE)
     );
-    Ok(())
 }
+
+static ROWS_BESIDE_AN_ABANDONED_ONE: [Option<Row>; 5] = [
+    Some((4, 5, 0, false, 0, (Verdict::Unmatched, 0, None))),
+    Some((2, 6, 1, true, 0, (Verdict::Stray, 0, None))),
+    None,
+    None,
+    None,
+];
 
 // Three packets of one worker wait, and the oldest gets the first verdict.
 #[test]
-fn the_packets_of_a_worker_keep_their_order(rt: HostRuntime) -> Result<(), Fail> {
+fn the_packets_of_a_worker_keep_their_order(rt: HostRuntime) {
     let lines = b"{\"do\":\"take\",\"worker\":0,\"dir\":\"up\",\"packet\":\"00\"}\n\
         {\"do\":\"take\",\"worker\":0,\"dir\":\"up\",\"packet\":\"00\"}\n\
         {\"do\":\"take\",\"worker\":0,\"dir\":\"down\",\"packet\":\"00\"}\n{\"do\":\"flush\",\"worker\":0}\n";
@@ -136,15 +168,13 @@ fn the_packets_of_a_worker_keep_their_order(rt: HostRuntime) -> Result<(), Fail>
         b"{\"ok\":true,\"waiting\":1}\n{\"ok\":true,\"waiting\":2}\n{\"ok\":true,\"waiting\":3}\n\
         {\"ok\":true,\"verdicts\":[{\"generation\":0,\"verdict\":\"Unmatched\"},\
         {\"generation\":0,\"verdict\":\"Stray\"},{\"generation\":0,\"verdict\":\"Unmatched\"}]}\n";
-    let figures = collect(rt.alloc(), lines, answers)?;
-    assert_eq!(rt;
-        rows(rt.alloc(), &figures)?.as_slice(),
-        [
-            (1, 4, 0, true, 0, (Verdict::Unmatched, 0, None)),
-            (2, 4, 0, true, 0, (Verdict::Stray, 0, None)),
-            (3, 4, 0, false, 0, (Verdict::Unmatched, 0, None)),
-        ]
-        .as_slice()
-    );
-    Ok(())
+    assert_eq!(rt; rows_by(rt.alloc(), lines, answers), Ok(ROWS_OF_ONE_WORKER));
 }
+
+static ROWS_OF_ONE_WORKER: [Option<Row>; 5] = [
+    Some((1, 4, 0, true, 0, (Verdict::Unmatched, 0, None))),
+    Some((2, 4, 0, true, 0, (Verdict::Stray, 0, None))),
+    Some((3, 4, 0, false, 0, (Verdict::Unmatched, 0, None))),
+    None,
+    None,
+];

@@ -1,10 +1,11 @@
 //! Which line has which answer, and what doesn't belong together.
 use pcef_figures::{CollectFault, Collected, Figures, collect};
 use std::alloc::Global;
-use std::test::Fail;
 
 /// What is told, or why nothing is: lines, the number of the last, and how many were refused or at fault.
-fn told(alloc: Global, lines: &[u8], answers: &[u8]) -> Result<(u64, u64, usize), CollectFault> {
+type Told = Result<(u64, u64, usize), CollectFault>;
+
+fn told(alloc: Global, lines: &[u8], answers: &[u8]) -> Told {
     let figures = collect(alloc, lines, answers)?;
     Ok((figures.lines, figures.last, figures.refused.len()))
 }
@@ -20,123 +21,190 @@ fn is_blank(figures: &Figures) -> bool {
         && figures.refused.is_empty()
 }
 
+/// Whether nothing is told yet.
+fn is_new_blank(alloc: Global) -> bool {
+    let collected = Collected::new(alloc);
+    is_blank(&collected.figures)
+}
+
+/// Whether nothing is told of these.
+fn is_told_blank(alloc: Global, lines: &[u8], answers: &[u8]) -> Result<bool, CollectFault> {
+    let figures = collect(alloc, lines, answers)?;
+    Ok(is_blank(&figures))
+}
+
+/// The same of these lines with three answers that are blank.
+fn are_told_blank(alloc: Global, lines: &[u8]) -> [Result<bool, CollectFault>; 3] {
+    [
+        is_told_blank(alloc, lines, b""),
+        is_told_blank(alloc, lines, b"\n\n"),
+        is_told_blank(alloc, lines, b" \r\n"),
+    ]
+}
+
 #[test]
-fn an_empty_script_tells_nothing(rt: HostRuntime) -> Result<(), Fail> {
-    assert!(rt; is_blank(&Collected::new(rt.alloc()).figures));
-    for lines in &[
-        b"".as_slice(),
-        b"\n",
-        b" \t\r\n\n \n",
-        b"{\"do\":\"attach\"}\n{\"do\":\"show\"}",
-    ] {
-        for answers in &[b"".as_slice(), b"\n\n", b" \r\n"] {
-            assert!(rt; is_blank(&collect(rt.alloc(), lines, answers)?));
+fn an_empty_script_tells_nothing(rt: HostRuntime) {
+    let alloc = rt.alloc();
+    let found = [
+        are_told_blank(alloc, b""),
+        are_told_blank(alloc, b"\n"),
+        are_told_blank(alloc, b" \t\r\n\n \n"),
+        are_told_blank(alloc, b"{\"do\":\"attach\"}\n{\"do\":\"show\"}"),
+    ];
+    assert_eq!(rt; (is_new_blank(alloc), found), (true, [[Ok(true); 3]; 4]));
+}
+
+/// Lines, answers, and what is told of them.
+type Row = (&'static [u8], &'static [u8], Told);
+
+/// The place of the first row of which something else is told, with what is told.
+fn first_wrong(alloc: Global, rows: &[Row]) -> Option<(usize, Told)> {
+    for place in 0..rows.len() {
+        let (lines, answers, due) = rows[place];
+        let found = told(alloc, lines, answers);
+        if found != due {
+            return Some((place, found));
         }
     }
-    Ok(())
+    None
 }
+
+const ATTACHED: &[u8] = b"{\"generation\":0,\"ok\":true,\"worker\":0}\n";
+
+const BLANK_LINES: [Row; 5] = [
+    (b"{\"do\":\"attach\"}\n", ATTACHED, Ok((1, 1, 0))),
+    (b"{\"do\":\"attach\"}", ATTACHED, Ok((1, 1, 0))),
+    (b"\n \t\r\n{\"do\":\"attach\"}\n\n", ATTACHED, Ok((1, 3, 0))),
+    (
+        b"\n[]\n\n[]\n",
+        b"{\"ok\":true}\n\n{\"ok\":true}",
+        Ok((2, 4, 0)),
+    ),
+    (b"\n[]\n\n[]\n", b"{\"ok\":true}", Ok((1, 2, 0))),
+];
 
 #[test]
 fn blank_lines_have_numbers_and_no_answers(rt: HostRuntime) {
-    let alloc = rt.alloc();
-    let attached = b"{\"generation\":0,\"ok\":true,\"worker\":0}\n";
-    assert_eq!(rt;
-        told(alloc, b"{\"do\":\"attach\"}\n", attached),
-        Ok((1, 1, 0))
-    );
-    assert_eq!(rt;
-        told(alloc, b"{\"do\":\"attach\"}", attached),
-        Ok((1, 1, 0))
-    );
-    assert_eq!(rt;
-        told(alloc, b"\n \t\r\n{\"do\":\"attach\"}\n\n", attached),
-        Ok((1, 3, 0))
-    );
-    assert_eq!(rt;
-        told(alloc, b"\n[]\n\n[]\n", b"{\"ok\":true}\n\n{\"ok\":true}"),
-        Ok((2, 4, 0))
-    );
-    assert_eq!(rt;
-        told(alloc, b"\n[]\n\n[]\n", b"{\"ok\":true}"),
-        Ok((1, 2, 0))
-    );
+    assert_eq!(rt; first_wrong(rt.alloc(), &BLANK_LINES), None);
+}
+
+fn told_of_spaces(alloc: Global, count: usize, answer: &[u8]) -> Told {
+    let lines = vec![in alloc; b' '; count]?;
+    told(alloc, &lines, answer)
 }
 
 #[test]
-fn spaces_are_a_blank_line_up_to_262144(rt: HostRuntime) -> Result<(), Fail> {
+fn spaces_are_a_blank_line_up_to_262144(rt: HostRuntime) {
     let alloc = rt.alloc();
-    let mut lines = vec![in alloc; b' '; 262_144]?;
     let answer = b"{\"fault\":1,\"name\":\"LineTooLong\"}\n";
-    assert_eq!(rt; told(alloc, &lines, b""), Ok((0, 0, 0)));
-    assert_eq!(rt; told(alloc, &lines, answer), Err(CollectFault::MoreAnswers));
-    lines.push(b' ')?;
-    assert_eq!(rt; told(alloc, &lines, answer), Ok((1, 1, 1)));
-    Ok(())
+    let found = [
+        told_of_spaces(alloc, 262_144, b""),
+        told_of_spaces(alloc, 262_144, answer),
+        told_of_spaces(alloc, 262_145, answer),
+    ];
+    assert_eq!(rt;
+        found,
+        [
+            Ok((0, 0, 0)),
+            Err(CollectFault::MoreAnswers),
+            Ok((1, 1, 1)),
+        ]
+    );
 }
+
+/// Two lines behind a blank one.
+const TWO: &[u8] = b"\n{\"do\":\"attach\"}\n{\"do\":\"show\"}\n";
+
+const NO_ANSWERS_TO_LINES: [Row; 10] = [
+    (TWO, b"ok", Err(CollectFault::NoAnswer(2))),
+    (TWO, b"[]", Err(CollectFault::NoAnswer(2))),
+    (TWO, b"null", Err(CollectFault::NoAnswer(2))),
+    (TWO, b"{\"do\":\"attach\"}", Err(CollectFault::NoAnswer(2))),
+    (TWO, b"{\"ok\":true", Err(CollectFault::NoAnswer(2))),
+    (TWO, b"{\"ok\":true}}", Err(CollectFault::NoAnswer(2))),
+    (TWO, b"\"\xff\"", Err(CollectFault::NoAnswer(2))),
+    (
+        TWO,
+        b"{\"generation\":0,\"ok\":true,\"worker\":0}\nread fault\n{\"ok\":true}\n",
+        Err(CollectFault::NoAnswer(3)),
+    ),
+    (
+        TWO,
+        b"{\"generation\":0,\"ok\":true,\"worker\":0}\n{\"ok\":true}\n{\"ok\":true}\n",
+        Err(CollectFault::MoreAnswers),
+    ),
+    (b"\n", b"ok", Err(CollectFault::MoreAnswers)),
+];
 
 #[test]
 fn what_is_no_answer_is_told_with_its_line(rt: HostRuntime) {
-    let alloc = rt.alloc();
-    let lines = b"\n{\"do\":\"attach\"}\n{\"do\":\"show\"}\n";
-    for other in &[
-        b"ok".as_slice(),
-        b"[]",
-        b"null",
-        b"{\"do\":\"attach\"}",
-        b"{\"ok\":true",
-        b"{\"ok\":true}}",
-        b"\"\xff\"",
-    ] {
-        assert_eq!(rt; told(alloc, lines, other), Err(CollectFault::NoAnswer(2)));
-    }
-    let second = b"{\"generation\":0,\"ok\":true,\"worker\":0}\nread fault\n{\"ok\":true}\n";
-    assert_eq!(rt; told(alloc, lines, second), Err(CollectFault::NoAnswer(3)));
-    let third = b"{\"generation\":0,\"ok\":true,\"worker\":0}\n{\"ok\":true}\n{\"ok\":true}\n";
-    assert_eq!(rt; told(alloc, lines, third), Err(CollectFault::MoreAnswers));
-    assert_eq!(rt; told(alloc, b"\n", b"ok"), Err(CollectFault::MoreAnswers));
+    assert_eq!(rt; first_wrong(rt.alloc(), &NO_ANSWERS_TO_LINES), None);
+}
+
+/// What is told of a line that is no JSON, with a fault as its answer, and with another answer.
+fn told_of_no_json(alloc: Global, line: &[u8]) -> [Told; 2] {
+    [
+        told(alloc, line, b"{\"fault\":3,\"name\":\"NotJson\"}"),
+        told(alloc, line, b"{\"ok\":true}"),
+    ]
 }
 
 #[test]
 fn a_line_that_is_no_json_is_at_fault_or_has_no_answer(rt: HostRuntime) {
     let alloc = rt.alloc();
-    for line in &[b"do".as_slice(), b"\xff", b"{\"do\":\0}", b"{}{}"] {
-        assert_eq!(rt;
-            told(alloc, line, b"{\"fault\":3,\"name\":\"NotJson\"}"),
-            Ok((1, 1, 1))
-        );
-        assert_eq!(rt;
-            told(alloc, line, b"{\"ok\":true}"),
-            Err(CollectFault::NoAnswer(1))
-        );
-    }
+    let found = [
+        told_of_no_json(alloc, b"do"),
+        told_of_no_json(alloc, b"\xff"),
+        told_of_no_json(alloc, b"{\"do\":\0}"),
+        told_of_no_json(alloc, b"{}{}"),
+    ];
+    let due = [Ok((1, 1, 1)), Err(CollectFault::NoAnswer(1))];
+    assert_eq!(rt; found, [due; 4]);
 }
 
-fn refused(alloc: Global, figures: &Figures) -> Result<Vec<(u64, &str, u64, bool)>, Fail> {
-    let mut lines = Vec::new(alloc);
-    for refused in &figures.refused {
-        let name = refused.name.as_str();
-        lines.push((refused.line, name, refused.number, refused.is_fault))?;
+/// The line, the name and the number of a refusal or a fault, and whether it is a fault.
+type RefusedRow<'a> = (u64, &'a str, u64, bool);
+
+fn refused(figures: &Figures, place: usize) -> Option<RefusedRow<'_>> {
+    let refused = figures.refused.get(place)?;
+    let name = refused.name.as_str();
+    Some((refused.line, name, refused.number, refused.is_fault))
+}
+
+static REFUSED: [Option<RefusedRow<'static>>; 5] = [
+    Some((1, "UnknownRule", 5, false)),
+    Some((3, "NotObject", 4, true)),
+    Some((5, "NotJson", 3, true)),
+    Some((6, "", 0, false)),
+    None,
+];
+
+/// The place of the first of them that is otherwise.
+fn wrong_refused(figures: &Figures) -> Option<usize> {
+    for place in 0..REFUSED.len() {
+        if refused(figures, place) != REFUSED[place] {
+            return Some(place);
+        }
     }
-    Ok(lines)
+    None
+}
+
+/// How many lines have answers, the last one of these, and which refusal or fault is otherwise.
+fn told_of_refused(
+    alloc: Global,
+    lines: &[u8],
+    answers: &[u8],
+) -> Result<(u64, u64, Option<usize>), CollectFault> {
+    let figures = collect(alloc, lines, answers)?;
+    Ok((figures.lines, figures.last, wrong_refused(&figures)))
 }
 
 #[test]
-fn refusals_and_faults_are_told_apart(rt: HostRuntime) -> Result<(), Fail> {
+fn refusals_and_faults_are_told_apart(rt: HostRuntime) {
     let lines = b"{\"do\":\"remove\",\"name\":\"web\"}\n\n[1]\n{\"do\":\"attach\"}\nx\n{}";
     let answers =
         b"{\"name\":\"UnknownRule\",\"refused\":5}\n{\"fault\":4,\"name\":\"NotObject\"}\n\
         {\"generation\":0,\"ok\":true,\"worker\":0}\n{\"fault\":3,\"name\":\"NotJson\"}\n{\"refused\":0}\n";
-    let figures = collect(rt.alloc(), lines, answers)?;
-    assert_eq!(rt; (figures.lines, figures.last), (5, 6));
-    assert_eq!(rt;
-        refused(rt.alloc(), &figures)?.as_slice(),
-        [
-            (1, "UnknownRule", 5, false),
-            (3, "NotObject", 4, true),
-            (5, "NotJson", 3, true),
-            (6, "", 0, false),
-        ]
-        .as_slice()
-    );
-    Ok(())
+    let found = told_of_refused(rt.alloc(), lines, answers);
+    assert_eq!(rt; found, Ok((5, 6, None)));
 }
