@@ -5,22 +5,21 @@ ghost use Rattle.pcef_explain.specs.Plain.{IsPlain};
 ghost use Rattle.pcef_line.specs.declared.fault.LineFault.TheVariants.{LineTooLong};
 
 use crate::column::column_of;
-use crate::filters::filter_told;
+use crate::filters::tell_filter;
+use crate::message::Message;
 use crate::nearest::nearest;
-use crate::packets::packet_told;
-use crate::parts::{field_in, field_told, unknown_told, word_of, word_told};
+use crate::packets::tell_packet;
+use crate::parts::{field_in, tell_field, tell_unknown, word_of};
 use crate::place::Place;
 use crate::plain::plain_text;
-use crate::syntax::misplaced;
-use crate::told::Told;
-use crate::wanted::{Shown, write_words};
+use crate::syntax::{first_fault, tell_misplaced};
+use crate::told::tell_meant;
 use crate::wide::is_wide;
 use hex::FromHexError;
 use pcef_line::{Field, LineFault};
 use pcef_packet::PacketFault;
 use serde_json::{Error, Value};
 use std::alloc::{AllocError, Global};
-use std::fmt::{self, Display, Formatter, Write};
 use std::str;
 
 /// The most bytes of a line.
@@ -47,208 +46,210 @@ fn without_place(message: &str) -> &str {
 const WIDE: &str =
     "the line is UTF-16, by its byte order mark or its octets 0: UTF-8 is expected, as iconv -f UTF-16 -t UTF-8 writes it";
 
-/// What is told of a text that isn't JSON.
-fn not_json(alloc: Global, text: &str, error: &Error) -> Result<Explanation, AllocError> {
-    if let Some((place, told)) = misplaced(alloc, text)? {
-        let text = if is_wide(text.as_bytes()) {
-            String::from_str(alloc, WIDE)?
-        } else {
-            told
-        };
-        return Ok(Explanation {
-            column: Some(place.saturating_add(1)),
-            text,
-        });
-    }
-    let message = format!(in alloc; "{error}")?;
-    let message = without_place(message.as_str());
-    Ok(Explanation {
-        column: Some(error.column()),
-        text: format!(in alloc; "{message}: a JSON object is expected")?,
-    })
-}
-
-/// What is told of octets that are no packet.
-fn octets_told(
+/// Tells of a text that isn't JSON, and gives the column.
+fn tell_not_json(
     alloc: Global,
-    place: Place<'static>,
-    found: Option<&Value>,
-    fault: PacketFault,
-) -> Result<Told<'static>, AllocError> {
-    let text = match found.and_then(Value::as_str) {
-        Some(text) => text,
-        None => "",
-    };
-    let told = match hex::decode(alloc, text) {
-        Ok(octets) => packet_told(alloc, octets.as_slice(), fault)?,
-        Err(FromHexError::OutOfMemory) => return Err(AllocError),
-        Err(_) => format!(in alloc; "is no packet: {fault}")?,
-    };
-    Ok(Told {
-        place: Some(place),
-        text: format!(in alloc; "{place} {told}")?,
-    })
+    message: &mut Message,
+    text: &str,
+    error: &Error,
+) -> Result<usize, AllocError> {
+    if let Some(misplaced) = first_fault(alloc, text)? {
+        if is_wide(text.as_bytes()) {
+            message.text(WIDE);
+        } else {
+            tell_misplaced(message, text, misplaced);
+        }
+        return Ok(misplaced.0.saturating_add(1));
+    }
+    let said = format!(in alloc; "{error}")?;
+    message.text(without_place(said.as_str()));
+    message.text(": a JSON object is expected");
+    Ok(error.column())
 }
 
-/// What is told of a text that isn't hexadecimal.
-fn hex_told(alloc: Global, place: Place<'static>, text: &str) -> Result<Told<'static>, AllocError> {
+/// Tells of octets that are no packet.
+fn tell_octets(alloc: Global, message: &mut Message, found: Option<&Value>, fault: PacketFault) {
+    let text = found.and_then(Value::as_str).unwrap_or("");
+    message.text(" ");
+    match hex::decode(alloc, text) {
+        Ok(octets) => tell_packet(message, octets.as_slice(), fault),
+        Err(FromHexError::OutOfMemory) => message.refuse(),
+        Err(_) => {
+            message.text("is no packet: ");
+            message.value(&fault);
+        }
+    }
+}
+
+/// Tells of a text that isn't hexadecimal.
+fn tell_digits(message: &mut Message, text: &str) {
     let other = text
         .chars()
         .enumerate()
         .find(|(_, character)| !character.is_ascii_hexdigit());
-    let text = match other {
+    match other {
         Some((number, character)) => {
-            let number = number.saturating_add(1);
-            format!(in alloc;
-                "{place}: character {number} is '{character}': pairs of hexadecimal digits alone, as 4500, are expected"
-            )?
+            message.text(": character ");
+            message.number(number.saturating_add(1));
+            message.text(" is '");
+            message.character(character);
+            message.text("': pairs of hexadecimal digits alone, as 4500, are expected");
         }
         None => {
-            let count = text.len();
-            format!(in alloc;
-                "{place}: an even number of digits is expected, and there are {count}"
-            )?
+            message.text(": an even number of digits is expected, and there are ");
+            message.number(text.len());
         }
-    };
-    Ok(Told {
-        place: Some(place),
-        text,
-    })
+    }
 }
 
-/// What is told of a text that is no name.
-fn name_told(
-    alloc: Global,
-    place: Place<'static>,
-    found: &Value,
-) -> Result<Told<'static>, AllocError> {
-    let shown = Shown(found);
-    Ok(Told {
-        place: Some(place),
-        text: format!(in alloc;
-            "{place} is {shown}: 1 to 64 characters of ASCII without blanks are expected"
-        )?,
-    })
-}
-
-/// What is told of a rule with no filters or too many.
-fn rule_told(alloc: Global, line: &Value) -> Result<Told<'static>, AllocError> {
+/// Tells of a rule with no filters or too many, and gives their place.
+fn tell_rule(message: &mut Message, line: &Value) -> Place<'static> {
     let (place, found) = field_in(line, Field::Filters);
     let count = match found.and_then(Value::as_array) {
         Some(filters) => filters.len(),
         None => 0,
     };
-    Ok(Told {
-        place: Some(place),
-        text: format!(in alloc; "{place} has {count} filters: 1 to 16 are expected")?,
-    })
+    message.place(place);
+    message.text(" has ");
+    message.number(count);
+    message.text(" filters: 1 to 16 are expected");
+    place
 }
 
-/// What is told of a field's value that is of its kind, and still wrong.
-fn value_told(
+/// Tells of a text that is no name.
+fn tell_name(message: &mut Message, found: &Value) {
+    message.text(" is ");
+    message.shown(found);
+    message.text(": 1 to 64 characters of ASCII without blanks are expected");
+}
+
+/// Tells of a field's value that is of its kind, and still wrong, and gives the place of the fault.
+fn tell_value(
     alloc: Global,
+    message: &mut Message,
     line: &Value,
     field: Field,
     fault: LineFault,
-) -> Result<Told<'static>, AllocError> {
+) -> Option<Place<'static>> {
     let (place, found) = field_in(line, field);
     match (fault, found) {
-        (LineFault::BadName(_), Some(found)) => name_told(alloc, place, found),
-        (LineFault::BadHex(_), Some(Value::String(text))) => {
-            hex_told(alloc, place, text.as_str())
+        (LineFault::BadName(_), Some(found)) => {
+            message.place(place);
+            tell_name(message, found);
         }
-        (LineFault::BadPacket(_, inner), _) => octets_told(alloc, place, found, inner),
-        (LineFault::BadFilter(_, inner), _) => filter_told(alloc, found, inner),
-        (LineFault::BadRule(_, _), _) => rule_told(alloc, line),
-        _ => field_told(alloc, line, field),
+        (LineFault::BadHex(_), Some(Value::String(text))) => {
+            message.place(place);
+            tell_digits(message, text.as_str());
+        }
+        (LineFault::BadPacket(_, inner), _) => {
+            message.place(place);
+            tell_octets(alloc, message, found, inner);
+        }
+        (LineFault::BadFilter(_, inner), _) => return tell_filter(message, found, inner),
+        (LineFault::BadRule(_, _), _) => return Some(tell_rule(message, line)),
+        _ => return tell_field(alloc, message, line, field),
+    }
+    Some(place)
+}
+
+/// Tells of a line that is JSON, and gives the place of the fault.
+fn tell_line<'a>(
+    alloc: Global,
+    message: &mut Message,
+    line: &'a Value,
+    fault: LineFault,
+) -> Option<Place<'a>> {
+    match (fault.field(), fault) {
+        (Some(field), _) => tell_value(alloc, message, line, field, fault),
+        (None, LineFault::UnknownDo) => tell_field(alloc, message, line, Field::Do),
+        (None, LineFault::UnknownField) => tell_unknown(alloc, message, line),
+        _ => {
+            message.text("the line is ");
+            message.shown(line);
+            message.text(": an object is expected");
+            None
+        }
     }
 }
 
-fn object_told(alloc: Global, line: &Value) -> Result<Told<'static>, AllocError> {
-    let shown = Shown(line);
-    Ok(Told {
-        place: None,
-        text: format!(in alloc; "the line is {shown}: an object is expected")?,
-    })
-}
-
-/// What is told of a line that is JSON.
-fn told<'a>(alloc: Global, line: &'a Value, fault: LineFault) -> Result<Told<'a>, AllocError> {
-    match fault.field() {
-        Some(field) => value_told(alloc, line, field, fault),
-        None => match fault {
-            LineFault::UnknownDo => word_told(alloc, line),
-            LineFault::UnknownField => unknown_told(alloc, line),
-            _ => object_told(alloc, line),
-        },
-    }
-}
-
-fn of_value(
+/// The column in which the value at a place begins, if there is one.
+fn column_at(
     alloc: Global,
     text: &str,
-    line: &Value,
+    place: Option<Place<'_>>,
+) -> Result<Option<usize>, AllocError> {
+    match place {
+        Some(place) => column_of(alloc, text, place),
+        None => Ok(None),
+    }
+}
+
+/// Tells of a text, and gives the column.
+fn tell_text(
+    alloc: Global,
+    message: &mut Message,
+    text: &str,
     fault: LineFault,
-) -> Result<Explanation, AllocError> {
-    let told = told(alloc, line, fault)?;
-    let column = match told.place {
-        Some(place) => column_of(alloc, text, place)?,
-        None => None,
+) -> Result<Option<usize>, AllocError> {
+    match Value::from_str(alloc, text) {
+        Ok(line) => column_at(alloc, text, tell_line(alloc, message, &line, fault)),
+        Err(error) if error.is_memory() => Err(AllocError),
+        Err(error) => Ok(Some(tell_not_json(alloc, message, text, &error)?)),
+    }
+}
+
+/// Tells of octets that aren't UTF-8 from this place on, and gives the column.
+fn tell_not_utf8(message: &mut Message, line: &[u8], place: usize) -> Option<usize> {
+    if is_wide(line) {
+        message.text(WIDE);
+        return Some(place.saturating_add(1));
+    }
+    let octet = match line.get(place) {
+        Some(octet) => *octet,
+        None => 0,
     };
+    message.text("the octet ");
+    message.octet(octet);
+    message.text(" stands where UTF-8 is expected");
+    Some(place.saturating_add(1))
+}
+
+/// Tells of a line that isn't too long, and gives the column.
+fn tell(
+    alloc: Global,
+    message: &mut Message,
+    line: &[u8],
+    fault: LineFault,
+) -> Result<Option<usize>, AllocError> {
+    match str::from_utf8(line) {
+        Ok(text) => tell_text(alloc, message, text, fault),
+        Err(error) => Ok(tell_not_utf8(message, line, error.valid_up_to())),
+    }
+}
+
+/// The explanation with what a message says, and `?` in the place of each octet that is no printable ASCII.
+fn in_plain(
+    alloc: Global,
+    column: Option<usize>,
+    message: Message,
+) -> Result<Explanation, AllocError>
+    ensures plain { IfOk result (λ e. IsPlain (string_bytes e.text)) }
+    ensures column { IfOk result (λ e. e.column ≡ column) }
+{
+    let text = message.whole()?;
     Ok(Explanation {
         column,
-        text: told.text,
+        text: plain_text(alloc, text.as_str())?,
     })
 }
 
-fn of_text(alloc: Global, text: &str, fault: LineFault) -> Result<Explanation, AllocError> {
-    match Value::from_str(alloc, text) {
-        Ok(line) => of_value(alloc, text, &line, fault),
-        Err(error) if error.is_memory() => Err(AllocError),
-        Err(error) => not_json(alloc, text, &error),
-    }
-}
-
-/// The explanation as it is found, with all that stands in the line.
-fn found(alloc: Global, line: &[u8], fault: LineFault) -> Result<Explanation, AllocError> {
-    match str::from_utf8(line) {
-        Ok(text) => of_text(alloc, text, fault),
-        Err(error) if is_wide(line) => Ok(Explanation {
-            column: Some(error.valid_up_to().saturating_add(1)),
-            text: String::from_str(alloc, WIDE)?,
-        }),
-        Err(error) => {
-            let octet = match line.get(error.valid_up_to()) {
-                Some(octet) => *octet,
-                None => 0,
-            };
-            Ok(Explanation {
-                column: Some(error.valid_up_to().saturating_add(1)),
-                text: format!(in alloc; "the octet {octet:#04x} stands where UTF-8 is expected")?,
-            })
-        }
-    }
-}
-
-fn too_long(alloc: Global, line: &[u8]) -> Result<Explanation, AllocError>
-    ensures { IfOk result (λ e. e.column ≡ Some (MAX_LINE + 1)) }
-{
-    let count = line.len();
-    Ok(Explanation {
-        column: Some(MAX_LINE + 1),
-        text: format!(in alloc; "the line has {count} octets: {MAX_LINE} at most are expected")?,
-    })
-}
-
-/// With `?` in the place of each octet that is no printable ASCII.
-fn in_plain(alloc: Global, found: Explanation) -> Result<Explanation, AllocError>
-    ensures plain { IfOk result (λ e. IsPlain (string_bytes e.text)) }
-    ensures column { IfOk result (λ e. e.column ≡ found.column) }
-{
-    Ok(Explanation {
-        column: found.column,
-        text: plain_text(alloc, found.text.as_str())?,
-    })
+/// Tells of a line that is too long.
+fn tell_too_long(message: &mut Message, count: usize) {
+    message.text("the line has ");
+    message.number(count);
+    message.text(" octets: ");
+    message.number(MAX_LINE);
+    message.text(" at most are expected");
 }
 
 /// Says why a line has a fault: the column, the place as in `rule.filters[0].text`, what was found there and what is
@@ -258,11 +259,15 @@ pub fn explain(alloc: Global, line: &[u8], fault: LineFault) -> Result<Explanati
     ensures plain { IfOk result (λ e. IsPlain (string_bytes e.text)) }
     ensures long { fault ≡ LineTooLong → IfOk result (λ e. e.column ≡ Some 262145) }
 {
-    let found = match fault {
-        LineFault::LineTooLong => too_long(alloc, line)?,
-        _ => found(alloc, line, fault)?,
+    let mut message = Message::new(alloc);
+    let column = match fault {
+        LineFault::LineTooLong => {
+            tell_too_long(&mut message, line.len());
+            Some(MAX_LINE + 1)
+        }
+        _ => tell(alloc, &mut message, line, fault)?,
     };
-    in_plain(alloc, found)
+    in_plain(alloc, column, message)
 }
 
 /// What is expected at a field.
@@ -274,94 +279,89 @@ enum Expected<'a> {
     Rule(&'a [&'a str]),
 }
 
-/// Some words, of which one is expected.
-#[derive(Clone, Copy)]
-struct OneOf<'a>(&'a [&'a str]);
-
-impl Display for OneOf<'_> {
-    fn fmt<W: Write>(&self, f: &mut Formatter<W>) -> fmt::Result {
-        f.write_str("one of ")?;
-        write_words(f, self.0)?;
-        f.write_str(" is expected")
-    }
-}
-
-/// What is told of a name that no predefined rule has: the nearest one, or all of them where none is near.
-fn predefined_told(alloc: Global, found: &Value, names: &[&str]) -> Result<String, AllocError> {
+/// Tells of a name that no predefined rule has: the nearest one, or all of them where none is near.
+fn tell_predefined(alloc: Global, message: &mut Message, found: &Value, names: &[&str]) {
     let near = match found.as_str() {
-        Some(text) => nearest(alloc, text, names)?,
-        None => None,
+        Some(text) => nearest(alloc, text, names),
+        None => Ok(None),
     };
     match near {
-        Some(name) => format!(in alloc; "did you mean \"{name}\"?"),
-        None => {
-            let all = OneOf(names);
-            format!(in alloc; "{all}")
+        Ok(Some(name)) => tell_meant(message, name),
+        Ok(None) => {
+            message.text("one of ");
+            message.words(names);
+            message.text(" is expected");
         }
+        Err(_) => message.refuse(),
     }
 }
 
-/// What is expected in the place of what was found in a line.
-fn expected_at(
+/// Tells what is expected in the place of what was found in a line.
+fn tell_expected(
     alloc: Global,
+    message: &mut Message,
     line: &Value,
     found: &Value,
     expected: Expected<'_>,
-) -> Result<String, AllocError> {
+) {
     match expected {
-        Expected::Told(text) => String::from_str(alloc, text),
+        Expected::Told(text) => message.text(text),
         Expected::Rule(names) if word_of(line) == "activate" => {
-            predefined_told(alloc, found, names)
+            tell_predefined(alloc, message, found, names);
         }
-        Expected::Rule(_) => String::from_str(
-            alloc,
-            "an active rule is expected, and show tells these",
-        ),
+        Expected::Rule(_) => {
+            message.text("an active rule is expected, and show tells these");
+        }
     }
 }
 
-/// What stands at a field of a line that is JSON, and what is expected of it.
-fn of_field(
+/// Tells what stands at a field of a line that is JSON, and what is expected of it, and gives the place of the field if it
+/// is there.
+fn tell_at_field(
     alloc: Global,
-    text: &str,
+    message: &mut Message,
     line: &Value,
     field: Field,
     expected: Expected<'_>,
-) -> Result<Explanation, AllocError> {
+) -> Option<Place<'static>> {
     let (place, found) = field_in(line, field);
-    let Some(found) = found else {
-        let expected = expected_at(alloc, line, &Value::Null, expected)?;
-        return Ok(Explanation {
-            column: None,
-            text: format!(in alloc; "{place} is missing: {expected}")?,
-        });
-    };
-    let shown = Shown(found);
-    let expected = expected_at(alloc, line, found, expected)?;
-    Ok(Explanation {
-        column: column_of(alloc, text, place)?,
-        text: format!(in alloc; "{place} is {shown}: {expected}")?,
-    })
+    message.place(place);
+    match found {
+        Some(found) => {
+            message.text(" is ");
+            message.shown(found);
+            message.text(": ");
+            tell_expected(alloc, message, line, found, expected);
+            Some(place)
+        }
+        None => {
+            message.text(" is missing: ");
+            tell_expected(alloc, message, line, &Value::Null, expected);
+            None
+        }
+    }
 }
 
-/// The same of a line, if it is JSON.
-fn at_field(
+/// The same of a line, if it is JSON; else tells what is expected. Gives the column.
+fn tell_field_of(
     alloc: Global,
+    message: &mut Message,
     line: &[u8],
     field: Field,
     expected: Expected<'_>,
-) -> Result<Explanation, AllocError> {
+) -> Result<Option<usize>, AllocError> {
     if let Ok(text) = str::from_utf8(line) {
         match Value::from_str(alloc, text) {
-            Ok(line) => return of_field(alloc, text, &line, field, expected),
+            Ok(line) => {
+                let place = tell_at_field(alloc, message, &line, field, expected);
+                return column_at(alloc, text, place);
+            }
             Err(error) if error.is_memory() => return Err(AllocError),
             Err(_) => {}
         }
     }
-    Ok(Explanation {
-        column: None,
-        text: expected_at(alloc, &Value::Null, &Value::Null, expected)?,
-    })
+    tell_expected(alloc, message, &Value::Null, &Value::Null, expected);
+    Ok(None)
 }
 
 /// Says what stands at a field of a line that has no fault and still isn't taken: the column, the field, what was found
@@ -375,7 +375,9 @@ pub fn explain_field(
 ) -> Result<Explanation, AllocError>
     ensures { IfOk result (λ e. IsPlain (string_bytes e.text)) }
 {
-    in_plain(alloc, at_field(alloc, line, field, Expected::Told(told))?)
+    let mut message = Message::new(alloc);
+    let column = tell_field_of(alloc, &mut message, line, field, Expected::Told(told))?;
+    in_plain(alloc, column, message)
 }
 
 /// Says what stands at the `name` of a line that has no fault and still isn't taken, since no rule has that name: the
@@ -389,6 +391,8 @@ pub fn explain_rule_name(
 ) -> Result<Explanation, AllocError>
     ensures { IfOk result (λ e. IsPlain (string_bytes e.text)) }
 {
-    let told = at_field(alloc, line, Field::Name, Expected::Rule(predefined))?;
-    in_plain(alloc, told)
+    let mut message = Message::new(alloc);
+    let expected = Expected::Rule(predefined);
+    let column = tell_field_of(alloc, &mut message, line, Field::Name, expected)?;
+    in_plain(alloc, column, message)
 }

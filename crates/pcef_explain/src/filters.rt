@@ -2,13 +2,11 @@
 
 ghost use Rattle.std.specs.Prelude.{◌≤◌};
 
+use crate::message::{MOST_SHOWN, Message};
 use crate::place::Place;
-use crate::ports::{address_told, ports_told};
-use crate::told::Told;
-use crate::wanted::MOST_SHOWN;
+use crate::ports::{tell_address, tell_ports};
 use pcef_filter::{FilterFault, Flow, read_filter};
 use serde_json::Value;
-use std::alloc::{AllocError, Global};
 
 /// The flow word of a filter.
 fn flow_of(filter: &Value) -> Option<Flow> {
@@ -37,32 +35,35 @@ fn first_wrong(filters: &[Value]) -> Option<(usize, &str)> {
     None
 }
 
-/// The tokens of a filter text.
-fn tokens_of<'a>(alloc: Global, text: &'a str) -> Result<Vec<&'a str>, AllocError> {
-    let mut tokens = Vec::new(alloc);
+/// The token of this number, from 0, of a filter text.
+fn token_of(text: &str, number: usize) -> Option<&str> {
+    let mut count = 0usize;
     for part in text.split(' ') {
         for token in part.split('\t') {
             if !token.is_empty() {
-                tokens.push(token)?;
+                if count == number {
+                    return Some(token);
+                }
+                count = count.saturating_add(1);
             }
         }
     }
-    Ok(tokens)
+    None
 }
 
-/// 1 where a token of this number begins with a digit, as ports do, and else 0.
-fn ports_at(tokens: &[&str], number: usize) -> usize
+/// 1 where the token of this number begins with a digit, as ports do, and else 0.
+fn ports_at(text: &str, number: usize) -> usize
     ensures { result ≤ 1 }
 {
-    match tokens.get(number) {
+    match token_of(text, number) {
         Some(token) if token.as_bytes().first().is_some_and(u8::is_ascii_digit) => 1,
         _ => 0,
     }
 }
 
 /// The number of the token at which a filter text is wrong, from 0.
-fn token_at(tokens: &[&str], fault: FilterFault) -> usize {
-    let word = ports_at(tokens, 5) + 5;
+fn token_at(text: &str, fault: FilterFault) -> usize {
+    let word = ports_at(text, 5) + 5;
     match fault {
         FilterFault::Action | FilterFault::Flow => 0,
         FilterFault::Direction => 1,
@@ -73,7 +74,7 @@ fn token_at(tokens: &[&str], fault: FilterFault) -> usize {
         FilterFault::To => word,
         FilterFault::Target => word + 1,
         FilterFault::TargetPorts => word + 2,
-        FilterFault::Rest => word + 2 + ports_at(tokens, word + 2),
+        FilterFault::Rest => word + 2 + ports_at(text, word + 2),
     }
 }
 
@@ -96,93 +97,67 @@ fn expected(fault: FilterFault) -> &'static str {
     }
 }
 
-/// What is wrong in a list of ports or in an address, if that can be told.
-fn within(alloc: Global, token: &str, fault: FilterFault) -> Result<Option<String>, AllocError> {
+/// Tells what is wrong within a token, if it is a list of ports or an address of which that can be told, and answers
+/// whether it can.
+fn tell_within(message: &mut Message, token: &str, fault: FilterFault) -> bool {
     match fault {
-        FilterFault::SourcePorts | FilterFault::TargetPorts => ports_told(alloc, token),
-        FilterFault::Source | FilterFault::Target => address_told(alloc, token),
-        _ => Ok(None),
+        _ if token.len() > MOST_SHOWN => false,
+        FilterFault::SourcePorts | FilterFault::TargetPorts => tell_ports(message, token),
+        FilterFault::Source | FilterFault::Target => tell_address(message, token),
+        _ => false,
     }
 }
 
-/// What is told of a token of this number, from 1.
-fn token_told(
-    alloc: Global,
-    place: Place<'_>,
-    count: usize,
-    token: &str,
-    fault: FilterFault,
-) -> Result<String, AllocError> {
-    let expected = expected(fault);
-    let len = token.len();
-    if len > MOST_SHOWN {
-        return format!(in alloc;
-            "{place}: token {count} is a text of {len} bytes: {expected} is expected"
-        );
+/// Tells which token is missing or wrong, and what is expected.
+fn tell_token(message: &mut Message, text: &str, fault: FilterFault) {
+    let number = token_at(text, fault);
+    message.text(": token ");
+    message.number(number.saturating_add(1));
+    match token_of(text, number) {
+        None => message.text(" is missing: "),
+        Some(token) => {
+            message.text(" is ");
+            message.short(token);
+            message.text(": ");
+            if tell_within(message, token, fault) {
+                return;
+            }
+        }
     }
-    match within(alloc, token, fault)? {
-        Some(told) => format!(in alloc; "{place}: token {count} is {token:?}: {told}"),
-        None => format!(in alloc; "{place}: token {count} is {token:?}: {expected} is expected"),
-    }
+    message.text(expected(fault));
+    message.text(" is expected");
 }
 
-/// What is told of a filter text.
-fn told_of(
-    alloc: Global,
-    place: Place<'_>,
-    text: &str,
-    fault: FilterFault,
-) -> Result<String, AllocError> {
-    let expected = expected(fault);
-    let tokens = tokens_of(alloc, text)?;
-    let number = token_at(tokens.as_slice(), fault);
-    let count = number.saturating_add(1);
-    match tokens.get(number) {
-        Some(token) => token_told(alloc, place, count, *token, fault),
-        None => format!(in alloc; "{place}: token {count} is missing: {expected} is expected"),
-    }
+/// The first filter of a rule whose text is wrong, by its number from 0, and that text.
+fn wrong_filter(filters: Option<&Value>) -> Option<(usize, &str)> {
+    first_wrong(filters?.as_array()?.as_slice())
 }
 
-/// What is told of a flow word that may not stand.
-fn flow_told(alloc: Global, number: usize) -> Result<Told<'static>, AllocError> {
-    let place = Place {
-        item: Some(number),
-        inner: Some("flow"),
-        ..Place::new(true, "filters")
-    };
-    Ok(Told {
-        place: Some(place),
-        text: format!(in alloc;
-            "{place} stands beside \"permit in\": leave it out, or begin the text with \"permit out\""
-        )?,
-    })
-}
-
-/// What is told of the first filter of a rule whose text is wrong.
-pub(crate) fn filter_told(
-    alloc: Global,
+/// Tells what is wrong with the first filter of a rule whose text is wrong, and gives the place of the fault.
+pub(crate) fn tell_filter(
+    message: &mut Message,
     filters: Option<&Value>,
     fault: FilterFault,
-) -> Result<Told<'static>, AllocError> {
-    let Some((number, text)) = filters
-        .and_then(Value::as_array)
-        .and_then(|filters| first_wrong(filters.as_slice()))
-    else {
-        return Ok(Told {
-            place: None,
-            text: format!(in alloc; "{fault}")?,
-        });
+) -> Option<Place<'static>> {
+    let Some((number, text)) = wrong_filter(filters) else {
+        message.value(&fault);
+        return None;
     };
-    if fault == FilterFault::Flow {
-        return flow_told(alloc, number);
-    }
     let place = Place {
         item: Some(number),
-        inner: Some("text"),
         ..Place::new(true, "filters")
     };
-    Ok(Told {
-        place: Some(place),
-        text: told_of(alloc, place, text, fault)?,
+    Some(if fault == FilterFault::Flow {
+        let place = place.member("flow");
+        message.place(place);
+        message.text(
+            " stands beside \"permit in\": leave it out, or begin the text with \"permit out\"",
+        );
+        place
+    } else {
+        let place = place.member("text");
+        message.place(place);
+        tell_token(message, text, fault);
+        place
     })
 }

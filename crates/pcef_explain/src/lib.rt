@@ -4,13 +4,14 @@
 //! Its contracts tell: that what is said of a line stands on one line of printable ASCII; the line and the column of an
 //! octet.
 //!
-//! In the order of reading: `wide`, `text`, `place`, `plain`, `wanted`, `column`, `nearest`, `told`, `ports`, `filters`,
-//! `packets`, `parts`, `syntax`, `explaining`.
+//! In the order of reading: `wide`, `text`, `place`, `plain`, `wanted`, `column`, `nearest`, `message`, `told`, `ports`,
+//! `filters`, `packets`, `parts`, `syntax`, `explaining`.
 #![tactic(auto)]
 
 mod column;
 mod explaining;
 mod filters;
+mod message;
 mod nearest;
 mod packets;
 mod parts;

@@ -3,28 +3,14 @@
 
 ghost use Rattle.std.specs.Prelude.{◌<◌, ◌≤◌};
 
+use crate::message::Message;
 use pcef_packet::PacketFault;
-use std::alloc::{AllocError, Global};
-use std::fmt::{self, Display, Formatter, Write};
 
 /// The length of a header of version 4 without options.
 const LEAST_V4: usize = 20;
 
 /// The length of the fixed header of version 6.
 const FIXED_V6: usize = 40;
-
-/// A number of octets.
-#[derive(Clone, Copy)]
-struct Octets(usize);
-
-impl Display for Octets {
-    fn fmt<W: Write>(&self, f: &mut Formatter<W>) -> fmt::Result {
-        match self.0 {
-            1 => f.write_str("1 octet"),
-            count => write!(f, "{count} octets"),
-        }
-    }
-}
 
 /// The octet at a place, or 0 beyond the end.
 fn octet_at(octets: &[u8], place: usize) -> usize
@@ -58,26 +44,43 @@ fn is_frame(octets: &[u8]) -> bool {
     }
 }
 
-/// What is told of octets that begin neither as version 4 nor as version 6.
-fn version_told(alloc: Global, octets: &[u8]) -> Result<String, AllocError> {
-    let digit = octet_at(octets, 0) / 16;
-    if is_frame(octets) {
-        return format!(in alloc;
-            "begins with an Ethernet header: leave out its 14 octets, since the packet begins behind it"
-        );
-    }
-    format!(in alloc;
-        "begins with the hexadecimal digit {digit:x}: 4, for IPv4, or 6, for IPv6, is expected"
-    )
+/// The length of a header of version 4, by its second digit.
+fn header_len(octets: &[u8]) -> usize
+    ensures { result ≤ 60 }
+{
+    4 * (octet_at(octets, 0) % 16)
 }
 
-/// What is told of too few octets for a header.
-fn header_told(alloc: Global, octets: &[u8]) -> Result<String, AllocError> {
-    let count = Octets(octets.len());
-    if is_six(octets) {
-        return format!(in alloc; "has {count}: the header of IPv6 alone has {FIXED_V6}");
+/// Tells that a packet has this number of octets.
+fn tell_count(message: &mut Message, count: usize) {
+    message.text("has ");
+    message.number(count);
+    message.text(if count == 1 { " octet" } else { " octets" });
+}
+
+/// Tells of octets that begin neither as version 4 nor as version 6.
+fn tell_version(message: &mut Message, octets: &[u8]) {
+    if is_frame(octets) {
+        message.text(
+            "begins with an Ethernet header: leave out its 14 octets, since the packet begins behind it",
+        );
+        return;
     }
-    format!(in alloc; "has {count}: the header of IPv4 alone has {LEAST_V4}")
+    message.text("begins with the hexadecimal digit ");
+    message.digit(octet_at(octets, 0) / 16);
+    message.text(": 4, for IPv4, or 6, for IPv6, is expected");
+}
+
+/// Tells of too few octets for a header.
+fn tell_short(message: &mut Message, octets: &[u8]) {
+    tell_count(message, octets.len());
+    if is_six(octets) {
+        message.text(": the header of IPv6 alone has ");
+        message.number(FIXED_V6);
+    } else {
+        message.text(": the header of IPv4 alone has ");
+        message.number(LEAST_V4);
+    }
 }
 
 /// An extension header that ends beyond the packet.
@@ -119,67 +122,84 @@ fn cut_extension(octets: &[u8], volume: usize) -> Option<Extension> {
     None
 }
 
-/// What is told of a header whose length is wrong, or of an extension header that is cut.
-fn header_len_told(alloc: Global, octets: &[u8]) -> Result<String, AllocError> {
+/// Tells of a header of version 4 whose length is wrong.
+fn tell_header_len(message: &mut Message, octets: &[u8]) {
     let count = octets.len();
-    if !is_six(octets) {
-        let len = 4 * (octet_at(octets, 0) % 16);
-        let most = count.min(60);
-        return format!(in alloc;
-            "has {count} octets, and its second digit asks for a header of {len}: one of {LEAST_V4} to {most} is expected"
-        );
-    }
+    message.text("has ");
+    message.number(count);
+    message.text(" octets, and its second digit asks for a header of ");
+    message.number(header_len(octets));
+    message.text(": one of ");
+    message.number(LEAST_V4);
+    message.text(" to ");
+    message.number(count.min(60));
+    message.text(" is expected");
+}
+
+/// Tells of an extension header that is cut.
+fn tell_cut(message: &mut Message, octets: &[u8]) {
     let volume = FIXED_V6 + pair_at(octets, 4);
+    message.text("has ");
+    message.number(volume);
+    message.text(" octets by its header, and ");
     match cut_extension(octets, volume) {
         Some(Extension { kind, place, len }) => {
-            let left = volume.saturating_sub(place);
-            let number = place.saturating_add(1);
-            format!(in alloc;
-                "has {volume} octets by its header, and the extension header {kind} at octet {number} asks for {len}: {left} are left"
-            )
+            message.text("the extension header ");
+            message.number(kind);
+            message.text(" at octet ");
+            message.number(place.saturating_add(1));
+            message.text(" asks for ");
+            message.number(len);
+            message.text(": ");
+            message.number(volume.saturating_sub(place));
+            message.text(" are left");
         }
-        None => format!(in alloc;
-            "has {volume} octets by its header, and an extension header asks for more"
-        ),
+        None => message.text("an extension header asks for more"),
     }
 }
 
-/// What is told of a packet with fewer octets than its header tells, or whose total length leaves none for its header.
-fn total_told(alloc: Global, octets: &[u8]) -> Result<String, AllocError> {
-    let count = octets.len();
-    let header = 4 * (octet_at(octets, 0) % 16);
-    let (name, total) = if is_six(octets) {
-        (
-            "the payload length in octets 5 and 6",
-            FIXED_V6 + pair_at(octets, 4),
-        )
+/// The total length that a packet's header tells.
+fn total_of(octets: &[u8]) -> usize {
+    if is_six(octets) {
+        FIXED_V6 + pair_at(octets, 4)
     } else {
-        ("the total length in octets 3 and 4", pair_at(octets, 2))
-    };
+        pair_at(octets, 2)
+    }
+}
+
+/// Tells of a packet with fewer octets than its header tells, or whose total length leaves none for its header.
+fn tell_total(message: &mut Message, octets: &[u8]) {
+    let count = octets.len();
+    let total = total_of(octets);
+    message.text("has ");
+    message.number(count);
+    message.text(if is_six(octets) {
+        " octets, and the payload length in octets 5 and 6 asks for "
+    } else {
+        " octets, and the total length in octets 3 and 4 asks for "
+    });
+    message.number(total);
+    message.text(": ");
     let missing = total.saturating_sub(count);
     if missing == 0 {
-        return format!(in alloc;
-            "has {count} octets, and {name} asks for {total}: {header} to {count} are expected"
-        );
+        message.number(header_len(octets));
+        message.text(" to ");
+        message.number(count);
+        message.text(" are expected");
+    } else {
+        message.number(missing);
+        message.text(" are missing at its end");
     }
-    format!(in alloc;
-        "has {count} octets, and {name} asks for {total}: {missing} are missing at its end"
-    )
 }
 
-/// What is told of octets that are no packet, behind the name of their field.
-pub(crate) fn packet_told(
-    alloc: Global,
-    octets: &[u8],
-    fault: PacketFault,
-) -> Result<String, AllocError> {
+/// Tells of octets that are no packet, behind the name of their field.
+pub(crate) fn tell_packet(message: &mut Message, octets: &[u8], fault: PacketFault) {
     match fault {
-        PacketFault::Empty => format!(in alloc;
-            "is empty: the octets of an IP packet are expected"
-        ),
-        PacketFault::Version => version_told(alloc, octets),
-        PacketFault::ShortHeader => header_told(alloc, octets),
-        PacketFault::BadHeaderLength => header_len_told(alloc, octets),
-        PacketFault::BadTotalLength => total_told(alloc, octets),
+        PacketFault::Empty => message.text("is empty: the octets of an IP packet are expected"),
+        PacketFault::Version => tell_version(message, octets),
+        PacketFault::ShortHeader => tell_short(message, octets),
+        PacketFault::BadHeaderLength if is_six(octets) => tell_cut(message, octets),
+        PacketFault::BadHeaderLength => tell_header_len(message, octets),
+        PacketFault::BadTotalLength => tell_total(message, octets),
     }
 }

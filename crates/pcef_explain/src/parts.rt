@@ -1,8 +1,9 @@
 //! The parts of a line, and the first of them that has a fault.
 
+use crate::message::Message;
 use crate::nearest::nearest;
 use crate::place::Place;
-use crate::told::{Told, missing, wrong};
+use crate::told::{tell_meant, tell_missing, tell_wrong};
 use crate::wanted::{ARP_LEVEL, TRIGGER, Wanted, wanted_at};
 use pcef_line::Field;
 use serde_json::Value;
@@ -57,88 +58,112 @@ fn inner_wanted(field: Field) -> Wanted {
     }
 }
 
-/// The first of the fields in an object at a place that is missing or wrong.
-fn in_object<'a>(
+/// Tells of the first of the fields in an object at a place that is missing or wrong, if one is, and gives the place of
+/// the fault.
+fn tell_object<'a>(
     alloc: Global,
+    message: &mut Message,
     place: Place<'a>,
     object: &Value,
     fields: &[Field],
-) -> Result<Option<Told<'a>>, AllocError> {
+) -> Option<Place<'a>> {
     for field in fields {
         let key = field.text();
-        let inner = Place {
-            inner: Some(key),
-            ..place
-        };
+        let member = place.member(key);
         let wanted = inner_wanted(*field);
         match object.get(key) {
             None if matches!(*field, Field::Flow) => {}
-            None => return Ok(Some(missing(alloc, Some(place), inner, wanted)?)),
+            None => {
+                tell_missing(message, member, wanted);
+                return Some(place);
+            }
             Some(found) if !wanted.is(found) => {
-                return Ok(Some(wrong(alloc, inner, found, wanted)?));
+                tell_wrong(alloc, message, member, found, wanted);
+                return Some(member);
             }
             Some(_) => {}
         }
     }
-    Ok(None)
+    None
 }
 
-/// The first item of `events` that is no trigger.
-fn in_events<'a>(
+/// Tells of the first item of `events` that is no trigger, if there is one, and gives its place.
+fn tell_events<'a>(
     alloc: Global,
+    message: &mut Message,
     place: Place<'a>,
     events: &[Value],
-) -> Result<Option<Told<'a>>, AllocError> {
+) -> Option<Place<'a>> {
     for (number, event) in events.iter().enumerate() {
         if !TRIGGER.is(event) {
             let item = Place {
                 item: Some(number),
                 ..place
             };
-            return Ok(Some(wrong(alloc, item, event, TRIGGER)?));
+            tell_wrong(alloc, message, item, event, TRIGGER);
+            return Some(item);
         }
     }
-    Ok(None)
+    None
 }
 
-/// The first filter that is no object, or lacks its text, or has a wrong text or flow word.
-fn in_filters<'a>(
+/// Tells of a filter that is no object, or lacks its text, or has a wrong text or flow word, and gives the place of the
+/// fault.
+fn tell_filter<'a>(
     alloc: Global,
+    message: &mut Message,
+    item: Place<'a>,
+    filter: &Value,
+) -> Option<Place<'a>> {
+    if !filter.is_object() {
+        tell_wrong(alloc, message, item, filter, Wanted::Object);
+        return Some(item);
+    }
+    tell_object(alloc, message, item, filter, OF_FILTER)
+}
+
+/// The same of the first filter of a list, if there is such a one.
+fn tell_filters<'a>(
+    alloc: Global,
+    message: &mut Message,
     place: Place<'a>,
     filters: &[Value],
-) -> Result<Option<Told<'a>>, AllocError> {
+) -> Option<Place<'a>> {
     for (number, filter) in filters.iter().enumerate() {
         let item = Place {
             item: Some(number),
             ..place
         };
-        if !filter.is_object() {
-            return Ok(Some(wrong(alloc, item, filter, Wanted::Object)?));
-        }
-        if let Some(told) = in_object(alloc, item, filter, OF_FILTER)? {
-            return Ok(Some(told));
+        let fault = tell_filter(alloc, message, item, filter);
+        if fault.is_some() {
+            return fault;
         }
     }
-    Ok(None)
+    None
 }
 
-/// What is wrong in the value of a field, if something is.
-fn inside<'a>(
+/// Tells what is wrong in the value of a field, if something is, and gives the place of the fault.
+fn tell_inside<'a>(
     alloc: Global,
+    message: &mut Message,
     place: Place<'a>,
     found: &Value,
     field: Field,
-) -> Result<Option<Told<'a>>, AllocError> {
+) -> Option<Place<'a>> {
     match (field, found) {
-        (Field::Arp, Value::Object(_)) => in_object(alloc, place, found, OF_ARP),
-        (Field::Gbr, Value::Object(_)) => in_object(alloc, place, found, OF_GBR),
-        (Field::Filters, Value::Array(filters)) => in_filters(alloc, place, filters.as_slice()),
-        (Field::Events, Value::Array(events)) => in_events(alloc, place, events.as_slice()),
-        _ => Ok(None),
+        (Field::Arp, Value::Object(_)) => tell_object(alloc, message, place, found, OF_ARP),
+        (Field::Gbr, Value::Object(_)) => tell_object(alloc, message, place, found, OF_GBR),
+        (Field::Filters, Value::Array(filters)) => {
+            tell_filters(alloc, message, place, filters.as_slice())
+        }
+        (Field::Events, Value::Array(events)) => {
+            tell_events(alloc, message, place, events.as_slice())
+        }
+        _ => None,
     }
 }
 
-/// The value of a line's field, or of its rule's, and where it stands. Without one, what is told of that.
+/// Where a line's field stands, or its rule's, and its value.
 pub(crate) fn field_in<'a>(line: &'a Value, field: Field) -> (Place<'static>, Option<&'a Value>) {
     let key = field.text();
     if !matches!(field, Field::Do | Field::Rule) && word_of(line) == "install" {
@@ -148,31 +173,30 @@ pub(crate) fn field_in<'a>(line: &'a Value, field: Field) -> (Place<'static>, Op
     (Place::new(false, key), line.get(key))
 }
 
-/// What is told of a field that is missing, of a wrong kind or out of its range.
-pub(crate) fn field_told(
+/// Tells of a field that is missing, of a wrong kind or out of its range, and gives the place in whose column the fault is,
+/// if there is one.
+pub(crate) fn tell_field(
     alloc: Global,
+    message: &mut Message,
     line: &Value,
     field: Field,
-) -> Result<Told<'static>, AllocError> {
+) -> Option<Place<'static>> {
     let wanted = wanted_at(field);
     let (place, found) = field_in(line, field);
     let Some(found) = found else {
-        let object = if place.is_in_rule {
+        tell_missing(message, place, wanted);
+        return if place.is_in_rule {
             Some(Place::new(false, "rule"))
         } else {
             None
         };
-        return missing(alloc, object, place, wanted);
     };
-    match inside(alloc, place, found, field)? {
-        Some(told) => Ok(told),
-        None => wrong(alloc, place, found, wanted),
+    let inside = tell_inside(alloc, message, place, found, field);
+    if inside.is_some() {
+        return inside;
     }
-}
-
-/// What is told of a word that there isn't.
-pub(crate) fn word_told(alloc: Global, line: &Value) -> Result<Told<'static>, AllocError> {
-    field_told(alloc, line, Field::Do)
+    tell_wrong(alloc, message, place, found, wanted);
+    Some(place)
 }
 
 /// The first member of a value, if it is an object, that is none of the fields.
@@ -250,16 +274,16 @@ fn fields_at(line: &Value, place: Place<'_>) -> &'static [Field] {
     }
 }
 
-fn push_fields(text: &mut String, fields: &[Field]) -> Result<(), AllocError> {
+/// Tells which fields there are.
+fn tell_fields(message: &mut Message, fields: &[Field]) {
     let mut is_first = true;
     for field in fields {
         if !is_first {
-            text.push_str(", ")?;
+            message.text(", ");
         }
-        text.push_str(field.text())?;
+        message.text(field.text());
         is_first = false;
     }
-    Ok(())
 }
 
 /// The field that was meant by the name of a member, if one is near.
@@ -275,26 +299,26 @@ fn field_meant(
     nearest(alloc, key, texts.as_slice())
 }
 
-/// What is told of a member that there isn't.
-pub(crate) fn unknown_told<'a>(alloc: Global, line: &'a Value) -> Result<Told<'a>, AllocError> {
+/// Tells of the first member that a line, or an object in it, doesn't have, and gives its place.
+pub(crate) fn tell_unknown<'a>(
+    alloc: Global,
+    message: &mut Message,
+    line: &'a Value,
+) -> Option<Place<'a>> {
     let Some(place) = unknown(line) else {
-        return Ok(Told {
-            place: None,
-            text: String::from_str(alloc, "a field is unknown")?,
-        });
+        message.text("a field is unknown");
+        return None;
     };
     let fields = fields_at(line, place);
-    let key = place.inner.unwrap_or(place.key);
-    let text = match field_meant(alloc, key, fields)? {
-        Some(meant) => format!(in alloc; "{place} is unknown: did you mean \"{meant}\"?")?,
-        None => {
-            let mut text = format!(in alloc; "{place} is unknown: leave it out; the fields are ")?;
-            push_fields(&mut text, fields)?;
-            text
+    message.place(place);
+    message.text(" is unknown: ");
+    match field_meant(alloc, place.inner.unwrap_or(place.key), fields) {
+        Ok(Some(name)) => tell_meant(message, name),
+        Ok(None) => {
+            message.text("leave it out; the fields are ");
+            tell_fields(message, fields);
         }
-    };
-    Ok(Told {
-        place: Some(place),
-        text,
-    })
+        Err(_) => message.refuse(),
+    }
+    Some(place)
 }

@@ -1,7 +1,5 @@
 //! Where a value stands in a line.
 
-use std::fmt::{self, Display, Formatter, Write};
-
 /// A step from a JSON value to one in it.
 #[derive(Clone, Copy)]
 pub(crate) enum Step<'a> {
@@ -35,6 +33,14 @@ impl<'a> Place<'a> {
         }
     }
 
+    /// A member of what stands there.
+    pub(crate) fn member(self, name: &'a str) -> Place<'a> {
+        Place {
+            inner: Some(name),
+            ..self
+        }
+    }
+
     /// The step that leads to it after so many others, if there is one.
     pub(crate) fn step(self, done: usize) -> Option<Step<'a>> {
         let mut done = done;
@@ -49,22 +55,6 @@ impl<'a> Place<'a> {
             (1, Some(item), _) => Some(Step::Item(item)),
             (1, None, Some(inner)) | (2, Some(_), Some(inner)) => Some(Step::Key(inner)),
             _ => None,
-        }
-    }
-}
-
-impl Display for Place<'_> {
-    fn fmt<W: Write>(&self, f: &mut Formatter<W>) -> fmt::Result {
-        if self.is_in_rule {
-            f.write_str("rule.")?;
-        }
-        f.write_str(self.key)?;
-        if let Some(item) = self.item {
-            write!(f, "[{item}]")?;
-        }
-        match self.inner {
-            Some(inner) => write!(f, ".{inner}"),
-            None => Ok(()),
         }
     }
 }

@@ -1,7 +1,7 @@
 //! What is wrong with a list of ports, or with an address, in the text of a filter.
 
+use crate::message::Message;
 use pcef_packet::Addr;
-use std::alloc::{AllocError, Global};
 
 /// The most items of a list.
 const MOST_ITEMS: usize = 8;
@@ -22,55 +22,69 @@ fn number_of(text: &str) -> Option<u32> {
     Some(number)
 }
 
-/// What is told of a text in the place of a port, if it is none.
-fn port_told(alloc: Global, text: &str) -> Result<Option<String>, AllocError> {
+/// Tells what is wrong with a text in the place of a port, if it is none, and answers whether it is none.
+fn tell_port(message: &mut Message, text: &str) -> bool {
     if text.is_empty() {
-        return Ok(Some(format!(in alloc;
-            "a port is missing: a list without blanks, as 53 or 80,8000-8080, is expected"
-        )?));
+        message.text(
+            "a port is missing: a list without blanks, as 53 or 80,8000-8080, is expected",
+        );
+        return true;
     }
     if number_of(text).is_some_and(|number| number <= 65_535) {
-        return Ok(None);
+        return false;
     }
-    Ok(Some(format!(in alloc; "in the place of {text:?} a port from 0 to 65535 is expected")?))
+    message.text("in the place of ");
+    message.quoted(text);
+    message.text(" a port from 0 to 65535 is expected");
+    true
 }
 
-/// What is told of a range of ports, if it is none.
-fn range_told(alloc: Global, first: &str, last: &str) -> Result<Option<String>, AllocError> {
-    if let Some(told) = port_told(alloc, first)? {
-        return Ok(Some(told));
-    }
-    if let Some(told) = port_told(alloc, last)? {
-        return Ok(Some(told));
+/// Tells that a range is reversed.
+fn tell_reversed(message: &mut Message, first: &str, last: &str) {
+    message.text("the range ");
+    message.text(first);
+    message.text("-");
+    message.text(last);
+    message.text(" is reversed: ");
+    message.text(last);
+    message.text("-");
+    message.text(first);
+    message.text(", with the lower port first, is expected");
+}
+
+/// Tells what is wrong with a range of ports, if it is none, and answers whether it is none.
+fn tell_range(message: &mut Message, first: &str, last: &str) -> bool {
+    if tell_port(message, first) || tell_port(message, last) {
+        return true;
     }
     if number_of(first) > number_of(last) {
-        return Ok(Some(format!(in alloc;
-            "the range {first}-{last} is reversed: {last}-{first}, with the lower port first, is expected"
-        )?));
+        tell_reversed(message, first, last);
+        return true;
     }
-    Ok(None)
+    false
 }
 
-/// What is told of a list of ports, if something is wrong with it: of its first item that is no port and no range, or
-/// of their number.
-pub(crate) fn ports_told(alloc: Global, token: &str) -> Result<Option<String>, AllocError> {
+/// Tells what is wrong with a list of ports, of its first item that is no port and no range, or of their number; and
+/// answers whether something is.
+pub(crate) fn tell_ports(message: &mut Message, token: &str) -> bool {
     let mut count = 0usize;
     for item in token.split(',') {
-        let told = match item.split_once('-') {
-            Some((first, last)) => range_told(alloc, first, last)?,
-            None => port_told(alloc, item)?,
+        let is_told = match item.split_once('-') {
+            Some((first, last)) => tell_range(message, first, last),
+            None => tell_port(message, item),
         };
-        if told.is_some() {
-            return Ok(told);
+        if is_told {
+            return true;
         }
         count = count.saturating_add(1);
     }
     if count > MOST_ITEMS {
-        return Ok(Some(format!(in alloc;
-            "{MOST_ITEMS} ports and ranges at most are expected, and these are {count}"
-        )?));
+        message.number(MOST_ITEMS);
+        message.text(" ports and ranges at most are expected, and these are ");
+        message.number(count);
+        return true;
     }
-    Ok(None)
+    false
 }
 
 /// Whether a text is an address, or stands for some.
@@ -78,23 +92,33 @@ fn is_address(text: &str) -> bool {
     text == "any" || text == "assigned" || Addr::from_text(text.as_bytes()).is_some()
 }
 
-/// What is told of a text in the place of an address, if more can be told than that it is none: of the bits of a network,
-/// or of ports that stand too near.
-pub(crate) fn address_told(alloc: Global, token: &str) -> Result<Option<String>, AllocError> {
-    if let Some((address, bits)) = token.split_once('/') {
-        if let Some(address) = Addr::from_text(address.as_bytes()) {
-            let most = address.width();
-            return Ok(Some(format!(in alloc;
-                "a number of bits from 0 to {most} is expected in the place of {bits:?}"
-            )?));
-        }
+/// Tells of a text in the place of an address what its bits should be, if it is a network with other ones, and answers
+/// whether it is.
+fn tell_bits(message: &mut Message, token: &str) -> bool {
+    let Some((address, bits)) = token.split_once('/') else {
+        return false;
+    };
+    let Some(address) = Addr::from_text(address.as_bytes()) else {
+        return false;
+    };
+    message.text("a number of bits from 0 to ");
+    message.number(usize::from(address.width()));
+    message.text(" is expected in the place of ");
+    message.quoted(bits);
+    true
+}
+
+/// Tells what is wrong with a text in the place of an address, if more can be told than that it is none, and answers
+/// whether it can: of the bits of a network, or of ports that stand too near.
+pub(crate) fn tell_address(message: &mut Message, token: &str) -> bool {
+    if tell_bits(message, token) {
+        return true;
     }
-    if let Some((address, _)) = token.split_once(':') {
-        if is_address(address) {
-            return Ok(Some(format!(in alloc;
-                "a blank is expected between an address and its ports, as in \"any 80\""
-            )?));
+    match token.split_once(':') {
+        Some((address, _)) if is_address(address) => {
+            message.text("a blank is expected between an address and its ports, as in \"any 80\"");
+            true
         }
+        _ => false,
     }
-    Ok(None)
 }

@@ -1,5 +1,6 @@
 //! Where a text stops being JSON (RFC 8259), what stands there, and what is expected.
 
+use crate::message::Message;
 use json::{Reader, Scratch, Token};
 use serde_json::Value;
 use std::alloc::{AllocError, Global};
@@ -9,7 +10,7 @@ const MAX_LEVELS: usize = 127;
 
 /// What a text goes on with.
 #[derive(Clone, Copy)]
-enum Due {
+pub(crate) enum Due {
     /// The line's object.
     Object,
     Value,
@@ -70,7 +71,7 @@ impl Due {
 }
 
 /// The place of an octet that doesn't fit, from 0, and what is expected there.
-type Misplaced = (usize, Due);
+pub(crate) type Misplaced = (usize, Due);
 
 /// The objects and lists that a text is in, and what it goes on with.
 #[derive(Drop)]
@@ -218,8 +219,8 @@ fn fault_in_text(text: &[u8], from: usize) -> Misplaced {
     (text.len(), Due::Quote)
 }
 
-/// The first octet of a text that doesn't fit, if this can tell it.
-fn first_fault(alloc: Global, text: &str) -> Result<Option<Misplaced>, AllocError> {
+/// The first octet of a text that doesn't fit, if this can tell it. Takes memory.
+pub(crate) fn first_fault(alloc: Global, text: &str) -> Result<Option<Misplaced>, AllocError> {
     let mut scratch = Scratch::new(alloc);
     let mut reader = Reader::new(text, &mut scratch)?;
     let text = text.as_bytes();
@@ -256,53 +257,49 @@ fn is_of_word(character: char) -> bool {
 /// The most characters of a word that are shown.
 const MOST_SHOWN: usize = 20;
 
-/// The character at a place, or the word that begins there, as it's told.
-fn found_at(alloc: Global, text: &str, place: usize) -> Result<String, AllocError> {
-    let mut rest = text
-        .char_indices()
-        .skip_while(|(number, _)| *number < place);
-    let Some((_, first)) = rest.next() else {
-        return format!(in alloc; "the line ends");
-    };
-    if first == '\u{feff}' {
-        return format!(in alloc; "a byte order mark (U+FEFF), which has to be left out, stands");
-    }
-    if !first.is_ascii_graphic() {
-        let code = u32::from(first);
-        return format!(in alloc; "the character U+{code:04X} stands");
-    }
-    let mut word = String::new(alloc);
-    word.push(first)?;
-    if is_of_word(first) {
-        for (_, character) in rest.take(MOST_SHOWN) {
-            if !is_of_word(character) {
-                break;
-            }
-            word.push(character)?;
-        }
-    }
-    if word.as_str() == "\"" {
-        return format!(in alloc; "'\"' stands");
-    }
-    format!(in alloc; "\"{word}\" stands")
+/// The word at the front of a text, or the mark there.
+fn word_of(text: &str) -> &str {
+    let count = text
+        .chars()
+        .take(MOST_SHOWN + 1)
+        .take_while(|character| is_of_word(*character))
+        .count();
+    text.get(..count.max(1)).unwrap_or(text)
 }
 
-/// What is told of a text that isn't JSON: the place of the first octet that doesn't fit, from 0, what stands there, and
-/// what is expected there, also where a limit of the reader of lines is passed.
-pub(crate) fn misplaced(alloc: Global, text: &str) -> Result<Option<(usize, String)>, AllocError> {
-    let Some((place, due)) = first_fault(alloc, text)? else {
-        return Ok(None);
-    };
-    let found = found_at(alloc, text, place)?;
-    let of_lines = match due {
-        Due::Nothing => ": a line holds one object",
-        Due::Object => "",
-        _ if place >= text.len() => ": a line holds a whole object, up to its last '}'",
-        _ => "",
-    };
-    let due = due.text();
-    Ok(Some((
-        place,
-        format!(in alloc; "{found} where {due} is expected{of_lines}")?,
-    )))
+/// Tells which character stands at the front of a text, or which word.
+fn tell_front(message: &mut Message, text: &str) {
+    match text.chars().next() {
+        None => message.text("the line ends"),
+        Some('\u{feff}') => {
+            message.text("a byte order mark (U+FEFF), which has to be left out, stands");
+        }
+        Some('"') => message.text("'\"' stands"),
+        Some(first) if !first.is_ascii_graphic() => {
+            message.text("the character U+");
+            message.code(first);
+            message.text(" stands");
+        }
+        Some(_) => {
+            message.word(word_of(text));
+            message.text(" stands");
+        }
+    }
+}
+
+/// Tells of a text that isn't JSON what stands at the first octet that doesn't fit, and what is expected there, also where
+/// a limit of the reader of lines is passed.
+pub(crate) fn tell_misplaced(message: &mut Message, text: &str, (place, due): Misplaced) {
+    tell_front(message, text.get(place..).unwrap_or(""));
+    message.text(" where ");
+    message.text(due.text());
+    message.text(" is expected");
+    match due {
+        Due::Nothing => message.text(": a line holds one object"),
+        Due::Object => {}
+        _ if place >= text.len() => {
+            message.text(": a line holds a whole object, up to its last '}'");
+        }
+        _ => {}
+    }
 }

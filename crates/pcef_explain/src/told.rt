@@ -1,56 +1,54 @@
-//! What is told of a fault.
+//! What is told of a value that is missing, or in the place of another.
 
+use crate::message::Message;
 use crate::nearest::nearest;
 use crate::place::Place;
-use crate::wanted::{Shown, Wanted};
+use crate::wanted::Wanted;
 use serde_json::Value;
-use std::alloc::{AllocError, Global};
+use std::alloc::Global;
 
-/// What is told of a fault: where a value stands, and what is found and expected there.
-#[derive(Drop)]
-pub(crate) struct Told<'a> {
-    /// The value in whose column the fault is told, if there is one.
-    pub place: Option<Place<'a>>,
-    /// What is told.
-    pub text: String,
+/// Tells that a value is missing.
+pub(crate) fn tell_missing(message: &mut Message, place: Place<'_>, wanted: Wanted) {
+    message.place(place);
+    message.text(" is missing: ");
+    message.wanted(wanted);
+    message.text(" is expected");
 }
 
-/// What is told of a value that is missing in an object, which may itself have a place.
-pub(crate) fn missing<'a>(
-    alloc: Global,
-    object: Option<Place<'a>>,
-    place: Place<'_>,
-    wanted: Wanted,
-) -> Result<Told<'a>, AllocError> {
-    let text = format!(in alloc; "{place} is missing: {wanted} is expected")?;
-    Ok(Told {
-        place: object,
-        text,
-    })
+/// Tells which word was meant.
+pub(crate) fn tell_meant(message: &mut Message, word: &str) {
+    message.text("did you mean ");
+    message.word(word);
+    message.text("?");
 }
 
-/// The word that was meant by a value, if one is near.
-fn meant(alloc: Global, found: &Value, wanted: Wanted) -> Result<Option<&'static str>, AllocError> {
-    match (wanted, found.as_str()) {
+/// Tells what is expected in the place of a value: the word that was meant, if one is near.
+fn tell_wanted(alloc: Global, message: &mut Message, found: &Value, wanted: Wanted) {
+    let near = match (wanted, found.as_str()) {
         (Wanted::Word(words), Some(text)) => nearest(alloc, text, words),
         _ => Ok(None),
+    };
+    match near {
+        Ok(Some(word)) => tell_meant(message, word),
+        Ok(None) => {
+            message.wanted(wanted);
+            message.text(" is expected");
+        }
+        Err(_) => message.refuse(),
     }
 }
 
-/// What is told of a value in the place of another.
-pub(crate) fn wrong<'a>(
+/// Tells that a value stands in the place of another.
+pub(crate) fn tell_wrong(
     alloc: Global,
-    place: Place<'a>,
+    message: &mut Message,
+    place: Place<'_>,
     found: &Value,
     wanted: Wanted,
-) -> Result<Told<'a>, AllocError> {
-    let shown = Shown(found);
-    let text = match meant(alloc, found, wanted)? {
-        Some(word) => format!(in alloc; "{place} is {shown}: did you mean \"{word}\"?")?,
-        None => format!(in alloc; "{place} is {shown}: {wanted} is expected")?,
-    };
-    Ok(Told {
-        place: Some(place),
-        text,
-    })
+) {
+    message.place(place);
+    message.text(" is ");
+    message.shown(found);
+    message.text(": ");
+    tell_wanted(alloc, message, found, wanted);
 }

@@ -1,8 +1,7 @@
-//! What may stand at a field, and how a value is told.
+//! What may stand at a field.
 
 use pcef_line::Field;
 use serde_json::Value;
-use std::fmt::{self, Display, Formatter, Write};
 
 /// The words of `do`.
 pub(crate) const WORDS: &[&str] = &[
@@ -107,60 +106,6 @@ impl Wanted {
             Wanted::Name | Wanted::Octets | Wanted::Text => value.is_string(),
             Wanted::Object => value.is_object(),
             Wanted::List => value.is_array(),
-        }
-    }
-}
-
-pub(crate) fn write_words<W: Write>(f: &mut Formatter<W>, words: &[&str]) -> fmt::Result {
-    let mut is_first = true;
-    for word in words {
-        if !is_first {
-            f.write_str(", ")?;
-        }
-        write!(f, "\"{word}\"")?;
-        is_first = false;
-    }
-    Ok(())
-}
-
-impl Display for Wanted {
-    fn fmt<W: Write>(&self, f: &mut Formatter<W>) -> fmt::Result {
-        match self {
-            Wanted::Number(least, most) => write!(f, "a whole number from {least} to {most}"),
-            Wanted::Flag => f.write_str("true or false"),
-            Wanted::Name => f.write_str("a text of 1 to 64 characters without blanks"),
-            Wanted::Word(words) => {
-                f.write_str("one of ")?;
-                write_words(f, words)
-            }
-            Wanted::Octets => f.write_str("a text of pairs of hexadecimal digits"),
-            Wanted::Text => f.write_str("a text"),
-            Wanted::Object => f.write_str("an object"),
-            Wanted::List => f.write_str("a list"),
-        }
-    }
-}
-
-/// The longest text that is shown whole, in bytes.
-pub(crate) const MOST_SHOWN: usize = 80;
-
-/// A value as it is told: a short text, a number or a flag as such, others by their kind.
-#[derive(Clone, Copy)]
-pub(crate) struct Shown<'a>(pub &'a Value);
-
-impl Display for Shown<'_> {
-    fn fmt<W: Write>(&self, f: &mut Formatter<W>) -> fmt::Result {
-        match self.0 {
-            Value::Null => f.write_str("null"),
-            Value::Bool(flag) => write!(f, "{flag}"),
-            Value::Number(number) => write!(f, "{number}"),
-            Value::String(text) if text.len() > MOST_SHOWN => {
-                let count = text.len();
-                write!(f, "a text of {count} bytes")
-            }
-            Value::String(text) => write!(f, "{:?}", text.as_str()),
-            Value::Array(_) => f.write_str("a list"),
-            Value::Object(_) => f.write_str("an object"),
         }
     }
 }
