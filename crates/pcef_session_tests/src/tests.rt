@@ -14,6 +14,8 @@ mod refused_profiles;
 
 use pcef_model::{Command, Level};
 use pcef_rule::KeyName;
+use std::fmt::Debug;
+use std::process::Abort;
 
 /// A grant of 1,000 octets for the key `vid`.
 fn monitor() -> Command {
@@ -22,4 +24,9 @@ fn monitor() -> Command {
         grant: 1000,
         level: Level::Rule,
     }
+}
+
+/// Expects what is due. It stands here once, for a comparison in each test takes longer to prove.
+fn expect_equal<T: Debug + PartialEq>(rt: &impl Abort, found: &T, due: &T) {
+    assert_eq!(rt; found, due);
 }

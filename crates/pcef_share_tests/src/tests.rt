@@ -20,7 +20,9 @@ use pcef_pooled::{Pooled, PooledFault};
 use pcef_rule::{Arp, Gate, Properties, Qci, QciTable, Qos, Rates, Rule, RuleName, Sums};
 use pcef_share::{Pooling, RateBlanks};
 use std::alloc::Global;
+use std::fmt::Debug;
 use std::marker::Brand;
+use std::process::Abort;
 use std::test::Fail;
 
 /// A command of one of two sessions.
@@ -170,4 +172,9 @@ fn tell_named<P: Pooling>(
 /// The same on a pool of this capacity.
 fn tell(alloc: Global, capacity: Sums, steps: &[Step]) -> Result<Told, Fail> {
     tell_named::<Brand>(alloc, capacity, RateBlanks::new(), steps)
+}
+
+/// Expects what is due. It stands here once, for a comparison in each test takes longer to prove.
+fn expect_equal<T: Debug + PartialEq>(rt: &impl Abort, found: &T, due: &T) {
+    assert_eq!(rt; found, due);
 }

@@ -25,6 +25,8 @@ use pcef_publish::{Board, Slot};
 use pcef_share::Naming;
 use pcef_worker::{Gate, OpenGate, Worker};
 use std::alloc::Global;
+use std::fmt::Debug;
+use std::process::Abort;
 use std::sync::Wait;
 use std::test::*;
 use std::thread::Threads;
@@ -302,4 +304,9 @@ fn takes<C: Detects + Drop, N: Naming, G: Gate + Drop>(
     octets: u32,
 ) -> bool {
     worker.take(&packet(octets)).is_ok()
+}
+
+/// Expects what is due. It stands here once, for a comparison in each test takes longer to prove.
+fn expect_equal<T: Debug + PartialEq>(rt: &impl Abort, found: &T, due: &T) {
+    assert_eq!(rt; found, due);
 }

@@ -5,6 +5,7 @@ ghost use Rattle.std.specs.Prelude.{◌≡◌};
 ghost use Rattle.pcef_catalog.specs.Shapes.{shape_holds};
 ghost use Rattle.pcef_built_in.specs.BuiltIn.{dns_shape, expedited_shape, remaining_shape};
 
+use crate::tests::expect_equal;
 use pcef_built_in::{
     dns_properties, dns_shape, expedited_properties, expedited_shape, is_dns, is_expedited,
     is_remaining, remaining_properties, remaining_shape,
@@ -133,7 +134,7 @@ fn closures_and_shapes(rt: HostRuntime) -> Result<(), Fail> {
             expedited_shape().holds(&header),
             remaining_shape().holds(&header),
         ];
-        assert_eq!(rt; (said, shapes), (wanted, wanted));
+        expect_equal(&rt, &(said, shapes), &(wanted, wanted));
     }
     Ok(())
 }
@@ -293,7 +294,7 @@ static SCRIPTS: [(&str, &[&str], &str); 7] = [
 fn scripts_on_the_built_in_rules(rt: HostRuntime) -> Result<(), Fail> {
     for &(profile, lines, answers) in &SCRIPTS {
         let (_, text) = run(rt.alloc(), &DNS_ANSWER, profile, lines)?;
-        assert_eq!(rt; text.as_str(), answers);
+        expect_equal(&rt, &text.as_str(), &answers);
     }
     Ok(())
 }

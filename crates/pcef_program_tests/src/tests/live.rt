@@ -1,6 +1,7 @@
 //! Whoever writes a line and waits gets its answer.
 
 use super::program::{octets, program_on};
+use crate::tests::expect_equal;
 use pcef_test_scripts::PROFILE;
 use std::alloc::Global;
 use std::cell::Cell;
@@ -96,15 +97,15 @@ fn ask<T: Threads + Wait + Sync>(
 #[test]
 fn who_waits_for_an_answer_gets_it(rt: HostRuntime) -> Result<(), Fail> {
     let (status, lines, faults) = ask(&rt, rt.alloc(), true)?;
-    assert_eq!(rt; (status, lines), (1, 3));
-    assert_eq!(rt; faults.as_str(), "");
+    expect_equal(&rt, &(status, lines), &(1, 3));
+    expect_equal(&rt, &faults.as_str(), &"");
     Ok(())
 }
 
 #[test]
 fn a_flush_that_fails_is_a_write_fault(rt: HostRuntime) -> Result<(), Fail> {
     let (status, lines, faults) = ask(&rt, rt.alloc(), false)?;
-    assert_eq!(rt; (status, lines), (4, 1));
+    expect_equal(&rt, &(status, lines), &(4, 1));
     assert!(rt; faults.as_str().starts_with("write fault\n"));
     Ok(())
 }

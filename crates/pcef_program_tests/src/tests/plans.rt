@@ -1,5 +1,6 @@
 //! Plans of inputs, whose lines were counted by hand.
 
+use crate::tests::expect_equal;
 use pcef_line::{Field, LineFault};
 use pcef_model::Command;
 use pcef_run::{FirstUnfit, Plan, PlanFault, Unfit, read_plan};
@@ -53,11 +54,12 @@ fn counts(plan: Plan) -> (usize, usize, usize) {
 
 #[test]
 fn without_packets_all_commands_come_first(rt: HostRuntime) -> Result<(), Fail> {
-    assert_eq!(rt;
-        counts(planned(rt.alloc(), &[MONITOR, STOP], 1)??),
-        (2, 0, 0)
+    expect_equal(
+        &rt,
+        &counts(planned(rt.alloc(), &[MONITOR, STOP], 1)??),
+        &(2, 0, 0),
     );
-    assert_eq!(rt; counts(planned(rt.alloc(), &[], 16)??), (0, 0, 0));
+    expect_equal(&rt, &counts(planned(rt.alloc(), &[], 16)??), &(0, 0, 0));
     Ok(())
 }
 
@@ -93,7 +95,7 @@ fn the_first_line_that_is_unfit_is_named(rt: HostRuntime) -> Result<(), Fail> {
     for &(lines, number, why) in &UNFIT {
         let first = first_of(planned(rt.alloc(), lines, 1)?);
         let named = first.map(|first| (first.number, first.why));
-        assert_eq!(rt; named, Some((number, why)));
+        expect_equal(&rt, &named, &Some((number, why)));
     }
     Ok(())
 }
@@ -112,7 +114,7 @@ static NAMES: [(Unfit, &str); 7] = [
 #[test]
 fn each_reason_has_its_name(rt: HostRuntime) -> Result<(), Fail> {
     for &(why, name) in &NAMES {
-        assert_eq!(rt; why.name(), name);
+        expect_equal(&rt, &why.name(), &name);
     }
     Ok(())
 }
@@ -140,10 +142,11 @@ impl Read for Failing {
 #[test]
 fn a_reader_that_fails_is_told(rt: HostRuntime) -> Result<(), Fail> {
     let mut reader = Failing { left: 3 };
-    assert_eq!(rt;
-        read_plan(rt.alloc(), &mut reader, 1).err(),
-        Some(PlanFault::Read)
+    expect_equal(
+        &rt,
+        &read_plan(rt.alloc(), &mut reader, 1).err(),
+        &Some(PlanFault::Read),
     );
-    assert_eq!(rt; reader.left, 0);
+    expect_equal(&rt, &reader.left, &0);
     Ok(())
 }

@@ -1,6 +1,7 @@
 //! Sessions on a pool: what `pcef pool` answers, and how it ends.
 
 use super::program::{octets, program_on};
+use crate::tests::expect_equal;
 use pcef_test_scripts::{PROFILE, script_of};
 use std::alloc::Global;
 use std::io::{self, Read, Write};
@@ -218,7 +219,11 @@ fn a_wrong_rate_beside_sixty_four_profiles_is_named(rt: HostRuntime) -> Result<(
     let count = "pool takes UP, DOWN and 1 to 64 profiles: 3 to 66 words, found 67.";
     for &(sessions, named) in &[(64usize, rate), (65, count)] {
         let (status, _, said) = pool_of(&rt, rt.alloc(), ("1", "x"), sessions, "x")?;
-        assert_eq!(rt; (status, said.as_str().lines().nth(1)), (2, Some(named)));
+        expect_equal(
+            &rt,
+            &(status, said.as_str().lines().nth(1)),
+            &(2, Some(named)),
+        );
     }
     Ok(())
 }
@@ -233,11 +238,11 @@ fn a_wrong_rate_of_eighty_bytes_is_shown(rt: HostRuntime) -> Result<(), Fail> {
     }
     let named = format!(in alloc; "DOWN is 0 to 1099511627775 bit/s, found '{rate}'.")?;
     let (_, _, said) = pool_of(&rt, alloc, ("1", rate.as_str()), 1, "x")?;
-    assert_eq!(rt; said.as_str().lines().nth(1), Some(named.as_str()));
+    expect_equal(&rt, &said.as_str().lines().nth(1), &Some(named.as_str()));
     rate.push_str("x")?;
     let other = "DOWN is 0 to 1099511627775 bit/s, found other text.";
     let (_, _, said) = pool_of(&rt, alloc, ("1", rate.as_str()), 1, "x")?;
-    assert_eq!(rt; said.as_str().lines().nth(1), Some(other));
+    expect_equal(&rt, &said.as_str().lines().nth(1), &Some(other));
     Ok(())
 }
 
@@ -297,9 +302,10 @@ fn the_first_line_that_is_no_order_is_told(rt: HostRuntime) -> Result<(), Fail> 
         let input = format!(in alloc; "{first}\n\n{wrong}\ny")?;
         let said = format!(in alloc; "line 3 fault\n{told}\nNothing was run.\n")?;
         let (status, wrote, got) = pool_of(&rt, alloc, ("9", "9"), 2, input.as_str())?;
-        assert_eq!(rt;
-            (status, wrote.as_str(), got.as_str()),
-            (1, "", said.as_str())
+        expect_equal(
+            &rt,
+            &(status, wrote.as_str(), got.as_str()),
+            &(1, "", said.as_str()),
         );
     }
     Ok(())
@@ -310,7 +316,7 @@ fn a_pool_with_one_session_has_number_0(rt: HostRuntime) -> Result<(), Fail> {
     let line = "1 {\"do\":\"close\"}";
     let said = "line 1 fault\nNoSession: the session is 1: 0 is expected\nNothing was run.\n";
     let (status, _, got) = pool_of(&rt, rt.alloc(), ("9", "9"), 1, line)?;
-    assert_eq!(rt; (status, got.as_str()), (1, said));
+    expect_equal(&rt, &(status, got.as_str()), &(1, said));
     Ok(())
 }
 
@@ -366,13 +372,21 @@ fn profiles_are_looked_at_in_their_order(rt: HostRuntime) -> Result<(), Fail> {
     let unread = io::Error::from_raw_os_error(2);
     let profiles = [Ok(good), Ok(cut), Err(unread)];
     let fault = "profile fault 3\nMissing: ue: ";
-    assert_eq!(rt; on_profiles(&rt, alloc, &profiles[..2], fault)?, (1, true));
+    expect_equal(
+        &rt,
+        &on_profiles(&rt, alloc, &profiles[..2], fault)?,
+        &(1, true),
+    );
     let read_fault = "read fault\na.toml: No such file or directory (os error 2)\n";
     let cut = String::from_str(alloc, "rows = 0\n")?;
     let profiles = [Err(io::Error::from_raw_os_error(2)), Ok(cut)];
-    assert_eq!(rt; on_profiles(&rt, alloc, &profiles, read_fault)?, (4, true));
+    expect_equal(
+        &rt,
+        &on_profiles(&rt, alloc, &profiles, read_fault)?,
+        &(4, true),
+    );
     let lone = [Ok(String::from_str(alloc, PROFILE)?)];
-    assert_eq!(rt; on_profiles(&rt, alloc, &lone, USAGE)?, (2, true));
+    expect_equal(&rt, &on_profiles(&rt, alloc, &lone, USAGE)?, &(2, true));
     Ok(())
 }
 
@@ -422,9 +436,10 @@ fn ends_of_a_pool_that_fail(rt: HostRuntime) -> Result<(), Fail> {
     let unread = pool_between(&rt, alloc, &mut Failing, &mut written, "read fault\n")?;
     let mut input = "".as_bytes();
     let unwritten = pool_between(&rt, alloc, &mut input, &mut Full, "write fault\n")?;
-    assert_eq!(rt;
-        (written.len(), unread, unwritten),
-        (0, (4, true), (4, true))
+    expect_equal(
+        &rt,
+        &(written.len(), unread, unwritten),
+        &(0, (4, true), (4, true)),
     );
     Ok(())
 }

@@ -1,5 +1,6 @@
 //! Exit statuses, and what is said of faults.
 
+use crate::tests::expect_equal;
 use pcef_catalog::Catalog;
 use pcef_model::OpenFault;
 use pcef_profile::ReadProfileFault;
@@ -237,10 +238,15 @@ fn on_no_text<T: Threads + Wait + Sync>(
 #[test]
 fn a_word_that_is_no_text(rt: HostRuntime) -> Result<(), Fail> {
     let unread = "read fault\na\u{fffd}: No such file or directory (os error 2)\n";
-    assert_eq!(rt; on_no_text(&rt, rt.alloc(), "script", unread)?, (4, true));
-    assert_eq!(rt;
-        on_no_text(&rt, rt.alloc(), "scripts", "usage: ")?,
-        (2, true)
+    expect_equal(
+        &rt,
+        &on_no_text(&rt, rt.alloc(), "script", unread)?,
+        &(4, true),
+    );
+    expect_equal(
+        &rt,
+        &on_no_text(&rt, rt.alloc(), "scripts", "usage: ")?,
+        &(2, true),
     );
     Ok(())
 }
@@ -262,7 +268,7 @@ fn a_file_too_large_for_memory(rt: HostRuntime) -> Result<(), Fail> {
         &mut answers,
         &mut faults,
     )?;
-    assert_eq!(rt; status, 3);
+    expect_equal(&rt, &status, &3);
     assert!(rt; faults.as_slice().starts_with(b"want of memory\n"));
     Ok(())
 }
@@ -399,7 +405,7 @@ static SCRIPT_ENDS: [(Result<u64, ScriptFault>, u8, &str); 9] = [
 fn each_end_of_a_script_has_its_status_and_text(rt: HostRuntime) -> Result<(), Fail> {
     for &(ended, status, text) in &SCRIPT_ENDS {
         let end = script_end(ended);
-        assert_eq!(rt; (end.status(), end.text()), (status, text));
+        expect_equal(&rt, &(end.status(), end.text()), &(status, text));
     }
     Ok(())
 }
@@ -419,7 +425,7 @@ static PROFILE_ENDS: [(ReadProfileFault, u8, &str); 7] = [
 fn each_fault_of_a_profile_has_its_status_and_text(rt: HostRuntime) -> Result<(), Fail> {
     for &(fault, status, text) in &PROFILE_ENDS {
         let end = profile_end(fault);
-        assert_eq!(rt; (end.status(), end.text()), (status, text));
+        expect_equal(&rt, &(end.status(), end.text()), &(status, text));
     }
     Ok(())
 }
@@ -434,11 +440,11 @@ static UNREAD_ENDS: [(io::ErrorKind, u8, &str); 2] = [
 fn the_other_ends_have_their_status_and_text(rt: HostRuntime) -> Result<(), Fail> {
     for &(kind, status, text) in &UNREAD_ENDS {
         let end = unread_end(kind);
-        assert_eq!(rt; (end.status(), end.text()), (status, text));
+        expect_equal(&rt, &(end.status(), end.text()), &(status, text));
     }
     let usage =
         "usage: pcef script PROFILE | pcef run PROFILE WORKERS | pcef pool UP DOWN PROFILE...\n";
-    assert_eq!(rt; (End::Usage.status(), End::Usage.text()), (2, usage));
+    expect_equal(&rt, &(End::Usage.status(), End::Usage.text()), &(2, usage));
     Ok(())
 }
 

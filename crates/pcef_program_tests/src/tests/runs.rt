@@ -3,6 +3,7 @@
 ghost use Rattle.std.specs.Prelude.{[], reverse};
 
 use super::program::{octets, program_on, run};
+use crate::tests::expect_equal;
 use pcef_catalog::Catalog;
 use pcef_history::History;
 use pcef_model::Report;
@@ -88,7 +89,7 @@ fn a_report_among_the_packets(rt: HostRuntime) -> Result<(), Fail> {
         "{\"do\":\"report\",\"key\":\"vid\"}",
     ];
     let (status, wrote, _) = run_lines(&rt, rt.alloc(), "2", &lines)?;
-    assert_eq!(rt; status, 0);
+    expect_equal(&rt, &status, &0);
     let front =
         "rows 2 abandoned 0 dropped 0\ncommands 3 refused 0\nreports usage 1 access 0 inactive 0\nkey vid counted 56 reported ";
     assert!(rt; wrote.as_str().starts_with(front));
@@ -124,7 +125,7 @@ fn reports_of_each_kind_are_counted(rt: HostRuntime) -> Result<(), Fail> {
         "{\"do\":\"stop\",\"key\":\"vid\"}",
     ];
     let (status, wrote, _) = run_lines(&rt, rt.alloc(), "1", &lines)?;
-    assert_eq!(rt; status, 0);
+    expect_equal(&rt, &status, &0);
     assert!(rt;
         wrote.as_str().starts_with(
             "rows 1 abandoned 0 dropped 0\ncommands 11 refused 3\nreports usage 1 access 2 inactive 3\nkey vid counted "
@@ -215,7 +216,7 @@ fn the_first_unfit_line_is_told(rt: HostRuntime) -> Result<(), Fail> {
     for &(workers, line, said) in &UNFIT {
         let lines = [INSTALL, "", FIRST, line, "x"];
         let (status, wrote, got) = run_lines(&rt, rt.alloc(), workers, &lines)?;
-        assert_eq!(rt; (status, wrote.as_str(), got.as_str()), (1, "", said));
+        expect_equal(&rt, &(status, wrote.as_str(), got.as_str()), &(1, "", said));
     }
     Ok(())
 }
@@ -312,9 +313,10 @@ fn ends_of_a_run_that_fail(rt: HostRuntime) -> Result<(), Fail> {
     let unread = run_between(&rt, alloc, &mut failing, &mut written, "read fault\n")?;
     let mut input = "".as_bytes();
     let unwritten = run_between(&rt, alloc, &mut input, &mut Full, "write fault\n")?;
-    assert_eq!(rt;
-        (written.len(), unread, unwritten),
-        (0, (4, true), (4, true))
+    expect_equal(
+        &rt,
+        &(written.len(), unread, unwritten),
+        &(0, (4, true), (4, true)),
     );
     Ok(())
 }
@@ -367,7 +369,7 @@ fn a_reporter_that_refuses_ends_the_program(rt: HostRuntime) -> Result<(), Fail>
         &mut written,
         &mut faults,
     );
-    assert_eq!(rt; status, 3);
+    expect_equal(&rt, &status, &3);
     assert!(rt; written.is_empty());
     assert!(rt; faults.as_slice().starts_with(b"want of memory\n"));
     Ok(())

@@ -2,6 +2,7 @@
 
 ghost use Rattle.std.specs.Prelude.{◌≡◌, IfOk};
 
+use crate::tests::expect_equal;
 use pcef_answer::{fault_text, step_answer};
 use pcef_filter::FilterFault;
 use pcef_journal::Journal;
@@ -38,7 +39,7 @@ static FAULTS: [(LineFault, &str); 4] = [
 fn answers_to_lines_at_fault(rt: HostRuntime) -> Result<(), AllocError> {
     for &(fault, text) in &FAULTS {
         let answer = fault_text(rt.alloc(), fault)?;
-        assert_eq!(rt; answer.as_str(), text);
+        expect_equal(&rt, &answer.as_str(), &text);
     }
     Ok(())
 }
@@ -100,7 +101,7 @@ fn answers_to_refused_commands(rt: HostRuntime) -> Result<(), AllocError> {
     let journal = Journal::new(alloc);
     for &(refusal, text) in &REFUSALS {
         let answer = step_answer(alloc, &journal, 1, &StepAnswer::Command(Err(refusal)))?;
-        assert_eq!(rt; answer.as_str(), text);
+        expect_equal(&rt, &answer.as_str(), &text);
     }
     Ok(())
 }
@@ -177,7 +178,7 @@ fn answers_to_accepted_commands(rt: HostRuntime) -> Result<(), Fail> {
     let journal = told(alloc)?;
     for &(accepted, text) in &ACCEPTED {
         let answer = text_of(alloc, &journal, 1, &StepAnswer::Command(Ok(accepted)))?;
-        assert_eq!(rt; answer.as_str(), text);
+        expect_equal(&rt, &answer.as_str(), &text);
     }
     Ok(())
 }

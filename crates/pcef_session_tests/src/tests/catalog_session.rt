@@ -3,6 +3,7 @@
 ghost use Rattle.std.specs.Prelude.{◌≡◌, []};
 
 use super::monitor;
+use crate::tests::expect_equal;
 use pcef_catalog::{Catalog, Offers};
 use pcef_core::Session;
 use pcef_model::{Command, FlushRefusal, Profile, Refusal};
@@ -38,7 +39,7 @@ fn commands_of_a_session(rt: HostRuntime) -> Result<(), Fail> {
     let profile = read_profile(rt.alloc(), PROFILE)?;
     let catalog = Arc::new(rt.alloc(), Catalog::new(rt.alloc(), Vec::new(rt.alloc()))?)?;
     let told = after_monitor(rt.alloc(), profile, catalog);
-    assert_eq!(rt; told, Some(([1; 4], Some(Refusal::UnknownRule))));
+    expect_equal(&rt, &told, &Some(([1; 4], Some(Refusal::UnknownRule))));
     Ok(())
 }
 
@@ -57,7 +58,7 @@ fn a_prepared_command_of_a_session(rt: HostRuntime) -> Result<(), Fail> {
     let profile = read_profile(rt.alloc(), PROFILE)?;
     let catalog = Arc::new(rt.alloc(), Catalog::new(rt.alloc(), Vec::new(rt.alloc()))?)?;
     let generations = around_settling(rt.alloc(), profile, catalog);
-    assert_eq!(rt; generations, Some([0, 1, 1]));
+    expect_equal(&rt, &generations, &Some([0, 1, 1]));
     Ok(())
 }
 
@@ -85,7 +86,11 @@ fn workers_of_a_session(rt: HostRuntime) -> Result<(), Fail> {
     let profile = read_profile(rt.alloc(), PROFILE)?;
     let catalog = Arc::new(rt.alloc(), Catalog::new(rt.alloc(), Vec::new(rt.alloc()))?)?;
     let told = with_two_workers(rt.alloc(), profile, catalog, &none);
-    assert_eq!(rt; told, Some((Some(FlushRefusal::NotAttached), 0, 1, 0)));
+    expect_equal(
+        &rt,
+        &told,
+        &Some((Some(FlushRefusal::NotAttached), 0, 1, 0)),
+    );
     Ok(())
 }
 
@@ -107,6 +112,6 @@ fn what_an_opened_session_shows(rt: HostRuntime) -> Result<(), Fail> {
     let profile = read_profile(rt.alloc(), PROFILE)?;
     let catalog = Arc::new(rt.alloc(), Catalog::new(rt.alloc(), Vec::new(rt.alloc()))?)?;
     let shown = shown_when_opened(rt.alloc(), profile, catalog);
-    assert_eq!(rt; shown, Some([0, 0, 0, 0, 1000]));
+    expect_equal(&rt, &shown, &Some([0, 0, 0, 0, 1000]));
     Ok(())
 }

@@ -4,6 +4,7 @@ ghost use Rattle.std.specs.Prelude.{◌≡◌, [], ◌∷◌};
 ghost use Rattle.pcef_catalog.specs.Shapes.{test_holds};
 ghost use Rattle.pcef_catalog.specs.declared.shape.Test.TheVariants.{Dscp};
 
+use crate::tests::expect_equal;
 use arrayvec::ArrayVec;
 use pcef_catalog::{Alternative, Catalog, Detect, Offers, Predefined, Shape, Test};
 use pcef_core::Session;
@@ -104,7 +105,7 @@ fn a_script_calls_the_closure_for_each_packet_that_no_earlier_rule_decides(
     rules.push(Predefined::new(expedited()?, one(Test::Dscp(46)), detect))?;
     let catalog = Arc::new(alloc, Catalog::new(alloc, rules)?)?;
     assert!(rt; is_answered(alloc, catalog)?);
-    assert_eq!(rt; calls.load(Ordering::SeqCst), 2);
+    expect_equal(&rt, &calls.load(Ordering::SeqCst), &2);
     Ok(())
 }
 
@@ -143,6 +144,6 @@ fn a_table_calls_the_closure(rt: HostRuntime) -> Result<(), Fail> {
     rules.push(Predefined::new(expedited()?, one(Test::Dscp(46)), detect))?;
     let catalog = Arc::new(alloc, Catalog::new(alloc, rules)?)?;
     assert!(rt; passes(alloc, catalog)?);
-    assert_eq!(rt; calls.load(Ordering::SeqCst), 1);
+    expect_equal(&rt, &calls.load(Ordering::SeqCst), &1);
     Ok(())
 }

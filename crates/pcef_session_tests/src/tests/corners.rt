@@ -1,5 +1,6 @@
 //! Ends that fail once and would then work again, and the longest line.
 
+use crate::tests::expect_equal;
 use pcef_catalog::Catalog;
 use pcef_profile::read_profile;
 use pcef_script::{ScriptFault, run_script};
@@ -102,7 +103,7 @@ fn first_wrong_reading(alloc: Global, failure: io::ErrorKind) -> Result<Option<u
 #[test]
 fn a_reader_that_fails_once_is_not_read_again(rt: HostRuntime) -> Result<(), Fail> {
     for &failure in &FAILURES {
-        assert_eq!(rt; first_wrong_reading(rt.alloc(), failure)?, None);
+        expect_equal(&rt, &first_wrong_reading(rt.alloc(), failure)?, &None);
     }
     Ok(())
 }
@@ -194,7 +195,7 @@ fn a_writer_that_fails_once_is_not_written_again(rt: HostRuntime) -> Result<(), 
         Some(io::ErrorKind::Interrupted),
         None,
     ] {
-        assert_eq!(rt; first_wrong_writing(rt.alloc(), failure)?, None);
+        expect_equal(&rt, &first_wrong_writing(rt.alloc(), failure)?, &None);
     }
     Ok(())
 }

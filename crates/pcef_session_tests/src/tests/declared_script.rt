@@ -1,5 +1,6 @@
 //! Scripts of sessions whose profile declares QCIs, with answers worked out by hand.
 
+use crate::tests::expect_equal;
 use pcef_test_scripts::run;
 use std::test::Fail;
 
@@ -13,10 +14,11 @@ const SCRIPT: &str =
 #[test]
 fn a_declared_qci_is_known(rt: HostRuntime) -> Result<(), Fail> {
     let (text, faults) = run(rt.alloc(), PROFILE, SCRIPT)?;
-    assert_eq!(rt; faults, 0);
-    assert_eq!(rt;
-        text.as_str(),
-        "{\"bearer\":6,\"generation\":1,\"ok\":true,\"reports\":[]}\n{\"name\":\"UnknownQci\",\"refused\":13}\n"
+    expect_equal(&rt, &faults, &0);
+    expect_equal(
+        &rt,
+        &text.as_str(),
+        &"{\"bearer\":6,\"generation\":1,\"ok\":true,\"reports\":[]}\n{\"name\":\"UnknownQci\",\"refused\":13}\n",
     );
     Ok(())
 }

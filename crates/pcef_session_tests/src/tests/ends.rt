@@ -1,5 +1,6 @@
 //! Scripts whose reader or writer fails, after each byte in turn.
 
+use crate::tests::expect_equal;
 use pcef_catalog::Catalog;
 use pcef_profile::read_profile;
 use pcef_script::{ScriptFault, run_script};
@@ -133,8 +134,8 @@ fn first_wrong_room(alloc: Global, lines: &[(&str, &str)]) -> Result<Option<usiz
 
 #[test]
 fn a_reader_that_fails_leaves_the_answers_to_whole_lines(rt: HostRuntime) -> Result<(), Fail> {
-    assert_eq!(rt; first_wrong_room(rt.alloc(), LINES)?, None);
-    assert_eq!(rt; first_wrong_room(rt.alloc(), LINES_AT_FAULT)?, None);
+    expect_equal(&rt, &first_wrong_room(rt.alloc(), LINES)?, &None);
+    expect_equal(&rt, &first_wrong_room(rt.alloc(), LINES_AT_FAULT)?, &None);
     Ok(())
 }
 
@@ -258,7 +259,7 @@ fn a_writer_that_fails_has_a_front_of_the_answers(rt: HostRuntime) -> Result<(),
                 None,
             ] {
                 let wrong = first_wrong_front(rt.alloc(), lines, faults, portion, failure)?;
-                assert_eq!(rt; wrong, None);
+                expect_equal(&rt, &wrong, &None);
             }
         }
     }

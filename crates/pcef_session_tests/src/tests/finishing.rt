@@ -3,6 +3,7 @@
 ghost use Rattle.std.specs.Prelude.{◌≡◌, ◌≤◌, ◌∷◌, [], IfOk};
 ghost use Rattle.pcef_session_tests.specs.UnmatchedRows.{ue, unmatched_item};
 
+use crate::tests::expect_equal;
 use arrayvec::ArrayVec;
 use pcef_catalog::Catalog;
 use pcef_core::Session;
@@ -149,9 +150,10 @@ fn a_worker_finishes_with_as_many_rows_as_there_may_be(rt: HostRuntime) -> Resul
     let profile = profile(rt.alloc(), 2)?;
     let catalog = Arc::new(rt.alloc(), Catalog::new(rt.alloc(), Vec::new(rt.alloc()))?)?;
     let finished = finished(rt.alloc(), profile, catalog, &two, &none)?;
-    assert_eq!(rt;
-        finished,
-        Ending {
+    expect_equal(
+        &rt,
+        &finished,
+        &Ending {
             worker: 0,
             verdicts: (2, true, 0, 0),
             lane: 2,
@@ -160,7 +162,7 @@ fn a_worker_finishes_with_as_many_rows_as_there_may_be(rt: HostRuntime) -> Resul
             kept: [Some(0), Some(1), None],
             ends: true,
             is_kept: true,
-        }
+        },
     );
     Ok(())
 }
@@ -214,9 +216,10 @@ fn a_worker_stays_whose_last_rows_are_too_many(rt: HostRuntime) -> Result<(), Fa
     let profile = profile(rt.alloc(), 1)?;
     let catalog = Arc::new(rt.alloc(), Catalog::new(rt.alloc(), Vec::new(rt.alloc()))?)?;
     let stayed = stayed(rt.alloc(), profile, catalog, &two, &none)?;
-    assert_eq!(rt;
-        stayed,
-        Staying {
+    expect_equal(
+        &rt,
+        &stayed,
+        &Staying {
             worker: 0,
             refused: Some(FlushRefusal::RowsFull),
             rows: 0,
@@ -224,7 +227,7 @@ fn a_worker_stays_whose_last_rows_are_too_many(rt: HostRuntime) -> Result<(), Fa
             verdicts: 0,
             lane: 0,
             ends: true,
-        }
+        },
     );
     Ok(())
 }

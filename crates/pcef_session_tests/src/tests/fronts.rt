@@ -1,5 +1,6 @@
 //! The fronts of a line: the line cut after each byte in turn.
 
+use crate::tests::expect_equal;
 use pcef_test_scripts::{PROFILE, run};
 use std::test::Fail;
 
@@ -23,26 +24,27 @@ fn each_front_of_a_line_is_not_json(rt: HostRuntime) -> Result<(), Fail> {
         fronts = fronts.saturating_add(1);
     }
     let (text, faults) = run(alloc, PROFILE, script.as_str())?;
-    assert_eq!(rt; text.as_str(), answers.as_str());
-    assert_eq!(rt; (fronts, faults), (210, 210));
+    expect_equal(&rt, &text.as_str(), &answers.as_str());
+    expect_equal(&rt, &(fronts, faults), &(210, 210));
     Ok(())
 }
 
 #[test]
 fn the_whole_line_is_accepted(rt: HostRuntime) -> Result<(), Fail> {
     let (text, faults) = run(rt.alloc(), PROFILE, INSTALL)?;
-    assert_eq!(rt;
-        text.as_str(),
-        "{\"bearer\":5,\"generation\":1,\"ok\":true,\"reports\":[]}\n"
+    expect_equal(
+        &rt,
+        &text.as_str(),
+        &"{\"bearer\":5,\"generation\":1,\"ok\":true,\"reports\":[]}\n",
     );
-    assert_eq!(rt; faults, 0);
+    expect_equal(&rt, &faults, &0);
     Ok(())
 }
 
 #[test]
 fn an_empty_script_has_no_answer(rt: HostRuntime) -> Result<(), Fail> {
     let (text, faults) = run(rt.alloc(), PROFILE, "")?;
-    assert_eq!(rt; text.as_str(), "");
-    assert_eq!(rt; faults, 0);
+    expect_equal(&rt, &text.as_str(), &"");
+    expect_equal(&rt, &faults, &0);
     Ok(())
 }

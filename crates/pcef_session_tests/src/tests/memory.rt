@@ -2,6 +2,7 @@
 //!
 //! With memory for everything each command is done at once. `.ci/refused-memory` refuses each allocation in turn.
 
+use crate::tests::expect_equal;
 use pcef_catalog::Catalog;
 use pcef_core::World;
 use pcef_line::{Line, read_line};
@@ -96,7 +97,7 @@ fn done_and_counted(alloc: Global) -> Result<(u64, [u64; 5]), Fail> {
 
 #[test]
 fn refused_commands_leave_no_trace(rt: HostRuntime) -> Result<(), Fail> {
-    assert_eq!(rt; done_and_counted(rt.alloc())?, (6, [6, 6, 1, 0, 1]));
+    expect_equal(&rt, &done_and_counted(rt.alloc())?, &(6, [6, 6, 1, 0, 1]));
     Ok(())
 }
 

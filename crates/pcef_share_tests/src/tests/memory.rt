@@ -8,6 +8,7 @@ ghost use Rattle.pcef_share.specs.Names.{name_at};
 
 use super::desks::{Task, tell_desks};
 use super::*;
+use crate::tests::expect_equal;
 
 /// Both sessions have `voice` in turn, and then both at once.
 const STEPS: [Step; 5] = [
@@ -119,7 +120,7 @@ fn desks_on_a_pool_that_find_no_memory_can_go_on(rt: HostRuntime) -> Result<(), 
         return Err("two desks found no memory twice")?;
     };
     assert!(rt; seen.answers.iter().all(|answer| answer.is_ok()));
-    assert_eq!(rt; generations, (4, 1));
-    assert_eq!(rt; granted, capacity);
+    expect_equal(&rt, &generations, &(4, 1));
+    expect_equal(&rt, &granted, &capacity);
     Ok(())
 }

@@ -4,6 +4,7 @@ ghost use Rattle.std.specs.Prelude.{◌≡◌};
 ghost use Rattle.pcef_share.specs.Names.{name_at};
 
 use super::*;
+use crate::tests::expect_equal;
 use pcef_model::OpenFault;
 use pcef_pool::{PoolFault, PoolState};
 
@@ -42,7 +43,7 @@ fn issued_named<P: Pooling>(blanks: RateBlanks) -> Result<u8, PoolFault>
 
 #[test]
 fn a_pool_has_sixty_four_shares(rt: HostRuntime) -> Result<(), Fail> {
-    assert_eq!(rt; issued_named::<Brand>(RateBlanks::new())?, 64);
+    expect_equal(&rt, &issued_named::<Brand>(RateBlanks::new())?, &64);
     Ok(())
 }
 

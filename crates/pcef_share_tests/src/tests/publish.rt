@@ -2,6 +2,7 @@
 ghost use Rattle.std.specs.Prelude.{◌≡◌, [], IfOk};
 ghost use Rattle.std.specs.Arc.{arc_value};
 
+use crate::tests::expect_equal;
 use pcef_index::Indexed;
 use pcef_publish::{Board, Opened, Publisher, Slot, Subscriber, Writer};
 use pcef_share::Naming;
@@ -23,7 +24,7 @@ fn table(alloc: Global, generation: u32) -> Result<Arc<Indexed>, AllocError>
 fn a_refresh_finds_the_newest_table(rt: HostRuntime) -> Result<(), Fail> {
     let opened = Opened::new(table(rt.alloc(), 5)?);
     let read = finds_the_newest::<Brand, _>(&rt, rt.alloc(), opened)?;
-    assert_eq!(rt; read, [5, 5, 6, 7, 7, 7]);
+    expect_equal(&rt, &read, &[5, 5, 6, 7, 7, 7]);
     Ok(())
 }
 
@@ -81,7 +82,7 @@ fn read_by_both<N: Naming, W: Board<Slot<N>> + Drop>(
 fn a_meeting_ends_with_the_newest_table(rt: HostRuntime) -> Result<(), Fail> {
     let opened = Opened::new(table(rt.alloc(), 0)?);
     let read = meets_the_newest::<Brand, _>(&rt, rt.alloc(), opened)?;
-    assert_eq!(rt; read, [2, 2, 2]);
+    expect_equal(&rt, &read, &[2, 2, 2]);
     Ok(())
 }
 
@@ -122,7 +123,7 @@ fn read_by_one<N: Naming, W: Board<Slot<N>> + Drop>(
 fn a_reader_beside_the_publisher_never_goes_back(rt: HostRuntime) -> Result<(), Fail> {
     let opened = Opened::new(table(rt.alloc(), 0)?);
     let read = read_beside_the_publisher::<Brand, _, _>(&rt, &rt, rt.alloc(), opened);
-    assert_eq!(rt; read, Some((200, 200)));
+    expect_equal(&rt, &read, &Some((200, 200)));
     Ok(())
 }
 
@@ -221,7 +222,7 @@ fn a_table_that_finds_no_memory_can_come_again(rt: HostRuntime) -> Result<(), Fa
             continue;
         };
         if let Some(read) = twice_published::<Brand, _>(&rt, rt.alloc(), Opened::new(first)) {
-            assert_eq!(rt; read, (2, 2));
+            expect_equal(&rt, &read, &(2, 2));
             return Ok(());
         }
     }

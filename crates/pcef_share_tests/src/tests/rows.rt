@@ -2,6 +2,7 @@
 
 use super::desks::{Task, tell_desks};
 use super::*;
+use crate::tests::expect_equal;
 use pcef_rule::BearerId;
 use std::sync::Wait;
 use std::thread::Threads;
@@ -206,7 +207,7 @@ fn two_desks_in_threads_leave_nothing_granted(rt: HostRuntime) -> Result<(), Fai
     else {
         return Err("there is no memory for two desks")?;
     };
-    assert_eq!(rt; seen.odd, 0);
-    assert_eq!(rt; granted, both(0));
+    expect_equal(&rt, &seen.odd, &0);
+    expect_equal(&rt, &granted, &both(0));
     Ok(())
 }

@@ -3,6 +3,7 @@ ghost use Rattle.std.specs.Prelude.{◌≡◌, ◌<◌, ◌+◌, IfSome, length,
 ghost use Rattle.arrayvec.specs.ArrayVec.{array_vec_len};
 ghost use Rattle.pcef_share.specs.Names.{name_at};
 
+use crate::tests::expect_equal;
 use arrayvec::ArrayVec;
 use pcef_rule::Slot;
 use pcef_share::{Blanks, Books, MAX_SHARES, Naming, Shares, SharesOut};
@@ -17,9 +18,10 @@ type Handed<N> = ArrayVec<Option<Shares<N>>, MAX_SHARES>;
 #[test]
 fn a_missing_share_is_told(rt: HostRuntime) {
     let sums = [0, 0, 0, 628, 0, 0, 0, 40, 1, 5];
-    assert_eq!(rt;
-        one_of_two_is_missing::<Brand>(Blanks::new()),
-        Some((sums, SharesOut(1), sums))
+    expect_equal(
+        &rt,
+        &one_of_two_is_missing::<Brand>(Blanks::new()),
+        &Some((sums, SharesOut(1), sums)),
     );
 }
 
@@ -91,9 +93,10 @@ fn with_the_second<N: Naming>(
 #[test]
 fn each_number_of_missing_shares_is_told(rt: HostRuntime) {
     // 17 are missing, then 16, and so on: 153 in all.
-    assert_eq!(rt;
-        as_many_as_there_can_be::<Brand>(Blanks::new()),
-        Some((153, [0, 0, 0, 0, 0, 0, 0, 0, 0, 17]))
+    expect_equal(
+        &rt,
+        &as_many_as_there_can_be::<Brand>(Blanks::new()),
+        &Some((153, [0, 0, 0, 0, 0, 0, 0, 0, 0, 17])),
     );
 }
 
@@ -163,8 +166,12 @@ fn one_more<N: Naming>(
 #[test]
 fn two_threads_add_under_a_lock(rt: HostRuntime) -> Result<(), Fail> {
     let (each, all) = added_by_two::<Brand, _>(&rt, Blanks::new()).ok_or("a share is missing")?;
-    assert_eq!(rt; each, [0, 0, 56_000, 600_000, 0, 0, 0, 0, 3_000, 3_000]);
-    assert_eq!(rt; all, each);
+    expect_equal(
+        &rt,
+        &each,
+        &[0, 0, 56_000, 600_000, 0, 0, 0, 0, 3_000, 3_000],
+    );
+    expect_equal(&rt, &all, &each);
     Ok(())
 }
 

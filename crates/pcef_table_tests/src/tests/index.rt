@@ -5,6 +5,7 @@ ghost use Rattle.pcef_catalog.specs.declared.listing.Offer.{Offer};
 ghost use Rattle.pcef_table.specs.Sources.{IsKnown};
 ghost use Rattle.pcef_table.specs.Tables.{IsTable};
 
+use crate::tests::expect_equal;
 use crate::tests::tables::{
     ALL, DNS, DNS_ANSWER, Step, UE, UE_V6, catalog_of, empty_catalog, empty_table, entry_of,
     padded, passed, properties_of, table_of, with_entry,
@@ -152,7 +153,7 @@ fn have_candidates(rt: &impl Abort, index: &Index) {
         (of_another_port, [Some(0), Some(1), None]),
     ];
     for (header, places) in &rows {
-        assert_eq!(rt; candidates_of(index, header), *places);
+        expect_equal(rt, &candidates_of(index, header), &*places);
     }
 }
 
@@ -601,14 +602,18 @@ fn wrong_of_both_versions(alloc: Global) -> Option<(Option<u128>, Option<(Addr, 
 
 #[test]
 fn rules_and_packets_of_both_versions(rt: HostRuntime) {
-    assert_eq!(rt; wrong_of_both_versions(rt.alloc()), Some((None, None)));
+    expect_equal(
+        &rt,
+        &wrong_of_both_versions(rt.alloc()),
+        &Some((None, None)),
+    );
 }
 
 // It ends in error where there is no table. `.ci/refused-memory` refuses each allocation in turn.
 #[test]
 fn a_build_that_finds_no_memory_can_come_again(rt: HostRuntime) -> Result<(), Fail> {
     match judged_at_a_second_try(rt.alloc()) {
-        Some(verdict) => assert_eq!(rt; verdict, passed("b", 5)),
+        Some(verdict) => expect_equal(&rt, &verdict, &passed("b", 5)),
         None => Err("there is no table to build an index of")?,
     }
     Ok(())

@@ -1,6 +1,7 @@
 //! Which indexes stand on a shelf. That a table took one from there is seen when the table that brought it is gone: what
 //! nobody else owns leaves the shelf with the next index that comes.
 
+use crate::tests::expect_equal;
 use crate::tests::tables::{ALL, Step, empty_catalog, padded, table_of};
 use pcef_catalog::Catalog;
 use pcef_index::{IndexShelf, Indexed};
@@ -47,7 +48,11 @@ fn numbers(alloc: Global, shelf: &mut IndexShelf) -> Option<[usize; 5]> {
 #[test]
 fn tables_of_equal_rules_share_an_index(rt: HostRuntime) {
     let mut shelf = IndexShelf::new(rt.alloc());
-    assert_eq!(rt; numbers(rt.alloc(), &mut shelf), Some([0, 1, 1, 2, 2]));
+    expect_equal(
+        &rt,
+        &numbers(rt.alloc(), &mut shelf),
+        &Some([0, 1, 1, 2, 2]),
+    );
 }
 
 /// How many there are once twenty tables of different rules shared theirs.
@@ -65,5 +70,5 @@ fn of_twenty(alloc: Global) -> Option<usize> {
 
 #[test]
 fn a_shelf_keeps_sixteen_indexes(rt: HostRuntime) {
-    assert_eq!(rt; of_twenty(rt.alloc()), Some(16));
+    expect_equal(&rt, &of_twenty(rt.alloc()), &Some(16));
 }

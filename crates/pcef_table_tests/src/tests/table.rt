@@ -2,6 +2,7 @@
 ghost use Rattle.std.specs.Prelude.{IfSome};
 ghost use Rattle.pcef_table.specs.Tables.{IsTable};
 
+use crate::tests::expect_equal;
 use crate::tests::tables::{
     DNS, DNS_ANSWER, Step, UE, catalog_of, empty_catalog, next, passed, table_of,
 };
@@ -109,7 +110,11 @@ fn verdicts_of_a_dns_answer(rt: HostRuntime) {
 
 #[test]
 fn a_packet_of_another_address_is_a_stray(rt: HostRuntime) {
-    assert_eq!(rt; verdict_of_an_uplink_one(rt.alloc()), Some(Verdict::Stray));
+    expect_equal(
+        &rt,
+        &verdict_of_an_uplink_one(rt.alloc()),
+        &Some(Verdict::Stray),
+    );
 }
 
 fn verdict_of_an_uplink_one(alloc: Global) -> Option<Verdict> {
@@ -141,12 +146,13 @@ fn bearer_at(table: &Table, place: usize) -> Option<BearerId> {
 
 #[test]
 fn a_generation_after_another(rt: HostRuntime) {
-    assert_eq!(rt;
-        seen_around_a_removal(rt.alloc()),
-        Some([
+    expect_equal(
+        &rt,
+        &seen_around_a_removal(rt.alloc()),
+        &Some([
             (2, 2, [Some(BearerId(5)), Some(BearerId(6)), None]),
-            (3, 1, [Some(BearerId(6)), None, None])
-        ])
+            (3, 1, [Some(BearerId(6)), None, None]),
+        ]),
     );
 }
 
@@ -172,7 +178,11 @@ fn seen_without_a<C: Offers>(alloc: Global, catalog: &C, table: &Table) -> Optio
 #[test]
 fn a_generation_without_the_rules_of_a_bearer(rt: HostRuntime) {
     let seen = (4, 1, [Some(BearerId(5)), None, None]);
-    assert_eq!(rt; without_bearer_6(rt.alloc()), Some((seen, passed("b", 5))));
+    expect_equal(
+        &rt,
+        &without_bearer_6(rt.alloc()),
+        &Some((seen, passed("b", 5))),
+    );
 }
 
 /// What is seen without the rules of bearer 6, and the verdict of a DNS answer.
@@ -200,9 +210,10 @@ fn seen_without_bearer_6<C: Detects>(catalog: &C, table: &Table) -> Option<(Seen
 
 #[test]
 fn counting_of_a_slot(rt: HostRuntime) {
-    assert_eq!(rt;
-        slots_counted(rt.alloc()),
-        Some([None, None, Some(Slot(3)), None, None])
+    expect_equal(
+        &rt,
+        &slots_counted(rt.alloc()),
+        &Some([None, None, Some(Slot(3)), None, None]),
     );
 }
 
@@ -320,7 +331,7 @@ fn session_slots_come_and_go(alloc: Global) -> Result<[bool; 4], AllocError> {
 
 #[test]
 fn slots_of_session_level(rt: HostRuntime) {
-    assert_eq!(rt; session_slots_come_and_go(rt.alloc()), Ok([true; 4]));
+    expect_equal(&rt, &session_slots_come_and_go(rt.alloc()), &Ok([true; 4]));
 }
 
 #[test]

@@ -2,6 +2,7 @@
 
 ghost use Rattle.std.specs.Prelude.{reverse};
 
+use crate::tests::expect_equal;
 use pcef_history::History;
 use pcef_model::{AccessKind, Body, Cause, InactiveCause, NoticeValue, Report};
 use pcef_rule::{KeyName, RuleName};
@@ -182,9 +183,10 @@ fn deliveries(alloc: Global, rows: &[Row], first: u64, kinds: &[ReportKind]) -> 
 fn a_refused_report_is_delivered_again(rt: HostRuntime) {
     let reporters = [(ReportKind::Usage, 2), (ReportKind::Access, 0)];
     let kinds = [ReportKind::Usage, ReportKind::Usage, ReportKind::Access];
-    assert_eq!(rt;
-        deliveries(rt.alloc(), &reporters, 0, &kinds),
-        Some([seen(1, Some(1), [70, 7, 7]), seen(2, None, [701, 72, 7])])
+    expect_equal(
+        &rt,
+        &deliveries(rt.alloc(), &reporters, 0, &kinds),
+        &Some([seen(1, Some(1), [70, 7, 7]), seen(2, None, [701, 72, 7])]),
     );
     deliveries_join();
 }
@@ -203,9 +205,10 @@ fn each_kind_goes_to_its_reporter(rt: HostRuntime) {
         ReportKind::Usage,
         ReportKind::Inactive,
     ];
-    assert_eq!(rt;
-        deliveries(rt.alloc(), &reporters, 0, &kinds),
-        Some([seen(5, None, [713, 72, 704]), seen(0, None, [713, 72, 704])])
+    expect_equal(
+        &rt,
+        &deliveries(rt.alloc(), &reporters, 0, &kinds),
+        &Some([seen(5, None, [713, 72, 704]), seen(0, None, [713, 72, 704])]),
     );
 }
 
@@ -218,9 +221,10 @@ fn a_kind_without_a_reporter_is_passed_over(rt: HostRuntime) {
         ReportKind::Inactive,
         ReportKind::Usage,
     ];
-    assert_eq!(rt;
-        deliveries(rt.alloc(), &reporters, 5, &kinds),
-        Some([seen(2, Some(7), [7, 7, 7]), seen(2, None, [7, 7, 77])])
+    expect_equal(
+        &rt,
+        &deliveries(rt.alloc(), &reporters, 5, &kinds),
+        &Some([seen(2, Some(7), [7, 7, 7]), seen(2, None, [7, 7, 77])]),
     );
 }
 
@@ -228,17 +232,19 @@ fn a_kind_without_a_reporter_is_passed_over(rt: HostRuntime) {
 fn a_refusal_at_the_first_sends_nothing(rt: HostRuntime) {
     let reporters = [(ReportKind::Access, 1)];
     let kinds = [ReportKind::Access, ReportKind::Access];
-    assert_eq!(rt;
-        deliveries(rt.alloc(), &reporters, 3, &kinds),
-        Some([seen(0, Some(3), [7, 7, 7]), seen(2, None, [7, 734, 7])])
+    expect_equal(
+        &rt,
+        &deliveries(rt.alloc(), &reporters, 3, &kinds),
+        &Some([seen(0, Some(3), [7, 7, 7]), seen(2, None, [7, 734, 7])]),
     );
 }
 
 #[test]
 fn no_reporter_and_no_report(rt: HostRuntime) {
-    assert_eq!(rt;
-        none_and_one(rt.alloc()),
-        Some([seen(0, None, [7, 7, 7]), seen(1, None, [7, 7, 7])])
+    expect_equal(
+        &rt,
+        &none_and_one(rt.alloc()),
+        &Some([seen(0, None, [7, 7, 7]), seen(1, None, [7, 7, 7])]),
     );
 }
 
@@ -260,14 +266,15 @@ fn two_reporters_of_a_kind_come_back(rt: HostRuntime) {
         (ReportKind::Access, 0),
         (ReportKind::Usage, 0),
     ];
-    assert_eq!(rt;
-        kinds_back(rt.alloc(), &reporters),
-        Some([
+    expect_equal(
+        &rt,
+        &kinds_back(rt.alloc(), &reporters),
+        &Some([
             Some(ReportKind::Usage),
             Some(ReportKind::Access),
             Some(ReportKind::Usage),
-            None
-        ])
+            None,
+        ]),
     );
 }
 

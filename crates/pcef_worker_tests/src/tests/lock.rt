@@ -5,6 +5,7 @@ ghost use Rattle.pcef_lock.specs.Opening.{GoesBy};
 
 mod opening;
 
+use crate::tests::expect_equal;
 use crate::tests::sessions::{monitor, packet, packet_from, session, vid, web};
 use pcef_catalog::{Catalog, Detects, Offers};
 use pcef_journaled::JournaledState;
@@ -45,7 +46,7 @@ fn rows_count_for_the_keys_of_their_tables(rt: HostRuntime) -> Result<(), Fail> 
     );
     let before = [0, 0, 0, 0, 0, 0, 0, 0, 0, 2];
     let after = [628, 0, 0, 0, 0, 0, 0, 0, 3, 2];
-    assert_eq!(rt; told, Some((before, after)));
+    expect_equal(&rt, &told, &Some((before, after)));
     Ok(())
 }
 
@@ -179,7 +180,7 @@ fn two_workers_hand_over_and_the_desk_is_told(rt: HostRuntime) -> Result<(), Fai
         opened,
         Blanks::new(),
     );
-    assert_eq!(rt; told, Some([200, 100, 65_600, 0, 3]));
+    expect_equal(&rt, &told, &Some([200, 100, 65_600, 0, 3]));
     Ok(())
 }
 

@@ -3,6 +3,7 @@
 use super::Step::*;
 use super::opening::{Lock, tell};
 use super::*;
+use crate::tests::expect_equal;
 
 /// What happens in a session that takes so many rows, behind a lock with so many places for workers, and what the end
 /// tells.
@@ -401,6 +402,6 @@ fn a_worker_that_finds_no_memory_can_go_on(rt: HostRuntime) -> Result<(), Fail> 
         at_last: true,
     };
     let told = tell(&rt, rt.alloc(), 100, lock, WITHOUT_MEMORY)?;
-    assert_eq!(rt; told, (None, [1, 3, 0, 668, 628, 40, 1]));
+    expect_equal(&rt, &told, &(None, [1, 3, 0, 668, 628, 40, 1]));
     Ok(())
 }

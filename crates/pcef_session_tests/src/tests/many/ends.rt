@@ -1,5 +1,6 @@
 //! Readers and writers that fail.
 
+use crate::tests::expect_equal;
 use pcef_built_in::ShapedCatalog;
 use pcef_profile::read_profile;
 use pcef_script::ScriptFault;
@@ -99,8 +100,8 @@ fn a_writer_that_fails_has_a_front_of_the_answers(rt: HostRuntime) -> Result<(),
         assert_eq!(rt; taken.as_slice(), ANSWERS.split_at(room).0, "{room}");
     }
     let (end, taken) = ended(&rt, LINES.len(), false, ANSWERS.len())?;
-    assert_eq!(rt; end, Ok(true));
-    assert_eq!(rt; taken.as_slice(), ANSWERS);
+    expect_equal(&rt, &end, &Ok(true));
+    expect_equal(&rt, &taken.as_slice(), &ANSWERS);
     Ok(())
 }
 

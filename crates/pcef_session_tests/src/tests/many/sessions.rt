@@ -1,6 +1,7 @@
 //! Sessions that take turns answer as scripts of their own.
 
 use super::served;
+use crate::tests::expect_equal;
 use pcef_test_scripts::{PROFILE, run, script_of};
 use std::alloc::Global;
 use std::test::Fail;
@@ -76,7 +77,7 @@ fn sessions_that_take_turns_answer_as_scripts_of_their_own(rt: HostRuntime) -> R
     let (answers, any) = served(&rt, lines.as_str())?;
     assert!(rt; any);
     let (script, faults) = run(alloc, PROFILE, script_of(alloc, &SCRIPT)?.as_str())?;
-    assert_eq!(rt; faults, 2);
+    expect_equal(&rt, &faults, &2);
     for &name in &NAMES {
         let own = under(alloc, answers.as_str(), name)?;
         let due = format!(in alloc; "{{\"ok\":true}}\n{script}{{\"ok\":true}}\n")?;
@@ -92,7 +93,7 @@ fn a_session_comes_and_goes(rt: HostRuntime) -> Result<(), Fail> {
     let due =
         "a {\"name\":\"NoSession\",\"refused\":0}\na {\"name\":\"NoSession\",\"refused\":0}\na {\"ok\":true}\na {\"generation\":0,\"ok\":true,\"worker\":0}\na {\"name\":\"SessionIsOpen\",\"refused\":1}\nb {\"name\":\"NoSession\",\"refused\":0}\na {\"generation\":0,\"ok\":true,\"worker\":1}\na {\"ok\":true}\na {\"name\":\"NoSession\",\"refused\":0}\na {\"ok\":true}\na {\"generation\":0,\"ok\":true,\"worker\":0}\n";
     let (answers, any) = served(&rt, lines)?;
-    assert_eq!(rt; answers.as_str(), due);
+    expect_equal(&rt, &answers.as_str(), &due);
     assert!(rt; !any);
     Ok(())
 }

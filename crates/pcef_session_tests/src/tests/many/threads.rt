@@ -1,6 +1,7 @@
 //! Threads answer as one does.
 
 use super::served;
+use crate::tests::expect_equal;
 use pcef_profile::read_profile;
 use pcef_script::ScriptFault;
 use pcef_shards::{Outlet, serve_in_threads};
@@ -231,7 +232,7 @@ fn long_lines(alloc: Global) -> Result<String, Fail> {
 #[test]
 fn a_line_may_be_longer_than_a_block(rt: HostRuntime) -> Result<(), Fail> {
     let lines = long_lines(rt.alloc())?;
-    assert_eq!(rt; difference(rt, &rt, lines.as_str(), 4, 100_000)?, "");
+    expect_equal(&rt, &difference(rt, &rt, lines.as_str(), 4, 100_000)?, &"");
     Ok(())
 }
 
@@ -242,10 +243,11 @@ fn a_reader_that_fails_leaves_the_answers_to_whole_lines(rt: HostRuntime) -> Res
     let (one, _) = served(&rt, lines.as_str())?;
     let reader = Giving::new(alloc, lines.as_bytes(), 1000, true)?;
     let (all, any) = served_in(rt, &rt, 3, reader)?;
-    assert_eq!(rt; any, Err(ScriptFault::Read));
-    assert_eq!(rt;
-        octets_on(&all).saturating_add("a {\"ok\":true}\n".len()),
-        one.len()
+    expect_equal(&rt, &any, &Err(ScriptFault::Read));
+    expect_equal(
+        &rt,
+        &octets_on(&all).saturating_add("a {\"ok\":true}\n".len()),
+        &one.len(),
     );
     Ok(())
 }
@@ -289,7 +291,7 @@ fn ended_on<T: Threads + Wait + Drop + Send + Sync + Copy + 'static>(
 fn a_writer_that_fails_ends_all_threads(rt: HostRuntime) -> Result<(), Fail> {
     let lines = lines_of_every_form(rt.alloc())?;
     let (one, _) = served(&rt, lines.as_str())?;
-    assert_eq!(rt; ended_on(rt, &rt, lines.as_str(), one.len())?, (0, 4));
+    expect_equal(&rt, &ended_on(rt, &rt, lines.as_str(), one.len())?, &(0, 4));
     assert!(rt; ended_on(rt, &rt, lines.as_str(), one.len().saturating_sub(1))?.0 > 0);
     assert!(rt; ended_on(rt, &rt, lines.as_str(), 300)?.0 > 0);
     Ok(())

@@ -1,6 +1,7 @@
 //! Commands that are given while packets come, their answers and their reports.
 
 use super::*;
+use crate::tests::expect_equal;
 use pcef_model::{Accepted, Body, Cause, Level, Refusal, Report, TriggerSet};
 use pcef_rule::{BearerId, RuleName};
 use pcef_worker::OpenGate;
@@ -60,7 +61,7 @@ fn report_is_told(rt: &impl Abort, ended: &Ended) {
         unreported: 56u64.saturating_sub(octets),
         ..Figures::default()
     };
-    assert_eq!(rt; told(ended), Some(expected));
+    expect_equal(rt, &told(ended), &Some(expected));
 }
 
 /// Commands of which only the last one is accepted.
@@ -114,13 +115,17 @@ fn answers_are_told(rt: &impl Abort, ended: &Ended) {
         Err(Refusal::UnknownRule),
         Ok(unreported),
     ];
-    assert_eq!(rt; ended.answers.as_slice(), answers.as_slice());
+    expect_equal(rt, &ended.answers.as_slice(), &answers.as_slice());
     let expected = Figures {
         commands: 3,
         keys: 1,
         ..Figures::default()
     };
-    assert_eq!(rt; (told(ended), ended.reports.len()), (Some(expected), 0));
+    expect_equal(
+        rt,
+        &(told(ended), ended.reports.len()),
+        &(Some(expected), 0),
+    );
 }
 
 #[test]
@@ -157,7 +162,7 @@ fn both_reports_are_told(rt: &impl Abort, ended: &Ended) {
         unreported: 28u64.saturating_sub(octets),
         ..Figures::default()
     };
-    assert_eq!(rt; told(ended), Some(expected));
+    expect_equal(rt, &told(ended), &Some(expected));
 }
 
 // The rule is installed once 100 packets were sent, of which 64 at most are in the ring still: 36 were judged before at
@@ -213,5 +218,5 @@ fn whole_answers_are_told(rt: &impl Abort, ended: &Ended) {
         Ok(answer(2, None, (1, 1))),
         Err(Refusal::Closed),
     ];
-    assert_eq!(rt; ended.answers.as_slice(), answers.as_slice());
+    expect_equal(rt, &ended.answers.as_slice(), &answers.as_slice());
 }

@@ -1,6 +1,7 @@
 //! How often a worker hands rows over, counted by a gate.
 
 use super::*;
+use crate::tests::expect_equal;
 use crate::tests::sessions::packet_from;
 use pcef_worker::Point;
 use std::sync::atomic::{AtomicBool, AtomicU64, Ordering};
@@ -65,7 +66,7 @@ fn packets_that_came_meanwhile_are_handed_over_together(rt: HostRuntime) -> Resu
     let (arrivals, commands) = (packets_of_two(alloc, 65, 1)?, Vec::new(alloc));
     let ended = run(&rt, alloc, monitored(alloc)?, arrivals, commands, 2, &gate)??;
     let told = figures_of(ended).unwrap_or_default();
-    assert_eq!(rt; (told.rows, told.dropped), (66, 0));
+    expect_equal(&rt, &(told.rows, told.dropped), &(66, 0));
     assert!(rt; gate.flushes.load(Ordering::SeqCst) <= 4);
     Ok(())
 }
@@ -94,7 +95,7 @@ fn what_comes_during_a_flush_judges_the_packets_behind_it(rt: HostRuntime) -> Re
     let session = accepted(session(alloc, 1000)?, monitor(1_000_000)?)?;
     let ended = run(&rt, alloc, session, arrivals, commands, 2, &gate)??;
     let told = figures_of(ended).unwrap_or_default();
-    assert_eq!(rt; told.rows, 130);
+    expect_equal(&rt, &told.rows, &130);
     assert!(rt; told.counted / 28 >= 33);
     Ok(())
 }

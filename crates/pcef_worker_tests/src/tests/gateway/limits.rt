@@ -1,6 +1,7 @@
 //! Runs that come to nothing, and those at a limit.
 
 use super::*;
+use crate::tests::expect_equal;
 use pcef_worker::OpenGate;
 
 /// The fault of a run of a new session without commands.
@@ -26,17 +27,20 @@ fn fault<R: Threads + Wait + Sync>(
 #[test]
 fn there_are_one_to_sixteen_workers(rt: HostRuntime) -> Result<(), Fail> {
     let alloc = rt.alloc();
-    assert_eq!(rt;
-        fault(&rt, alloc, Vec::new(alloc), 0)?,
-        Some(RunFault::Workers)
+    expect_equal(
+        &rt,
+        &fault(&rt, alloc, Vec::new(alloc), 0)?,
+        &Some(RunFault::Workers),
     );
-    assert_eq!(rt;
-        fault(&rt, alloc, packets(alloc, 1, 1)?, 0)?,
-        Some(RunFault::Workers)
+    expect_equal(
+        &rt,
+        &fault(&rt, alloc, packets(alloc, 1, 1)?, 0)?,
+        &Some(RunFault::Workers),
     );
-    assert_eq!(rt;
-        fault(&rt, alloc, Vec::new(alloc), 17)?,
-        Some(RunFault::Workers)
+    expect_equal(
+        &rt,
+        &fault(&rt, alloc, Vec::new(alloc), 17)?,
+        &Some(RunFault::Workers),
     );
     Ok(())
 }
@@ -54,7 +58,7 @@ fn sixteen_workers_may_come(rt: HostRuntime) -> Result<(), Fail> {
         16,
         &OpenGate,
     )??;
-    assert_eq!(rt; figures_of(ended), Some(Figures::default()));
+    expect_equal(&rt, &figures_of(ended), &Some(Figures::default()));
     Ok(())
 }
 
@@ -62,9 +66,10 @@ fn sixteen_workers_may_come(rt: HostRuntime) -> Result<(), Fail> {
 fn a_packet_for_nobody_is_refused(rt: HostRuntime) -> Result<(), Fail> {
     let alloc = rt.alloc();
     let arrivals = packets(alloc, 1, 3)?;
-    assert_eq!(rt;
-        fault(&rt, alloc, arrivals, 2)?,
-        Some(RunFault::StrangeWorker)
+    expect_equal(
+        &rt,
+        &fault(&rt, alloc, arrivals, 2)?,
+        &Some(RunFault::StrangeWorker),
     );
     Ok(())
 }
@@ -75,7 +80,7 @@ fn no_worker_comes_to_a_closed_session(rt: HostRuntime) -> Result<(), Fail> {
     let closed = accepted(monitored(alloc)?, Command::Close)?;
     let (arrivals, commands) = (packets(alloc, 1, 1)?, Vec::new(alloc));
     let fault = run(&rt, alloc, closed, arrivals, commands, 1, &OpenGate)?.err();
-    assert_eq!(rt; fault, Some(RunFault::Attach));
+    expect_equal(&rt, &fault, &Some(RunFault::Attach));
     Ok(())
 }
 
@@ -105,6 +110,6 @@ fn each_packet_of_a_full_session_is_told_of(rt: HostRuntime) -> Result<(), Fail>
         dropped: left,
         ..Figures::default()
     };
-    assert_eq!(rt; told, expected);
+    expect_equal(&rt, &told, &expected);
     Ok(())
 }

@@ -2,6 +2,7 @@
 
 use super::workers::TWO_COUNTED;
 use super::*;
+use crate::tests::expect_equal;
 use pcef_worker::OpenGate;
 
 /// What two workers make of a packet each, or the fault of the run.
@@ -38,10 +39,10 @@ fn is_of_memory(fault: RunFault) -> bool {
 fn a_run_without_memory_comes_to_nothing(rt: HostRuntime) -> Result<(), Fail> {
     let alloc = rt.alloc();
     match two_counted(&rt, alloc)? {
-        Ok(told) => assert_eq!(rt; told, Some(TWO_COUNTED)),
+        Ok(told) => expect_equal(&rt, &told, &Some(TWO_COUNTED)),
         Err(fault) => {
             assert!(rt; is_of_memory(fault));
-            assert_eq!(rt; two_counted(&rt, alloc)??, Some(TWO_COUNTED));
+            expect_equal(&rt, &two_counted(&rt, alloc)??, &Some(TWO_COUNTED));
         }
     }
     Ok(())

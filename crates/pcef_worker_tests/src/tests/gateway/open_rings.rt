@@ -3,6 +3,7 @@
 use super::flushes::packets_of_two;
 use super::workers::TWO_COUNTED;
 use super::*;
+use crate::tests::expect_equal;
 use pcef_worker::Point;
 use std::sync::atomic::{AtomicBool, Ordering};
 use std::thread::yield_now;
@@ -56,7 +57,7 @@ fn rows_are_handed_over_while_the_ring_goes_on(rt: HostRuntime) -> Result<(), Fa
         unreported: 5684,
         ..TWO_COUNTED
     };
-    assert_eq!(rt; figures_of(ended), Some(expected));
+    expect_equal(&rt, &figures_of(ended), &Some(expected));
     assert!(rt; !gate.gave_up.load(Ordering::SeqCst));
     Ok(())
 }

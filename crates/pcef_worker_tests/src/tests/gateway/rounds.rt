@@ -1,6 +1,7 @@
 //! Runs, over and over.
 
 use super::*;
+use crate::tests::expect_equal;
 use pcef_worker::OpenGate;
 
 /// Runs of so many workers, each of which takes so many packets, behind so many commands.
@@ -52,7 +53,7 @@ fn a_packet_is_taken_behind_which_the_ring_ends(rt: HostRuntime) -> Result<(), F
         commands: 20,
     };
     let told = rows_and_dropped(&rt, rt.alloc(), rounds)?;
-    assert_eq!(rt; told, (500, 0));
+    expect_equal(&rt, &told, &(500, 0));
     Ok(())
 }
 
@@ -65,6 +66,6 @@ fn sixteen_workers_drop_no_packet(rt: HostRuntime) -> Result<(), Fail> {
         commands: 0,
     };
     let told = rows_and_dropped(&rt, rt.alloc(), rounds)?;
-    assert_eq!(rt; told, (6400, 0));
+    expect_equal(&rt, &told, &(6400, 0));
     Ok(())
 }

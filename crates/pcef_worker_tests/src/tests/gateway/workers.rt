@@ -1,6 +1,7 @@
 //! Workers in threads of their own.
 
 use super::*;
+use crate::tests::expect_equal;
 use pcef_worker::{OpenGate, Point};
 use std::sync::atomic::{AtomicBool, Ordering};
 use std::thread::yield_now;
@@ -32,7 +33,7 @@ fn each_worker_takes_its_packet(rt: HostRuntime) -> Result<(), Fail> {
         &OpenGate,
     )??;
     assert!(rt; ended.answers.is_empty() && ended.reports.is_empty());
-    assert_eq!(rt; figures_of(ended), Some(TWO_COUNTED));
+    expect_equal(&rt, &figures_of(ended), &Some(TWO_COUNTED));
     Ok(())
 }
 
@@ -99,7 +100,7 @@ fn workers_run_at_once(rt: HostRuntime) -> Result<(), Fail> {
         &meeting,
     )??;
     assert!(rt; meeting.took_place());
-    assert_eq!(rt; figures_of(ended), Some(TWO_COUNTED));
+    expect_equal(&rt, &figures_of(ended), &Some(TWO_COUNTED));
     Ok(())
 }
 
@@ -137,7 +138,7 @@ fn packets_wait_for_a_worker_that_is_held_up(rt: HostRuntime) -> Result<(), Fail
         unreported: 5600,
         ..TWO_COUNTED
     };
-    assert_eq!(rt; figures_of(ended), Some(expected));
+    expect_equal(&rt, &figures_of(ended), &Some(expected));
     assert!(rt; delay.begun.load(Ordering::SeqCst));
     Ok(())
 }

@@ -4,6 +4,7 @@ ghost use Rattle.std.specs.Prelude.{◌≡◌, []};
 ghost use Rattle.pcef_lock.specs.Opening.{GoesBy};
 
 use super::*;
+use crate::tests::expect_equal;
 use pcef_lock::SharedFault;
 use std::thread::Threads;
 
@@ -15,7 +16,7 @@ fn a_lock_has_one_to_sixteen_places(rt: HostRuntime) -> Result<(), Fail> {
         tell_places(&rt, rt.alloc(), 16)?,
         tell_places(&rt, rt.alloc(), 17)?,
     ];
-    assert_eq!(rt; told, [Some(1), Some(0), Some(0), Some(1)]);
+    expect_equal(&rt, &told, &[Some(1), Some(0), Some(0), Some(1)]);
     Ok(())
 }
 
