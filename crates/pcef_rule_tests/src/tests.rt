@@ -5,3 +5,11 @@ mod filter;
 mod ipv6;
 mod packet;
 mod rule;
+
+use std::fmt::Debug;
+use std::process::Abort;
+
+/// Expects what is due. It stands here once, for a comparison in each test takes longer to prove.
+fn expect_equal<T: Debug + PartialEq>(rt: &impl Abort, found: &T, due: &T) {
+    assert_eq!(rt; found, due);
+}

@@ -3,6 +3,7 @@ ghost use Rattle.std.specs.Prelude.{◌≡◌, [], ◌∷◌};
 ghost use Rattle.pcef_catalog.specs.Shapes.{test_holds};
 ghost use Rattle.pcef_catalog.specs.declared.shape.Test.TheVariants.{Dscp, Proto};
 
+use super::expect_equal;
 use arrayvec::ArrayVec;
 use pcef_catalog::{
     Alternative, Catalog, CatalogFault, Detect, Detects, Listing, Offer, Offers, Predefined, Shape,
@@ -95,27 +96,29 @@ fn rules_that_make_a_catalog_or_none(rt: HostRuntime) {
         places_of_numbered(rt.alloc(), 32),
         places_of_numbered(rt.alloc(), 33),
     ];
-    assert_eq!(rt;
-        answers,
-        [
+    expect_equal(
+        &rt,
+        &answers,
+        &[
             Some(Err(CatalogFault::SameName)),
             Some(Ok([NOWHERE; 5])),
             Some(Err(CatalogFault::TooMany)),
-        ]
+        ],
     );
 }
 
 #[test]
 fn places_of_names(rt: HostRuntime) {
-    assert_eq!(rt;
-        places_of_named(rt.alloc(), &["web", "mail", "webmail"]),
-        Some(Ok([
+    expect_equal(
+        &rt,
+        &places_of_named(rt.alloc(), &["web", "mail", "webmail"]),
+        &Some(Ok([
             (Some(0), Some(0)),
             (Some(1), Some(1)),
             (Some(2), Some(2)),
             NOWHERE,
             NOWHERE,
-        ]))
+        ])),
     );
 }
 
@@ -183,7 +186,7 @@ fn place_in(catalog: &Catalog, name: &RuleName) -> Place {
 
 #[test]
 fn no_rules(rt: HostRuntime) {
-    assert_eq!(rt; told_of_no_rules(rt.alloc()), Some((0, 0, None)));
+    expect_equal(&rt, &told_of_no_rules(rt.alloc()), &Some((0, 0, None)));
 }
 
 fn told_of_no_rules(alloc: Global) -> Option<(usize, usize, Option<u8>)> {
@@ -203,9 +206,10 @@ fn told_of(catalog: &Catalog) -> Option<(usize, usize, Option<u8>)> {
 
 #[test]
 fn the_closure_is_called(rt: HostRuntime) {
-    assert_eq!(rt;
-        answers_and_calls(rt.alloc()),
-        Some((
+    expect_equal(
+        &rt,
+        &answers_and_calls(rt.alloc()),
+        &Some((
             (true, 1),
             1,
             [
@@ -214,13 +218,15 @@ fn the_closure_is_called(rt: HostRuntime) {
                 // No rule stands at the next place.
                 (false, 3),
             ],
-        ))
+        )),
     );
 }
 
 /// Whether a rule detects a packet, and how many calls of its closure there were then; how many when a catalog has the
 /// rule; and the answers of the catalog, each with how many calls there were then.
-fn answers_and_calls(alloc: Global) -> Option<((bool, u64), u64, [(bool, u64); 3])> {
+type Answers = ((bool, u64), u64, [(bool, u64); 3]);
+
+fn answers_and_calls(alloc: Global) -> Option<Answers> {
     let calls = Arc::new(alloc, AtomicU64::new(0)).ok()?;
     let theirs = Arc::try_clone(&calls).ok()?;
     let detect: Detect = Box::new(
@@ -234,15 +240,17 @@ fn answers_and_calls(alloc: Global) -> Option<((bool, u64), u64, [(bool, u64); 3
     )
     .ok()?;
     let rule = Predefined::new(named(RuleName::known("voice")), one(Test::Dscp(46)), detect);
+    of_rule_and_catalog(alloc, rule, &calls)
+}
+
+/// The same of a rule whose closure counts its calls there.
+fn of_rule_and_catalog(alloc: Global, rule: Predefined, calls: &AtomicU64) -> Option<Answers> {
     let by_rule = (rule.detects(&DNS_ANSWER), calls.load(Ordering::SeqCst));
     let mut rules = Vec::new(alloc);
     rules.push(rule).ok()?;
     let catalog = Catalog::new(alloc, rules).ok()?;
-    Some((
-        by_rule,
-        calls.load(Ordering::SeqCst),
-        by_catalog(&catalog, &calls),
-    ))
+    let held = calls.load(Ordering::SeqCst);
+    Some((by_rule, held, by_catalog(&catalog, calls)))
 }
 
 fn by_catalog(catalog: &Catalog, calls: &AtomicU64) -> [(bool, u64); 3] {
@@ -259,9 +267,10 @@ fn asked(catalog: &Catalog, calls: &AtomicU64, index: u8, header: &Header) -> (b
 
 #[test]
 fn a_listing_has_the_shape_and_no_closure(rt: HostRuntime) {
-    assert_eq!(rt;
-        told_of_a_rule(rt.alloc()),
-        Some(([true, true, true, false], [Some([true, true, false]); 2]))
+    expect_equal(
+        &rt,
+        &told_of_a_rule(rt.alloc()),
+        &Some(([true, true, true, false], [Some([true, true, false]); 2])),
     );
 }
 
@@ -340,7 +349,7 @@ const TESTS: [(Test, [bool; 3]); 16] = [
 #[test]
 fn tests_of_a_header(rt: HostRuntime) {
     for (test, wanted) in &TESTS {
-        assert_eq!(rt; (test, answers(*test)), (test, [*wanted; 3]));
+        expect_equal(&rt, &(test, answers(*test)), &(test, [*wanted; 3]));
     }
 }
 
@@ -403,12 +412,12 @@ fn are_remote(test: Test) -> [bool; 4] {
 
 #[test]
 fn remote_networks_of_both_versions(rt: HostRuntime) {
-    assert_eq!(rt; first_wrong_remote(&REMOTES), None);
+    expect_equal(&rt, &first_wrong_remote(&REMOTES), &None);
 }
 
 #[test]
 fn the_default_test(rt: HostRuntime) {
-    assert_eq!(rt; answers(Test::default()), [[false; 3]; 3]);
+    expect_equal(&rt, &answers(Test::default()), &[[false; 3]; 3]);
 }
 
 /// The answers of a test, of a shape of it and of the shape's copy, each to the three packets.
@@ -441,7 +450,7 @@ fn no_tests_and_no_alternatives(rt: HostRuntime) {
         Shape::new(alternatives).holds(&DNS_ANSWER),
         Shape::new(ArrayVec::new()).holds(&DNS_ANSWER),
     ];
-    assert_eq!(rt; answers, [true, false]);
+    expect_equal(&rt, &answers, &[true, false]);
 }
 
 /// All tests of an alternative are to be true, and one alternative is enough.
@@ -453,7 +462,7 @@ fn alternatives_and_their_tests(rt: HostRuntime) {
         shape.holds(&DNS_QUERY),
         shape.holds(&PLAIN_QUERY),
     ];
-    assert_eq!(rt; answers, [true, false, true]);
+    expect_equal(&rt, &answers, &[true, false, true]);
 }
 
 /// UDP that goes down, or a DSCP of 0.

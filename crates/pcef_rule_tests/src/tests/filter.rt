@@ -1,4 +1,5 @@
 //! Texts and packets whose meaning was worked out by hand from RFC 6733, clause 4.3.1.
+use super::expect_equal;
 use pcef_filter::{Direction, Filter, FilterFault, Flow, Place, PortRange, read_filter};
 use pcef_packet::{Addr, Dir, Header, Ports};
 
@@ -65,12 +66,13 @@ const NO_PORTS_V6: Header = Header {
 
 #[test]
 fn parts_of_a_filter(rt: HostRuntime) {
-    assert_eq!(rt;
-        parts_and_copies("permit out 17 from any 53 to assigned"),
-        Some((
+    expect_equal(
+        &rt,
+        &parts_and_copies("permit out 17 from any 53 to assigned"),
+        &Some((
             (Direction::Out, None, Some(17), Place::Any, Place::Assigned),
             [true, true, true, true],
-        ))
+        )),
     );
 }
 
@@ -134,7 +136,7 @@ fn faults_of_texts(rt: HostRuntime) {
         first_wrong(&PORT_LISTS),
         first_wrong(&PLACES_V6),
     ];
-    assert_eq!(rt; wrong, [None; 6]);
+    expect_equal(&rt, &wrong, &[None; 6]);
 }
 
 /// Texts that end early.
@@ -186,14 +188,15 @@ fn flow_words_are_judged_last(rt: HostRuntime) {
         fault_for_downlink("permit in"),
         fault_for_downlink("permit out ip from any to any"),
     ];
-    assert_eq!(rt;
-        faults,
-        [
+    expect_equal(
+        &rt,
+        &faults,
+        &[
             None,
             Some(FilterFault::Flow),
             Some(FilterFault::Proto),
-            None
-        ]
+            None,
+        ],
     );
 }
 
@@ -369,7 +372,7 @@ fn packets_and_filters(rt: HostRuntime) {
         first_wrong_match(UE_V6, &PACKETS_V6),
         first_wrong_match(UE_V6, &NETWORKS_V6),
     ];
-    assert_eq!(rt; wrong, [None; 6]);
+    expect_equal(&rt, &wrong, &[None; 6]);
 }
 
 const DNS: &str = "permit out 17 from any 53 to assigned";

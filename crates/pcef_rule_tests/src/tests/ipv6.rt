@@ -1,4 +1,5 @@
 //! Packets of version 6, whose fields were worked out by hand from RFC 8200, clauses 3 and 4.
+use super::expect_equal;
 use pcef_packet::{Addr, Dir, Header, PacketFault, Ports, read_header};
 use std::alloc::{AllocError, Global};
 
@@ -32,7 +33,7 @@ fn directions_of_a_packet(rt: HostRuntime) {
         dir: Dir::Up,
         ..DNS_HEADER
     };
-    assert_eq!(rt; [is_read(&DNS_HEADER), is_read(&uplink)], [true; 2]);
+    expect_equal(&rt, &[is_read(&DNS_HEADER), is_read(&uplink)], &[true; 2]);
 }
 
 /// The place of an octet that is changed, the octet, and the DSCP that is read then.
@@ -77,7 +78,7 @@ fn first_wrong_change(changes: &[Change]) -> Option<(usize, u8)> {
 
 #[test]
 fn changed_packets(rt: HostRuntime) {
-    assert_eq!(rt; first_wrong_change(&CHANGES), None);
+    expect_equal(&rt, &first_wrong_change(&CHANGES), &None);
 }
 
 /// The first octet that alone has another fault than its version gives.
@@ -96,7 +97,7 @@ fn first_wrong_version() -> Option<u8> {
 
 #[test]
 fn one_octet_of_each_version(rt: HostRuntime) {
-    assert_eq!(rt; first_wrong_version(), None);
+    expect_equal(&rt, &first_wrong_version(), &None);
 }
 
 /// The protocol, the ports and the volume, or the fault.
@@ -156,7 +157,7 @@ fn what_stands_behind_the_fixed_header(rt: HostRuntime) {
         first_wrong(rt.alloc(), &FRAGMENTS),
         first_wrong(rt.alloc(), &LENGTHS),
     ];
-    assert_eq!(rt; wrong, [None; 4]);
+    expect_equal(&rt, &wrong, &[None; 4]);
 }
 
 /// Protocols that have ports, and next headers at which the walk ends.
@@ -403,7 +404,7 @@ fn cuts_at_every_length(rt: HostRuntime) {
         first_wrong_cut(&DNS_ANSWER, Ok((17, PORTS, 48))),
         first_wrong_cut_with_options(rt.alloc()),
     ];
-    assert_eq!(rt; wrong, [None; 2]);
+    expect_equal(&rt, &wrong, &[None; 2]);
 }
 
 /// What is due of a payload of so many octets, which begins with a header of eight octets.
@@ -446,7 +447,7 @@ fn payloads_of_every_length(rt: HostRuntime) {
         first_wrong_payload(rt.alloc(), 44, FIRST),
         first_wrong_payload(rt.alloc(), 60, OPTIONS),
     ];
-    assert_eq!(rt; wrong, [None; 4]);
+    expect_equal(&rt, &wrong, &[None; 4]);
 }
 
 /// The kind of the headers in a chain, the octet of their length, how many there are, and what is read.
@@ -511,5 +512,5 @@ fn first_wrong_chain(alloc: Global, chains: &[Chain]) -> Option<(u8, usize)> {
 
 #[test]
 fn long_chains_of_headers(rt: HostRuntime) {
-    assert_eq!(rt; first_wrong_chain(rt.alloc(), &CHAINS), None);
+    expect_equal(&rt, &first_wrong_chain(rt.alloc(), &CHAINS), &None);
 }

@@ -1,4 +1,5 @@
 //! Packets of version 4 whose fields were worked out by hand from RFC 791 and RFC 768, and addresses of both versions.
+use super::expect_equal;
 use pcef_packet::{Addr, Dir, Header, PacketFault, Ports, read_header};
 
 /// A UDP packet of 28 octets from 198.51.100.7 port 53 to 10.0.0.2 port 5000.
@@ -32,7 +33,7 @@ fn octets_after_the_total_length_are_ignored(rt: HostRuntime) {
         read_header(Dir::Down, &DNS_ANSWER),
         read_header(Dir::Down, &longer()),
     ];
-    assert_eq!(rt; headers, [Ok(DNS_HEADER); 2]);
+    expect_equal(&rt, &headers, &[Ok(DNS_HEADER); 2]);
 }
 
 /// The packet with 18 octets after it.
@@ -56,7 +57,7 @@ fn ports_stand_after_the_options(rt: HostRuntime) {
         octets: 32,
         ..DNS_HEADER
     };
-    assert_eq!(rt; read_header(Dir::Down, &WITH_OPTIONS), Ok(expected));
+    expect_equal(&rt, &read_header(Dir::Down, &WITH_OPTIONS), &Ok(expected));
 }
 
 /// The place of the octet that is changed, the octet, and what is read then.
@@ -75,7 +76,11 @@ fn first_wrong(changes: &[Change]) -> Option<Change> {
 
 #[test]
 fn changed_packets(rt: HostRuntime) {
-    assert_eq!(rt; [first_wrong(&FIELDS), first_wrong(&FAULTS)], [None; 2]);
+    expect_equal(
+        &rt,
+        &[first_wrong(&FIELDS), first_wrong(&FAULTS)],
+        &[None; 2],
+    );
 }
 
 const FIELDS: [Change; 7] = [
@@ -150,13 +155,14 @@ fn faults_come_in_their_order(rt: HostRuntime) {
         read_header(Dir::Down, &[0x25]),
         read_header(Dir::Down, &[0x44]),
     ];
-    assert_eq!(rt;
-        faults,
-        [
+    expect_equal(
+        &rt,
+        &faults,
+        &[
             Err(PacketFault::Empty),
             Err(PacketFault::Version),
             Err(PacketFault::ShortHeader),
-        ]
+        ],
     );
 }
 
@@ -167,9 +173,10 @@ fn cuts_of_a_packet(rt: HostRuntime) {
             1..=19 => PacketFault::ShortHeader,
             _ => PacketFault::BadTotalLength,
         };
-        assert_eq!(rt;
-            (len, read_header(Dir::Down, &DNS_ANSWER[..len])),
-            (len, Err(fault))
+        expect_equal(
+            &rt,
+            &(len, read_header(Dir::Down, &DNS_ANSWER[..len])),
+            &(len, Err(fault)),
         );
     }
 }
@@ -216,7 +223,7 @@ fn first_disagreeing(rows: &[Agreeing]) -> Option<usize> {
 
 #[test]
 fn addresses_agree_in_their_first_bits(rt: HostRuntime) {
-    assert_eq!(rt; first_disagreeing(&AGREEING), None);
+    expect_equal(&rt, &first_disagreeing(&AGREEING), &None);
 }
 
 /// An address, that of a session, and whether the first is one of the session's.
@@ -260,7 +267,7 @@ fn first_wrong_session(rows: &[Assigned]) -> Option<usize> {
 
 #[test]
 fn addresses_of_a_session(rt: HostRuntime) {
-    assert_eq!(rt; first_wrong_session(&ASSIGNED), None);
+    expect_equal(&rt, &first_wrong_session(&ASSIGNED), &None);
 }
 
 #[test]
@@ -270,7 +277,7 @@ fn side_of_the_user_equipment(rt: HostRuntime) {
         ..DNS_HEADER
     };
     let sides = [uplink.ue_side(), DNS_HEADER.ue_side()];
-    assert_eq!(rt; sides, [Addr::V4(0xc633_6407), Addr::V4(0x0a00_0002)]);
+    expect_equal(&rt, &sides, &[Addr::V4(0xc633_6407), Addr::V4(0x0a00_0002)]);
 }
 
 /// Texts, and the addresses that they are.
@@ -409,5 +416,5 @@ fn first_address(texts: &[&'static str]) -> Option<&'static str> {
 #[test]
 fn addresses_in_text(rt: HostRuntime) {
     let wrong = [first_wrong_text(&RIGHT_TEXTS), first_address(&WRONG_TEXTS)];
-    assert_eq!(rt; wrong, [None; 2]);
+    expect_equal(&rt, &wrong, &[None; 2]);
 }

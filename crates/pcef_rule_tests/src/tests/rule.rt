@@ -1,4 +1,5 @@
 //! Answers that were worked out by hand from TS 23.203, clauses 6.1.7 and 6.3.1, and TS 29.212.
+use super::expect_equal;
 use arrayvec::ArrayVec;
 use pcef_filter::{Direction, Endpoint, Filter, Flow, Net, Place, PortRange};
 use pcef_packet::{Addr, Dir};
@@ -36,9 +37,10 @@ const NO_NAMES: [&str; 9] = [
 #[test]
 fn names(rt: HostRuntime) {
     for text in &NAMES {
-        assert_eq!(rt;
-            (text, shown(rt.alloc(), text)),
-            (text, Some([true, true, true]))
+        expect_equal(
+            &rt,
+            &(text, shown(rt.alloc(), text)),
+            &(text, Some([true, true, true])),
         );
     }
 }
@@ -57,13 +59,21 @@ fn shown(alloc: Global, text: &str) -> Option<[bool; 3]> {
 #[test]
 fn texts_that_are_no_names(rt: HostRuntime) {
     for text in &NO_NAMES {
-        assert_eq!(rt; (text, KeyName::new(text).err()), (text, Some(NameFault)));
+        expect_equal(
+            &rt,
+            &(text, KeyName::new(text).err()),
+            &(text, Some(NameFault)),
+        );
     }
 }
 
 #[test]
 fn a_name_in_quotes(rt: HostRuntime) {
-    assert_eq!(rt; is_quoted(rt.alloc(), "a\"b", "\"a\\\"b\""), Some(true));
+    expect_equal(
+        &rt,
+        &is_quoted(rt.alloc(), "a\"b", "\"a\\\"b\""),
+        &Some(true),
+    );
 }
 
 /// Whether a name is printed so in quotes.
@@ -102,7 +112,7 @@ const ORDERS: [(&str, &str, Order); 6] = [
 #[test]
 fn names_are_ordered_by_their_bytes(rt: HostRuntime) {
     for (one, other, order) in &ORDERS {
-        assert_eq!(rt; (one, order_of(one, other)), (one, Some(*order)));
+        expect_equal(&rt, &(one, order_of(one, other)), &(one, Some(*order)));
     }
 }
 
@@ -120,7 +130,7 @@ fn order_of(one: &str, other: &str) -> Option<Order> {
 #[test]
 fn equal_names_have_one_hash(rt: HostRuntime) {
     let [copy, video, audio] = hashes();
-    assert_eq!(rt; (copy == video, video == audio), (true, false));
+    expect_equal(&rt, &(copy == video, video == audio), &(true, false));
 }
 
 /// Of a copy of a name, of the name, and of another one.
@@ -151,7 +161,7 @@ const PRIORITIES: [(Parts, Result<Parts, ArpFault>); 5] = [
 #[test]
 fn priorities(rt: HostRuntime) {
     for (given, parts) in &PRIORITIES {
-        assert_eq!(rt; (given, parts_of(*given)), (given, *parts));
+        expect_equal(&rt, &(given, parts_of(*given)), &(given, *parts));
     }
 }
 
@@ -171,7 +181,11 @@ const GATES: [(Gate, bool, bool); 4] = [
 #[test]
 fn gates(rt: HostRuntime) {
     for row in &GATES {
-        assert_eq!(rt; (row.0, row.0.opens(Dir::Up), row.0.opens(Dir::Down)), *row);
+        expect_equal(
+            &rt,
+            &(row.0, row.0.opens(Dir::Up), row.0.opens(Dir::Down)),
+            row,
+        );
     }
 }
 
@@ -200,14 +214,18 @@ const KINDS: [(u8, Option<Kind>); 16] = [
 #[test]
 fn kinds(rt: HostRuntime) {
     for (qci, kind) in &KINDS {
-        assert_eq!(rt; (*qci, kind_beside(&DECLARED, *qci)), (*qci, Ok(*kind)));
+        expect_equal(
+            &rt,
+            &(*qci, kind_beside(&DECLARED, *qci)),
+            &(*qci, Ok(*kind)),
+        );
     }
 }
 
 #[test]
 fn standard_kinds(rt: HostRuntime) {
     let kinds = [kind_beside(&[], 9), kind_beside(&[], 10)];
-    assert_eq!(rt; kinds, [Ok(Some(Kind::NonGbr)), Ok(None)]);
+    expect_equal(&rt, &kinds, &[Ok(Some(Kind::NonGbr)), Ok(None)]);
 }
 
 /// The kind of a QCI beside these declared ones.
@@ -225,9 +243,10 @@ fn faults_of_declared_kinds(rt: HostRuntime) {
         fault_beside(255),
     ];
     let twice = [(77, Kind::NonGbr), (12, Kind::Gbr), (77, Kind::NonGbr)];
-    assert_eq!(rt;
-        (outside, fault_of(&twice)),
-        ([Some(QciFault::OutOfRange); 4], Some(QciFault::Twice))
+    expect_equal(
+        &rt,
+        &(outside, fault_of(&twice)),
+        &([Some(QciFault::OutOfRange); 4], Some(QciFault::Twice)),
     );
 }
 
@@ -318,14 +337,15 @@ fn kept(rule: &Rule, properties: &Properties, filters: &[Filter]) -> Kept {
 
 #[test]
 fn counts_of_filters(rt: HostRuntime) {
-    assert_eq!(rt;
-        kept_of_counts(rt.alloc()),
-        [
+    expect_equal(
+        &rt,
+        &kept_of_counts(rt.alloc()),
+        &[
             Ok(ALL_KEPT),
             Ok(ALL_KEPT),
             Err(RuleFault::NoFilter),
             Err(RuleFault::TooManyFilters),
-        ]
+        ],
     );
 }
 
@@ -352,12 +372,12 @@ fn copies_of_properties(rt: HostRuntime) {
         same_parts(&bare().copy(), &bare()),
         same_parts(&properties().copy(), &properties()),
     ];
-    assert_eq!(rt; same, [[true; 6]; 2]);
+    expect_equal(&rt, &same, &[[true; 6]; 2]);
 }
 
 #[test]
 fn copies(rt: HostRuntime) {
-    assert_eq!(rt; kept_of_a_copy(rt.alloc()), Some(ALL_KEPT));
+    expect_equal(&rt, &kept_of_a_copy(rt.alloc()), &Some(ALL_KEPT));
 }
 
 fn kept_of_a_copy(alloc: Global) -> Option<Kept> {
@@ -384,9 +404,10 @@ fn ranked(name: RuleName, precedence: u32) -> Properties {
 
 #[test]
 fn precedence_then_origin_then_name(rt: HostRuntime) {
-    assert_eq!(rt;
-        (by_precedence(), at_equal_precedence(), with_itself()),
-        ([true, false], [true, true, false], Ordering::Equal)
+    expect_equal(
+        &rt,
+        &(by_precedence(), at_equal_precedence(), with_itself()),
+        &([true, false], [true, true, false], Ordering::Equal),
     );
 }
 
