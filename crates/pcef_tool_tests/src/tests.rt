@@ -2,3 +2,11 @@
 
 mod capture;
 mod figures;
+
+use std::fmt::Debug;
+use std::process::Abort;
+
+/// Expects what is due. It stands here once, for a comparison in each test takes longer to prove.
+fn expect_equal<T: Debug + PartialEq>(rt: &impl Abort, found: &T, due: &T) {
+    assert_eq!(rt; found, due);
+}

@@ -1,4 +1,5 @@
 //! Savefiles: both orders, both scales, and files that end anywhere.
+use crate::tests::expect_equal;
 use pcef_capture_file::{
     CaptureFault, Endianness, FileHeader, Link, Packet, TimeScale, read_classic, read_file_header,
     read_record,
@@ -54,14 +55,15 @@ fn headers_of_both_orders_and_scales(rt: HostRuntime) {
         scale: TimeScale::Microseconds,
         ..LITTLE_NANOSECONDS
     };
-    assert_eq!(rt;
-        headers,
-        [
+    expect_equal(
+        &rt,
+        &headers,
+        &[
             Ok(BIG_MICROSECONDS),
             Ok(LITTLE_NANOSECONDS),
             Ok(big_nanoseconds),
             Ok(little_microseconds),
-        ]
+        ],
     );
 }
 
@@ -75,16 +77,17 @@ fn faults_of_headers(rt: HostRuntime) {
         read_file_header(&changed(BIG, 7, 3)),
         read_file_header(&changed(BIG, 23, 102)),
     ];
-    assert_eq!(rt;
-        faults,
-        [
+    expect_equal(
+        &rt,
+        &faults,
+        &[
             Err(CaptureFault::NotACapture),
             Err(CaptureFault::NotACapture),
             Err(CaptureFault::CutHeader),
             Err(CaptureFault::Version),
             Err(CaptureFault::Version),
             Err(CaptureFault::LinkType),
-        ]
+        ],
     );
 }
 
@@ -105,7 +108,7 @@ const LINKS: [(u32, Option<Link>); 11] = [
 #[test]
 fn links_of_numbers(rt: HostRuntime) {
     for (number, link) in &LINKS {
-        assert_eq!(rt; (*number, Link::of_number(*number)), (*number, *link));
+        expect_equal(&rt, &(*number, Link::of_number(*number)), &(*number, *link));
     }
 }
 
@@ -121,9 +124,10 @@ fn of_three_octets() -> Packet<'static> {
 
 #[test]
 fn a_record_and_what_follows_it(rt: HostRuntime) {
-    assert_eq!(rt;
-        read_record(BIG_MICROSECONDS, &BIG[24..]),
-        Ok((of_three_octets(), &BIG[43..]))
+    expect_equal(
+        &rt,
+        &read_record(BIG_MICROSECONDS, &BIG[24..]),
+        &Ok((of_three_octets(), &BIG[43..])),
     );
 }
 
@@ -138,9 +142,10 @@ fn packets_of_a_big_endian_file(rt: HostRuntime) {
         packet_at(rt.alloc(), &BIG, 0),
         packet_at(rt.alloc(), &BIG, 1),
     ];
-    assert_eq!(rt;
-        (told(rt.alloc(), &BIG), packets),
-        ((2, None), [Some(of_three_octets()), Some(empty)])
+    expect_equal(
+        &rt,
+        &(told(rt.alloc(), &BIG), packets),
+        &((2, None), [Some(of_three_octets()), Some(empty)]),
     );
 }
 
@@ -156,7 +161,7 @@ fn the_packet_of_a_little_endian_file(rt: HostRuntime) {
         packet_at(rt.alloc(), &LITTLE, 0),
         packet_at(rt.alloc(), &LITTLE, 1),
     ];
-    assert_eq!(rt; packets, [Some(packet), None]);
+    expect_equal(&rt, &packets, &[Some(packet), None]);
 }
 
 /// The packet at a place of a file, counted from 0.
@@ -181,7 +186,7 @@ fn told(alloc: Global, file: &[u8]) -> Told {
 #[test]
 fn a_file_that_ends_anywhere(rt: HostRuntime) {
     for end in 0..BIG.len() + 1 {
-        assert_eq!(rt; (end, told(rt.alloc(), &BIG[..end])), (end, due(end)));
+        expect_equal(&rt, &(end, told(rt.alloc(), &BIG[..end])), &(end, due(end)));
     }
 }
 

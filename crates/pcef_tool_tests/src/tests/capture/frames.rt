@@ -1,4 +1,5 @@
 //! Frames of every link, with and without a packet in them.
+use crate::tests::expect_equal;
 use pcef_capture_file::{Endianness, Link, Packet, ip_of};
 
 /// How many octets stand behind the link header, and the first.
@@ -58,7 +59,7 @@ fn ethernet_with_and_without_tags(rt: HostRuntime) {
         ethernet(&THREE_TAGS),
         ethernet(&OTHER_TYPE),
     ];
-    assert_eq!(rt; told, [TOLD, TOLD, TOLD, TOLD, None, None]);
+    expect_equal(&rt, &told, &[TOLD, TOLD, TOLD, TOLD, None, None]);
 }
 
 #[test]
@@ -68,7 +69,7 @@ fn cut_ethernet_headers(rt: HostRuntime) {
         ethernet(&PLAIN[..14]),
         ethernet(&ONE_TAG[..17]),
     ];
-    assert_eq!(rt; told, [None, Some((0, None)), None]);
+    expect_equal(&rt, &told, &[None, Some((0, None)), None]);
 }
 
 #[test]
@@ -84,7 +85,7 @@ fn raw_and_loopback(rt: HostRuntime) {
         inside(Link::Loop, Endianness::Little, &little),
         inside(Link::Null, Endianness::Big, &big[..3]),
     ];
-    assert_eq!(rt; told, [TOLD, TOLD, None, TOLD, TOLD, None, None]);
+    expect_equal(&rt, &told, &[TOLD, TOLD, None, TOLD, TOLD, None, None]);
 }
 
 const COOKED: [u8; 18] = [0, 0, 0, 1, 0, 6, 1, 2, 3, 4, 5, 6, 0, 0, 8, 0, 0x45, 1];
@@ -108,7 +109,7 @@ fn linux_cooked(rt: HostRuntime) {
         inside(Link::LinuxCooked2, order, &COOKED_2[..19]),
         inside(Link::LinuxCooked2, order, &COOKED),
     ];
-    assert_eq!(rt; told, [TOLD, TOLD, None, TOLD, None, None]);
+    expect_equal(&rt, &told, &[TOLD, TOLD, None, TOLD, None, None]);
 }
 
 /// What is told of two octets of version 6.
@@ -149,9 +150,10 @@ fn version_6_behind_its_type(rt: HostRuntime) {
         ethernet(&MISTYPED_6),
         ethernet(&MISTYPED_4),
     ];
-    assert_eq!(rt;
-        told,
-        [TOLD_6, TOLD_6, None, TOLD_6, TOLD_6, TOLD_6, TOLD_6, TOLD]
+    expect_equal(
+        &rt,
+        &told,
+        &[TOLD_6, TOLD_6, None, TOLD_6, TOLD_6, TOLD_6, TOLD_6, TOLD],
     );
 }
 
@@ -166,5 +168,9 @@ fn version_6_behind_the_family_of_each_system(rt: HostRuntime) {
         inside(Link::Null, Endianness::Big, &[0, 0, 0, 10, 0x60, 1]),
         inside(Link::Null, Endianness::Big, &[0, 0, 0, 29, 0x60, 1]),
     ];
-    assert_eq!(rt; told, [TOLD_6, TOLD_6, TOLD_6, TOLD_6, None, None, None]);
+    expect_equal(
+        &rt,
+        &told,
+        &[TOLD_6, TOLD_6, TOLD_6, TOLD_6, None, None, None],
+    );
 }

@@ -1,4 +1,5 @@
 //! Directions and padding, with a UDP packet of 28 octets from 198.51.100.7 to 10.0.0.2.
+use crate::tests::expect_equal;
 use pcef_capture_file::{Content, Endianness, Link, Packet, content_of, direction_of, padded};
 use pcef_packet::{Addr, Dir, PacketFault};
 use std::alloc::Global;
@@ -24,14 +25,15 @@ fn each_side_and_neither(rt: HostRuntime) {
         direction_of(Addr::V4(0x0a00_0003), &PACKET),
         direction_of(UE, &PACKET[..27]),
     ];
-    assert_eq!(rt;
-        directions,
-        [
+    expect_equal(
+        &rt,
+        &directions,
+        &[
             Ok(Some(Dir::Down)),
             Ok(Some(Dir::Up)),
             Ok(None),
             Err(PacketFault::BadTotalLength),
-        ]
+        ],
     );
 }
 
@@ -42,7 +44,7 @@ fn a_packet_in_part(rt: HostRuntime) {
         // Where the header wasn't recorded, nothing is filled in.
         filled_to(rt.alloc(), &PACKET[..19], &PACKET[..19]),
     ];
-    assert_eq!(rt; filled, [Some((28, true)), Some((19, true))]);
+    expect_equal(&rt, &filled, &[Some((28, true)), Some((19, true))]);
 }
 
 /// How many octets there are once those that lack are filled in, and whether they are these.
@@ -69,15 +71,16 @@ fn what_a_raw_frame_is(rt: HostRuntime) {
         content_of(UE, &raw(24, &PACKET[..24])),
         content_of(UE, &raw(60, [0x50, 0].as_slice())),
     ];
-    assert_eq!(rt;
-        contents,
-        [
+    expect_equal(
+        &rt,
+        &contents,
+        &[
             Content::Packet(Dir::Down, PACKET.as_slice()),
             Content::Neither,
             Content::Cut(&PACKET[..24]),
             Content::NotIp,
             Content::NotIp,
-        ]
+        ],
     );
 }
 
@@ -89,5 +92,5 @@ fn an_ip_packet_is_no_ethernet_frame(rt: HostRuntime) {
         original: 28,
         octets: PACKET.as_slice(),
     };
-    assert_eq!(rt; content_of(UE, &other), Content::NotIp);
+    expect_equal(&rt, &content_of(UE, &other), &Content::NotIp);
 }

@@ -1,4 +1,5 @@
 //! Directions and padding in version 6, with a UDP packet of 56 octets from 2001:db8:1::53 to 2001:db8::77.
+use crate::tests::expect_equal;
 use pcef_capture_file::{Content, Endianness, Link, Packet, content_of, direction_of, padded};
 use pcef_packet::{Addr, Dir, PacketFault};
 use std::alloc::Global;
@@ -46,15 +47,16 @@ fn each_side_and_neither(rt: HostRuntime) {
         // A fragment beyond the first has a direction too: a fragment header of offset 1.
         direction_of(UE, &fragment()),
     ];
-    assert_eq!(rt;
-        directions,
-        [
+    expect_equal(
+        &rt,
+        &directions,
+        &[
             Ok(Some(Dir::Down)),
             Ok(None),
             Ok(Some(Dir::Up)),
             Ok(None),
             Ok(Some(Dir::Down)),
-        ]
+        ],
     );
 }
 
@@ -78,15 +80,16 @@ fn packets_at_fault(rt: HostRuntime) {
         // Options behind options, of which there is no octet.
         direction_of(UE, &changed(40, 0)),
     ];
-    assert_eq!(rt;
-        directions,
-        [
+    expect_equal(
+        &rt,
+        &directions,
+        &[
             Err(PacketFault::BadTotalLength),
             Err(PacketFault::ShortHeader),
             Err(PacketFault::BadHeaderLength),
             Err(PacketFault::BadHeaderLength),
             Err(PacketFault::BadHeaderLength),
-        ]
+        ],
     );
 }
 
@@ -109,16 +112,17 @@ fn what_a_raw_frame_is(rt: HostRuntime) {
         content_of(UE, &raw(48, &PACKET[..48])),
         content_of(UE, &raw(39, &PACKET[..39])),
     ];
-    assert_eq!(rt;
-        contents,
-        [
+    expect_equal(
+        &rt,
+        &contents,
+        &[
             Content::Packet(Dir::Down, PACKET.as_slice()),
             Content::Neither,
             Content::Cut(&PACKET[..48]),
             Content::Cut(&PACKET[..2]),
             Content::NotIp,
             Content::NotIp,
-        ]
+        ],
     );
 }
 
@@ -130,9 +134,10 @@ fn a_packet_in_part(rt: HostRuntime) {
         // Where the fixed header wasn't recorded, nothing is filled in.
         filled_to(rt.alloc(), &PACKET[..39], &PACKET[..39]),
     ];
-    assert_eq!(rt;
-        filled,
-        [Some((56, true)), Some((56, true)), Some((39, true))]
+    expect_equal(
+        &rt,
+        &filled,
+        &[Some((56, true)), Some((56, true)), Some((39, true))],
     );
 }
 

@@ -1,4 +1,5 @@
 //! Files of blocks: both orders, several sections and interfaces, and files that end anywhere.
+use crate::tests::expect_equal;
 use pcef_capture_file::{CaptureFault, Endianness, Link, Packet, read_capture, read_pcapng};
 use std::alloc::{AllocError, Global};
 use std::test::Fail;
@@ -64,9 +65,10 @@ fn packets_of_all_kinds_of_blocks(rt: HostRuntime) {
         packet_at(rt.alloc(), &LITTLE, 1),
         packet_at(rt.alloc(), &LITTLE, 2),
     ];
-    assert_eq!(rt;
-        (told(rt.alloc(), &LITTLE), packets),
-        ((3, None), [Some(enhanced), Some(simple), Some(obsolete)])
+    expect_equal(
+        &rt,
+        &(told(rt.alloc(), &LITTLE), packets),
+        &((3, None), [Some(enhanced), Some(simple), Some(obsolete)]),
     );
 }
 
@@ -87,9 +89,10 @@ fn another_section_has_its_own_order_and_interfaces(rt: HostRuntime) {
         original: 9,
         octets: &[0x45, 0x46],
     };
-    assert_eq!(rt;
-        one_and_a_fault(rt.alloc(), &BIG),
-        Some((simple, Some(CaptureFault::UnknownInterface)))
+    expect_equal(
+        &rt,
+        &one_and_a_fault(rt.alloc(), &BIG),
+        &Some((simple, Some(CaptureFault::UnknownInterface))),
     );
 }
 
@@ -116,7 +119,7 @@ fn told(alloc: Global, file: &[u8]) -> Told {
 fn files_of_blocks_that_end_anywhere(rt: HostRuntime) {
     for end in 0..LITTLE.len() + 1 {
         let due = (packets_before(end), fault_at(end));
-        assert_eq!(rt; (end, told(rt.alloc(), &LITTLE[..end])), (end, due));
+        expect_equal(&rt, &(end, told(rt.alloc(), &LITTLE[..end])), &(end, due));
     }
 }
 
@@ -162,7 +165,7 @@ const CHANGES: [(usize, u8, Told); 15] = [
 fn blocks_at_fault(rt: HostRuntime) {
     for (place, octet, due) in &CHANGES {
         let told = told_with(rt.alloc(), *place, *octet);
-        assert_eq!(rt; (*place, *octet, told), (*place, *octet, *due));
+        expect_equal(&rt, &(*place, *octet, told), &(*place, *octet, *due));
     }
 }
 
@@ -186,13 +189,13 @@ fn empty_blocks(rt: HostRuntime) {
     ];
     let short = (0, Some(CaptureFault::BlockLength));
     // Blocks of a type that isn't read may be empty.
-    assert_eq!(rt; answers, [short, short, short, short, (0, None)]);
+    expect_equal(&rt, &answers, &[short, short, short, short, (0, None)]);
 }
 
 #[test]
 fn no_section_header(rt: HostRuntime) {
     let fault = read_pcapng(rt.alloc(), &LITTLE[28..]).err();
-    assert_eq!(rt; fault, Some(CaptureFault::NotACapture));
+    expect_equal(&rt, &fault, &Some(CaptureFault::NotACapture));
 }
 
 /// Adds a section with so many Ethernet interfaces, and a packet of the one with this number.
@@ -212,10 +215,10 @@ fn a_section_has_65536_interfaces_and_no_more(rt: HostRuntime) -> Result<(), Fai
     push_section(&mut file, 65_536, 65_535)?;
     // Another section has interfaces of its own.
     push_section(&mut file, 65_536, 0)?;
-    assert_eq!(rt; told(rt.alloc(), &file), (2, None));
+    expect_equal(&rt, &told(rt.alloc(), &file), &(2, None));
     push_section(&mut file, 65_537, 0)?;
     let fault = CaptureFault::TooManyInterfaces;
-    assert_eq!(rt; told(rt.alloc(), &file), (2, Some(fault)));
-    assert_eq!(rt; fault.number(), 12);
+    expect_equal(&rt, &told(rt.alloc(), &file), &(2, Some(fault)));
+    expect_equal(&rt, &fault.number(), &12);
     Ok(())
 }

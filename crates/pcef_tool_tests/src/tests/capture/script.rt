@@ -1,4 +1,5 @@
 //! Lines for frames that were worked out by hand.
+use crate::tests::expect_equal;
 use pcef_capture_file::{Endianness, Link, Packet};
 use pcef_capture_script::{Counts, Options, Request, asked, write_capture};
 use pcef_packet::Addr;
@@ -82,8 +83,8 @@ fn the_line_of_a_packet(rt: HostRuntime) {
     let (lines, counts) = written(&rt, rt.alloc(), UE, 1, false, [raw(&DOWN)].as_slice());
     let due =
         b"{\"do\":\"take\",\"worker\":0,\"dir\":\"down\",\"packet\":\"4500001c0000000040110000c63364070a0000020035138800080000\"}\n{\"do\":\"flush\",\"worker\":0}\n";
-    assert_eq!(rt; lines.as_slice(), due.as_slice());
-    assert_eq!(rt; (counts.read, counts.taken), (1, 1));
+    expect_equal(&rt, &lines.as_slice(), &due.as_slice());
+    expect_equal(&rt, &(counts.read, counts.taken), &(1, 1));
 }
 
 #[test]
@@ -100,10 +101,11 @@ fn lines_of_a_session_of_version_6(rt: HostRuntime) {
     let (lines, counts) = written(&rt, rt.alloc(), UE_6, 1, true, packets.as_slice());
     let due =
         b"{\"do\":\"take\",\"worker\":0,\"dir\":\"down\",\"packet\":\"600000000008114020010db800010000000000000000005320010db80000000000000000000000770035138800080000\"}\n{\"do\":\"take\",\"worker\":0,\"dir\":\"down\",\"packet\":\"600000000008114020010db800010000000000000000005320010db80000000000000000000000770035138800080000\"}\n{\"do\":\"flush\",\"worker\":0}\n";
-    assert_eq!(rt; lines.as_slice(), due.as_slice());
-    assert_eq!(rt;
-        (counts.read, counts.taken, counts.neither, counts.cut),
-        (4, 2, 1, 1)
+    expect_equal(&rt, &lines.as_slice(), &due.as_slice());
+    expect_equal(
+        &rt,
+        &(counts.read, counts.taken, counts.neither, counts.cut),
+        &(4, 2, 1, 1),
     );
 }
 
@@ -112,13 +114,13 @@ fn a_packet_in_part_is_left_out_or_padded(rt: HostRuntime) {
     let packets = [raw(&DOWN[..26])];
     let (lines, counts) = written(&rt, rt.alloc(), UE, 1, false, packets.as_slice());
     assert!(rt; lines.is_empty());
-    assert_eq!(rt; (counts.read, counts.cut), (1, 1));
+    expect_equal(&rt, &(counts.read, counts.cut), &(1, 1));
     let (padded, counts) = written(&rt, rt.alloc(), UE, 1, true, packets.as_slice());
     let (whole, _) = written(&rt, rt.alloc(), UE, 1, false, [raw(&DOWN)].as_slice());
-    assert_eq!(rt; padded.as_slice(), whole.as_slice());
-    assert_eq!(rt; (counts.taken, counts.cut), (1, 0));
+    expect_equal(&rt, &padded.as_slice(), &whole.as_slice());
+    expect_equal(&rt, &(counts.taken, counts.cut), &(1, 0));
     let (_, counts) = written(&rt, rt.alloc(), UE, 1, true, [raw(&DOWN[..3])].as_slice());
-    assert_eq!(rt; (counts.taken, counts.cut), (0, 1));
+    expect_equal(&rt, &(counts.taken, counts.cut), &(0, 1));
 }
 
 #[test]
@@ -127,8 +129,12 @@ fn frames_without_a_line(rt: HostRuntime) {
     let packets = [raw(&DOWN), raw(&six)];
     let (lines, counts) = written(&rt, rt.alloc(), ROUTER, 1, false, packets.as_slice());
     assert!(rt; lines.is_empty());
-    assert_eq!(rt; (counts.read, counts.taken, counts.neither), (2, 0, 1));
-    assert_eq!(rt; (counts.not_ip, counts.cut), (1, 0));
+    expect_equal(
+        &rt,
+        &(counts.read, counts.taken, counts.neither),
+        &(2, 0, 1),
+    );
+    expect_equal(&rt, &(counts.not_ip, counts.cut), &(1, 0));
 }
 
 /// The octet behind the text `"worker":` in a line, and whether the line is a flush.
@@ -144,7 +150,7 @@ fn told(line: &[u8]) -> (bool, Option<u8>) {
 fn workers_in_turn(rt: HostRuntime) {
     let packets = [raw(&DOWN); 70];
     let (lines, counts) = written(&rt, rt.alloc(), UE, 2, false, packets.as_slice());
-    assert_eq!(rt; counts.taken, 70);
+    expect_equal(&rt, &counts.taken, &70);
     let mut place = 0usize;
     for line in lines.as_slice().split(|octet| *octet == b'\n') {
         let due = match place {
@@ -156,10 +162,10 @@ fn workers_in_turn(rt: HostRuntime) {
             72 => (true, Some(b'0')),
             _ => (false, None),
         };
-        assert_eq!(rt; told(line), due);
+        expect_equal(&rt, &told(line), &due);
         place = place.saturating_add(1);
     }
-    assert_eq!(rt; place, 74);
+    expect_equal(&rt, &place, &74);
 }
 
 /// What some words ask for: the address, the number of workers, that of packets in a batch, whether packets are padded,

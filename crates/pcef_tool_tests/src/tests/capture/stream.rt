@@ -1,4 +1,5 @@
 //! Captures whose octets come in parts.
+use crate::tests::expect_equal;
 use pcef_capture_file::{CaptureFault, read_capture};
 use pcef_capture_script::{End, Options, write_capture};
 use pcef_packet::Addr;
@@ -103,8 +104,8 @@ fn parts_of_any_length_are_told_as_a_whole(rt: HostRuntime) {
             let whole = told_whole(rt.alloc(), &octets[..end]);
             for most in &[1usize, 7, 8192] {
                 match told_in_parts(rt.alloc(), &octets[..end], *most, false) {
-                    Some((told, _)) => assert_eq!(rt; (end, told), (end, whole)),
-                    None => assert_eq!(rt; end, 0),
+                    Some((told, _)) => expect_equal(&rt, &(end, told), &(end, whole)),
+                    None => expect_equal(&rt, &end, &0),
                 }
             }
         }
@@ -120,7 +121,7 @@ fn lines_of_whole_packets_stand_where_the_reader_fails(rt: HostRuntime) {
             _ => 264,
         };
         let came = told_in_parts(rt.alloc(), &CLASSIC[..end], 5, true);
-        assert_eq!(rt; (end, came), (end, Some(((0, None), due))));
+        expect_equal(&rt, &(end, came), &(end, Some(((0, None), due))));
     }
 }
 
@@ -154,13 +155,13 @@ fn records_and_blocks_beyond_the_limits(rt: HostRuntime) {
         (long_block.as_slice(), CaptureFault::TooLong),
     ];
     for &(octets, fault) in &cases {
-        assert_eq!(rt; told_whole(rt.alloc(), octets), (0, Some(fault)));
+        expect_equal(&rt, &told_whole(rt.alloc(), octets), &(0, Some(fault)));
         let came = told_in_parts(rt.alloc(), octets, 3, false);
-        assert_eq!(rt; came, Some(((0, Some(fault)), 0)));
+        expect_equal(&rt, &came, &Some(((0, Some(fault)), 0)));
     }
     // What is too long is told before more is read.
     let came = told_in_parts(rt.alloc(), &long_packet, 8192, true);
-    assert_eq!(rt; came, Some(((0, Some(CaptureFault::TooLong)), 0)));
+    expect_equal(&rt, &came, &Some(((0, Some(CaptureFault::TooLong)), 0)));
 }
 
 /// Counts the octets that are flushed.
@@ -221,6 +222,6 @@ fn a_line_is_flushed_before_more_is_read(rt: HostRuntime) -> Result<(), Fail> {
     let mut waiting = Vec::new(rt.alloc());
     let came = write_capture(rt.alloc(), &OPTIONS, &mut waiting, &mut reader, &mut writer);
     assert!(rt; matches!(&came, Ok((counts, None)) if counts.taken == 2));
-    assert_eq!(rt; reader.given, 112);
+    expect_equal(&rt, &reader.given, &112);
     Ok(())
 }

@@ -1,4 +1,5 @@
 //! Grants and reports of monitoring keys.
+use crate::tests::expect_equal;
 use pcef_figures::{CollectFault, Figures, Usage, collect, octets_by_key, sum_of};
 use std::alloc::{AllocError, Global};
 
@@ -120,7 +121,7 @@ fn collected_and_seen(alloc: Global) -> Result<Seen, CollectFault> {
 #[test]
 fn keys_have_their_grants_reports_and_last_state(rt: HostRuntime) {
     let found = collected_and_seen(rt.alloc());
-    assert_eq!(rt; found, Ok(([8, 9, 4], [None; 3])));
+    expect_equal(&rt, &found, &Ok(([8, 9, 4], [None; 3])));
 }
 
 /// The sums of `vid`, `web` and `full`.
@@ -148,11 +149,12 @@ fn sums_of_octets_are_exact_below_2_to_the_64(rt: HostRuntime) {
         sums_by(rt.alloc(), b"[]", more),
     ];
     let largest = Some(18_446_744_073_709_551_615);
-    assert_eq!(rt;
-        found,
-        [
+    expect_equal(
+        &rt,
+        &found,
+        &[
             Ok([largest, Some(5), Some(0)]),
             Ok([None, Some(2), Some(0)]),
-        ]
+        ],
     );
 }

@@ -1,6 +1,7 @@
 //! Out of memory is told, and what is collected once more is what is collected with memory for everything.
 //!
 //! `.ci/refused-memory` refuses each allocation in turn.
+use crate::tests::expect_equal;
 use pcef_figures::{CollectFault, Figures, collect};
 use std::alloc::Global;
 
@@ -62,5 +63,5 @@ fn collected_and_seen(alloc: Global) -> Result<Seen, CollectFault> {
 #[test]
 fn what_finds_no_memory_is_collected_once_more(rt: HostRuntime) {
     let found = collected_and_seen(rt.alloc());
-    assert_eq!(rt; found, Ok(([7, 7, 2], [2, 1, 1, 1, 1, 1], true)));
+    expect_equal(&rt, &found, &Ok(([7, 7, 2], [2, 1, 1, 1, 1, 1], true)));
 }

@@ -1,4 +1,5 @@
 //! Packets with their verdicts.
+use crate::tests::expect_equal;
 use pcef_figures::{CollectFault, Judged, Verdict, collect, octets_by_rule, sum_of};
 use std::alloc::{AllocError, Global};
 
@@ -75,9 +76,10 @@ fn sums_by(alloc: Global, lines: &[u8], answers: &[u8]) -> Result<[Option<u64>; 
 fn each_verdict_goes_to_the_first_packet_of_its_worker(rt: HostRuntime) {
     let rows = rows_by(rt.alloc(), LINES, ANSWERS);
     let sums = sums_by(rt.alloc(), LINES, ANSWERS);
-    assert_eq!(rt;
-        (rows, sums),
-        (Ok(ROWS), Ok([Some(60), Some(48), Some(0), Some(0)]))
+    expect_equal(
+        &rt,
+        &(rows, sums),
+        &(Ok(ROWS), Ok([Some(60), Some(48), Some(0), Some(0)])),
     );
 }
 
@@ -97,7 +99,7 @@ fn verdicts_have_the_names_of_answers(rt: HostRuntime) {
         Verdict::Unmatched.text(),
         Verdict::Stray.text(),
     ];
-    assert_eq!(rt; names, ["Passed", "Gated", "Unmatched", "Stray"]);
+    expect_equal(&rt, &names, &["Passed", "Gated", "Unmatched", "Stray"]);
 }
 
 const TAKE_AND_FLUSH: &[u8] = b"{\"do\":\"take\",\"worker\":2,\"dir\":\"up\",\"packet\":\"00\"}\n\
@@ -131,7 +133,11 @@ fn verdicts_that_have_no_packet_are_at_fault(rt: HostRuntime) {
         with_flush(alloc, refused),
     ];
     let other_packets = Err(CollectFault::OtherPackets(10));
-    assert_eq!(rt; found, [Ok(5), Ok(4), other_packets, other_packets, Ok(4)]);
+    expect_equal(
+        &rt,
+        &found,
+        &[Ok(5), Ok(4), other_packets, other_packets, Ok(4)],
+    );
 }
 
 #[test]
@@ -144,9 +150,10 @@ fn packets_that_a_worker_abandons_have_no_verdict(rt: HostRuntime) {
         b"{\"ok\":true,\"waiting\":1}\n{\"ok\":true,\"waiting\":1}\n{\"abandoned\":1,\"ok\":true,\"rows\":0}\n\
         {\"ok\":true,\"waiting\":1}\n{\"ok\":true,\"verdicts\":[{\"generation\":0,\"verdict\":\"Unmatched\"}]}\n\
         {\"ok\":true,\"verdicts\":[{\"generation\":0,\"verdict\":\"Stray\"}]}\n";
-    assert_eq!(rt;
-        rows_by(rt.alloc(), lines, answers),
-        Ok(ROWS_BESIDE_AN_ABANDONED_ONE)
+    expect_equal(
+        &rt,
+        &rows_by(rt.alloc(), lines, answers),
+        &Ok(ROWS_BESIDE_AN_ABANDONED_ONE),
     );
 }
 
@@ -168,7 +175,11 @@ fn the_packets_of_a_worker_keep_their_order(rt: HostRuntime) {
         b"{\"ok\":true,\"waiting\":1}\n{\"ok\":true,\"waiting\":2}\n{\"ok\":true,\"waiting\":3}\n\
         {\"ok\":true,\"verdicts\":[{\"generation\":0,\"verdict\":\"Unmatched\"},\
         {\"generation\":0,\"verdict\":\"Stray\"},{\"generation\":0,\"verdict\":\"Unmatched\"}]}\n";
-    assert_eq!(rt; rows_by(rt.alloc(), lines, answers), Ok(ROWS_OF_ONE_WORKER));
+    expect_equal(
+        &rt,
+        &rows_by(rt.alloc(), lines, answers),
+        &Ok(ROWS_OF_ONE_WORKER),
+    );
 }
 
 static ROWS_OF_ONE_WORKER: [Option<Row>; 5] = [

@@ -1,4 +1,5 @@
 //! Which line has which answer, and what doesn't belong together.
+use crate::tests::expect_equal;
 use pcef_figures::{CollectFault, Collected, Figures, collect};
 use std::alloc::Global;
 
@@ -51,7 +52,11 @@ fn an_empty_script_tells_nothing(rt: HostRuntime) {
         are_told_blank(alloc, b" \t\r\n\n \n"),
         are_told_blank(alloc, b"{\"do\":\"attach\"}\n{\"do\":\"show\"}"),
     ];
-    assert_eq!(rt; (is_new_blank(alloc), found), (true, [[Ok(true); 3]; 4]));
+    expect_equal(
+        &rt,
+        &(is_new_blank(alloc), found),
+        &(true, [[Ok(true); 3]; 4]),
+    );
 }
 
 /// Lines, answers, and what is told of them.
@@ -85,7 +90,7 @@ const BLANK_LINES: [Row; 5] = [
 
 #[test]
 fn blank_lines_have_numbers_and_no_answers(rt: HostRuntime) {
-    assert_eq!(rt; first_wrong(rt.alloc(), &BLANK_LINES), None);
+    expect_equal(&rt, &first_wrong(rt.alloc(), &BLANK_LINES), &None);
 }
 
 fn told_of_spaces(alloc: Global, count: usize, answer: &[u8]) -> Told {
@@ -102,13 +107,10 @@ fn spaces_are_a_blank_line_up_to_262144(rt: HostRuntime) {
         told_of_spaces(alloc, 262_144, answer),
         told_of_spaces(alloc, 262_145, answer),
     ];
-    assert_eq!(rt;
-        found,
-        [
-            Ok((0, 0, 0)),
-            Err(CollectFault::MoreAnswers),
-            Ok((1, 1, 1)),
-        ]
+    expect_equal(
+        &rt,
+        &found,
+        &[Ok((0, 0, 0)), Err(CollectFault::MoreAnswers), Ok((1, 1, 1))],
     );
 }
 
@@ -138,7 +140,7 @@ const NO_ANSWERS_TO_LINES: [Row; 10] = [
 
 #[test]
 fn what_is_no_answer_is_told_with_its_line(rt: HostRuntime) {
-    assert_eq!(rt; first_wrong(rt.alloc(), &NO_ANSWERS_TO_LINES), None);
+    expect_equal(&rt, &first_wrong(rt.alloc(), &NO_ANSWERS_TO_LINES), &None);
 }
 
 /// What is told of a line that is no JSON, with a fault as its answer, and with another answer.
@@ -159,7 +161,7 @@ fn a_line_that_is_no_json_is_at_fault_or_has_no_answer(rt: HostRuntime) {
         told_of_no_json(alloc, b"{}{}"),
     ];
     let due = [Ok((1, 1, 1)), Err(CollectFault::NoAnswer(1))];
-    assert_eq!(rt; found, [due; 4]);
+    expect_equal(&rt, &found, &[due; 4]);
 }
 
 /// The line, the name and the number of a refusal or a fault, and whether it is a fault.
@@ -206,5 +208,5 @@ fn refusals_and_faults_are_told_apart(rt: HostRuntime) {
         b"{\"name\":\"UnknownRule\",\"refused\":5}\n{\"fault\":4,\"name\":\"NotObject\"}\n\
         {\"generation\":0,\"ok\":true,\"worker\":0}\n{\"fault\":3,\"name\":\"NotJson\"}\n{\"refused\":0}\n";
     let found = told_of_refused(rt.alloc(), lines, answers);
-    assert_eq!(rt; found, Ok((5, 6, None)));
+    expect_equal(&rt, &found, &Ok((5, 6, None)));
 }

@@ -1,4 +1,5 @@
 //! Guaranteed rates of bearers over the generations.
+use crate::tests::expect_equal;
 use pcef_figures::{CollectFault, Rates, collect};
 use std::alloc::Global;
 
@@ -47,7 +48,7 @@ fn rates_are_sums_of_the_rules_that_are_active(rt: HostRuntime) {
         {\"name\":\"OverCapacityUp\",\"refused\":17}\n{\"bearer\":6,\"generation\":3,\"ok\":true}\n\
         {\"bearer\":5,\"generation\":4,\"ok\":true}\n{\"generation\":5,\"ok\":true}\n\
         {\"bearer\":7,\"generation\":6,\"ok\":true}\n{\"generation\":7,\"ok\":true}\n{\"generation\":8,\"ok\":true}\n";
-    assert_eq!(rt; all_by(rt.alloc(), lines, answers), Ok(RATES));
+    expect_equal(&rt, &all_by(rt.alloc(), lines, answers), &Ok(RATES));
 }
 
 static RATES: [Option<[u64; 4]>; 8] = [
