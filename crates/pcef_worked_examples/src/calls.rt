@@ -65,7 +65,7 @@ fn steps_of(alloc: Global, script: &str) -> Result<Vec<Step>, AllocError> {
 }
 
 /// The text of an answer, made once more where the first making found no memory.
-fn text_of(
+pub(crate) fn text_of(
     alloc: Global,
     journal: &Journal,
     generation: u32,

@@ -8,8 +8,10 @@
 //! A word that ends in `.steps`, `.lines` or `.profiles` names a file. Any other names a script: `NAME.jsonl` has its
 //! lines, and `NAME.answers.jsonl` their answers, which were worked out by hand. The session's profile is `NAME.toml`
 //! where there is such a file, else `profile.toml`. Each script runs twice: for a writer that takes all that it is
-//! offered, and for one that takes half. For each script a line is written: how many answers it has and how many of its
-//! lines are at fault, or the first answer that isn't as worked out.
+//! offered, and for one that takes half. Then a desk and workers make its steps behind a lock, whose answers must be the
+//! same, and what they hand in is gathered. For each script a line is written: how many answers it has, how many of its
+//! lines are at fault, how many steps were made behind the lock and how many rows were gathered; or the first answer that
+//! isn't as worked out.
 //!
 //! A file of steps has the lines of a script, without faults and without `show`. They are answered through the calls of
 //! `pcef_core`, on the profile `profile.toml`: one by one on a world, all at once, and the commands alone on a session.
@@ -30,8 +32,10 @@
 #![tactic(auto)]
 
 mod addresses;
+mod behind_a_lock;
 mod calls;
 mod comparing;
+mod crew;
 mod lines;
 mod profiles;
 mod reading;
@@ -44,12 +48,17 @@ use lines::{tell_file, tell_other_faults};
 use pcef_catalog::Catalog;
 use scripts::compare;
 use std::process::ExitCode;
-use std::sync::Arc;
+use std::sync::{Arc, Wait};
 use std::{env, io};
 use steps::tell_steps;
 
 /// Tells what an example comes to, and gives whether each answer of a script is as worked out.
-fn tell_example(rt: &HostRuntime, catalog: &Arc<Catalog>, word: &str) -> io::Result<bool> {
+fn tell_example<T: Wait>(
+    threads: &T,
+    rt: &HostRuntime,
+    catalog: &Arc<Catalog>,
+    word: &str,
+) -> io::Result<bool> {
     if word == "faults_that_no_text_has" {
         tell_other_faults(rt)?;
     } else if word.ends_with(".steps") {
@@ -57,16 +66,20 @@ fn tell_example(rt: &HostRuntime, catalog: &Arc<Catalog>, word: &str) -> io::Res
     } else if word.ends_with(".lines") || word.ends_with(".profiles") {
         tell_file(rt, word)?;
     } else {
-        return compare(rt, Arc::try_clone(catalog)?, word);
+        return compare(threads, rt, Arc::try_clone(catalog)?, word);
     }
     Ok(true)
 }
 
 /// Tells what all examples come to that the words name, and gives whether each answer of each script is as worked out.
-fn tell_examples(rt: &HostRuntime, catalog: &Arc<Catalog>) -> io::Result<bool> {
+fn tell_examples<T: Wait>(
+    threads: &T,
+    rt: &HostRuntime,
+    catalog: &Arc<Catalog>,
+) -> io::Result<bool> {
     let mut are_all = true;
     for word in env::args(rt)?.skip(1) {
-        are_all &= tell_example(rt, catalog, word.as_str())?;
+        are_all &= tell_example(threads, rt, catalog, word.as_str())?;
     }
     Ok(are_all)
 }
@@ -79,7 +92,7 @@ fn main(rt: HostRuntime) -> ExitCode {
     let Ok(catalog) = Arc::new(alloc, catalog) else {
         return ExitCode::from(3);
     };
-    match tell_examples(&rt, &catalog) {
+    match tell_examples(&rt, &rt, &catalog) {
         Ok(true) => ExitCode::from(0),
         Ok(false) => ExitCode::from(1),
         Err(_) => ExitCode::from(3),

@@ -1,22 +1,39 @@
 //! Runs scripts, and compares what they answer with what was worked out by hand.
 
+use crate::behind_a_lock::{Played, Worked, play};
 use crate::comparing::{Difference, first_difference};
 use crate::taker::{Taker, Taking};
 use pcef_catalog::Catalog;
+use pcef_model::Profile;
 use pcef_profile::read_profile;
 use pcef_script::run_script;
 use std::fs;
 use std::io::{self, ErrorKind, Write};
-use std::sync::Arc;
+use std::sync::{Arc, Wait};
 
 /// The text of the profile of a script.
-fn profile_of(rt: &HostRuntime, name: &str) -> io::Result<String> {
+fn profile_text(rt: &HostRuntime, name: &str) -> io::Result<String> {
     let own = format!(in rt.alloc(); "{name}.toml")?;
     match fs::read_to_string(rt, own.as_str()) {
         Ok(text) => Ok(text),
         Err(error) if error.kind() == ErrorKind::NotFound => fs::read_to_string(rt, "profile.toml"),
         Err(error) => Err(error),
     }
+}
+
+/// The profile of a script.
+fn profile_of(rt: &HostRuntime, name: &str) -> io::Result<Profile> {
+    let text = profile_text(rt, name)?;
+    match read_profile(rt.alloc(), text.as_str()) {
+        Ok(profile) => Ok(profile),
+        Err(_) => Err(ErrorKind::InvalidData.into()),
+    }
+}
+
+/// The lines of a script.
+fn script_of(rt: &HostRuntime, name: &str) -> io::Result<String> {
+    let path = format!(in rt.alloc(); "{name}.jsonl")?;
+    fs::read_to_string(rt, path.as_str())
 }
 
 /// What a script answers a writer, and how many of its lines are at fault.
@@ -27,12 +44,8 @@ fn answered(
     taking: Taking,
 ) -> io::Result<(String, u64)> {
     let alloc = rt.alloc();
-    let text = profile_of(rt, name)?;
-    let Ok(profile) = read_profile(alloc, text.as_str()) else {
-        return Err(ErrorKind::InvalidData.into());
-    };
-    let path = format!(in alloc; "{name}.jsonl")?;
-    let script = fs::read_to_string(rt, path.as_str())?;
+    let profile = profile_of(rt, name)?;
+    let script = script_of(rt, name)?;
     let mut writer = Taker::new(alloc, taking);
     let Ok(faults) = run_script(alloc, &mut script.as_bytes(), &mut writer, profile, catalog) else {
         return Err(ErrorKind::InvalidData.into());
@@ -64,7 +77,7 @@ fn compare_taken(
         None => {
             if taking == Taking::All {
                 let count = answers.as_str().lines().count();
-                writeln!(writer, "{name}: {count} answers, {faults} lines at fault")?;
+                write!(writer, "{name}: {count} answers, {faults} lines at fault; ")?;
             }
             Ok(true)
         }
@@ -75,10 +88,50 @@ fn compare_taken(
     }
 }
 
-/// Tells what a script came to, and gives whether each answer is as worked out, for both writers.
-pub fn compare(rt: &HostRuntime, catalog: Arc<Catalog>, name: &str) -> io::Result<bool> {
-    let again = Arc::try_clone(&catalog)?;
+/// Tells what the steps of a script come to behind a lock, and gives whether each answer is as worked out.
+fn compare_behind_a_lock<T: Wait>(
+    threads: &T,
+    rt: &HostRuntime,
+    catalog: Arc<Catalog>,
+    name: &str,
+) -> io::Result<bool> {
+    let profile = profile_of(rt, name)?;
+    let worked = Worked {
+        script: script_of(rt, name)?,
+        answers: worked_out(rt, name)?,
+    };
+    let played = play(threads, rt.alloc(), catalog, profile, &worked)?;
+    let mut writer = io::writer(rt);
+    match played {
+        Played::Same { steps, rows } => {
+            writeln!(
+                writer,
+                "behind a lock {steps} the same, rows gathered: {rows}"
+            )?;
+            Ok(true)
+        }
+        Played::Differs { answer, is } => {
+            writeln!(writer, "behind a lock answer {answer} is {is}")?;
+            Ok(false)
+        }
+        Played::NotGathered => {
+            writeln!(writer, "behind a lock nothing is gathered")?;
+            Ok(false)
+        }
+    }
+}
+
+/// Tells what a script came to, and gives whether each answer is as worked out, for both writers and behind a lock.
+pub fn compare<T: Wait>(
+    threads: &T,
+    rt: &HostRuntime,
+    catalog: Arc<Catalog>,
+    name: &str,
+) -> io::Result<bool> {
+    let for_half = Arc::try_clone(&catalog)?;
+    let for_lock = Arc::try_clone(&catalog)?;
     let are_all = compare_taken(rt, catalog, name, Taking::All)?;
-    let are_halves = compare_taken(rt, again, name, Taking::Half)?;
-    Ok(are_all && are_halves)
+    let are_halves = compare_taken(rt, for_half, name, Taking::Half)?;
+    let are_locked = compare_behind_a_lock(threads, rt, for_lock, name)?;
+    Ok(are_all && are_halves && are_locked)
 }

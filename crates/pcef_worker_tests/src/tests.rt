@@ -56,19 +56,6 @@ enum Step {
     Monitor,
     /// The same, once more where it finds no memory.
     MonitorAtLast,
-    /// The desk monitors the rule's key with a grant of 28 octets: 1, and the generation after it.
-    MonitorFew,
-    /// The desk monitors the whole session by the key `all`, with a grant of 50 octets: 1, and the generation after it.
-    MonitorSession,
-    /// The desk subscribes to usage reports: 1, and the generation after it.
-    Subscribe,
-    /// The desk removes the rule: 1, and the generation after it.
-    Remove,
-    /// The desk closes the session: 1, and the generation after it.
-    Close,
-    /// The desk terminates the session: 1, and how many workers are attached still, so that it is refused; 0 if none
-    /// is.
-    Terminate,
     /// The desk asks for a report of the key: 1, and the generation after it.
     Ask,
     /// The same, once more where it finds no memory.
@@ -88,19 +75,12 @@ enum Step {
     ComeAtLast,
     /// No worker can come, for this reason: 1.
     CanNotCome(AttachFault),
-    /// Of two workers the other one acts: 1.
-    Turn,
     /// The worker abandons: 1, its number, and how many rows it hands in and gave up.
     Abandon,
     /// The worker finishes: how many verdicts it gets, its number, and how many rows it hands in and gave up.
     Finish,
     /// The same, once more where it finds no memory.
     FinishAtLast,
-    /// The worker finishes: how many verdicts it gets, and the numbers of the first report that its rows made and past
-    /// the last.
-    FinishTelling,
-    /// The worker can't finish, for this reason, and is there as before: 1.
-    CanNotFinish(FlushRefusal),
     /// Of the worker that left after so many others: how many rows it handed in in order, and the octets of the first
     /// three.
     HandedIn(usize),
@@ -108,16 +88,10 @@ enum Step {
     /// The worker takes a packet of so many octets. As each step of a worker that has no word on it below, it tells 1,
     /// how many rows wait and how many were handed over, and the generation that the worker holds.
     Take(u32),
-    /// It takes packets of 28 octets till one is refused, 40 at most: how many it took in place of the 1.
-    TakeTillFull,
     /// It flushes: how many verdicts it gets in place of the 1.
     Flush,
     /// The same, once more where it finds no memory.
     FlushAtLast,
-    /// It flushes: how many verdicts it gets, and the numbers of the first report that its rows made and past the last.
-    FlushTelling,
-    /// It can't flush, for this reason.
-    CanNotFlush(FlushRefusal),
     /// It refreshes: the generation that is answered in place of the 1.
     Refresh,
     /// It meets the session: the generation that is answered in place of the 1.
@@ -127,8 +101,6 @@ enum Step {
     /// It flushes one row: 1, its generation, 1 if it passes by the rule, and the bearer. Or it flushes two rows: of
     /// each its generation, and 1 if it passes by the rule.
     Judge,
-    /// How many rows wait, and the number in the lane and the octets of the first.
-    Waiting,
 
     /// As [`held_up::held_up`].
     HoldUp,
@@ -262,25 +234,10 @@ enum Kind {
 
 fn kind_of(step: Step) -> Kind {
     match step {
-        Step::Install
-        | Step::Monitor
-        | Step::MonitorFew
-        | Step::MonitorSession
-        | Step::Subscribe
-        | Step::Remove
-        | Step::Close
-        | Step::Terminate
-        | Step::Ask
-        | Step::AskForReport
-        | Step::Collect(_) => Kind::Command,
-        Step::Come
-        | Step::CanNotCome(_)
-        | Step::Turn
-        | Step::Abandon
-        | Step::Finish
-        | Step::FinishTelling
-        | Step::CanNotFinish(_)
-        | Step::HandedIn(_) => Kind::Place,
+        Step::Install | Step::Monitor | Step::Ask | Step::AskForReport | Step::Collect(_) =>
+            Kind::Command,
+        Step::Come | Step::CanNotCome(_) | Step::Abandon | Step::Finish | Step::HandedIn(_) =>
+            Kind::Place,
         Step::HoldUp => Kind::HoldUp,
         Step::AskAroundAFlush => Kind::Ask,
         Step::LastFlush => Kind::LastFlush,

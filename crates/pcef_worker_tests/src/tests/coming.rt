@@ -1,6 +1,5 @@
 //! Workers that come and leave.
 
-use super::acting::numbers_of;
 use super::*;
 use pcef_session::Item;
 
@@ -74,7 +73,6 @@ pub fn seen<C: Detects + Drop, N: Naming, W: Board<Slot<N>> + Drop, R: Wait>(
     match step {
         Step::Come => comes(rt, alloc, shared, workers),
         Step::CanNotCome(reason) => can_not_come(rt, alloc, shared, reason),
-        Step::Turn => turn(workers),
         Step::HandedIn(number) => handed_in(workers, number),
         _ => match workers.there.pop() {
             Some(worker) => leaves(rt, shared, workers, worker, step),
@@ -109,11 +107,6 @@ fn can_not_come<C: Detects + Drop, N: Naming, W: Board<Slot<N>> + Drop, R: Wait>
     [u64::from(fault == Some(reason)), 0, 0, 0]
 }
 
-fn turn<C: Detects + Drop, N: Naming>(workers: &mut Workers<C, N>) -> Seen {
-    workers.there.reverse();
-    [1, 0, 0, 0]
-}
-
 fn leaves<C: Detects + Drop, N: Naming, W: Board<Slot<N>> + Drop, R: Wait>(
     rt: &R,
     shared: &Shared<C, N, W>,
@@ -122,24 +115,7 @@ fn leaves<C: Detects + Drop, N: Naming, W: Board<Slot<N>> + Drop, R: Wait>(
     step: Step,
 ) -> Seen {
     match step {
-        Step::Finish => match finished(rt, shared, workers, worker) {
-            Ok(both) => {
-                let seen = both.0;
-                seen
-            }
-            Err(refusal) => refused(refusal == FlushRefusal::NoMemory),
-        },
-        Step::FinishTelling => match finished(rt, shared, workers, worker) {
-            Ok(both) => {
-                let told = both.1;
-                told
-            }
-            Err(_) => NOT_DONE,
-        },
-        Step::CanNotFinish(reason) => {
-            let refusal = finished(rt, shared, workers, worker).err();
-            [u64::from(refusal == Some(reason)), 0, 0, 0]
-        }
+        Step::Finish => finished(rt, shared, workers, worker),
         _ => kept(workers, 1, worker.abandon(rt, shared)),
     }
 }
@@ -156,23 +132,18 @@ fn kept<C: Detects + Drop, N: Naming>(
     [before, number, rows, given_up]
 }
 
-// Of a finish, what [`Step::Finish`] and [`Step::FinishTelling`] tell. One that is refused gives the worker back, which
-// is there as before: why.
+// A finish that is refused gives the worker back, which is there as before.
 fn finished<C: Detects + Drop, N: Naming, W: Board<Slot<N>> + Drop, R: Wait>(
     rt: &R,
     shared: &Shared<C, N, W>,
     workers: &mut Workers<C, N>,
     worker: Worker<C, N, OpenGate>,
-) -> Result<(Seen, Seen), FlushRefusal> {
+) -> Seen {
     match worker.finish(rt, shared) {
-        Ok((left, verdicts)) => {
-            let told = numbers_of(&verdicts);
-            let seen = kept(workers, told[0], left);
-            Ok((seen, told))
-        }
+        Ok((left, verdicts)) => kept(workers, verdicts.rows.len() as u64, left),
         Err((worker, refusal)) => {
             workers.add(worker);
-            Err(refusal)
+            refused(refusal == FlushRefusal::NoMemory)
         }
     }
 }

@@ -1,17 +1,8 @@
 //! Commands of the desk, and the reports that it collects.
 
 use super::*;
-use pcef_model::{Accepted, Body, Level, Refusal, Report, TriggerSet};
-use pcef_rule::{KeyName, RuleName};
-
-/// Of all event triggers that of usage reports alone.
-const USAGE_REPORTS: TriggerSet = TriggerSet {
-    usage_report: true,
-    rat_change: false,
-    plmn_change: false,
-    user_location_change: false,
-    ue_time_zone_change: false,
-};
+use pcef_model::{Accepted, Body, Level, Refusal, Report};
+use pcef_rule::KeyName;
 
 // What a step of the desk tells.
 pub fn seen<C: Offers + Drop, N: Naming, W: Board<Slot<N>> + Drop, R: Wait>(
@@ -22,7 +13,6 @@ pub fn seen<C: Offers + Drop, N: Naming, W: Board<Slot<N>> + Drop, R: Wait>(
     step: Step,
 ) -> Seen {
     match step {
-        Step::Terminate => terminated(rt, shared, desk),
         Step::AskForReport => asked_for(rt, shared, desk, install),
         Step::Collect(cause) => collected(rt, shared, desk, cause),
         _ => generation_after(rt, shared, desk, command_of(step, install)),
@@ -38,19 +28,6 @@ fn command_of(step: Step, install: &Command) -> Option<Command> {
             grant: 1_000_000,
             level: Level::Rule,
         }),
-        Step::MonitorFew => Some(Command::Monitor {
-            key: KeyName::known("vid"),
-            grant: 28,
-            level: Level::Rule,
-        }),
-        Step::MonitorSession => Some(Command::Monitor {
-            key: KeyName::known("all"),
-            grant: 50,
-            level: Level::Session,
-        }),
-        Step::Subscribe => Some(Command::Triggers(USAGE_REPORTS)),
-        Step::Remove => Some(Command::Remove(RuleName::known("web"))),
-        Step::Close => Some(Command::Close),
         Step::Ask => Some(Command::ReportNow(KeyName::known("vid"))),
         _ => None,
     }
@@ -72,17 +49,6 @@ fn answered(answer: Result<Accepted, Refusal>) -> Seen {
     match answer {
         Ok(accepted) => [1, u64::from(accepted.generation), 0, 0],
         Err(refusal) => refused(refusal == Refusal::NoMemory),
-    }
-}
-
-fn terminated<C: Offers + Drop, N: Naming, W: Board<Slot<N>> + Drop, R: Wait>(
-    rt: &R,
-    shared: &Shared<C, N, W>,
-    desk: &mut Desk<N>,
-) -> Seen {
-    match still_attached(desk.command(rt, shared, Command::Terminate)) {
-        Some(workers) => [1, workers, 0, 0],
-        None => NOT_DONE,
     }
 }
 
