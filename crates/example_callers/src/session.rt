@@ -54,7 +54,7 @@ fn session(alloc: Global, catalog: &ShapedCatalog, text: &str) -> Option<WorldSt
 }
 
 /// The answer to a line.
-fn answered(
+fn answer_line(
     alloc: Global,
     catalog: &ShapedCatalog,
     world: &mut WorldState,
@@ -82,7 +82,7 @@ pub fn run(rt: &HostRuntime) -> io::Result<()> {
     };
     let mut lines = LineReader::new(alloc);
     for line in LINES {
-        match answered(alloc, &catalog, &mut world, &mut lines, line) {
+        match answer_line(alloc, &catalog, &mut world, &mut lines, line) {
             Some(answer) => println!(rt; "{}", answer.text)?,
             None => println!(rt; "no answer")?,
         }

@@ -11,7 +11,7 @@ ghost use Rattle.pcef_lock.specs.Opening.{GoesBy};
 use pcef_built_in::ShapedCatalog;
 use pcef_catalog::{Detects, Offers};
 use pcef_journaled::JournaledState;
-use pcef_lock::{Desk, Finished, Shared, Totals, opened};
+use pcef_lock::{Desk, Finished, Shared, Totals, open_history};
 use pcef_model::Command;
 use pcef_packet::{Dir, read_header};
 use pcef_profile::read_profile;
@@ -119,10 +119,10 @@ fn behind_its_lock<
 }
 
 /// A session that two threads shared.
-fn shared<R: Threads + Wait + Sync>(rt: &R, alloc: Global) -> Option<Totals> {
+fn share_session<R: Threads + Wait + Sync>(rt: &R, alloc: Global) -> Option<Totals> {
     let catalog = ShapedCatalog::built_in(alloc).ok()?;
     let session = session(alloc, &catalog)?;
-    let Ok(opened) = opened(&session) else {
+    let Ok(opened) = open_history(&session) else {
         return None;
     };
     let catalog = Arc::new(alloc, catalog).ok()?;
@@ -133,7 +133,7 @@ fn shared<R: Threads + Wait + Sync>(rt: &R, alloc: Global) -> Option<Totals> {
 /// Tells how many packets were handed over. The runtime comes twice: outside `main` a function may start threads and wait
 /// only by a bound that says so.
 pub fn run<R: Threads + Wait + Sync>(threads: &R, rt: &HostRuntime) -> io::Result<()> {
-    match shared(threads, rt.alloc()) {
+    match share_session(threads, rt.alloc()) {
         Some(totals) => println!(rt; "{} packets were handed over", totals.rows),
         None => println!(rt; "no memory or no thread"),
     }

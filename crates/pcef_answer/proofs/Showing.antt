@@ -19,9 +19,9 @@ use Rattle.pcef_bearer.specs.Bindings.{Binding}
 use Rattle.std.specs.Prelude.{ℕ}
 use Rattle.pcef_bearer.specs.Standing.{binding_of, bound_of}
 use Rattle.pcef_answer.proofs.WrittenTexts.{last_three, last_two}
-use Rattle.pcef_answer.specs.ShowAnswers.{active_data, bearer_told, bearers_data, key_data, key_told, kept_data, level_text, session_data, state_data, states_data, told_data}
+use Rattle.pcef_answer.specs.ShowAnswers.{active_data, bearer_data_of, bearers_data, key_data, journal_key_data, kept_data, level_text, session_data, state_data, states_data, journal_data}
 
-state_told : (p : Setting) (j : Journal) (s : KeyState) → KeyAgrees p j s → state_data s ≡ key_told p j s.key
+state_told : (p : Setting) (j : Journal) (s : KeyState) → KeyAgrees p j s → state_data s ≡ journal_key_data p j s.key
 state_told p j s agrees =
     let on = is_among s.key (now p j).on in
     let rest : s.unreported ≡ unreported p j s.key = omega (arith, agrees.reported_is, agrees.counted_is) in
@@ -31,23 +31,23 @@ state_told p j s agrees =
     ∙ ap (λ n. key_data s.key level on n s.unreported) agrees.reported_is
     ∙ ap (λ n. key_data s.key level on (reported j s.key) n) rest
 
-states_told : (p : Setting) (j : Journal) (states : List KeyState) → AllByRecursion (KeyAgrees p j) states → map state_data states ≡ map (key_told p j) (map (λ s. s.key) states)
-states_told p j [] all = refl
-states_told p j (s ∷ states) all =
-    ap (λ d. d ∷ map state_data states) (state_told p j s all.0) ∙ ap (λ ds. key_told p j s.key ∷ ds) (states_told p j states all.1)
+after_reports : (p : Setting) (j : Journal) (states : List KeyState) → AllByRecursion (KeyAgrees p j) states → map state_data states ≡ map (journal_key_data p j) (map (λ s. s.key) states)
+after_reports p j [] all = refl
+after_reports p j (s ∷ states) all =
+    ap (λ d. d ∷ map state_data states) (state_told p j s all.0) ∙ ap (λ ds. journal_key_data p j s.key ∷ ds) (after_reports p j states all.1)
 
 pub kept_told : (p : Setting) (j : Journal) (entries : List Entry) (binding : Binding) (generation : ℕ) (keys : List KeyState) → binding ≡ binding_of p (now p j) → generation ≡ gen j → KeysAgree p j keys →
-    kept_data p.catalog entries binding.bound generation keys ≡ told_data p j entries
+    kept_data p.catalog entries binding.bound generation keys ≡ journal_data p j entries
 kept_told p j entries binding generation keys binding_is generation_is agrees =
     let active = active_data p.catalog entries in
     let bearers = bearers_data (bound_of (now p j) (now p j).rules) in
     ap (λ (b : Binding). session_data active (bearers_data b.bound) generation (states_data keys)) binding_is
     ∙ ap (λ n. session_data active bearers n (states_data keys)) generation_is
-    ∙ ap (λ ds. session_data active bearers (gen j) (array (items_of ds))) (states_told p j keys agrees.usage_is ∙ ap (map (key_told p j)) agrees.keys_are)
+    ∙ ap (λ ds. session_data active bearers (gen j) (array (items_of ds))) (after_reports p j keys agrees.usage_is ∙ ap (map (journal_key_data p j)) agrees.keys_are)
 
 -- ---- the bearers of some ids, up to the closing bracket
 abbrev pub bearers_text : List Bound → Bool → List ℕ → List ℕ
-bearers_text bound later ids = items_text later (items_of (filter_map (bearer_told bound) ids))
+bearers_text bound later ids = items_text later (items_of (filter_map (bearer_data_of bound) ids))
 
 -- the text of a key, piece by piece
 pub key_written : (key : List ℕ) (level : Level) (on : Bool) (reported unreported : ℕ) →

@@ -45,8 +45,8 @@ abbrev pub report_data : Report → Data
 report_data report = body_data report.number report.body
 
 -- a journal's reports from the number `first` on, the oldest first; none where `past_last` is not above it
-abbrev pub reports_told : Journal → ℕ → ℕ → List Report
-reports_told journal first past_last = if nat_lt first past_last then drop first (reverse (reports journal)) else []
+abbrev pub reports_between : Journal → ℕ → ℕ → List Report
+reports_between journal first past_last = if nat_lt first past_last then drop first (reverse (reports journal)) else []
 
 abbrev pub reports_data : List Report → Data
 reports_data told = array (items_of (map report_data told))
@@ -54,4 +54,4 @@ reports_data told = array (items_of (map report_data told))
 -- ---- for private clauses
 -- the reports that are told from one number to another
 abbrev pub reports_text : Journal → ℕ → ℕ → List ℕ
-reports_text journal first past_last = compact_text (reports_data (reports_told journal first past_last))
+reports_text journal first past_last = compact_text (reports_data (reports_between journal first past_last))

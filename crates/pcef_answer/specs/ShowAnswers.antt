@@ -46,14 +46,14 @@ bearer_data id rules sums =
     (member (codes "up") (count sums.up) no_members))))
 
 -- the bearer of an id, where there is one
-abbrev pub bearer_told : List Bound → ℕ → Option Data
-bearer_told bound id = option_map (bearer_data id (length (rules_on id bound))) (guaranteed id bound)
+abbrev pub bearer_data_of : List Bound → ℕ → Option Data
+bearer_data_of bound id = option_map (bearer_data id (length (rules_on id bound))) (guaranteed id bound)
 
-abbrev pub bearers_told : List Bound → List ℕ → Data
-bearers_told bound ids = array (items_of (filter_map (bearer_told bound) ids))
+abbrev pub bearers_data_of : List Bound → List ℕ → Data
+bearers_data_of bound ids = array (items_of (filter_map (bearer_data_of bound) ids))
 
 abbrev pub bearers_data : List Bound → Data
-bearers_data bound = bearers_told bound bearer_ids
+bearers_data bound = bearers_data_of bound bearer_ids
 
 -- ---- keys
 -- the level of a key, where it isn't that of a rule's key
@@ -70,8 +70,8 @@ key_data key level on reported unreported =
     (member (codes "reported") (count reported)
     (member (codes "unreported") (count unreported) no_members)))))
 
-abbrev pub key_told : Setting → Journal → List ℕ → Data
-key_told p j key = key_data key (level_of (now p j) key) (is_among key (now p j).on) (reported j key) (unreported p j key)
+abbrev pub journal_key_data : Setting → Journal → List ℕ → Data
+journal_key_data p j key = key_data key (level_of (now p j) key) (is_among key (now p j).on) (reported j key) (unreported p j key)
 
 -- ---- a session
 abbrev pub session_data : Data → Data → ℕ → Data → Data
@@ -83,18 +83,18 @@ session_data active bearers generation keys =
 
 -- the active rules in the order of a table, the bearers by id, the number of the newest generation, and
 -- the keys in slot order
-abbrev pub told_data : Setting → Journal → List Entry → Data
-told_data p j entries =
+abbrev pub journal_data : Setting → Journal → List Entry → Data
+journal_data p j entries =
     session_data (active_data p.catalog entries) (bearers_data (bound_of (now p j) (now p j).rules)) (gen j)
-    (array (items_of (map (key_told p j) (slots p j))))
+    (array (items_of (map (journal_key_data p j) (slots p j))))
 
 -- the rules are in precedence order: that of the table that shows the newest generation
-abbrev pub TellsSession : Setting → Journal → List ℕ → Type 0
-TellsSession p j text = (table : TableValue) × Shows p j (gen j) table × (text ≡ compact_text (told_data p j table.entries))
+abbrev pub ShowsJournal : Setting → Journal → List ℕ → Type 0
+ShowsJournal p j text = (table : TableValue) × Shows p j (gen j) table × (text ≡ compact_text (journal_data p j table.entries))
 
 -- what is told of a session by itself
 abbrev pub ShowsSession : SessionModel → List ℕ → Type 0
-ShowsSession s text = TellsSession s.setting s.journal text
+ShowsSession s text = ShowsJournal s.setting s.journal text
 
 -- ---- for private clauses: the same from what a session keeps beside its journal
 abbrev pub state_data : KeyState → Data

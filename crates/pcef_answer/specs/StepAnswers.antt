@@ -19,7 +19,7 @@ use Rattle.pcef_world.specs.declared.answer.Abandoned.{Abandoned}
 use Rattle.pcef_world.specs.Steps.{Reply, abandon_reply, attach_reply, command_reply, finish_reply, flush_reply, no_worker, refresh_reply, take_reply}
 use Rattle.pcef_answer.specs.FaultAnswers.{count}
 use Rattle.pcef_answer.specs.RefusalAnswers.{refusal_text, attach_fault_text, batch_full_text, flush_refusal_text, no_worker_text}
-use Rattle.pcef_answer.specs.ReportAnswers.{reports_told, reports_data}
+use Rattle.pcef_answer.specs.ReportAnswers.{reports_between, reports_data}
 
 -- ---- commands
 -- the bearer stands first, where there is one
@@ -32,8 +32,8 @@ abbrev pub unchanged_last : Bool → Members
 unchanged_last true = member (codes "unchanged") (boolean true) no_members
 unchanged_last false = no_members
 
-abbrev pub members_told : Data → Option BearerId → ℕ → Bool → Members
-members_told told bearer generation unchanged =
+abbrev pub members_of : Data → Option BearerId → ℕ → Bool → Members
+members_of told bearer generation unchanged =
     bearer_before bearer
     (member (codes "generation") (count generation)
     (member (codes "ok") (boolean true)
@@ -41,7 +41,7 @@ members_told told bearer generation unchanged =
 
 abbrev pub accepted_data : Journal → Accepted → Data
 accepted_data journal accepted =
-    object (members_told (reports_data (reports_told journal accepted.first_report accepted.past_last_report)) accepted.bearer accepted.generation accepted.unchanged)
+    object (members_of (reports_data (reports_between journal accepted.first_report accepted.past_last_report)) accepted.bearer accepted.generation accepted.unchanged)
 
 unfoldable pub command_text : Journal → Result Accepted Refusal → List ℕ
 command_text journal (Ok accepted) = compact_text (accepted_data journal accepted)
@@ -100,7 +100,7 @@ verdicts_data rows = array (items_of (map judged_data rows))
 abbrev pub flushed_data : Journal → FlushAnswer → Data
 flushed_data journal told =
     object (member (codes "ok") (boolean true)
-    (member (codes "reports") (reports_data (reports_told journal told.first_report told.past_last_report))
+    (member (codes "reports") (reports_data (reports_between journal told.first_report told.past_last_report))
     (member (codes "verdicts") (verdicts_data told.rows) no_members)))
 
 unfoldable pub flushed_text : Journal → Result FlushAnswer FlushRefusal → List ℕ
@@ -111,7 +111,7 @@ flushed_text journal (Err refusal) = flush_refusal_text refusal
 abbrev pub finished_data : Journal → FlushAnswer → ℕ → Data
 finished_data journal told rows =
     object (member (codes "ok") (boolean true)
-    (member (codes "reports") (reports_data (reports_told journal told.first_report told.past_last_report))
+    (member (codes "reports") (reports_data (reports_between journal told.first_report told.past_last_report))
     (member (codes "rows") (count rows)
     (member (codes "verdicts") (verdicts_data told.rows) no_members))))
 

@@ -4,7 +4,7 @@ ghost use Rattle.std.specs.Prelude.{◌≡◌, ◌++◌, All, IfOk, OnOk, codes,
 ghost use Rattle.serde_json.specs.Data.{boolean};
 ghost use Rattle.serde_json.specs.Written.{comma_if, compact_text};
 ghost use Rattle.pcef_table.specs.Sources.{IsKnown};
-ghost use Rattle.pcef_answer.specs.ShowAnswers.{ShowsSession, active_data, bearer_data, bearers_told, entry_data, kept_data, level_text, state_data, states_data};
+ghost use Rattle.pcef_answer.specs.ShowAnswers.{ShowsSession, active_data, bearer_data, bearers_data_of, entry_data, kept_data, level_text, state_data, states_data};
 ghost use Rattle.pcef_answer.specs.Written.{GoesOn};
 
 use crate::written::{push_comma, push_count, push_last_count, push_name};
@@ -86,7 +86,7 @@ const IDS: [u8; 11] = [5, 6, 7, 8, 9, 10, 11, 12, 13, 14, 15];
 
 fn push_bearers(text: &mut String, bearers: &Bearers, ids: &[u8]) -> Result<(), AllocError>
     ensures { OnOk result (GoesOn text.old text.new
-        (codes ",\"bearers\":" ++ compact_text (bearers_told bearers.now.bound ids.now))) }
+        (codes ",\"bearers\":" ++ compact_text (bearers_data_of bearers.now.bound ids.now))) }
 {
     text.push_str(",\"bearers\":[")?;
     let mut later = false;

@@ -2,7 +2,7 @@
 
 ghost use Rattle.std.specs.Prelude.{◌≡◌, ◌≤◌, IfOk, string_bytes};
 ghost use Rattle.pcef_session.specs.Answers.{finished_of, flushed_of};
-ghost use Rattle.pcef_world.specs.Steps.{TellsKept, reply_of};
+ghost use Rattle.pcef_world.specs.Steps.{NamesKept, reply_of};
 ghost use Rattle.pcef_answer.specs.StepAnswers.{command_text, attached_text, taken_text, finished_text, flushed_text, step_text};
 
 use crate::refusal::{
@@ -23,18 +23,18 @@ pub fn step_answer(
     generation: u32,
     answer: &StepAnswer,
 ) -> Result<String, AllocError>
-    requires { TellsKept journal.now.forgotten (reply_of answer.now) }
+    requires { NamesKept journal.now.forgotten (reply_of answer.now) }
     ensures { IfOk result (λ text. string_bytes text
         ≡ step_text journal.now.entries generation (reply_of answer.now)) }
 {
     match answer {
         StepAnswer::Command(answer) => command_answer(alloc, journal, answer),
         StepAnswer::Attach(answer) => attached_answer(alloc, generation, answer),
-        StepAnswer::Refresh(held) => written::refreshed(alloc, *held),
+        StepAnswer::Refresh(held) => written::text_of_refresh(alloc, *held),
         StepAnswer::Take(answer) => taken_answer(alloc, answer),
         StepAnswer::Flush(answer) => flushed_answer(alloc, journal, answer),
         StepAnswer::Finish(answer) => finished_answer(alloc, journal, answer),
-        StepAnswer::Abandon(abandoned) => written::abandoned(alloc, *abandoned),
+        StepAnswer::Abandon(abandoned) => written::text_of_abandon(alloc, *abandoned),
         StepAnswer::NoWorker => no_worker_answer(alloc),
     }
 }
@@ -51,7 +51,7 @@ pub fn command_answer(
 {
     match answer {
         Err(refusal) => refusal_answer(alloc, *refusal),
-        Ok(accepted) => written::accepted(alloc, journal, *accepted),
+        Ok(accepted) => written::text_of_accepted(alloc, journal, *accepted),
     }
 }
 
@@ -65,7 +65,7 @@ fn attached_answer(
 {
     match answer {
         Err(fault) => attach_fault_answer(alloc, *fault),
-        Ok(worker) => written::attached(alloc, generation, *worker),
+        Ok(worker) => written::text_of_attach(alloc, generation, *worker),
     }
 }
 
@@ -74,7 +74,7 @@ fn taken_answer(alloc: Global, answer: &Result<u8, BatchFull>) -> Result<String,
 {
     match answer {
         Err(BatchFull) => refused_answer(alloc, "BatchFull", 1),
-        Ok(waiting) => written::taken(alloc, *waiting),
+        Ok(waiting) => written::text_of_take(alloc, *waiting),
     }
 }
 
@@ -90,7 +90,7 @@ fn flushed_answer(
 {
     match answer {
         Err(refusal) => flush_refusal_answer(alloc, *refusal),
-        Ok(verdicts) => written::flushed(alloc, journal, verdicts),
+        Ok(verdicts) => written::text_of_flush(alloc, journal, verdicts),
     }
 }
 
@@ -107,6 +107,6 @@ fn finished_answer(
 {
     match answer {
         Err(refusal) => flush_refusal_answer(alloc, *refusal),
-        Ok((verdicts, rows)) => written::finished(alloc, journal, verdicts, *rows),
+        Ok((verdicts, rows)) => written::text_of_finish(alloc, journal, verdicts, *rows),
     }
 }

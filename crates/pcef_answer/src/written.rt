@@ -20,7 +20,7 @@ use pcef_world::Abandoned;
 use std::alloc::{AllocError, Global};
 
 /// The answer to a command that was accepted, with the reports that the journal has for it.
-pub(crate) fn accepted(
+pub(crate) fn text_of_accepted(
     alloc: Global,
     journal: &Journal,
     accepted: Accepted,
@@ -84,7 +84,11 @@ fn push_end(text: &mut String, unchanged: bool) -> Result<(), AllocError>
 }
 
 /// The answer to a worker that comes in this generation.
-pub(crate) fn attached(alloc: Global, generation: u32, worker: u8) -> Result<String, AllocError>
+pub(crate) fn text_of_attach(
+    alloc: Global,
+    generation: u32,
+    worker: u8,
+) -> Result<String, AllocError>
     ensures { IfOk result (λ text. string_bytes text
         ≡ compact_text (attached_data generation worker)) }
 {
@@ -95,7 +99,7 @@ pub(crate) fn attached(alloc: Global, generation: u32, worker: u8) -> Result<Str
 }
 
 /// The answer to a worker that holds this generation then.
-pub(crate) fn refreshed(alloc: Global, generation: u32) -> Result<String, AllocError>
+pub(crate) fn text_of_refresh(alloc: Global, generation: u32) -> Result<String, AllocError>
     ensures { IfOk result (λ text. string_bytes text ≡ compact_text (refreshed_data generation)) }
 {
     let mut text = String::with_capacity(alloc, 64)?;
@@ -105,7 +109,7 @@ pub(crate) fn refreshed(alloc: Global, generation: u32) -> Result<String, AllocE
 }
 
 /// How many rows waited, and the length of the worker's lane.
-pub(crate) fn abandoned(alloc: Global, abandoned: Abandoned) -> Result<String, AllocError>
+pub(crate) fn text_of_abandon(alloc: Global, abandoned: Abandoned) -> Result<String, AllocError>
     ensures { IfOk result (λ text. string_bytes text ≡ compact_text (abandoned_data abandoned)) }
 {
     let mut text = String::with_capacity(alloc, 64)?;
@@ -115,7 +119,7 @@ pub(crate) fn abandoned(alloc: Global, abandoned: Abandoned) -> Result<String, A
 }
 
 /// The answer to a packet that was taken.
-pub(crate) fn taken(alloc: Global, waiting: u8) -> Result<String, AllocError>
+pub(crate) fn text_of_take(alloc: Global, waiting: u8) -> Result<String, AllocError>
     ensures { IfOk result (λ text. string_bytes text ≡ compact_text (taken_data waiting)) }
 {
     let mut text = String::with_capacity(alloc, 32)?;
@@ -124,7 +128,7 @@ pub(crate) fn taken(alloc: Global, waiting: u8) -> Result<String, AllocError>
 }
 
 /// The answer to a flush: its verdicts, with the reports that the journal has for them.
-pub(crate) fn flushed(
+pub(crate) fn text_of_flush(
     alloc: Global,
     journal: &Journal,
     verdicts: &Verdicts,
@@ -149,7 +153,7 @@ pub(crate) fn flushed(
 }
 
 /// The answer to a finish: as that to a flush, and the length of the worker's lane.
-pub(crate) fn finished(
+pub(crate) fn text_of_finish(
     alloc: Global,
     journal: &Journal,
     verdicts: &Verdicts,

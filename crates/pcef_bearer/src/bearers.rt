@@ -10,7 +10,7 @@ ghost use Rattle.pcef_model.specs.Bearers.{is_gbr, is_non_gbr};
 ghost use Rattle.pcef_model.specs.Refusals.{first_of, over_room};
 
 use crate::ids::{count_on, finds_no_bearer, id_excluding, is_present};
-use crate::lookup::{drop_named, drop_taken, has_name, named, put};
+use crate::lookup::{bound_under, drop_named, drop_taken, has_name, put};
 use crate::places::Places;
 use crate::rates::{is_over, is_over_room, sums_excluding, sums_of, sums_of_all, sums_on};
 use pcef_model::{Command, OpenFault, Refusal};
@@ -363,7 +363,7 @@ impl Bearers {
     pub fn bearer_of(&self, name: &RuleName) -> Option<BearerId>
         ensures { result ≡ bearer_of name.now self.now.bound }
     {
-        match named(&self.bound, name) {
+        match bound_under(&self.bound, name) {
             Some(b) => Some(b.bearer),
             None => None,
         }

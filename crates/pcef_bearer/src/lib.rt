@@ -1,6 +1,6 @@
 //! Which bearer each active rule of a session is bound to (TS 23.203, clause 6.1.1.4): `Bearers`.
 //!
-//! Its contracts tell: the bearer of a rule, or why the rule can't be bound.
+//! Its contracts say: the bearer of a rule, or why the rule can't be bound.
 //!
 //! In the order of reading: `places`, `lookup`, `ids`, `rates`, `bearers`.
 #![tactic(auto)]

@@ -50,7 +50,7 @@ pub(crate) fn has_name(bound: &[Bound], name: &RuleName) -> bool
 }
 
 /// The rule of this name, if it is bound.
-pub(crate) fn named<'a>(bound: &'a [Bound], name: &RuleName) -> Option<&'a Bound>
+pub(crate) fn bound_under<'a>(bound: &'a [Bound], name: &RuleName) -> Option<&'a Bound>
     ensures { option_copied result ≡ find (is_named name.now) bound.now }
 {
     for b in bound {

@@ -117,7 +117,7 @@ fn run(
 }
 
 /// Does what the words ask for, or tells that they ask for nothing.
-fn done(rt: &HostRuntime, catalog: &Catalog, words: &[String]) -> io::Result<bool> {
+fn do_as_asked(rt: &HostRuntime, catalog: &Catalog, words: &[String]) -> io::Result<bool> {
     let (rules, packets, passes, ue, way) = match words {
         [rules, packets, passes] => (rules, packets, passes, Some(UE), Way::Index),
         [rules, packets, passes, word] if word.as_str() == "scan" => {
@@ -147,5 +147,5 @@ pub fn measure(rt: &HostRuntime, words: &[String]) -> io::Result<bool> {
     let Ok(catalog) = Catalog::new(rt.alloc(), Vec::new(rt.alloc())) else {
         return Err(AllocError.into());
     };
-    done(rt, &catalog, words)
+    do_as_asked(rt, &catalog, words)
 }

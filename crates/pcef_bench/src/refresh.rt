@@ -167,7 +167,7 @@ fn publish_all<N: Naming, W: Board<Slot<N>> + Drop, C: Clock>(
 }
 
 /// What is reached by a publisher of its own.
-fn measured<N: Naming, R: Wait + Drop, C: Clock>(
+fn measure_rounds<N: Naming, R: Wait + Drop, C: Clock>(
     rt: R,
     clock: &C,
     alloc: Global,
@@ -188,7 +188,7 @@ fn measured<N: Naming, R: Wait + Drop, C: Clock>(
 }
 
 /// Tells what one refresh or swap of a kind took, in hundredths of a nanosecond.
-fn tell(rt: &HostRuntime, name: &str, load: Load, rounds: [u64; 3], look: u64) {
+fn print_times(rt: &HostRuntime, name: &str, load: Load, rounds: [u64; 3], look: u64) {
     let [least, median, late] = rounds;
     let least = of_each(least, look, load.subscribers);
     let median = of_each(median, look, load.subscribers);
@@ -197,11 +197,11 @@ fn tell(rt: &HostRuntime, name: &str, load: Load, rounds: [u64; 3], look: u64) {
 }
 
 /// Tells what each kind took.
-fn tell_each(rt: &HostRuntime, load: Load, spreads: Spreads) {
+fn print_all(rt: &HostRuntime, load: Load, spreads: Spreads) {
     let [look, _, _] = spreads.clock;
-    tell(rt, "newer", load, spreads.newer, look);
-    tell(rt, "same", load, spreads.same, look);
-    tell(rt, "own Arc", load, spreads.own, look);
+    print_times(rt, "newer", load, spreads.newer, look);
+    print_times(rt, "same", load, spreads.same, look);
+    print_times(rt, "own Arc", load, spreads.own, look);
 }
 
 /// Publishes and refreshes as the words ask, or tells that they ask for nothing.
@@ -216,11 +216,11 @@ pub fn measure<R: Wait>(waiting: &R, rt: &HostRuntime, words: &[String]) -> io::
         return Err(AllocError.into());
     };
     let opened = Opened::new(first);
-    let Some(reached) = measured::<Brand, _, _>(waiting, rt, rt.alloc(), opened, load) else {
+    let Some(reached) = measure_rounds::<Brand, _, _>(waiting, rt, rt.alloc(), opened, load) else {
         return Err(AllocError.into());
     };
     if load.is_timed {
-        tell_each(rt, load, reached.spreads);
+        print_all(rt, load, reached.spreads);
     }
     println!(rt; "newest {} held {}", reached.newest, reached.held)?;
     Ok(true)

@@ -27,7 +27,7 @@ use crate::arguments::number;
 use opening::{packets, session};
 use pcef_catalog::{Catalog, Detects};
 use pcef_journaled::JournaledState;
-use pcef_lock::{Shared, opened};
+use pcef_lock::{Shared, open_history};
 use pcef_packet::Header;
 use pcef_publish::Opened;
 use pcef_share::{Blanks, Naming};
@@ -102,7 +102,7 @@ fn load_of(words: &[String]) -> Option<Load> {
 }
 
 /// What the workers of a session reach.
-fn measured<R: Threads + Wait + Sync, K: Clock + Sync>(
+fn measure_rounds<R: Threads + Wait + Sync, K: Clock + Sync>(
     rt: &R,
     clock: &K,
     alloc: Global,
@@ -110,7 +110,7 @@ fn measured<R: Threads + Wait + Sync, K: Clock + Sync>(
 ) -> Option<Reached> {
     let packets = packets(alloc, load)?;
     let session = session(alloc, load)?;
-    let Ok(opened) = opened(&session) else {
+    let Ok(opened) = open_history(&session) else {
         return None;
     };
     let offered = Catalog::new(alloc, Vec::new(alloc)).ok()?;
@@ -165,7 +165,7 @@ pub fn measure<T: Threads + Wait + Sync>(
     let Some(load) = load_of(words) else {
         return Ok(false);
     };
-    let Some(reached) = measured(threads, rt, rt.alloc(), load) else {
+    let Some(reached) = measure_rounds(threads, rt, rt.alloc(), load) else {
         return Err(AllocError.into());
     };
     let _ = eprintln!(rt; "nanoseconds {}", reached.nanoseconds);

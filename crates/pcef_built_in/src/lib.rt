@@ -1,7 +1,7 @@
 //! The three built-in predefined rules, which the program `pcef` and the library for C offer, and `ShapedCatalog`,
 //! which offers them without closures.
 //!
-//! Its contracts tell: what each rule is, and that each detects as its shape says.
+//! Its contracts say: what each rule is, and that each detects as its shape says.
 //!
 //! In the order of reading: `rules`, `shaped`.
 #![tactic(auto)]

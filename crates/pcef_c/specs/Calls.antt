@@ -9,22 +9,22 @@ use Rattle.pcef_handle.specs.declared.opening.OpenRefusal.{OpenRefusal}
 use Rattle.pcef_c.specs.Numbers.{length_number, number_of, open_number}
 
 -- the session is what the text says, or there is a reason why it isn't opened
-abbrev pub OpenTold : Handle → List ℕ → Handle → ℕ → Type 0
-OpenTold old text new told = (r : Result (Unit {0}) OpenRefusal) × OpensHandle text old r new × (told ≡ open_number r)
+abbrev pub OpenReturns : Handle → List ℕ → Handle → ℕ → Type 0
+OpenReturns old text new told = (r : Result (Unit {0}) OpenRefusal) × OpensHandle text old r new × (told ≡ open_number r)
 
 -- the line is answered as in a script, or there is a reason why it isn't
-abbrev pub LineTold : Handle → List ℕ → List ℕ → Handle → List ℕ → ℕ → Type 0
-LineTold old line before new after told =
+abbrev pub LineReturns : Handle → List ℕ → List ℕ → Handle → List ℕ → ℕ → Type 0
+LineReturns old line before new after told =
     (r : Result ℕ CallRefusal) × AnswersHandle old line before r new after × (told ≡ length_number r)
 
 -- the reports from a number on are told, or there is a reason why they aren't; the handle stays as it is
-abbrev pub ReportsTold : Handle → ℕ → List ℕ → Handle → List ℕ → ℕ → Type 0
-ReportsTold old first before new after told =
+abbrev pub ReportsReturn : Handle → ℕ → List ℕ → Handle → List ℕ → ℕ → Type 0
+ReportsReturn old first before new after told =
     (new ≡ old) × (r : Result ℕ CallRefusal) × ReportsHandle old first before r after × (told ≡ length_number r)
 
 -- the reports so far are let go, or there is no session
-abbrev pub ForgetTold : Handle → Handle → ℕ → Type 0
-ForgetTold old new told = (r : Result ℕ CallRefusal) × ForgetsHandle old r new × (told ≡ length_number r)
+abbrev pub ForgetReturns : Handle → Handle → ℕ → Type 0
+ForgetReturns old new told = (r : Result ℕ CallRefusal) × ForgetsHandle old r new × (told ≡ length_number r)
 
 -- there is no session any more, and whether there was one is told
 abbrev pub Closes : Handle → Handle → ℕ → Type 0

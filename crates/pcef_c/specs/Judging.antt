@@ -44,22 +44,22 @@ flags_of (slot ∷ slots) flags = flags_of slots (bit_or flags (flag_of slot.0))
 abbrev pub unjudged : ℕ → CVerdict
 unjudged status = record { generation = 0; status = status; bearer = 0; place = 255; slots = 0 }
 
-abbrev pub told_of : Result Judgement JudgeRefusal → CVerdict
-told_of (Ok d) = record {
+abbrev pub c_verdict_of : Result Judgement JudgeRefusal → CVerdict
+c_verdict_of (Ok d) = record {
   generation = d.generation;
   status = status_of d.verdict;
   bearer = bearer_of d.verdict;
   place = place_of d.place;
   slots = flags_of d.slots.items 0;
 }
-told_of (Err NoSession) = unjudged 4
-told_of (Err (NoPacket fault)) = unjudged (packet_number fault)
-told_of (Err TooFew) = unjudged 10
+c_verdict_of (Err NoSession) = unjudged 4
+c_verdict_of (Err (NoPacket fault)) = unjudged (packet_number fault)
+c_verdict_of (Err TooFew) = unjudged 10
 
 -- the verdict tells what the session of a handle decides of a packet
 abbrev pub IsVerdictOn : Handle → CPacket → CVerdict → Type 0
 IsVerdictOn h packet v =
-    (r : Result Judgement JudgeRefusal) × JudgesHandle h (dir_of packet.up) packet.octets.now packet.whole r × (v ≡ told_of r)
+    (r : Result Judgement JudgeRefusal) × JudgesHandle h (dir_of packet.up) packet.octets.now packet.whole r × (v ≡ c_verdict_of r)
 
 -- as many packets are judged as there are verdicts, and that many are told; no other verdict is written, and the handle stays
 pub record AreJudged (h : Handle) (packets : List CPacket) (before after : List CVerdict) (told : ℕ) : Type 0 where

@@ -1,7 +1,7 @@
 //! What C calls, behind its pointers: each call on a handle, with its answer as a number.
 
 ghost use Rattle.std.specs.Prelude.{◌≡◌, None};
-ghost use Rattle.pcef_c.specs.Calls.{Closes, ForgetTold, LineTold, OpenTold, ReportsTold};
+ghost use Rattle.pcef_c.specs.Calls.{Closes, ForgetReturns, LineReturns, OpenReturns, ReportsReturn};
 ghost use Rattle.pcef_c.specs.Judging.{JudgesAll};
 
 use crate::judging::{CPacket, CVerdict, judge_all};
@@ -18,7 +18,7 @@ pub(crate) fn empty(alloc: Global) -> Handle
 
 /// Opens a session by the text of a profile: 0, or why there is none.
 pub(crate) fn open(handle: &mut Handle, profile: &[u8]) -> u8
-    ensures { OpenTold handle.old profile.now handle.new result }
+    ensures { OpenReturns handle.old profile.now handle.new result }
 {
     let opened = handle.open(profile);
     open_number(opened)
@@ -26,7 +26,7 @@ pub(crate) fn open(handle: &mut Handle, profile: &[u8]) -> u8
 
 /// Answers a line: how long the answer is, or why there is none.
 pub(crate) fn line(handle: &mut Handle, line: &[u8], answer: &mut [u8]) -> usize
-    ensures { LineTold handle.old line.now answer.old handle.new answer.new result }
+    ensures { LineReturns handle.old line.now answer.old handle.new answer.new result }
 {
     let told = handle.line(line, answer);
     length_number(told)
@@ -46,7 +46,7 @@ pub(crate) fn judge(
 
 /// Tells the reports from a number on: how long their text is, or why there is none.
 pub(crate) fn reports(handle: &mut Handle, first: u64, answer: &mut [u8]) -> usize
-    ensures { ReportsTold handle.old first answer.old handle.new answer.new result }
+    ensures { ReportsReturn handle.old first answer.old handle.new answer.new result }
 {
     let told = handle.reports(first, answer);
     length_number(told)
@@ -54,7 +54,7 @@ pub(crate) fn reports(handle: &mut Handle, first: u64, answer: &mut [u8]) -> usi
 
 /// Lets the reports so far go: how many these are, or why there are none.
 pub(crate) fn forget(handle: &mut Handle) -> usize
-    ensures { ForgetTold handle.old handle.new result }
+    ensures { ForgetReturns handle.old handle.new result }
 {
     let told = handle.forget();
     count_number(told)

@@ -4,7 +4,7 @@
 ghost use Rattle.std.specs.Prelude.{◌≡◌, None};
 ghost use Rattle.std.specs.Borrow.{sem};
 ghost use Rattle.pcef_handle.specs.declared.held.Handle.{Handle};
-ghost use Rattle.pcef_c.specs.Calls.{Closes, ForgetTold, LineTold, OpenTold, ReportsTold};
+ghost use Rattle.pcef_c.specs.Calls.{Closes, ForgetReturns, LineReturns, OpenReturns, ReportsReturn};
 ghost use Rattle.pcef_c.specs.Handles.{lies, room};
 ghost use Rattle.pcef_c.specs.Judging.{JudgesAll};
 
@@ -36,7 +36,7 @@ pub unsafe extern "C" fn pcef_open(at: *mut u8, profile: &[u8]) -> u8
     ghost old: { Handle }
     requires* { sem 𝓛 (lies at old) }
     ensures* { ∃ₛ (λ (new : Handle). sem 𝓛 (lies at new)
-        ∗ ⌜ OpenTold old profile.now new result ⌝) }
+        ∗ ⌜ OpenReturns old profile.now new result ⌝) }
 {
     open(&mut *(at as *mut Handle), profile)
 }
@@ -48,7 +48,7 @@ pub unsafe extern "C" fn pcef_line(at: *mut u8, text: &[u8], answer: &mut [u8]) 
     ghost old: { Handle }
     requires* { sem 𝓛 (lies at old) }
     ensures* { ∃ₛ (λ (new : Handle). sem 𝓛 (lies at new)
-        ∗ ⌜ LineTold old text.now answer.old new answer.new result ⌝) }
+        ∗ ⌜ LineReturns old text.now answer.old new answer.new result ⌝) }
 {
     line(&mut *(at as *mut Handle), text, answer)
 }
@@ -76,7 +76,7 @@ pub unsafe extern "C" fn pcef_reports(at: *mut u8, first: u64, answer: &mut [u8]
     ghost old: { Handle }
     requires* { sem 𝓛 (lies at old) }
     ensures* { ∃ₛ (λ (new : Handle). sem 𝓛 (lies at new)
-        ∗ ⌜ ReportsTold old first answer.old new answer.new result ⌝) }
+        ∗ ⌜ ReportsReturn old first answer.old new answer.new result ⌝) }
 {
     reports(&mut *(at as *mut Handle), first, answer)
 }
@@ -87,7 +87,7 @@ pub unsafe extern "C" fn pcef_reports(at: *mut u8, first: u64, answer: &mut [u8]
 pub unsafe extern "C" fn pcef_forget(at: *mut u8) -> usize
     ghost old: { Handle }
     requires* { sem 𝓛 (lies at old) }
-    ensures* { ∃ₛ (λ (new : Handle). sem 𝓛 (lies at new) ∗ ⌜ ForgetTold old new result ⌝) }
+    ensures* { ∃ₛ (λ (new : Handle). sem 𝓛 (lies at new) ∗ ⌜ ForgetReturns old new result ⌝) }
 {
     forget(&mut *(at as *mut Handle))
 }

@@ -1,7 +1,7 @@
 //! Packets as C hands them over, and their verdicts as C is told them.
 
 ghost use Rattle.std.specs.Prelude.{◌≡◌};
-ghost use Rattle.pcef_c.specs.Judging.{AreJudged, IsVerdictOn, bearer_of, dir_of, flag_of, flags_of, place_of, status_of, told_of};
+ghost use Rattle.pcef_c.specs.Judging.{AreJudged, IsVerdictOn, bearer_of, dir_of, flag_of, flags_of, place_of, status_of, c_verdict_of};
 
 use crate::numbers::packet_number;
 use pcef_handle::{Handle, JudgeRefusal, Judgement};
@@ -106,8 +106,8 @@ fn unjudged(status: u8) -> CVerdict
     }
 }
 
-fn told_of(judged: &Result<Judgement, JudgeRefusal>) -> CVerdict
-    ensures { result ≡ told_of judged.now }
+fn c_verdict_of(judged: &Result<Judgement, JudgeRefusal>) -> CVerdict
+    ensures { result ≡ c_verdict_of judged.now }
 {
     match judged {
         Ok(judgement) => CVerdict {
@@ -126,7 +126,7 @@ fn told_of(judged: &Result<Judgement, JudgeRefusal>) -> CVerdict
 fn verdict_on(handle: &Handle, packet: &CPacket<'_>) -> CVerdict
     ensures { IsVerdictOn handle.now packet.now result }
 {
-    told_of(&handle.judge(dir_of(packet.up), packet.octets, packet.whole))
+    c_verdict_of(&handle.judge(dir_of(packet.up), packet.octets, packet.whole))
 }
 
 /// Judges as many packets as there are verdicts, and gives how many these are.

@@ -11,8 +11,8 @@ ghost use Rattle.std.specs.Prelude.{◌≡◌, []};
 
 use hint::hint_of;
 use pcef_capture_file::CaptureFault;
-use pcef_capture_script::{Counts, End, Options, Request, asked, write_capture};
-use pcef_command_line::{gather, refuse, tell_no_memory};
+use pcef_capture_script::{Counts, End, Options, Request, parse_options, write_capture};
+use pcef_command_line::{gather, refuse, report_no_memory};
 use std::fs::File;
 use std::io::{self, BufWriter, ErrorKind, Read, Write};
 use std::process::ExitCode;
@@ -26,7 +26,7 @@ fn end_of(error: io::Error, other: End) -> End {
 }
 
 /// Tells what was counted. That it can't be told changes nothing.
-fn tell(rt: &HostRuntime, counts: &Counts) {
+fn print_counts(rt: &HostRuntime, counts: &Counts) {
     let _ = eprintln!(rt;
         "read {}, taken {}, not IP {}, cut {}, on neither side {}",
         counts.read, counts.taken, counts.not_ip, counts.cut, counts.neither
@@ -34,16 +34,16 @@ fn tell(rt: &HostRuntime, counts: &Counts) {
 }
 
 /// Tells where every packet is one of others: the address may be wrong.
-fn tell_strangers(rt: &HostRuntime, counts: &Counts) {
+fn warn_of_strangers(rt: &HostRuntime, counts: &Counts) {
     if counts.taken == 0 && counts.cut == 0 && counts.neither > 0 {
         let _ = eprintln!(rt; "no packet has the session's address: is --ue right?");
     }
 }
 
 /// Tells what was counted up to the end or the fault.
-fn ended(rt: &HostRuntime, counts: &Counts, fault: Option<CaptureFault>) -> End {
-    tell(rt, counts);
-    tell_strangers(rt, counts);
+fn end_of_lines(rt: &HostRuntime, counts: &Counts, fault: Option<CaptureFault>) -> End {
+    print_counts(rt, counts);
+    warn_of_strangers(rt, counts);
     match fault {
         Some(fault) => End::Capture(fault),
         None => End::Done,
@@ -65,7 +65,7 @@ fn write_to<R: Read, W: Write>(
         return end_of(error, End::Write(error));
     }
     match told {
-        Ok((counts, fault)) => ended(rt, &counts, fault),
+        Ok((counts, fault)) => end_of_lines(rt, &counts, fault),
         Err(end) => end,
     }
 }
@@ -106,7 +106,7 @@ fn run(rt: &HostRuntime, options: &Options<'_>, waiting: &mut Vec<u8>) -> End
 
 /// Tells why the program ends early, and what the octets at a fault say, and gives the exit status. That it can't be
 /// told changes nothing.
-fn told(rt: &HostRuntime, file: &str, end: &End, octets: &[u8]) -> u8 {
+fn report_end(rt: &HostRuntime, file: &str, end: &End, octets: &[u8]) -> u8 {
     match end {
         End::Done => {}
         End::Capture(fault) => {
@@ -117,7 +117,7 @@ fn told(rt: &HostRuntime, file: &str, end: &End, octets: &[u8]) -> u8 {
             }
         }
         End::NoMemory => {
-            let _ = tell_no_memory(rt);
+            let _ = report_no_memory(rt);
         }
         End::Read(error) => {
             let _ = eprintln!(rt; "read fault\n{file}: {error}");
@@ -138,12 +138,12 @@ fn follow(rt: &HostRuntime, options: &Options<'_>) -> u8 {
     } else {
         options.file
     };
-    told(rt, file, &end, waiting.as_slice())
+    report_end(rt, file, &end, waiting.as_slice())
 }
 
 /// Does what the words ask for, and gives the exit status.
 fn answer(rt: &HostRuntime, words: &[String]) -> u8 {
-    match asked(rt.alloc(), words) {
+    match parse_options(rt.alloc(), words) {
         Ok(Some(Request::Options(options))) => follow(rt, &options),
         Ok(Some(Request::NoAddress(text))) => {
             let _ = eprintln!(rt;

@@ -100,8 +100,8 @@ fn obsolete_in<'a>(interfaces: &[Interface], block: &Block<'a>) -> Result<Packet
 }
 
 /// How many octets of a frame are recorded.
-#[tactic(auto, unfolding(crate::specs::BlockPackets::snapped))]
-fn snapped(snap_len: u32, line: u32) -> u32
+#[tactic(auto, unfolding(crate::specs::BlockPackets::snap))]
+fn snap(snap_len: u32, line: u32) -> u32
     ensures { result ≡ snapped snap_len line }
 {
     if snap_len == 0 {
@@ -124,7 +124,7 @@ fn simple_in<'a>(interfaces: &[Interface], block: &Block<'a>) -> Result<Packet<'
     }
     let interface = interface_at(interfaces, 0)?;
     let line = block.endianness.number_in_4(block.body, 0);
-    let recorded = snapped(interface.snap_len, line);
+    let recorded = snap(interface.snap_len, line);
     packet_in(block, interface, recorded, line, 4)
 }
 

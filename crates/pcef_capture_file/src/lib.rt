@@ -1,6 +1,6 @@
 //! Reads captures, whole or in parts: the frames that were recorded, and the packets of IPv4 and IPv6 in them.
 //!
-//! Its contracts tell: exactly the packets of a capture, up to its end or first fault; what a frame is for a session.
+//! Its contracts say: exactly the packets of a capture, up to its end or first fault; what a frame is for a session.
 //!
 //! In the order of reading: `direction`, `endianness`, `fault`, `laws`, `link`, `padding`, `stop`, `packet`, `classic`,
 //! `frame`, `content`, `blocks`, `section`, `block_packet`, `pcapng`, `capture`, `stream`.

@@ -1,7 +1,7 @@
 //! Packets that were recorded in part.
 
 ghost use Rattle.std.specs.Prelude.{◌≡◌, IfOk};
-ghost use Rattle.pcef_capture_file.specs.Padding.{padded, told_len};
+ghost use Rattle.pcef_capture_file.specs.Padding.{padded, stated_len};
 
 use crate::endianness::Endianness;
 use std::alloc::{AllocError, Global};
@@ -13,9 +13,9 @@ const IPV4_HEADER_LEN: usize = 20;
 const IPV6_HEADER_LEN: usize = 40;
 
 /// How many octets a packet says that it has, or 0 where too little of its header was recorded.
-#[tactic(auto, unfolding(crate::specs::Padding::told_len, pcef_packet::specs::HeaderOf::total_len_v4, pcef_packet::specs::HeaderOf::volume_v6))]
-fn told_len(octets: &[u8]) -> usize
-    ensures { result ≡ told_len octets.now }
+#[tactic(auto, unfolding(crate::specs::Padding::stated_len, pcef_packet::specs::HeaderOf::total_len_v4, pcef_packet::specs::HeaderOf::volume_v6))]
+fn stated_len(octets: &[u8]) -> usize
+    ensures { result ≡ stated_len octets.now }
 {
     if IPV4_HEADER_LEN <= octets.len() && octets[0] / 16 == 4 {
         usize::from(Endianness::Big.number_in_2(octets, 2))
@@ -33,7 +33,7 @@ fn told_len(octets: &[u8]) -> usize
 pub fn padded(alloc: Global, octets: &[u8]) -> Result<Vec<u8>, AllocError>
     ensures { IfOk result (λ whole. whole.items ≡ padded octets.now) }
 {
-    let missing = told_len(octets).saturating_sub(octets.len());
+    let missing = stated_len(octets).saturating_sub(octets.len());
     let mut whole = Vec::with_capacity(alloc, octets.len())?;
     whole.extend_from_slice(octets)?;
     whole.resize(octets.len() + missing, 0)?;

@@ -62,7 +62,10 @@ fn note<'a>(packets: &mut Vec<Packet<'a>>, packet: Option<Packet<'a>>) -> Result
 }
 
 /// What was read up to a block at fault; `NoMemory` where that is the fault.
-fn ended<'a>(packets: Vec<Packet<'a>>, fault: CaptureFault) -> Result<Capture<'a>, CaptureFault>
+fn capture_until<'a>(
+    packets: Vec<Packet<'a>>,
+    fault: CaptureFault,
+) -> Result<Capture<'a>, CaptureFault>
     ensures packets { IfOk result (λ capture. capture.packets.items ≡ packets.entry.items) }
     ensures told { IfOk result (λ capture. capture.fault ≡ Some fault) }
     ensures other { OnOk result (fault ≢ NoMemory) }
@@ -97,7 +100,7 @@ fn read_blocks<'a>(alloc: Global, octets: &'a [u8]) -> Result<Capture<'a>, Captu
                 };
                 rest = others;
             }
-            Err(fault) => return ended(packets, fault),
+            Err(fault) => return capture_until(packets, fault),
         }
     }
     Ok(Capture {

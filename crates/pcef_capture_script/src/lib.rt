@@ -1,7 +1,7 @@
 //! The lines of a script for the packets of a capture, written while it is read, and what the program that writes them
 //! is asked for: `asked`, `write_capture`.
 //!
-//! Its contracts tell: which lines were written for the packets so far, or a front of them.
+//! Its contracts say: which lines were written for the packets so far, or a front of them.
 //!
 //! In the order of reading: `counts`, `end`, `options`, `turn`, `takes`, `writing`.
 #![tactic(auto)]
@@ -15,5 +15,5 @@ mod writing;
 
 pub use counts::{Counts, Outcome};
 pub use end::End;
-pub use options::{Options, Request, asked, command};
+pub use options::{Options, Request, command, parse_options};
 pub use writing::write_capture;

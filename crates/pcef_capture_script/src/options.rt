@@ -155,7 +155,7 @@ pub fn command<'a>(alloc: Global) -> Result<Command<'a>, AllocError>
 }
 
 /// What a command line that clap took comes to, or none where an option has no value.
-fn found<'a>(matches: &ArgMatches<'a>) -> Option<Request<'a>>
+fn request_of<'a>(matches: &ArgMatches<'a>) -> Option<Request<'a>>
     ensures { (words : List (List ℕ)) →
         rows_of (found_of matches.now) ≡ matches_of command_line words
         → IfSome result (IsRequest words) }
@@ -177,7 +177,7 @@ fn found<'a>(matches: &ArgMatches<'a>) -> Option<Request<'a>>
 }
 
 /// What clap takes the words for.
-fn matched<'a>(alloc: Global, words: &'a [String]) -> Result<ArgMatches<'a>, Error>
+fn parse<'a>(alloc: Global, words: &'a [String]) -> Result<ArgMatches<'a>, Error>
     ensures rows { IfOk result (λ matches. rows_of (found_of matches)
         ≡ matches_of command_line (map string_bytes words.entry.now)) }
     ensures takes { IfErr result (λ error.
@@ -190,15 +190,15 @@ fn matched<'a>(alloc: Global, words: &'a [String]) -> Result<ArgMatches<'a>, Err
 /// What the words come to, of which the first is the program's name. Other wrong words than an address that isn't one
 /// are clap's error, and so are the questions for help and for the version; out of memory too. None would be an option
 /// without a value, which clap doesn't pass. Takes memory.
-pub fn asked<'a>(alloc: Global, words: &'a [String]) -> Result<Option<Request<'a>>, Error>
+pub fn parse_options<'a>(alloc: Global, words: &'a [String]) -> Result<Option<Request<'a>>, Error>
     ensures asks { IfOk result
         (λ request. IfSome request (IsRequest (map string_bytes words.entry.now))) }
     ensures takes { IfErr result (λ error.
         takes command_line (map string_bytes words.entry.now) ≡ true →
         kind_of error ≡ OutOfMemory) }
 {
-    match matched(alloc, words) {
-        Ok(matches) => Ok(found(&matches)),
+    match parse(alloc, words) {
+        Ok(matches) => Ok(request_of(&matches)),
         Err(error) => Err(error),
     }
 }

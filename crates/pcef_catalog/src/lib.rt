@@ -1,7 +1,7 @@
 //! The catalog of predefined rules: `Test`, `Shape`, `Predefined` with its closure, `Catalog`, `Listing`, and the
 //! traits `Offers` and `Detects`.
 //!
-//! Its contracts tell: what a catalog offers, and that a closure answers as its rule's shape.
+//! Its contracts say: what a catalog offers, and that a closure answers as its rule's shape.
 //!
 //! In the order of reading: `shape`, `predefined`, `listing`, `places`, `catalog`.
 #![tactic(auto)]

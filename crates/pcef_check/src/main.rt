@@ -7,14 +7,14 @@
 mod advice;
 mod end;
 mod options;
-mod telling;
+mod writing;
 
 ghost use Rattle.std.specs.Prelude.{◌≤◌};
 
 use end::End;
-use options::{Options, asked};
+use options::{Options, parse_options};
 use pcef_built_in::ShapedCatalog;
-use pcef_command_line::{gather, refuse, tell_no_memory};
+use pcef_command_line::{gather, refuse, report_no_memory};
 use pcef_explain::text_in;
 use pcef_findings::{FindFault, Finding, find};
 use pcef_model::Profile;
@@ -22,7 +22,7 @@ use pcef_profile::{ReadProfileFault, explain, read_profile};
 use std::fs;
 use std::io::{self, BufWriter, ErrorKind, Read, Write};
 use std::process::ExitCode;
-use telling::tell_all;
+use writing::write_findings;
 
 /// The most bytes of a script.
 const MAX_SCRIPT: usize = 1_073_741_824;
@@ -54,7 +54,7 @@ fn write(
     findings: &[Finding],
 ) -> io::Result<()> {
     let mut writer = BufWriter::new(rt.alloc(), io::writer(rt))?;
-    tell_all(rt.alloc(), &mut writer, catalog, file, input, findings)?;
+    write_findings(rt.alloc(), &mut writer, catalog, file, input, findings)?;
     writer.flush()
 }
 
@@ -86,7 +86,7 @@ fn check_lines<'a>(
 }
 
 /// Tells the fault of a profile.
-fn tell_profile(
+fn print_profile_fault(
     rt: &HostRuntime,
     file: &str,
     text: &str,
@@ -112,7 +112,7 @@ fn check<'a>(rt: &HostRuntime, catalog: &ShapedCatalog, options: Options<'a>) ->
         Ok(profile) => profile,
         Err(ReadProfileFault::NoMemory) => return End::NoMemory,
         Err(fault) => {
-            return match tell_profile(rt, options.profile, text.as_str(), fault) {
+            return match print_profile_fault(rt, options.profile, text.as_str(), fault) {
                 Ok(()) => End::Found,
                 Err(error) => end_of(error, End::Write(error)),
             };
@@ -125,13 +125,13 @@ fn check<'a>(rt: &HostRuntime, catalog: &ShapedCatalog, options: Options<'a>) ->
 }
 
 /// Tells why the program ends early, and gives its exit status. That it can't be told changes nothing.
-fn told(rt: &HostRuntime, end: &End<'_>) -> u8
+fn report_end(rt: &HostRuntime, end: &End<'_>) -> u8
     ensures { result ≤ 4 }
 {
     match end {
         End::Clean | End::Found => {}
         End::NoMemory => {
-            let _ = tell_no_memory(rt);
+            let _ = report_no_memory(rt);
         }
         End::Read(file, error) => {
             let _ = eprintln!(rt; "read fault\n{file}: {error}");
@@ -151,8 +151,8 @@ fn status_with(rt: &HostRuntime, catalog: &ShapedCatalog) -> u8
         Ok(words) => words,
         Err(status) => return status,
     };
-    match asked(rt.alloc(), words.as_slice()) {
-        Ok(Some(options)) => told(rt, &check(rt, catalog, options)),
+    match parse_options(rt.alloc(), words.as_slice()) {
+        Ok(Some(options)) => report_end(rt, &check(rt, catalog, options)),
         Ok(None) => {
             let _ = eprintln!(rt; "usage: an option has no value");
             2
@@ -164,6 +164,6 @@ fn status_with(rt: &HostRuntime, catalog: &ShapedCatalog) -> u8
 fn main(rt: HostRuntime) -> ExitCode {
     ExitCode::from(match ShapedCatalog::built_in(rt.alloc()) {
         Ok(catalog) => status_with(&rt, &catalog),
-        Err(_) => tell_no_memory(&rt),
+        Err(_) => report_no_memory(&rt),
     })
 }

@@ -14,7 +14,10 @@ pub(crate) struct Options<'a> {
 
 /// What the words ask for, of which the first is the program's name. Wrong words are clap's error, and so are the
 /// questions for help and for the version; out of memory too. Takes memory.
-pub(crate) fn asked<'a>(alloc: Global, words: &'a [String]) -> Result<Option<Options<'a>>, Error> {
+pub(crate) fn parse_options<'a>(
+    alloc: Global,
+    words: &'a [String],
+) -> Result<Option<Options<'a>>, Error> {
     let profile = Arg::new(alloc, "profile")
         .value_name("PROFILE")
         .required(true)

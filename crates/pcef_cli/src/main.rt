@@ -27,7 +27,7 @@ use std::sync::{Arc, Wait};
 use std::thread::Threads;
 
 /// Runs the program, whose catalog has the built-in rules, with these reporters.
-fn run_telling<T: Threads + Wait + Sync>(
+fn run_reporting<T: Threads + Wait + Sync>(
     threads: &T,
     rt: &HostRuntime,
     catalog: Arc<Catalog>,
@@ -77,7 +77,7 @@ fn run_storing<T: Threads + Wait + Sync>(
         reporters.push((kind, reporter))?;
     }
     match Outlet::new(reporters) {
-        Ok(outlet) => run_telling(threads, rt, catalog, words, profiles, outlet, taken),
+        Ok(outlet) => run_reporting(threads, rt, catalog, words, profiles, outlet, taken),
         Err(_) => Err(AllocError.into()),
     }
 }

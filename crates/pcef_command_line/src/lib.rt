@@ -1,6 +1,6 @@
 //! What a program over clap does before its work: it gathers its words, and tells why they ask for none.
 //!
-//! Its contracts tell: the exit status that goes with each reason.
+//! Its contracts say: the exit status that goes with each reason.
 //!
 //! In the order of reading: `words`, `refusing`.
 #![tactic(auto)]
@@ -8,5 +8,5 @@
 mod refusing;
 mod words;
 
-pub use refusing::{refuse, tell_no_memory};
+pub use refusing::{refuse, report_no_memory};
 pub use words::gather;

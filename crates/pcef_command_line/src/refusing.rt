@@ -8,7 +8,7 @@ use clap::Error;
 use clap::error::ErrorKind;
 
 /// Reports `want of memory` on standard error, and gives its exit status. A failing write changes nothing.
-pub fn tell_no_memory(rt: &HostRuntime) -> u8
+pub fn report_no_memory(rt: &HostRuntime) -> u8
     ensures { result ≡ 3 }
 {
     let _ = eprintln!(rt; "want of memory");
@@ -23,7 +23,7 @@ pub fn refuse(rt: &HostRuntime, error: &Error) -> u8
     ensures within { result ≤ 4 }
 {
     if error.kind() == ErrorKind::OutOfMemory {
-        return tell_no_memory(rt);
+        return report_no_memory(rt);
     }
     match error.print(rt) {
         Ok(()) if error.use_stderr() => 2,

@@ -2,7 +2,7 @@
 
 ghost use Rattle.std.specs.Prelude.{◌≡◌, ◌⊎◌, IfErr};
 
-use crate::refusing::tell_no_memory;
+use crate::refusing::report_no_memory;
 use std::env;
 use std::io::{self, ErrorKind};
 
@@ -28,6 +28,6 @@ pub fn gather(rt: &HostRuntime) -> Result<Vec<String>, u8>
             let _ = eprintln!(rt; "usage: an argument isn't UTF-8");
             Err(2)
         }
-        Err(_) => Err(tell_no_memory(rt)),
+        Err(_) => Err(report_no_memory(rt)),
     }
 }

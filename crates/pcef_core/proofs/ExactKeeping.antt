@@ -36,7 +36,7 @@ exact_binding p j rules keys t lawful active is agree shows = record {
   within_up = is.within_up;
   within_down = is.within_down;
   keys_are = agree.keys_are;
-  told = told_of p j keys agree.usage_is;
+  reported_octets = told_of p j keys agree.usage_is;
   octets = octets_of p j keys agree.usage_is;
   judged = rows_have_verdicts p j lawful;
   table_is = shows;
@@ -45,8 +45,8 @@ exact_binding p j rules keys t lawful active is agree shows = record {
 pub exact : (p : Setting) (j k : Journal) (rules : List (List ℕ × Source)) (v : Binding) (keys : List KeyState) (t : TableValue) → k ≡ j → Lawful p j → AreKept p.catalog rules (now p j).rules
     → v ≡ binding_of p (now p j) → IsBinding v → KeysAgree p j keys → Shows p j (gen j) t
     → SessionIsExact p (record { journal = k; rules = rules; binding = v; keys = keys; table = t })
-exact p j k rules v keys t told lawful active standing is agree shows =
+exact p j k rules v keys t reported_octets lawful active standing is agree shows =
     let own : IsBinding (binding_of p (now p j)) = subst IsBinding standing is in
-    subst (λ (i : Journal). SessionIsExact p (record { journal = i; rules = rules; binding = v; keys = keys; table = t })) (sym told)
+    subst (λ (i : Journal). SessionIsExact p (record { journal = i; rules = rules; binding = v; keys = keys; table = t })) (sym reported_octets)
     (subst (λ (b : Binding). SessionIsExact p (record { journal = j; rules = rules; binding = b; keys = keys; table = t })) (sym standing)
     (exact_binding p j rules keys t lawful active own agree shows))

@@ -43,7 +43,7 @@ pub record SessionIsExact (p : Setting) (s : KeptBySession) : Type 0 where
   pub keys_are : map (λ k. k.key) s.keys ≡ slots p s.journal
   -- the reported octets of each are those that the journal's reports tell; with the unreported ones they are those that
   -- its packet rows passed for the key, each row by its own generation (TS 29.212, clause 4.5.16)
-  pub told : AllByRecursion (λ k. k.reported ≡ reported s.journal k.key) s.keys
+  pub reported_octets : AllByRecursion (λ k. k.reported ≡ reported s.journal k.key) s.keys
   pub octets : AllByRecursion (λ k. k.reported + k.unreported ≡ counted p s.journal k.key) s.keys
   -- each row has the verdict of its own generation
   pub judged : AllByRecursion (HasItsVerdict p s.journal) (rows s.journal)

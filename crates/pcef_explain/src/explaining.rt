@@ -5,16 +5,16 @@ ghost use Rattle.pcef_explain.specs.Plain.{IsPlain};
 ghost use Rattle.pcef_line.specs.declared.fault.LineFault.TheVariants.{LineTooLong};
 
 use crate::column::column_of;
-use crate::filters::tell_filter;
+use crate::filters::write_filter;
 use crate::message::Message;
 use crate::nearest::nearest;
-use crate::packets::tell_packet;
-use crate::parts::{field_in, tell_field, tell_unknown, word_of};
+use crate::packets::write_packet;
+use crate::parts::{field_in, word_of, write_field, write_unknown};
 use crate::place::Place;
 use crate::plain::plain_text;
-use crate::syntax::{first_fault, tell_misplaced};
-use crate::told::tell_meant;
+use crate::syntax::{first_fault, write_misplaced};
 use crate::wide::is_wide;
+use crate::wrong_value::write_meant;
 use hex::FromHexError;
 use pcef_line::{Field, LineFault};
 use pcef_packet::PacketFault;
@@ -47,7 +47,7 @@ const WIDE: &str =
     "the line is UTF-16, by its byte order mark or its octets 0: UTF-8 is expected, as iconv -f UTF-16 -t UTF-8 writes it";
 
 /// Tells of a text that isn't JSON, and gives the column.
-fn tell_not_json(
+fn write_not_json(
     alloc: Global,
     message: &mut Message,
     text: &str,
@@ -57,7 +57,7 @@ fn tell_not_json(
         if is_wide(text.as_bytes()) {
             message.text(WIDE);
         } else {
-            tell_misplaced(message, text, misplaced);
+            write_misplaced(message, text, misplaced);
         }
         return Ok(misplaced.0.saturating_add(1));
     }
@@ -68,11 +68,11 @@ fn tell_not_json(
 }
 
 /// Tells of octets that are no packet.
-fn tell_octets(alloc: Global, message: &mut Message, found: Option<&Value>, fault: PacketFault) {
+fn write_octets(alloc: Global, message: &mut Message, found: Option<&Value>, fault: PacketFault) {
     let text = found.and_then(Value::as_str).unwrap_or("");
     message.text(" ");
     match hex::decode(alloc, text) {
-        Ok(octets) => tell_packet(message, octets.as_slice(), fault),
+        Ok(octets) => write_packet(message, octets.as_slice(), fault),
         Err(FromHexError::OutOfMemory) => message.refuse(),
         Err(_) => {
             message.text("is no packet: ");
@@ -82,7 +82,7 @@ fn tell_octets(alloc: Global, message: &mut Message, found: Option<&Value>, faul
 }
 
 /// Tells of a text that isn't hexadecimal.
-fn tell_digits(message: &mut Message, text: &str) {
+fn write_digits(message: &mut Message, text: &str) {
     let other = text
         .chars()
         .enumerate()
@@ -103,7 +103,7 @@ fn tell_digits(message: &mut Message, text: &str) {
 }
 
 /// Tells of a rule with no filters or too many, and gives their place.
-fn tell_rule(message: &mut Message, line: &Value) -> Place<'static> {
+fn write_rule(message: &mut Message, line: &Value) -> Place<'static> {
     let (place, found) = field_in(line, Field::Filters);
     let count = match found.and_then(Value::as_array) {
         Some(filters) => filters.len(),
@@ -117,14 +117,14 @@ fn tell_rule(message: &mut Message, line: &Value) -> Place<'static> {
 }
 
 /// Tells of a text that is no name.
-fn tell_name(message: &mut Message, found: &Value) {
+fn write_name(message: &mut Message, found: &Value) {
     message.text(" is ");
-    message.shown(found);
+    message.value_found(found);
     message.text(": 1 to 64 characters of ASCII without blanks are expected");
 }
 
 /// Tells of a field's value that is of its kind, and still wrong, and gives the place of the fault.
-fn tell_value(
+fn write_value(
     alloc: Global,
     message: &mut Message,
     line: &Value,
@@ -135,37 +135,37 @@ fn tell_value(
     match (fault, found) {
         (LineFault::BadName(_), Some(found)) => {
             message.place(place);
-            tell_name(message, found);
+            write_name(message, found);
         }
         (LineFault::BadHex(_), Some(Value::String(text))) => {
             message.place(place);
-            tell_digits(message, text.as_str());
+            write_digits(message, text.as_str());
         }
         (LineFault::BadPacket(_, inner), _) => {
             message.place(place);
-            tell_octets(alloc, message, found, inner);
+            write_octets(alloc, message, found, inner);
         }
-        (LineFault::BadFilter(_, inner), _) => return tell_filter(message, found, inner),
-        (LineFault::BadRule(_, _), _) => return Some(tell_rule(message, line)),
-        _ => return tell_field(alloc, message, line, field),
+        (LineFault::BadFilter(_, inner), _) => return write_filter(message, found, inner),
+        (LineFault::BadRule(_, _), _) => return Some(write_rule(message, line)),
+        _ => return write_field(alloc, message, line, field),
     }
     Some(place)
 }
 
 /// Tells of a line that is JSON, and gives the place of the fault.
-fn tell_line<'a>(
+fn write_line<'a>(
     alloc: Global,
     message: &mut Message,
     line: &'a Value,
     fault: LineFault,
 ) -> Option<Place<'a>> {
     match (fault.field(), fault) {
-        (Some(field), _) => tell_value(alloc, message, line, field, fault),
-        (None, LineFault::UnknownDo) => tell_field(alloc, message, line, Field::Do),
-        (None, LineFault::UnknownField) => tell_unknown(alloc, message, line),
+        (Some(field), _) => write_value(alloc, message, line, field, fault),
+        (None, LineFault::UnknownDo) => write_field(alloc, message, line, Field::Do),
+        (None, LineFault::UnknownField) => write_unknown(alloc, message, line),
         _ => {
             message.text("the line is ");
-            message.shown(line);
+            message.value_found(line);
             message.text(": an object is expected");
             None
         }
@@ -185,21 +185,21 @@ fn column_at(
 }
 
 /// Tells of a text, and gives the column.
-fn tell_text(
+fn write_text(
     alloc: Global,
     message: &mut Message,
     text: &str,
     fault: LineFault,
 ) -> Result<Option<usize>, AllocError> {
     match Value::from_str(alloc, text) {
-        Ok(line) => column_at(alloc, text, tell_line(alloc, message, &line, fault)),
+        Ok(line) => column_at(alloc, text, write_line(alloc, message, &line, fault)),
         Err(error) if error.is_memory() => Err(AllocError),
-        Err(error) => Ok(Some(tell_not_json(alloc, message, text, &error)?)),
+        Err(error) => Ok(Some(write_not_json(alloc, message, text, &error)?)),
     }
 }
 
 /// Tells of octets that aren't UTF-8 from this place on, and gives the column.
-fn tell_not_utf8(message: &mut Message, line: &[u8], place: usize) -> Option<usize> {
+fn write_not_utf8(message: &mut Message, line: &[u8], place: usize) -> Option<usize> {
     if is_wide(line) {
         message.text(WIDE);
         return Some(place.saturating_add(1));
@@ -215,15 +215,15 @@ fn tell_not_utf8(message: &mut Message, line: &[u8], place: usize) -> Option<usi
 }
 
 /// Tells of a line that isn't too long, and gives the column.
-fn tell(
+fn write_why(
     alloc: Global,
     message: &mut Message,
     line: &[u8],
     fault: LineFault,
 ) -> Result<Option<usize>, AllocError> {
     match str::from_utf8(line) {
-        Ok(text) => tell_text(alloc, message, text, fault),
-        Err(error) => Ok(tell_not_utf8(message, line, error.valid_up_to())),
+        Ok(text) => write_text(alloc, message, text, fault),
+        Err(error) => Ok(write_not_utf8(message, line, error.valid_up_to())),
     }
 }
 
@@ -244,7 +244,7 @@ fn in_plain(
 }
 
 /// Tells of a line that is too long.
-fn tell_too_long(message: &mut Message, count: usize) {
+fn write_too_long(message: &mut Message, count: usize) {
     message.text("the line has ");
     message.number(count);
     message.text(" octets: ");
@@ -262,10 +262,10 @@ pub fn explain(alloc: Global, line: &[u8], fault: LineFault) -> Result<Explanati
     let mut message = Message::new(alloc);
     let column = match fault {
         LineFault::LineTooLong => {
-            tell_too_long(&mut message, line.len());
+            write_too_long(&mut message, line.len());
             Some(MAX_LINE + 1)
         }
-        _ => tell(alloc, &mut message, line, fault)?,
+        _ => write_why(alloc, &mut message, line, fault)?,
     };
     in_plain(alloc, column, message)
 }
@@ -280,13 +280,13 @@ enum Expected<'a> {
 }
 
 /// Tells of a name that no predefined rule has: the nearest one, or all of them where none is near.
-fn tell_predefined(alloc: Global, message: &mut Message, found: &Value, names: &[&str]) {
+fn write_predefined(alloc: Global, message: &mut Message, found: &Value, names: &[&str]) {
     let near = match found.as_str() {
         Some(text) => nearest(alloc, text, names),
         None => Ok(None),
     };
     match near {
-        Ok(Some(name)) => tell_meant(message, name),
+        Ok(Some(name)) => write_meant(message, name),
         Ok(None) => {
             message.text("one of ");
             message.words(names);
@@ -297,7 +297,7 @@ fn tell_predefined(alloc: Global, message: &mut Message, found: &Value, names: &
 }
 
 /// Tells what is expected in the place of what was found in a line.
-fn tell_expected(
+fn write_expected(
     alloc: Global,
     message: &mut Message,
     line: &Value,
@@ -307,7 +307,7 @@ fn tell_expected(
     match expected {
         Expected::Told(text) => message.text(text),
         Expected::Rule(names) if word_of(line) == "activate" => {
-            tell_predefined(alloc, message, found, names);
+            write_predefined(alloc, message, found, names);
         }
         Expected::Rule(_) => {
             message.text("an active rule is expected, and show tells these");
@@ -317,7 +317,7 @@ fn tell_expected(
 
 /// Tells what stands at a field of a line that is JSON, and what is expected of it, and gives the place of the field if it
 /// is there.
-fn tell_at_field(
+fn write_at_field(
     alloc: Global,
     message: &mut Message,
     line: &Value,
@@ -329,21 +329,21 @@ fn tell_at_field(
     match found {
         Some(found) => {
             message.text(" is ");
-            message.shown(found);
+            message.value_found(found);
             message.text(": ");
-            tell_expected(alloc, message, line, found, expected);
+            write_expected(alloc, message, line, found, expected);
             Some(place)
         }
         None => {
             message.text(" is missing: ");
-            tell_expected(alloc, message, line, &Value::Null, expected);
+            write_expected(alloc, message, line, &Value::Null, expected);
             None
         }
     }
 }
 
 /// The same of a line, if it is JSON; else tells what is expected. Gives the column.
-fn tell_field_of(
+fn write_field_of(
     alloc: Global,
     message: &mut Message,
     line: &[u8],
@@ -353,14 +353,14 @@ fn tell_field_of(
     if let Ok(text) = str::from_utf8(line) {
         match Value::from_str(alloc, text) {
             Ok(line) => {
-                let place = tell_at_field(alloc, message, &line, field, expected);
+                let place = write_at_field(alloc, message, &line, field, expected);
                 return column_at(alloc, text, place);
             }
             Err(error) if error.is_memory() => return Err(AllocError),
             Err(_) => {}
         }
     }
-    tell_expected(alloc, message, &Value::Null, &Value::Null, expected);
+    write_expected(alloc, message, &Value::Null, &Value::Null, expected);
     Ok(None)
 }
 
@@ -376,7 +376,7 @@ pub fn explain_field(
     ensures { IfOk result (λ e. IsPlain (string_bytes e.text)) }
 {
     let mut message = Message::new(alloc);
-    let column = tell_field_of(alloc, &mut message, line, field, Expected::Told(told))?;
+    let column = write_field_of(alloc, &mut message, line, field, Expected::Told(told))?;
     in_plain(alloc, column, message)
 }
 
@@ -393,6 +393,6 @@ pub fn explain_rule_name(
 {
     let mut message = Message::new(alloc);
     let expected = Expected::Rule(predefined);
-    let column = tell_field_of(alloc, &mut message, line, Field::Name, expected)?;
+    let column = write_field_of(alloc, &mut message, line, Field::Name, expected)?;
     in_plain(alloc, column, message)
 }

@@ -4,7 +4,7 @@ ghost use Rattle.std.specs.Prelude.{◌≤◌};
 
 use crate::message::{MOST_SHOWN, Message};
 use crate::place::Place;
-use crate::ports::{tell_address, tell_ports};
+use crate::ports::{write_address, write_ports};
 use pcef_filter::{FilterFault, Flow, read_filter};
 use serde_json::Value;
 
@@ -79,7 +79,7 @@ fn token_at(text: &str, fault: FilterFault) -> usize {
 }
 
 /// What is expected there.
-fn expected(fault: FilterFault) -> &'static str {
+fn expected_text(fault: FilterFault) -> &'static str {
     match fault {
         FilterFault::Action => "\"permit\"",
         FilterFault::Direction => "\"in\" or \"out\"",
@@ -99,17 +99,17 @@ fn expected(fault: FilterFault) -> &'static str {
 
 /// Tells what is wrong within a token, if it is a list of ports or an address of which that can be told, and answers
 /// whether it can.
-fn tell_within(message: &mut Message, token: &str, fault: FilterFault) -> bool {
+fn write_within(message: &mut Message, token: &str, fault: FilterFault) -> bool {
     match fault {
         _ if token.len() > MOST_SHOWN => false,
-        FilterFault::SourcePorts | FilterFault::TargetPorts => tell_ports(message, token),
-        FilterFault::Source | FilterFault::Target => tell_address(message, token),
+        FilterFault::SourcePorts | FilterFault::TargetPorts => write_ports(message, token),
+        FilterFault::Source | FilterFault::Target => write_address(message, token),
         _ => false,
     }
 }
 
 /// Tells which token is missing or wrong, and what is expected.
-fn tell_token(message: &mut Message, text: &str, fault: FilterFault) {
+fn write_token(message: &mut Message, text: &str, fault: FilterFault) {
     let number = token_at(text, fault);
     message.text(": token ");
     message.number(number.saturating_add(1));
@@ -119,12 +119,12 @@ fn tell_token(message: &mut Message, text: &str, fault: FilterFault) {
             message.text(" is ");
             message.short(token);
             message.text(": ");
-            if tell_within(message, token, fault) {
+            if write_within(message, token, fault) {
                 return;
             }
         }
     }
-    message.text(expected(fault));
+    message.text(expected_text(fault));
     message.text(" is expected");
 }
 
@@ -134,7 +134,7 @@ fn wrong_filter(filters: Option<&Value>) -> Option<(usize, &str)> {
 }
 
 /// Tells what is wrong with the first filter of a rule whose text is wrong, and gives the place of the fault.
-pub(crate) fn tell_filter(
+pub(crate) fn write_filter(
     message: &mut Message,
     filters: Option<&Value>,
     fault: FilterFault,
@@ -157,7 +157,7 @@ pub(crate) fn tell_filter(
     } else {
         let place = place.member("text");
         message.place(place);
-        tell_token(message, text, fault);
+        write_token(message, text, fault);
         place
     })
 }

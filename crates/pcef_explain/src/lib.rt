@@ -1,10 +1,10 @@
 //! Says in words why a line of a script can't be read or isn't taken: where, what was found there, and what is expected;
 //! and where a file is no text. For people.
 //!
-//! Its contracts tell: that what is said of a line stands on one line of printable ASCII; the line and the column of an
+//! Its contracts say: that what is said of a line stands on one line of printable ASCII; the line and the column of an
 //! octet.
 //!
-//! In the order of reading: `wide`, `text`, `place`, `plain`, `wanted`, `column`, `nearest`, `message`, `told`, `ports`,
+//! In the order of reading: `wide`, `text`, `place`, `plain`, `wanted`, `column`, `nearest`, `message`, `wrong_value`, `ports`,
 //! `filters`, `packets`, `parts`, `syntax`, `explaining`.
 #![tactic(auto)]
 
@@ -20,9 +20,9 @@ mod plain;
 mod ports;
 mod syntax;
 mod text;
-mod told;
 mod wanted;
 mod wide;
+mod wrong_value;
 
 pub use explaining::{Explanation, explain, explain_field, explain_rule_name};
 pub use plain::plain_text;

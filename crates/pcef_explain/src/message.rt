@@ -39,7 +39,7 @@ impl Message {
     }
 
     /// Writes a text in quotation marks, with escapes.
-    pub(crate) fn quoted(&mut self, piece: &str) {
+    pub(crate) fn quote(&mut self, piece: &str) {
         if !self.is_refused {
             self.is_refused = write!(self.text, "{piece:?}").is_err();
         }
@@ -125,7 +125,7 @@ impl Message {
     }
 
     /// Writes what may stand at a field.
-    pub(crate) fn wanted(&mut self, wanted: Wanted) {
+    pub(crate) fn expectation(&mut self, wanted: Wanted) {
         match wanted {
             Wanted::Number(least, most) => {
                 self.text("a whole number from ");
@@ -147,7 +147,7 @@ impl Message {
     }
 
     /// Writes a value: a short text, a number or a flag as such, others by their kind.
-    pub(crate) fn shown(&mut self, value: &Value) {
+    pub(crate) fn value_found(&mut self, value: &Value) {
         match value {
             Value::Null => self.text("null"),
             Value::Bool(true) => self.text("true"),
@@ -166,7 +166,7 @@ impl Message {
             self.number(text.len());
             self.text(" bytes");
         } else {
-            self.quoted(text);
+            self.quote(text);
         }
     }
 

@@ -52,14 +52,14 @@ fn header_len(octets: &[u8]) -> usize
 }
 
 /// Tells that a packet has this number of octets.
-fn tell_count(message: &mut Message, count: usize) {
+fn write_count(message: &mut Message, count: usize) {
     message.text("has ");
     message.number(count);
     message.text(if count == 1 { " octet" } else { " octets" });
 }
 
 /// Tells of octets that begin neither as version 4 nor as version 6.
-fn tell_version(message: &mut Message, octets: &[u8]) {
+fn write_version(message: &mut Message, octets: &[u8]) {
     if is_frame(octets) {
         message.text(
             "begins with an Ethernet header: leave out its 14 octets, since the packet begins behind it",
@@ -72,8 +72,8 @@ fn tell_version(message: &mut Message, octets: &[u8]) {
 }
 
 /// Tells of too few octets for a header.
-fn tell_short(message: &mut Message, octets: &[u8]) {
-    tell_count(message, octets.len());
+fn write_short(message: &mut Message, octets: &[u8]) {
+    write_count(message, octets.len());
     if is_six(octets) {
         message.text(": the header of IPv6 alone has ");
         message.number(FIXED_V6);
@@ -123,7 +123,7 @@ fn cut_extension(octets: &[u8], volume: usize) -> Option<Extension> {
 }
 
 /// Tells of a header of version 4 whose length is wrong.
-fn tell_header_len(message: &mut Message, octets: &[u8]) {
+fn write_header_len(message: &mut Message, octets: &[u8]) {
     let count = octets.len();
     message.text("has ");
     message.number(count);
@@ -137,7 +137,7 @@ fn tell_header_len(message: &mut Message, octets: &[u8]) {
 }
 
 /// Tells of an extension header that is cut.
-fn tell_cut(message: &mut Message, octets: &[u8]) {
+fn write_cut(message: &mut Message, octets: &[u8]) {
     let volume = FIXED_V6 + pair_at(octets, 4);
     message.text("has ");
     message.number(volume);
@@ -168,7 +168,7 @@ fn total_of(octets: &[u8]) -> usize {
 }
 
 /// Tells of a packet with fewer octets than its header tells, or whose total length leaves none for its header.
-fn tell_total(message: &mut Message, octets: &[u8]) {
+fn write_total(message: &mut Message, octets: &[u8]) {
     let count = octets.len();
     let total = total_of(octets);
     message.text("has ");
@@ -193,13 +193,13 @@ fn tell_total(message: &mut Message, octets: &[u8]) {
 }
 
 /// Tells of octets that are no packet, behind the name of their field.
-pub(crate) fn tell_packet(message: &mut Message, octets: &[u8], fault: PacketFault) {
+pub(crate) fn write_packet(message: &mut Message, octets: &[u8], fault: PacketFault) {
     match fault {
         PacketFault::Empty => message.text("is empty: the octets of an IP packet are expected"),
-        PacketFault::Version => tell_version(message, octets),
-        PacketFault::ShortHeader => tell_short(message, octets),
-        PacketFault::BadHeaderLength if is_six(octets) => tell_cut(message, octets),
-        PacketFault::BadHeaderLength => tell_header_len(message, octets),
-        PacketFault::BadTotalLength => tell_total(message, octets),
+        PacketFault::Version => write_version(message, octets),
+        PacketFault::ShortHeader => write_short(message, octets),
+        PacketFault::BadHeaderLength if is_six(octets) => write_cut(message, octets),
+        PacketFault::BadHeaderLength => write_header_len(message, octets),
+        PacketFault::BadTotalLength => write_total(message, octets),
     }
 }

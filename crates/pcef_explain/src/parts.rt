@@ -3,8 +3,8 @@
 use crate::message::Message;
 use crate::nearest::nearest;
 use crate::place::Place;
-use crate::told::{tell_meant, tell_missing, tell_wrong};
 use crate::wanted::{ARP_LEVEL, TRIGGER, Wanted, wanted_at};
+use crate::wrong_value::{write_meant, write_missing, write_wrong};
 use pcef_line::Field;
 use serde_json::Value;
 use std::alloc::{AllocError, Global};
@@ -51,7 +51,7 @@ fn fields_of(word: &str) -> &'static [Field] {
 }
 
 /// What may stand at a field of an object in a line or its rule.
-fn inner_wanted(field: Field) -> Wanted {
+fn expectation_within(field: Field) -> Wanted {
     match field {
         Field::Level => ARP_LEVEL,
         other => wanted_at(other),
@@ -60,7 +60,7 @@ fn inner_wanted(field: Field) -> Wanted {
 
 /// Tells of the first of the fields in an object at a place that is missing or wrong, if one is, and gives the place of
 /// the fault.
-fn tell_object<'a>(
+fn write_object<'a>(
     alloc: Global,
     message: &mut Message,
     place: Place<'a>,
@@ -70,15 +70,15 @@ fn tell_object<'a>(
     for field in fields {
         let key = field.text();
         let member = place.member(key);
-        let wanted = inner_wanted(*field);
+        let wanted = expectation_within(*field);
         match object.get(key) {
             None if matches!(*field, Field::Flow) => {}
             None => {
-                tell_missing(message, member, wanted);
+                write_missing(message, member, wanted);
                 return Some(place);
             }
             Some(found) if !wanted.is(found) => {
-                tell_wrong(alloc, message, member, found, wanted);
+                write_wrong(alloc, message, member, found, wanted);
                 return Some(member);
             }
             Some(_) => {}
@@ -88,7 +88,7 @@ fn tell_object<'a>(
 }
 
 /// Tells of the first item of `events` that is no trigger, if there is one, and gives its place.
-fn tell_events<'a>(
+fn write_events<'a>(
     alloc: Global,
     message: &mut Message,
     place: Place<'a>,
@@ -100,7 +100,7 @@ fn tell_events<'a>(
                 item: Some(number),
                 ..place
             };
-            tell_wrong(alloc, message, item, event, TRIGGER);
+            write_wrong(alloc, message, item, event, TRIGGER);
             return Some(item);
         }
     }
@@ -109,21 +109,21 @@ fn tell_events<'a>(
 
 /// Tells of a filter that is no object, or lacks its text, or has a wrong text or flow word, and gives the place of the
 /// fault.
-fn tell_filter<'a>(
+fn write_filter<'a>(
     alloc: Global,
     message: &mut Message,
     item: Place<'a>,
     filter: &Value,
 ) -> Option<Place<'a>> {
     if !filter.is_object() {
-        tell_wrong(alloc, message, item, filter, Wanted::Object);
+        write_wrong(alloc, message, item, filter, Wanted::Object);
         return Some(item);
     }
-    tell_object(alloc, message, item, filter, OF_FILTER)
+    write_object(alloc, message, item, filter, OF_FILTER)
 }
 
 /// The same of the first filter of a list, if there is such a one.
-fn tell_filters<'a>(
+fn write_filters<'a>(
     alloc: Global,
     message: &mut Message,
     place: Place<'a>,
@@ -134,7 +134,7 @@ fn tell_filters<'a>(
             item: Some(number),
             ..place
         };
-        let fault = tell_filter(alloc, message, item, filter);
+        let fault = write_filter(alloc, message, item, filter);
         if fault.is_some() {
             return fault;
         }
@@ -143,7 +143,7 @@ fn tell_filters<'a>(
 }
 
 /// Tells what is wrong in the value of a field, if something is, and gives the place of the fault.
-fn tell_inside<'a>(
+fn write_inside<'a>(
     alloc: Global,
     message: &mut Message,
     place: Place<'a>,
@@ -151,13 +151,13 @@ fn tell_inside<'a>(
     field: Field,
 ) -> Option<Place<'a>> {
     match (field, found) {
-        (Field::Arp, Value::Object(_)) => tell_object(alloc, message, place, found, OF_ARP),
-        (Field::Gbr, Value::Object(_)) => tell_object(alloc, message, place, found, OF_GBR),
+        (Field::Arp, Value::Object(_)) => write_object(alloc, message, place, found, OF_ARP),
+        (Field::Gbr, Value::Object(_)) => write_object(alloc, message, place, found, OF_GBR),
         (Field::Filters, Value::Array(filters)) => {
-            tell_filters(alloc, message, place, filters.as_slice())
+            write_filters(alloc, message, place, filters.as_slice())
         }
         (Field::Events, Value::Array(events)) => {
-            tell_events(alloc, message, place, events.as_slice())
+            write_events(alloc, message, place, events.as_slice())
         }
         _ => None,
     }
@@ -175,7 +175,7 @@ pub(crate) fn field_in<'a>(line: &'a Value, field: Field) -> (Place<'static>, Op
 
 /// Tells of a field that is missing, of a wrong kind or out of its range, and gives the place in whose column the fault is,
 /// if there is one.
-pub(crate) fn tell_field(
+pub(crate) fn write_field(
     alloc: Global,
     message: &mut Message,
     line: &Value,
@@ -184,18 +184,18 @@ pub(crate) fn tell_field(
     let wanted = wanted_at(field);
     let (place, found) = field_in(line, field);
     let Some(found) = found else {
-        tell_missing(message, place, wanted);
+        write_missing(message, place, wanted);
         return if place.is_in_rule {
             Some(Place::new(false, "rule"))
         } else {
             None
         };
     };
-    let inside = tell_inside(alloc, message, place, found, field);
+    let inside = write_inside(alloc, message, place, found, field);
     if inside.is_some() {
         return inside;
     }
-    tell_wrong(alloc, message, place, found, wanted);
+    write_wrong(alloc, message, place, found, wanted);
     Some(place)
 }
 
@@ -254,7 +254,7 @@ fn unknown_in_rule<'a>(rule: &'a Value) -> Option<Place<'a>> {
 }
 
 /// Where the first member stands that a line, or an object in it, doesn't have.
-fn unknown<'a>(line: &'a Value) -> Option<Place<'a>> {
+fn unknown_field<'a>(line: &'a Value) -> Option<Place<'a>> {
     if let Some(key) = unknown_in(line, fields_of(word_of(line))) {
         return Some(Place::new(false, key));
     }
@@ -275,7 +275,7 @@ fn fields_at(line: &Value, place: Place<'_>) -> &'static [Field] {
 }
 
 /// Tells which fields there are.
-fn tell_fields(message: &mut Message, fields: &[Field]) {
+fn write_fields(message: &mut Message, fields: &[Field]) {
     let mut is_first = true;
     for field in fields {
         if !is_first {
@@ -300,12 +300,12 @@ fn field_meant(
 }
 
 /// Tells of the first member that a line, or an object in it, doesn't have, and gives its place.
-pub(crate) fn tell_unknown<'a>(
+pub(crate) fn write_unknown<'a>(
     alloc: Global,
     message: &mut Message,
     line: &'a Value,
 ) -> Option<Place<'a>> {
-    let Some(place) = unknown(line) else {
+    let Some(place) = unknown_field(line) else {
         message.text("a field is unknown");
         return None;
     };
@@ -313,10 +313,10 @@ pub(crate) fn tell_unknown<'a>(
     message.place(place);
     message.text(" is unknown: ");
     match field_meant(alloc, place.inner.unwrap_or(place.key), fields) {
-        Ok(Some(name)) => tell_meant(message, name),
+        Ok(Some(name)) => write_meant(message, name),
         Ok(None) => {
             message.text("leave it out; the fields are ");
-            tell_fields(message, fields);
+            write_fields(message, fields);
         }
         Err(_) => message.refuse(),
     }

@@ -23,7 +23,7 @@ fn number_of(text: &str) -> Option<u32> {
 }
 
 /// Tells what is wrong with a text in the place of a port, if it is none, and answers whether it is none.
-fn tell_port(message: &mut Message, text: &str) -> bool {
+fn write_port(message: &mut Message, text: &str) -> bool {
     if text.is_empty() {
         message.text(
             "a port is missing: a list without blanks, as 53 or 80,8000-8080, is expected",
@@ -34,13 +34,13 @@ fn tell_port(message: &mut Message, text: &str) -> bool {
         return false;
     }
     message.text("in the place of ");
-    message.quoted(text);
+    message.quote(text);
     message.text(" a port from 0 to 65535 is expected");
     true
 }
 
 /// Tells that a range is reversed.
-fn tell_reversed(message: &mut Message, first: &str, last: &str) {
+fn write_reversed(message: &mut Message, first: &str, last: &str) {
     message.text("the range ");
     message.text(first);
     message.text("-");
@@ -53,12 +53,12 @@ fn tell_reversed(message: &mut Message, first: &str, last: &str) {
 }
 
 /// Tells what is wrong with a range of ports, if it is none, and answers whether it is none.
-fn tell_range(message: &mut Message, first: &str, last: &str) -> bool {
-    if tell_port(message, first) || tell_port(message, last) {
+fn write_range(message: &mut Message, first: &str, last: &str) -> bool {
+    if write_port(message, first) || write_port(message, last) {
         return true;
     }
     if number_of(first) > number_of(last) {
-        tell_reversed(message, first, last);
+        write_reversed(message, first, last);
         return true;
     }
     false
@@ -66,12 +66,12 @@ fn tell_range(message: &mut Message, first: &str, last: &str) -> bool {
 
 /// Tells what is wrong with a list of ports, of its first item that is no port and no range, or of their number; and
 /// answers whether something is.
-pub(crate) fn tell_ports(message: &mut Message, token: &str) -> bool {
+pub(crate) fn write_ports(message: &mut Message, token: &str) -> bool {
     let mut count = 0usize;
     for item in token.split(',') {
         let is_told = match item.split_once('-') {
-            Some((first, last)) => tell_range(message, first, last),
-            None => tell_port(message, item),
+            Some((first, last)) => write_range(message, first, last),
+            None => write_port(message, item),
         };
         if is_told {
             return true;
@@ -94,7 +94,7 @@ fn is_address(text: &str) -> bool {
 
 /// Tells of a text in the place of an address what its bits should be, if it is a network with other ones, and answers
 /// whether it is.
-fn tell_bits(message: &mut Message, token: &str) -> bool {
+fn write_bits(message: &mut Message, token: &str) -> bool {
     let Some((address, bits)) = token.split_once('/') else {
         return false;
     };
@@ -104,14 +104,14 @@ fn tell_bits(message: &mut Message, token: &str) -> bool {
     message.text("a number of bits from 0 to ");
     message.number(usize::from(address.width()));
     message.text(" is expected in the place of ");
-    message.quoted(bits);
+    message.quote(bits);
     true
 }
 
 /// Tells what is wrong with a text in the place of an address, if more can be told than that it is none, and answers
 /// whether it can: of the bits of a network, or of ports that stand too near.
-pub(crate) fn tell_address(message: &mut Message, token: &str) -> bool {
-    if tell_bits(message, token) {
+pub(crate) fn write_address(message: &mut Message, token: &str) -> bool {
+    if write_bits(message, token) {
         return true;
     }
     match token.split_once(':') {

@@ -268,7 +268,7 @@ fn word_of(text: &str) -> &str {
 }
 
 /// Tells which character stands at the front of a text, or which word.
-fn tell_front(message: &mut Message, text: &str) {
+fn write_front(message: &mut Message, text: &str) {
     match text.chars().next() {
         None => message.text("the line ends"),
         Some('\u{feff}') => {
@@ -289,8 +289,8 @@ fn tell_front(message: &mut Message, text: &str) {
 
 /// Tells of a text that isn't JSON what stands at the first octet that doesn't fit, and what is expected there, also where
 /// a limit of the reader of lines is passed.
-pub(crate) fn tell_misplaced(message: &mut Message, text: &str, (place, due): Misplaced) {
-    tell_front(message, text.get(place..).unwrap_or(""));
+pub(crate) fn write_misplaced(message: &mut Message, text: &str, (place, due): Misplaced) {
+    write_front(message, text.get(place..).unwrap_or(""));
     message.text(" where ");
     message.text(due.text());
     message.text(" is expected");

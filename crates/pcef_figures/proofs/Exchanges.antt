@@ -10,9 +10,9 @@ use Rattle.serde_json.specs.Read.{read}
 use Rattle.pcef_figures.specs.declared.collecting.Collected.{Collected}
 use Rattle.pcef_figures.specs.declared.figures.Rates.{Rates}
 use Rattle.std.proofs.Common.{append_assoc}
-use Rattle.pcef_figures.specs.Collecting.{Tells, generation_from, keys_from, last_from, rates_from, rules_from}
-use Rattle.pcef_figures.specs.Grants.{ToldKey, generation_behind, grants_in, keys_behind}
-use Rattle.pcef_figures.specs.Guarantees.{ToldRule, rates_in, rules_behind}
+use Rattle.pcef_figures.specs.Collecting.{AreFiguresOf, generation_from, keys_from, last_from, rates_from, rules_from}
+use Rattle.pcef_figures.specs.Grants.{KeyFigure, generation_behind, grants_in, keys_behind}
+use Rattle.pcef_figures.specs.Guarantees.{RuleFigure, rates_in, rules_behind}
 use Rattle.pcef_figures.specs.Pairing.{Exchange, data_of, exchange_of, is_answered}
 use Rattle.pcef_figures.specs.Usages.{refusals_in, usage_in}
 use Rattle.pcef_figures.specs.private.Steps.{TellsNext}
@@ -37,15 +37,15 @@ generation_more : (generation : ℕ) (xs : List Exchange) (x : Exchange) → gen
 generation_more generation [] x = refl
 generation_more generation (y ∷ xs) x = generation_more (generation_behind generation y.number y.answer) xs x
 
-keys_more : (keys : List ToldKey) (xs : List Exchange) (x : Exchange) → keys_from keys (xs ++ x ∷ []) ≡ keys_behind (keys_from keys xs) x.number x.answer
+keys_more : (keys : List KeyFigure) (xs : List Exchange) (x : Exchange) → keys_from keys (xs ++ x ∷ []) ≡ keys_behind (keys_from keys xs) x.number x.answer
 keys_more keys [] x = refl
 keys_more keys (y ∷ xs) x = keys_more (keys_behind keys y.number y.answer) xs x
 
-pub rules_more : (rules : List ToldRule) (xs : List Exchange) (x : Exchange) → rules_from rules (xs ++ x ∷ []) ≡ rules_behind (rules_from rules xs) x.number x.line x.answer
+pub rules_more : (rules : List RuleFigure) (xs : List Exchange) (x : Exchange) → rules_from rules (xs ++ x ∷ []) ≡ rules_behind (rules_from rules xs) x.number x.line x.answer
 rules_more rules [] x = refl
 rules_more rules (y ∷ xs) x = rules_more (rules_behind rules y.number y.line y.answer) xs x
 
-rates_more : (rules : List ToldRule) (xs : List Exchange) (x : Exchange)
+rates_more : (rules : List RuleFigure) (xs : List Exchange) (x : Exchange)
     → rates_from rules (xs ++ x ∷ []) ≡ rates_from rules xs ++ rates_in (rules_from rules xs) x.number x.line x.answer
 rates_more rules [] x = append-nil _
 rates_more rules (y ∷ xs) x =
@@ -54,13 +54,13 @@ rates_more rules (y ∷ xs) x =
     (rates_in (rules_from (rules_behind rules y.number y.line y.answer) xs) x.number x.line x.answer))
 
 -- the rates of a line, behind the rules of those before it
-next_rates : (xs : List Exchange) (x : Exchange) (told new : List Rates) (active : List ToldRule)
+next_rates : (xs : List Exchange) (x : Exchange) (told new : List Rates) (active : List RuleFigure)
     → told ≡ rates_from [] xs → active ≡ rules_from [] xs → new ≡ told ++ rates_in active x.number x.line x.answer → new ≡ rates_from [] (xs ++ x ∷ [])
 next_rates xs x told new active before rules is =
     is ∙ ap (λ t. t ++ rates_in active x.number x.line x.answer) before ∙ ap (λ r. rates_from [] xs ++ rates_in r x.number x.line x.answer) rules ∙ sym (rates_more [] xs x)
 
 pub tells_more : (xs : List Exchange) (x : Exchange) (old new : Collected)
-    → length xs + 1 < 2 ^ 64 → Tells xs old.figures → old.active ≡ rules_from [] xs → TellsNext x old new → Tells (xs ++ x ∷ []) new.figures
+    → length xs + 1 < 2 ^ 64 → AreFiguresOf xs old.figures → old.active ≡ rules_from [] xs → TellsNext x old new → AreFiguresOf (xs ++ x ∷ []) new.figures
 tells_more xs x old new room tells active next =
     record {
       lines = omega (arith, next.lines, tells.lines, room, length-append xs (x ∷ []));

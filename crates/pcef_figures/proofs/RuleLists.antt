@@ -5,17 +5,17 @@ use Rattle.std.specs.List.{flat_map}
 use Rattle.std.proofs.Math.Seq.{take-suc}
 use Rattle.std.proofs.lemmas.Bool.{cases_lt}
 use Rattle.std.proofs.lemmas.List.{flat_map_more, get_or-set_other, get_or-set_same}
-use Rattle.pcef_figures.specs.Guarantees.{ToldRule}
+use Rattle.pcef_figures.specs.Guarantees.{RuleFigure}
 use Rattle.pcef_figures.specs.private.Rules.{rule_of}
 use Rattle.pcef_figures.specs.declared.rates.Active.{Active}
 
 -- what is kept of a list of rules is what is kept of the rules
-chosen_map : (a : Active) (rules : List Active) (kept : List ToldRule) (b : Bool) → map rule_of rules ≡ kept
+chosen_map : (a : Active) (rules : List Active) (kept : List RuleFigure) (b : Bool) → map rule_of rules ≡ kept
     → map rule_of (cond b (a ∷ rules) rules) ≡ cond b (rule_of a ∷ kept) kept
 chosen_map a rules kept true is = ap (λ t. rule_of a ∷ t) is
 chosen_map a rules kept false is = is
 
-pub map_filtered : (test : ToldRule → Bool) (rules : List Active) → map rule_of (filter (λ a. test (rule_of a)) rules) ≡ filter test (map rule_of rules)
+pub map_filtered : (test : RuleFigure → Bool) (rules : List Active) → map rule_of (filter (λ a. test (rule_of a)) rules) ≡ filter test (map rule_of rules)
 map_filtered test [] = refl
 map_filtered test (a ∷ rules) =
     chosen_map a (filter (λ x. test (rule_of x)) rules) (filter test (map rule_of rules)) (test (rule_of a)) (map_filtered test rules)

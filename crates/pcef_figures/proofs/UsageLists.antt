@@ -5,11 +5,11 @@ use Rattle.std.specs.List.{flat_map}
 use Rattle.serde_json.specs.Data.{Data}
 use Rattle.serde_json.specs.View.{items_of}
 use Rattle.pcef_figures.specs.Grants.{key_in, keys_in_all}
-use Rattle.pcef_figures.specs.Usages.{told_in, told_in_all}
+use Rattle.pcef_figures.specs.Usages.{usage_of_report, usages_of_all}
 
-pub told_flat : (number : ℕ) (reports : List Data) → told_in_all number (items_of reports) ≡ flat_map (told_in number) reports
+pub told_flat : (number : ℕ) (reports : List Data) → usages_of_all number (items_of reports) ≡ flat_map (usage_of_report number) reports
 told_flat number [] = refl
-told_flat number (report ∷ reports) = ap (λ t. told_in number report ++ t) (told_flat number reports)
+told_flat number (report ∷ reports) = ap (λ t. usage_of_report number report ++ t) (told_flat number reports)
 
 pub keys_each : (keys : List Data) → keys_in_all (items_of keys) ≡ map key_in keys
 keys_each [] = refl

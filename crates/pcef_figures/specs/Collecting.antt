@@ -6,27 +6,27 @@ use Rattle.pcef_figures.specs.declared.collecting.CollectFault.{CollectFault}
 use Rattle.pcef_figures.specs.declared.collecting.CollectFault.TheVariants as fault
 use Rattle.pcef_figures.specs.declared.figures.Figures.{Figures}
 use Rattle.pcef_figures.specs.declared.figures.Rates.{Rates}
-use Rattle.pcef_figures.specs.Grants.{ToldGrant, ToldKey, generation_behind, grant_of, grants_in, key_of, keys_behind}
-use Rattle.pcef_figures.specs.Guarantees.{ToldRule, rates_in, rules_behind}
-use Rattle.pcef_figures.specs.Pairing.{Exchange, exchanges, filled, is_answered, is_told}
-use Rattle.pcef_figures.specs.Usages.{ToldUsage, ToldRefusal, refusal_in, refusal_of, refusals_in, told_of, usage_in}
+use Rattle.pcef_figures.specs.Grants.{GrantFigure, KeyFigure, generation_behind, grant_of, grants_in, key_of, keys_behind}
+use Rattle.pcef_figures.specs.Guarantees.{RuleFigure, rates_in, rules_behind}
+use Rattle.pcef_figures.specs.Pairing.{Exchange, exchanges, filled, is_answered, has_value}
+use Rattle.pcef_figures.specs.Usages.{UsageFigure, RefusalFigure, refusal_in, refusal_of, refusals_in, usage_figure_of, usage_in}
 
 -- the number of the last line of these, or else this one
 abbrev pub last_from : ℕ → List Exchange → ℕ
 last_from number [] = number
 last_from number (x ∷ xs) = last_from x.number xs
 
-abbrev pub usage_told : List Exchange → List ToldUsage
-usage_told xs = flat_map (λ x. usage_in x.number x.answer) xs
+abbrev pub usage_figures : List Exchange → List UsageFigure
+usage_figures xs = flat_map (λ x. usage_in x.number x.answer) xs
 
-abbrev pub refusals_told : List Exchange → List ToldRefusal
-refusals_told xs = flat_map (λ x. refusals_in x.number x.answer) xs
+abbrev pub refusal_figures : List Exchange → List RefusalFigure
+refusal_figures xs = flat_map (λ x. refusals_in x.number x.answer) xs
 
-abbrev pub grants_told : List Exchange → List ToldGrant
-grants_told xs = flat_map (λ x. grants_in x.number x.line x.answer) xs
+abbrev pub grant_figures : List Exchange → List GrantFigure
+grant_figures xs = flat_map (λ x. grants_in x.number x.line x.answer) xs
 
 -- the keys by the last line of these that shows them, or else these
-abbrev pub keys_from : List ToldKey → List Exchange → List ToldKey
+abbrev pub keys_from : List KeyFigure → List Exchange → List KeyFigure
 keys_from keys [] = keys
 keys_from keys (x ∷ xs) = keys_from (keys_behind keys x.number x.answer) xs
 
@@ -36,24 +36,24 @@ generation_from generation [] = generation
 generation_from generation (x ∷ xs) = generation_from (generation_behind generation x.number x.answer) xs
 
 -- the rules that are active behind these lines, and the rates that change with them, where these rules were active before
-abbrev pub rules_from : List ToldRule → List Exchange → List ToldRule
+abbrev pub rules_from : List RuleFigure → List Exchange → List RuleFigure
 rules_from rules [] = rules
 rules_from rules (x ∷ xs) = rules_from (rules_behind rules x.number x.line x.answer) xs
 
-abbrev pub rates_from : List ToldRule → List Exchange → List Rates
+abbrev pub rates_from : List RuleFigure → List Exchange → List Rates
 rates_from rules [] = []
 rates_from rules (x ∷ xs) = rates_in rules x.number x.line x.answer ++ rates_from (rules_behind rules x.number x.line x.answer) xs
 
 -- these lines with their answers are told, and no others
-pub record Tells (xs : List Exchange) (f : Figures) : Type 0 where
+pub record AreFiguresOf (xs : List Exchange) (f : Figures) : Type 0 where
   pub lines : f.lines ≡ length xs
   pub last : f.last ≡ last_from 0 xs
   pub generation : f.generation ≡ generation_from 0 xs
-  pub usage : map told_of f.usage.items ≡ usage_told xs
-  pub grants : map grant_of f.grants.items ≡ grants_told xs
+  pub usage : map usage_figure_of f.usage.items ≡ usage_figures xs
+  pub grants : map grant_of f.grants.items ≡ grant_figures xs
   pub keys : map key_of f.keys.items ≡ keys_from [] xs
   pub rates : f.rates.items ≡ rates_from [] xs
-  pub refusals : map refusal_of f.refused.items ≡ refusals_told xs
+  pub refusals : map refusal_of f.refused.items ≡ refusal_figures xs
   pub answered : All (λ x. is_answered x ≡ true) xs
 
 -- nothing is told
@@ -69,11 +69,11 @@ pub record IsBlank (f : Figures) : Type 0 where
   pub refused : f.refused.items ≡ []
 
 -- what is wrong with the line of a number and its answer, an object; where that has verdicts on other packets, the line was done
-abbrev pub IsUntold : ℕ → Option Data → Data → CollectFault → Type 0
-IsUntold number line answer (fault.NoAnswer n) = (n ≡ number) × (is_told number line answer ≡ false)
-IsUntold number line answer (fault.OtherPackets n) = (n ≡ number) × (refusal_in number answer ≡ None) × (is_some line ≡ true)
-IsUntold number line answer fault.MoreAnswers = ⊥
-IsUntold number line answer fault.NoMemory = Unit {0}
+abbrev pub IsMismatch : ℕ → Option Data → Data → CollectFault → Type 0
+IsMismatch number line answer (fault.NoAnswer n) = (n ≡ number) × (has_value number line answer ≡ false)
+IsMismatch number line answer (fault.OtherPackets n) = (n ≡ number) × (refusal_in number answer ≡ None) × (is_some line ≡ true)
+IsMismatch number line answer fault.MoreAnswers = ⊥
+IsMismatch number line answer fault.NoMemory = Unit {0}
 
 -- and with any answer
 abbrev pub IsAtFault : CollectFault → Exchange → Type 0

@@ -5,7 +5,7 @@ use Rattle.serde_json.specs.Data.{Data, Items, item, no_items}
 use Rattle.serde_json.specs.Find.{as_bool, get}
 use Rattle.pcef_figures.specs.declared.figures.Grant.{Grant}
 use Rattle.pcef_figures.specs.declared.figures.KeyState.{KeyState}
-use Rattle.pcef_figures.specs.Usages.{ToldRefusal, list_in, number_in, or_empty, refusal_in, text_in}
+use Rattle.pcef_figures.specs.Usages.{RefusalFigure, list_in, number_in, or_empty, refusal_in, text_in}
 
 -- ---- members of objects
 abbrev pub or_zero : Option ℕ → ℕ
@@ -29,42 +29,42 @@ asks word line = is_text word (text_in (codes "do") line)
 
 -- ---- grants
 -- the line of this number gave a key a grant
-pub record ToldGrant : Type 0 where
+pub record GrantFigure : Type 0 where
   pub line : ℕ
   pub key : List ℕ
   pub octets : ℕ
 
-abbrev pub grant_by : ℕ → Option (List ℕ) → Option ℕ → List ToldGrant
+abbrev pub grant_by : ℕ → Option (List ℕ) → Option ℕ → List GrantFigure
 grant_by number None octets = []
 grant_by number (Some key) None = []
 grant_by number (Some key) (Some octets) = record { line = number; key = key; octets = octets } ∷ []
 
 -- by a `monitor` line
-abbrev pub grant_asked : ℕ → Data → List ToldGrant
+abbrev pub grant_asked : ℕ → Data → List GrantFigure
 grant_asked number line =
     if asks (codes "monitor") line then grant_by number (text_in (codes "key") line) (number_in (codes "grant") line) else []
 
 -- that was done
-abbrev pub grants_done : ℕ → Option ToldRefusal → Option Data → List ToldGrant
+abbrev pub grants_done : ℕ → Option RefusalFigure → Option Data → List GrantFigure
 grants_done number (Some refused) line = []
 grants_done number None None = []
 grants_done number None (Some line) = grant_asked number line
 
-abbrev pub grants_in : ℕ → Option Data → Data → List ToldGrant
+abbrev pub grants_in : ℕ → Option Data → Data → List GrantFigure
 grants_in number line answer = grants_done number (refusal_in number answer) line
 
-abbrev pub grant_of : Grant → ToldGrant
+abbrev pub grant_of : Grant → GrantFigure
 grant_of g = record { line = g.line; key = string_bytes g.key; octets = g.octets }
 
 -- ---- keys
 -- how a key stands
-pub record ToldKey : Type 0 where
+pub record KeyFigure : Type 0 where
   pub key : List ℕ
   pub is_on : Bool
   pub reported : ℕ
   pub unreported : ℕ
 
-abbrev pub key_in : Data → ToldKey
+abbrev pub key_in : Data → KeyFigure
 key_in d = record {
   key = or_empty (text_in (codes "key") d);
   is_on = flag_in (codes "on") d;
@@ -72,29 +72,29 @@ key_in d = record {
   unreported = or_zero (number_in (codes "unreported") d);
 }
 
-abbrev pub keys_in_all : Items → List ToldKey
+abbrev pub keys_in_all : Items → List KeyFigure
 keys_in_all no_items = []
 keys_in_all (item d ds) = key_in d ∷ keys_in_all ds
 
 -- an answer to `show` has a list of them, which takes the place of the one before
-abbrev pub keys_shown : List ToldKey → Option Data → Data → List ToldKey
+abbrev pub keys_shown : List KeyFigure → Option Data → Data → List KeyFigure
 keys_shown before None answer = before
 keys_shown before (Some list) answer = keys_in_all (list_in (codes "keys") answer)
 
 -- where the line was done
-abbrev pub keys_done : List ToldKey → Option ToldRefusal → Data → List ToldKey
+abbrev pub keys_done : List KeyFigure → Option RefusalFigure → Data → List KeyFigure
 keys_done before (Some refused) answer = before
 keys_done before None answer = keys_shown before (get (codes "keys") answer) answer
 
-abbrev pub keys_behind : List ToldKey → ℕ → Data → List ToldKey
+abbrev pub keys_behind : List KeyFigure → ℕ → Data → List KeyFigure
 keys_behind before number answer = keys_done before (refusal_in number answer) answer
 
-abbrev pub key_of : KeyState → ToldKey
+abbrev pub key_of : KeyState → KeyFigure
 key_of k = record { key = string_bytes k.key; is_on = k.is_on; reported = k.reported; unreported = k.unreported }
 
 -- ---- generations
 -- the newest of those that lines that were done tell
-abbrev pub generation_done : ℕ → Option ToldRefusal → Data → ℕ
+abbrev pub generation_done : ℕ → Option RefusalFigure → Data → ℕ
 generation_done before (Some refused) answer = before
 generation_done before None answer = max before (or_zero (number_in (codes "generation") answer))
 

@@ -6,22 +6,22 @@ use Rattle.serde_json.specs.Data.{Data}
 use Rattle.serde_json.specs.Find.{get}
 use Rattle.pcef_figures.specs.declared.figures.Rates.{Rates}
 use Rattle.pcef_figures.specs.Grants.{asks, or_zero}
-use Rattle.pcef_figures.specs.Usages.{ToldRefusal, number_in, or_empty, refusal_in, text_in}
+use Rattle.pcef_figures.specs.Usages.{RefusalFigure, number_in, or_empty, refusal_in, text_in}
 
 -- ---- the active rules
 -- a rule that is active
-pub record ToldRule : Type 0 where
+pub record RuleFigure : Type 0 where
   pub name : List ℕ
   pub bearer : ℕ
   pub up : ℕ
   pub down : ℕ
 
 -- the rules but those of a name
-abbrev pub without : List ℕ → List ToldRule → List ToldRule
+abbrev pub without : List ℕ → List RuleFigure → List RuleFigure
 without name rules = filter (λ r. not (bytes_eq r.name name)) rules
 
 -- a rule takes the place of those of its name, and stands last
-abbrev pub entered : List ToldRule → ToldRule → List ToldRule
+abbrev pub entered : List RuleFigure → RuleFigure → List RuleFigure
 entered rules rule = without rule.name rules ++ rule ∷ []
 
 -- the rate in a direction that a rule asks for, or 0
@@ -32,7 +32,7 @@ rate_by direction (Some gbr) = or_zero (number_in direction gbr)
 abbrev pub rate_in : List ℕ → Data → ℕ
 rate_in direction rule = rate_by direction (get (codes "gbr") rule)
 
-abbrev pub rule_in : Data → ℕ → ToldRule
+abbrev pub rule_in : Data → ℕ → RuleFigure
 rule_in rule bearer = record {
   name = or_empty (text_in (codes "name") rule);
   bearer = bearer;
@@ -41,18 +41,18 @@ rule_in rule bearer = record {
 }
 
 -- the answer tells the bearer
-abbrev pub installed : List ToldRule → Option Data → Option ℕ → List ToldRule
+abbrev pub installed : List RuleFigure → Option Data → Option ℕ → List RuleFigure
 installed rules None bearer = rules
 installed rules (Some rule) None = rules
 installed rules (Some rule) (Some bearer) = entered rules (rule_in rule bearer)
 
 -- a predefined rule has no guaranteed rates
-abbrev pub activated : List ToldRule → List ℕ → Option ℕ → List ToldRule
+abbrev pub activated : List RuleFigure → List ℕ → Option ℕ → List RuleFigure
 activated rules name None = rules
 activated rules name (Some bearer) = entered rules (record { name = name; bearer = bearer; up = 0; down = 0 })
 
 -- the rules but those on a bearer
-abbrev pub left_by : List ToldRule → Option ℕ → List ToldRule
+abbrev pub left_by : List RuleFigure → Option ℕ → List RuleFigure
 left_by rules None = rules
 left_by rules (Some bearer) = filter (λ r. not (r.bearer == bearer)) rules
 
@@ -60,7 +60,7 @@ abbrev pub named_in : Data → List ℕ
 named_in line = or_empty (text_in (codes "name") line)
 
 -- the rules behind a command that was done
-abbrev pub rules_by : List ToldRule → Data → Data → List ToldRule
+abbrev pub rules_by : List RuleFigure → Data → Data → List RuleFigure
 rules_by rules line answer =
     if asks (codes "install") line then installed rules (get (codes "rule") line) (number_in (codes "bearer") answer)
     else if asks (codes "activate") line then activated rules (named_in line) (number_in (codes "bearer") answer)
@@ -70,52 +70,52 @@ rules_by rules line answer =
     else rules
 
 -- the answer to a command has a generation
-abbrev pub rules_commanded : List ToldRule → Option ℕ → Data → Data → List ToldRule
+abbrev pub rules_commanded : List RuleFigure → Option ℕ → Data → Data → List RuleFigure
 rules_commanded rules None line answer = rules
 rules_commanded rules (Some generation) line answer = rules_by rules line answer
 
-abbrev pub rules_done : List ToldRule → Option ToldRefusal → Option Data → Data → List ToldRule
+abbrev pub rules_done : List RuleFigure → Option RefusalFigure → Option Data → Data → List RuleFigure
 rules_done rules (Some refused) line answer = rules
 rules_done rules None None answer = rules
 rules_done rules None (Some line) answer = rules_commanded rules (number_in (codes "generation") answer) line answer
 
 -- the rules behind a line
-abbrev pub rules_behind : List ToldRule → ℕ → Option Data → Data → List ToldRule
+abbrev pub rules_behind : List RuleFigure → ℕ → Option Data → Data → List RuleFigure
 rules_behind rules number line answer = rules_done rules (refusal_in number answer) line answer
 
 -- ---- rates
 -- the sums of the rates of a bearer's rules, 2^64 - 1 at most
-abbrev pub up_of : List ToldRule → ℕ → ℕ
+abbrev pub up_of : List RuleFigure → ℕ → ℕ
 up_of rules bearer = min (sum_by (λ r. if r.bearer == bearer then r.up else 0) rules) (2 ^ 64 - 1)
 
-abbrev pub down_of : List ToldRule → ℕ → ℕ
+abbrev pub down_of : List RuleFigure → ℕ → ℕ
 down_of rules bearer = min (sum_by (λ r. if r.bearer == bearer then r.down else 0) rules) (2 ^ 64 - 1)
 
 -- the ids of bearers (TS 24.007, clause 11.2.3.1.5)
 abbrev pub bearers : List ℕ
 bearers = 5 ∷ 6 ∷ 7 ∷ 8 ∷ 9 ∷ 10 ∷ 11 ∷ 12 ∷ 13 ∷ 14 ∷ 15 ∷ []
 
-abbrev pub is_same : List ToldRule → List ToldRule → ℕ → Bool
+abbrev pub is_same : List RuleFigure → List RuleFigure → ℕ → Bool
 is_same before after bearer = (up_of before bearer == up_of after bearer) && (down_of before bearer == down_of after bearer)
 
 -- an entry where the sums of a bearer change
-abbrev pub change_of : ℕ → List ToldRule → List ToldRule → ℕ → List Rates
+abbrev pub change_of : ℕ → List RuleFigure → List RuleFigure → ℕ → List Rates
 change_of generation before after bearer =
     if is_same before after bearer then []
     else record { generation = generation; bearer = bearer; up = up_of after bearer; down = down_of after bearer } ∷ []
 
-abbrev pub changes : ℕ → List ToldRule → List ToldRule → List Rates
+abbrev pub changes : ℕ → List RuleFigure → List RuleFigure → List Rates
 changes generation before after = flat_map (change_of generation before after) bearers
 
 -- those that come with a line, behind these rules
-abbrev pub rates_commanded : List ToldRule → Option ℕ → Data → Data → List Rates
+abbrev pub rates_commanded : List RuleFigure → Option ℕ → Data → Data → List Rates
 rates_commanded rules None line answer = []
 rates_commanded rules (Some generation) line answer = changes generation rules (rules_by rules line answer)
 
-abbrev pub rates_done : List ToldRule → Option ToldRefusal → Option Data → Data → List Rates
+abbrev pub rates_done : List RuleFigure → Option RefusalFigure → Option Data → Data → List Rates
 rates_done rules (Some refused) line answer = []
 rates_done rules None None answer = []
 rates_done rules None (Some line) answer = rates_commanded rules (number_in (codes "generation") answer) line answer
 
-abbrev pub rates_in : List ToldRule → ℕ → Option Data → Data → List Rates
+abbrev pub rates_in : List RuleFigure → ℕ → Option Data → Data → List Rates
 rates_in rules number line answer = rates_done rules (refusal_in number answer) line answer

@@ -53,12 +53,12 @@ abbrev pub exchanges : List ℕ → List ℕ → List Exchange
 exchanges script answers = map exchange_of (zip (filled script) (filled answers))
 
 -- the line is JSON, unless its answer says that it was refused or at fault
-abbrev pub is_told : ℕ → Option Data → Data → Bool
-is_told number line answer = is_some (refusal_in number answer) || is_some line
+abbrev pub has_value : ℕ → Option Data → Data → Bool
+has_value number line answer = is_some (refusal_in number answer) || is_some line
 
 -- and the answer is an object, and no line of a script
 abbrev pub is_answer : Data → Bool
 is_answer d = is_some (as_object d) && not (is_some (get (codes "do") d))
 
 abbrev pub is_answered : Exchange → Bool
-is_answered x = is_answer x.answer && is_told x.number x.line x.answer
+is_answered x = is_answer x.answer && has_value x.number x.line x.answer

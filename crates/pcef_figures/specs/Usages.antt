@@ -26,53 +26,53 @@ or_empty (Some text) = text
 
 -- ---- reports
 -- a report of usage that came with the answer to the line of this number
-pub record ToldUsage : Type 0 where
+pub record UsageFigure : Type 0 where
   pub line : ℕ
   pub key : List ℕ
   pub cause : List ℕ
   pub octets : ℕ
 
 -- a report of usage has a key and octets; other reports lack one of them
-abbrev pub told_by : ℕ → List ℕ → Option (List ℕ) → Option ℕ → List ToldUsage
-told_by number cause None octets = []
-told_by number cause (Some key) None = []
-told_by number cause (Some key) (Some octets) = record { line = number; key = key; cause = cause; octets = octets } ∷ []
+abbrev pub usage_by : ℕ → List ℕ → Option (List ℕ) → Option ℕ → List UsageFigure
+usage_by number cause None octets = []
+usage_by number cause (Some key) None = []
+usage_by number cause (Some key) (Some octets) = record { line = number; key = key; cause = cause; octets = octets } ∷ []
 
-abbrev pub told_in : ℕ → Data → List ToldUsage
-told_in number report =
-    told_by number (or_empty (text_in (codes "cause") report)) (text_in (codes "key") report) (number_in (codes "octets") report)
+abbrev pub usage_of_report : ℕ → Data → List UsageFigure
+usage_of_report number report =
+    usage_by number (or_empty (text_in (codes "cause") report)) (text_in (codes "key") report) (number_in (codes "octets") report)
 
-abbrev pub told_in_all : ℕ → Items → List ToldUsage
-told_in_all number no_items = []
-told_in_all number (item report reports) = told_in number report ++ told_in_all number reports
+abbrev pub usages_of_all : ℕ → Items → List UsageFigure
+usages_of_all number no_items = []
+usages_of_all number (item report reports) = usage_of_report number report ++ usages_of_all number reports
 
 -- those that an answer has
-abbrev pub usage_in : ℕ → Data → List ToldUsage
-usage_in number answer = told_in_all number (list_in (codes "reports") answer)
+abbrev pub usage_in : ℕ → Data → List UsageFigure
+usage_in number answer = usages_of_all number (list_in (codes "reports") answer)
 
-abbrev pub told_of : Usage → ToldUsage
-told_of u = record { line = u.line; key = string_bytes u.key; cause = string_bytes u.cause; octets = u.octets }
+abbrev pub usage_figure_of : Usage → UsageFigure
+usage_figure_of u = record { line = u.line; key = string_bytes u.key; cause = string_bytes u.cause; octets = u.octets }
 
 -- ---- refusals and faults
 -- the line of this number was refused or at fault
-pub record ToldRefusal : Type 0 where
+pub record RefusalFigure : Type 0 where
   pub line : ℕ
   pub name : List ℕ
   pub code : ℕ
   pub is_fault : Bool
 
 -- by the numbers of the fault and of the refusal, where the answer has them
-abbrev pub refusal_by : ℕ → List ℕ → Option ℕ → Option ℕ → Option ToldRefusal
+abbrev pub refusal_by : ℕ → List ℕ → Option ℕ → Option ℕ → Option RefusalFigure
 refusal_by number name (Some fault) refused = Some (record { line = number; name = name; code = fault; is_fault = true })
 refusal_by number name None (Some refused) = Some (record { line = number; name = name; code = refused; is_fault = false })
 refusal_by number name None None = None
 
-abbrev pub refusal_in : ℕ → Data → Option ToldRefusal
+abbrev pub refusal_in : ℕ → Data → Option RefusalFigure
 refusal_in number answer =
     refusal_by number (or_empty (text_in (codes "name") answer)) (number_in (codes "fault") answer) (number_in (codes "refused") answer)
 
-abbrev pub refusals_in : ℕ → Data → List ToldRefusal
+abbrev pub refusals_in : ℕ → Data → List RefusalFigure
 refusals_in number answer = option_to_list (refusal_in number answer)
 
-abbrev pub refusal_of : Refused → ToldRefusal
+abbrev pub refusal_of : Refused → RefusalFigure
 refusal_of r = record { line = r.line; name = string_bytes r.name; code = r.number; is_fault = r.is_fault }

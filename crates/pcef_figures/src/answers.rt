@@ -3,10 +3,10 @@
 ghost use Rattle.std.specs.Prelude.{◌≡◌, ◌++◌, IfOk, OnOk, codes, map, option_map};
 ghost use Rattle.serde_json.specs.View.{view};
 ghost use Rattle.pcef_figures.specs.Grants.{grant_asked, grant_of, key_in, key_of, keys_in_all};
-ghost use Rattle.pcef_figures.specs.Usages.{list_in, refusal_in, refusal_of, told_in, told_of, usage_in};
+ghost use Rattle.pcef_figures.specs.Usages.{list_in, refusal_in, refusal_of, usage_of_report, usage_figure_of, usage_in};
 
 use crate::figures::{Grant, Handed, Judged, KeyState, Refused, Usage, Verdict};
-use crate::values::{asks, count_at, flag_at, list_at, number_at, owned, text_at};
+use crate::values::{asks, copy_of, count_at, flag_at, list_at, number_at, text_at};
 use serde_json::Value;
 use std::alloc::{AllocError, Global};
 
@@ -24,7 +24,7 @@ pub(crate) fn refused_in(
     };
     Ok(Some(Refused {
         line,
-        name: owned(alloc, text_at(answer, "name"))?,
+        name: copy_of(alloc, text_at(answer, "name"))?,
         number,
         is_fault: fault.is_some(),
     }))
@@ -37,14 +37,14 @@ fn push_report(
     line: u64,
     report: &Value,
 ) -> Result<(), AllocError>
-    ensures { OnOk result (map told_of usage.new.items
-        ≡ map told_of usage.old.items ++ told_in line (view report.now)) }
+    ensures { OnOk result (map usage_figure_of usage.new.items
+        ≡ map usage_figure_of usage.old.items ++ usage_of_report line (view report.now)) }
 {
     let (Some(key), Some(octets)) = (text_at(report, "key"), number_at(report, "octets")) else {
         return Ok(());
     };
     let key = String::from_str(alloc, key)?;
-    let cause = owned(alloc, text_at(report, "cause"))?;
+    let cause = copy_of(alloc, text_at(report, "cause"))?;
     usage.push(Usage {
         line,
         key,
@@ -61,8 +61,8 @@ pub(crate) fn push_usage(
     line: u64,
     answer: &Value,
 ) -> Result<(), AllocError>
-    ensures { OnOk result (map told_of usage.new.items
-        ≡ map told_of usage.old.items ++ usage_in line (view answer.now)) }
+    ensures { OnOk result (map usage_figure_of usage.new.items
+        ≡ map usage_figure_of usage.old.items ++ usage_in line (view answer.now)) }
 {
     for report in list_at(answer, "reports") {
         push_report(alloc, usage, line, report)?;
@@ -99,7 +99,7 @@ pub(crate) fn push_grant(
 fn key_in(alloc: Global, state: &Value) -> Result<KeyState, AllocError>
     ensures { IfOk result (λ key. key_of key ≡ key_in (view state.now)) }
 {
-    let key = owned(alloc, text_at(state, "key"))?;
+    let key = copy_of(alloc, text_at(state, "key"))?;
     Ok(KeyState {
         key,
         is_on: flag_at(state, "on"),
@@ -127,7 +127,7 @@ fn take_waiting(waiting: &mut Vec<Handed>, worker: u64) -> Option<Handed> {
 }
 
 /// A packet with a verdict, if the answer has one there.
-fn judged(
+fn add_verdict(
     alloc: Global,
     packet: Handed,
     answered: u64,
@@ -141,7 +141,7 @@ fn judged(
         answered,
         generation: number_at(told, "generation").unwrap_or(0),
         verdict,
-        rule: owned(alloc, text_at(told, "rule"))?,
+        rule: copy_of(alloc, text_at(told, "rule"))?,
         bearer: number_at(told, "bearer"),
     }))
 }
@@ -159,7 +159,7 @@ pub(crate) fn push_judged(
         let Some(packet) = take_waiting(waiting, worker) else {
             return Ok(false);
         };
-        match judged(alloc, packet, line, told)? {
+        match add_verdict(alloc, packet, line, told)? {
             Some(judged) => all.push(judged)?,
             None => return Ok(false),
         }

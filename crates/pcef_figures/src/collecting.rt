@@ -2,12 +2,12 @@
 
 ghost use Rattle.std.specs.Prelude.{◌≡◌, ◌≤◌, ◌+◌, ◌-◌, ◌^◌, ◌++◌, [], IfErr, IfOk, IsOk, OnOk, codes, length, map, min, option_map, true};
 ghost use Rattle.serde_json.specs.View.{view};
-ghost use Rattle.pcef_figures.specs.Collecting.{Fails, IsAtFault, IsBlank, IsUntold, Tells};
+ghost use Rattle.pcef_figures.specs.Collecting.{Fails, IsAtFault, IsBlank, IsMismatch, AreFiguresOf};
 ghost use Rattle.pcef_figures.specs.Grants.{generation_behind, grant_of, grants_in, key_of, keys_behind};
 ghost use Rattle.pcef_figures.specs.Guarantees.{rates_commanded, rates_in, rules_behind, rules_commanded};
-ghost use Rattle.pcef_figures.specs.Pairing.{data_of, exchanges, filled, is_answer, is_told};
-ghost use Rattle.pcef_figures.specs.Usages.{number_in, refusal_of, refusals_in, told_of, usage_in};
-ghost use Rattle.pcef_figures.specs.private.Steps.{IsOtherOrMemory, TellsBeside, TellsDone, TellsLine, TellsNext, exchange_by};
+ghost use Rattle.pcef_figures.specs.Pairing.{data_of, exchanges, filled, is_answer, has_value};
+ghost use Rattle.pcef_figures.specs.Usages.{number_in, refusal_of, refusals_in, usage_figure_of, usage_in};
+ghost use Rattle.pcef_figures.specs.private.Steps.{IsOtherOrMemory, TellsBeside, TakesDone, TakesLine, TellsNext, exchange_by};
 
 use crate::answers::{keys_in, push_grant, push_judged, push_usage, refused_in};
 use crate::figures::{Figures, Handed};
@@ -106,14 +106,14 @@ impl Collected {
     }
 
     /// Tells what a line that was done asked for, and what its answer shows.
-    fn tell_done(
+    fn take_answered(
         &mut self,
         alloc: Global,
         number: u64,
         line: &Value,
         answer: &Value,
     ) -> Result<(), AllocError>
-        ensures { OnOk result (TellsDone number (view line.now) (view answer.now) self.old self.new) }
+        ensures { OnOk result (TakesDone number (view line.now) (view answer.now) self.old self.new) }
     {
         let generation = count_at(answer, "generation");
         self.figures.generation = self.figures.generation.max(generation);
@@ -168,10 +168,10 @@ impl Collected {
         line: &Value,
         answer: &Value,
     ) -> Result<(), CollectFault>
-        ensures told { OnOk result (TellsDone number (view line.now) (view answer.now) self.old self.new) }
+        ensures told { OnOk result (TakesDone number (view line.now) (view answer.now) self.old self.new) }
         ensures fault { IfErr result (IsOtherOrMemory number) }
     {
-        self.tell_done(alloc, number, line, answer)?;
+        self.take_answered(alloc, number, line, answer)?;
         let Some(worker) = number_at(line, "worker") else {
             return Ok(());
         };
@@ -190,8 +190,8 @@ impl Collected {
         line: Option<&Value>,
         answer: &Value,
     ) -> Result<(), CollectFault>
-        ensures told { OnOk result (TellsLine number (option_map (λ l. view l.now) line.entry) (view answer.now) self.old self.new) }
-        ensures fault { IfErr result (IsUntold number (option_map (λ l. view l.now) line.entry) (view answer.now)) }
+        ensures told { OnOk result (TakesLine number (option_map (λ l. view l.now) line.entry) (view answer.now) self.old self.new) }
+        ensures fault { IfErr result (IsMismatch number (option_map (λ l. view l.now) line.entry) (view answer.now)) }
     {
         if let Some(refused) = refused_in(alloc, number, answer)? {
             self.figures.refused.push(refused)?;
@@ -218,8 +218,8 @@ impl Collected {
         ensures last { OnOk result (self.new.figures.last ≡ number) }
         ensures generation { OnOk result (self.new.figures.generation
             ≡ generation_behind self.old.figures.generation number (view answer.now)) }
-        ensures usage { OnOk result (map told_of self.new.figures.usage.items
-            ≡ map told_of self.old.figures.usage.items ++ usage_in number (view answer.now)) }
+        ensures usage { OnOk result (map usage_figure_of self.new.figures.usage.items
+            ≡ map usage_figure_of self.old.figures.usage.items ++ usage_in number (view answer.now)) }
         ensures grants { OnOk result (map grant_of self.new.figures.grants.items
             ≡ map grant_of self.old.figures.grants.items
             ++ grants_in number (option_map (λ l. view l.now) line.entry) (view answer.now)) }
@@ -231,8 +231,8 @@ impl Collected {
             ≡ rules_behind self.old.active number (option_map (λ l. view l.now) line.entry) (view answer.now)) }
         ensures refused { OnOk result (map refusal_of self.new.figures.refused.items
             ≡ map refusal_of self.old.figures.refused.items ++ refusals_in number (view answer.now)) }
-        ensures answered { OnOk result (is_told number (option_map (λ l. view l.now) line.entry) (view answer.now) ≡ true) }
-        ensures fault { IfErr result (IsUntold number (option_map (λ l. view l.now) line.entry) (view answer.now)) }
+        ensures answered { OnOk result (has_value number (option_map (λ l. view l.now) line.entry) (view answer.now) ≡ true) }
+        ensures fault { IfErr result (IsMismatch number (option_map (λ l. view l.now) line.entry) (view answer.now)) }
     {
         self.figures.lines = self.figures.lines.saturating_add(1);
         self.figures.last = number;
@@ -271,7 +271,7 @@ fn take_octets(
 ///
 /// Answers the first fault in the order of the lines, or want of memory.
 pub fn collect(alloc: Global, lines: &[u8], answers: &[u8]) -> Result<Figures, CollectFault>
-    ensures told { IfOk result (Tells (exchanges lines.now answers.now)) }
+    ensures told { IfOk result (AreFiguresOf (exchanges lines.now answers.now)) }
     ensures all { IsOk result → length (filled answers.now) ≤ length (filled lines.now) }
     ensures fault { IfErr result (λ fault. Fails fault lines.now answers.now) }
 {

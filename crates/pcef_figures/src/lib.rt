@@ -1,6 +1,6 @@
 //! What a script and its answers tell of a session: verdicts, octets of keys, guaranteed rates, refusals.
 //!
-//! Its contracts tell: which line has which answer; which reports of usage, grants, states of keys, guaranteed rates,
+//! Its contracts say: which line has which answer; which reports of usage, grants, states of keys, guaranteed rates,
 //! refusals and faults come with it; and exact sums of octets.
 //!
 //! In the order of reading: `figures`, `sums`, `values`, `answers`, `lines`, `pairing`, `rates`, `collecting`.

@@ -3,12 +3,12 @@
 ghost use Rattle.std.specs.Prelude.{◌≡◌, ℕ, List, [], ◌<◌, ◌++◌, ◌==◌, OnOk, IfOk, codes, not, option_map, slice_index, slice_index_or, string_bytes};
 ghost use Rattle.std.specs.Str.{bytes_eq};
 ghost use Rattle.serde_json.specs.View.{view};
-ghost use Rattle.pcef_figures.specs.Guarantees.{ToldRule, activated, bearers, change_of, changes, down_of, entered, installed, left_by, rate_in, rates_commanded, rule_in, rules_by, rules_commanded, up_of, without};
+ghost use Rattle.pcef_figures.specs.Guarantees.{RuleFigure, activated, bearers, change_of, changes, down_of, entered, installed, left_by, rate_in, rates_commanded, rule_in, rules_by, rules_commanded, up_of, without};
 ghost use Rattle.pcef_figures.specs.Usages.{number_in};
 ghost use Rattle.pcef_figures.specs.private.Rules.{rule_of};
 
 use crate::figures::Rates;
-use crate::values::{asks, count_at, number_at, owned, text_at};
+use crate::values::{asks, copy_of, count_at, number_at, text_at};
 use serde_json::Value;
 use std::alloc::{AllocError, Global};
 use std::marker::Model;
@@ -33,10 +33,10 @@ pub struct ActiveRules {
 
 impl Model for ActiveRules {
     ghost use Rattle.std.specs.Prelude.{List, map};
-    ghost use Rattle.pcef_figures.specs.Guarantees.{ToldRule};
+    ghost use Rattle.pcef_figures.specs.Guarantees.{RuleFigure};
     ghost use Rattle.pcef_figures.specs.private.Rules.{rule_of};
 
-    ghost Value = { List ToldRule };
+    ghost Value = { List RuleFigure };
 
     ghost view = { λ s. map rule_of s.rules.items };
 }
@@ -55,7 +55,7 @@ fn rate(rule: &Value, direction: &str) -> u64
 fn rule_in(alloc: Global, rule: &Value, bearer: u64) -> Result<Active, AllocError>
     ensures { IfOk result (λ active. rule_of active ≡ rule_in (view rule.now) bearer) }
 {
-    let name = owned(alloc, text_at(rule, "name"))?;
+    let name = copy_of(alloc, text_at(rule, "name"))?;
     Ok(Active {
         name,
         bearer,
@@ -141,7 +141,7 @@ impl ActiveRules {
         ensures { OnOk result (self.new ≡ rules_by self.old (view line.now) (view answer.now)) }
     {
         let bearer = number_at(answer, "bearer");
-        let name = owned(alloc, text_at(line, "name"))?;
+        let name = copy_of(alloc, text_at(line, "name"))?;
         if asks(line, "install") {
             return self.install(alloc, line.get("rule"), bearer);
         }
@@ -194,7 +194,7 @@ impl ActiveRules {
         bearer: u64,
         before: (u64, u64),
     ) -> Result<(), AllocError>
-        ensures { OnOk result ((rules : List ToldRule) → before ≡ (up_of rules bearer, down_of rules bearer)
+        ensures { OnOk result ((rules : List RuleFigure) → before ≡ (up_of rules bearer, down_of rules bearer)
             → rates.new.items ≡ rates.old.items ++ change_of generation rules self.now bearer) }
     {
         let (up, down) = self.sums(bearer);
@@ -216,7 +216,7 @@ impl ActiveRules {
         generation: u64,
         before: &[(u64, u64); 11],
     ) -> Result<(), AllocError>
-        ensures { OnOk result ((rules : List ToldRule)
+        ensures { OnOk result ((rules : List RuleFigure)
             → ((k : ℕ) → k < 11 → slice_index_or before.now k (0, 0) ≡ (up_of rules (slice_index bearers k), down_of rules (slice_index bearers k)))
             → rates.new.items ≡ rates.old.items ++ changes generation rules self.now) }
     {

@@ -63,7 +63,7 @@ pub(crate) fn list_at<'a>(object: &'a Value, key: &str) -> &'a [Value]
 }
 
 /// A text of its own, empty where there is none.
-pub(crate) fn owned(alloc: Global, text: Option<&str>) -> Result<String, AllocError>
+pub(crate) fn copy_of(alloc: Global, text: Option<&str>) -> Result<String, AllocError>
     ensures { IfOk result (λ t. string_bytes t ≡ or_empty (option_map (λ t. t.now) text.entry)) }
 {
     match text {

@@ -1,7 +1,7 @@
 //! Service data flow filters (RFC 6733, clause 4.3.1, in this project's profile): `Filter`, the reader of filter texts,
 //! and `matches`.
 //!
-//! Its contracts tell: the filter that a text spells, or its fault; which headers match.
+//! Its contracts say: the filter that a text spells, or its fault; which headers match.
 //!
 //! In the order of reading: `filter`, `laws`, `matching`, `tokens`, `decimal`, `classes`, `pieces`, `places`, `ports`,
 //! `reading`.

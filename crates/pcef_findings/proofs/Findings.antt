@@ -4,17 +4,17 @@ use Rattle.std.specs.Prelude.{Option, Some, None, string_bytes}
 use Rattle.pcef_model.specs.Setting.{Setting}
 use Rattle.pcef_world.specs.Steps.{Standing, at_start, standing_of}
 use Rattle.pcef_world.specs.Worlds.{IsOpenedWorld, World}
-use Rattle.pcef_findings.specs.Findings.{Finds, FindsAll, FindsLine, Tells, as_list}
+use Rattle.pcef_findings.specs.Findings.{Finds, FindsAll, FindsLine, IsFindingOf, as_list}
 use Rattle.pcef_findings.specs.private.Playing.{AddsLine, PlaysLines}
 use Rattle.pcef_findings.specs.declared.finding.Finding.{Finding}
 use Rattle.pcef_findings.specs.declared.finding.Found.{Found}
 
 -- nothing is found, and nothing is told
-pub none_told : (number : ℕ) (f : Option Found) (text : List ℕ) → f ≡ None → Tells number f text None
+pub none_told : (number : ℕ) (f : Option Found) (text : List ℕ) → f ≡ None → IsFindingOf number f text None
 none_told number f text is = rw is refl
 
 -- what is found is told
-pub some_told : (number : ℕ) (f : Option Found) (text : List ℕ) (x : Finding) → f ≡ Some x.found → x.line ≡ number → string_bytes x.answer ≡ text → Tells number f text (Some x)
+pub some_told : (number : ℕ) (f : Option Found) (text : List ℕ) (x : Finding) → f ≡ Some x.found → x.line ≡ number → string_bytes x.answer ≡ text → IsFindingOf number f text (Some x)
 some_told number f text x is line answer = rw is (x, refl, line, refl, answer)
 
 -- one line more

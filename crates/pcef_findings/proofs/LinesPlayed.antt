@@ -14,18 +14,18 @@ use Rattle.pcef_script.specs.ScriptLines.{is_blank}
 use Rattle.pcef_world.specs.Steps.{Reply, Standing, reply_of, standing_of}
 use Rattle.pcef_world.specs.Worlds.{World}
 use Rattle.pcef_world.specs.declared.answer.StepAnswer.{StepAnswer}
-use Rattle.pcef_findings.specs.Findings.{Tells, as_list, found_in}
-use Rattle.pcef_findings.specs.private.Playing.{AddsLine, IsOfFault, PlaysBytes, PlaysLine, TellsAnswer}
+use Rattle.pcef_findings.specs.Findings.{IsFindingOf, as_list, found_in}
+use Rattle.pcef_findings.specs.private.Playing.{AddsLine, IsOfFault, PlaysBytes, PlaysLine, FindsAnswer}
 use Rattle.pcef_findings.specs.declared.finding.Finding.{Finding}
 
 -- a step that was made
-pub step_found : (r : Result (Option Finding) AllocError) (number : ℕ) (w : World) (a : StepAnswer) (due : Reply × Standing) → reply_of a ≡ due.0 → standing_of w ≡ due.1 → IfOk r (TellsAnswer w number a)
-    → IfOk r (λ told. (text : List ℕ) × IsDue due text (standing_of w) × Tells number (found_in due.0) text told)
+pub step_found : (r : Result (Option Finding) AllocError) (number : ℕ) (w : World) (a : StepAnswer) (due : Reply × Standing) → reply_of a ≡ due.0 → standing_of w ≡ due.1 → IfOk r (FindsAnswer w number a)
+    → IfOk r (λ told. (text : List ℕ) × IsDue due text (standing_of w) × IsFindingOf number (found_in due.0) text told)
 step_found r number w a due replied stands told =
     IfOk-weaker r _ _ (λ o known. (
       step_text w.session.journal (gen w.session.journal) (reply_of a),
       (ap (step_text w.session.journal (gen w.session.journal)) replied ∙ ap (λ (s : Standing). step_text s.journal (gen s.journal) due.0) stands, stands),
-      subst (λ x. Tells number (found_in x) (step_text w.session.journal (gen w.session.journal) (reply_of a)) o) replied known,
+      subst (λ x. IsFindingOf number (found_in x) (step_text w.session.journal (gen w.session.journal) (reply_of a)) o) replied known,
     )) told
 
 -- a line that was read

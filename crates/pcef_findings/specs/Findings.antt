@@ -33,17 +33,17 @@ found_in (abandon_reply abandoned) = None
 found_in no_worker = Some found.NoWorker
 
 -- what is told of the line of a number: what is found in it, with the script's answer, or nothing where nothing is found
-abbrev pub Tells : ℕ → Option Found → List ℕ → Option Finding → Type 0
-Tells number None text told = told ≡ None
-Tells number (Some f) text told =
+abbrev pub IsFindingOf : ℕ → Option Found → List ℕ → Option Finding → Type 0
+IsFindingOf number None text told = told ≡ None
+IsFindingOf number (Some f) text told =
     (x : Finding) × (told ≡ Some x) × (x.line ≡ number) × (x.found ≡ f) × (string_bytes x.answer ≡ text)
 
 -- a line to which this is due: its step is made as the script makes it, and `show` and a fault change nothing
 abbrev pub FindsDue : Setting → Standing → ℕ → Result Line LineFault → Option Finding → Standing → Type 0
 FindsDue p before number (Ok (line.Step s)) told after =
-    (text : List ℕ) × IsDue (step_outcome p before s) text after × Tells number (found_in (step_outcome p before s).0) text told
+    (text : List ℕ) × IsDue (step_outcome p before s) text after × IsFindingOf number (found_in (step_outcome p before s).0) text told
 FindsDue p before number (Ok Show) told after = (told ≡ None) × (after ≡ before)
-FindsDue p before number (Err f) told after = Tells number (Some (found.Fault f)) (fault_text f) told × (after ≡ before)
+FindsDue p before number (Err f) told after = IsFindingOf number (Some (found.Fault f)) (fault_text f) told × (after ≡ before)
 
 abbrev pub FindsFilled : Setting → Standing → ℕ → List ℕ → Option Finding → Standing → Type 0
 FindsFilled p before number bytes told after =

@@ -1,7 +1,7 @@
 //! Plays a script on a session of its own, and finds the lines that it answers by a fault or a refusal: `find`,
 //! `Finding`.
 //!
-//! Its contracts tell: exactly these lines, in order, each with its number and answer.
+//! Its contracts say: exactly these lines, in order, each with its number and answer.
 //!
 //! In the order of reading: `fault`, `finding`, `lines`, `playing`, `checking`.
 #![tactic(auto)]

@@ -2,8 +2,8 @@
 
 ghost use Rattle.std.specs.Prelude.{◌≡◌, ◌≢◌, IfOk};
 ghost use Rattle.pcef_line.specs.declared.fault.LineFault.TheVariants.{NoMemory};
-ghost use Rattle.pcef_world.specs.Steps.{TellsKept, reply_of};
-ghost use Rattle.pcef_findings.specs.private.Playing.{IsOfFault, PlaysBytes, PlaysLine, PlaysStep, TellsAnswer};
+ghost use Rattle.pcef_world.specs.Steps.{NamesKept, reply_of};
+ghost use Rattle.pcef_findings.specs.private.Playing.{IsOfFault, PlaysBytes, PlaysLine, PlaysStep, FindsAnswer};
 
 use crate::finding::{Finding, Found, found_in};
 use crate::lines::{is_blank, line_of};
@@ -42,8 +42,8 @@ fn answer_found(
     number: u64,
     answer: &StepAnswer,
 ) -> Result<Option<Finding>, AllocError>
-    requires { TellsKept world.now.session.forgotten (reply_of answer.now) }
-    ensures { IfOk result (TellsAnswer world.now number answer.now) }
+    requires { NamesKept world.now.session.forgotten (reply_of answer.now) }
+    ensures { IfOk result (FindsAnswer world.now number answer.now) }
 {
     let Some(found) = found_in(answer) else {
         return Ok(None);

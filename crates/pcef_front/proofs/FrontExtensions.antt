@@ -13,11 +13,11 @@ use Rattle.pcef_packet.specs.Carrying.{carried_in, past}
 use Rattle.pcef_packet.specs.ExtensionHeaders.{extension_len, is_extension, is_fragment, is_later, next_of}
 use Rattle.pcef_packet.specs.HeaderOf.{carries_ports, number, ports_in}
 use Rattle.pcef_packet.proofs.CarryingLaws.{least_len, step_cut, step_end, step_later, step_on}
-use Rattle.pcef_front.specs.Fronts.{IsOpen, IsSure, IsToldBy, MayFollow}
+use Rattle.pcef_front.specs.Fronts.{IsOpen, IsSure, IsSettledBy, MayFollow}
 use Rattle.pcef_front.specs.declared.extensions.Transport.{Transport}
 use Rattle.pcef_front.specs.declared.fault.FrontFault.{FrontFault}
 use Rattle.pcef_front.specs.declared.fault.FrontFault.TheVariants.{TooFew}
-use Rattle.pcef_front.specs.private.Transports.{Passes, TellsLater, has_ports, ports_at, ports_read, transport, transport_carried, transport_in}
+use Rattle.pcef_front.specs.private.Transports.{Passes, ShowsLater, has_ports, ports_at, ports_read, transport, transport_carried, transport_in}
 use Rattle.pcef_front.proofs.FrontNumbers.{index_front, number_front}
 use Rattle.pcef_front.proofs.FrontPorts.{few_ports, no_carrier, no_protocol, with_ports, without_ports}
 use Rattle.pcef_front.proofs.Told.{IsOctet, Keeps, blank, blank_len, made, on_front, on_ok, same_read, shorter, windowed, zeros}
@@ -45,11 +45,11 @@ on_ok_same (Ok x) = refl
 on_ok_same (Err e) = refl
 
 pub pass_on : (kind next len room : ℕ) (left : List ℕ) → length left ≤ room → is_extension kind ≡ true → Passes kind left room next len
-    → (r : Result Transport FrontFault) → IsToldBy (transport_in next) (drop len left) (room - len) r → IsToldBy (transport_in kind) left room r
+    → (r : Result Transport FrontFault) → IsSettledBy (transport_in next) (drop len left) (room - len) r → IsSettledBy (transport_in kind) left room r
 pass_on kind next len room left within extends passes r told =
     let cut = length-drop len left in
     let all : slice_range left len room ≡ drop len left = take_all (room - len) (drop len left) (omega arith) in
-    let part = windowed (transport_in next) left room len room within passes.1 (omega arith) r (subst (λ l. IsToldBy (transport_in next) l (room - len) r) (sym all) told) in
+    let part = windowed (transport_in next) left room len room within passes.1 (omega arith) r (subst (λ l. IsSettledBy (transport_in next) l (room - len) r) (sym all) told) in
     same_read (λ octets. transport_in next (slice_range octets len room)) (transport_in kind) left room is r part
   where
     is : (rest : List ℕ) → MayFollow left room rest → transport_in kind (left ++ rest) ≡ transport_in next (slice_range (left ++ rest) len room)
@@ -65,7 +65,7 @@ transport_kept : (proto : ℕ) → Keeps (transport proto)
 transport_kept proto a b same = ap (λ (t : Transport). t.ports) same
 
 pub payload_read : (kind room : ℕ) (left : List ℕ) → is_extension kind ≡ false
-    → (r : Result (Option Ports) FrontFault) → IsToldBy (ports_read kind) left room r → IsToldBy (transport_in kind) left room (on_front (transport kind) r)
+    → (r : Result (Option Ports) FrontFault) → IsSettledBy (ports_read kind) left room r → IsSettledBy (transport_in kind) left room (on_front (transport kind) r)
 payload_read kind room left ends r told =
     made (ports_read kind) (transport_in kind) (transport kind) left room (transport_kept kind) (λ rest follows. read_end kind (left ++ rest) ends) r told
 
@@ -242,11 +242,11 @@ later_front : (left rest : List ℕ) → 4 ≤ length left → is_later 44 (left
 unfolding is_later
 later_front left rest four = ap (λ n. not ((n / 8) == 0)) (number_front left rest 2 2 (omega arith))
 
-pub later_at_hand : (left : List ℕ) → 4 ≤ length left → TellsLater left (Some (not ((number left 2 2 / 8) == 0)))
+pub later_at_hand : (left : List ℕ) → 4 ≤ length left → ShowsLater left (Some (not ((number left 2 2 / 8) == 0)))
 later_at_hand left four = λ rest. later_front left rest four
 
 -- the third octet is the upper one of the offset's two
-pub later_by_third : (left : List ℕ) → length left ≡ 3 → 0 < slice_index left 2 → TellsLater left (Some true)
+pub later_by_third : (left : List ℕ) → length left ≡ 3 → 0 < slice_index left 2 → ShowsLater left (Some true)
 unfolding is_later
 later_by_third [] three some = absurd (omega arith)
 later_by_third (x ∷ []) three some = absurd (omega arith)
@@ -263,14 +263,14 @@ fragment_past octets long =
     let test : nat_lt (length octets) 8 ≡ false = grind (arith, nat_tests) in
     rw test refl
 
-pub later_portless : (left : List ℕ) (room : ℕ) → 0 < length left → 8 ≤ room → TellsLater left (Some true) → IsSure (transport_in 44) left room (Ok (transport (slice_index left 0) None))
+pub later_portless : (left : List ℕ) (room : ℕ) → 0 < length left → 8 ≤ room → ShowsLater left (Some true) → IsSure (transport_in 44) left room (Ok (transport (slice_index left 0) None))
 later_portless left room some fits later = λ rest follows.
     let long = follows.long in
     let sum = length-append left rest in
     read_later 44 (slice_index left 0) (left ++ rest) (drop 8 (left ++ rest)) refl
     (fragment_past (left ++ rest) (omega arith) ∙ rw (index_front left rest 0 (omega arith), later rest) refl)
 
-pub first_passed : (left : List ℕ) (room : ℕ) → 0 < length left → 8 ≤ room → TellsLater left (Some false) → Passes 44 left room (slice_index left 0) 8
+pub first_passed : (left : List ℕ) (room : ℕ) → 0 < length left → 8 ≤ room → ShowsLater left (Some false) → Passes 44 left room (slice_index left 0) 8
 first_passed left room some fits first = (omega arith, fits, passed)
   where
     passed : (rest : List ℕ) → MayFollow left room rest → past 44 (left ++ rest) ≡ Some (slice_index left 0, drop 8 (left ++ rest), false)
@@ -362,10 +362,10 @@ fewer (x ∷ y ∷ []) room some few third is = shorter (transport_in 44) (x ∷
 fewer (x ∷ y ∷ z ∷ []) room some few third is = subst (λ w. IsOpen (transport_in 44) (x ∷ y ∷ w ∷ []) room) (sym third) (is x y refl)
 fewer (x ∷ y ∷ z ∷ w ∷ more) room some few third is = absurd (omega arith)
 
-pub either_header : (left : List ℕ) (room : ℕ) → 0 < length left → 8 ≤ room → TellsLater left None → is_extension (slice_index left 0) ≡ true → IsOpen (transport_in 44) left room
+pub either_header : (left : List ℕ) (room : ℕ) → 0 < length left → 8 ≤ room → ShowsLater left None → is_extension (slice_index left 0) ≡ true → IsOpen (transport_in 44) left room
 either_header left room some fits tells extends =
     fewer left room some tells.0 tells.1 (λ x y is. header_apart x y room (ap is_extension is ∙ extends) fits)
 
-pub either_ports : (left : List ℕ) (room : ℕ) → 0 < length left → 8 ≤ room → TellsLater left None → is_extension (slice_index left 0) ≡ false → has_ports (slice_index left 0) (room - 8) ≡ true → IsOpen (transport_in 44) left room
+pub either_ports : (left : List ℕ) (room : ℕ) → 0 < length left → 8 ≤ room → ShowsLater left None → is_extension (slice_index left 0) ≡ false → has_ports (slice_index left 0) (room - 8) ≡ true → IsOpen (transport_in 44) left room
 either_ports left room some fits tells ends has =
     fewer left room some tells.0 tells.1 (λ x y is. ports_apart x y room (ap is_extension is ∙ ends) (ap (λ p. has_ports p (room - 8)) is ∙ has) fits)

@@ -10,7 +10,7 @@ use Rattle.pcef_packet.specs.declared.header.Header.{Header}
 use Rattle.pcef_packet.specs.declared.header.PacketFault.{PacketFault}
 use Rattle.pcef_packet.specs.declared.header.PacketFault.TheVariants as fault
 use Rattle.pcef_packet.specs.HeaderOf.{header_len_v4, header_of, reading_v6, version}
-use Rattle.pcef_front.specs.Fronts.{IsOpen, IsSure, IsToldBy, MayFollow, as_front}
+use Rattle.pcef_front.specs.Fronts.{IsOpen, IsSure, IsSettledBy, MayFollow, as_front}
 use Rattle.pcef_front.specs.declared.fault.FrontFault.{FrontFault}
 use Rattle.pcef_front.specs.private.Transports.{reading_v4}
 use Rattle.pcef_front.proofs.FrontNumbers.{index_front}
@@ -26,7 +26,7 @@ whole_read read front whole r long is = λ rest follows.
     let all = follows.long in
     ap read (ap (λ l. front ++ l) (none_left rest (omega arith)) ∙ append-nil front) ∙ is
 
-pub whole_told : {A : Type 0} (read : List ℕ → Result A PacketFault) (front : List ℕ) (whole : ℕ) → length front ≡ whole → (r : Result A PacketFault) → read front ≡ r → IsToldBy read front whole (as_front r)
+pub whole_told : {A : Type 0} (read : List ℕ → Result A PacketFault) (front : List ℕ) (whole : ℕ) → length front ≡ whole → (r : Result A PacketFault) → read front ≡ r → IsSettledBy read front whole (as_front r)
 whole_told read front whole long (Ok a) is = whole_read read front whole (Ok a) long is
 whole_told read front whole long (Err e) is = whole_read read front whole (Err e) long is
 
@@ -37,11 +37,11 @@ version_front front rest some = ap (λ o. o / 16) (index_front front rest 0 some
 pub not_empty : (front rest : List ℕ) → 0 < length front → (length (front ++ rest) == 0) ≡ false
 not_empty front rest some = let sum = length-append front rest in grind (arith, nat_tests)
 
-pub v4_told : (dir : Dir) (front : List ℕ) (whole : ℕ) → 0 < length front → version front ≡ 4 → (r : Result Header FrontFault) → IsToldBy (reading_v4 dir) front whole r → IsToldBy (header_of dir) front whole r
+pub v4_told : (dir : Dir) (front : List ℕ) (whole : ℕ) → 0 < length front → version front ≡ 4 → (r : Result Header FrontFault) → IsSettledBy (reading_v4 dir) front whole r → IsSettledBy (header_of dir) front whole r
 v4_told dir front whole some four r told =
     same_read (reading_v4 dir) (header_of dir) front whole (λ rest follows. rw (not_empty front rest some, version_front front rest some, four) refl) r told
 
-pub v6_told : (dir : Dir) (front : List ℕ) (whole : ℕ) → 0 < length front → version front ≡ 6 → (r : Result Header FrontFault) → IsToldBy (reading_v6 dir) front whole r → IsToldBy (header_of dir) front whole r
+pub v6_told : (dir : Dir) (front : List ℕ) (whole : ℕ) → 0 < length front → version front ≡ 6 → (r : Result Header FrontFault) → IsSettledBy (reading_v6 dir) front whole r → IsSettledBy (header_of dir) front whole r
 v6_told dir front whole some six r told =
     same_read (reading_v6 dir) (header_of dir) front whole (λ rest follows. rw (not_empty front rest some, version_front front rest some, six) refl) r told
 

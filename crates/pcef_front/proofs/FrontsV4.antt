@@ -14,7 +14,7 @@ use Rattle.pcef_packet.specs.declared.header.PacketFault.{PacketFault}
 use Rattle.pcef_packet.specs.declared.header.PacketFault.TheVariants as fault
 use Rattle.pcef_packet.specs.declared.header.Ports.{Ports}
 use Rattle.pcef_packet.specs.HeaderOf.{fragment_offset_v4, header_len_v4, header_v4, number, payload_v4, ports_in, total_len_v4}
-use Rattle.pcef_front.specs.Fronts.{IsOpen, IsSure, IsToldBy, MayFollow}
+use Rattle.pcef_front.specs.Fronts.{IsOpen, IsSure, IsSettledBy, MayFollow}
 use Rattle.pcef_front.specs.declared.fault.FrontFault.{FrontFault}
 use Rattle.pcef_front.specs.private.Transports.{header_with_v4, ports_read, ports_v4, reading_v4}
 use Rattle.pcef_front.proofs.FrontNumbers.{index_front, last_apart, number_front}
@@ -216,7 +216,7 @@ total_beyond dir (a ∷ b ∷ c ∷ d ∷ more) whole three least within beyond 
 -- the ports behind it
 pub ports_told : (front : List ℕ) (whole : ℕ) → 20 ≤ length front → length front ≤ whole → header_len_v4 front ≤ total_len_v4 front → total_len_v4 front ≤ whole → (fragment_offset_v4 front == 0) ≡ true
     → (r : Result (Option Ports) FrontFault)
-    → IsToldBy (ports_read (slice_index front 9)) (slice_range front (header_len_v4 front) (total_len_v4 front)) (total_len_v4 front - header_len_v4 front) r → IsToldBy ports_v4 front whole r
+    → IsSettledBy (ports_read (slice_index front 9)) (slice_range front (header_len_v4 front) (total_len_v4 front)) (total_len_v4 front - header_len_v4 front) r → IsSettledBy ports_v4 front whole r
 ports_told front whole long short order within first r told =
     same_read (λ octets. ports_read (slice_index front 9) (slice_range octets (header_len_v4 front) (total_len_v4 front))) ports_v4 front whole
     (λ rest follows. rw (
@@ -246,7 +246,7 @@ header_front dir front rest long =
     ) refl
 
 pub header_told : (dir : Dir) (front : List ℕ) (whole : ℕ) → 20 ≤ length front → 20 ≤ header_len_v4 front → header_len_v4 front ≤ total_len_v4 front → total_len_v4 front ≤ whole
-    → (r : Result (Option Ports) FrontFault) → IsToldBy ports_v4 front whole r → IsToldBy (reading_v4 dir) front whole (on_front (header_with_v4 dir front) r)
+    → (r : Result (Option Ports) FrontFault) → IsSettledBy ports_v4 front whole r → IsSettledBy (reading_v4 dir) front whole (on_front (header_with_v4 dir front) r)
 header_told dir front whole long least order within r told =
     made ports_v4 (reading_v4 dir) (header_with_v4 dir front) front whole (λ a b same. ap (λ (h : Header). h.ports) same) is r told
   where

@@ -13,7 +13,7 @@ use Rattle.pcef_packet.specs.declared.header.PacketFault.TheVariants as fault
 use Rattle.pcef_packet.specs.Carrying.{carried_in}
 use Rattle.pcef_packet.specs.ExtensionHeaders.{Carried}
 use Rattle.pcef_packet.specs.HeaderOf.{behind_fixed, first_kind, header_carrying, header_v6, number, ports_in, reading_v6, volume_v6}
-use Rattle.pcef_front.specs.Fronts.{IsOpen, IsSure, IsToldBy, MayFollow}
+use Rattle.pcef_front.specs.Fronts.{IsOpen, IsSure, IsSettledBy, MayFollow}
 use Rattle.pcef_front.specs.declared.extensions.Transport.{Transport}
 use Rattle.pcef_front.specs.declared.fault.FrontFault.{FrontFault}
 use Rattle.pcef_front.specs.declared.fault.FrontFault.TheVariants.{TooFew, Packet}
@@ -79,8 +79,8 @@ header_front dir front rest long (Some c) =
     ) refl
 
 pub header_told : (dir : Dir) (front : List ℕ) (whole : ℕ) → 40 ≤ length front → length front ≤ whole → volume_v6 front ≤ whole
-    → (r : Result Transport FrontFault) → IsToldBy (transport_in (slice_index front 6)) (slice_range front 40 (volume_v6 front)) (volume_v6 front - 40) r
-    → IsToldBy (reading_v6 dir) front whole (on_front (header_with_v6 dir front) r)
+    → (r : Result Transport FrontFault) → IsSettledBy (transport_in (slice_index front 6)) (slice_range front 40 (volume_v6 front)) (volume_v6 front - 40) r
+    → IsSettledBy (reading_v6 dir) front whole (on_front (header_with_v6 dir front) r)
 unfolding transport_in
 header_told dir front whole long short within r told =
     made (λ octets. transport_in (slice_index front 6) (slice_range octets 40 (volume_v6 front))) (reading_v6 dir) (header_with_v6 dir front) front whole
@@ -259,7 +259,7 @@ one_whole kind one other differ (Err e) (Err g) is also octets more =
     absurd (differ (is ∙ ap Err (sym (one_fault (carried_in kind one) e is) ∙ one_fault (carried_in kind other) g also) ∙ sym also))
 
 pub addresses_told : (dir : Dir) (front : List ℕ) (whole : ℕ) → 7 ≤ length front → length front < 40 → volume_v6 front ≤ whole
-    → (r : Result Transport FrontFault) → IsToldBy (transport_in (slice_index front 6)) [] (volume_v6 front - 40) r → IsToldBy (reading_v6 dir) front whole (Err (only_fault r))
+    → (r : Result Transport FrontFault) → IsSettledBy (transport_in (slice_index front 6)) [] (volume_v6 front - 40) r → IsSettledBy (reading_v6 dir) front whole (Err (only_fault r))
 addresses_told dir front whole seven short within (Ok t) told =
     let rest = blank_len (volume_v6 front - 40) in
     let least = least_volume front in

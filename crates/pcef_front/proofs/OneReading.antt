@@ -3,7 +3,7 @@ use Rattle.std.proofs.Common.{ℕ, ◌≡◌, ◌-◌, ◌≤◌, ◌∙◌, Lis
 use Rattle.std.proofs.lemmas.List.{length-take}
 use Rattle.pcef_packet.specs.declared.header.PacketFault.{PacketFault}
 use Rattle.pcef_packet.specs.HeaderOf.{header_of}
-use Rattle.pcef_front.specs.Fronts.{IsOpen, IsSure, IsToldBy, MayFollow}
+use Rattle.pcef_front.specs.Fronts.{IsOpen, IsSure, IsSettledBy, MayFollow}
 use Rattle.pcef_front.specs.Laws.{OneAnswer}
 use Rattle.pcef_front.specs.declared.fault.FrontFault.{FrontFault}
 use Rattle.pcef_front.specs.declared.fault.FrontFault.TheVariants.{TooFew, Packet}
@@ -20,7 +20,7 @@ both read front whole a b within one other =
     let follows : MayFollow front whole (blank (whole - length front)) = record { octets = zeros (whole - length front); long = omega arith } in
     sym (one (blank (whole - length front)) follows) ∙ other (blank (whole - length front)) follows
 
-told_once : {A : Type 0} (read : List ℕ → Result A PacketFault) (front : List ℕ) (whole : ℕ) → length front ≤ whole → (r s : Result A FrontFault) → IsToldBy read front whole r → IsToldBy read front whole s → r ≡ s
+told_once : {A : Type 0} (read : List ℕ → Result A PacketFault) (front : List ℕ) (whole : ℕ) → length front ≤ whole → (r s : Result A FrontFault) → IsSettledBy read front whole r → IsSettledBy read front whole s → r ≡ s
 told_once read front whole within (Ok a) (Ok b) one other = let same = both read front whole (Ok a) (Ok b) within one other in ap Ok (cc)
 told_once read front whole within (Ok a) (Err (Packet f)) one other = absurd (let same = both read front whole (Ok a) (Err f) within one other in cc)
 told_once read front whole within (Ok a) (Err TooFew) one other = absurd (closed read front whole (Ok a) one other)

@@ -5,7 +5,7 @@ use Rattle.std.proofs.lemmas.List.{length-append, length-drop, length-replicate,
 use Rattle.std.proofs.lemmas.List.Elements.{All-append, All-drop, All-replicate, All-take}
 use Rattle.std.proofs.Math.Seq.{drop-append_seam, take-append_seam}
 use Rattle.pcef_packet.specs.declared.header.PacketFault.{PacketFault}
-use Rattle.pcef_front.specs.Fronts.{IsOpen, IsToldBy, MayFollow}
+use Rattle.pcef_front.specs.Fronts.{IsOpen, IsSettledBy, MayFollow}
 use Rattle.pcef_front.specs.declared.fault.FrontFault.{FrontFault}
 use Rattle.pcef_front.specs.declared.fault.FrontFault.TheVariants.{TooFew, Packet}
 
@@ -75,7 +75,7 @@ apart f keeps (Err e) (Err g) same = cc
 
 pub made : {X Y : Type 0} (inner : List ℕ → Result X PacketFault) (outer : List ℕ → Result Y PacketFault) (f : X → Y) (front : List ℕ) (whole : ℕ)
     → Keeps f → ((rest : List ℕ) → MayFollow front whole rest → outer (front ++ rest) ≡ on_ok f (inner (front ++ rest)))
-    → (r : Result X FrontFault) → IsToldBy inner front whole r → IsToldBy outer front whole (on_front f r)
+    → (r : Result X FrontFault) → IsSettledBy inner front whole r → IsSettledBy outer front whole (on_front f r)
 made inner outer f front whole keeps is (Ok x) told = λ rest follows. is rest follows ∙ ap (on_ok f) (told rest follows)
 made inner outer f front whole keeps is (Err (Packet e)) told = λ rest follows. is rest follows ∙ ap (on_ok f) (told rest follows)
 made inner outer f front whole keeps is (Err TooFew) told = (
@@ -89,7 +89,7 @@ made inner outer f front whole keeps is (Err TooFew) told = (
 -- two readers that read the same
 pub same_read : {X : Type 0} (inner outer : List ℕ → Result X PacketFault) (front : List ℕ) (whole : ℕ)
     → ((rest : List ℕ) → MayFollow front whole rest → outer (front ++ rest) ≡ inner (front ++ rest))
-    → (r : Result X FrontFault) → IsToldBy inner front whole r → IsToldBy outer front whole r
+    → (r : Result X FrontFault) → IsSettledBy inner front whole r → IsSettledBy outer front whole r
 same_read inner outer front whole is (Ok x) told = λ rest follows. is rest follows ∙ told rest follows
 same_read inner outer front whole is (Err (Packet e)) told = λ rest follows. is rest follows ∙ told rest follows
 same_read inner outer front whole is (Err TooFew) told = (
@@ -168,7 +168,7 @@ around_follows front one whole lo hi short order within f =
         }
 
 pub windowed : {X : Type 0} (read : List ℕ → Result X PacketFault) (front : List ℕ) (whole lo hi : ℕ) → length front ≤ whole → lo ≤ hi → hi ≤ whole
-    → (r : Result X FrontFault) → IsToldBy read (slice_range front lo hi) (hi - lo) r → IsToldBy (λ octets. read (slice_range octets lo hi)) front whole r
+    → (r : Result X FrontFault) → IsSettledBy read (slice_range front lo hi) (hi - lo) r → IsSettledBy (λ octets. read (slice_range octets lo hi)) front whole r
 windowed read front whole lo hi short order within (Ok x) told =
     λ rest f. ap read (part front rest lo hi order) ∙ told _ (part_follows front rest whole lo hi order within f)
 windowed read front whole lo hi short order within (Err (Packet e)) told =

@@ -21,10 +21,10 @@ IsOpen read front whole =
 
 -- what a reader of whole packets says of all packets of so many octets that begin with these: that which it reads
 -- of each of them, or that it reads two of them differently
-abbrev pub IsToldBy : {A : Type 0} → (List ℕ → Result A PacketFault) → List ℕ → ℕ → Result A FrontFault → Type 0
-IsToldBy read front whole (Ok a) = IsSure read front whole (Ok a)
-IsToldBy read front whole (Err (Packet fault)) = IsSure read front whole (Err fault)
-IsToldBy read front whole (Err TooFew) = IsOpen read front whole
+abbrev pub IsSettledBy : {A : Type 0} → (List ℕ → Result A PacketFault) → List ℕ → ℕ → Result A FrontFault → Type 0
+IsSettledBy read front whole (Ok a) = IsSure read front whole (Ok a)
+IsSettledBy read front whole (Err (Packet fault)) = IsSure read front whole (Err fault)
+IsSettledBy read front whole (Err TooFew) = IsOpen read front whole
 
 -- what is read of a whole packet, as it is told of a front
 abbrev pub as_front : {A : Type 0} → Result A PacketFault → Result A FrontFault

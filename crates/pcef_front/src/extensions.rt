@@ -3,8 +3,8 @@
 ghost use Rattle.std.specs.Prelude.{◌≡◌, ◌<◌, ◌≤◌, ◌∷◌, [], ℕ, false, length, slice_index, true};
 ghost use Rattle.pcef_packet.specs.ExtensionHeaders.{is_extension, is_fragment};
 ghost use Rattle.pcef_packet.specs.HeaderOf.{number};
-ghost use Rattle.pcef_front.specs.Fronts.{IsToldBy};
-ghost use Rattle.pcef_front.specs.private.Transports.{LeadsTo, TellsLater, transport_in};
+ghost use Rattle.pcef_front.specs.Fronts.{IsSettledBy};
+ghost use Rattle.pcef_front.specs.private.Transports.{LeadsTo, ShowsLater, transport_in};
 
 use crate::cutting::behind;
 use crate::fault::FrontFault;
@@ -60,7 +60,7 @@ fn offset_of(left: &[u8]) -> u16
 /// Whether the fragment header that begins with these octets is that of a fragment other than the first. None where
 /// its octets beyond them decide.
 fn is_later(left: &[u8]) -> Option<bool>
-    ensures { TellsLater left.now result }
+    ensures { ShowsLater left.now result }
 {
     if 4 <= left.len() {
         Some(offset_of(left) / 8 != 0)
@@ -148,7 +148,7 @@ fn past(kind: u8, left: &[u8], room: usize) -> Result<Beyond, FrontFault>
 /// What is carried in so many octets, of which these are at hand, and the first header has this kind.
 pub(crate) fn transport_of(first: u8, front: &[u8], room: usize) -> Result<Transport, FrontFault>
     requires within { length front.now ≤ room }
-    ensures { IsToldBy (transport_in first) front.now room result }
+    ensures { IsSettledBy (transport_in first) front.now room result }
 {
     let mut kind = first;
     let mut left = front;

@@ -3,7 +3,7 @@
 ghost use Rattle.std.specs.Prelude.{◌≡◌, ◌<◌, ◌≤◌, Err, ℕ, length};
 ghost use Rattle.pcef_packet.specs.declared.header.Dir.{Dir};
 ghost use Rattle.pcef_packet.specs.HeaderOf.{fragment_offset_v4, header_len_v4, total_len_v4};
-ghost use Rattle.pcef_front.specs.Fronts.{IsToldBy};
+ghost use Rattle.pcef_front.specs.Fronts.{IsSettledBy};
 ghost use Rattle.pcef_front.specs.private.Transports.{header_with_v4, ports_v4, reading_v4};
 
 use crate::cutting::{behind, first};
@@ -52,7 +52,7 @@ fn without_total_len(front: &[u8], whole: usize) -> FrontFault
     requires few { length front.now < 4 }
     requires least { 20 ≤ header_len_v4 front.now }
     requires most { header_len_v4 front.now ≤ whole }
-    ensures { (dir : Dir) → IsToldBy (reading_v4 dir) front.now whole (Err result) }
+    ensures { (dir : Dir) → IsSettledBy (reading_v4 dir) front.now whole (Err result) }
 {
     if front.len() == 3 && whole < 256 * usize::from(front[2]) {
         FrontFault::Packet(PacketFault::BadTotalLength)
@@ -72,7 +72,7 @@ fn ports_behind(
     requires total { total_len ≡ total_len_v4 front.now }
     requires within { header_len ≤ total_len }
     ensures { (whole : ℕ) → length front.now ≤ whole → total_len ≤ whole
-        → IsToldBy ports_v4 front.now whole result }
+        → IsSettledBy ports_v4 front.now whole result }
 {
     if fragment_offset_of(front) == 0 {
         let payload = first(behind(front, header_len), total_len - header_len);
@@ -103,7 +103,7 @@ fn header_with(dir: Dir, front: &[u8], ports: Option<Ports>) -> Header
 pub(crate) fn read_v4(dir: Dir, front: &[u8], whole: usize) -> Result<Header, FrontFault>
     requires some { 0 < length front.now }
     requires fewer { length front.now < whole }
-    ensures { IsToldBy (reading_v4 dir) front.now whole result }
+    ensures { IsSettledBy (reading_v4 dir) front.now whole result }
 {
     if whole < LEAST_HEADER_LEN {
         return Err(FrontFault::Packet(PacketFault::ShortHeader));

@@ -3,7 +3,7 @@
 ghost use Rattle.std.specs.Prelude.{◌≡◌, ◌<◌, ◌≤◌, Err, length};
 ghost use Rattle.pcef_packet.specs.declared.header.Dir.{Dir};
 ghost use Rattle.pcef_packet.specs.HeaderOf.{reading_v6, volume_v6};
-ghost use Rattle.pcef_front.specs.Fronts.{IsToldBy};
+ghost use Rattle.pcef_front.specs.Fronts.{IsSettledBy};
 ghost use Rattle.pcef_front.specs.private.Transports.{header_with_v6};
 
 use crate::cutting::{behind, first};
@@ -34,7 +34,7 @@ fn without_volume(front: &[u8], whole: usize) -> FrontFault
     requires some { 0 < length front.now }
     requires few { length front.now < 6 }
     requires long { 40 ≤ whole }
-    ensures { (dir : Dir) → IsToldBy (reading_v6 dir) front.now whole (Err result) }
+    ensures { (dir : Dir) → IsSettledBy (reading_v6 dir) front.now whole (Err result) }
 {
     if front.len() == 5 && whole < FIXED_LEN + 256 * usize::from(front[4]) {
         FrontFault::Packet(PacketFault::BadTotalLength)
@@ -50,7 +50,7 @@ fn without_addresses(front: &[u8], whole: usize, volume: usize) -> FrontFault
     requires is_volume { volume ≡ volume_v6 front.now }
     requires least { 40 ≤ volume }
     requires within { volume ≤ whole }
-    ensures { (dir : Dir) → IsToldBy (reading_v6 dir) front.now whole (Err result) }
+    ensures { (dir : Dir) → IsSettledBy (reading_v6 dir) front.now whole (Err result) }
 {
     if front.len() == 6 {
         return FrontFault::TooFew;
@@ -82,7 +82,7 @@ fn header_with(dir: Dir, front: &[u8], carried: Transport) -> Header
 pub(crate) fn read_v6(dir: Dir, front: &[u8], whole: usize) -> Result<Header, FrontFault>
     requires some { 0 < length front.now }
     requires fewer { length front.now < whole }
-    ensures { IsToldBy (reading_v6 dir) front.now whole result }
+    ensures { IsSettledBy (reading_v6 dir) front.now whole result }
 {
     if whole < FIXED_LEN {
         return Err(FrontFault::Packet(PacketFault::ShortHeader));

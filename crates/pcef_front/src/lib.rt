@@ -1,6 +1,6 @@
 //! Reads the header of a packet of which only the first octets are at hand, and the length is told: `read_front`.
 //!
-//! Its contracts tell: what every packet that begins with these octets is read as, or that two such packets are read
+//! Its contracts say: what every packet that begins with these octets is read as, or that two such packets are read
 //! differently.
 //!
 //! In the order of reading: `fault`, `laws`, `cutting`, `ports`, `ipv4`, `extensions`, `ipv6`, `reading`.

@@ -2,7 +2,7 @@
 
 ghost use Rattle.std.specs.Prelude.{◌≡◌, ◌≤◌, length};
 ghost use Rattle.pcef_packet.specs.HeaderOf.{carries_ports};
-ghost use Rattle.pcef_front.specs.Fronts.{IsToldBy};
+ghost use Rattle.pcef_front.specs.Fronts.{IsSettledBy};
 ghost use Rattle.pcef_front.specs.private.Transports.{has_ports, ports_at, ports_read};
 
 use crate::fault::FrontFault;
@@ -39,7 +39,7 @@ fn ports_at(payload: &[u8]) -> Ports
 
 /// The ports at the front of a payload of so many octets, of which these are at hand, for a protocol that has them.
 pub(crate) fn ports_of(proto: u8, payload: &[u8], room: usize) -> Result<Option<Ports>, FrontFault>
-    ensures { IsToldBy (ports_read proto) payload.now room result }
+    ensures { IsSettledBy (ports_read proto) payload.now room result }
 {
     if !has_ports(proto, room) {
         return Ok(None);

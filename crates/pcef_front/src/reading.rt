@@ -3,7 +3,7 @@
 ghost use Rattle.std.specs.Prelude.{◌≡◌, ◌≢◌, ◌<◌, ◌≤◌, Err, drop, length, take};
 ghost use Rattle.pcef_packet.specs.ExtensionHeaders.{Carried, IsCarried};
 ghost use Rattle.pcef_packet.specs.HeaderOf.{first_kind, header_of, version};
-ghost use Rattle.pcef_front.specs.Fronts.{IsToldBy, as_front};
+ghost use Rattle.pcef_front.specs.Fronts.{IsSettledBy, as_front};
 ghost use Rattle.pcef_front.specs.declared.fault.FrontFault.TheVariants.{TooFew};
 
 use crate::cutting::first;
@@ -34,7 +34,7 @@ fn read_whole(dir: Dir, octets: &[u8]) -> Result<Header, FrontFault>
 /// `pcef_packet` answers for every such packet. `TooFew` where it answers differently for two of them. What `front` has
 /// beyond `whole` octets is ignored. Takes no memory.
 pub fn read_front(dir: Dir, front: &[u8], whole: usize) -> Result<Header, FrontFault>
-    ensures reading { IsToldBy (header_of dir) (take whole front.now) whole result }
+    ensures reading { IsSettledBy (header_of dir) (take whole front.now) whole result }
     // A packet that is whole at hand is read as such.
     ensures at_hand { whole ≤ length front.now → result ≡ as_front (header_of dir (take whole front.now)) }
     // 64 octets are enough of version 4; all headers and four octets behind them, of version 6.

@@ -21,13 +21,13 @@ number_of NoMemory = 8
 
 -- ---- for private clauses
 -- the fault that is told of what failed
-abbrev pub told_of : Failure → RunFault
-told_of failure.Shared = Shared
-told_of failure.Ring = Ring
-told_of failure.Attach = Attach
-told_of failure.Thread = Thread
-told_of failure.Gather = Gather
-told_of failure.NoMemory = NoMemory
+abbrev pub run_fault_of : Failure → RunFault
+run_fault_of failure.Shared = Shared
+run_fault_of failure.Ring = Ring
+run_fault_of failure.Attach = Attach
+run_fault_of failure.Thread = Thread
+run_fault_of failure.Gather = Gather
+run_fault_of failure.NoMemory = NoMemory
 
 -- a worker that wasn't attached: out of memory is told as such
 abbrev pub failure_of_attach : AttachFault → Failure

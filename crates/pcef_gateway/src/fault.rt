@@ -1,7 +1,7 @@
 //! Why a run of a session failed.
 
 ghost use Rattle.std.specs.Prelude.{◌≡◌};
-ghost use Rattle.pcef_gateway.specs.Faults.{number_of, told_of};
+ghost use Rattle.pcef_gateway.specs.Faults.{number_of, run_fault_of};
 
 use pcef_lock::SharedFault;
 use pcef_model::AttachFault;
@@ -85,7 +85,7 @@ pub(crate) enum Failure {
 impl Failure {
     /// The fault that is told of it.
     pub(crate) fn fault(self) -> RunFault
-        ensures { result ≡ told_of self }
+        ensures { result ≡ run_fault_of self }
     {
         match self {
             Failure::Shared => RunFault::Shared,

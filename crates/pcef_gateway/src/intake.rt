@@ -43,7 +43,7 @@ fn keep<T: Drop>(all: &mut Vec<T>, one: T) -> Result<(), Failure>
 }
 
 /// A worker, if it is of this number.
-fn numbered<C: Detects + Drop, N: Naming, G: Gate + Drop>(
+fn with_number<C: Detects + Drop, N: Naming, G: Gate + Drop>(
     worker: Worker<C, N, G>,
     number: u8,
 ) -> Result<Worker<C, N, G>, Failure>
@@ -57,7 +57,7 @@ fn numbered<C: Detects + Drop, N: Naming, G: Gate + Drop>(
 }
 
 /// Attaches the worker of this number, to which the gate is lent.
-fn attached<'g, C: Detects + Drop, N: Naming, W: Board<Slot<N>> + Drop, G: Gate, R: Wait>(
+fn attach_worker<'g, C: Detects + Drop, N: Naming, W: Board<Slot<N>> + Drop, G: Gate, R: Wait>(
     rt: &R,
     alloc: Global,
     shared: &Shared<C, N, W>,
@@ -67,13 +67,13 @@ fn attached<'g, C: Detects + Drop, N: Naming, W: Board<Slot<N>> + Drop, G: Gate,
     ensures { IfOk result (λ w. taken w ≡ []) }
 {
     match Worker::attach(rt, alloc, shared, Lent::new(gate)) {
-        Ok(worker) => numbered(worker, number),
+        Ok(worker) => with_number(worker, number),
         Err(fault) => Err(Failure::from(fault)),
     }
 }
 
 /// Attaches the worker of this number, to which the gate is lent, and starts it in a thread of the scope.
-fn started<
+fn start_worker<
     's,
     E,
     C: Detects + Drop + Send + Sync,
@@ -91,7 +91,7 @@ fn started<
 ) -> Result<Line<N>, Failure>
     ensures { IfOk result (λ line. line ≡ []) }
 {
-    match attached(rt, alloc, shared, gate, number) {
+    match attach_worker(rt, alloc, shared, gate, number) {
         Ok(worker) => Line::start(rt, scope, alloc, shared, worker),
         Err(failure) => Err(failure),
     }
@@ -119,7 +119,7 @@ fn start_next<
     ensures empty { All (λ line. line ≡ []) lines.old.items
         → OnOk result (All (λ line. line ≡ []) lines.new.items) }
 {
-    match started(rt, scope, alloc, shared, gate, number) {
+    match start_worker(rt, scope, alloc, shared, gate, number) {
         Ok(line) => keep(lines, line),
         Err(failure) => Err(failure),
     }
@@ -234,7 +234,7 @@ pub(crate) fn take_in<C: Offers + Drop, N: Naming + Send + Sync, W: Board<Slot<N
 }
 
 /// What a worker handed in, if it had memory and is of this number.
-fn closed<N: Naming + Send + Sync, R: Threads>(
+fn close_lines<N: Naming + Send + Sync, R: Threads>(
     rt: &R,
     line: Line<N>,
     worker: u8,
@@ -277,7 +277,7 @@ fn close_next<N: Naming + Send + Sync, R: Threads>(
         → OnOk result (HandInTheirs (sent ++ line ∷ [])
         handed.new.dropped handed.new.finished.items) }
 {
-    match closed(rt, line, worker) {
+    match close_lines(rt, line, worker) {
         Ok(closed) => add(handed, closed),
         Err(failure) => Err(failure),
     }

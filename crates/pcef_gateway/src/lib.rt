@@ -1,7 +1,7 @@
 //! A session over threads of its own: by `run_session` the calling thread leads packets through one ring to each
 //! worker, and gives the session's commands meanwhile.
 //!
-//! Its contracts tell: what a session's run comes to: which packets became rows, and what all adds up to.
+//! Its contracts say: what a session's run comes to: which packets became rows, and what all adds up to.
 //!
 //! In the order of reading: `arrivals`, `ended`, `fault`, `lent`, `serving`, `line`, `intake`, `run`.
 #![tactic(auto)]

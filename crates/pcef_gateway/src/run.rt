@@ -21,7 +21,7 @@ use crate::line::Line;
 use pcef_catalog::{Detects, Offers};
 use pcef_journaled::JournaledState;
 use pcef_lane::MAX_WORKERS;
-use pcef_lock::{Desk, Finished, Shared, Totals, opened};
+use pcef_lock::{Desk, Finished, Shared, Totals, open_history};
 use pcef_model::Command;
 use pcef_publish::{Board, Opened, Slot};
 use pcef_share::{Blanks, Naming};
@@ -93,7 +93,7 @@ fn run_known<C: Detects + Drop + Send + Sync, G: Gate + Sync, R: Threads + Wait 
     ensures { IfOk result (λ e.
         RunsTo session.session.setting session.session.journal arrivals.now commands.items workers e) }
 {
-    let Ok(opened) = opened(&session) else {
+    let Ok(opened) = open_history(&session) else {
         return Err(Failure::NoMemory);
     };
     run_named::<C, Brand, G, R>(
@@ -252,7 +252,7 @@ fn lead<C: Offers + Drop, N: Naming + Send + Sync, W: Board<Slot<N>> + Drop, R: 
 }
 
 /// Gathers what was handed in, and compared with the journal: session and workers of a run store their rows.
-fn gathered<C: Offers + Drop, N: Naming, W: Board<Slot<N>> + Drop, R: Wait>(
+fn gather_all<C: Offers + Drop, N: Naming, W: Board<Slot<N>> + Drop, R: Wait>(
     rt: &R,
     shared: Shared<C, N, W>,
     desk: Desk<N>,
@@ -296,7 +296,7 @@ fn end<C: Offers + Drop, N: Naming, W: Board<Slot<N>> + Drop, R: Wait>(
         handed,
     } = worked;
     let Handed { finished, dropped } = handed;
-    let totals = gathered(rt, shared, desk, finished)?;
+    let totals = gather_all(rt, shared, desk, finished)?;
     let Ok(reports) = all_reports(alloc, &totals.session) else {
         return Err(Failure::NoMemory);
     };

@@ -198,7 +198,7 @@ fn lacks_memory(refusal: FlushRefusal) -> bool {
 }
 
 /// What a worker leaves behind that has left. What comes still is dropped.
-fn gone<N: Naming, R: Wait>(
+fn drain_and_depart<N: Naming, R: Wait>(
     rt: &R,
     finished: Finished<N>,
     consumer: Consumer<Header>,
@@ -229,11 +229,11 @@ pub(crate) fn work<C: Detects + Drop, N: Naming, W: Board<Slot<N>> + Drop, G: Ga
     match serve(rt, shared, &mut worker, &mut consumer) {
         Ok(()) => {
             let (finished, lacked_memory) = leave(rt, shared, worker);
-            gone(rt, finished, consumer, lacked_memory)
+            drain_and_depart(rt, finished, consumer, lacked_memory)
         }
         Err(refusal) => {
             let finished = worker.abandon(rt, shared);
-            gone(rt, finished, consumer, lacks_memory(refusal))
+            drain_and_depart(rt, finished, consumer, lacks_memory(refusal))
         }
     }
 }

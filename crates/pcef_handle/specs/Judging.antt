@@ -4,7 +4,7 @@ use Rattle.std.specs.Option.{option_and_then}
 use Rattle.pcef_packet.specs.HeaderOf.{header_of}
 use Rattle.pcef_packet.specs.declared.header.Dir.{Dir}
 use Rattle.pcef_packet.specs.declared.header.Header.{Header}
-use Rattle.pcef_front.specs.Fronts.{IsToldBy}
+use Rattle.pcef_front.specs.Fronts.{IsSettledBy}
 use Rattle.pcef_front.specs.declared.fault.FrontFault.{FrontFault}
 use Rattle.pcef_front.specs.declared.fault.FrontFault.TheVariants as front
 use Rattle.pcef_catalog.specs.declared.listing.Offer.{Offer}
@@ -44,17 +44,17 @@ pub record IsJudged (s : SessionModel) (header : Header) (d : Judgement) : Type 
   pub placed : (t : TableValue) × ShowsNewest s t × IsPlaced s.setting.catalog t.entries d.verdict d.place
 
 -- the header that is told is judged, or why there is none
-abbrev pub JudgesTold : OpenSession → (Result Header FrontFault → Type 0) → Result Judgement JudgeRefusal → Type 0
-JudgesTold s Told (Ok d) = (header : Header) × Told (Ok header) × IsJudged s.world.session header d
-JudgesTold s Told (Err (NoPacket fault)) = Told (Err (front.Packet fault))
-JudgesTold s Told (Err TooFew) = Told (Err front.TooFew)
-JudgesTold s Told (Err NoSession) = ⊥
+abbrev pub JudgesRead : OpenSession → (Result Header FrontFault → Type 0) → Result Judgement JudgeRefusal → Type 0
+JudgesRead s Told (Ok d) = (header : Header) × Told (Ok header) × IsJudged s.world.session header d
+JudgesRead s Told (Err (NoPacket fault)) = Told (Err (front.Packet fault))
+JudgesRead s Told (Err TooFew) = Told (Err front.TooFew)
+JudgesRead s Told (Err NoSession) = ⊥
 
 abbrev pub JudgesIn : Option OpenSession → (Result Header FrontFault → Type 0) → Result Judgement JudgeRefusal → Type 0
 JudgesIn None Told result = result ≡ Err NoSession
-JudgesIn (Some s) Told result = JudgesTold s Told result
+JudgesIn (Some s) Told result = JudgesRead s Told result
 
 -- a packet of so many octets that begins with these is judged, where the handle has a session: as all such packets are
 -- read, unless two of them are read differently
 abbrev pub JudgesHandle : Handle → Dir → List ℕ → ℕ → Result Judgement JudgeRefusal → Type 0
-JudgesHandle h dir octets whole result = JudgesIn h.session (IsToldBy (header_of dir) (take whole octets) whole) result
+JudgesHandle h dir octets whole result = JudgesIn h.session (IsSettledBy (header_of dir) (take whole octets) whole) result

@@ -30,7 +30,7 @@ fn let_go(world: &WorldState) -> u64
 }
 
 /// Writes as much of an answer as fits, and gives how long it is: 0 where there is none.
-fn put(answer: &Option<Answer>, buffer: &mut [u8]) -> usize
+fn copy_answer(answer: &Option<Answer>, buffer: &mut [u8]) -> usize
     ensures { IsPut answer.now buffer.old buffer.new result }
 {
     match answer {
@@ -56,7 +56,7 @@ fn answer_into(
         &mut session.lines,
         line,
     ) {
-        Ok(answer) => Ok(put(&answer, buffer)),
+        Ok(answer) => Ok(copy_answer(&answer, buffer)),
         Err(_) => Err(CallRefusal::NoMemory),
     }
 }

@@ -78,7 +78,7 @@ fn session_of(alloc: Global, profile: Profile) -> Result<OpenSession, OpenRefusa
     }
 }
 
-fn opened(alloc: Global, text: &[u8]) -> Result<OpenSession, OpenRefusal>
+fn open_session(alloc: Global, text: &[u8]) -> Result<OpenSession, OpenRefusal>
     ensures { OpensText text.now result }
 {
     match profile_of(alloc, text) {
@@ -96,7 +96,7 @@ impl Handle {
         if self.session.is_some() {
             return Err(OpenRefusal::AlreadyOpen);
         }
-        match opened(self.alloc, text) {
+        match open_session(self.alloc, text) {
             Err(refusal) => Err(refusal),
             Ok(session) => {
                 self.session = Some(session);

@@ -5,17 +5,17 @@ use pcef_packet::Addr;
 use pcef_table::Source;
 
 /// A number mixed into others.
-fn mixed(others: u64, number: u64) -> u64 {
+fn mix(others: u64, number: u64) -> u64 {
     let product = (others ^ number).wrapping_mul(0x9e37_79b9_7f4a_7c15);
     product ^ (product >> 29)
 }
 
 fn with_addr(others: u64, addr: Addr) -> u64 {
     match addr {
-        Addr::V4(number) => mixed(others, u64::from(number)),
+        Addr::V4(number) => mix(others, u64::from(number)),
         Addr::V6(number) => {
             let low = (number & 0xffff_ffff_ffff_ffff) as u64;
-            mixed(mixed(others, (number >> 64) as u64), low)
+            mix(mix(others, (number >> 64) as u64), low)
         }
     }
 }
@@ -23,19 +23,19 @@ fn with_addr(others: u64, addr: Addr) -> u64 {
 /// The place, and the first ports.
 fn with_endpoint(others: u64, endpoint: &Endpoint) -> u64 {
     let others = match endpoint.place {
-        Place::Any => mixed(others, 1),
-        Place::Assigned => mixed(others, 2),
-        Place::Net(net) => mixed(with_addr(others, net.addr), u64::from(net.bits)),
+        Place::Any => mix(others, 1),
+        Place::Assigned => mix(others, 2),
+        Place::Net(net) => mix(with_addr(others, net.addr), u64::from(net.bits)),
     };
     match endpoint.ports.first() {
-        Some(range) => mixed(others, u64::from(range.first) << 16 | u64::from(range.last)),
+        Some(range) => mix(others, u64::from(range.first) << 16 | u64::from(range.last)),
         None => others,
     }
 }
 
 fn with_filter(others: u64, filter: &Filter) -> u64 {
     let others = match filter.proto {
-        Some(number) => mixed(others, u64::from(number)),
+        Some(number) => mix(others, u64::from(number)),
         None => others,
     };
     with_endpoint(with_endpoint(others, &filter.source), &filter.target)
@@ -53,9 +53,9 @@ fn with_source(others: u64, source: &Source) -> u64 {
     match source {
         Source::Dynamic(rule) => {
             let precedence = u64::from(rule.properties().precedence);
-            with_filters(mixed(others, precedence), rule.filters())
+            with_filters(mix(others, precedence), rule.filters())
         }
-        Source::Predefined(index) => mixed(others, u64::from(*index)),
+        Source::Predefined(index) => mix(others, u64::from(*index)),
     }
 }
 

@@ -1,7 +1,7 @@
 //! A compiled index of a table: `Index`, made for fast look-ups, and `Indexed`, a table with its index. Tables of equal
 //! rules share one by an `IndexShelf`.
 //!
-//! Its contracts tell: the same verdict and slots as the table's, by one look-up, and which entries may match a header;
+//! Its contracts say: the same verdict and slots as the table's, by one look-up, and which entries may match a header;
 //! that a shared index changes nothing.
 //!
 //! In the order of reading: `candidates`, `rule_filter`, `lines`, `steps`, `cells`, `choosing`, `header_cells`,

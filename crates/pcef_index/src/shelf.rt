@@ -70,7 +70,7 @@ fn owners(shelved: &Shelved) -> usize {
 }
 
 /// The place of the first index that has the fewest owners.
-fn least_owned(indexes: &[Shelved]) -> usize
+fn place_of_least_owned(indexes: &[Shelved]) -> usize
     requires { 0 < length indexes.now }
     ensures { result < length indexes.now }
 {
@@ -97,7 +97,7 @@ fn make_place(indexes: &mut Vec<Shelved>)
 {
     let_go(indexes);
     if indexes.len() >= MAX_SHELVED {
-        indexes.remove(least_owned(indexes));
+        indexes.remove(place_of_least_owned(indexes));
     }
 }
 

@@ -39,7 +39,7 @@ fn count_to(ports: &[u16], port: u16) -> u16
 }
 
 /// Where the first of these ports stands that isn't below a limit, from a place on.
-fn reached(ports: &[u16], from: usize, limit: u32) -> usize
+fn count_up_to(ports: &[u16], from: usize, limit: u32) -> usize
     requires { from ≤ length ports.now }
     ensures least { from ≤ result }
     ensures most { result ≤ length ports.now }
@@ -68,7 +68,7 @@ impl Steps {
         let mut starts = Vec::with_capacity(alloc, 257)?;
         let mut start = 0;
         for octet in 0..257u32 {
-            start = reached(&ports, start, octet * 256);
+            start = count_up_to(&ports, start, octet * 256);
             starts.push(start as u8)?;
         }
         Ok(Steps { starts, ports })

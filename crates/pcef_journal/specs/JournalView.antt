@@ -13,13 +13,13 @@ kept_of j =
     record {
       entries = j.history.items;
       forgotten = j.forgotten;
-      room = min (vec_capacity j.reports - vec_len j.reports) (min (left j.commands) (min (left j.rows) (left j.told)));
+      room = min (vec_capacity j.reports - vec_len j.reports) (min (left j.commands) (min (left j.rows) (left j.report_total)));
     }
 
 -- the counts are those of the entries, and the reports those behind the forgotten ones
 pub record CountsAgree (j : Inside) : Type 0 where
   pub commands_are : length (commands j.history.items) ≡ j.commands
   pub rows_are : length (rows j.history.items) ≡ j.rows
-  pub told_are : length (reports j.history.items) ≡ j.told
-  pub few_forgotten : j.forgotten ≤ j.told
+  pub report_total_is : length (reports j.history.items) ≡ j.report_total
+  pub few_forgotten : j.forgotten ≤ j.report_total
   pub reports_are : drop j.forgotten (reverse (reports j.history.items)) ≡ j.reports.items

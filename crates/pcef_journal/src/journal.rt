@@ -17,7 +17,7 @@ pub struct Journal {
     history: History<Entry>,
     commands: u64,
     rows: u64,
-    told: u64,
+    report_total: u64,
     forgotten: u64,
     reports: Vec<Report>,
 }
@@ -29,7 +29,7 @@ impl Drop for Journal {
             history: _,
             commands: _,
             rows: _,
-            told: _,
+            report_total: _,
             forgotten: _,
             reports: _,
         } = self;
@@ -59,7 +59,7 @@ impl Journal {
             history: History::new(),
             commands: 0,
             rows: 0,
-            told: 0,
+            report_total: 0,
             forgotten: 0,
             reports: Vec::new(alloc),
         }
@@ -74,7 +74,7 @@ impl Journal {
         ensures kept { self.old.room ≤ self.new.room }
         ensures enough { additional ≤ self.old.room → IsOk result }
     {
-        let most = self.commands.max(self.rows).max(self.told);
+        let most = self.commands.max(self.rows).max(self.report_total);
         if u64::MAX - most < additional as u64 {
             return Err(AllocError);
         }
@@ -100,7 +100,7 @@ impl Journal {
             Entry::Leave(_worker) => {}
             Entry::Row(_row) => self.rows += 1,
             Entry::Report(report) => {
-                self.told += 1;
+                self.report_total += 1;
                 self.reports.push_reserved(report);
             }
         }
@@ -124,7 +124,7 @@ impl Journal {
     pub fn reports_len(&self) -> u64
         ensures { result ≡ length (reports self.now.entries) }
     {
-        self.told
+        self.report_total
     }
 
     /// How many of the oldest reports are forgotten: no more than there are.
@@ -150,7 +150,7 @@ impl Journal {
         ensures forgotten { self.new.forgotten ≡ length (reports self.old.entries) }
         ensures room { self.old.room ≤ self.new.room }
     {
-        self.forgotten = self.told;
+        self.forgotten = self.report_total;
         self.reports.clear();
     }
 }

@@ -223,7 +223,7 @@ impl JournaledState {
             Ok(prepared) => prepared,
             Err(refusal) => return Err(refusal),
         };
-        let attached = self.state.attached();
+        let attached = self.state.attached_count();
         match JournaledCommand::new(&mut self.archive, prepared, attached) {
             Ok(command) => Ok(command),
             Err(_) => Err(Refusal::NoMemory),
@@ -250,7 +250,7 @@ impl JournaledState {
             Ok(prepared) => prepared,
             Err(refusal) => return Err(refusal),
         };
-        let attached = self.state.attached();
+        let attached = self.state.attached_count();
         match JournaledCommand::new(&mut self.archive, prepared, attached) {
             Ok(command) => Ok(command),
             Err(_) => Err(Refusal::NoMemory),

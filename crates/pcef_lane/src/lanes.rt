@@ -87,7 +87,7 @@ impl Lanes {
     }
 
     /// How many workers are attached.
-    pub fn attached(&self) -> usize
+    pub fn attached_count(&self) -> usize
         ensures number { result ≡ length (filter (λ end. end.attached) self.now) }
         ensures most { result ≤ 16 }
     {
@@ -99,7 +99,7 @@ impl Lanes {
     }
 
     /// A worker comes, with the next number.
-    pub fn come(&mut self)
+    pub fn add_lane(&mut self)
         requires { length self.old < 16 }
         ensures { self.new ≡ self.old ++ at_start ∷ [] }
     {

@@ -1,6 +1,6 @@
 //! Where each worker's lane ends, for all workers that ever came: `Lanes`.
 //!
-//! Its contracts tell: how many rows a worker has, of which generation the newest is, and whether the worker is
+//! Its contracts say: how many rows a worker has, of which generation the newest is, and whether the worker is
 //! attached.
 #![tactic(auto)]
 

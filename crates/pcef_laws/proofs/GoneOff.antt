@@ -19,22 +19,22 @@ use Rattle.pcef_model.specs.Reports.{after_command, inactive, keys_ended, notice
 use Rattle.pcef_model.specs.declared.entry.Entry.TheVariants as entry
 use Rattle.pcef_model.proofs.AfterEvents.{now_after}
 use Rattle.pcef_model.proofs.Sameness.{same_name_is, same_name_of}
-use Rattle.pcef_laws.specs.Reporting.{tells_of}
+use Rattle.pcef_laws.specs.Reporting.{is_usage_of}
 use Rattle.pcef_model.proofs.Ending.{among_kept}
 use Rattle.pcef_laws.proofs.Among.{any_back, any_front}
 
 -- ---- reports of keys
-told_of : (key : List ℕ) (cause : Cause) (keys : List (List ℕ)) → list_any (tells_of key) (map (λ k. Usage k cause) keys) ≡ is_among key keys
+told_of : (key : List ℕ) (cause : Cause) (keys : List (List ℕ)) → list_any (is_usage_of key) (map (λ k. Usage k cause) keys) ≡ is_among key keys
 told_of key cause [] = refl
 told_of key cause (k ∷ keys) = ap (λ b. same_name key k || b) (told_of key cause keys)
 
 -- what is told of keys that end, and what is told as requested, is told
-by_end : (p : Setting) (j : Journal) (c : Command) (key : List ℕ) → list_any (tells_of key) (keys_ended p j c) ≡ true → list_any (tells_of key) (plan p j c) ≡ true
-by_end p j c key told = any_back (tells_of key) (inactive (now p j) c) _ (any_front (tells_of key) (keys_ended p j c) _ told)
+by_end : (p : Setting) (j : Journal) (c : Command) (key : List ℕ) → list_any (is_usage_of key) (keys_ended p j c) ≡ true → list_any (is_usage_of key) (plan p j c) ≡ true
+by_end p j c key told = any_back (is_usage_of key) (inactive (now p j) c) _ (any_front (is_usage_of key) (keys_ended p j c) _ told)
 
-by_request : (p : Setting) (j : Journal) (c : Command) (key : List ℕ) → list_any (tells_of key) (requested c) ≡ true → list_any (tells_of key) (plan p j c) ≡ true
+by_request : (p : Setting) (j : Journal) (c : Command) (key : List ℕ) → list_any (is_usage_of key) (requested c) ≡ true → list_any (is_usage_of key) (plan p j c) ≡ true
 by_request p j c key told =
-    any_back (tells_of key) (inactive (now p j) c) _ (any_back (tells_of key) (keys_ended p j c) _ (any_front (tells_of key) (requested c) (noticed j c) told))
+    any_back (is_usage_of key) (inactive (now p j) c) _ (any_back (is_usage_of key) (keys_ended p j c) _ (any_front (is_usage_of key) (requested c) (noticed j c) told))
 
 -- ---- keys that go off with their last rule
 -- one that isn't on any more had a rule and has none
@@ -60,13 +60,13 @@ all_three a b c one two three = rw (one, two, three) refl
 
 ended : (p : Setting) (j : Journal) (c : Command) (key : List ℕ) → keys_ended p j c ≡ map (λ k. Usage k RulesGone) (filter (ends p j c) (slots p j)) →
     is_among key (slots p j) ≡ true → is_among key (switched c (now p j).on) ≡ true →
-    is_among key (still_on (now p j).rules (rules_after p (now p j) c) (switched c (now p j).on)) ≡ false → list_any (tells_of key) (plan p j c) ≡ true
+    is_among key (still_on (now p j).rules (rules_after p (now p j) c) (switched c (now p j).on)) ≡ false → list_any (is_usage_of key) (plan p j c) ≡ true
 ended p j c key all slot on off =
     let lost = lost_its_last (now p j).rules (rules_after p (now p j) c) (switched c (now p j).on) key on off in
     let among : is_among key (filter (ends p j c) (slots p j)) ≡ true =
     among_kept (ends p j c) key (slots p j) slot
     (all_three (is_among key (switched c (now p j).on)) (has_key key (now p j).rules) (has_key key (rules_after p (now p j) c)) on lost.0 lost.1) in
-    by_end p j c key (ap (list_any (tells_of key)) all ∙ told_of key RulesGone (filter (ends p j c) (slots p j)) ∙ among)
+    by_end p j c key (ap (list_any (is_usage_of key)) all ∙ told_of key RulesGone (filter (ends p j c) (slots p j)) ∙ among)
 
 -- ---- commands
 -- a key that is on stays on as another is added, and as another is stopped
@@ -82,7 +82,7 @@ not_stopped key other on was differs = among_kept (λ k. not (same_name other k)
 
 -- all keys that are on end with the session
 at_the_end : (p : Setting) (j : Journal) (key : List ℕ) → is_among key (slots p j) ≡ true → is_among key (now p j).on ≡ true →
-    list_any (tells_of key) (plan p j Terminate) ≡ true
+    list_any (is_usage_of key) (plan p j Terminate) ≡ true
 at_the_end p j key slot was =
     let wants : (is_among key (now p j).on || nat_lt 0 (unreported p j key)) ≡ true = rw was refl in
     by_end p j Terminate key
@@ -90,7 +90,7 @@ at_the_end p j key slot was =
     ∙ among_kept (λ k. is_among k (now p j).on || nat_lt 0 (unreported p j k)) key (slots p j) slot wants)
 
 by_command : (p : Setting) (j : Journal) (c : Command) (key : List ℕ) → is_among key (slots p j) ≡ true → is_among key (now p j).on ≡ true →
-    is_among key (now p (entry.Command c ∷ j)).on ≡ false → list_any (tells_of key) (plan p j c) ≡ true
+    is_among key (now p (entry.Command c ∷ j)).on ≡ false → list_any (is_usage_of key) (plan p j c) ≡ true
 unfolding made_by
 by_command p j (Install rule) key slot was off = ended p j (Install rule) key refl slot was off
 by_command p j (Activate name) key slot was off = ended p j (Activate name) key refl slot was off
@@ -112,5 +112,5 @@ by_command p j (Triggers set) key slot was off = contrary (is_among key (now p j
 by_command p j (Notice kind value) key slot was off = contrary (is_among key (now p j).on) was off
 
 pub gone_off : (p : Setting) (j : Journal) (c : Command) (key : List ℕ) → is_among key (slots p j) ≡ true → is_among key (now p j).on ≡ true →
-    is_among key (now p (after_command p j c)).on ≡ false → list_any (tells_of key) (plan p j c) ≡ true
+    is_among key (now p (after_command p j c)).on ≡ false → list_any (is_usage_of key) (plan p j c) ≡ true
 gone_off p j c key slot was off = by_command p j c key slot was (ap (λ (g : Generation). is_among key g.on) (sym (now_after p j c)) ∙ off)

@@ -12,7 +12,7 @@ use Rattle.pcef_model.specs.Commands.{is_among}
 use Rattle.pcef_model.specs.Entries.{Journal}
 use Rattle.pcef_model.specs.Journals.{grant, now, report_count, reported, slots, subscribed, takes_grant, unreported}
 use Rattle.pcef_model.specs.Lawful.{Lawful, at_first, by_attach, by_command, by_flush, by_leave}
-use Rattle.pcef_model.specs.Reports.{after_command, body_of, is_reached, is_reached_by, plan, tell, thresholds, with_rows, with_thresholds}
+use Rattle.pcef_model.specs.Reports.{after_command, body_of, is_reached, is_reached_by, plan, with_reports, thresholds, with_rows, with_thresholds}
 use Rattle.pcef_model.proofs.Reports.{tell_slots, tell_subscribed}
 use Rattle.pcef_model.proofs.Ending.{among_kept}
 
@@ -47,8 +47,8 @@ unfolding grant reported
 one_stays p t j key not =
     taken_or_left (is_among key (now p j).on) (takes_grant key (body_of p j t)) (grant j key) (unreported p (with_report p t j) key) (unreported p j key) (omega arith) not
 
-tell_stays : (p : Setting) (ts : List PendingReport) (j : Journal) (key : List ℕ) → is_reached p j key ≡ false → is_reached p (tell p ts j) key ≡ false
-unfolding tell
+tell_stays : (p : Setting) (ts : List PendingReport) (j : Journal) (key : List ℕ) → is_reached p j key ≡ false → is_reached p (with_reports p ts j) key ≡ false
+unfolding with_reports
 tell_stays p [] j key not = not
 tell_stays p (t ∷ ts) j key not = tell_stays p ts (with_report p t j) key (one_stays p t j key not)
 
@@ -57,8 +57,8 @@ one_clears : (p : Setting) (other : List ℕ) (j : Journal) (key : List ℕ) →
 unfolding grant reported
 one_clears p other j key same = rw same (never (is_among key (now p j).on))
 
-tell_clears : (p : Setting) (keys : List (List ℕ)) (j : Journal) (key : List ℕ) → is_among key keys ≡ true → is_reached p (tell p (map (λ k. Usage k Threshold) keys) j) key ≡ false
-unfolding tell
+tell_clears : (p : Setting) (keys : List (List ℕ)) (j : Journal) (key : List ℕ) → is_among key keys ≡ true → is_reached p (with_reports p (map (λ k. Usage k Threshold) keys) j) key ≡ false
+unfolding with_reports
 tell_clears p [] j key there = absurd cc
 tell_clears p (k ∷ keys) j key there =
     elim (cases_Bool (same_name key k)) [
@@ -75,17 +75,17 @@ settled p j key on there =
     elim (cases_Bool (is_reached p j key)) [
       | inl reached ↦
           let told : thresholds p j ≡ map (λ k. Usage k Threshold) (filter (is_reached p j) (slots p j)) = rw before refl in
-          subst (λ (ts : List PendingReport). is_reached p (tell p ts j) key ≡ false) (sym told)
+          subst (λ (ts : List PendingReport). is_reached p (with_reports p ts j) key ≡ false) (sym told)
           (tell_clears p (filter (is_reached p j) (slots p j)) j key (among_kept (is_reached p j) key (slots p j) among reached))
       | inr not ↦ tell_stays p (thresholds p j) j key not
     ]
 
 -- ---- journals
-pub grants_told : (p : Setting) (j : Journal) → Lawful p j → (subscribed j).usage_report ≡ true → (key : List ℕ) → is_among key (slots p j) ≡ true → is_reached p j key ≡ false
+pub grants_reported : (p : Setting) (j : Journal) → Lawful p j → (subscribed j).usage_report ≡ true → (key : List ℕ) → is_among key (slots p j) ≡ true → is_reached p j key ≡ false
 unfolding after_command grant reported subscribed
-grants_told p _ at_first on key there = absurd cc
-grants_told p _ (by_command j c l accepted changing) on key there = settled p (tell p (plan p j c) (entry.Command c ∷ j)) key on there
-grants_told p _ (by_attach j l accepted) on key there = grants_told p j l on key there
-grants_told p _ (by_leave j worker l attached) on key there = grants_told p j l on key there
-grants_told p _ (by_flush j worker [] l accepted follow) on key there = grants_told p j l on key there
-grants_told p _ (by_flush j worker (r ∷ rs) l accepted follow) on key there = settled p (with_rows (r ∷ rs) j) key on there
+grants_reported p _ at_first on key there = absurd cc
+grants_reported p _ (by_command j c l accepted changing) on key there = settled p (with_reports p (plan p j c) (entry.Command c ∷ j)) key on there
+grants_reported p _ (by_attach j l accepted) on key there = grants_reported p j l on key there
+grants_reported p _ (by_leave j worker l attached) on key there = grants_reported p j l on key there
+grants_reported p _ (by_flush j worker [] l accepted follow) on key there = grants_reported p j l on key there
+grants_reported p _ (by_flush j worker (r ∷ rs) l accepted follow) on key there = settled p (with_rows (r ∷ rs) j) key on there

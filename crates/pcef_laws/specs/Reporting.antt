@@ -18,31 +18,31 @@ use Rattle.pcef_model.specs.Journals.{counted, now, reported, slots, subscribed,
 use Rattle.pcef_model.specs.Lawful.{Lawful}
 use Rattle.pcef_model.specs.Outcomes.{changes}
 use Rattle.pcef_model.specs.Refusals.{attach_faults, first_of, flush_refusals, is_attached, refusals}
-use Rattle.pcef_model.specs.Reports.{after_attach, after_command, after_flush, after_leave, inactive, is_reached, plan, tell}
+use Rattle.pcef_model.specs.Reports.{after_attach, after_command, after_flush, after_leave, inactive, is_reached, plan, with_reports}
 use Rattle.pcef_model.specs.Setting.{Setting, same_name}
 
 -- ---- grants
 -- while usage reports are subscribed, each key that is on has fewer unreported octets than its grant between two events
-abbrev pub GrantsAreTold : Type 0
-GrantsAreTold = (p : Setting) (j : Journal) → Lawful p j → (subscribed j).usage_report ≡ true →
+abbrev pub GrantsAreReported : Type 0
+GrantsAreReported = (p : Setting) (j : Journal) → Lawful p j → (subscribed j).usage_report ≡ true →
     (key : List ℕ) → is_among key (slots p j) ≡ true → is_reached p j key ≡ false
 
 -- ---- keys that go off
 -- a usage report of a key
-abbrev pub tells_of : List ℕ → PendingReport → Bool
-tells_of key (Usage other cause) = same_name key other
-tells_of key _ = false
+abbrev pub is_usage_of : List ℕ → PendingReport → Bool
+is_usage_of key (Usage other cause) = same_name key other
+is_usage_of key _ = false
 
 -- a key goes off only with a report of it
 abbrev pub KeysGoOffWithAReport : Type 0
 KeysGoOffWithAReport = (p : Setting) (j : Journal) (c : Command) (key : List ℕ) → is_among key (slots p j) ≡ true →
-    is_among key (now p j).on ≡ true → is_among key (now p (after_command p j c)).on ≡ false → list_any (tells_of key) (plan p j c) ≡ true
+    is_among key (now p j).on ≡ true → is_among key (now p (after_command p j c)).on ≡ false → list_any (is_usage_of key) (plan p j c) ≡ true
 
 -- ---- octets
 -- right after a usage report of a key all that was counted for it is reported
-abbrev pub ReportsTellAll : Type 0
-ReportsTellAll = (p : Setting) (j : Journal) → Lawful p j → (key : List ℕ) (cause : Cause) →
-    reported (tell p (Usage key cause ∷ []) j) key ≡ counted p (tell p (Usage key cause ∷ []) j) key
+abbrev pub ReportsHaveAllOctets : Type 0
+ReportsHaveAllOctets = (p : Setting) (j : Journal) → Lawful p j → (key : List ℕ) (cause : Cause) →
+    reported (with_reports p (Usage key cause ∷ []) j) key ≡ counted p (with_reports p (Usage key cause ∷ []) j) key
 
 -- ---- rules that go with a lost bearer
 -- no name is below one that stands before it, by the bytes
@@ -54,8 +54,8 @@ abbrev pub names_on : Generation → BearerId → List (List ℕ)
 names_on g id = map (λ r. r.properties.name) (filter (λ r. g.id_of r.properties.qos == id.0) g.rules)
 
 -- the rules of a lost bearer are told by their names in ascending order, each once
-abbrev pub LostRulesAreToldInOrder : Type 0
-LostRulesAreToldInOrder = (g : Generation) (id : BearerId) →
+abbrev pub LostRulesAreReportedInOrder : Type 0
+LostRulesAreReportedInOrder = (g : Generation) (id : BearerId) →
     (told : List (List ℕ)) × (inactive g (LoseBearer id) ≡ map Inactive told) × IsPermutation (names_on g id) told × Ascends told
 
 -- ---- the end
@@ -70,6 +70,6 @@ pub data Later (p : Setting) (before : Journal) : Journal → Type 0 where
       first_of (flush_refusals p j worker (length rows)) ≡ None → Later p before (after_flush p j rows)
 
 -- after a Terminate nothing is unreported, and nothing that follows changes that
-abbrev pub TerminateTellsAll : Type 0
-TerminateTellsAll = (p : Setting) (j k : Journal) → Lawful p j → first_of (refusals p j Terminate) ≡ None → Later p (after_command p j Terminate) k →
+abbrev pub TerminateReportsAll : Type 0
+TerminateReportsAll = (p : Setting) (j k : Journal) → Lawful p j → first_of (refusals p j Terminate) ≡ None → Later p (after_command p j Terminate) k →
     (key : List ℕ) → is_among key (slots p j) ≡ true → unreported p k key ≡ 0

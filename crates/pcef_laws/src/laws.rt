@@ -1,6 +1,6 @@
 //! Laws of journals, proved for whoever reads the definitions.
 
-ghost use Rattle.pcef_laws.specs.Reporting.{GrantsAreTold, KeysGoOffWithAReport, LostRulesAreToldInOrder, ReportsTellAll, TerminateTellsAll};
+ghost use Rattle.pcef_laws.specs.Reporting.{GrantsAreReported, KeysGoOffWithAReport, LostRulesAreReportedInOrder, ReportsHaveAllOctets, TerminateReportsAll};
 ghost use Rattle.pcef_laws.specs.Bearing.{NewBearersTakeTheLeastId};
 ghost use Rattle.pcef_laws.specs.Deciding.{OneDecidesWhereSomeFit};
 ghost use Rattle.pcef_laws.specs.Places.{SlotsStayInPlace};
@@ -10,11 +10,11 @@ ghost use Rattle.pcef_laws.specs.Places.{SlotsStayInPlace};
 /// report of a key all that was counted for it is reported; and after a Terminate nothing is unreported any more, whatever follows. The rules of
 /// a lost bearer are told in the order of their names (TS 29.212, clause 5.3.18).
 pub fn reports_say_what_is_due()
-    ensures grants { GrantsAreTold }
+    ensures grants { GrantsAreReported }
     ensures off { KeysGoOffWithAReport }
-    ensures all { ReportsTellAll }
-    ensures order { LostRulesAreToldInOrder }
-    ensures end { TerminateTellsAll }
+    ensures all { ReportsHaveAllOctets }
+    ensures order { LostRulesAreReportedInOrder }
+    ensures end { TerminateReportsAll }
 {}
 
 /// Slots: a command leaves those that there are in their places, and puts new ones behind them.

@@ -1,7 +1,7 @@
 //! Laws that characterize the definitions: each says in other words what they come to, so that a definition that says
 //! something else breaks one.
 //!
-//! Its contracts tell: what holds of bearers, of decisions, of reports, of grants and of slots in every lawful journal.
+//! Its contracts say: what holds of bearers, of decisions, of reports, of grants and of slots in every lawful journal.
 //!
 //! In the order of reading: `laws`.
 #![tactic(auto)]

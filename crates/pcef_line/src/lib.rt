@@ -1,7 +1,7 @@
 //! The lines of a script, one JSON object each (RFC 8259), whose `do` says what it asks for: `Line` (a `Step`, or
 //! `show`), `read_line`, `LineReader` and `LineFault`.
 //!
-//! Its contracts tell: the line that a text spells, or its first fault.
+//! Its contracts say: the line that a text spells, or its first fault.
 //!
 //! In the order of reading: `field`, `laws`, `line`, `fault`, `word`, `known`, `octets`, `values`, `spelling`, `short`,
 //! `worker`, `trigger`, `level`, `rule`, `command`, `reading`.

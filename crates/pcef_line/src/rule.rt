@@ -146,7 +146,7 @@ fn filters_field(alloc: Global, rule: &Value) -> Result<Vec<Filter>, LineFault>
     filters(alloc, list_field(rule, Field::Filters)?)
 }
 
-fn made(alloc: Global, properties: Properties, filters: &[Filter]) -> Result<Rule, LineFault>
+fn new_rule(alloc: Global, properties: Properties, filters: &[Filter]) -> Result<Rule, LineFault>
     ensures { Gives (λ r. r) result (rule_of properties filters.now) }
 {
     match Rule::new(alloc, properties, filters) {
@@ -177,5 +177,5 @@ pub(crate) fn rule(alloc: Global, object: &Value) -> Result<Rule, LineFault>
         gate,
         key,
     };
-    made(alloc, properties, &filters)
+    new_rule(alloc, properties, &filters)
 }

@@ -13,8 +13,8 @@ rows_told p j rows None answer told = cc
 rows_told p j rows (Some r) answer told = absurd cc
 
 -- a flush tells each row that it takes over
-pub flush_told : (p : Setting) (worker : ℕ) (rows : List Row) (j k : Journal) (answer : FlushAnswer) →
+pub flush_answered : (p : Setting) (worker : ℕ) (rows : List Row) (j k : Journal) (answer : FlushAnswer) →
     FlushStep p worker rows j (Ok answer) k → answer.rows ≡ map judged_of rows
 unfolding flush_outcome
-flush_told p worker rows j k answer (inl given) = rows_told p j rows (first_of (flush_refusals p j worker (length rows))) answer given.0
-flush_told p worker rows j k answer (inr lacks) = absurd (let e = lacks.1.0 in cc)
+flush_answered p worker rows j k answer (inl given) = rows_told p j rows (first_of (flush_refusals p j worker (length rows))) answer given.0
+flush_answered p worker rows j k answer (inr lacks) = absurd (let e = lacks.1.0 in cc)

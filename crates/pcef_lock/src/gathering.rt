@@ -117,7 +117,7 @@ fn has_lane<N: Naming>(session: &JournaledState, finished: &[Finished<N>], worke
 }
 
 /// The first of so many workers whose lane differs.
-pub(crate) fn differing<N: Naming>(
+pub(crate) fn first_difference<N: Naming>(
     session: &JournaledState,
     finished: &[Finished<N>],
     workers: u8,
@@ -153,7 +153,7 @@ fn difference<N: Naming>(
     ensures some { IfSome result
         (IsAtFault session.now.session.journal listed.now finished.now) }
 {
-    if let Some(worker) = differing(session, finished, workers) {
+    if let Some(worker) = first_difference(session, finished, workers) {
         return Some(GatherFault::LaneDiffers(worker));
     }
     if !are_commands(listed, session.commands()) {
@@ -192,7 +192,7 @@ pub(crate) fn gather_fault<N: Naming>(
 }
 
 /// How many waiting rows were abandoned.
-pub(crate) fn abandoned<N: Naming>(finished: &[Finished<N>]) -> u64
+pub(crate) fn abandoned_rows<N: Naming>(finished: &[Finished<N>]) -> u64
     requires { length finished.now ≤ 16 }
     ensures { result ≡ rows_abandoned finished.now }
 {

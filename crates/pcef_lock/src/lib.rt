@@ -1,7 +1,7 @@
 //! A session behind a lock: `State`, a session with its published tables, its books and its share of a pool, where it
 //! has one; `Shared`, the lock of one; `Pool`, the lock of a pool; `Seat`, `Desk`.
 //!
-//! Its contracts tell: what each hold of the lock finds, what each call in it answers and changes, and what all adds up
+//! Its contracts say: what each hold of the lock finds, what each call in it answers and changes, and what all adds up
 //! to at the end.
 //!
 //! In the order of reading: `own_rows`, `leaving`, `finished`, `key_totals`, `pool`, `seat`, `sameness`, `gathering`, `counting`,
@@ -30,7 +30,7 @@ pub use finished::Finished;
 pub use gathering::{GatherFault, Totals};
 pub use key_totals::{KeyTotal, KeyTotals};
 pub use leaving::{Departure, LastFlush, Leaving};
-pub use opening::{SharedFault, Unopened, opened};
+pub use opening::{SharedFault, Unopened, open_history};
 pub use own_rows::OwnRows;
 pub use pool::Pool;
 pub use seat::Seat;

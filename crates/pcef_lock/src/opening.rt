@@ -46,14 +46,14 @@ pub enum SharedFault {
 
 /// A history that begins with the table of a session's newest generation. It takes its name where the session does.
 /// Fails where a further owner of the table is refused.
-pub fn opened(session: &JournaledState) -> Result<Opened, AllocError>
+pub fn open_history(session: &JournaledState) -> Result<Opened, AllocError>
     ensures { IfOk result (λ o. ShowsNewest session.now.session o.table) }
 {
     Ok(Opened::new(Arc::try_clone(session.session().indexed())?))
 }
 
 /// Why a session didn't come behind its lock whose first table wasn't published.
-fn unpublished(fault: PublishFault) -> SharedFault
+fn fault_of(fault: PublishFault) -> SharedFault
     ensures { result ≡ unpublished fault }
 {
     match fault {
@@ -63,7 +63,7 @@ fn unpublished(fault: PublishFault) -> SharedFault
 }
 
 /// Publishes the table of an opened history, with a subscriber for each place.
-fn published<N: Naming, R: Wait + Drop>(
+fn publish_first<N: Naming, R: Wait + Drop>(
     rt: R,
     alloc: Global,
     opened: Opened,
@@ -80,7 +80,7 @@ fn published<N: Naming, R: Wait + Drop>(
 {
     match Publisher::new(rt, alloc, opened, usize::from(places)) {
         Ok(made) => Ok(made),
-        Err(fault) => Err(unpublished(fault)),
+        Err(fault) => Err(fault_of(fault)),
     }
 }
 
@@ -119,7 +119,7 @@ impl<N: Naming, R: Wait + Drop> State<N, Writer<N, R>> {
         if !are_places(places) {
             return Err((session, SharedFault::Places));
         }
-        let (publisher, subscribers) = match published(rt, alloc, opened, places) {
+        let (publisher, subscribers) = match publish_first(rt, alloc, opened, places) {
             Ok(made) => made,
             Err(fault) => return Err((session, fault)),
         };
@@ -160,7 +160,7 @@ impl<N: Naming, R: Wait + Drop, P: Pooling> State<N, Writer<N, R>, P> {
         if !are_places(places) {
             return Err((session, SharedFault::Places));
         }
-        let (publisher, subscribers) = match published(rt, alloc, opened, places) {
+        let (publisher, subscribers) = match publish_first(rt, alloc, opened, places) {
             Ok(made) => made,
             Err(fault) => return Err((session, fault)),
         };

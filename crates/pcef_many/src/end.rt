@@ -2,7 +2,7 @@
 
 ghost use Rattle.std.specs.Prelude.{◌≤◌};
 
-use pcef_command_line::tell_no_memory;
+use pcef_command_line::report_no_memory;
 use pcef_model::OpenFault;
 use std::io;
 
@@ -41,7 +41,7 @@ impl End<'_> {
     }
 
     /// Tells why the program ends early, and gives its exit status. That it can't be told changes nothing.
-    pub(crate) fn told(&self, rt: &HostRuntime) -> u8
+    pub(crate) fn report(&self, rt: &HostRuntime) -> u8
         ensures { result ≤ 4 }
     {
         match self {
@@ -50,7 +50,7 @@ impl End<'_> {
                 let _ = eprintln!(rt; "profile fault\n{fault}");
             }
             End::NoMemory => {
-                let _ = tell_no_memory(rt);
+                let _ = report_no_memory(rt);
             }
             End::Read(file, error) => {
                 let _ = eprintln!(rt; "read fault\n{file}: {error}");

@@ -11,9 +11,9 @@ mod serving;
 ghost use Rattle.std.specs.Prelude.{◌≤◌};
 
 use end::End;
-use options::{Options, asked};
+use options::{Options, parse_options};
 use pcef_built_in::ShapedCatalog;
-use pcef_command_line::{gather, refuse, tell_no_memory};
+use pcef_command_line::{gather, refuse, report_no_memory};
 use pcef_explain::text_in;
 use pcef_model::Profile;
 use pcef_profile::{ReadProfileFault, explain, read_profile};
@@ -33,7 +33,7 @@ fn end_of<'a>(error: io::Error, other: End<'a>) -> End<'a> {
 }
 
 /// Tells the fault of a profile.
-fn told_profile<'a>(rt: &HostRuntime, text: &str, fault: ReadProfileFault) -> End<'a> {
+fn report_profile_fault<'a>(rt: &HostRuntime, text: &str, fault: ReadProfileFault) -> End<'a> {
     if fault == ReadProfileFault::NoMemory {
         return End::NoMemory;
     }
@@ -63,7 +63,7 @@ fn run<'a, T: Threads + Wait + Drop + Send + Sync + Copy + 'static>(
     };
     let profile = match read_profile(rt.alloc(), text.as_str()) {
         Ok(profile) => profile,
-        Err(fault) => return told_profile(rt, text.as_str(), fault),
+        Err(fault) => return report_profile_fault(rt, text.as_str(), fault),
     };
     let keys = match Keys::new(rt) {
         Ok(keys) => keys,
@@ -88,8 +88,8 @@ fn status_with<T: Threads + Wait + Drop + Send + Sync + Copy + 'static>(
         Ok(words) => words,
         Err(status) => return status,
     };
-    match asked(rt.alloc(), words.as_slice()) {
-        Ok(Some(options)) => run(starting, rt, catalog, options).told(rt),
+    match parse_options(rt.alloc(), words.as_slice()) {
+        Ok(Some(options)) => run(starting, rt, catalog, options).report(rt),
         Ok(None) => {
             let _ = eprintln!(rt; "usage: an option has no value");
             2
@@ -101,6 +101,6 @@ fn status_with<T: Threads + Wait + Drop + Send + Sync + Copy + 'static>(
 fn main(rt: HostRuntime) -> ExitCode {
     ExitCode::from(match ShapedCatalog::built_in(rt.alloc()) {
         Ok(catalog) => status_with(rt, &rt, catalog),
-        Err(_) => tell_no_memory(&rt),
+        Err(_) => report_no_memory(&rt),
     })
 }

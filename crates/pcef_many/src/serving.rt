@@ -95,7 +95,7 @@ fn ways<T: Wait + Drop + Copy>(
 }
 
 /// How one thread ended, after the answers that wait are written.
-fn ended<T: Wait + Drop>(one: Ended<Way<T>>) -> Result<bool, ScriptFault> {
+fn end_of_thread<T: Wait + Drop>(one: Ended<Way<T>>) -> Result<bool, ScriptFault> {
     let Ended { writer, end } = one;
     let mut writer = writer;
     let flushed = writer.end();
@@ -107,7 +107,7 @@ fn ended<T: Wait + Drop>(one: Ended<Way<T>>) -> Result<bool, ScriptFault> {
 }
 
 /// What of two ends is told: a fault, and one that isn't the reader's before that.
-fn joined(
+fn first_end(
     one: Result<bool, ScriptFault>,
     other: Result<bool, ScriptFault>,
 ) -> Result<bool, ScriptFault> {
@@ -119,7 +119,7 @@ fn joined(
 }
 
 /// What all threads come to, after the answers that wait are written.
-fn all_ended<T: Wait + Drop>(ran: Ran<Way<T>>) -> Result<bool, ScriptFault> {
+fn end_of_all<T: Wait + Drop>(ran: Ran<Way<T>>) -> Result<bool, ScriptFault> {
     let Ran {
         threads,
         lacks_memory,
@@ -130,13 +130,13 @@ fn all_ended<T: Wait + Drop>(ran: Ran<Way<T>>) -> Result<bool, ScriptFault> {
         Ok(false)
     };
     for one in threads {
-        end = joined(end, ended(one));
+        end = first_end(end, end_of_thread(one));
     }
     end
 }
 
 /// Serves lines in a thread for each way to standard output, if there is one.
-fn served<T: Threads + Wait + Drop + Send + Sync + Copy + 'static>(
+fn serve_all<T: Threads + Wait + Drop + Send + Sync + Copy + 'static>(
     starting: T,
     rt: &HostRuntime,
     ways: Vec<Way<T>>,
@@ -156,7 +156,7 @@ fn served<T: Threads + Wait + Drop + Send + Sync + Copy + 'static>(
         keys.lines,
         keys.names,
     ) {
-        Ok(ran) => all_ended(ran),
+        Ok(ran) => end_of_all(ran),
         Err(fault) => Err(fault),
     }
 }
@@ -170,7 +170,7 @@ pub(crate) fn serve_in<'a, T: Threads + Wait + Drop + Send + Sync + Copy + 'stat
     keys: Keys,
 ) -> End<'a> {
     let end = match ways(starting, rt, threads) {
-        Ok(ways) => served(starting, rt, ways, profile, keys),
+        Ok(ways) => serve_all(starting, rt, ways, profile, keys),
         Err(fault) => Err(fault),
     };
     match end {

@@ -11,7 +11,7 @@ use Rattle.pcef_model.specs.Generations.{made_by, slots_of}
 use Rattle.pcef_model.specs.Entries.{Journal}
 use Rattle.pcef_model.specs.Journals.{gen, now, report_count, slots, subscribed, tables}
 use Rattle.pcef_model.specs.Commands.{is_table}
-use Rattle.pcef_model.specs.Reports.{after_command, body_of, plan, with_thresholds, tell, thresholds, with_rows}
+use Rattle.pcef_model.specs.Reports.{after_command, body_of, plan, with_thresholds, with_reports, thresholds, with_rows}
 use Rattle.pcef_model.proofs.Reports.{tell_subscribed, tell_tables}
 
 -- ---- generations
@@ -20,7 +20,7 @@ tables_settled p j = tell_tables p (thresholds p j) j
 
 pub tables_after : (p : Setting) (j : Journal) (c : Command) → tables (after_command p j c) ≡ tables (entry.Command c ∷ j)
 unfolding after_command
-tables_after p j c = tables_settled p (tell p (plan p j c) (entry.Command c ∷ j)) ∙ tell_tables p (plan p j c) (entry.Command c ∷ j)
+tables_after p j c = tables_settled p (with_reports p (plan p j c) (entry.Command c ∷ j)) ∙ tell_tables p (plan p j c) (entry.Command c ∷ j)
 
 pub now_after : (p : Setting) (j : Journal) (c : Command) → now p (after_command p j c) ≡ now p (entry.Command c ∷ j)
 now_after p j c = ap (made_by p) (tables_after p j c)
@@ -42,18 +42,18 @@ tables_after_rows [] j = refl
 tables_after_rows (r ∷ rs) j = tables_after_rows rs (entry.Row r ∷ j)
 
 -- ---- reports
-pub report_count_tell : (p : Setting) (ts : List PendingReport) (j : Journal) → report_count (tell p ts j) ≡ length ts + report_count j
-unfolding tell
+pub report_count_tell : (p : Setting) (ts : List PendingReport) (j : Journal) → report_count (with_reports p ts j) ≡ length ts + report_count j
+unfolding with_reports
 report_count_tell p [] j = omega arith
 report_count_tell p (t ∷ ts) j =
     let rest = report_count_tell p ts (entry.Report (record { number = report_count j; body = body_of p j t }) ∷ j) in omega (arith, rest)
 
 pub report_count_after : (p : Setting) (j : Journal) (c : Command) →
-    report_count (after_command p j c) ≡ length (thresholds p (tell p (plan p j c) (entry.Command c ∷ j))) + length (plan p j c) + report_count j
+    report_count (after_command p j c) ≡ length (thresholds p (with_reports p (plan p j c) (entry.Command c ∷ j))) + length (plan p j c) + report_count j
 unfolding after_command
 report_count_after p j c =
-    let own : report_count (tell p (plan p j c) (entry.Command c ∷ j)) ≡ length (plan p j c) + report_count j = report_count_tell p (plan p j c) (entry.Command c ∷ j) in
-    let all = report_count_tell p (thresholds p (tell p (plan p j c) (entry.Command c ∷ j))) (tell p (plan p j c) (entry.Command c ∷ j)) in omega (arith, own, all)
+    let own : report_count (with_reports p (plan p j c) (entry.Command c ∷ j)) ≡ length (plan p j c) + report_count j = report_count_tell p (plan p j c) (entry.Command c ∷ j) in
+    let all = report_count_tell p (thresholds p (with_reports p (plan p j c) (entry.Command c ∷ j))) (with_reports p (plan p j c) (entry.Command c ∷ j)) in omega (arith, own, all)
 
 pub report_count_after_rows : (rs : List Row) (j : Journal) → report_count (with_rows rs j) ≡ report_count j
 unfolding with_rows

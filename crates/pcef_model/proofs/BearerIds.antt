@@ -21,7 +21,7 @@ use Rattle.pcef_model.proofs.RulesAfter.{rule_change, rules_left, rules_put}
 use Rattle.pcef_model.specs.Entries.{Journal}
 use Rattle.pcef_model.specs.Commands.{is_table}
 use Rattle.pcef_model.specs.Journals.{now}
-use Rattle.pcef_model.specs.Reports.{after_command, after_flush, tell, thresholds, with_rows}
+use Rattle.pcef_model.specs.Reports.{after_command, after_flush, with_reports, thresholds, with_rows}
 use Rattle.pcef_model.proofs.Growth.{now_after_table, tables_of_other}
 use Rattle.pcef_lists.proofs.Tests.{contrary}
 use Rattle.pcef_model.proofs.Sameness.{same_qos_is, same_qos_self}
@@ -323,7 +323,7 @@ bound_after_command p j c bound accepted change =
     ]
 
 -- reports and rows leave the generation
-bound_after_tell : (p : Setting) (ts : List PendingReport) (j : Journal) → IsBound p (now p j) → IsBound p (now p (tell p ts j))
+bound_after_tell : (p : Setting) (ts : List PendingReport) (j : Journal) → IsBound p (now p j) → IsBound p (now p (with_reports p ts j))
 bound_after_tell p ts j bound = subst (λ cs. IsBound p (made_by p cs)) (sym (tell_tables p ts j)) bound
 
 bound_after_rows : (p : Setting) (rs : List Row) (j : Journal) → IsBound p (now p j) → IsBound p (now p (with_rows rs j))

@@ -14,12 +14,12 @@ use Rattle.pcef_model.specs.Entries.{Journal}
 use Rattle.pcef_model.specs.Journals.{report_count}
 use Rattle.pcef_model.specs.Lawful.{Lawful, at_first, by_attach, by_command, by_flush, by_leave}
 use Rattle.pcef_model.specs.Refusals.{common_refusals, first_of, first_refusals, is_limited, limited_count, own_refusals, refusals, was_closed, was_terminated}
-use Rattle.pcef_model.specs.Reports.{after_command, after_flush, body_of, plan, tell, thresholds, with_rows}
+use Rattle.pcef_model.specs.Reports.{after_command, after_flush, body_of, plan, with_reports, thresholds, with_rows}
 use Rattle.pcef_model.proofs.Acceptance.{condition_none, conditions_none}
 
 -- ---- neither a report nor a row has a budget
-limited_told : (p : Setting) (ts : List PendingReport) (j : Journal) → limited_count (tell p ts j) ≡ limited_count j
-unfolding tell limited_count
+limited_told : (p : Setting) (ts : List PendingReport) (j : Journal) → limited_count (with_reports p ts j) ≡ limited_count j
+unfolding with_reports limited_count
 limited_told p [] j = refl
 limited_told p (t ∷ ts) j =
     let r : Report = record { number = report_count j; body = body_of p j t } in
@@ -38,7 +38,7 @@ limited_commanded : (p : Setting) (j : Journal) (c : Command) →
     limited_count (after_command p j c) ≡ (if is_limited (entry.Command c) then 1 else 0) + limited_count j
 unfolding after_command limited_count
 limited_commanded p j c =
-    limited_told p (thresholds p (tell p (plan p j c) (entry.Command c ∷ j))) (tell p (plan p j c) (entry.Command c ∷ j))
+    limited_told p (thresholds p (with_reports p (plan p j c) (entry.Command c ∷ j))) (with_reports p (plan p j c) (entry.Command c ∷ j))
     ∙ limited_told p (plan p j c) (entry.Command c ∷ j)
 
 -- ---- a command that has a budget is within it

@@ -15,11 +15,11 @@ use Rattle.pcef_model.specs.declared.pending_report.PendingReport.TheVariants.{A
 use Rattle.pcef_model.specs.Setting.{Setting, same_name}
 use Rattle.pcef_model.specs.Commands.{is_among}
 use Rattle.pcef_model.specs.Entries.{Journal}
-use Rattle.pcef_model.specs.Journals.{attached, counted, now, octets_told, report_count, reported, slots, unreported}
+use Rattle.pcef_model.specs.Journals.{attached, counted, now, octets_of_report, report_count, reported, slots, unreported}
 use Rattle.pcef_model.specs.Laws.{IsOver}
 use Rattle.pcef_model.specs.Lawful.{Lawful}
 use Rattle.pcef_model.specs.Refusals.{attach_faults, first_of, is_attached, refusals, was_closed, was_terminated}
-use Rattle.pcef_model.specs.Reports.{after_command, body_of, keys_ended, plan, tell, thresholds}
+use Rattle.pcef_model.specs.Reports.{after_command, body_of, keys_ended, plan, with_reports, thresholds}
 use Rattle.pcef_model.proofs.Acceptance.{condition_none}
 use Rattle.pcef_model.proofs.Exactness.{lawful_exact}
 use Rattle.pcef_model.proofs.Growth.{counted_after_command}
@@ -37,8 +37,8 @@ one_zero : (p : Setting) (t : PendingReport) (j : Journal) (key : List ℕ) → 
 unfolding reported
 one_zero p t j key none = omega (arith, none)
 
-tell_zero : (p : Setting) (ts : List PendingReport) (j : Journal) (key : List ℕ) → unreported p j key ≡ 0 → unreported p (tell p ts j) key ≡ 0
-unfolding tell
+tell_zero : (p : Setting) (ts : List PendingReport) (j : Journal) (key : List ℕ) → unreported p j key ≡ 0 → unreported p (with_reports p ts j) key ≡ 0
+unfolding with_reports
 tell_zero p [] j key none = none
 tell_zero p (t ∷ ts) j key none = tell_zero p ts (with_report p t j) key (one_zero p t j key none)
 
@@ -53,11 +53,11 @@ one_clears p (Inactive rule) j key is = absurd cc
 one_clears p (Access kind value) j key is = absurd cc
 one_clears p (Usage other cause) j key is =
     let same : key ≡ other = same_name_is key other is in
-    let told : octets_told key (body_of p j (Usage other cause)) ≡ unreported p j key = rw is (ap (unreported p j) (sym same)) in
+    let told : octets_of_report key (body_of p j (Usage other cause)) ≡ unreported p j key = rw is (ap (unreported p j) (sym same)) in
     omega (arith, told)
 
-tell_clears : (p : Setting) (ts : List PendingReport) (j : Journal) (key : List ℕ) → list_any (tells key) ts ≡ true → unreported p (tell p ts j) key ≡ 0
-unfolding tell
+tell_clears : (p : Setting) (ts : List PendingReport) (j : Journal) (key : List ℕ) → list_any (tells key) ts ≡ true → unreported p (with_reports p ts j) key ≡ 0
+unfolding with_reports
 tell_clears p [] j key is = absurd cc
 tell_clears p (t ∷ ts) j key is =
     elim (cases_Bool (tells key t)) [
@@ -96,7 +96,7 @@ nothing_unreported p j lawful key there =
     ∙ ap (λ n. counted p j key - n) (reported_after_command j key Terminate) in
     let planned : list_any (tells key) (plan p j Terminate) ≡ is_among key (filter (wants_end p j) (slots p j)) =
     ap (list_any (tells key)) (append-nil (keys_ended p j Terminate)) ∙ told_among key (filter (wants_end p j) (slots p j)) in
-    tell_zero p (thresholds p (tell p (plan p j Terminate) k)) (tell p (plan p j Terminate) k) key
+    tell_zero p (thresholds p (with_reports p (plan p j Terminate) k)) (with_reports p (plan p j Terminate) k) key
     (elim (cases_Bool (wants_end p j key)) [
       | inl wants ↦ tell_clears p (plan p j Terminate) k key (planned ∙ among_kept (wants_end p j) key (slots p j) there wants)
       | inr not ↦ tell_zero p (plan p j Terminate) k key (before ∙ none_left p j key not)
@@ -111,8 +111,8 @@ nothing_unreported p j lawful key there =
         from false false at is = omega (arith, ltb-false 0 (unreported p j key) at)
 
 -- ---- nothing follows
-ended_told : (p : Setting) (ts : List PendingReport) (j : Journal) → was_terminated (tell p ts j) ≡ was_terminated j
-unfolding tell
+ended_told : (p : Setting) (ts : List PendingReport) (j : Journal) → was_terminated (with_reports p ts j) ≡ was_terminated j
+unfolding with_reports
 ended_told p [] j = refl
 ended_told p (t ∷ ts) j = ended_told p ts (with_report p t j)
 
@@ -120,7 +120,7 @@ terminated_after : (p : Setting) (j : Journal) → was_terminated (after_command
 unfolding after_command
 terminated_after p j =
     let k : Journal = entry.Command Terminate ∷ j in
-    ended_told p (thresholds p (tell p (plan p j Terminate) k)) (tell p (plan p j Terminate) k) ∙ ended_told p (plan p j Terminate) k
+    ended_told p (thresholds p (with_reports p (plan p j Terminate) k)) (with_reports p (plan p j Terminate) k) ∙ ended_told p (plan p j Terminate) k
 
 none_there : (ws : List ℕ) → nat_lt 0 (length ws) ≡ false → ws ≡ []
 none_there [] few = refl

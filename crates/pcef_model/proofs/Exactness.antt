@@ -7,7 +7,7 @@ use Rattle.pcef_model.specs.declared.pending_report.PendingReport.{PendingReport
 use Rattle.pcef_model.specs.Setting.{Setting}
 use Rattle.pcef_model.specs.Entries.{Journal, rows}
 use Rattle.pcef_model.specs.Journals.{counted, gen, reported}
-use Rattle.pcef_model.specs.Reports.{after_command, after_flush, tell, thresholds, with_rows}
+use Rattle.pcef_model.specs.Reports.{after_command, after_flush, with_reports, thresholds, with_rows}
 use Rattle.pcef_model.proofs.Growth.{Known, counted_after_command, counted_after_row, gen_grows, known-more}
 use Rattle.pcef_model.proofs.Reports.{reported_after_command, reported_after_row, tell_exact, tell_rows, tell_tables}
 use Rattle.pcef_model.specs.Lawful.{Lawful, RowsFollow, at_first, by_attach, by_command, by_flush, by_leave}
@@ -27,7 +27,7 @@ exact_after_command p j c is = record {
       omega (arith, is.exact key);
 }
 
-exact_after_tell : (p : Setting) (ts : List PendingReport) (j : Journal) → IsExact p j → IsExact p (tell p ts j)
+exact_after_tell : (p : Setting) (ts : List PendingReport) (j : Journal) → IsExact p j → IsExact p (with_reports p ts j)
 exact_after_tell p ts j is = record {
   known = rw (tell_tables p ts j, tell_rows p ts j) is.known;
   exact = λ key. tell_exact p ts j key (is.exact key);

@@ -19,7 +19,7 @@ use Rattle.pcef_model.specs.Setting.{Setting}
 use Rattle.pcef_model.specs.Entries.{Journal, reports}
 use Rattle.pcef_model.specs.Generations.{made_by, oldest, slots_of}
 use Rattle.pcef_model.specs.Journals.{attach_count, attached, grant, octets_of, reported, subscribed}
-use Rattle.pcef_model.specs.Reports.{after_attach, after_command, after_flush, after_leave, tell, thresholds, with_rows}
+use Rattle.pcef_model.specs.Reports.{after_attach, after_command, after_flush, after_leave, with_reports, thresholds, with_rows}
 
 abbrev pub vid : List ℕ
 vid = codes "vid"
@@ -108,5 +108,5 @@ told j = reverse (reports j)
 
 -- what an example unfolds to work the definitions out
 unfoldable pub worked_out : ⊤
-unfolding after_command attach_count attached grant made_by octets_of oldest reported slots_of subscribed tell thresholds with_rows
+unfolding after_command attach_count attached grant made_by octets_of oldest reported slots_of subscribed with_reports thresholds with_rows
 worked_out = tt

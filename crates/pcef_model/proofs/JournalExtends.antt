@@ -10,7 +10,7 @@ use Rattle.pcef_model.specs.Setting.{Setting}
 use Rattle.pcef_model.specs.Generations.{made_by, oldest, slots_of}
 use Rattle.pcef_model.specs.Entries.{Journal, rows}
 use Rattle.pcef_model.specs.Journals.{at, attach_count, attached, gen, report_count, slots, tables}
-use Rattle.pcef_model.specs.Reports.{after_attach, after_command, after_flush, body_of, plan, tell, thresholds, with_rows}
+use Rattle.pcef_model.specs.Reports.{after_attach, after_command, after_flush, body_of, plan, with_reports, thresholds, with_rows}
 use Rattle.pcef_model.proofs.Growth.{at_after_command, gen_grows}
 use Rattle.pcef_model.proofs.AfterEvents.{tables_after, tables_after_rows}
 use Rattle.pcef_model.proofs.Reports.{tell_rows, tell_tables}
@@ -58,16 +58,16 @@ extends_by_command p j c =
 pub rows_after_command : (p : Setting) (j : Journal) (c : Command) → rows (after_command p j c) ≡ rows j
 unfolding after_command
 rows_after_command p j c =
-    tell_rows p (thresholds p (tell p (plan p j c) (entry.Command c ∷ j))) (tell p (plan p j c) (entry.Command c ∷ j)) ∙ tell_rows p (plan p j c) (entry.Command c ∷ j)
+    tell_rows p (thresholds p (with_reports p (plan p j c) (entry.Command c ∷ j))) (with_reports p (plan p j c) (entry.Command c ∷ j)) ∙ tell_rows p (plan p j c) (entry.Command c ∷ j)
 
 -- no worker comes or leaves by a report
-tell_attach_count : (p : Setting) (ts : List PendingReport) (j : Journal) → attach_count (tell p ts j) ≡ attach_count j
-unfolding tell attach_count
+tell_attach_count : (p : Setting) (ts : List PendingReport) (j : Journal) → attach_count (with_reports p ts j) ≡ attach_count j
+unfolding with_reports attach_count
 tell_attach_count p [] j = refl
 tell_attach_count p (t ∷ ts) j = tell_attach_count p ts (entry.Report (record { number = report_count j; body = body_of p j t }) ∷ j)
 
-tell_attached : (p : Setting) (ts : List PendingReport) (j : Journal) → attached (tell p ts j) ≡ attached j
-unfolding tell attached
+tell_attached : (p : Setting) (ts : List PendingReport) (j : Journal) → attached (with_reports p ts j) ≡ attached j
+unfolding with_reports attached
 tell_attached p [] j = refl
 tell_attached p (t ∷ ts) j = tell_attached p ts (entry.Report (record { number = report_count j; body = body_of p j t }) ∷ j)
 
@@ -75,12 +75,12 @@ tell_attached p (t ∷ ts) j = tell_attached p ts (entry.Report (record { number
 pub attach_count_after_command : (p : Setting) (j : Journal) (c : Command) → attach_count (after_command p j c) ≡ attach_count j
 unfolding after_command attach_count
 attach_count_after_command p j c =
-    tell_attach_count p (thresholds p (tell p (plan p j c) (entry.Command c ∷ j))) (tell p (plan p j c) (entry.Command c ∷ j)) ∙ tell_attach_count p (plan p j c) (entry.Command c ∷ j)
+    tell_attach_count p (thresholds p (with_reports p (plan p j c) (entry.Command c ∷ j))) (with_reports p (plan p j c) (entry.Command c ∷ j)) ∙ tell_attach_count p (plan p j c) (entry.Command c ∷ j)
 
 pub attached_after_command : (p : Setting) (j : Journal) (c : Command) → attached (after_command p j c) ≡ attached j
 unfolding after_command attached
 attached_after_command p j c =
-    tell_attached p (thresholds p (tell p (plan p j c) (entry.Command c ∷ j))) (tell p (plan p j c) (entry.Command c ∷ j)) ∙ tell_attached p (plan p j c) (entry.Command c ∷ j)
+    tell_attached p (thresholds p (with_reports p (plan p j c) (entry.Command c ∷ j))) (with_reports p (plan p j c) (entry.Command c ∷ j)) ∙ tell_attached p (plan p j c) (entry.Command c ∷ j)
 
 -- ---- rows that are taken over
 -- they are no commands

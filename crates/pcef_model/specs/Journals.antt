@@ -132,14 +132,14 @@ octets_of test (r ∷ rs) = (if test r then r.header.octets else 0) + octets_of 
 abbrev pub counted : Setting → Journal → List ℕ → ℕ
 counted p j key = octets_of (counts p j key) (rows j)
 
-abbrev pub octets_told : List ℕ → Body → ℕ
-octets_told key (Usage other octets cause) = if same_name key other then octets else 0
-octets_told key _ = 0
+abbrev pub octets_of_report : List ℕ → Body → ℕ
+octets_of_report key (Usage other octets cause) = if same_name key other then octets else 0
+octets_of_report key _ = 0
 
 -- the octets that usage reports told of a key
 unfoldable pub reported : Journal → List ℕ → ℕ
 reported [] key = 0
-reported (entry.Report r ∷ before) key = octets_told key r.body + reported before key
+reported (entry.Report r ∷ before) key = octets_of_report key r.body + reported before key
 reported (_ ∷ before) key = reported before key
 
 abbrev pub unreported : Setting → Journal → List ℕ → ℕ

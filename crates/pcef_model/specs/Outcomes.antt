@@ -116,19 +116,19 @@ abandon_outcome j worker = (lane_len j worker, if is_attached j worker then afte
 
 -- ---- promises
 -- the first fault is told, or where there is none out of memory
-abbrev pub TellsFault : {R : Type 0} → Option R → R → R → Type 0
-TellsFault first want fault = (first ≡ Some fault) ⊎ ((first ≡ None) × (fault ≡ want))
+abbrev pub IsFirstFault : {R : Type 0} → Option R → R → R → Type 0
+IsFirstFault first want fault = (first ≡ Some fault) ⊎ ((first ≡ None) × (fault ≡ want))
 
 -- a session opens where there is no fault
 abbrev pub Opens : Setting → Option OpenFault → Type 0
 Opens p None = first_of (open_faults p) ≡ None
-Opens p (Some f) = TellsFault (first_of (open_faults p)) opening.NoMemory f
+Opens p (Some f) = IsFirstFault (first_of (open_faults p)) opening.NoMemory f
 
 abbrev pub IsRefused : Setting → Journal → Command → Refusal → Type 0
-IsRefused p j c r = TellsFault (first_of (refusals p j c)) refusal.NoMemory r
+IsRefused p j c r = IsFirstFault (first_of (refusals p j c)) refusal.NoMemory r
 
 abbrev pub IsRefusedWithin : Setting → Journal → Command → Option Sums → Refusal → Type 0
-IsRefusedWithin p j c room r = TellsFault (first_of (refusals_within p j c room)) refusal.NoMemory r
+IsRefusedWithin p j c room r = IsFirstFault (first_of (refusals_within p j c room)) refusal.NoMemory r
 
 -- what was answered, and the journal after it, are as due
 abbrev pub Gives : {A R : Type 0} → Outcome A R → Result A R → Journal → Type 0

@@ -31,9 +31,9 @@ body_of p j (Usage key cause) = body.Usage key (unreported p j key) cause
 body_of p j (Access kind value) = body.Access kind value
 
 -- the journal with these reports at its end, numbered on
-unfoldable pub tell : Setting → List PendingReport → Journal → Journal
-tell p [] j = j
-tell p (t ∷ ts) j = tell p ts (entry.Report (record { number = report_count j; body = body_of p j t }) ∷ j)
+unfoldable pub with_reports : Setting → List PendingReport → Journal → Journal
+with_reports p [] j = j
+with_reports p (t ∷ ts) j = with_reports p ts (entry.Report (record { number = report_count j; body = body_of p j t }) ∷ j)
 
 -- ---- what a command reports by itself
 -- names in the order of their bytes
@@ -99,12 +99,12 @@ thresholds p j =
     if (subscribed j).usage_report then map (λ k. Usage k Threshold) (filter (is_reached p j) (slots p j)) else []
 
 abbrev pub with_thresholds : Setting → Journal → Journal
-with_thresholds p j = tell p (thresholds p j) j
+with_thresholds p j = with_reports p (thresholds p j) j
 
 -- ---- the journal after an event
 -- an accepted command: its entry, its own reports, and the thresholds
 unfoldable pub after_command : Setting → Journal → Command → Journal
-after_command p j c = with_thresholds p (tell p (plan p j c) (entry.Command c ∷ j))
+after_command p j c = with_thresholds p (with_reports p (plan p j c) (entry.Command c ∷ j))
 
 unfoldable pub with_rows : List Row → Journal → Journal
 with_rows [] j = j

@@ -1,7 +1,7 @@
 //! What a reader must believe of a session, once: `Command`, `Step`, `Row`, `Report`, `Entry`, `Profile`, answers and
 //! refusals as types, and the definitions of what a journal says.
 //!
-//! Its contracts tell: the words in which all layers above state their contracts, and laws of lawful journals.
+//! Its contracts say: the words in which all layers above state their contracts, and laws of lawful journals.
 //!
 //! In the order of reading: `laws`, `level`, `profile`, `trigger`, `verdict`, `answer`, `report`, `row`, `command`,
 //! `pending_report`, `step`, `entry`.

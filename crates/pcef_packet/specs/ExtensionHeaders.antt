@@ -5,14 +5,14 @@ use Rattle.byteorder.specs.Endian.{big_number}
 
 -- Hop-by-Hop Options, Routing and Destination Options (clauses 4.3, 4.4 and 4.6) tell their own length;
 -- Fragment (clause 4.5) has 8 octets
-abbrev pub tells_length : ℕ → Bool
-tells_length kind = (kind == 0) || ((kind == 43) || (kind == 60))
+abbrev pub states_length : ℕ → Bool
+states_length kind = (kind == 0) || ((kind == 43) || (kind == 60))
 
 abbrev pub is_fragment : ℕ → Bool
 is_fragment kind = kind == 44
 
 abbrev pub is_extension : ℕ → Bool
-is_extension kind = is_fragment kind || tells_length kind
+is_extension kind = is_fragment kind || states_length kind
 
 -- how many octets a header of this kind has, by its first octets; Hdr Ext Len is octet 1, in units of 8
 -- octets beyond the first 8

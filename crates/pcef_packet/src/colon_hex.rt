@@ -112,7 +112,7 @@ fn whole(text: &[u8]) -> Option<u128>
 
 /// The number of the groups before two colons and of those behind them.
 #[tactic(auto, unfolding(crate::specs::AddressTexts::shortened_in))]
-fn shortened(before: &[u8], behind: &[u8]) -> Option<u128>
+fn expand(before: &[u8], behind: &[u8]) -> Option<u128>
     ensures { result ≡ shortened_in before.now behind.now }
 {
     let Some((high, highs)) = side(before) else {
@@ -135,7 +135,7 @@ pub(crate) fn colon_hex_number(text: &[u8]) -> Option<u128>
 {
     let place = place_of_gap(text);
     if place < text.len() {
-        shortened(&text[..place], &text[place + 2..])
+        expand(&text[..place], &text[place + 2..])
     } else {
         whole(text)
     }

@@ -82,7 +82,7 @@ fn past(kind: u8, octets: &[u8]) -> Option<(u8, &[u8], bool)>
 
 /// What is carried behind the headers in front, of which the first has this kind. None where one of them
 /// isn't whole.
-pub(crate) fn carried(first: u8, octets: &[u8]) -> Option<Payload<'_>>
+pub(crate) fn payload_behind(first: u8, octets: &[u8]) -> Option<Payload<'_>>
     ensures { result ≡ carried_in first octets.now }
 {
     let mut kind = first;

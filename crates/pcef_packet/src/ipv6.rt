@@ -3,7 +3,7 @@
 ghost use Rattle.std.specs.Prelude.{◌≡◌, ◌≤◌, None, length, if◌then◌else◌};
 ghost use Rattle.pcef_packet.specs.HeaderOf.{header_v6, ports_in, reading_v6, volume_v6};
 
-use crate::extensions::{Payload, carried};
+use crate::extensions::{Payload, payload_behind};
 use crate::header::{Addr, Dir, Header, PacketFault, Ports};
 use crate::ports::ports_of;
 use byteorder::{BigEndian, ByteOrder};
@@ -64,7 +64,7 @@ pub(crate) fn read_v6(dir: Dir, octets: &[u8]) -> Result<Header, PacketFault>
     if octets.len() < volume as usize {
         return Err(PacketFault::BadTotalLength);
     }
-    match carried(octets[6], &octets[FIXED_LEN..volume as usize]) {
+    match payload_behind(octets[6], &octets[FIXED_LEN..volume as usize]) {
         None => Err(PacketFault::BadHeaderLength),
         Some(payload) => Ok(fields(dir, octets, volume, &payload)),
     }

@@ -1,7 +1,7 @@
 //! The IP header of a user packet, as far as rules, verdicts and volumes look at it: `Header` and its parts, the
 //! readers of headers and of addresses in text, both of either version, and `PackedHeader`.
 //!
-//! Its contracts tell: the header at the front of some octets, or its first fault; the address that a text writes;
+//! Its contracts say: the header at the front of some octets, or its first fault; the address that a text writes;
 //! which addresses are a session's.
 //!
 //! In the order of reading: `header`, `packed`, `ports`, `ipv4`, `extensions`, `ipv6`, `reading`, `cutting`,

@@ -14,7 +14,7 @@ use Rattle.pcef_run.specs.Inputs.{IsRead}
 use Rattle.pcef_run.specs.Plans.{command_line}
 use Rattle.pcef_run.specs.declared.fault.PlanFault.{PlanFault}
 use Rattle.pcef_run.specs.declared.fault.PlanFault.TheVariants as fault
-use Rattle.pcef_run.specs.Reasons.{IsFaultAt, IsFor, TellsReason, untaken_by}
+use Rattle.pcef_run.specs.Reasons.{IsFaultAt, IsFor, SaysReason, untaken_by}
 use Rattle.pcef_run.specs.declared.unfit.Unfit.{Unfit}
 use Rattle.pcef_run.specs.declared.unfit.Unfit.TheVariants as unfit
 use Rattle.pcef_run.specs.declared.unfit.Untaken.{Untaken}
@@ -84,7 +84,7 @@ order_added (Err e) sessions bytes old new o filled is pushed = tt
 pub fails_at : (sessions : ℕ) (lines front : List (List ℕ)) (bytes : List ℕ) (rest : List (List ℕ)) (before : List Order) (number : ℕ) (u : Untaken) (f : PlanFault) → lines ≡ front ++ bytes ∷ rest
     → number ≡ length front + 1 → AreOrdered sessions front before → IsFor (IsWrongLine sessions bytes) u → IsFaultAt number u f → FailsIn sessions lines f
 fails_at sessions lines front bytes rest before number (untaken.Unfit why) (fault.Line first) whole at ordered wrong (numbered, is, told) =
-    (front, bytes, rest, before, whole, numbered ∙ at, ordered, subst (IsWrongLine sessions bytes) (sym is) wrong, subst (λ w. TellsReason w (string_bytes first.told)) (sym is) told)
+    (front, bytes, rest, before, whole, numbered ∙ at, ordered, subst (IsWrongLine sessions bytes) (sym is) wrong, subst (λ w. SaysReason w (string_bytes first.told)) (sym is) told)
 fails_at sessions lines front bytes rest before number (untaken.Unfit why) fault.Read whole at ordered wrong none = absurd none
 fails_at sessions lines front bytes rest before number (untaken.Unfit why) fault.TooMuch whole at ordered wrong none = absurd none
 fails_at sessions lines front bytes rest before number (untaken.Unfit why) fault.NoMemory whole at ordered wrong none = tt

@@ -10,7 +10,7 @@ use Rattle.pcef_script.specs.ScriptLines.{is_blank}
 use Rattle.pcef_script.specs.Scripts.{all_lines}
 use Rattle.pcef_run.specs.Inputs.{IsRead, IsUnread}
 use Rattle.pcef_run.specs.Plans.{command_line}
-use Rattle.pcef_run.specs.Reasons.{TellsReason}
+use Rattle.pcef_run.specs.Reasons.{SaysReason}
 use Rattle.pcef_run.specs.declared.fault.PlanFault.{PlanFault}
 use Rattle.pcef_run.specs.declared.fault.PlanFault.TheVariants as fault
 use Rattle.pcef_run.specs.declared.unfit.FirstUnfit.{FirstUnfit}
@@ -76,7 +76,7 @@ abbrev pub IsFirstWrong : ℕ → List (List ℕ) → FirstUnfit → Type 0
 IsFirstWrong sessions lines first =
     (front : List (List ℕ)) × (bytes : List ℕ) × (rest : List (List ℕ)) × (before : List Order)
     × (lines ≡ front ++ bytes ∷ rest) × (first.number ≡ length front + 1) × AreOrdered sessions front before
-    × IsWrongLine sessions bytes first.why × TellsReason first.why (string_bytes first.told)
+    × IsWrongLine sessions bytes first.why × SaysReason first.why (string_bytes first.told)
 
 -- The orders of an input that was read to its end, or its first line that is none; and else why it wasn't read. Want of
 -- memory may come in either.

@@ -15,8 +15,8 @@ use Rattle.pcef_pool_run.specs.declared.order.Order.{Order}
 
 -- ---- one order
 -- the line that tells an answer of the session of a number, with the reports that its journal has for it
-abbrev pub TellsAt : ℕ → PooledModel → Result Accepted Refusal → List ℕ → Type 0
-TellsAt n after answer text = IfSome (slice_get after.sessions n) (λ s. text ≡ command_text s.journal answer ++ 10 ∷ [])
+abbrev pub IsAnswerLine : ℕ → PooledModel → Result Accepted Refusal → List ℕ → Type 0
+IsAnswerLine n after answer text = IfSome (slice_get after.sessions n) (λ s. text ≡ command_text s.journal answer ++ 10 ∷ [])
 
 -- A session answers an order in the room that the others leave it, which stay as they were, and this line tells the
 -- answer. What the pool has granted is then again what the sessions have. Out of memory is no answer.
@@ -24,7 +24,7 @@ pub record AnswersOrder (before : PooledModel) (o : Order) (text : List ℕ) (af
   pub answer : Result Accepted Refusal
   pub answers : AnswersAt o.session before o.command answer after
   pub memory : answer ≢ Err NoMemory
-  pub told : TellsAt o.session after answer text
+  pub told : IsAnswerLine o.session after answer text
   pub others : KeepsOthers o.session before after
   pub capacity : after.pool.capacity ≡ before.pool.capacity
   pub granted : after.pool.books.granted ≡ granted_to after.sessions

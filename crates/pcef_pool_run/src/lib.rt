@@ -1,6 +1,6 @@
 //! Runs sessions on a pool of guaranteed rates, on commands that are all read beforehand: `read_orders`, `run_pool`.
 //!
-//! Its contracts tell: the orders that the lines of an input are, and what is written for their answers.
+//! Its contracts say: the orders that the lines of an input are, and what is written for their answers.
 //!
 //! In the order of reading: `fault`, `order`, `reading`, `running`, `run`.
 #![tactic(auto)]

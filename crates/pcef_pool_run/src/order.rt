@@ -7,7 +7,7 @@ ghost use Rattle.pcef_pool_run.specs.Orders.{IsOrder, IsWrong, IsWrongLine, Take
 
 use pcef_line::{Line, LineReader};
 use pcef_model::{Command, Step};
-use pcef_run::{Unfit, Untaken, is_blank, line_of, unread};
+use pcef_run::{Unfit, Untaken, is_blank, line_of, untaken_for};
 use std::alloc::Global;
 
 /// A command for one of several sessions.
@@ -51,7 +51,7 @@ fn order_of(
     match line_of(alloc, reader, rest) {
         Ok(Line::Step(Step::Command(command))) => Ok(Order { session, command }),
         Ok(_) => Err(Untaken::Unfit(Unfit::NotOfPool)),
-        Err(fault) => Err(unread(fault)),
+        Err(fault) => Err(untaken_for(fault)),
     }
 }
 

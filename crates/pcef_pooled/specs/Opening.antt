@@ -2,7 +2,7 @@
 use Rattle.std.specs.Prelude.{ℕ, ◌≡◌, ◌||◌, ◌+◌, Bool, List, [], ◌∷◌, ◌++◌, Option, Some, None, length, map, nat_le, nat_lt}
 use Rattle.pcef_rule.specs.declared.quantity.Sums.{Sums}
 use Rattle.pcef_catalog.specs.declared.listing.Offer.{Offer}
-use Rattle.pcef_model.specs.Outcomes.{TellsFault}
+use Rattle.pcef_model.specs.Outcomes.{IsFirstFault}
 use Rattle.pcef_model.specs.ProfileModel.{ProfileModel, setting_of}
 use Rattle.pcef_model.specs.Refusals.{Conditions, first_of, open_faults}
 use Rattle.pcef_pool.specs.declared.pool_state.PoolFault.TheVariants as of_pool
@@ -36,7 +36,7 @@ pooled_faults capacity asked =
 -- they open where there is no fault
 abbrev pub OpensOn : Sums → List Asked → Option PooledFault → Type 0
 OpensOn capacity asked None = first_of (pooled_faults capacity asked) ≡ None
-OpensOn capacity asked (Some f) = TellsFault (first_of (pooled_faults capacity asked)) fault.NoMemory f
+OpensOn capacity asked (Some f) = IsFirstFault (first_of (pooled_faults capacity asked)) fault.NoMemory f
 
 -- a session for each that is asked for, in their order, with an empty journal
 abbrev pub AreOpened : List Asked → List SessionModel → Type 0

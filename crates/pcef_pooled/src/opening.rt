@@ -30,7 +30,7 @@ pub(crate) fn first_fault(profiles: &[(Profile, Listing)]) -> Option<PooledFault
 }
 
 /// A session for each profile and listing, in their order, each with a share without rates. Takes memory.
-pub(crate) fn opened<P: Pooling>(
+pub(crate) fn open_members<P: Pooling>(
     alloc: Global,
     profiles: Vec<(Profile, Listing)>,
     pool: &mut PoolState<P>,

@@ -8,7 +8,7 @@ ghost use Rattle.pcef_pooled.specs.Opening.{AreOpened, OpensOn};
 
 use crate::fault::PooledFault;
 use crate::member::Member;
-use crate::opening::{first_fault, opened};
+use crate::opening::{first_fault, open_members};
 use pcef_catalog::Listing;
 use pcef_model::{Accepted, Command, Profile, Refusal};
 use pcef_pool::PoolState;
@@ -72,7 +72,7 @@ impl<P: Pooling> Pooled<P> {
             Ok(pool) => pool,
             Err(fault) => return Err(PooledFault::Pool(fault)),
         };
-        match opened(alloc, profiles, &mut pool) {
+        match open_members(alloc, profiles, &mut pool) {
             Ok(members) => Ok(Pooled { members, pool }),
             Err(_) => Err(PooledFault::NoMemory),
         }

@@ -59,9 +59,9 @@ fn unknown_in(level: Level, table: &Table) -> Option<&str> {
 }
 
 /// What is told of a key that a table may not have.
-fn told_unknown(alloc: Global, level: Level, text: &str) -> Result<String, AllocError> {
+fn unknown_key_text(alloc: Global, level: Level, text: &str) -> Result<String, AllocError> {
     let text = if is_plain(text) { text } else { ".." };
-    let keys = level.expected();
+    let keys = level.expected_keys();
     format!(in alloc; "{level}{text}: {keys} is expected")
 }
 
@@ -69,7 +69,7 @@ fn told_unknown(alloc: Global, level: Level, text: &str) -> Result<String, Alloc
 fn unknown_key(alloc: Global, table: &Table) -> Result<Option<String>, AllocError> {
     for (level, table) in levels(alloc, table)? {
         if let Some(text) = unknown_in(level, table) {
-            return Ok(Some(told_unknown(alloc, level, text)?));
+            return Ok(Some(unknown_key_text(alloc, level, text)?));
         }
     }
     Ok(None)
@@ -78,7 +78,7 @@ fn unknown_key(alloc: Global, table: &Table) -> Result<Option<String>, AllocErro
 /// The first key that a table lacks.
 fn missing_key(alloc: Global, table: &Table) -> Result<Option<String>, AllocError> {
     for (level, table) in levels(alloc, table)? {
-        for key in level.needed() {
+        for key in level.required_keys() {
             if entry(table, *key).is_none() {
                 let text = key.text();
                 let wanted = wanted_at(level, *key);
@@ -89,7 +89,7 @@ fn missing_key(alloc: Global, table: &Table) -> Result<Option<String>, AllocErro
     Ok(None)
 }
 
-fn told(
+fn value_text(
     alloc: Global,
     level: Level,
     key: Key,
@@ -108,7 +108,7 @@ fn value_out_of_range(alloc: Global, table: &Table) -> Result<Option<String>, Al
             if let Some(value) = entry(table, *key) {
                 let wanted = wanted_at(level, *key);
                 if !wanted.is(value) {
-                    return Ok(Some(told(alloc, level, *key, value, wanted)?));
+                    return Ok(Some(value_text(alloc, level, *key, value, wanted)?));
                 }
             }
         }

@@ -1,6 +1,6 @@
 //! The profile of a session, a TOML document (v1.0.0): its reader and `ReadProfileFault`.
 //!
-//! Its contracts tell: the profile that a text spells, or its first fault.
+//! Its contracts say: the profile that a text spells, or its first fault.
 //!
 //! In the order of reading: `fault`, `key`, `shape`, `wanted`, `explaining`, `values`, `reading`.
 #![tactic(auto)]

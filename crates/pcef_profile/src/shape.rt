@@ -149,7 +149,7 @@ impl Level {
     }
 
     /// The keys that it must have.
-    pub(crate) fn needed(self) -> &'static [Key] {
+    pub(crate) fn required_keys(self) -> &'static [Key] {
         match self {
             Level::Profile => NEEDED_OF_PROFILE,
             _ => self.keys(),
@@ -157,7 +157,7 @@ impl Level {
     }
 
     /// The same in words.
-    pub(crate) fn expected(self) -> &'static str {
+    pub(crate) fn expected_keys(self) -> &'static str {
         match self {
             Level::Profile => "ue, rows, commands, default, capacity or declared",
             Level::Default => "qci, level, capability or vulnerability",

@@ -9,7 +9,7 @@ use Rattle.pcef_script.specs.declared.fault.ScriptFault.TheVariants as script
 use Rattle.pcef_script.specs.ScriptLines.{AppendsFront}
 use Rattle.pcef_program.specs.declared.end.End.{End}
 use Rattle.pcef_program.specs.Ends.{end_reason, end_text}
-use Rattle.pcef_program.specs.Telling.{AppendsSome, IsTold, TellsMore}
+use Rattle.pcef_program.specs.EndWriting.{AppendsSome, WritesEnd, WritesMore}
 
 -- bytes that were put, or a front of them
 pub put_some : {T : Type 0} (r : Result T ScriptFault) (a b : Option (List ℕ)) (text : List ℕ) → OnOk r (Appends a b text) → IfErr r (λ e. (e ≡ script.Write) × AppendsFront a b text) → AppendsSome a b
@@ -24,27 +24,27 @@ pub not_empty : (line : List ℕ) {text : List ℕ} (flag : Bool) → text ≡ l
 not_empty line flag is empty fails none = false≢true (sym fails ∙ empty ∙ ap (λ t. length t == 0) (sym is ∙ none))
 
 -- nothing is said
-pub told_nothing : (end : End) (a : Option (List ℕ)) → IsTold end a a
+pub told_nothing : (end : End) (a : Option (List ℕ)) → WritesEnd end a a
 told_nothing end a = ([], λ none. refl, ([], end_text end ++ (end_reason end ++ []), refl, Appends-nil a))
 
 -- the line, or a front of it
-pub told_line : (end : End) (a b : Option (List ℕ)) → AppendsFront a b (end_text end) → IsTold end a b
+pub told_line : (end : End) (a b : Option (List ℕ)) → AppendsFront a b (end_text end) → WritesEnd end a b
 told_line end a b (front, rest, is, appended) =
     let more = end_reason end ++ [] in
     ([], λ none. refl, (front, rest ++ more, ap (λ t. t ++ more) is ∙ append_assoc front rest more, appended))
 
 -- what is wrong with the line that doesn't fit, or a front of it
-pub reason_told : (end : End) (a b : Option (List ℕ)) → AppendsFront a b (end_reason end) → TellsMore end a b
+pub reason_told : (end : End) (a b : Option (List ℕ)) → AppendsFront a b (end_reason end) → WritesMore end a b
 reason_told end a b (front, rest, is, appended) = ([], (front, rest, append-nil (end_reason end) ∙ is, appended))
 
 -- and what follows it
-pub reason_then : (end : End) (a b c : Option (List ℕ)) → Appends a b (end_reason end) → AppendsSome b c → TellsMore end a c
+pub reason_then : (end : End) (a b c : Option (List ℕ)) → Appends a b (end_reason end) → AppendsSome b c → WritesMore end a c
 reason_then end a b c told (more, appended) =
     let whole = end_reason end ++ more in
     (more, (whole, [], sym (append-nil whole), Appends-trans a b c (end_reason end) more told appended))
 
 -- the line, and what follows it
-pub told_more : (end : End) (a b c : Option (List ℕ)) → (end_text end ≡ [] → ⊥) → Appends a b (end_text end) → TellsMore end b c → IsTold end a c
+pub told_more : (end : End) (a b c : Option (List ℕ)) → (end_text end ≡ [] → ⊥) → Appends a b (end_text end) → WritesMore end b c → WritesEnd end a c
 told_more end a b c some line (more, (front, rest, is, appended)) =
     let text = end_text end in
     (more, λ none. absurd (some none), (text ++ front, rest, ap (λ t. text ++ t) is ∙ sym (append_assoc text front rest), Appends-trans a b c text front line appended))

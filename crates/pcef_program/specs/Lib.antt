@@ -2,5 +2,5 @@ pub mod Ends
 pub mod PlanRuns
 pub mod PoolEnds
 pub mod Programs
-pub mod Telling
+pub mod EndWriting
 pub mod Words

@@ -27,8 +27,8 @@ IsWritten ran taken ending.NoMemory old new = Keeps old new
 IsWritten ran taken other old new = ⊥
 
 -- of a plan that was run
-abbrev pub TellsRun : Setting → Plan → ℕ → End → Option (List ℕ) → Option (List ℕ) → Type 0
-TellsRun p plan workers end old new = (ran : Ran) × RunsPlan p plan workers ran × (taken : Counts) × IsWritten ran taken end old new
+abbrev pub WritesRun : Setting → Plan → ℕ → End → Option (List ℕ) → Option (List ℕ) → Type 0
+WritesRun p plan workers end old new = (ran : Ran) × RunsPlan p plan workers ran × (taken : Counts) × IsWritten ran taken end old new
 
 -- no session can be opened with the profile, for this fault
 abbrev pub IsOpenFault : Setting → ReadProfileFault → Type 0
@@ -44,8 +44,8 @@ IsRunFault workers other = Unit {0}
 
 -- the whole input is a plan, and the session ran it; or nothing is written
 abbrev pub RanPlan : Setting → ℕ → End → Option (List ℕ) → Option (List ℕ) → Option (List ℕ) → Option (List ℕ) → Type 0
-RanPlan p workers ending.Done before left old new = (plan : Plan) × Plans workers (Ok plan) before left × TellsRun p plan workers ending.Done old new
-RanPlan p workers ending.Write before left old new = (plan : Plan) × Plans workers (Ok plan) before left × TellsRun p plan workers ending.Write old new
+RanPlan p workers ending.Done before left old new = (plan : Plan) × Plans workers (Ok plan) before left × WritesRun p plan workers ending.Done old new
+RanPlan p workers ending.Write before left old new = (plan : Plan) × Plans workers (Ok plan) before left × WritesRun p plan workers ending.Write old new
 RanPlan p workers (ending.Run fault) before left old new =
     (plan : Plan) × Plans workers (Ok plan) before left × IsRunFault workers fault × Keeps old new
 RanPlan p workers (ending.Profile fault) before left old new =
@@ -60,8 +60,8 @@ RanPlan p workers other before left old new = ⊥
 -- ---- for private clauses
 -- that of a plan that was read
 abbrev pub RanOne : Setting → ℕ → Plan → End → Option (List ℕ) → Option (List ℕ) → Type 0
-RanOne p workers plan ending.Done old new = TellsRun p plan workers ending.Done old new
-RanOne p workers plan ending.Write old new = TellsRun p plan workers ending.Write old new
+RanOne p workers plan ending.Done old new = WritesRun p plan workers ending.Done old new
+RanOne p workers plan ending.Write old new = WritesRun p plan workers ending.Write old new
 RanOne p workers plan (ending.Run fault) old new = FailsRun plan workers fault × Keeps old new
 RanOne p workers plan (ending.Profile fault) old new = IsOpenFault p fault × Keeps old new
 RanOne p workers plan ending.NoMemory old new = Keeps old new

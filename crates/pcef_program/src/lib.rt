@@ -1,9 +1,9 @@
 //! The program `pcef` without the process that it runs in: `words`, `program`, `plan_run`, `pool_run`, `end`,
-//! `telling`.
+//! `reporting`.
 //!
-//! Its contracts tell: what the words of a call ask for, what comes of it, and the table of its ends.
+//! Its contracts say: what the words of a call ask for, what comes of it, and the table of its ends.
 //!
-//! In the order of reading: `end`, `words`, `mistake`, `plan_run`, `pool_run`, `telling`, `program`.
+//! In the order of reading: `end`, `words`, `mistake`, `plan_run`, `pool_run`, `reporting`, `program`.
 #![tactic(auto)]
 
 pub mod end;
@@ -11,5 +11,5 @@ mod mistake;
 mod plan_run;
 mod pool_run;
 pub mod program;
-mod telling;
+mod reporting;
 pub mod words;

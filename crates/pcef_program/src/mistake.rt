@@ -4,7 +4,7 @@ use crate::words::rate_in;
 use std::alloc::{AllocError, Global};
 
 /// A word as it is shown: one of 80 bytes at most, all printable ASCII.
-fn shown(alloc: Global, word: &[u8]) -> Result<String, AllocError> {
+fn word_text(alloc: Global, word: &[u8]) -> Result<String, AllocError> {
     if word.len() > 80 || !word.iter().all(|byte| (b' '..=b'~').contains(byte)) {
         return format!(in alloc; "other text");
     }
@@ -14,7 +14,7 @@ fn shown(alloc: Global, word: &[u8]) -> Result<String, AllocError> {
 
 /// A line that says what a number is to be, and what stands there.
 fn number_line(alloc: Global, name: &str, range: &str, word: &[u8]) -> Result<String, AllocError> {
-    let found = shown(alloc, word)?;
+    let found = word_text(alloc, word)?;
     format!(in alloc; "{name} is {range}, found {found}.\n")
 }
 
@@ -60,6 +60,6 @@ pub(crate) fn mistake_line(alloc: Global, words: &[Vec<u8>]) -> Result<String, A
     if first.as_slice() == b"pool".as_slice() {
         return pool_line(alloc, rest);
     }
-    let found = shown(alloc, first.as_slice())?;
+    let found = word_text(alloc, first.as_slice())?;
     format!(in alloc; "There is no command {found}: there are script, run and pool.\n")
 }

@@ -51,7 +51,7 @@ fn report(outlet: Outlet, reports: &[Report]) -> bool {
 }
 
 /// Hands the reports of a run on, and writes what it came to. A reporter refuses when out of memory.
-fn tell_run<W: Write>(
+fn report_run<W: Write>(
     alloc: Global,
     ran: &Ran,
     outlet: Outlet,
@@ -86,7 +86,7 @@ fn run_one<T: Threads + Wait + Sync, W: Write>(
         (W.contents writer.old) (W.contents writer.new) }
 {
     match run_plan(rt, alloc, catalog, profile, plan, workers) {
-        Ok(ran) => tell_run(alloc, &ran, outlet, taken, writer),
+        Ok(ran) => report_run(alloc, &ran, outlet, taken, writer),
         Err(end) => run_end(end),
     }
 }

@@ -7,12 +7,12 @@ ghost use Rattle.pcef_model.specs.ProfileModel.{setting_of};
 ghost use Rattle.pcef_program.specs.declared.end.End.{End};
 ghost use Rattle.pcef_program.specs.Ends.{end_status};
 ghost use Rattle.pcef_program.specs.Programs.{Ends, EndsOne, IsWhole, Ran, RanScript, asked, asked_pool};
-ghost use Rattle.pcef_program.specs.Telling.{IsTold};
+ghost use Rattle.pcef_program.specs.EndWriting.{WritesEnd};
 
 use crate::end::{End, profile_end, script_end, unread_end};
 use crate::plan_run::run_input;
 use crate::pool_run::run_on_pool;
-use crate::telling::tell;
+use crate::reporting::report_end;
 use crate::words::{path_of, paths_of, pool_of, workers_of};
 use pcef_catalog::Catalog;
 use pcef_model::Profile;
@@ -97,7 +97,7 @@ fn with_profile<T: Threads + Wait + Sync, R: Read, W: Write>(
 }
 
 /// The profile of the script or the run that the arguments ask for, if they do.
-fn asked<'a>(
+fn request_of<'a>(
     words: &[Vec<u8>],
     profiles: &'a [io::Result<String>],
 ) -> Option<&'a io::Result<String>>
@@ -165,7 +165,7 @@ fn end_of<T: Threads + Wait + Sync, R: Read, W: Write>(
         None => one_end(
             rt,
             alloc,
-            asked(words, profiles),
+            request_of(words, profiles),
             workers_of(words),
             catalog,
             outlet,
@@ -201,7 +201,7 @@ pub fn program<T: Threads + Wait + Sync, R: Read, W: Write, E: Write>(
 ) -> u8
     // The status and what is said are those of the end to which the words, the profile and the input come.
     ensures ends { (end : End) × (result ≡ end_status end)
-        × IsTold end (E.contents faults.old) (E.contents faults.new)
+        × WritesEnd end (E.contents faults.old) (E.contents faults.new)
         × Ends (offers_of (arc_value catalog)) words.now profiles.now end
         (R.remaining reader.old) (R.remaining reader.new)
         (W.contents writer.old) (W.contents writer.new) }
@@ -215,6 +215,6 @@ pub fn program<T: Threads + Wait + Sync, R: Read, W: Write, E: Write>(
     let end = end_of(
         rt, alloc, words, profiles, catalog, outlet, taken, reader, writer,
     );
-    tell(alloc, &end, words, profiles, faults);
+    report_end(alloc, &end, words, profiles, faults);
     end.status()
 }

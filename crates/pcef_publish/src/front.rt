@@ -97,7 +97,7 @@ impl Opened {
     }
 
     /// The author under a name, and the first table with its history.
-    pub fn named<N: Naming>(self) -> (Author<N>, Entry<N>)
+    pub fn into_named<N: Naming>(self) -> (Author<N>, Entry<N>)
         requires book { (self.book ≡ N.book) × (self.root ≡ N.root) }
         requires first { self.table.number ≡ N.first }
         requires table { IsTable N.setting.catalog self.table.entries }

@@ -135,7 +135,7 @@ impl<N: Naming, R: Wait + Drop> Publisher<N, Writer<N, R>> {
         ensures held { IfOk result (λ r. All (λ s. s ≡ opened.table ∷ []) r.1.items) }
         ensures many { IfOk result (λ r. length r.1.items ≡ places) }
     {
-        let (author, newest) = opened.named::<N>();
+        let (author, newest) = opened.into_named::<N>();
         let (first, second) = first_slots(alloc, &newest)?;
         let writer = WriteHandle::new(alloc, rt, first, second, places)?;
         let subscribers = seat_all(alloc, &writer, &newest, places)?;

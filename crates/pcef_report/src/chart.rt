@@ -32,7 +32,7 @@ pub(crate) fn color(number: usize) -> &'static str {
 }
 
 /// How far a value goes of so much room, where the most goes all of it.
-pub(crate) fn scaled(value: u64, most: u64, room: u64) -> u64
+pub(crate) fn scale(value: u64, most: u64, room: u64) -> u64
     ensures { result ≤ room }
 {
     let most = most.max(1);
@@ -113,9 +113,9 @@ pub(crate) fn begin_steps(page: &mut Sheet, style: Steps<'_>) {
 /// Adds a step to this value at this place along.
 pub(crate) fn step(page: &mut Sheet, place: u64, value: u64, style: Steps<'_>) {
     page.raw("H");
-    page.number(scaled(place, style.last, WIDTH));
+    page.number(scale(place, style.last, WIDTH));
     page.raw("V");
-    page.number(HEIGHT - scaled(value, style.most, HEIGHT));
+    page.number(HEIGHT - scale(value, style.most, HEIGHT));
 }
 
 /// Ends a line of steps.
@@ -128,7 +128,7 @@ pub(crate) fn end_steps(page: &mut Sheet) {
 /// Begins a dot on the axis along; what it tells stands between this and its end.
 pub(crate) fn begin_dot(page: &mut Sheet, place: u64, style: Steps<'_>) {
     page.raw("<circle");
-    attribute(page, "cx", scaled(place, style.last, WIDTH));
+    attribute(page, "cx", scale(place, style.last, WIDTH));
     attribute(page, "cy", HEIGHT);
     attribute(page, "r", 5);
     page.raw(" fill=\"");

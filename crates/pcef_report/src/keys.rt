@@ -224,7 +224,7 @@ fn push_table<'a>(page: &mut Sheet, keys: &[(&'a str, Key<'a>)], octets: &Sums<'
 }
 
 /// Adds what is told of the keys, and of the sums of their octets.
-fn push_told<'a>(
+fn push_key_section<'a>(
     page: &mut Sheet,
     figures: &Figures,
     keys: &[(&'a str, Key<'a>)],
@@ -249,6 +249,6 @@ pub(crate) fn push_keys(
     let keys = keys_of(alloc, figures)?;
     let octets = octets_by_key(alloc, figures.usage.as_slice())?;
     page.raw("<h2>Octets of the monitoring keys</h2>\n");
-    push_told(page, figures, keys.entries(), &octets);
+    push_key_section(page, figures, keys.entries(), &octets);
     Ok(())
 }

@@ -21,9 +21,9 @@ ghost use Rattle.std.specs.Prelude.{◌≤◌};
 
 use end::End;
 use metrics::metrics_text;
-use options::{Format, Options, asked};
+use options::{Format, Options, parse_options};
 use page::html_page;
-use pcef_command_line::{gather, refuse, tell_no_memory};
+use pcef_command_line::{gather, refuse, report_no_memory};
 use pcef_figures::{CollectFault, Figures, collect};
 use std::alloc::Global;
 use std::fs;
@@ -68,7 +68,7 @@ fn write(rt: &HostRuntime, format: Format, figures: &Figures) -> io::Result<()> 
 }
 
 /// What lines and answers that don't belong together seem to be: a line behind a line feed, or nothing.
-fn seeming(lines: &[u8], answers: &[u8]) -> &'static str {
+fn hint_of(lines: &[u8], answers: &[u8]) -> &'static str {
     for octets in &[lines, answers] {
         if octets.starts_with(b"\xff\xfe") || octets.starts_with(b"\xfe\xff") {
             return "\na file in UTF-16 has to be saved as UTF-8 before";
@@ -89,7 +89,7 @@ fn octets_of<'a>(rt: &HostRuntime, file: &'a str) -> Result<Vec<u8>, End<'a>> {
 }
 
 /// Collects what the octets of the files tell.
-fn collected<'a>(
+fn collect_figures<'a>(
     alloc: Global,
     options: Options<'a>,
     lines: &[u8],
@@ -98,7 +98,7 @@ fn collected<'a>(
     match collect(alloc, lines, answers) {
         Ok(figures) => Ok(figures),
         Err(CollectFault::NoMemory) => Err(End::NoMemory),
-        Err(fault) => Err(End::Apart(options, fault, seeming(lines, answers))),
+        Err(fault) => Err(End::Apart(options, fault, hint_of(lines, answers))),
     }
 }
 
@@ -106,7 +106,7 @@ fn collected<'a>(
 fn read<'a>(rt: &HostRuntime, options: Options<'a>) -> Result<Figures, End<'a>> {
     let lines = octets_of(rt, options.lines)?;
     let answers = octets_of(rt, options.answers)?;
-    collected(rt.alloc(), options, &lines, &answers)
+    collect_figures(rt.alloc(), options, &lines, &answers)
 }
 
 /// Shows what the files tell.
@@ -122,7 +122,7 @@ fn report<'a>(rt: &HostRuntime, options: Options<'a>) -> End<'a> {
 }
 
 /// Tells why the program ends early, and gives its exit status. That it can't be told changes nothing.
-fn told(rt: &HostRuntime, end: &End<'_>) -> u8
+fn report_end(rt: &HostRuntime, end: &End<'_>) -> u8
     ensures { result ≤ 4 }
 {
     match end {
@@ -134,7 +134,7 @@ fn told(rt: &HostRuntime, end: &End<'_>) -> u8
             );
         }
         End::NoMemory => {
-            let _ = tell_no_memory(rt);
+            let _ = report_no_memory(rt);
         }
         End::Read(file, error) => {
             let _ = eprintln!(rt; "read fault\n{file}: {error}");
@@ -154,8 +154,8 @@ fn status(rt: &HostRuntime) -> u8
         Ok(words) => words,
         Err(status) => return status,
     };
-    match asked(rt.alloc(), words.as_slice()) {
-        Ok(Some(options)) => told(rt, &report(rt, options)),
+    match parse_options(rt.alloc(), words.as_slice()) {
+        Ok(Some(options)) => report_end(rt, &report(rt, options)),
         Ok(None) => {
             let _ = eprintln!(rt; "usage: --format: html, csv or openmetrics is expected");
             2

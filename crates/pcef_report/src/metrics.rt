@@ -166,7 +166,10 @@ fn push_packets(alloc: Global, text: &mut Sheet, figures: &Figures) -> Result<()
 }
 
 /// The octets of each key that no report told: there is one sample of each, of the first one of its name.
-fn unreported<'a>(alloc: Global, figures: &'a Figures) -> Result<ByName<'a, u64>, AllocError> {
+fn unreported_by_key<'a>(
+    alloc: Global,
+    figures: &'a Figures,
+) -> Result<ByName<'a, u64>, AllocError> {
     let mut keys = ByName::new(alloc);
     for state in &figures.keys {
         keys.begin(state.key.as_str(), state.unreported)?;
@@ -197,7 +200,7 @@ fn push_keys(alloc: Global, text: &mut Sheet, figures: &Figures) -> Result<(), A
 }
 
 fn push_unreported(alloc: Global, text: &mut Sheet, figures: &Figures) -> Result<(), AllocError> {
-    let keys = unreported(alloc, figures)?;
+    let keys = unreported_by_key(alloc, figures)?;
     family(
         text,
         "pcef_unreported_octets",
@@ -209,7 +212,7 @@ fn push_unreported(alloc: Global, text: &mut Sheet, figures: &Figures) -> Result
 }
 
 /// The names of refusals and faults, in the order in which they come, with the counts of their lines.
-fn refused<'a>(alloc: Global, figures: &'a Figures) -> Result<ByName<'a, u64>, AllocError> {
+fn refused_by_name<'a>(alloc: Global, figures: &'a Figures) -> Result<ByName<'a, u64>, AllocError> {
     let mut names = ByName::new(alloc);
     for refused in &figures.refused {
         let name = refused.name.as_str();
@@ -222,7 +225,7 @@ fn refused<'a>(alloc: Global, figures: &'a Figures) -> Result<ByName<'a, u64>, A
 }
 
 fn push_refused(alloc: Global, text: &mut Sheet, figures: &Figures) -> Result<(), AllocError> {
-    let names = refused(alloc, figures)?;
+    let names = refused_by_name(alloc, figures)?;
     family(
         text,
         "pcef_refused_lines",

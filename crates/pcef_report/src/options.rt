@@ -69,7 +69,7 @@ fn command<'a>(alloc: Global) -> Result<Command<'a>, AllocError> {
 }
 
 /// What a command line that clap took asks for, or none where the format is none.
-fn found<'a>(matches: &ArgMatches<'a>) -> Option<Options<'a>> {
+fn options_of<'a>(matches: &ArgMatches<'a>) -> Option<Options<'a>> {
     Some(Options {
         format: matches.get_str("format").and_then(format_of)?,
         lines: matches.get_str("lines")?,
@@ -79,8 +79,11 @@ fn found<'a>(matches: &ArgMatches<'a>) -> Option<Options<'a>> {
 
 /// What the words ask for, of which the first is the program's name, or none where the format is none. Other wrong words
 /// are clap's error, and so are the questions for help and for the version; out of memory too. Takes memory.
-pub(crate) fn asked<'a>(alloc: Global, words: &'a [String]) -> Result<Option<Options<'a>>, Error> {
+pub(crate) fn parse_options<'a>(
+    alloc: Global,
+    words: &'a [String],
+) -> Result<Option<Options<'a>>, Error> {
     let command = command(alloc)?;
     let matches = command.try_get_matches_from(words)?;
-    Ok(found(&matches))
+    Ok(options_of(&matches))
 }

@@ -2,7 +2,7 @@
 
 ghost use Rattle.std.specs.Prelude.{◌<◌};
 
-use crate::chart::{self, HEIGHT, bar, mark, scaled};
+use crate::chart::{self, HEIGHT, bar, mark, scale};
 use crate::keys::push_keys;
 use crate::rates::push_rates;
 use crate::sheet::Sheet;
@@ -58,7 +58,7 @@ fn push_summary(page: &mut Sheet, figures: &Figures) {
 fn bar_of(line: u64, last: u64) -> usize
     ensures { result < BARS }
 {
-    let place = scaled(line.saturating_sub(1), last, BARS as u64) as usize;
+    let place = scale(line.saturating_sub(1), last, BARS as u64) as usize;
     place.min(BARS - 1)
 }
 
@@ -97,7 +97,7 @@ fn push_bars(
     color: &str,
 ) {
     for number in 0..BARS {
-        let height = scaled(counts[number], most, HEIGHT);
+        let height = scale(counts[number], most, HEIGHT);
         if height > 0 {
             bar(page, number as u64 * 12, 10, feet[number], height, color);
             feet[number] = feet[number].saturating_add(height);

@@ -1,7 +1,7 @@
 //! PCC rules (TS 23.203, clause 6.3): names, ARP, QoS, rates, gates, QCI kinds, `Properties`, `Rule`, and the order of
 //! rules.
 //!
-//! Its contracts tell: what is accepted, that copies are equal, and when rules are.
+//! Its contracts say: what is accepted, that copies are equal, and when rules are.
 //!
 //! In the order of reading: `gate`, `laws`, `name`, `priority`, `qci`, `quantity`, `rule`, `equal`.
 #![tactic(auto)]

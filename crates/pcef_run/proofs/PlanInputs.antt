@@ -6,7 +6,7 @@ use Rattle.pcef_script.specs.ScriptAnswers.{answered}
 use Rattle.pcef_script.specs.Scripts.{all_lines}
 use Rattle.pcef_run.specs.Inputs.{IsRead}
 use Rattle.pcef_run.specs.Plans.{ArePlanned, AskFor, FailsIn, IsUnfit, Plans}
-use Rattle.pcef_run.specs.Reasons.{IsFaultAt, IsFor, TellsReason}
+use Rattle.pcef_run.specs.Reasons.{IsFaultAt, IsFor, SaysReason}
 use Rattle.pcef_run.specs.declared.fault.PlanFault.{PlanFault}
 use Rattle.pcef_run.specs.declared.fault.PlanFault.TheVariants as fault
 use Rattle.pcef_run.specs.declared.plan.Plan.{Plan}
@@ -25,7 +25,7 @@ input_planned workers (Err fault.TooMuch) input before left read planned fails =
 pub fails_at : (workers : ℕ) (lines front : List (List ℕ)) (bytes : List ℕ) (rest : List (List ℕ)) (before : List Line) (number : ℕ) (u : Untaken) (f : PlanFault) → lines ≡ front ++ bytes ∷ rest
     → number ≡ length front + 1 → AskFor workers (answered front) before → IsFor (IsUnfit workers bytes) u → IsFaultAt number u f → FailsIn workers lines f
 fails_at workers lines front bytes rest before number (untaken.Unfit why) (fault.Line first) whole at asked unfit (numbered, is, told) =
-    (front, bytes, rest, before, whole, numbered ∙ at, asked, subst (IsUnfit workers bytes) (sym is) unfit, subst (λ w. TellsReason w (string_bytes first.told)) (sym is) told)
+    (front, bytes, rest, before, whole, numbered ∙ at, asked, subst (IsUnfit workers bytes) (sym is) unfit, subst (λ w. SaysReason w (string_bytes first.told)) (sym is) told)
 fails_at workers lines front bytes rest before number (untaken.Unfit why) fault.Read whole at asked unfit none = absurd none
 fails_at workers lines front bytes rest before number (untaken.Unfit why) fault.TooMuch whole at asked unfit none = absurd none
 fails_at workers lines front bytes rest before number (untaken.Unfit why) fault.NoMemory whole at asked unfit none = tt

@@ -16,7 +16,7 @@ use Rattle.pcef_run.specs.declared.unfit.FirstUnfit.{FirstUnfit}
 use Rattle.pcef_run.specs.declared.unfit.Unfit.{Unfit}
 use Rattle.pcef_run.specs.declared.unfit.Unfit.TheVariants as unfit
 use Rattle.pcef_run.specs.Inputs.{IsRead, IsUnread}
-use Rattle.pcef_run.specs.Reasons.{TellsReason}
+use Rattle.pcef_run.specs.Reasons.{SaysReason}
 
 -- ---- lines
 abbrev pub command_line : Command → Line
@@ -100,7 +100,7 @@ abbrev pub IsFirstUnfit : ℕ → List (List ℕ) → FirstUnfit → Type 0
 IsFirstUnfit workers lines first =
     (front : List (List ℕ)) × (bytes : List ℕ) × (rest : List (List ℕ)) × (before : List Line)
     × (lines ≡ front ++ bytes ∷ rest) × (first.number ≡ length front + 1) × AskFor workers (answered front) before
-    × IsUnfit workers bytes first.why × TellsReason first.why (string_bytes first.told)
+    × IsUnfit workers bytes first.why × SaysReason first.why (string_bytes first.told)
 
 -- The plan of an input that was read to its end, or its first line that is unfit; and else why it wasn't read. Either
 -- may run out of memory.

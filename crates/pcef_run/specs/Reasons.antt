@@ -24,8 +24,8 @@ abbrev pub NamesReason : Unfit → List ℕ → Type 0
 NamesReason why text = (words : List ℕ) × IsPlain words × (text ≡ unfit_name why ++ (codes ": " ++ (words ++ 10 ∷ [])))
 
 -- what is told of a line that doesn't fit: that line, or nothing where there was no memory for it
-abbrev pub TellsReason : Unfit → List ℕ → Type 0
-TellsReason why text = (text ≡ []) ⊎ NamesReason why text
+abbrev pub SaysReason : Unfit → List ℕ → Type 0
+SaysReason why text = (text ≡ []) ⊎ NamesReason why text
 
 -- why a line with this fault isn't taken
 abbrev pub untaken_by : LineFault → Untaken
@@ -39,6 +39,6 @@ IsFor Is untaken.NoMemory = Unit {0}
 
 -- the fault of an input with a line of this number that isn't taken
 abbrev pub IsFaultAt : ℕ → Untaken → PlanFault → Type 0
-IsFaultAt number (untaken.Unfit why) (plan.Line first) = (first.number ≡ number) × (first.why ≡ why) × TellsReason why (string_bytes first.told)
+IsFaultAt number (untaken.Unfit why) (plan.Line first) = (first.number ≡ number) × (first.why ≡ why) × SaysReason why (string_bytes first.told)
 IsFaultAt number untaken.NoMemory plan.NoMemory = Unit {0}
 IsFaultAt number other fault = ⊥

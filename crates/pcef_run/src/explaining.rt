@@ -10,7 +10,7 @@ use pcef_line::Field;
 use std::alloc::{AllocError, Global};
 
 /// What is expected of a number that counts so many from 0.
-fn expected(alloc: Global, count: usize) -> Result<String, AllocError> {
+fn expected_text(alloc: Global, count: usize) -> Result<String, AllocError> {
     if count <= 1 {
         return format!(in alloc; "0 is expected");
     }
@@ -30,7 +30,7 @@ fn of_line(alloc: Global, text: &str) -> Result<Explanation, AllocError> {
 fn of_session(alloc: Global, front: &[u8], sessions: usize) -> Result<Explanation, AllocError> {
     let number = String::from_utf8_lossy(alloc, front)?;
     let number = number.trim_end();
-    let expected = expected(alloc, sessions)?;
+    let expected = expected_text(alloc, sessions)?;
     Ok(Explanation {
         column: None,
         text: format!(in alloc; "the session is {number}: {expected}")?,
@@ -48,7 +48,7 @@ fn explanation(
         Unfit::AtFault(fault) => explain(alloc, line, fault),
         Unfit::NotOfRun => explain_field(alloc, line, Field::Do, "a command or take is expected"),
         Unfit::NoWorker(workers) => {
-            let expected = expected(alloc, usize::from(workers))?;
+            let expected = expected_text(alloc, usize::from(workers))?;
             explain_field(alloc, line, Field::Worker, expected.as_str())
         }
         Unfit::NoNumber => of_line(
@@ -61,7 +61,7 @@ fn explanation(
 }
 
 /// The same in one text, with the column counted from the front.
-fn placed(alloc: Global, line: &[u8], front: usize, why: Unfit) -> Result<String, AllocError>
+fn placed_text(alloc: Global, line: &[u8], front: usize, why: Unfit) -> Result<String, AllocError>
     ensures { IfOk result (λ text. IsPlain (string_bytes text)) }
 {
     let (front, rest) = line.split_at(front.min(line.len()));
@@ -79,7 +79,7 @@ fn placed(alloc: Global, line: &[u8], front: usize, why: Unfit) -> Result<String
 /// What is told of a line that doesn't fit, where a line of a script stands behind so many octets: the name of the reason,
 /// the column, from 1 and in octets, where that is known, what is found there and what is expected; in one line, with its
 /// line feed. Takes memory for it.
-pub(crate) fn told_of(
+pub(crate) fn explain_unfit(
     alloc: Global,
     line: &[u8],
     front: usize,
@@ -88,6 +88,6 @@ pub(crate) fn told_of(
     ensures { IfOk result (λ text. NamesReason why (string_bytes text)) }
 {
     let name = why.name();
-    let text = placed(alloc, line, front, why)?;
+    let text = placed_text(alloc, line, front, why)?;
     format!(in alloc; "{name}: {text}\n")
 }

@@ -1,7 +1,7 @@
 //! Runs a session over workers in threads, on commands and packets that are all read beforehand: `read_plan`,
 //! `run_plan`, `summary_text`, and the stored reporters.
 //!
-//! Its contracts tell: the plan that an input asks for, what its run comes to, and the text that tells it.
+//! Its contracts say: the plan that an input asks for, what its run comes to, and the text that tells it.
 //!
 //! In the order of reading: `unfit`, `explaining`, `fault`, `taken`, `input`, `plan`, `reading`, `obeying`, `run`,
 //! `summary`.
@@ -25,4 +25,4 @@ pub use reading::{first_line, is_blank, line_of, read_plan};
 pub use run::{Ran, run_plan};
 pub use summary::summary_text;
 pub use taken::{Counts, Storing, Taken};
-pub use unfit::{FirstUnfit, Unfit, Untaken, unread};
+pub use unfit::{FirstUnfit, Unfit, Untaken, untaken_for};

@@ -14,7 +14,7 @@ ghost use Rattle.pcef_run.specs.Reasons.{IsFor};
 use crate::fault::PlanFault;
 use crate::input::read_all;
 use crate::plan::Plan;
-use crate::unfit::{Untaken, unread};
+use crate::unfit::{Untaken, untaken_for};
 use memchr::memchr;
 use pcef_line::{Line, LineFault, LineReader};
 use std::alloc::Global;
@@ -80,7 +80,7 @@ fn plan_line(
     }
     match line_of(alloc, reader, bytes) {
         Ok(line) => plan.add(line, workers),
-        Err(fault) => Err(unread(fault)),
+        Err(fault) => Err(untaken_for(fault)),
     }
 }
 

@@ -1,9 +1,9 @@
 //! Why a line doesn't fit a run, or sessions on a pool.
 
 ghost use Rattle.std.specs.Prelude.{◌≡◌, string_bytes};
-ghost use Rattle.pcef_run.specs.Reasons.{TellsReason, unfit_name, untaken_by};
+ghost use Rattle.pcef_run.specs.Reasons.{SaysReason, unfit_name, untaken_by};
 
-use crate::explaining::told_of;
+use crate::explaining::explain_unfit;
 use pcef_line::LineFault;
 use std::alloc::Global;
 
@@ -50,7 +50,7 @@ pub enum Untaken {
 }
 
 /// Why a line that wasn't read isn't taken.
-pub fn unread(fault: LineFault) -> Untaken
+pub fn untaken_for(fault: LineFault) -> Untaken
     ensures { result ≡ untaken_by fault }
 {
     match fault {
@@ -77,9 +77,9 @@ impl FirstUnfit {
     pub fn new(alloc: Global, number: u64, line: &[u8], front: usize, why: Unfit) -> FirstUnfit
         ensures number { result.number ≡ number }
         ensures why { result.why ≡ why }
-        ensures told { TellsReason why (string_bytes result.told) }
+        ensures told { SaysReason why (string_bytes result.told) }
     {
-        let told = match told_of(alloc, line, front, why) {
+        let told = match explain_unfit(alloc, line, front, why) {
             Ok(told) => told,
             Err(_) => String::new(alloc),
         };

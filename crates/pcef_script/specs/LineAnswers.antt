@@ -17,13 +17,13 @@ abbrev pub answer_bytes : Answer → List ℕ
 answer_bytes a = string_bytes a.text ++ 10 ∷ []
 
 -- a world makes a step, and this text tells what is due to it
-abbrev pub TellsStep : World → Step → List ℕ → World → Type 0
-TellsStep before step text after =
+abbrev pub AnswersStep : World → Step → List ℕ → World → Type 0
+AnswersStep before step text after =
     IsDue (step_outcome before.session.setting (standing_of before) step) text (standing_of after)
 
 -- a world does what a line asks for, and this text tells it
-abbrev pub TellsLine : World → Line → List ℕ → World → Type 0
-TellsLine before line text after = DoesLine before.session.setting (standing_of before) line text (standing_of after)
+abbrev pub DoesWorldLine : World → Line → List ℕ → World → Type 0
+DoesWorldLine before line text after = DoesLine before.session.setting (standing_of before) line text (standing_of after)
 
 -- a fault is answered, whatever world it is told to
 abbrev pub AnswersFault : LineFault → Result Answer AllocError → Type 0

@@ -12,7 +12,7 @@ use Rattle.pcef_line.specs.declared.fault.LineFault.TheVariants.{LineTooLong, No
 use Rattle.pcef_answer.specs.FaultAnswers.{fault_text}
 use Rattle.pcef_line.specs.LineOf.{LineOf}
 use Rattle.pcef_script.specs.ScriptLines.{is_blank, within_limit}
-use Rattle.pcef_answer.specs.ShowAnswers.{TellsSession}
+use Rattle.pcef_answer.specs.ShowAnswers.{ShowsJournal}
 use Rattle.pcef_answer.specs.StepAnswers.{step_text}
 
 -- ---- what a line asks for is done
@@ -23,7 +23,7 @@ IsDue due text after = (text ≡ step_text due.1.journal (gen due.1.journal) due
 -- `show` changes nothing
 abbrev pub DoesLine : Setting → Standing → Line → List ℕ → Standing → Type 0
 DoesLine p before (line.Step s) text after = IsDue (step_outcome p before s) text after
-DoesLine p before Show text after = TellsSession p before.journal text × (after ≡ before)
+DoesLine p before Show text after = ShowsJournal p before.journal text × (after ≡ before)
 
 -- ---- lines
 -- what is due to a line: what it asks for, or its first fault. A line within the limit is UTF-8 (RFC 3629).

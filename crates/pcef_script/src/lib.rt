@@ -1,7 +1,7 @@
 //! Runs a script: `run_script` reads lines, does what they ask for, and writes an answer for each; `answer_alone`
 //! answers a line without a script around it.
 //!
-//! Its contracts tell: what was written for what was read, and how many lines are at fault; the answer that a script
+//! Its contracts say: what was written for what was read, and how many lines are at fault; the answer that a script
 //! gives to one line.
 //!
 //! In the order of reading: `fault`, `reading`, `step`, `writing`, `input`, `lone_line`, `running`, `run`.

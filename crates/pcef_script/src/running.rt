@@ -51,7 +51,11 @@ fn answer_of<C: Detects>(
 }
 
 /// Writes an answer, and gives how many lines are at fault then.
-fn tell<W: Write>(writer: &mut W, answer: &Answer, faults: u64) -> Result<u64, ScriptFault>
+fn write_and_count<W: Write>(
+    writer: &mut W,
+    answer: &Answer,
+    faults: u64,
+) -> Result<u64, ScriptFault>
     ensures count { faults < 2 ^ 63 →
         IfOk result (λ n. n ≡ faults + number_of answer.now.is_fault) }
     ensures all { OnOk result (Appends (W.contents writer.old) (W.contents writer.new)
@@ -90,7 +94,7 @@ pub(crate) fn end_line<C: Detects, W: Write>(
     }
     world.forget();
     match answer_of(alloc, catalog, world, lines, line) {
-        Ok(answer) => tell(writer, &answer, faults),
+        Ok(answer) => write_and_count(writer, &answer, faults),
         Err(_) => Err(ScriptFault::NoMemory),
     }
 }

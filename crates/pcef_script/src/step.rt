@@ -5,7 +5,7 @@ ghost use Rattle.pcef_line.specs.LineOf.{LineOf};
 ghost use Rattle.pcef_model.specs.Journals.{report_count};
 ghost use Rattle.pcef_line.specs.declared.fault.LineFault.TheVariants.{LineTooLong};
 ghost use Rattle.pcef_line.specs.declared.line.Line.TheVariants.{Show};
-ghost use Rattle.pcef_script.specs.LineAnswers.{AnswersBy, AnswersFault, AnswersReadFault, TellsLine, TellsStep};
+ghost use Rattle.pcef_script.specs.LineAnswers.{AnswersBy, AnswersFault, AnswersReadFault, DoesWorldLine, AnswersStep};
 ghost use Rattle.pcef_script.specs.ScriptAnswers.{DueWithin};
 
 use pcef_answer::{fault_text, show_answer, step_answer};
@@ -35,7 +35,7 @@ fn fault(alloc: Global, fault: LineFault) -> Result<Answer, AllocError>
 }
 
 fn show(alloc: Global, world: &WorldState) -> Result<String, AllocError>
-    ensures { IfOk result (λ text. TellsLine world.now Show (string_bytes text) world.now) }
+    ensures { IfOk result (λ text. DoesWorldLine world.now Show (string_bytes text) world.now) }
 {
     show_answer(alloc, world.session())
 }
@@ -48,7 +48,7 @@ fn step<C: Detects>(
 ) -> Result<String, AllocError>
     requires offered { C.offers catalog.now ≡ world.old.session.setting.catalog }
     requires kept { world.old.session.forgotten ≤ report_count world.old.session.journal }
-    ensures answer { IfOk result (λ text. TellsStep world.old step (string_bytes text) world.new) }
+    ensures answer { IfOk result (λ text. AnswersStep world.old step (string_bytes text) world.new) }
     ensures setting { world.new.session.setting ≡ world.old.session.setting }
     ensures forgotten { world.new.session.forgotten ≡ world.old.session.forgotten }
 {
@@ -65,7 +65,7 @@ fn line_text<C: Detects>(
 ) -> Result<String, AllocError>
     requires offered { C.offers catalog.now ≡ world.old.session.setting.catalog }
     requires kept { world.old.session.forgotten ≤ report_count world.old.session.journal }
-    ensures answer { IfOk result (λ text. TellsLine world.old line (string_bytes text) world.new) }
+    ensures answer { IfOk result (λ text. DoesWorldLine world.old line (string_bytes text) world.new) }
     ensures setting { world.new.session.setting ≡ world.old.session.setting }
     ensures forgotten { world.new.session.forgotten ≡ world.old.session.forgotten }
 {
@@ -75,7 +75,7 @@ fn line_text<C: Detects>(
     }
 }
 
-fn done<C: Detects>(
+fn do_step<C: Detects>(
     alloc: Global,
     catalog: &C,
     world: &mut WorldState,
@@ -83,7 +83,7 @@ fn done<C: Detects>(
 ) -> Result<Answer, AllocError>
     requires offered { C.offers catalog.now ≡ world.old.session.setting.catalog }
     requires kept { world.old.session.forgotten ≤ report_count world.old.session.journal }
-    ensures text { IfOk result (λ a. TellsLine world.old line (string_bytes a.text) world.new) }
+    ensures text { IfOk result (λ a. DoesWorldLine world.old line (string_bytes a.text) world.new) }
     ensures counts { IfOk result (λ a. a.is_fault ≡ false) }
     ensures setting { world.new.session.setting ≡ world.old.session.setting }
     ensures forgotten { world.new.session.forgotten ≡ world.old.session.forgotten }
@@ -118,7 +118,7 @@ fn answer_text<C: Detects>(
     ensures forgotten { world.new.session.forgotten ≡ world.old.session.forgotten }
 {
     match lines.read(alloc, text) {
-        Ok(line) => done(alloc, catalog, world, line),
+        Ok(line) => do_step(alloc, catalog, world, line),
         Err(at_fault) => read_fault(alloc, at_fault),
     }
 }

@@ -25,7 +25,7 @@ use Rattle.pcef_model.proofs.Sameness.{same_name_of}
 use Rattle.pcef_usage.specs.declared.usage.KeyState.{KeyState}
 use Rattle.pcef_usage.specs.Commands.{Asks, entered, started_by, subscribed_by}
 use Rattle.pcef_usage.specs.Keys.{finds_no_slot, keys_of, levels_of, with_slot}
-use Rattle.pcef_usage.specs.PendingReports.{AllCount, AllOn, settled_states, threshold_reports, states_stopped, states_told, appended}
+use Rattle.pcef_usage.specs.PendingReports.{AllCount, AllOn, settled_states, threshold_reports, states_stopped, after_reports, appended}
 use Rattle.pcef_usage.proofs.Afterwards.{few_entered, subscribed_after, subscribed_after_command}
 use Rattle.pcef_model.proofs.AfterEvents.{now_after, slots_after}
 use Rattle.pcef_usage.proofs.Commanded.{command_ended, keys_entered}
@@ -108,24 +108,24 @@ find_put new (r ∷ rules) =
     ]
 
 -- the bearer that is told is that of the rule that was made active
-bearer_told : (p : Setting) (g : Generation) (c : Command) (r : Active) → activated p c ≡ Some r → (after : Generation) → after.rules ≡ put r g.rules →
+bearer_data_of : (p : Setting) (g : Generation) (c : Command) (r : Active) → activated p c ≡ Some r → (after : Generation) → after.rules ≡ put r g.rules →
     bearer_named after c ≡ Some (record { 0 = after.id_of r.properties.qos })
-bearer_told p g (Install d) r is after rules =
+bearer_data_of p g (Install d) r is after rules =
     let same : dynamic d ≡ r = cc in
     ap (bearer_of after) (ap (find (is_named d.properties.name)) (rules ∙ ap (λ (x : Active). put x g.rules) (sym same)) ∙ find_put (dynamic d) g.rules)
     ∙ ap (λ (x : Active). Some (record { 0 = after.id_of x.properties.qos })) same
-bearer_told p g (Activate name) r is after rules =
+bearer_data_of p g (Activate name) r is after rules =
     let named : r.properties.name ≡ name = name_activated p name r is in
     ap (bearer_of after) (ap (λ (n : List ℕ). find (is_named n) after.rules) (sym named) ∙ ap (find (is_named r.properties.name)) rules ∙ find_put r g.rules)
-bearer_told p g (Remove name) r is after rules = absurd cc
-bearer_told p g (Monitor key amount level) r is after rules = absurd cc
-bearer_told p g (Stop key) r is after rules = absurd cc
-bearer_told p g (ReportNow key) r is after rules = absurd cc
-bearer_told p g (Triggers set) r is after rules = absurd cc
-bearer_told p g (Notice kind value) r is after rules = absurd cc
-bearer_told p g (LoseBearer id) r is after rules = absurd cc
-bearer_told p g Close r is after rules = absurd cc
-bearer_told p g Terminate r is after rules = absurd cc
+bearer_data_of p g (Remove name) r is after rules = absurd cc
+bearer_data_of p g (Monitor key amount level) r is after rules = absurd cc
+bearer_data_of p g (Stop key) r is after rules = absurd cc
+bearer_data_of p g (ReportNow key) r is after rules = absurd cc
+bearer_data_of p g (Triggers set) r is after rules = absurd cc
+bearer_data_of p g (Notice kind value) r is after rules = absurd cc
+bearer_data_of p g (LoseBearer id) r is after rules = absurd cc
+bearer_data_of p g Close r is after rules = absurd cc
+bearer_data_of p g Terminate r is after rules = absurd cc
 
 bound_after : (p : Setting) (j : Journal) (c : Command) (x : Option Activation) (new : Binding) (bearer : Option BearerId) → Lawful p j → first_of (refusals p j c) ≡ None →
     Activates p (activated p c) x → IsRebound x c (binding_of p (now p j)) new bearer → (new ≡ binding_of p (now p (entry.Command c ∷ j))) × (bearer ≡ bearer_named (now p (entry.Command c ∷ j)) c)
@@ -142,7 +142,7 @@ bound_after p j c (Some x) new (Some id) lawful accepted brings rebound =
     let gets : (next p g c).id_of b.rule.properties.qos ≡ id.0 = next_id p g c b.rule id.0 makes bound is.bearer_is in
     let after : next p g c ≡ now p (entry.Command c ∷ j) = sym (now_after_table p j c makes.is_table) in (
       is.binding_is ∙ sym (next_put p g c b.rule id.0 makes bound is.bearer_is) ∙ ap (binding_of p) after,
-      sym (bearer_told p g c b.rule b.becomes (next p g c) (makes.rules_are g) ∙ ap (λ (n : ℕ). Some (record { 0 = n })) gets) ∙ ap (λ (h : Generation). bearer_named h c) after,
+      sym (bearer_data_of p g c b.rule b.becomes (next p g c) (makes.rules_are g) ∙ ap (λ (n : ℕ). Some (record { 0 = n })) gets) ∙ ap (λ (h : Generation). bearer_named h c) after,
     )
 
 -- ---- keys
@@ -157,17 +157,17 @@ all_agree p j (s ∷ states) counts on levels = (
 
 -- the counters after a command, and the journal after it
 abbrev pub left_by : Bool → List PendingReport → List KeyState → List KeyState
-left_by b ts states = states_told (threshold_reports b (states_told ts (states_stopped ts states))) (settled_states b (states_told ts (states_stopped ts states)))
+left_by b ts states = after_reports (threshold_reports b (after_reports ts (states_stopped ts states))) (settled_states b (after_reports ts (states_stopped ts states)))
 
 -- they keep their levels
 pub levels_left : (b : Bool) (ts : List PendingReport) (states : List KeyState) → levels_of (left_by b ts states) ≡ levels_of states
 levels_left b ts states =
-    let told : List KeyState = states_told ts (states_stopped ts states) in
+    let told : List KeyState = after_reports ts (states_stopped ts states) in
     levels_told (threshold_reports b told) (settled_states b told) ∙ levels_settled b told ∙ levels_told ts (states_stopped ts states) ∙ levels_stopped ts states
 
 abbrev pub told_by : Bool → List PendingReport → List KeyState → Journal → Journal
 told_by b ts states j =
-    appended (threshold_reports b (states_told ts (states_stopped ts states))) (settled_states b (states_told ts (states_stopped ts states))) (appended ts (states_stopped ts states) j)
+    appended (threshold_reports b (after_reports ts (states_stopped ts states))) (settled_states b (after_reports ts (states_stopped ts states))) (appended ts (states_stopped ts states) j)
 
 ended_command : (p : Setting) (j : Journal) (c : Command) (parts : Parts) → Agrees p j parts → Asks p j c →
     Ended p (entry.Command c ∷ j) (plan p j c) (states_stopped (plan p j c) (entered p c parts.keys)) (told_by (subscribed_by c parts.triggers).usage_report (plan p j c) (entered p c parts.keys) (entry.Command c ∷ j))

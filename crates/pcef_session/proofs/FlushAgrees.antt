@@ -18,7 +18,7 @@ use Rattle.pcef_usage.specs.declared.usage.KeyState.{KeyState}
 use Rattle.pcef_usage.specs.Flushes.{rows_counted}
 use Rattle.pcef_usage.specs.Keys.{keys_of, levels_of, state_at, with_octets}
 use Rattle.pcef_usage.specs.Counted.{Counted}
-use Rattle.pcef_usage.specs.PendingReports.{Distinct, settled_states, threshold_reports, states_told, appended}
+use Rattle.pcef_usage.specs.PendingReports.{Distinct, settled_states, threshold_reports, after_reports, appended}
 use Rattle.pcef_model.proofs.AfterEvents.{subscribed_settled}
 use Rattle.pcef_usage.proofs.Endings.{Ended}
 use Rattle.pcef_usage.proofs.Flushed.{StatesAgree, can_count, flush_is, row_agrees, rows_ended, subscribed_after_rows}
@@ -147,7 +147,7 @@ are_counted p j (i ∷ items) b old new agrees levels is subscribes its taken =
     recursion_from_All (λ (x : Item). usage.CountsFor p j x.row old.states x.slots.items) (i ∷ items)
     (λ n x within. let its_n = its n x within in counts_here p j (get_or (i ∷ items) n x).row (get_or (i ∷ items) n x).slots.items old.states agrees.keys_are its_n.0 its_n.1) in
     let ended = rows_ended row_of row_slots p j (i ∷ items) old.states b agrees.keys_are agrees.counts agrees.on which subscribes in
-    let left : List KeyState = states_told (threshold_reports b (rows_counted row_of row_slots (i ∷ items) old.states)) (settled_states b (rows_counted row_of row_slots (i ∷ items) old.states)) in
+    let left : List KeyState = after_reports (threshold_reports b (rows_counted row_of row_slots (i ∷ items) old.states)) (settled_states b (rows_counted row_of row_slots (i ∷ items) old.states)) in
     let end : Journal = appended (threshold_reports b (rows_counted row_of row_slots (i ∷ items) old.states)) (settled_states b (rows_counted row_of row_slots (i ∷ items) old.states))
     (with_rows (map row_of (i ∷ items)) j) in
     let same : new.journal ≡ end = taken.journal ∙

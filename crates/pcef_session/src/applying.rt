@@ -10,7 +10,7 @@ ghost use Rattle.pcef_bearer.specs.Bindings as binding;
 ghost use Rattle.pcef_usage.specs.Commands.{subscribed_by};
 ghost use Rattle.pcef_usage.specs.Keys.{HasPlaceFor, finds_no_slot, keys_of};
 ghost use Rattle.pcef_usage.specs.PendingReports.{KnowsAll};
-ghost use Rattle.pcef_session.specs.private.Changes.{Binds, CanBind, IsBoundTo, IsRebound, active_after, counters_told, entered_by, journal_told, key_of, still_active, rule_key};
+ghost use Rattle.pcef_session.specs.private.Changes.{Binds, CanBind, IsBoundTo, IsRebound, active_after, counters_after_reports, entered_by, journal_after_reports, key_of, still_active, rule_key};
 
 use crate::prepared::Activation;
 use pcef_active::ActiveRules;
@@ -97,13 +97,17 @@ pub(crate) fn enter(
 }
 
 /// Tells what a command reports by itself, and then the thresholds.
-pub(crate) fn tell(counted: &mut CountedJournal, all_pending: &[PendingReport], subscribed: bool)
+pub(crate) fn report_all(
+    counted: &mut CountedJournal,
+    all_pending: &[PendingReport],
+    subscribed: bool,
+)
     requires known { KnowsAll (keys_of counted.old.states) all_pending.now }
     requires room { length all_pending.now + length counted.old.states ≤ counted.old.room }
-    ensures journal { counted.new.journal ≡ journal_told subscribed all_pending.now counted.old }
+    ensures journal { counted.new.journal ≡ journal_after_reports subscribed all_pending.now counted.old }
     ensures forgotten { counted.new.forgotten ≡ counted.old.forgotten }
     ensures states { counted.new.states
-        ≡ counters_told subscribed all_pending.now counted.old.states }
+        ≡ counters_after_reports subscribed all_pending.now counted.old.states }
     ensures room { counted.old.room
         ≤ counted.new.room + length all_pending.now + length counted.old.states }
 {

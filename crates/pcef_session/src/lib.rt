@@ -1,7 +1,7 @@
 //! A session of the gateway, with its commands, its bearers, its usage and its journal: `SessionState`, and batches of
 //! rows.
 //!
-//! Its contracts tell: what each command and each step of a worker answers, and the journal after it; each getter says
+//! Its contracts say: what each command and each step of a worker answers, and the journal after it; each getter says
 //! what the journal says.
 //!
 //! In the order of reading: `batch`, `waiting`, `laws`, `prepared`, `inactive`, `keys`, `next_tables`, `pending_reports`,

@@ -11,7 +11,7 @@ use pcef_table::Table;
 use std::alloc::{AllocError, Global};
 
 /// The table where the slot of a key of this level counts, or doesn't.
-pub(crate) fn switched(
+pub(crate) fn switch_key(
     table: &Table,
     level: Level,
     slot: Slot,
@@ -32,7 +32,7 @@ pub(crate) fn switched(
 }
 
 /// The table without the rules that a command takes away, which switches no single key.
-pub(crate) fn left(
+pub(crate) fn drop_rules(
     alloc: Global,
     table: &Table,
     listing: &Listing,

@@ -182,11 +182,15 @@ impl SessionState {
         if let Some(fault) = self.attach_fault() {
             return Err(fault);
         }
-        if self.counted.reserve(2 + self.lanes.attached()).is_err() {
+        if self
+            .counted
+            .reserve(2 + self.lanes.attached_count())
+            .is_err()
+        {
             return Err(AttachFault::NoMemory);
         }
         let worker = self.lanes.len() as u8;
-        self.lanes.come();
+        self.lanes.add_lane();
         self.counted.enter(Entry::Attach(worker));
         Ok(worker)
     }

@@ -10,7 +10,7 @@ use Rattle.std.proofs.lemmas.Slice.Eq.{bytes_eq-Decides}
 use Rattle.pcef_model.specs.Setting.{Setting}
 use Rattle.pcef_sessions.specs.Addressed.{addressed, lines_of, name_of, said_to}
 use Rattle.pcef_sessions.specs.Sayings.{Said, SaysTo, bad_name}
-use Rattle.pcef_sessions.specs.Served.{AreSaid, Under, all_bytes, any_fault, if_under, said_bytes, told_to}
+use Rattle.pcef_sessions.specs.Served.{AreSaid, Under, all_bytes, any_fault, if_under, said_bytes, said_under}
 use Rattle.pcef_sessions.specs.Under.{Session, UnderName}
 
 -- ---- one name
@@ -19,10 +19,10 @@ lines_more name [] more = refl
 lines_more name (line ∷ lines) more =
     ap (λ rest. said_to name (addressed line) ++ rest) (lines_more name lines more) ∙ sym (append_assoc (said_to name (addressed line)) (lines_of name lines) (lines_of name more))
 
-told_more : (name : List ℕ) (saids more : List Said) → told_to name (saids ++ more) ≡ told_to name saids ++ told_to name more
+told_more : (name : List ℕ) (saids more : List Said) → said_under name (saids ++ more) ≡ said_under name saids ++ said_under name more
 told_more name [] more = refl
 told_more name (said ∷ saids) more =
-    ap (λ rest. if_under name said.name said ++ rest) (told_more name saids more) ∙ sym (append_assoc (if_under name said.name said) (told_to name saids) (told_to name more))
+    ap (λ rest. if_under name said.name said ++ rest) (told_more name saids more) ∙ sym (append_assoc (if_under name said.name said) (said_under name saids) (said_under name more))
 
 -- some lines, and then others
 pub under_more : (p : Setting) (a b c : Option Session) (lines more : List (List ℕ)) (x y : List Said) → Under p a lines x b → Under p b more y c → Under p a (lines ++ more) (x ++ y) c
@@ -74,9 +74,9 @@ one_said p old new lines line saids said h says = record {
       ∙ ap (λ t. t ++ name_of line ∷ []) h.names ∙ sym (map-append name_of lines (line ∷ []));
   nameless = All-append HasBadName saids (said ∷ []) h.nameless (All-cons HasBadName said [] (nameless_so p old new (addressed line) said says) (All-nil HasBadName));
   each = λ name.
-      subst (λ ls. Under p None ls (told_to name (saids ++ said ∷ [])) (new name)) (sym (lines_more name lines (line ∷ [])))
+      subst (λ ls. Under p None ls (said_under name (saids ++ said ∷ [])) (new name)) (sym (lines_more name lines (line ∷ [])))
       (subst (λ ss. Under p None (lines_of name lines ++ lines_of name (line ∷ [])) ss (new name)) (sym (told_more name saids (said ∷ [])))
-      (under_more p None (old name) (new name) (lines_of name lines) (lines_of name (line ∷ [])) (told_to name saids) (told_to name (said ∷ [])) (h.each name) (last_under p old new name (addressed line) said says)));
+      (under_more p None (old name) (new name) (lines_of name lines) (lines_of name (line ∷ [])) (said_under name saids) (said_under name (said ∷ [])) (h.each name) (last_under p old new name (addressed line) said says)));
 }
 
 pub bytes_more : (saids : List Said) (said : Said) → all_bytes (saids ++ said ∷ []) ≡ all_bytes saids ++ said_bytes said

@@ -1,7 +1,7 @@
 -- What is told to a line, whatever session it is for (own choice).
 use Rattle.std.specs.Prelude.{ℕ, ◌≡◌, ◌≢◌, List, [], ◌∷◌, ◌++◌, Bool, true, Option, Some, None, string_bytes}
 use Rattle.pcef_model.specs.Setting.{Setting}
-use Rattle.pcef_sessions.specs.declared.saying.Told.{Told}
+use Rattle.pcef_sessions.specs.declared.saying.NamedAnswer.{NamedAnswer}
 use Rattle.pcef_sessions.specs.declared.sessions.Sessions.{Sessions}
 use Rattle.pcef_sessions.specs.Addressed.{addressed}
 use Rattle.pcef_sessions.specs.Standing.{fixed, held}
@@ -13,7 +13,7 @@ pub record Said : Type 0 where
   pub text : List ℕ
   pub at_fault : Bool
 
-abbrev pub said_of : Told → Said
+abbrev pub said_of : NamedAnswer → Said
 said_of t = record { name = t.name; text = string_bytes t.answer.text; at_fault = t.answer.is_fault }
 
 -- what is told to a line without name, space or rest
@@ -28,5 +28,5 @@ SaysTo p old (Some line) said new =
     (said.name ≡ Some line.0) × UnderName p (old line.0) line.1 said.text said.at_fault (new line.0)
     × ((other : List ℕ) → other ≢ line.0 → new other ≡ old other)
 
-abbrev pub TellsLine : Sessions → List ℕ → Told → Sessions → Type 0
-TellsLine old line t new = SaysTo (fixed old) (held old) (addressed line) (said_of t) (held new)
+abbrev pub AnswersNamedLine : Sessions → List ℕ → NamedAnswer → Sessions → Type 0
+AnswersNamedLine old line t new = SaysTo (fixed old) (held old) (addressed line) (said_of t) (held new)

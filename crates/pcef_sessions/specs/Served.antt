@@ -19,9 +19,9 @@ abbrev pub if_under : List ℕ → Option (List ℕ) → Said → List Said
 if_under name None said = []
 if_under name (Some other) said = if bytes_eq other name then said ∷ [] else []
 
-abbrev pub told_to : List ℕ → List Said → List Said
-told_to name [] = []
-told_to name (said ∷ more) = if_under name said.name said ++ told_to name more
+abbrev pub said_under : List ℕ → List Said → List Said
+said_under name [] = []
+said_under name (said ∷ more) = if_under name said.name said ++ said_under name more
 
 -- the answers to the lines for one name, one to each, and what stands under it then
 abbrev pub Under : Setting → Option Session → List (List ℕ) → List Said → Option Session → Type 0
@@ -36,7 +36,7 @@ Under p there (line ∷ lines) saids after =
 pub record AreSaid (p : Setting) (lines : List (List ℕ)) (saids : List Said) (after : List ℕ → Option Session) : Type 0 where
   pub names : map (λ (said : Said). said.name) saids ≡ map name_of lines
   pub nameless : All (λ (said : Said). said.name ≡ None → said ≡ bad_name) saids
-  pub each : (name : List ℕ) → Under p None (lines_of name lines) (told_to name saids) (after name)
+  pub each : (name : List ℕ) → Under p None (lines_of name lines) (said_under name saids) (after name)
 
 -- a name, or a dash, a space, the text and a line feed
 abbrev pub name_bytes : Option (List ℕ) → List ℕ

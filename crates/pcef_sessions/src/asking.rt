@@ -95,7 +95,7 @@ fn address_of(line: &Value) -> Asking
 }
 
 #[tactic(auto, unfolding(crate::specs::Asked::open_at))]
-fn opening(line: &Value) -> Asking
+fn opening_of(line: &Value) -> Asking
     ensures { result ≡ open_at (view line.now) }
 {
     if has_fields_of_open(line) {
@@ -106,7 +106,7 @@ fn opening(line: &Value) -> Asking
 }
 
 #[tactic(auto, unfolding(crate::specs::Asked::end_at))]
-fn ending(line: &Value) -> Asking
+fn ending_of(line: &Value) -> Asking
     ensures { result ≡ end_at (view line.now) }
 {
     if has_fields_of_end(line) {
@@ -121,8 +121,8 @@ fn asked_at(line: &Value) -> Asking
     ensures { result ≡ asked_at (view line.now) }
 {
     match line.get("do").and_then(Value::as_str) {
-        Some("open") => opening(line),
-        Some("end") => ending(line),
+        Some("open") => opening_of(line),
+        Some("end") => ending_of(line),
         _ => Asking::Script,
     }
 }

@@ -1,7 +1,7 @@
 //! Many sessions in one process: `Sessions` holds them by name and answers a line of any of them, and `serve` reads lines
 //! and writes their answers.
 //!
-//! Its contracts tell: under each name stand exactly the answers that a script gives to that name's lines between its
+//! Its contracts say: under each name stand exactly the answers that a script gives to that name's lines between its
 //! `open` and its `end`; a line of one session changes no other.
 //!
 //! In the order of reading: `name`, `asking`, `held`, `sessions`, `saying`, `laws`, `running`, `run`.
@@ -19,5 +19,5 @@ mod sessions;
 pub use laws::sessions_are_scripts;
 pub use name::{OfSession, SessionName};
 pub use run::serve;
-pub use saying::Told;
+pub use saying::NamedAnswer;
 pub use sessions::Sessions;

@@ -59,7 +59,7 @@ pub(crate) fn is_blank(line: &[u8]) -> bool
 }
 
 /// The name of the session that a line is for, and the line that the session gets, if there are both.
-pub(crate) fn addressed(line: &[u8]) -> Option<(SessionName, &[u8])>
+pub(crate) fn split_name(line: &[u8]) -> Option<(SessionName, &[u8])>
     ensures { option_map (λ p. (p.0, p.1.now)) result ≡ addressed line.now }
 {
     let (front, rest) = at_space(line)?;

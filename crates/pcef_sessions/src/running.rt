@@ -9,7 +9,7 @@ ghost use Rattle.pcef_sessions.specs.Served.{name_bytes, said_bytes};
 ghost use Rattle.pcef_sessions.specs.private.Running.{EndsAll, FailsAtEnd, KeepsMore, ReadsAll, StopsIn};
 
 use crate::name::{SessionName, is_blank};
-use crate::saying::Told;
+use crate::saying::NamedAnswer;
 use crate::sessions::Sessions;
 use memchr::memchr;
 use pcef_script::{ScriptFault, put_all, write_answer};
@@ -49,7 +49,7 @@ fn write_name<W: Write>(writer: &mut W, name: &Option<SessionName>) -> Result<()
     put_all(writer, b" ")
 }
 
-fn write_told<W: Write>(writer: &mut W, told: &Told) -> Result<(), ScriptFault>
+fn write_named<W: Write>(writer: &mut W, told: &NamedAnswer) -> Result<(), ScriptFault>
     ensures all { OnOk result (Appends (W.contents writer.old) (W.contents writer.new)
         (said_bytes (said_of told.now))) }
     ensures front { IfErr result (WritesFront (W.contents writer.old) (W.contents writer.new)
@@ -91,7 +91,7 @@ pub(crate) fn end_line<W: Write>(serving: &mut Serving, writer: &mut W) -> Resul
     match serving.sessions.answer(&serving.line) {
         Err(_) => Err(ScriptFault::NoMemory),
         Ok(told) => {
-            write_told(writer, &told)?;
+            write_named(writer, &told)?;
             serving.any_fault = either(serving.any_fault, told.answer.is_fault);
             Ok(())
         }

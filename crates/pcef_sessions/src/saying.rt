@@ -12,7 +12,7 @@ use std::alloc::{AllocError, Global};
 
 /// The answer to a line.
 #[derive(Drop)]
-pub struct Told {
+pub struct NamedAnswer {
     /// The session's name, or none where the line has no right one.
     pub name: Option<SessionName>,
     /// What is answered.

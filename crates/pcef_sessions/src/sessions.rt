@@ -8,16 +8,16 @@ ghost use Rattle.pcef_script.specs.ScriptLines.{is_blank};
 ghost use Rattle.pcef_script.specs.Scripts.{Opened};
 ghost use Rattle.pcef_world.specs.Worlds.{IsOpenedWorld};
 ghost use Rattle.pcef_sessions.specs.Asked.{asked_of};
-ghost use Rattle.pcef_sessions.specs.Sayings.{TellsLine};
+ghost use Rattle.pcef_sessions.specs.Sayings.{AnswersNamedLine};
 ghost use Rattle.pcef_sessions.specs.declared.asking.Asking.TheVariants as asking;
 ghost use Rattle.pcef_sessions.specs.Standing.{Becomes, fixed, held};
 ghost use Rattle.pcef_sessions.specs.Under.{opened, with_address};
-ghost use Rattle.pcef_sessions.specs.private.Steps.{Asks, AsksInstead, OthersStay, Runs, Tells};
+ghost use Rattle.pcef_sessions.specs.private.Steps.{Asks, AsksInstead, OthersStay, Runs, AnswersIn};
 
 use crate::asking::{Asking, asked_of};
 use crate::held::Held;
-use crate::name::{SessionName, addressed};
-use crate::saying::{Told, says, says_fault};
+use crate::name::{SessionName, split_name};
+use crate::saying::{NamedAnswer, says, says_fault};
 use pcef_built_in::ShapedCatalog;
 use pcef_catalog::Offers;
 use pcef_index::IndexShelf;
@@ -168,7 +168,7 @@ impl Sessions {
     }
 
     /// The answer to a line that opens a session.
-    fn asked_open(&mut self, name: &SessionName, ue: Option<Addr>) -> Result<Answer, AllocError>
+    fn answer_open(&mut self, name: &SessionName, ue: Option<Addr>) -> Result<Answer, AllocError>
         ensures told { IfOk result (λ a. Asks self.old name.now (asking.Open ue) a self.new) }
         ensures fixed { fixed self.new ≡ fixed self.old }
     {
@@ -201,7 +201,7 @@ impl Sessions {
         ensures fixed { fixed self.new ≡ fixed self.old }
     {
         match asking {
-            Asking::Open(ue) => self.asked_open(name, ue),
+            Asking::Open(ue) => self.answer_open(name, ue),
             Asking::End => self.asked_end(name),
             Asking::Fault(fault) => says_fault(self.alloc, fault),
             Asking::Script => says(self.alloc, "{\"name\":\"NoSession\",\"refused\":0}", false),
@@ -236,7 +236,7 @@ impl Sessions {
     /// The answer to a line for a name.
     fn answer_to(&mut self, name: &SessionName, line: &[u8]) -> Result<Answer, AllocError>
         requires { is_blank line.now ≡ false }
-        ensures told { IfOk result (λ a. Tells self.old name.now line.now a self.new) }
+        ensures told { IfOk result (λ a. AnswersIn self.old name.now line.now a self.new) }
         ensures fixed { fixed self.new ≡ fixed self.old }
     {
         match self.run(name, line)? {
@@ -254,18 +254,18 @@ impl Sessions {
     /// Does what a line asks for: a session's name, one space, and a line of a script, or one that opens the session or
     /// ends it. Nothing is done for a line without name, space or rest. Takes memory for the answer and for what a session
     /// keeps; for want of it the line may be done or not.
-    pub fn answer(&mut self, line: &[u8]) -> Result<Told, AllocError>
-        ensures told { IfOk result (λ t. TellsLine self.old line.now t self.new) }
+    pub fn answer(&mut self, line: &[u8]) -> Result<NamedAnswer, AllocError>
+        ensures told { IfOk result (λ t. AnswersNamedLine self.old line.now t self.new) }
         ensures fixed { fixed self.new ≡ fixed self.old }
     {
-        match addressed(line) {
-            None => Ok(Told {
+        match split_name(line) {
+            None => Ok(NamedAnswer {
                 name: None,
                 answer: says(self.alloc, "{\"fault\":1,\"name\":\"BadName\"}", true)?,
             }),
             Some((name, rest)) => {
                 let answer = self.answer_to(&name, rest)?;
-                Ok(Told {
+                Ok(NamedAnswer {
                     name: Some(name),
                     answer,
                 })

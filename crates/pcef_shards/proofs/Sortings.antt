@@ -110,11 +110,11 @@ pub isnt_settled : (pick : Pick) (line : List ℕ) → None ≡ (if is_settled l
 isnt_settled pick line h = unsettled_by pick line (is_settled line) refl h
 
 -- ---- steps
-abbrev Told : Type 0
-Told = ℕ → List ℕ
+abbrev NamedAnswer : Type 0
+NamedAnswer = ℕ → List ℕ
 
 -- what was taken may be told in other words
-pub taken_same : (keys : RandomState) (threads : ℕ) (a b : Told) (s : Sorting) (input : List ℕ) → ((t : ℕ) → t < threads → b t ≡ a t) → IsSorted keys threads a s input → IsSorted keys threads b s input
+pub taken_same : (keys : RandomState) (threads : ℕ) (a b : NamedAnswer) (s : Sorting) (input : List ℕ) → ((t : ℕ) → t < threads → b t ≡ a t) → IsSorted keys threads a s input → IsSorted keys threads b s input
 taken_same keys threads a b s input same h = record {
   keys_are = h.keys_are;
   threads_are = h.threads_are;
@@ -151,7 +151,7 @@ one_led : (mine : Bool) (a w w2 p q more : List ℕ) → w2 ≡ w ++ (if mine th
 one_led mine a w w2 p q more led had due =
     ap (λ x. a ++ x) led ∙ sym (append_assoc a w (if mine then more else [])) ∙ ap (λ x. x ++ (if mine then more else [])) had ∙ sym due
 
-pub settles_end : (old new : Sorting) (thread : ℕ) → old.thread ≡ None → Settles old new thread → (keys : RandomState) (threads : ℕ) (taken : Told) (input : List ℕ) → IsSorted keys threads taken old input
+pub settles_end : (old new : Sorting) (thread : ℕ) → old.thread ≡ None → Settles old new thread → (keys : RandomState) (threads : ℕ) (taken : NamedAnswer) (input : List ℕ) → IsSorted keys threads taken old input
     → IsSortedWhole keys threads taken new input × (thread ≡ thread_of keys threads (last_line input))
 settles_end old new thread none s keys threads taken input h =
     let pick = thread_of keys threads in
@@ -174,7 +174,7 @@ settles_end old new thread none s keys threads taken input h =
       own,
     )
 
-pub had_end : (old : Sorting) (thread : ℕ) → old.thread ≡ Some thread → (keys : RandomState) (threads : ℕ) (taken : Told) (input : List ℕ) → IsSorted keys threads taken old input
+pub had_end : (old : Sorting) (thread : ℕ) → old.thread ≡ Some thread → (keys : RandomState) (threads : ℕ) (taken : NamedAnswer) (input : List ℕ) → IsSorted keys threads taken old input
     → IsSortedWhole keys threads taken old input × (thread ≡ thread_of keys threads (last_line input))
 had_end old thread some keys threads taken input h =
     let pick = thread_of keys threads in
@@ -193,7 +193,7 @@ had_end old thread some keys threads taken input h =
 
 -- octets of a line whose thread is settled
 pub run_led : (old new : Sorting) (thread : ℕ) (run : List ℕ) → has_feed run ≡ false → old.thread ≡ Some thread → new.picking ≡ old.picking → new.line.items ≡ old.line.items → new.thread ≡ old.thread
-    → Leads old.parts.items thread run new.parts.items → (keys : RandomState) (threads : ℕ) (taken : Told) (input : List ℕ) → IsSorted keys threads taken old input → IsSorted keys threads taken new (input ++ run)
+    → Leads old.parts.items thread run new.parts.items → (keys : RandomState) (threads : ℕ) (taken : NamedAnswer) (input : List ℕ) → IsSorted keys threads taken old input → IsSorted keys threads taken new (input ++ run)
 run_led old new thread run none some picking line stays led keys threads taken input h =
     let pick = thread_of keys threads in
     let last = last_line input in
@@ -217,7 +217,7 @@ run_led old new thread run none some picking line stays led keys threads taken i
 
 -- octets of a line whose thread isn't
 pub run_kept : (old new : Sorting) (run : List ℕ) → has_feed run ≡ false → old.thread ≡ None → new.picking ≡ old.picking → new.line.items ≡ old.line.items ++ run → new.thread ≡ old.thread
-    → new.parts.items ≡ old.parts.items → is_settled new.line.items ≡ false → (keys : RandomState) (threads : ℕ) (taken : Told) (input : List ℕ) → IsSorted keys threads taken old input → IsSorted keys threads taken new (input ++ run)
+    → new.parts.items ≡ old.parts.items → is_settled new.line.items ≡ false → (keys : RandomState) (threads : ℕ) (taken : NamedAnswer) (input : List ℕ) → IsSorted keys threads taken old input → IsSorted keys threads taken new (input ++ run)
 run_kept old new run none nothing picking line stays parts unsettled keys threads taken input h =
     let pick = thread_of keys threads in
     let last = last_line input in
@@ -238,7 +238,7 @@ run_kept old new run none nothing picking line stays parts unsettled keys thread
 
 -- octets that settle it
 pub run_settles : (old mid new : Sorting) (thread : ℕ) (run : List ℕ) → has_feed run ≡ false → old.thread ≡ None → mid.picking ≡ old.picking → mid.line.items ≡ old.line.items ++ run → mid.parts.items ≡ old.parts.items
-    → is_settled mid.line.items ≡ true → Settles mid new thread → (keys : RandomState) (threads : ℕ) (taken : Told) (input : List ℕ) → IsSorted keys threads taken old input → IsSorted keys threads taken new (input ++ run)
+    → is_settled mid.line.items ≡ true → Settles mid new thread → (keys : RandomState) (threads : ℕ) (taken : NamedAnswer) (input : List ℕ) → IsSorted keys threads taken old input → IsSorted keys threads taken new (input ++ run)
 run_settles old mid new thread run none nothing picking line parts settled s keys threads taken input h =
     let pick = thread_of keys threads in
     let last = last_line input in
@@ -264,7 +264,7 @@ run_settles old mid new thread run none nothing picking line parts settled s key
 
 -- a line feed
 pub feed_led : (old new : Sorting) (thread : ℕ) → new.picking ≡ old.picking → new.line.items ≡ old.line.items → new.thread ≡ None → Leads old.parts.items thread (10 ∷ []) new.parts.items
-    → (keys : RandomState) (threads : ℕ) (taken : Told) (input : List ℕ) → IsSortedWhole keys threads taken old input → thread ≡ thread_of keys threads (last_line input) → IsSorted keys threads taken new (input ++ 10 ∷ [])
+    → (keys : RandomState) (threads : ℕ) (taken : NamedAnswer) (input : List ℕ) → IsSortedWhole keys threads taken old input → thread ≡ thread_of keys threads (last_line input) → IsSorted keys threads taken new (input ++ 10 ∷ [])
 feed_led old new thread picking line none led keys threads taken input h own =
     let pick = thread_of keys threads in
     let empty : last_line (input ++ 10 ∷ []) ≡ [] = last_feed input in

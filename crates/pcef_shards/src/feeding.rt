@@ -117,7 +117,7 @@ pub(crate) fn feed<N: Leading, T: Wait, R: Read>(
     let mut sorting = sorting;
     let mut lanes = lanes;
     if let Err(Stop::NoMemory) = lead(rt, signals, reader, &mut sorting, &mut lanes) {
-        signals.tell_lack();
+        signals.signal_lack();
     }
     drop(lanes);
     signals.wake_all();

@@ -52,7 +52,7 @@ fn await_next<N: Leading, T: Wait>(
         }
         let is_last = taker.is_abandoned();
         if let Some(parcel) = take_next(taker, thread) {
-            signals.tell_room();
+            signals.signal_room();
             return Ok(parcel);
         }
         if is_last {

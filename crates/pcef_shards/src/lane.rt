@@ -90,7 +90,7 @@ impl<N: Leading> Lane<N> {
         ensures { OnOk result (self.new ≡ self.old ++ octets_of octets) }
     {
         push(rt, signals, &mut self.way, Parcel { thread, octets })?;
-        signals.tell_lines(thread);
+        signals.signal_lines(thread);
         Ok(())
     }
 }

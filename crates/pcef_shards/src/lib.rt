@@ -1,7 +1,7 @@
 //! Many sessions in several threads: `serve_in_threads` reads lines and leads each to the thread that its name picks,
 //! which owns the session.
 //!
-//! Its contracts tell: each thread is led exactly the lines that its names have, in their order; all lines of a name are
+//! Its contracts say: each thread is led exactly the lines that its names have, in their order; all lines of a name are
 //! one thread's.
 //!
 //! In the order of reading: `picking`, `sorting`, `laws`, `signals`, `parcel`, `intake`, `lane`, `shard`, `feeding`,

@@ -66,7 +66,7 @@ pub(crate) struct Shard<N: Leading, W: Write + Drop> {
 }
 
 /// Serves lines with the built-in rules.
-fn served<R: Read, W: Write>(
+fn serve_shard<R: Read, W: Write>(
     alloc: Global,
     reader: &mut R,
     writer: &mut W,
@@ -105,7 +105,7 @@ fn work<N: Leading, T: Wait + Drop, W: Write + Drop>(
 {
     let mut intake = intake;
     let mut writer = writer;
-    let end = served(alloc, &mut intake, &mut writer, profile, keys);
+    let end = serve_shard(alloc, &mut intake, &mut writer, profile, keys);
     if ends_all(&end) {
         signals.stop();
     }

@@ -41,12 +41,12 @@ impl Signals {
         self.lacks_memory.load(Ordering::SeqCst)
     }
 
-    pub(crate) fn tell_lack(&self) {
+    pub(crate) fn signal_lack(&self) {
         self.lacks_memory.store(true, Ordering::SeqCst);
     }
 
     /// Tells that a ring has room.
-    pub(crate) fn tell_room(&self) {
+    pub(crate) fn signal_room(&self) {
         self.room.unpark();
     }
 
@@ -56,7 +56,7 @@ impl Signals {
     }
 
     /// Tells a thread that lines came, or their end.
-    pub(crate) fn tell_lines(&self, thread: usize) {
+    pub(crate) fn signal_lines(&self, thread: usize) {
         if let Some(parker) = self.lines.get(thread) {
             parker.unpark();
         }
@@ -80,6 +80,6 @@ impl Signals {
     pub(crate) fn stop(&self) {
         self.is_over.store(true, Ordering::SeqCst);
         self.wake_all();
-        self.tell_room();
+        self.signal_room();
     }
 }

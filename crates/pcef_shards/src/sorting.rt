@@ -115,7 +115,7 @@ impl Sorting {
     }
 
     /// The thread of the line that is coming, which is settled where it wasn't.
-    fn settled(&mut self) -> Result<usize, AllocError>
+    fn settle_lines(&mut self) -> Result<usize, AllocError>
         ensures { IfOk result (Ends self.old self.new) }
     {
         match self.thread {
@@ -152,7 +152,7 @@ impl Sorting {
     pub fn end(&mut self) -> Result<(), AllocError>
         ensures { OnOk result (SortsEnd self.old self.new) }
     {
-        self.settled()?;
+        self.settle_lines()?;
         Ok(())
     }
 
@@ -160,7 +160,7 @@ impl Sorting {
     fn sort_feed(&mut self) -> Result<(), AllocError>
         ensures { OnOk result (SortsOn self.old self.new (10 ∷ [])) }
     {
-        let thread = self.settled()?;
+        let thread = self.settle_lines()?;
         lead(&mut self.parts, thread, b"\n")?;
         self.thread = None;
         Ok(())

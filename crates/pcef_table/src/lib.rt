@@ -1,7 +1,7 @@
 //! One unchanging generation of a session's rules, and the next one: `Table`, with its entries and the session's keys
 //! that are on.
 //!
-//! Its contracts tell: the next generation of entries, the verdict on a header, the slots that it counts for.
+//! Its contracts say: the next generation of entries, the verdict on a header, the slots that it counts for.
 //!
 //! In the order of reading: `entry`, `deciding`, `session_slots`, `change`, `table`, `source`.
 #![tactic(auto)]

@@ -8,13 +8,13 @@ use Rattle.pcef_model.specs.declared.report.Report.{Report}
 use Rattle.pcef_trigger.specs.declared.kind.ReportKind.{ReportKind}
 use Rattle.pcef_trigger.specs.declared.kind.ReportKind.TheVariants.{Usage, Access, Inactive}
 
-abbrev pub kind_told : Body → ReportKind
-kind_told (body.Usage key octets cause) = Usage
-kind_told (body.Access kind value) = Access
-kind_told (body.Inactive rule cause) = Inactive
+abbrev pub body_kind : Body → ReportKind
+body_kind (body.Usage key octets cause) = Usage
+body_kind (body.Access kind value) = Access
+body_kind (body.Inactive rule cause) = Inactive
 
 abbrev pub kind_of : Report → ReportKind
-kind_of report = kind_told report.body
+kind_of report = body_kind report.body
 
 abbrev pub same_kind : ReportKind → ReportKind → Bool
 same_kind Usage Usage = true

@@ -1,6 +1,6 @@
 //! Reporters, and the outlet that hands reports to them: `Outlet`, `Reporter`, `ReportKind`.
 //!
-//! Its contracts tell: which reports each reporter was asked for, which it has taken, and which was refused.
+//! Its contracts say: which reports each reporter was asked for, which it has taken, and which was refused.
 //!
 //! In the order of reading: `kind`, `laws`, `reporter`, `offering`, `outlet`.
 #![tactic(auto)]

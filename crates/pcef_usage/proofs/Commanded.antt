@@ -18,7 +18,7 @@ use Rattle.pcef_model.proofs.Sameness.{same_name_self}
 use Rattle.pcef_usage.specs.declared.usage.KeyState.{KeyState}
 use Rattle.pcef_usage.specs.Commands.{Asks, OnAfter, entered, switched_on}
 use Rattle.pcef_usage.specs.Keys.{keys_of, place_of, started, with_slot}
-use Rattle.pcef_usage.specs.PendingReports.{AllCount, AllOn, Counts, Distinct, OnIs, ended, settled_states, threshold_reports, states_stopped, states_told, appended}
+use Rattle.pcef_usage.specs.PendingReports.{AllCount, AllOn, Counts, Distinct, OnIs, ended, settled_states, threshold_reports, states_stopped, after_reports, appended}
 use Rattle.pcef_usage.proofs.Endings.{Ended, ending, from_on, keys_all_stopped}
 use Rattle.pcef_usage.proofs.Gone.{on_after}
 use Rattle.pcef_usage.proofs.Monitors.{monitor_counts, monitor_on, slot_counts, slot_on}
@@ -154,11 +154,11 @@ on_stopped p j c states distinct keys all =
 pub command_ended : (p : Setting) (j : Journal) (c : Command) (states : List KeyState) (b : Bool) → keys_of states ≡ slots p j → AllCount p j [] states → AllOn p j states →
     Known (gen j) (rows j) → ((k : List ℕ) → reported j k ≤ counted p j k) → Asks p j c → b ≡ (subscribed (entry.Command c ∷ j)).usage_report →
     Ended p (entry.Command c ∷ j) (plan p j c) (states_stopped (plan p j c) (entered p c states))
-    (appended (threshold_reports b (states_told (plan p j c) (states_stopped (plan p j c) (entered p c states))))
-    (settled_states b (states_told (plan p j c) (states_stopped (plan p j c) (entered p c states))))
+    (appended (threshold_reports b (after_reports (plan p j c) (states_stopped (plan p j c) (entered p c states))))
+    (settled_states b (after_reports (plan p j c) (states_stopped (plan p j c) (entered p c states))))
     (appended (plan p j c) (states_stopped (plan p j c) (entered p c states)) (entry.Command c ∷ j)))
-    (states_told (threshold_reports b (states_told (plan p j c) (states_stopped (plan p j c) (entered p c states))))
-    (settled_states b (states_told (plan p j c) (states_stopped (plan p j c) (entered p c states)))))
+    (after_reports (threshold_reports b (after_reports (plan p j c) (states_stopped (plan p j c) (entered p c states))))
+    (settled_states b (after_reports (plan p j c) (states_stopped (plan p j c) (entered p c states)))))
 command_ended p j c states b keys counts on known exact asks subscribes =
     let here : List KeyState = entered p c states in
     let has : keys_of here ≡ slots p (entry.Command c ∷ j) = keys_entered p j c states keys in

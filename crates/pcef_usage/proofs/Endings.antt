@@ -14,7 +14,7 @@ use Rattle.pcef_model.specs.Journals.{now, slots, subscribed}
 use Rattle.pcef_model.specs.Reports.{with_thresholds, tell, thresholds}
 use Rattle.pcef_usage.specs.declared.usage.KeyState.{KeyState}
 use Rattle.pcef_usage.specs.Keys.{at_place, is_reached, keys_of, place_of, reported_on, ungranted_if_reached}
-use Rattle.pcef_usage.specs.PendingReports.{AllCount, AllOn, Distinct, KnowsAll, after_stop, after_report, settled_states, threshold_reports, states_stopped, states_told, appended}
+use Rattle.pcef_usage.specs.PendingReports.{AllCount, AllOn, Distinct, KnowsAll, after_stop, after_report, settled_states, threshold_reports, states_stopped, after_reports, appended}
 use Rattle.pcef_usage.proofs.Loops.{keys_stopped, many}
 use Rattle.pcef_model.proofs.Reports.{tell_now, tell_slots, tell_subscribed}
 use Rattle.pcef_usage.proofs.Tells.{keys_after, told_well}
@@ -33,8 +33,8 @@ on_report g (Inactive n) states a = a
 on_report g (Usage k cause) states a = on_at g reported_on (place_of k states) states (λ s. (refl, refl)) a
 on_report g (Access t v) states a = a
 
-on_told : (g : List (List ℕ)) (ts : List PendingReport) (states : List KeyState) → AllByRecursion (λ s. s.on ≡ is_among s.key g) states → AllByRecursion (λ s. s.on ≡ is_among s.key g) (states_told ts states)
-unfolding states_told
+on_told : (g : List (List ℕ)) (ts : List PendingReport) (states : List KeyState) → AllByRecursion (λ s. s.on ≡ is_among s.key g) states → AllByRecursion (λ s. s.on ≡ is_among s.key g) (after_reports ts states)
+unfolding after_reports
 on_told g [] states a = a
 on_told g (t ∷ ts) states a = on_told g ts (after_report t states) (on_report g t states a)
 
@@ -48,10 +48,10 @@ unfolding AllOn
 to_on p j [] a = tt
 to_on p j (s ∷ states) a = (record { on_is = a.0 }, to_on p j states a.1)
 
-pub all_on_told : (p : Setting) (ts us : List PendingReport) (j : Journal) (states : List KeyState) → AllOn p j states → AllOn p (tell p us j) (states_told ts states)
+pub all_on_told : (p : Setting) (ts us : List PendingReport) (j : Journal) (states : List KeyState) → AllOn p j states → AllOn p (tell p us j) (after_reports ts states)
 all_on_told p ts us j states a =
-    to_on p (tell p us j) (states_told ts states)
-    (subst (λ (g : Generation). AllByRecursion (λ s. s.on ≡ is_among s.key g.on) (states_told ts states)) (sym (tell_now p us j)) (on_told (now p j).on ts states (from_on p j states a)))
+    to_on p (tell p us j) (after_reports ts states)
+    (subst (λ (g : Generation). AllByRecursion (λ s. s.on ≡ is_among s.key g.on) (after_reports ts states)) (sym (tell_now p us j)) (on_told (now p j).on ts states (from_on p j states a)))
 
 on_ungranted : (g : List (List ℕ)) (states : List KeyState) → AllByRecursion (λ s. s.on ≡ is_among s.key g) states → AllByRecursion (λ s. s.on ≡ is_among s.key g) (map ungranted_if_reached states)
 on_ungranted g [] a = tt
@@ -71,12 +71,12 @@ pub record Ended (p : Setting) (j : Journal) (ts : List PendingReport) (states :
 
 pub ending : (p : Setting) (j : Journal) (ts : List PendingReport) (states : List KeyState) (b : Bool) → Distinct (slots p j) → keys_of states ≡ slots p j → KnowsAll (slots p j) ts →
     AllCount p j ts states → AllOn p j states → b ≡ (subscribed j).usage_report →
-    Ended p j ts states (appended (threshold_reports b (states_told ts states)) (settled_states b (states_told ts states)) (appended ts states j))
-    (states_told (threshold_reports b (states_told ts states)) (settled_states b (states_told ts states)))
+    Ended p j ts states (appended (threshold_reports b (after_reports ts states)) (settled_states b (after_reports ts states)) (appended ts states j))
+    (after_reports (threshold_reports b (after_reports ts states)) (settled_states b (after_reports ts states)))
 ending p j ts states b d e k a o s =
     let r = told_well p ts j states (subst Distinct (sym e) d) (subst (λ (ks : List (List ℕ)). KnowsAll ks ts) (sym e) k) a in
     let mid : Journal = tell p ts j in
-    let left : List KeyState = states_told ts states in
+    let left : List KeyState = after_reports ts states in
     let o2 : AllOn p mid left = all_on_told p ts ts j states o in
     let e2 : keys_of left ≡ slots p mid = r.keys_are ∙ e ∙ sym (tell_slots p ts j) in
     let s2 : b ≡ (subscribed mid).usage_report = s ∙ ap (λ (t : TriggerSet). t.usage_report) (sym (tell_subscribed p ts j)) in
@@ -89,8 +89,8 @@ ending p j ts states b d e k a o s =
     ap (appended (threshold_reports b left) (settled_states b left)) r.journal_is ∙ w.journal_is in record {
       journal_is = n ∙ ap (λ us. tell p us mid) t;
       keys_are = w.keys_are ∙ keys_settled b left ∙ e2 ∙ sym (ap (slots p) n ∙ tell_slots p (threshold_reports b left) mid);
-      counts = subst (λ (i : Journal). AllCount p i [] (states_told (threshold_reports b left) (settled_states b left))) (sym n) w.counts;
-      on = subst (λ (i : Journal). AllOn p i (states_told (threshold_reports b left) (settled_states b left))) (sym n)
+      counts = subst (λ (i : Journal). AllCount p i [] (after_reports (threshold_reports b left) (settled_states b left))) (sym n) w.counts;
+      on = subst (λ (i : Journal). AllOn p i (after_reports (threshold_reports b left) (settled_states b left))) (sym n)
           (all_on_told p (threshold_reports b left) (threshold_reports b left) mid (settled_states b left) (all_on_settled p mid b left o2));
     }
 
@@ -100,8 +100,8 @@ unfolding states_stopped
 keys_all_stopped [] states = refl
 keys_all_stopped (t ∷ ts) states = keys_all_stopped ts (after_stop t states) ∙ keys_stopped t states
 
-pub keys_all_told : (ts : List PendingReport) (states : List KeyState) → keys_of (states_told ts states) ≡ keys_of states
-unfolding states_told
+pub keys_all_told : (ts : List PendingReport) (states : List KeyState) → keys_of (after_reports ts states) ≡ keys_of states
+unfolding after_reports
 keys_all_told [] states = refl
 keys_all_told (t ∷ ts) states = keys_all_told ts (after_report t states) ∙ keys_after t states
 
@@ -109,10 +109,10 @@ pub many_settled : (b : Bool) (ss : List KeyState) → length (settled_states b 
 many_settled true ss = length-map ss ungranted_if_reached
 many_settled false ss = refl
 
-pub length_left : (ss s1 s2 s3 : List KeyState) (ts us : List PendingReport) → s1 ≡ ss → s2 ≡ states_stopped ts s1 → s3 ≡ states_told us s2 → length s3 ≡ length ss
+pub length_left : (ss s1 s2 s3 : List KeyState) (ts us : List PendingReport) → s1 ≡ ss → s2 ≡ states_stopped ts s1 → s3 ≡ after_reports us s2 → length s3 ≡ length ss
 length_left ss s1 s2 s3 ts us e f g =
     many s3 ss (ap keys_of g ∙ keys_all_told us s2 ∙ ap keys_of f ∙ keys_all_stopped ts s1 ∙ ap keys_of e)
 
-pub length_end : (b : Bool) (s3 s4 : List KeyState) → s4 ≡ states_told (threshold_reports b s3) (settled_states b s3) → length s4 ≡ length s3
+pub length_end : (b : Bool) (s3 s4 : List KeyState) → s4 ≡ after_reports (threshold_reports b s3) (settled_states b s3) → length s4 ≡ length s3
 length_end b s3 s4 e =
     many s4 (settled_states b s3) (ap keys_of e ∙ keys_all_told (threshold_reports b s3) (settled_states b s3)) ∙ many_settled b s3

@@ -13,7 +13,7 @@ use Rattle.pcef_model.specs.Reports.{after_flush, tell, with_rows}
 use Rattle.pcef_usage.specs.declared.usage.KeyState.{KeyState}
 use Rattle.pcef_usage.specs.Flushes.{rows_counted}
 use Rattle.pcef_usage.specs.Keys.{CanCount, FitsMore, keys_of, state_at, with_octets}
-use Rattle.pcef_usage.specs.PendingReports.{AllCount, AllOn, Counts, KnowsAll, settled_states, threshold_reports, states_told, appended}
+use Rattle.pcef_usage.specs.PendingReports.{AllCount, AllOn, Counts, KnowsAll, settled_states, threshold_reports, after_reports, appended}
 use Rattle.pcef_usage.proofs.Endings.{Ended, ending}
 use Rattle.pcef_usage.proofs.Loops.{many, same_key_at}
 use Rattle.pcef_usage.proofs.Places.{all_state_at}
@@ -86,8 +86,8 @@ subscribed_after_rows (r ∷ rs) j = subscribed_after_rows rs (entry.Row r ∷ j
 
 -- ---- the thresholds at the end
 pub agreement_ended : (p : Setting) (j : Journal) (states : List KeyState) (b : Bool) → StatesAgree p j states → b ≡ (subscribed j).usage_report →
-    Ended p j [] states (appended (threshold_reports b states) (settled_states b states) j) (states_told (threshold_reports b states) (settled_states b states))
-unfolding appended states_told KnowsAll
+    Ended p j [] states (appended (threshold_reports b states) (settled_states b states) j) (after_reports (threshold_reports b states) (settled_states b states))
+unfolding appended after_reports KnowsAll
 agreement_ended p j states b agrees subscribes = ending p j [] states b (distinct_slots p (tables j)) agrees.keys_are tt agrees.counts agrees.on subscribes
 
 -- rows are counted one by one, and then the thresholds are told
@@ -96,7 +96,7 @@ pub rows_ended : {I : Type 0} (row : I → Row) (own : I → List Slot) (p : Set
     b ≡ (subscribed j).usage_report →
     Ended p (with_rows (map row items) j) [] (rows_counted row own items states)
     (appended (threshold_reports b (rows_counted row own items states)) (settled_states b (rows_counted row own items states)) (with_rows (map row items) j))
-    (states_told (threshold_reports b (rows_counted row own items states)) (settled_states b (rows_counted row own items states)))
+    (after_reports (threshold_reports b (rows_counted row own items states)) (settled_states b (rows_counted row own items states)))
 rows_ended row own p j items states b keys counts on which subscribes =
     agreement_ended p (with_rows (map row items) j) (rows_counted row own items states) b
     (rows_agree row own p j items states which (record { keys_are = keys; counts = counts; on = on }))

@@ -25,7 +25,7 @@ use Rattle.pcef_usage.specs.declared.usage.KeyState.{KeyState}
 use Rattle.pcef_usage.specs.Commands.{entered, started_by}
 use Rattle.pcef_usage.specs.Flushes.{rows_counted}
 use Rattle.pcef_usage.specs.Keys.{added, at_place, clashes, fresh, has_slot, is_reached, keys_of, levels_of, place_of, reported_on, started, state_at, stopped, ungranted_if_reached, with_octets, with_slot}
-use Rattle.pcef_usage.specs.PendingReports.{after_report, after_stop, settled_states, states_stopped, states_told}
+use Rattle.pcef_usage.specs.PendingReports.{after_report, after_stop, settled_states, states_stopped, after_reports}
 use Rattle.pcef_usage.proofs.Tells.{has_slot_is, keys_at_place}
 use Rattle.pcef_usage.proofs.Commanded.{keys_entered}
 
@@ -40,8 +40,8 @@ levels_report (Inactive n) states = refl
 levels_report (Usage k cause) states = levels_at_place reported_on (place_of k states) states (λ s. refl)
 levels_report (Access kind value) states = refl
 
-pub levels_told : (ts : List PendingReport) (states : List KeyState) → levels_of (states_told ts states) ≡ levels_of states
-unfolding states_told
+pub levels_told : (ts : List PendingReport) (states : List KeyState) → levels_of (after_reports ts states) ≡ levels_of states
+unfolding after_reports
 levels_told [] states = refl
 levels_told (t ∷ ts) states = levels_told ts (after_report t states) ∙ levels_report t states
 

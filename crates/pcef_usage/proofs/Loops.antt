@@ -14,7 +14,7 @@ use Rattle.pcef_model.specs.Journals.{report_count, ends_grant}
 use Rattle.pcef_model.proofs.Sameness.{same_name_self}
 use Rattle.pcef_usage.specs.declared.usage.KeyState.{KeyState}
 use Rattle.pcef_usage.specs.Keys.{keys_of, has_slot, place_of, state_at, stopped}
-use Rattle.pcef_usage.specs.PendingReports.{body_by, after_report, appended, states_told, Knows, KnowsAll, after_stop, states_stopped, threshold}
+use Rattle.pcef_usage.specs.PendingReports.{body_by, after_report, appended, after_reports, Knows, KnowsAll, after_stop, states_stopped, threshold}
 use Rattle.pcef_usage.proofs.Places.{or_more, place_below}
 use Rattle.pcef_usage.proofs.Tells.{has_slot_is, keys_after, keys_at_place}
 
@@ -47,11 +47,11 @@ told_step ts i t ss uu j k end within is e f g =
     ap (λ us. appended (drop (i + 1) ts) us (entry.Report (record { number = report_count j; body = body_by ss t }) ∷ j)) g ∙
     sym (ap (λ us. appended us ss j) (split_here ts i t within is)) ∙ e
 
-pub states_step : (ts : List PendingReport) (i : ℕ) (t : PendingReport) (ss uu end : List KeyState) → i < length ts → t ≡ get_or ts i t → states_told (drop i ts) ss ≡ end →
-    uu ≡ after_report t ss → states_told (drop (i + 1) ts) uu ≡ end
-unfolding states_told
+pub states_step : (ts : List PendingReport) (i : ℕ) (t : PendingReport) (ss uu end : List KeyState) → i < length ts → t ≡ get_or ts i t → after_reports (drop i ts) ss ≡ end →
+    uu ≡ after_report t ss → after_reports (drop (i + 1) ts) uu ≡ end
+unfolding after_reports
 states_step ts i t ss uu end within is e g =
-    ap (states_told (drop (i + 1) ts)) g ∙ sym (ap (λ us. states_told us ss) (split_here ts i t within is)) ∙ e
+    ap (after_reports (drop (i + 1) ts)) g ∙ sym (ap (λ us. after_reports us ss) (split_here ts i t within is)) ∙ e
 
 pub keys_step : (t : PendingReport) (ss uu : List KeyState) (keys : List (List ℕ)) → keys_of ss ≡ keys → uu ≡ after_report t ss → keys_of uu ≡ keys
 keys_step t ss uu keys e g = ap keys_of g ∙ keys_after t ss ∙ e
@@ -60,9 +60,9 @@ pub told_end : (ts : List PendingReport) (i : ℕ) (ss : List KeyState) (j end :
 unfolding appended
 told_end ts i ss j end past e = sym (ap (λ us. appended us ss j) (drop_all i ts past)) ∙ e
 
-pub states_end : (ts : List PendingReport) (i : ℕ) (ss end : List KeyState) → length ts ≤ i → states_told (drop i ts) ss ≡ end → ss ≡ end
-unfolding states_told
-states_end ts i ss end past e = sym (ap (λ us. states_told us ss) (drop_all i ts past)) ∙ e
+pub states_end : (ts : List PendingReport) (i : ℕ) (ss end : List KeyState) → length ts ≤ i → after_reports (drop i ts) ss ≡ end → ss ≡ end
+unfolding after_reports
+states_end ts i ss end past e = sym (ap (λ us. after_reports us ss) (drop_all i ts past)) ∙ e
 
 -- ---- switching off
 pub keys_stopped : (t : PendingReport) (ss : List KeyState) → keys_of (after_stop t ss) ≡ keys_of ss

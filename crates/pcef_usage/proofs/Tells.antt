@@ -17,7 +17,7 @@ use Rattle.pcef_model.specs.Reports.{tell, body_of}
 use Rattle.pcef_model.proofs.Sameness.{same_name_is, same_name_not, same_name_turned}
 use Rattle.pcef_usage.specs.declared.usage.KeyState.{KeyState}
 use Rattle.pcef_usage.specs.Keys.{keys_of, has_slot, place_of, at_place, state_at, reported_on}
-use Rattle.pcef_usage.specs.PendingReports.{body_by, after_report, appended, states_told, ended, Knows, KnowsAll, Distinct, Counts, AllCount}
+use Rattle.pcef_usage.specs.PendingReports.{body_by, after_report, appended, after_reports, ended, Knows, KnowsAll, Distinct, Counts, AllCount}
 use Rattle.pcef_usage.proofs.Places.{or_no, or_rest}
 
 -- keys
@@ -137,12 +137,12 @@ body_is p (Access t v) ts j states k a = refl
 
 pub record ToldWell (p : Setting) (ts : List PendingReport) (states : List KeyState) (j : Journal) : Type 0 where
   pub journal_is : appended ts states j ≡ tell p ts j
-  pub counts : AllCount p (tell p ts j) [] (states_told ts states)
-  pub keys_are : keys_of (states_told ts states) ≡ keys_of states
+  pub counts : AllCount p (tell p ts j) [] (after_reports ts states)
+  pub keys_are : keys_of (after_reports ts states) ≡ keys_of states
 
 pub told_well : (p : Setting) (ts : List PendingReport) (j : Journal) (states : List KeyState) → Distinct (keys_of states) → KnowsAll (keys_of states) ts → AllCount p j ts states →
     ToldWell p ts states j
-unfolding appended states_told tell KnowsAll AllCount
+unfolding appended after_reports tell KnowsAll AllCount
 told_well p [] j states d k a = record { journal_is = refl; counts = a; keys_are = refl }
 told_well p (t ∷ ts) j states d k a =
     let e = keys_after t states in

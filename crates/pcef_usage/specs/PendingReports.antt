@@ -31,9 +31,9 @@ unfoldable pub appended : List PendingReport → List KeyState → Journal → J
 appended [] states j = j
 appended (t ∷ ts) states j = appended ts (after_report t states) (entry.Report (record { number = report_count j; body = body_by states t }) ∷ j)
 
-unfoldable pub states_told : List PendingReport → List KeyState → List KeyState
-states_told [] states = states
-states_told (t ∷ ts) states = states_told ts (after_report t states)
+unfoldable pub after_reports : List PendingReport → List KeyState → List KeyState
+after_reports [] states = states
+after_reports (t ∷ ts) states = after_reports ts (after_report t states)
 
 -- each key that is told has a slot
 abbrev pub Knows : List (List ℕ) → PendingReport → Type 0
@@ -71,8 +71,8 @@ settled_states subscribed states = if subscribed then map ungranted_if_reached s
 abbrev pub with_thresholds : Bool → List KeyState → Journal → Journal
 with_thresholds subscribed states j = appended (threshold_reports subscribed states) (settled_states subscribed states) j
 
-abbrev pub thresholds_told : Bool → List KeyState → List KeyState
-thresholds_told subscribed states = states_told (threshold_reports subscribed states) (settled_states subscribed states)
+abbrev pub after_thresholds : Bool → List KeyState → List KeyState
+after_thresholds subscribed states = after_reports (threshold_reports subscribed states) (settled_states subscribed states)
 
 -- ---- for private clauses
 -- the reports of the keys of these slots

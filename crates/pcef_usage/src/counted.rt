@@ -7,7 +7,7 @@ ghost use Rattle.pcef_model.specs.Entries.{reports};
 ghost use Rattle.pcef_model.specs.Journals.{ends_grant};
 ghost use Rattle.pcef_usage.specs.Counted.{IsEvent};
 ghost use Rattle.pcef_usage.specs.Keys.{CanCount, HasPlaceFor, at_place, finds_no_slot, keys_of, place_of, reported_on, started, state_at, stopped, with_octets, with_slot, with_started};
-ghost use Rattle.pcef_usage.specs.PendingReports.{Knows, KnowsAll, after_stop, after_report, body_by, states_stopped, states_told, thresholds_at, thresholds_told, with_report, with_thresholds, appended};
+ghost use Rattle.pcef_usage.specs.PendingReports.{Knows, KnowsAll, after_stop, after_report, body_by, states_stopped, after_reports, thresholds_at, after_thresholds, with_report, with_thresholds, appended};
 
 use crate::key_places::KeyPlaces;
 use crate::usage::{KeyState, Usage};
@@ -140,11 +140,11 @@ impl CountedJournal {
         ensures journal { self.new.journal
             ≡ appended all_pending.now self.old.states self.old.journal }
         ensures forgotten { self.new.forgotten ≡ self.old.forgotten }
-        ensures states { self.new.states ≡ states_told all_pending.now self.old.states }
+        ensures states { self.new.states ≡ after_reports all_pending.now self.old.states }
         ensures room { self.old.room ≤ self.new.room + length all_pending.now }
     {
         for pending in all_pending {
-            self.tell(pending);
+            self.append_report(pending);
         }
     }
 
@@ -155,11 +155,11 @@ impl CountedJournal {
         ensures journal { self.new.journal
             ≡ with_thresholds subscribed self.old.states self.old.journal }
         ensures forgotten { self.new.forgotten ≡ self.old.forgotten }
-        ensures states { self.new.states ≡ thresholds_told subscribed self.old.states }
+        ensures states { self.new.states ≡ after_thresholds subscribed self.old.states }
         ensures room { self.old.room ≤ self.new.room + length self.old.states }
     {
         let reached = self.usage.settle(subscribed);
-        self.tell_reached(reached.as_slice());
+        self.append_reached(reached.as_slice());
     }
 
     /// Forgets all reports, which are still counted. Room stays.
@@ -187,7 +187,7 @@ impl CountedJournal {
         &self.usage
     }
 
-    fn tell(&mut self, pending: &PendingReport)
+    fn append_report(&mut self, pending: &PendingReport)
         requires known { Knows (keys_of self.old.states) pending.now }
         requires room { 0 < self.old.room }
         ensures journal { self.new.journal
@@ -201,19 +201,19 @@ impl CountedJournal {
         self.journal.append(Entry::Report(Report { number, body }));
     }
 
-    fn tell_reached(&mut self, reached: &[Slot])
+    fn append_reached(&mut self, reached: &[Slot])
         requires known { All (λ s. s.0 < length self.old.states) reached.now }
         requires room { length reached.now ≤ self.old.room }
         ensures journal { self.new.journal ≡ appended
             (thresholds_at reached.now self.old.states) self.old.states self.old.journal }
         ensures forgotten { self.new.forgotten ≡ self.old.forgotten }
         ensures states { self.new.states
-            ≡ states_told (thresholds_at reached.now self.old.states) self.old.states }
+            ≡ after_reports (thresholds_at reached.now self.old.states) self.old.states }
         ensures room { self.old.room ≤ self.new.room + length reached.now }
     {
         for slot in reached {
             let key = self.usage.key(*slot).copy();
-            self.tell(&PendingReport::Usage(key, Cause::Threshold));
+            self.append_report(&PendingReport::Usage(key, Cause::Threshold));
         }
     }
 

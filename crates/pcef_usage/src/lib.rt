@@ -1,6 +1,6 @@
 //! `Usage`, the counters of monitoring keys, and `CountedJournal`, a journal with them.
 //!
-//! Its contracts tell: what each call does to the counter of its slot and to no other; what is reported tells exactly
+//! Its contracts say: what each call does to the counter of its slot and to no other; what is reported tells exactly
 //! what the counters hold.
 //!
 //! In the order of reading: `key_places`, `usage`, `counted`.

@@ -6,7 +6,7 @@ use std::fmt::Write;
 use std::net::{Ipv4Addr, Ipv6Addr};
 
 /// Tells an address as it is written.
-pub fn tell_address(text: &mut String, address: Addr) -> Result<(), AllocError> {
+pub fn write_address(text: &mut String, address: Addr) -> Result<(), AllocError> {
     match address {
         Addr::V4(number) => write!(text, "{}", Ipv4Addr::from_bits(number)),
         Addr::V6(number) => write!(text, "{}", Ipv6Addr::from_bits(number)),

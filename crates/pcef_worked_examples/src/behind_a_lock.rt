@@ -12,7 +12,7 @@ use pcef_catalog::{Catalog, Detects, Offers};
 use pcef_journal::Journal;
 use pcef_journaled::JournaledState;
 use pcef_line::{Line, read_line};
-use pcef_lock::{Shared, opened};
+use pcef_lock::{Shared, open_history};
 use pcef_model::{Entry, Profile, Report, Step};
 use pcef_publish::{Board, Opened, Slot};
 use pcef_share::{Blanks, Naming};
@@ -188,7 +188,7 @@ pub fn play<R: Wait>(
     let Some(session) = session(alloc, profile, &*catalog) else {
         return Err(AllocError);
     };
-    let Ok(opened) = opened(&session) else {
+    let Ok(opened) = open_history(&session) else {
         return Err(AllocError);
     };
     behind_its_lock::<Catalog, Brand, _>(rt, alloc, catalog, session, opened, Blanks::new(), worked)

@@ -120,7 +120,7 @@ fn octets_of(usage: &Usage) -> (u64, u64) {
 
 /// How many steps a run of a list answers, and what its world then has: the number of its generation, its rows, its
 /// reports, and the octets that were reported for its keys and that were not.
-fn listed(
+fn list_commands(
     alloc: Global,
     catalog: Arc<Catalog>,
     profile: &str,
@@ -151,9 +151,9 @@ pub(crate) fn answer_list<W: Write>(
     writer: &mut W,
 ) -> io::Result<()> {
     let spare = Arc::try_clone(&catalog)?;
-    let told = match listed(alloc, catalog, profile, script) {
+    let told = match list_commands(alloc, catalog, profile, script) {
         Ok(told) => told,
-        Err(_) => listed(alloc, spare, profile, script)?,
+        Err(_) => list_commands(alloc, spare, profile, script)?,
     };
     let [steps, generation, rows, reports, reported, unreported] = told;
     writeln!(

@@ -29,7 +29,7 @@ fn keep<T: Drop>(list: &mut Vec<T>, one: T) {
 }
 
 // A worker takes a packet: how many rows wait then.
-fn taken<C: Detects + Drop, N: Naming>(
+fn take_packet<C: Detects + Drop, N: Naming>(
     worker: &mut Worker<C, N, OpenGate>,
     header: &Header,
 ) -> StepAnswer {
@@ -131,7 +131,7 @@ impl<C: Detects + Drop, N: Naming> Crew<C, N> {
         step: &Step,
     ) -> Option<StepAnswer> {
         match step {
-            Step::Take { worker, header } => Some(taken(self.worker(*worker)?, header)),
+            Step::Take { worker, header } => Some(take_packet(self.worker(*worker)?, header)),
             Step::Refresh { worker } => {
                 let held = self.worker(*worker)?.refresh();
                 Some(StepAnswer::Refresh(held))

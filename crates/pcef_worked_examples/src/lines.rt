@@ -1,8 +1,8 @@
 //! Reads lines and profiles, and writes what each is read as.
 
-use crate::profiles::{tell_profile_fault, tell_profiles};
-use crate::reading::tell_line;
-use crate::telling::tell;
+use crate::line_texts::write_script_line;
+use crate::profiles::{write_profile_fault, write_profiles};
+use crate::reading::write_line;
 use pcef_line::{LineFault, LineReader};
 use pcef_profile::ReadProfileFault;
 use std::alloc::{AllocError, Global};
@@ -33,7 +33,7 @@ fn as_meant(alloc: Global, line: &str) -> Result<String, AllocError> {
 }
 
 /// A line of a file, and below it what it is read as, unless it is blank or begins with `#`.
-fn tell_file_line(
+fn write_file_line(
     alloc: Global,
     lines: &mut LineReader,
     line: &str,
@@ -44,31 +44,31 @@ fn tell_file_line(
         return Ok(());
     }
     let line = as_meant(alloc, line)?;
-    tell_line(alloc, lines, line.as_str(), text)
+    write_line(alloc, lines, line.as_str(), text)
 }
 
 /// The lines of a file, and below each what it is read as.
-fn tell_lines(
+fn write_lines(
     alloc: Global,
     lines: &mut LineReader,
     file: &str,
     text: &mut String,
 ) -> Result<(), AllocError> {
     for line in file.split('\n') {
-        tell_file_line(alloc, lines, line, text)?;
+        write_file_line(alloc, lines, line, text)?;
     }
     Ok(())
 }
 
 /// Writes what the lines of a file are read as, by a reader of their own, or what its profiles are read as.
-pub fn tell_file(rt: &HostRuntime, path: &str) -> io::Result<()> {
+pub fn write_file(rt: &HostRuntime, path: &str) -> io::Result<()> {
     let alloc = rt.alloc();
     let file = fs::read_to_string(rt, path)?;
     let mut text = String::new(alloc);
     if path.ends_with(".profiles") {
-        tell_profiles(alloc, file.as_str(), &mut text)?;
+        write_profiles(alloc, file.as_str(), &mut text)?;
     } else {
-        tell_lines(alloc, &mut LineReader::new(alloc), file.as_str(), &mut text)?;
+        write_lines(alloc, &mut LineReader::new(alloc), file.as_str(), &mut text)?;
     }
     print!(rt; "{text}")
 }
@@ -81,15 +81,15 @@ fn other_faults(text: &mut String) -> Result<(), AllocError> {
         LineFault::NotUtf8,
         LineFault::NoMemory,
     ] {
-        tell(text, &Err(fault))?;
+        write_script_line(text, &Err(fault))?;
         text.push('\n')?;
     }
-    tell_profile_fault(text, ReadProfileFault::NoMemory)?;
+    write_profile_fault(text, ReadProfileFault::NoMemory)?;
     text.push('\n')
 }
 
 /// Writes the faults that no text has.
-pub fn tell_other_faults(rt: &HostRuntime) -> io::Result<()> {
+pub fn write_other_faults(rt: &HostRuntime) -> io::Result<()> {
     let mut text = String::new(rt.alloc());
     other_faults(&mut text)?;
     print!(rt; "{text}")

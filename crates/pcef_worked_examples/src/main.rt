@@ -1,7 +1,7 @@
 //! A program that goes through the worked examples that its words name: scripts, and files of steps, of lines and of
 //! profiles.
 //!
-//! Its contracts tell: nothing of its answers: the gate wants a line for each script, and what was worked out by hand
+//! Its contracts say: nothing of its answers: the gate wants a line for each script, and what was worked out by hand
 //! for each line and profile; it shows that a refused call leaves a world and a session as they were, with each
 //! allocation refused in turn.
 //!
@@ -36,35 +36,35 @@ mod behind_a_lock;
 mod calls;
 mod comparing;
 mod crew;
+mod line_texts;
 mod lines;
 mod profiles;
 mod reading;
 mod scripts;
 mod steps;
 mod taker;
-mod telling;
 
-use lines::{tell_file, tell_other_faults};
+use lines::{write_file, write_other_faults};
 use pcef_catalog::Catalog;
 use scripts::compare;
 use std::process::ExitCode;
 use std::sync::{Arc, Wait};
 use std::{env, io};
-use steps::tell_steps;
+use steps::write_steps;
 
 /// Tells what an example comes to, and gives whether each answer of a script is as worked out.
-fn tell_example<T: Wait>(
+fn write_example<T: Wait>(
     threads: &T,
     rt: &HostRuntime,
     catalog: &Arc<Catalog>,
     word: &str,
 ) -> io::Result<bool> {
     if word == "faults_that_no_text_has" {
-        tell_other_faults(rt)?;
+        write_other_faults(rt)?;
     } else if word.ends_with(".steps") {
-        tell_steps(rt, word)?;
+        write_steps(rt, word)?;
     } else if word.ends_with(".lines") || word.ends_with(".profiles") {
-        tell_file(rt, word)?;
+        write_file(rt, word)?;
     } else {
         return compare(threads, rt, Arc::try_clone(catalog)?, word);
     }
@@ -72,14 +72,14 @@ fn tell_example<T: Wait>(
 }
 
 /// Tells what all examples come to that the words name, and gives whether each answer of each script is as worked out.
-fn tell_examples<T: Wait>(
+fn write_examples<T: Wait>(
     threads: &T,
     rt: &HostRuntime,
     catalog: &Arc<Catalog>,
 ) -> io::Result<bool> {
     let mut are_all = true;
     for word in env::args(rt)?.skip(1) {
-        are_all &= tell_example(threads, rt, catalog, word.as_str())?;
+        are_all &= write_example(threads, rt, catalog, word.as_str())?;
     }
     Ok(are_all)
 }
@@ -92,7 +92,7 @@ fn main(rt: HostRuntime) -> ExitCode {
     let Ok(catalog) = Arc::new(alloc, catalog) else {
         return ExitCode::from(3);
     };
-    match tell_examples(&rt, &rt, &catalog) {
+    match write_examples(&rt, &rt, &catalog) {
         Ok(true) => ExitCode::from(0),
         Ok(false) => ExitCode::from(1),
         Err(_) => ExitCode::from(3),

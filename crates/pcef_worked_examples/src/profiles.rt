@@ -1,6 +1,6 @@
 //! Reads profiles.
 
-use crate::addresses::tell_address;
+use crate::addresses::write_address;
 use pcef_model::Profile;
 use pcef_profile::{ReadProfileFault, read_profile};
 use pcef_rule::{Kind, Qci, QciTable};
@@ -8,7 +8,7 @@ use std::alloc::{AllocError, Global};
 use std::fmt::Write;
 
 /// Tells the kinds of the QCIs from 0 to 255, a letter each: `G` with a guaranteed bit rate, `N` without, `-` for none.
-fn tell_kinds(text: &mut String, qcis: &QciTable) -> Result<(), AllocError> {
+fn write_kinds(text: &mut String, qcis: &QciTable) -> Result<(), AllocError> {
     for qci in 0..=u8::MAX {
         text.push(match qcis.kind_of(Qci(qci)) {
             Some(Kind::Gbr) => 'G',
@@ -19,42 +19,42 @@ fn tell_kinds(text: &mut String, qcis: &QciTable) -> Result<(), AllocError> {
     Ok(())
 }
 
-fn tell_values(text: &mut String, profile: &Profile) -> Result<(), AllocError> {
+fn write_values(text: &mut String, profile: &Profile) -> Result<(), AllocError> {
     text.push_str("ue ")?;
-    tell_address(text, profile.ue)?;
+    write_address(text, profile.ue)?;
     write!(
         text,
         " rows {} commands {} {:?} {:?} kinds ",
         profile.rows, profile.commands, profile.default_qos, profile.capacity
     )?;
-    tell_kinds(text, &profile.qcis)
+    write_kinds(text, &profile.qcis)
 }
 
 /// Tells the number, the name and the text of a fault.
-pub fn tell_profile_fault(text: &mut String, fault: ReadProfileFault) -> Result<(), AllocError> {
+pub fn write_profile_fault(text: &mut String, fault: ReadProfileFault) -> Result<(), AllocError> {
     write!(text, "fault {} {}: {fault}", fault.number(), fault.name())
 }
 
 /// Tells what a profile is read as.
-fn tell_reading(alloc: Global, profile: &str, text: &mut String) -> Result<(), AllocError> {
+fn write_reading(alloc: Global, profile: &str, text: &mut String) -> Result<(), AllocError> {
     match read_profile(alloc, profile) {
-        Ok(profile) => tell_values(text, &profile),
-        Err(fault) => tell_profile_fault(text, fault),
+        Ok(profile) => write_values(text, &profile),
+        Err(fault) => write_profile_fault(text, fault),
     }
 }
 
 /// The first line, and below it what the profile behind it is read as.
-fn tell_profile(alloc: Global, entry: &str, text: &mut String) -> Result<(), AllocError> {
+fn write_profile(alloc: Global, entry: &str, text: &mut String) -> Result<(), AllocError> {
     let (heading, profile) = entry.split_once('\n').unwrap_or((entry, ""));
     write!(text, "=== {heading}\n    ")?;
-    tell_reading(alloc, profile, text)?;
+    write_reading(alloc, profile, text)?;
     text.push('\n')
 }
 
 /// The headings of the profiles of a file, and below each what its profile is read as.
-pub fn tell_profiles(alloc: Global, file: &str, text: &mut String) -> Result<(), AllocError> {
+pub fn write_profiles(alloc: Global, file: &str, text: &mut String) -> Result<(), AllocError> {
     for entry in file.split("\n=== ").skip(1) {
-        tell_profile(alloc, entry, text)?;
+        write_profile(alloc, entry, text)?;
     }
     Ok(())
 }

@@ -1,6 +1,6 @@
 //! Reads lines alone and among many.
 
-use crate::telling::{tell, told};
+use crate::line_texts::{line_text, write_script_line};
 use pcef_line::{LineReader, read_line};
 use std::alloc::{AllocError, Global};
 use std::fmt::Write;
@@ -11,22 +11,22 @@ static STRAYS: [u8; 14] = [
     b'"', b'\\', b'{', b'}', b',', b':', b' ', b'\n', b'0', b'1', b'f', b'g', 0, 127,
 ];
 
-fn told_alone(alloc: Global, line: &str) -> Result<String, AllocError> {
-    told(alloc, &read_line(alloc, line))
+fn text_alone(alloc: Global, line: &str) -> Result<String, AllocError> {
+    line_text(alloc, &read_line(alloc, line))
 }
 
-fn told_among_many(
+fn text_among_many(
     alloc: Global,
     lines: &mut LineReader,
     line: &str,
 ) -> Result<String, AllocError> {
-    told(alloc, &lines.read(alloc, line))
+    line_text(alloc, &lines.read(alloc, line))
 }
 
 /// Whether a line is read as the same alone and among many.
 fn is_read_alike(alloc: Global, lines: &mut LineReader, line: &str) -> Result<bool, AllocError> {
-    let alone = told_alone(alloc, line)?;
-    let among_many = told_among_many(alloc, lines, line)?;
+    let alone = text_alone(alloc, line)?;
+    let among_many = text_among_many(alloc, lines, line)?;
     Ok(alone.as_str() == among_many.as_str())
 }
 
@@ -52,7 +52,7 @@ fn first_stray(
 }
 
 /// Tells whether a line is read as the same with each stray octet at each place.
-fn tell_strays(
+fn write_strays(
     alloc: Global,
     lines: &mut LineReader,
     line: &str,
@@ -66,14 +66,14 @@ fn tell_strays(
 }
 
 /// Tells what a line is read as alone, and among many where that is something else.
-fn tell_reading(
+fn write_reading(
     alloc: Global,
     lines: &mut LineReader,
     line: &str,
     text: &mut String,
 ) -> Result<(), AllocError> {
     text.push_str("    ")?;
-    tell(text, &read_line(alloc, line))?;
+    write_script_line(text, &read_line(alloc, line))?;
     if !is_read_alike(alloc, lines, line)? {
         text.push_str(", but not among many")?;
     }
@@ -81,14 +81,14 @@ fn tell_reading(
 }
 
 /// Tells what a line is read as, or, where it stands behind `~ `, whether it is read as the same with stray octets.
-pub fn tell_line(
+pub fn write_line(
     alloc: Global,
     lines: &mut LineReader,
     line: &str,
     text: &mut String,
 ) -> Result<(), AllocError> {
     match line.strip_prefix("~ ") {
-        Some(line) => tell_strays(alloc, lines, line, text),
-        None => tell_reading(alloc, lines, line, text),
+        Some(line) => write_strays(alloc, lines, line, text),
+        None => write_reading(alloc, lines, line, text),
     }
 }

@@ -37,7 +37,7 @@ fn script_of(rt: &HostRuntime, name: &str) -> io::Result<String> {
 }
 
 /// What a script answers a writer, and how many of its lines are at fault.
-fn answered(
+fn answer_script(
     rt: &HostRuntime,
     catalog: Arc<Catalog>,
     name: &str,
@@ -70,7 +70,7 @@ fn compare_taken(
     name: &str,
     taking: Taking,
 ) -> io::Result<bool> {
-    let (answers, faults) = answered(rt, catalog, name, taking)?;
+    let (answers, faults) = answer_script(rt, catalog, name, taking)?;
     let wanted = worked_out(rt, name)?;
     let mut writer = io::writer(rt);
     match first_difference(answers.as_str(), wanted.as_str()) {

@@ -59,7 +59,7 @@ fn properties() -> Properties {
 }
 
 /// Writes the answers to the steps of a file, on a catalog of one predefined rule.
-pub fn tell_steps(rt: &HostRuntime, path: &str) -> io::Result<()> {
+pub fn write_steps(rt: &HostRuntime, path: &str) -> io::Result<()> {
     let alloc = rt.alloc();
     let detect: Detect = Box::new(
         alloc,

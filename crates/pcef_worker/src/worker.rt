@@ -79,7 +79,7 @@ impl<C: Detects + Drop, N: Naming, G: Gate + Drop> Worker<C, N, G> {
         ensures rows { IfOk result (λ w. w.rows ≡ []) }
         ensures keeps { IfOk result (λ w. w.keeps ≡ true) }
     {
-        Worker::come(rt, alloc, shared, gate, OwnRows::new(alloc))
+        Worker::attach_to(rt, alloc, shared, gate, OwnRows::new(alloc))
     }
 
     /// The same, of a worker that stores none of the rows that it hands over: it takes no memory for packets. Its shares
@@ -94,11 +94,11 @@ impl<C: Detects + Drop, N: Naming, G: Gate + Drop> Worker<C, N, G> {
         ensures rows { IfOk result (λ w. w.rows ≡ []) }
         ensures keeps { IfOk result (λ w. w.keeps ≡ false) }
     {
-        Worker::come(rt, alloc, shared, gate, OwnRows::counted())
+        Worker::attach_to(rt, alloc, shared, gate, OwnRows::counted())
     }
 
     /// Attaches a worker with this list, which has no rows.
-    fn come<W: Board<Slot<N>> + Drop, P: Pooling, R: Wait>(
+    fn attach_to<W: Board<Slot<N>> + Drop, P: Pooling, R: Wait>(
         rt: &R,
         alloc: Global,
         shared: &Shared<C, N, W, P>,

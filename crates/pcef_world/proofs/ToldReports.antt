@@ -15,20 +15,20 @@ use Rattle.pcef_model.specs.Journals.{report_count}
 use Rattle.pcef_model.specs.Outcomes.{accepted, attach_outcome, attach_outcome_by, changes, command_outcome, command_outcome_by, finish_outcome, finish_outcome_by, flush_outcome, flush_outcome_by}
 use Rattle.pcef_model.specs.Reports.{after_command}
 use Rattle.pcef_model.specs.Refusals.{attach_faults, first_of, flush_refusals, refusals}
-use Rattle.pcef_world.specs.Steps.{MakesStep, Plays, Reply, Standing, abandon_reply, attach_reply, command_reply, finish_reply, flush_reply, no_worker, refresh_reply, TellsKept, abandon_step, attach_step, command_step, finish_step, finished, flush_step, handed_over, most_waiting, refresh_step, reply_of, row_taken, standing_of, step_outcome, take_reply, take_step, with_place, with_row}
+use Rattle.pcef_world.specs.Steps.{MakesStep, Plays, Reply, Standing, abandon_reply, attach_reply, command_reply, finish_reply, flush_reply, no_worker, refresh_reply, NamesKept, abandon_step, attach_step, command_step, finish_step, finished, flush_step, handed_over, most_waiting, refresh_step, reply_of, row_taken, standing_of, step_outcome, take_reply, take_step, with_place, with_row}
 use Rattle.pcef_world.specs.declared.answer.StepAnswer.{StepAnswer}
 use Rattle.pcef_world.specs.Worlds.{Waiting, World, worker_at}
 
 module _ (p : Setting) (s : Standing) (forgotten : ℕ) (kept : forgotten ≤ report_count s.journal) where
-  told_of_command : (c : Command) (refused : Option Refusal) → TellsKept forgotten (command_step s (command_outcome_by p s.journal c refused)).0
+  told_of_command : (c : Command) (refused : Option Refusal) → NamesKept forgotten (command_step s (command_outcome_by p s.journal c refused)).0
   told_of_command c (Some r) = tt
   told_of_command c None =
-      elim (changes p s.journal c) as (λ b. TellsKept forgotten (command_step s (if b then (Ok (accepted p c s.journal (after_command p s.journal c) false), after_command p s.journal c) else (Ok (accepted p c s.journal s.journal true), s.journal))).0) [
+      elim (changes p s.journal c) as (λ b. NamesKept forgotten (command_step s (if b then (Ok (accepted p c s.journal (after_command p s.journal c) false), after_command p s.journal c) else (Ok (accepted p c s.journal s.journal true), s.journal))).0) [
         | true ↦ kept
         | false ↦ kept
       ]
 
-  told_of_attach : (fault : Option AttachFault) → TellsKept forgotten (attach_step s (attach_outcome_by s.journal fault)).0
+  told_of_attach : (fault : Option AttachFault) → NamesKept forgotten (attach_step s (attach_outcome_by s.journal fault)).0
   told_of_attach (Some f) = tt
   told_of_attach None = tt
 
@@ -37,50 +37,50 @@ module _ (p : Setting) (s : Standing) (forgotten : ℕ) (kept : forgotten ≤ re
       if full then (take_reply (Err (record {})), s)
       else (take_reply (Ok (length w.rows + 1)), with_place worker (Some (with_row (row_taken p s.journal worker w header) w)) s)
 
-  told_of_take : (worker : ℕ) (header : Header) (place : Option Waiting) → TellsKept forgotten (take_step p s worker header place).0
+  told_of_take : (worker : ℕ) (header : Header) (place : Option Waiting) → NamesKept forgotten (take_step p s worker header place).0
   told_of_take worker header None = tt
   told_of_take worker header (Some w) =
-      elim (nat_le most_waiting (length w.rows)) as (λ b. TellsKept forgotten (taken_by b worker header w).0) [
+      elim (nat_le most_waiting (length w.rows)) as (λ b. NamesKept forgotten (taken_by b worker header w).0) [
         | true ↦ tt
         | false ↦ tt
       ]
 
-  told_of_refresh : (worker : ℕ) (place : Option Waiting) → TellsKept forgotten (refresh_step s worker place).0
+  told_of_refresh : (worker : ℕ) (place : Option Waiting) → NamesKept forgotten (refresh_step s worker place).0
   told_of_refresh worker None = tt
   told_of_refresh worker (Some w) = tt
 
-  handed : (worker : ℕ) (w : Waiting) (refused : Option FlushRefusal) → TellsKept forgotten (handed_over s worker w (flush_outcome_by p s.journal w.rows refused)).0
+  handed : (worker : ℕ) (w : Waiting) (refused : Option FlushRefusal) → NamesKept forgotten (handed_over s worker w (flush_outcome_by p s.journal w.rows refused)).0
   handed worker w (Some r) = tt
   handed worker w None = kept
 
-  told_of_flush : (worker : ℕ) (place : Option Waiting) → TellsKept forgotten (flush_step p s worker place).0
+  told_of_flush : (worker : ℕ) (place : Option Waiting) → NamesKept forgotten (flush_step p s worker place).0
   unfolding flush_outcome
   told_of_flush worker None = tt
   told_of_flush worker (Some w) = handed worker w (first_of (flush_refusals p s.journal worker (length w.rows)))
 
-  left : (worker : ℕ) (w : Waiting) (refused : Option FlushRefusal) → TellsKept forgotten (finished s worker (finish_outcome_by p s.journal worker w.rows refused)).0
+  left : (worker : ℕ) (w : Waiting) (refused : Option FlushRefusal) → NamesKept forgotten (finished s worker (finish_outcome_by p s.journal worker w.rows refused)).0
   left worker w (Some r) = tt
   left worker w None = kept
 
-  told_of_finish : (worker : ℕ) (place : Option Waiting) → TellsKept forgotten (finish_step p s worker place).0
+  told_of_finish : (worker : ℕ) (place : Option Waiting) → NamesKept forgotten (finish_step p s worker place).0
   unfolding finish_outcome
   told_of_finish worker None = tt
   told_of_finish worker (Some w) = left worker w (first_of (flush_refusals p s.journal worker (length w.rows)))
 
-  told_of_abandon : (worker : ℕ) (place : Option Waiting) → TellsKept forgotten (abandon_step s worker place).0
+  told_of_abandon : (worker : ℕ) (place : Option Waiting) → NamesKept forgotten (abandon_step s worker place).0
   told_of_abandon worker None = tt
   told_of_abandon worker (Some w) = tt
 
   -- so a step tells of no report that was forgotten before it
-  pub tells_kept : (step : Step) → TellsKept forgotten (step_outcome p s step).0
+  pub names_kept : (step : Step) → NamesKept forgotten (step_outcome p s step).0
   unfolding step_outcome command_outcome attach_outcome
-  tells_kept (of.Command c) = told_of_command c (first_of (refusals p s.journal c))
-  tells_kept of.Attach = told_of_attach (first_of (attach_faults s.journal))
-  tells_kept (of.Take worker header) = told_of_take worker header (worker_at s.workers worker)
-  tells_kept (of.Refresh worker) = told_of_refresh worker (worker_at s.workers worker)
-  tells_kept (of.Flush worker) = told_of_flush worker (worker_at s.workers worker)
-  tells_kept (of.Finish worker) = told_of_finish worker (worker_at s.workers worker)
-  tells_kept (of.Abandon worker) = told_of_abandon worker (worker_at s.workers worker)
+  names_kept (of.Command c) = told_of_command c (first_of (refusals p s.journal c))
+  names_kept of.Attach = told_of_attach (first_of (attach_faults s.journal))
+  names_kept (of.Take worker header) = told_of_take worker header (worker_at s.workers worker)
+  names_kept (of.Refresh worker) = told_of_refresh worker (worker_at s.workers worker)
+  names_kept (of.Flush worker) = told_of_flush worker (worker_at s.workers worker)
+  names_kept (of.Finish worker) = told_of_finish worker (worker_at s.workers worker)
+  names_kept (of.Abandon worker) = told_of_abandon worker (worker_at s.workers worker)
 
 -- a step that a world makes is one of any world that stands so
 pub made_same : (u v w : World) (step : Step) (a : StepAnswer) → u.session.setting ≡ v.session.setting → standing_of u ≡ standing_of v →
@@ -90,13 +90,13 @@ made_same u v w step a setting standing made =
     (subst (λ (s : Standing). Plays u.session.setting s step a (standing_of w)) standing made)
 
 -- what a world answers tells of no report that is forgotten
-pub told_by_world : (v w : World) (step : Step) (a : StepAnswer) (forgotten : ℕ) → forgotten ≤ report_count v.session.journal →
-    MakesStep v step a w → TellsKept forgotten (reply_of a)
-told_by_world v w step a forgotten kept made =
-    subst (λ (r : Reply). TellsKept forgotten r) (sym made.0) (tells_kept v.session.setting (standing_of v) forgotten kept step)
+pub answered_by_world : (v w : World) (step : Step) (a : StepAnswer) (forgotten : ℕ) → forgotten ≤ report_count v.session.journal →
+    MakesStep v step a w → NamesKept forgotten (reply_of a)
+answered_by_world v w step a forgotten kept made =
+    subst (λ (r : Reply). NamesKept forgotten r) (sym made.0) (names_kept v.session.setting (standing_of v) forgotten kept step)
 
 -- where nothing is forgotten, no report is
-pub all_kept : (forgotten : ℕ) (reply : Reply) → forgotten ≡ 0 → TellsKept forgotten reply
+pub all_kept : (forgotten : ℕ) (reply : Reply) → forgotten ≡ 0 → NamesKept forgotten reply
 all_kept forgotten (command_reply (Ok a)) none = omega (arith, none)
 all_kept forgotten (command_reply (Err r)) none = tt
 all_kept forgotten (attach_reply r) none = tt

@@ -34,7 +34,7 @@ use Rattle.pcef_session.specs.Following.{row_of}
 use Rattle.pcef_world.specs.declared.answer.StepAnswer.{StepAnswer}
 use Rattle.pcef_world.specs.declared.answer.StepAnswer.TheVariants as answer
 use Rattle.pcef_world.specs.declared.worker.Worker.{Worker}
-use Rattle.pcef_world.specs.private.Places.{AbandonsAt, FinishesAt, FlushesAt, RefreshesAt, TakesAt, after_coming, after_finishing, attach_told, finish_told, flush_told}
+use Rattle.pcef_world.specs.private.Places.{AbandonsAt, FinishesAt, FlushesAt, RefreshesAt, TakesAt, after_coming, after_finishing, attach_step_answer, finish_step_answer, flush_step_answer}
 use Rattle.pcef_world.specs.private.Soundness.{IsSoundWith, seen}
 use Rattle.pcef_world.specs.private.Workers.{IsJudged, Waits, after_flushing, held_by, with_item}
 use Rattle.pcef_world.specs.Steps.{Lacks, Plays, Reply, Standing, abandon_reply, attach_step, finished, handed_over, is_error, is_refusal, new_worker, reply_of, row_taken, standing_of, step_outcome, take_reply, take_step, with_generation, with_none, with_place, with_row}
@@ -123,11 +123,11 @@ come_lacks p j k workers attaches =
     (attach_accepted (attach_outcome j) (record { journal = j; workers = workers }) lacks.0, ap (λ l. record { journal = l; workers = workers }) lacks.1)
 
 pub attach_answer : (p : Setting) (v w : World) (r : Result ℕ AttachFault) → AttachStep v.session.journal r w.session.journal → w.workers ≡ after_coming v.session.journal r v.workers →
-    Steps p (standing_of v) of.Attach (attach_told r) (standing_of w)
+    Steps p (standing_of v) of.Attach (attach_step_answer r) (standing_of w)
 attach_answer p v w r attaches workers_are = rw workers_are (from r attaches)
   where
     from : (r : Result ℕ AttachFault) → AttachStep v.session.journal r w.session.journal →
-        Steps p (standing_of v) of.Attach (attach_told r) (record { journal = w.session.journal; workers = after_coming v.session.journal r v.workers })
+        Steps p (standing_of v) of.Attach (attach_step_answer r) (record { journal = w.session.journal; workers = after_coming v.session.journal r v.workers })
     from (Ok number) attaches = (come_plays p v.session.journal w.session.journal v.workers (Ok number) attaches (λ e. cc), tt)
     from (Err attach.NoMemory) attaches = (tt, come_lacks p v.session.journal w.session.journal v.workers attaches)
     from (Err attach.NoPlace) attaches = (come_plays p v.session.journal w.session.journal v.workers (Err attach.NoPlace) attaches (λ e. cc), tt)
@@ -275,7 +275,7 @@ flushes_answer s t workers i (Some w) new out sound there (r, flushes, out_is, p
     rw out_is (from r (subst (λ n. FlushStep s.setting n (map row_of w.waiting) s.journal (result_map_both flush_answer_of (λ e. e) r) t.journal) (sound.wait i w there).number_is flushes) put)
   where
     from : (r : Result Verdicts FlushRefusal) → FlushStep s.setting i (map row_of w.waiting) s.journal (result_map_both flush_answer_of (λ e. e) r) t.journal → new ≡ Some (after_flushing r w) →
-        Steps s.setting (stand s.journal workers) (of.Flush i) (flush_told r) (stand t.journal (slice_set workers i new))
+        Steps s.setting (stand s.journal workers) (of.Flush i) (flush_step_answer r) (stand t.journal (slice_set workers i new))
     from (Ok v) flushes put = (flush_plays s.setting s.journal t.journal workers i w new (Ok v) there flushes (λ e. cc) put, tt)
     from (Err flush.NoMemory) flushes put = (tt, flush_lacks s.setting s.journal t.journal workers i w new there flushes put)
     from (Err flush.NotAttached) flushes put = (flush_plays s.setting s.journal t.journal workers i w new (Err flush.NotAttached) there flushes (λ e. cc) put, tt)
@@ -324,7 +324,7 @@ finishes_answer s t workers i (Some w) new out sound there (r, finishes, out_is,
     rw out_is (from r (subst (λ n. FinishStep s.setting n (map row_of w.waiting) s.journal (result_map_both finish_answer_of (λ e. e) r) t.journal) (sound.wait i w there).number_is finishes) put)
   where
     from : (r : Result (Verdicts × ℕ) FlushRefusal) → FinishStep s.setting i (map row_of w.waiting) s.journal (result_map_both finish_answer_of (λ e. e) r) t.journal → new ≡ after_finishing r w →
-        Steps s.setting (stand s.journal workers) (of.Finish i) (finish_told r) (stand t.journal (slice_set workers i new))
+        Steps s.setting (stand s.journal workers) (of.Finish i) (finish_step_answer r) (stand t.journal (slice_set workers i new))
     from (Ok v) finishes put = (finish_plays s.setting s.journal t.journal workers i w new (Ok v) there finishes (λ e. cc) put, tt)
     from (Err flush.NoMemory) finishes put = (tt, finish_lacks s.setting s.journal t.journal workers i w new there finishes put)
     from (Err flush.NotAttached) finishes put = (finish_plays s.setting s.journal t.journal workers i w new (Err flush.NotAttached) there finishes (λ e. cc) put, tt)

@@ -61,11 +61,11 @@ reply_of (answer.Abandon abandoned) = abandon_reply abandoned
 reply_of answer.NoWorker = no_worker
 
 -- no report that a reply may tell of is among so many that are forgotten
-abbrev pub TellsKept : ℕ → Reply → Type 0
-TellsKept forgotten (command_reply r) = IfOk r (λ a. forgotten ≤ a.first_report)
-TellsKept forgotten (flush_reply r) = IfOk r (λ told. forgotten ≤ told.first_report)
-TellsKept forgotten (finish_reply r) = IfOk r (λ told. forgotten ≤ told.0.first_report)
-TellsKept forgotten other = Unit {0}
+abbrev pub NamesKept : ℕ → Reply → Type 0
+NamesKept forgotten (command_reply r) = IfOk r (λ a. forgotten ≤ a.first_report)
+NamesKept forgotten (flush_reply r) = IfOk r (λ told. forgotten ≤ told.first_report)
+NamesKept forgotten (finish_reply r) = IfOk r (λ told. forgotten ≤ told.0.first_report)
+NamesKept forgotten other = Unit {0}
 
 abbrev pub is_error : {A E : Type 0} → Result A E → Bool
 is_error (Ok a) = false

@@ -3,7 +3,7 @@
 ghost use Rattle.std.specs.Prelude.{◌≡◌, ◌≢◌, Err, IfErr, IfOk};
 ghost use Rattle.pcef_model.specs.declared.answer.Refusal.TheVariants.{NoMemory};
 ghost use Rattle.pcef_world.specs.declared.answer.StepAnswer.TheVariants as step;
-ghost use Rattle.pcef_world.specs.private.Places.{attach_told, finish_told, flush_told};
+ghost use Rattle.pcef_world.specs.private.Places.{attach_step_answer, finish_step_answer, flush_step_answer};
 
 use pcef_model::{Accepted, AttachFault, FlushRefusal, Refusal, Verdicts};
 use pcef_session::BatchFull;
@@ -40,7 +40,9 @@ pub enum StepAnswer {
 }
 
 /// What is told of a command: out of memory is no answer.
-pub(crate) fn command_told(answer: Result<Accepted, Refusal>) -> Result<StepAnswer, AllocError>
+pub(crate) fn command_step_answer(
+    answer: Result<Accepted, Refusal>,
+) -> Result<StepAnswer, AllocError>
     ensures told { IfOk result (λ a. (a ≡ step.Command answer) × (answer ≢ Err NoMemory)) }
     ensures lack { IfErr result (λ _. answer ≡ Err NoMemory) }
 {
@@ -51,8 +53,8 @@ pub(crate) fn command_told(answer: Result<Accepted, Refusal>) -> Result<StepAnsw
 }
 
 /// What is told of a worker that comes: out of memory is no answer.
-pub(crate) fn attach_told(answer: Result<u8, AttachFault>) -> Result<StepAnswer, AllocError>
-    ensures { result ≡ attach_told answer }
+pub(crate) fn attach_step_answer(answer: Result<u8, AttachFault>) -> Result<StepAnswer, AllocError>
+    ensures { result ≡ attach_step_answer answer }
 {
     match answer {
         Err(AttachFault::NoMemory) => Err(AllocError),
@@ -61,8 +63,10 @@ pub(crate) fn attach_told(answer: Result<u8, AttachFault>) -> Result<StepAnswer,
 }
 
 /// What is told of a flush: out of memory is no answer.
-pub(crate) fn flush_told(answer: Result<Verdicts, FlushRefusal>) -> Result<StepAnswer, AllocError>
-    ensures { result ≡ flush_told answer }
+pub(crate) fn flush_step_answer(
+    answer: Result<Verdicts, FlushRefusal>,
+) -> Result<StepAnswer, AllocError>
+    ensures { result ≡ flush_step_answer answer }
 {
     match answer {
         Err(FlushRefusal::NoMemory) => Err(AllocError),
@@ -71,10 +75,10 @@ pub(crate) fn flush_told(answer: Result<Verdicts, FlushRefusal>) -> Result<StepA
 }
 
 /// What is told of a finish: out of memory is no answer.
-pub(crate) fn finish_told(
+pub(crate) fn finish_step_answer(
     answer: Result<(Verdicts, u64), FlushRefusal>,
 ) -> Result<StepAnswer, AllocError>
-    ensures { result ≡ finish_told answer }
+    ensures { result ≡ finish_step_answer answer }
 {
     match answer {
         Err(FlushRefusal::NoMemory) => Err(AllocError),

@@ -1,7 +1,7 @@
 //! A session and its workers, step by step: `WorldState`, a session and a place for each worker that ever came, and
 //! `StepAnswer`.
 //!
-//! Its contracts tell: what each step answers and what stands after it, for one step and for a list; that waiting rows
+//! Its contracts say: what each step answers and what stands after it, for one step and for a list; that waiting rows
 //! may come next.
 //!
 //! In the order of reading: `answer`, `worker`, `places`, `world`, `play`.

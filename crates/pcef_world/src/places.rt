@@ -6,7 +6,7 @@ ghost use Rattle.pcef_table.specs.Tables.{IsTable};
 ghost use Rattle.pcef_world.specs.private.Places.{AbandonsAt, HandsOverAt, LeavesAt, RefreshesAt, TakesAt};
 ghost use Rattle.pcef_world.specs.private.Workers.{MayHandOver, held_by};
 
-use crate::answer::{Abandoned, StepAnswer, finish_told, flush_told};
+use crate::answer::{Abandoned, StepAnswer, finish_step_answer, flush_step_answer};
 use crate::worker::Worker;
 use pcef_catalog::Detects;
 use pcef_packet::{Addr, Header};
@@ -66,7 +66,7 @@ pub(crate) fn flush_at(
 {
     match place {
         None => Ok(StepAnswer::NoWorker),
-        Some(worker) => flush_told(worker.flush(session)),
+        Some(worker) => flush_step_answer(worker.flush(session)),
     }
 }
 
@@ -85,7 +85,7 @@ pub(crate) fn finish_at(
         Some(worker) => worker.finish(session),
     };
     match answer {
-        Err(refusal) => finish_told(Err(refusal)),
+        Err(refusal) => finish_step_answer(Err(refusal)),
         Ok(finished) => {
             *place = None;
             Ok(StepAnswer::Finish(Ok(finished)))

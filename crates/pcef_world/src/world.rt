@@ -13,7 +13,7 @@ ghost use Rattle.pcef_world.specs.Steps.{LacksForStep, MakesStep, standing_of};
 ghost use Rattle.pcef_world.specs.Worlds.{HasWorkersInTurn, IsOpenedWorld};
 ghost use Rattle.pcef_world.specs.private.Places.{after_coming};
 
-use crate::answer::{StepAnswer, attach_told, command_told};
+use crate::answer::{StepAnswer, attach_step_answer, command_step_answer};
 use crate::places::{abandon_at, finish_at, flush_at, refresh_at, take_at};
 use crate::worker::Worker;
 use pcef_catalog::{Detects, Listing};
@@ -134,11 +134,11 @@ impl WorldState {
         ensures setting { self.new.session.setting ≡ self.old.session.setting }
         ensures forgotten { self.new.session.forgotten ≡ self.old.session.forgotten }
     {
-        command_told(self.session.command(command))
+        command_step_answer(self.session.command(command))
     }
 
     // A worker that comes holds the newest generation, and no row waits.
-    fn come(&mut self) -> Result<u8, AttachFault>
+    fn attach_worker(&mut self) -> Result<u8, AttachFault>
         ensures answer { AttachStep self.old.session.journal result self.new.session.journal }
         ensures workers { self.new.workers
             ≡ after_coming self.old.session.journal result self.old.workers }
@@ -169,7 +169,7 @@ impl WorldState {
         ensures setting { self.new.session.setting ≡ self.old.session.setting }
         ensures forgotten { self.new.session.forgotten ≡ self.old.session.forgotten }
     {
-        attach_told(self.come())
+        attach_step_answer(self.attach_worker())
     }
 
     fn take<C: Detects>(

@@ -1,6 +1,6 @@
 //! Writes octets to any writer: `put_all`.
 //!
-//! Its contracts tell: that all of some octets were written, or a front of them and the error.
+//! Its contracts say: that all of some octets were written, or a front of them and the error.
 #![tactic(auto)]
 
 mod writing;

@@ -33,7 +33,7 @@ fn judge_each<C: Detects, N: Naming>(
 }
 
 /// How many rows wait, where the last one counts for a key.
-fn counting(batch: &Batch) -> u64 {
+fn count_rows(batch: &Batch) -> u64 {
     match batch.items().last() {
         Some(item) if !item.slots.is_empty() => batch.len() as u64,
         _ => 0,
@@ -59,7 +59,7 @@ fn judge_batches<C: Detects, N: Naming>(
             seat.subscriber.refresh();
         }
         judge_each(catalog, seat, batch, packets_of(packets, number));
-        judged = judged.saturating_add(counting(batch));
+        judged = judged.saturating_add(count_rows(batch));
         batch.clear();
     }
     judged

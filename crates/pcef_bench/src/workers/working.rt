@@ -108,11 +108,11 @@ fn handed_over<C: Detects + Drop, N: Naming, W: Board<Slot<N>> + Drop, R: Wait>(
     };
     let mut worker = attached.ok()?;
     flush_each(rt, shared, &mut worker, packets, batches);
-    finished(rt, shared, worker, Vec::new(alloc))
+    finish_worker(rt, shared, worker, Vec::new(alloc))
 }
 
 /// A worker attaches, takes packets, flushes, each flush timed, and finishes.
-fn timed<C: Detects + Drop, N: Naming, W: Board<Slot<N>> + Drop, R: Wait, K: Clock>(
+fn time_worker<C: Detects + Drop, N: Naming, W: Board<Slot<N>> + Drop, R: Wait, K: Clock>(
     rt: &R,
     clock: &K,
     alloc: Global,
@@ -131,11 +131,11 @@ fn timed<C: Detects + Drop, N: Naming, W: Board<Slot<N>> + Drop, R: Wait, K: Clo
         batches,
         &mut flushes,
     );
-    finished(rt, shared, worker, flushes)
+    finish_worker(rt, shared, worker, flushes)
 }
 
 /// What a worker leaves that finishes.
-fn finished<C: Detects + Drop, N: Naming, W: Board<Slot<N>> + Drop, R: Wait>(
+fn finish_worker<C: Detects + Drop, N: Naming, W: Board<Slot<N>> + Drop, R: Wait>(
     rt: &R,
     shared: &Shared<C, N, W>,
     worker: Worker<C, N, OpenGate>,
@@ -150,7 +150,7 @@ fn finished<C: Detects + Drop, N: Naming, W: Board<Slot<N>> + Drop, R: Wait>(
 }
 
 /// What a worker does.
-fn worked<C: Detects + Drop, N: Naming, W: Board<Slot<N>> + Drop, R: Wait, K: Clock>(
+fn work_off<C: Detects + Drop, N: Naming, W: Board<Slot<N>> + Drop, R: Wait, K: Clock>(
     rt: &R,
     clock: &K,
     alloc: Global,
@@ -161,7 +161,7 @@ fn worked<C: Detects + Drop, N: Naming, W: Board<Slot<N>> + Drop, R: Wait, K: Cl
     match load.work {
         Work::Flush => handed_over(rt, alloc, shared, packets, load.batches, true),
         Work::CountedFlush => handed_over(rt, alloc, shared, packets, load.batches, false),
-        Work::TimedFlush => timed(rt, clock, alloc, shared, packets, load.batches),
+        Work::TimedFlush => time_worker(rt, clock, alloc, shared, packets, load.batches),
         Work::Own => judged_alone(rt, alloc, shared, packets, load.batches, false),
         Work::Read => judged_alone(rt, alloc, shared, packets, load.batches, true),
     }
@@ -212,7 +212,7 @@ fn work_each<
 ) -> Option<(AllLeft<N>, u64)> {
     let workers = usize::from(load.workers);
     let mut lap = Lap::begin(clock).ok()?;
-    let work = |_: usize| worked(rt, clock, alloc, shared, packets, load);
+    let work = |_: usize| work_off(rt, clock, alloc, shared, packets, load);
     let left = map_indices(rt, alloc, workers, &work).ok()?;
     let nanoseconds = lap.end(clock).ok()?;
     Some((together(alloc, left)?, nanoseconds))
@@ -273,13 +273,18 @@ fn comes_to<C: Detects + Drop, N: Naming, W: Board<Slot<N>> + Drop, R: Wait>(
         judged,
         flushes,
     } = left;
-    match gathered(rt, shared, desk, finished) {
-        Some(totals) => told(&totals, judged, flushes, nanoseconds),
+    match gather_all(rt, shared, desk, finished) {
+        Some(totals) => reached_of(&totals, judged, flushes, nanoseconds),
         None => None,
     }
 }
 
-fn told(totals: &Totals, judged: u64, flushes: Vec<u64>, nanoseconds: u64) -> Option<Reached> {
+fn reached_of(
+    totals: &Totals,
+    judged: u64,
+    flushes: Vec<u64>,
+    nanoseconds: u64,
+) -> Option<Reached> {
     Some(Reached {
         rows: totals.rows.saturating_add(judged),
         counted: totals.keys.as_slice().first()?.counted,
@@ -289,7 +294,7 @@ fn told(totals: &Totals, judged: u64, flushes: Vec<u64>, nanoseconds: u64) -> Op
 }
 
 /// The totals of a session whose workers have left.
-fn gathered<C: Detects + Drop, N: Naming, W: Board<Slot<N>> + Drop, R: Wait>(
+fn gather_all<C: Detects + Drop, N: Naming, W: Board<Slot<N>> + Drop, R: Wait>(
     rt: &R,
     shared: Shared<C, N, W>,
     desk: Desk<N>,

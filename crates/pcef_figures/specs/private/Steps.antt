@@ -9,8 +9,8 @@ use Rattle.pcef_figures.specs.declared.figures.Figures.{Figures}
 use Rattle.pcef_figures.specs.declared.pairing.Filled.{Filled}
 use Rattle.pcef_figures.specs.Grants.{generation_behind, grant_asked, grant_of, grants_in, key_of, keys_behind, keys_shown, or_zero}
 use Rattle.pcef_figures.specs.Guarantees.{rates_commanded, rates_in, rules_behind, rules_commanded}
-use Rattle.pcef_figures.specs.Pairing.{Exchange, exchange_of, is_answered, is_told}
-use Rattle.pcef_figures.specs.Usages.{number_in, refusal_of, refusals_in, told_of, usage_in}
+use Rattle.pcef_figures.specs.Pairing.{Exchange, exchange_of, is_answered, has_value}
+use Rattle.pcef_figures.specs.Usages.{number_in, refusal_of, refusals_in, usage_figure_of, usage_in}
 
 abbrev pub exchange_by : Filled → Filled → Exchange
 exchange_by line answer = exchange_of ((line.number, line.octets.now), (answer.number, answer.octets.now))
@@ -27,7 +27,7 @@ pub record TellsBeside (old new : Figures) : Type 0 where
   pub refused : new.refused ≡ old.refused
 
 -- what a line that was done asked for is told, and what its answer shows
-pub record TellsDone (number : ℕ) (line answer : Data) (old new : Collected) : Type 0 where
+pub record TakesDone (number : ℕ) (line answer : Data) (old new : Collected) : Type 0 where
   pub lines : new.figures.lines ≡ old.figures.lines
   pub last : new.figures.last ≡ old.figures.last
   pub generation : new.figures.generation ≡ max old.figures.generation (or_zero (number_in (codes "generation") answer))
@@ -45,7 +45,7 @@ IsOtherOrMemory number fault.MoreAnswers = ⊥
 IsOtherOrMemory number fault.NoMemory = Unit {0}
 
 -- a line is told with its answer, after it was counted and its answer's reports were told
-pub record TellsLine (number : ℕ) (line : Option Data) (answer : Data) (old new : Collected) : Type 0 where
+pub record TakesLine (number : ℕ) (line : Option Data) (answer : Data) (old new : Collected) : Type 0 where
   pub lines : new.figures.lines ≡ old.figures.lines
   pub last : new.figures.last ≡ old.figures.last
   pub generation : new.figures.generation ≡ generation_behind old.figures.generation number answer
@@ -55,14 +55,14 @@ pub record TellsLine (number : ℕ) (line : Option Data) (answer : Data) (old ne
   pub rates : new.figures.rates.items ≡ old.figures.rates.items ++ rates_in old.active number line answer
   pub refused : map refusal_of new.figures.refused.items ≡ map refusal_of old.figures.refused.items ++ refusals_in number answer
   pub active : new.active ≡ rules_behind old.active number line answer
-  pub answered : is_told number line answer ≡ true
+  pub answered : has_value number line answer ≡ true
 
 -- a line with its answer is told
 pub record TellsNext (x : Exchange) (old new : Collected) : Type 0 where
   pub lines : new.figures.lines ≡ min (old.figures.lines + 1) (2 ^ 64 - 1)
   pub last : new.figures.last ≡ x.number
   pub generation : new.figures.generation ≡ generation_behind old.figures.generation x.number x.answer
-  pub usage : map told_of new.figures.usage.items ≡ map told_of old.figures.usage.items ++ usage_in x.number x.answer
+  pub usage : map usage_figure_of new.figures.usage.items ≡ map usage_figure_of old.figures.usage.items ++ usage_in x.number x.answer
   pub grants : map grant_of new.figures.grants.items ≡ map grant_of old.figures.grants.items ++ grants_in x.number x.line x.answer
   pub keys : map key_of new.figures.keys.items ≡ keys_behind (map key_of old.figures.keys.items) x.number x.answer
   pub rates : new.figures.rates.items ≡ old.figures.rates.items ++ rates_in old.active x.number x.line x.answer

@@ -10,7 +10,7 @@ use Rattle.pcef_answer.specs.StepAnswers.{step_text}
 use Rattle.pcef_world.specs.Steps.{Standing, reply_of, standing_of}
 use Rattle.pcef_world.specs.Worlds.{World}
 use Rattle.pcef_world.specs.declared.answer.StepAnswer.{StepAnswer}
-use Rattle.pcef_findings.specs.Findings.{Finds, FindsDue, FindsLine, Tells, as_list, found_in}
+use Rattle.pcef_findings.specs.Findings.{Finds, FindsDue, FindsLine, IsFindingOf, as_list, found_in}
 use Rattle.pcef_findings.specs.declared.finding.Finding.{Finding}
 use Rattle.pcef_findings.specs.declared.finding.Found.TheVariants as found
 
@@ -19,9 +19,9 @@ abbrev pub IsOfFault : ℕ → LineFault → Finding → Type 0
 IsOfFault number f x = (x.line ≡ number) × (x.found ≡ found.Fault f) × (string_bytes x.answer ≡ fault_text f)
 
 -- an answer is told where it refuses
-abbrev pub TellsAnswer : World → ℕ → StepAnswer → Option Finding → Type 0
-TellsAnswer w number a told =
-    Tells number (found_in (reply_of a)) (step_text w.session.journal (gen w.session.journal) (reply_of a)) told
+abbrev pub FindsAnswer : World → ℕ → StepAnswer → Option Finding → Type 0
+FindsAnswer w number a told =
+    IsFindingOf number (found_in (reply_of a)) (step_text w.session.journal (gen w.session.journal) (reply_of a)) told
 
 -- a world does what a line asks for
 abbrev pub PlaysLine : World → ℕ → Line → Option Finding → World → Type 0

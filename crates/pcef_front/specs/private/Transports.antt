@@ -9,7 +9,7 @@ use Rattle.pcef_packet.specs.declared.header.Ports.{Ports}
 use Rattle.pcef_packet.specs.Carrying.{carried_in, past}
 use Rattle.pcef_packet.specs.ExtensionHeaders.{Carried, is_later}
 use Rattle.pcef_packet.specs.HeaderOf.{carries_ports, faults_v4, fragment_offset_v4, header_unless, header_v4, number, payload_v4, ports_in, total_len_v4, volume_v6}
-use Rattle.pcef_front.specs.Fronts.{IsToldBy, MayFollow}
+use Rattle.pcef_front.specs.Fronts.{IsSettledBy, MayFollow}
 use Rattle.pcef_front.specs.declared.extensions.Beyond.{Beyond}
 use Rattle.pcef_front.specs.declared.extensions.Beyond.TheVariants.{To, Portless}
 use Rattle.pcef_front.specs.declared.extensions.Transport.{Transport}
@@ -66,15 +66,15 @@ Passes kind left room next len =
     × ((rest : List ℕ) → MayFollow left room rest → past kind (left ++ rest) ≡ Some (next, drop len (left ++ rest), false))
 
 -- the first octets of a fragment header say whether it is a later fragment's, or don't
-abbrev pub TellsLater : List ℕ → Option Bool → Type 0
-TellsLater left None = (length left < 4) × (slice_index left 2 ≡ 0)
-TellsLater left (Some later) = (rest : List ℕ) → is_later 44 (left ++ rest) ≡ later
+abbrev pub ShowsLater : List ℕ → Option Bool → Type 0
+ShowsLater left None = (length left < 4) × (slice_index left 2 ≡ 0)
+ShowsLater left (Some later) = (rest : List ℕ) → is_later 44 (left ++ rest) ≡ later
 
 -- what an extension header leads to
 abbrev pub LeadsTo : ℕ → List ℕ → ℕ → Result Beyond FrontFault → Type 0
 LeadsTo kind left room (Ok (To next len)) = Passes kind left room next len
-LeadsTo kind left room (Ok (Portless proto)) = IsToldBy (transport_in kind) left room (Ok (transport proto None))
-LeadsTo kind left room (Err e) = IsToldBy (transport_in kind) left room (Err e)
+LeadsTo kind left room (Ok (Portless proto)) = IsSettledBy (transport_in kind) left room (Ok (transport proto None))
+LeadsTo kind left room (Err e) = IsSettledBy (transport_in kind) left room (Err e)
 
 -- ---- version 6
 -- the header of a packet that carries this

@@ -9,7 +9,7 @@ ghost use Rattle.pcef_lock.specs.Gathering.{AddUpTo, IsAtFault, key_totals};
 use super::State;
 use crate::desk::Desk;
 use crate::finished::Finished;
-use crate::gathering::{GatherFault, Totals, abandoned, are_compared, gather_fault};
+use crate::gathering::{GatherFault, Totals, abandoned_rows, are_compared, gather_fault};
 use crate::key_totals::{KeyTotal, KeyTotals};
 use arrayvec::ArrayVec;
 use pcef_publish::{Board, Slot};
@@ -112,7 +112,7 @@ impl<N: Naming, W: Board<Slot<N>> + Drop, P: Pooling> State<N, W, P> {
                 finished,
             });
         }
-        let abandoned = abandoned(finished.as_slice());
+        let abandoned = abandoned_rows(finished.as_slice());
         let shares = all_shares(desk.into_shares(), finished);
         let State {
             alloc: _,

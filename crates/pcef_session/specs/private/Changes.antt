@@ -18,7 +18,7 @@ use Rattle.pcef_usage.specs.declared.usage.KeyState.{KeyState}
 use Rattle.pcef_model.specs.Entries.{Journal}
 use Rattle.pcef_usage.specs.Counted.{Counted}
 use Rattle.pcef_usage.specs.Commands.{started_by}
-use Rattle.pcef_usage.specs.PendingReports.{appended, states_stopped, states_told, thresholds_told, with_thresholds}
+use Rattle.pcef_usage.specs.PendingReports.{appended, states_stopped, after_reports, after_thresholds, with_thresholds}
 use Rattle.pcef_usage.specs.Keys.{with_slot}
 use Rattle.pcef_session.specs.declared.prepared.Activation.{Activation}
 use Rattle.pcef_model.specs.Commands.{level_named, takes_away}
@@ -81,12 +81,12 @@ inactive_by bound _ = []
 -- ---- what is told of a command
 -- the counters after what a command reports by itself
 abbrev pub states_reported : List PendingReport → List KeyState → List KeyState
-states_reported all_pending states = states_told all_pending (states_stopped all_pending states)
+states_reported all_pending states = after_reports all_pending (states_stopped all_pending states)
 
 -- the journal after that, and then the thresholds; and the counters
-abbrev pub journal_told : Bool → List PendingReport → Counted → Journal
-journal_told subscribed all_pending c =
+abbrev pub journal_after_reports : Bool → List PendingReport → Counted → Journal
+journal_after_reports subscribed all_pending c =
     with_thresholds subscribed (states_reported all_pending c.states) (appended all_pending (states_stopped all_pending c.states) c.journal)
 
-abbrev pub counters_told : Bool → List PendingReport → List KeyState → List KeyState
-counters_told subscribed all_pending states = thresholds_told subscribed (states_reported all_pending states)
+abbrev pub counters_after_reports : Bool → List PendingReport → List KeyState → List KeyState
+counters_after_reports subscribed all_pending states = after_thresholds subscribed (states_reported all_pending states)

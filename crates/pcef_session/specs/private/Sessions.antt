@@ -53,8 +53,8 @@ abbrev pub finds_no_place : SessionModel → List ℕ → Bool
 finds_no_place s name = not (is_active s.setting s.journal name) && nat_le most_rules (length (now s.setting s.journal).rules)
 
 -- whether a session that hasn't ended has all the commands that it takes
-abbrev pub TellsFull : SessionModel → Bool → Type 0
-TellsFull s full =
+abbrev pub FindsFull : SessionModel → Bool → Type 0
+FindsFull s full =
     was_closed s.journal ≡ false → was_terminated s.journal ≡ false → full ≡ nat_le s.setting.commands (limited_count s.journal)
 
 -- ---- rules that become active

@@ -9,7 +9,7 @@ use Rattle.pcef_usage.specs.declared.usage.KeyState.{KeyState}
 use Rattle.pcef_usage.specs.Counted.{Counted}
 use Rattle.pcef_usage.specs.Flushes.{rows_counted}
 use Rattle.pcef_usage.specs.Keys.{CanCount, with_octets}
-use Rattle.pcef_usage.specs.PendingReports.{settled_states, threshold_reports, states_told, appended}
+use Rattle.pcef_usage.specs.PendingReports.{settled_states, threshold_reports, after_reports, appended}
 use Rattle.pcef_model.specs.Reports.{with_rows}
 use Rattle.pcef_session.specs.declared.batch.Item.{Item}
 use Rattle.pcef_session.specs.Following.{row_of}
@@ -24,7 +24,7 @@ CanCountAll (i ∷ items) states =
 pub record IsTakenAll (subscribed : Bool) (items : List Item) (old new : Counted) : Type 0 where
   pub journal : new.journal ≡ appended (threshold_reports subscribed (rows_counted row_of row_slots items old.states))
       (settled_states subscribed (rows_counted row_of row_slots items old.states)) (with_rows (map row_of items) old.journal)
-  pub states : new.states ≡ states_told (threshold_reports subscribed (rows_counted row_of row_slots items old.states))
+  pub states : new.states ≡ after_reports (threshold_reports subscribed (rows_counted row_of row_slots items old.states))
       (settled_states subscribed (rows_counted row_of row_slots items old.states))
 
 abbrev pub IsTaken : Bool → List Item → Counted → Counted → Type 0

@@ -9,7 +9,7 @@ ghost use Rattle.pcef_session.specs.SessionModel.{HasAtLeast};
 
 use super::SessionState;
 use crate::applying::{
-    change_rules, closed_by, enter, keep_table, rule_key, subscribed_by, tell, terminated_by,
+    change_rules, closed_by, enter, keep_table, report_all, rule_key, subscribed_by, terminated_by,
 };
 use crate::prepared::{Prepared, PreparedChange};
 use pcef_model::{Accepted, Command, Refusal};
@@ -47,7 +47,7 @@ impl SessionState {
         self.closed = closed_by(&command, self.closed);
         self.terminated = terminated_by(&command, self.terminated);
         enter(&mut self.counted, command, key, key_places);
-        tell(&mut self.counted, &reports, self.subscribed.usage_report);
+        report_all(&mut self.counted, &reports, self.subscribed.usage_report);
         Accepted {
             generation: self.newest.generation(),
             bearer,
@@ -58,7 +58,7 @@ impl SessionState {
     }
 
     /// What is answered to an Activate of an active rule.
-    fn unchanged(&self, name: &RuleName) -> Accepted
+    fn answer_unchanged(&self, name: &RuleName) -> Accepted
         requires { IsIdle self.now name.now }
         ensures { DoesCommand self.now (of.Activate name.now) result self.now }
     {
@@ -81,7 +81,7 @@ impl SessionState {
     {
         match prepared {
             Prepared::Changing(change) => self.change(change),
-            Prepared::Unchanged(name) => self.unchanged(&name),
+            Prepared::Unchanged(name) => self.answer_unchanged(&name),
         }
     }
 

@@ -64,7 +64,7 @@ impl SessionState {
     {
         let judged = note_rows(self.alloc, items)?;
         self.counted
-            .reserve(items.len() + 8 + self.lanes.attached())?;
+            .reserve(items.len() + 8 + self.lanes.attached_count())?;
         let first_report = self.counted.journal().reports_len();
         lengthen(&mut self.lanes, worker, items);
         take_all(&mut self.counted, items, self.subscribed.usage_report);

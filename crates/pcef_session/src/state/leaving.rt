@@ -33,11 +33,11 @@ impl SessionState {
     }
 
     /// How many workers are attached, at most 16.
-    pub fn attached(&self) -> usize
+    pub fn attached_count(&self) -> usize
         ensures number { result ≡ length (attached self.now.journal) }
         ensures most { result ≤ 16 }
     {
-        self.lanes.attached()
+        self.lanes.attached_count()
     }
 
     /// How many rows of a worker the journal has.

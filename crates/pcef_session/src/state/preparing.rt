@@ -20,7 +20,7 @@ use crate::ended_keys::add_ended_keys;
 use crate::entries::{bearer_for, entry_of};
 use crate::inactive::inactive;
 use crate::keys::{level_switched, place_of, switched_key, switches_on};
-use crate::next_tables::{left, switched};
+use crate::next_tables::{drop_rules, switch_key};
 use crate::pending_reports::{add_noticed, add_requested};
 use crate::prepared::{Activation, Prepared, PreparedChange};
 use pcef_bearer::Places;
@@ -45,7 +45,7 @@ fn share(alloc: Global, table: Option<Indexed>) -> Result<Option<Arc<Indexed>>, 
 
 impl SessionState {
     /// The predefined rule of a name, if there is one.
-    pub(super) fn offered(&self, name: &RuleName) -> Option<Activation>
+    pub(super) fn find_offered(&self, name: &RuleName) -> Option<Activation>
         ensures { Offers self.now name.now result }
     {
         match self.listing.index_of(name) {
@@ -66,7 +66,7 @@ impl SessionState {
                 properties: rule.properties().copy(),
                 source: Source::Dynamic(rule.copy()?),
             })),
-            Command::Activate(name) => Ok(self.offered(name)),
+            Command::Activate(name) => Ok(self.find_offered(name)),
             _ => Ok(None),
         }
     }
@@ -129,30 +129,30 @@ impl SessionState {
 
     /// The table where the key that a command switches counts, or doesn't. Its rules are those of the newest table, so it
     /// shares that one's index.
-    fn table_switched(&self, command: &Command, key: &KeyName) -> Result<Indexed, AllocError>
+    fn table_after_switch(&self, command: &Command, key: &KeyName) -> Result<Indexed, AllocError>
         requires accepted { Accepts self.now command.now }
         requires switched { key_switched command.now ≡ Some key.now }
         ensures { IfOk result (λ t. ShowsNext self.now.setting self.now.journal command.now t) }
     {
         let slot = place_of(self.counted.usage(), key);
         let level = level_switched(self.counted.usage(), command, key);
-        let table = switched(self.newest.table(), level, slot, switches_on(command))?;
+        let table = switch_key(self.newest.table(), level, slot, switches_on(command))?;
         self.newest.with_table(table)
     }
 
     /// The table without the rules that a command takes away.
-    fn table_left(&self, command: &Command) -> Result<Indexed, AllocError>
+    fn table_after_removal(&self, command: &Command) -> Result<Indexed, AllocError>
         requires none { activated self.now.setting command.now ≡ None }
         requires table { is_table command.now ≡ true }
         requires switched { key_switched command.now ≡ None }
         ensures { IfOk result (λ t. ShowsNext self.now.setting self.now.journal command.now t) }
     {
-        let table = left(self.alloc, self.newest.table(), &self.listing, command)?;
+        let table = drop_rules(self.alloc, self.newest.table(), &self.listing, command)?;
         Indexed::new(self.alloc, table, &self.listing)
     }
 
     /// The table that a command makes.
-    fn table_made(
+    fn table_after_activation(
         &self,
         command: &Command,
         rule: Option<&Activation>,
@@ -171,8 +171,8 @@ impl SessionState {
                 None => unreachable!(),
             },
             None => match switched_key(command) {
-                Some(key) => self.table_switched(command, key),
-                None => self.table_left(command),
+                Some(key) => self.table_after_switch(command, key),
+                None => self.table_after_removal(command),
             },
         }
     }
@@ -191,7 +191,7 @@ impl SessionState {
         ensures { IfOk result (λ t. IsNextTable self.now command.now t) }
     {
         if command.is_table() {
-            Ok(Some(self.table_made(command, rule, bearer)?))
+            Ok(Some(self.table_after_activation(command, rule, bearer)?))
         } else {
             Ok(None)
         }
@@ -273,7 +273,7 @@ impl SessionState {
     {
         self.active.reserve(1)?;
         self.counted
-            .reserve(reports.len() + 9 + self.lanes.attached())
+            .reserve(reports.len() + 9 + self.lanes.attached_count())
     }
 
     /// The table that a command makes, with its index, what the command reports by itself, and memory to bind its rule, once

@@ -8,7 +8,7 @@ ghost use Rattle.pcef_usage.specs.Keys.{clashes as key_clashes, finds_no_slot as
 ghost use Rattle.pcef_model.specs.Commands.{is_among};
 ghost use Rattle.pcef_model.specs.declared.command.Command.TheVariants as of;
 ghost use Rattle.pcef_model.specs.Refusals.{becoming_active, clashes, common_refusals, end_refusals, finds_no_slot, first_of, first_refusals, is_active, is_bearer, refusals, refusals_within, room_refusals};
-ghost use Rattle.pcef_session.specs.private.Sessions.{TellsFull, binding_refusal, finds_no_place, install_refusal, own_refusal, room_refusal};
+ghost use Rattle.pcef_session.specs.private.Sessions.{FindsFull, binding_refusal, finds_no_place, install_refusal, own_refusal, room_refusal};
 
 use super::{MAX_RULES, SessionState};
 use crate::keys::{is_on, level_of};
@@ -61,7 +61,7 @@ fn has_slot(usage: &Usage, key: &KeyName) -> bool
 impl SessionState {
     /// Whether the journal holds as many commands as the profile allows.
     fn is_full(&self) -> bool
-        ensures { TellsFull self.now result }
+        ensures { FindsFull self.now result }
     {
         self.counted.journal().commands_len() >= commands_of(&self.profile)
     }
@@ -166,7 +166,7 @@ impl SessionState {
     fn install_refusal(&self, rule: &Properties) -> Option<Refusal>
         ensures { result ≡ install_refusal self.now rule.now }
     {
-        if let Some(_rule) = self.offered(&rule.name) {
+        if let Some(_rule) = self.find_offered(&rule.name) {
             return Some(Refusal::NameIsPredefined);
         }
         self.becoming_active(rule)
@@ -175,7 +175,7 @@ impl SessionState {
     fn activate_refusal(&self, name: &RuleName) -> Option<Refusal>
         ensures { result ≡ own_refusal self.now (of.Activate name.now) }
     {
-        let Some(rule) = self.offered(name) else {
+        let Some(rule) = self.find_offered(name) else {
             return Some(Refusal::UnknownRule);
         };
         if self.is_active(name) {
@@ -266,7 +266,7 @@ impl SessionState {
     fn terminate_refusal(&self) -> Option<Refusal>
         ensures { result ≡ own_refusal self.now of.Terminate }
     {
-        let attached = self.lanes.attached() as u8;
+        let attached = self.lanes.attached_count() as u8;
         if attached > 0 {
             Some(Refusal::WorkersAttached(attached))
         } else {
@@ -320,7 +320,7 @@ impl SessionState {
                 if self.is_active(name) {
                     return None;
                 }
-                match self.offered(name) {
+                match self.find_offered(name) {
                     Some(rule) => self.over_room(&rule.properties, room),
                     None => unreachable!(),
                 }

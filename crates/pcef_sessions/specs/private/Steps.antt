@@ -47,6 +47,6 @@ abbrev pub AsksInstead : Sessions → List ℕ → List ℕ → Answer → Answe
 AsksInstead old name line script a new =
     InsteadOf (fixed old) (held old name) (asked_of line) script a (held new name) × OthersStay old name new
 
-abbrev pub Tells : Sessions → List ℕ → List ℕ → Answer → Sessions → Type 0
-Tells old name line a new =
+abbrev pub AnswersIn : Sessions → List ℕ → List ℕ → Answer → Sessions → Type 0
+AnswersIn old name line a new =
     UnderName (fixed old) (held old name) line (string_bytes a.text) a.is_fault (held new name) × OthersStay old name new

@@ -8,7 +8,7 @@ ghost use Rattle.pcef_lock.specs.Opening.{GoesBy};
 
 use super::*;
 use pcef_journaled::JournaledState;
-use pcef_lock::{Desk, Pool, Shared, Totals, opened};
+use pcef_lock::{Desk, Pool, Shared, Totals, open_history};
 use pcef_publish::{Board, Opened, Slot, Writer};
 use pcef_share::{Blanks, Naming, RateShares};
 use std::sync::{Arc, Wait};
@@ -56,7 +56,7 @@ fn new_side(alloc: Global) -> Option<Side>
     let (profile, listing) = asked(alloc, 9)?;
     let catalog = Arc::new(alloc, listing.share().ok()?).ok()?;
     let session = JournaledState::open(alloc, profile, listing).ok()?;
-    match opened(&session).ok() {
+    match open_history(&session).ok() {
         Some(opened) => Some(Side {
             catalog,
             session,

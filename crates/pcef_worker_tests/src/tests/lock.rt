@@ -9,7 +9,7 @@ use crate::tests::expect_equal;
 use crate::tests::sessions::{monitor, packet, packet_from, session, vid, web};
 use pcef_catalog::{Catalog, Detects, Offers};
 use pcef_journaled::JournaledState;
-use pcef_lock::{Desk, Seat, Shared, State, opened};
+use pcef_lock::{Desk, Seat, Shared, State, open_history};
 use pcef_model::{Body, Command, Report};
 use pcef_packet::Header;
 use pcef_publish::{Board, Opened, Slot};
@@ -32,7 +32,7 @@ fn commands(alloc: Global) -> Result<[Command; 3], Fail> {
 #[test]
 fn rows_count_for_the_keys_of_their_tables(rt: HostRuntime) -> Result<(), Fail> {
     let session = session(rt.alloc(), 1000)?;
-    let opened = opened(&session)?;
+    let opened = open_history(&session)?;
     let commands = commands(rt.alloc())?;
     let catalog = Catalog::new(rt.alloc(), Vec::new(rt.alloc()))?;
     let told = judged_and_flushed::<Catalog, Brand, _>(
@@ -168,7 +168,7 @@ fn leave<C: Detects, N: Naming, W: Board<Slot<N>> + Drop>(
 #[test]
 fn two_workers_hand_over_and_the_desk_is_told(rt: HostRuntime) -> Result<(), Fail> {
     let session = session(rt.alloc(), 1000)?;
-    let opened = opened(&session)?;
+    let opened = open_history(&session)?;
     let catalog = Arc::new(rt.alloc(), Catalog::new(rt.alloc(), Vec::new(rt.alloc()))?)?;
     let commands = commands(rt.alloc())?;
     let told = told_to_the_desk::<Catalog, Brand, _>(

@@ -11,7 +11,7 @@ use super::*;
 use crate::tests::sessions::{session, web};
 use pcef_catalog::Catalog;
 use pcef_journaled::JournaledState;
-use pcef_lock::{SharedFault, Unopened, opened};
+use pcef_lock::{SharedFault, Unopened, open_history};
 use pcef_publish::Opened;
 use pcef_share::Blanks;
 use std::marker::Brand;
@@ -149,7 +149,7 @@ fn tell_once<R: Threads + Wait + Sync>(
     ensures back { IfSome result (λ told.
         IfErr told (λ e. (e.catalog ≡ catalog) × (e.session ≡ session))) }
 {
-    match opened(&session).ok() {
+    match open_history(&session).ok() {
         Some(opened) => Some(tell_of_opened(
             rt, alloc, catalog, session, opened, places, install, table,
         )),

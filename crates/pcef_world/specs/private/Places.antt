@@ -29,20 +29,20 @@ use Rattle.pcef_world.specs.private.Workers.{LacksForItem, TakesItem, after_flus
 
 -- ---- what is told
 -- out of memory is no answer
-abbrev pub attach_told : Result ℕ AttachFault → Result StepAnswer AllocError
-attach_told (Ok number) = Ok (answer.Attach (Ok number))
-attach_told (Err lacks.NoMemory) = Err alloc_error
-attach_told (Err fault) = Ok (answer.Attach (Err fault))
+abbrev pub attach_step_answer : Result ℕ AttachFault → Result StepAnswer AllocError
+attach_step_answer (Ok number) = Ok (answer.Attach (Ok number))
+attach_step_answer (Err lacks.NoMemory) = Err alloc_error
+attach_step_answer (Err fault) = Ok (answer.Attach (Err fault))
 
-abbrev pub flush_told : Result Verdicts FlushRefusal → Result StepAnswer AllocError
-flush_told (Ok verdicts) = Ok (answer.Flush (Ok verdicts))
-flush_told (Err NoMemory) = Err alloc_error
-flush_told (Err r) = Ok (answer.Flush (Err r))
+abbrev pub flush_step_answer : Result Verdicts FlushRefusal → Result StepAnswer AllocError
+flush_step_answer (Ok verdicts) = Ok (answer.Flush (Ok verdicts))
+flush_step_answer (Err NoMemory) = Err alloc_error
+flush_step_answer (Err r) = Ok (answer.Flush (Err r))
 
-abbrev pub finish_told : Result (Verdicts × ℕ) FlushRefusal → Result StepAnswer AllocError
-finish_told (Ok finished) = Ok (answer.Finish (Ok finished))
-finish_told (Err NoMemory) = Err alloc_error
-finish_told (Err r) = Ok (answer.Finish (Err r))
+abbrev pub finish_step_answer : Result (Verdicts × ℕ) FlushRefusal → Result StepAnswer AllocError
+finish_step_answer (Ok finished) = Ok (answer.Finish (Ok finished))
+finish_step_answer (Err NoMemory) = Err alloc_error
+finish_step_answer (Err r) = Ok (answer.Finish (Err r))
 
 -- ---- what is done
 -- the workers, where one more comes or is refused
@@ -69,7 +69,7 @@ abbrev pub FlushesAt : Setting → Journal → Option Worker → Result StepAnsw
 FlushesAt p j None out k new = (out ≡ Ok answer.NoWorker) × (k ≡ j) × (new ≡ None)
 FlushesAt p j (Some w) out k new =
     (r : Result Verdicts FlushRefusal) × FlushStep p w.number (map row_of w.waiting) j (result_map_both flush_answer_of (λ e. e) r) k
-    × (out ≡ flush_told r) × (new ≡ Some (after_flushing r w))
+    × (out ≡ flush_step_answer r) × (new ≡ Some (after_flushing r w))
 
 abbrev pub after_finishing : {A E : Type 0} → Result A E → Worker → Option Worker
 after_finishing (Ok a) w = None
@@ -79,7 +79,7 @@ abbrev pub FinishesAt : Setting → Journal → Option Worker → Result StepAns
 FinishesAt p j None out k new = (out ≡ Ok answer.NoWorker) × (k ≡ j) × (new ≡ None)
 FinishesAt p j (Some w) out k new =
     (r : Result (Verdicts × ℕ) FlushRefusal) × FinishStep p w.number (map row_of w.waiting) j (result_map_both finish_answer_of (λ e. e) r) k
-    × (out ≡ finish_told r) × (new ≡ after_finishing r w)
+    × (out ≡ finish_step_answer r) × (new ≡ after_finishing r w)
 
 abbrev pub AbandonsAt : Journal → Option Worker → StepAnswer → Journal → Option Worker → Type 0
 AbandonsAt j None out k new = (out ≡ answer.NoWorker) × (k ≡ j) × (new ≡ None)

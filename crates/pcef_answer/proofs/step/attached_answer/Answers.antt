@@ -7,4 +7,4 @@ returns-in-Err c = rw c.in-Err.is c.attach_fault_answer.ensures
 
 pub returns-in-Ok : goal.returns-in-Ok
 unfolding attached_text
-returns-in-Ok c = rw c.in-Ok.is c.attached.ensures
+returns-in-Ok c = rw c.in-Ok.is c.text_of_attach.ensures

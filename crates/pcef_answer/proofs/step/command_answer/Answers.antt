@@ -7,4 +7,4 @@ returns-in-Err c = rw c.in-Err.is c.refusal_answer.ensures
 
 pub returns-in-Ok : goal.returns-in-Ok
 unfolding command_text
-returns-in-Ok c = rw c.in-Ok.is c.accepted.ensures
+returns-in-Ok c = rw c.in-Ok.is c.text_of_accepted.ensures

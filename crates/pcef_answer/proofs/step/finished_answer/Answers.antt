@@ -7,4 +7,4 @@ returns-in-Err c = rw c.in-Err.is c.flush_refusal_answer.ensures
 
 pub returns-in-Ok : goal.returns-in-Ok
 unfolding finished_text
-returns-in-Ok c = rw c.in-Ok.is c.finished.ensures
+returns-in-Ok c = rw c.in-Ok.is c.text_of_finish.ensures

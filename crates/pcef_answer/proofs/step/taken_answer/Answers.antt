@@ -14,4 +14,4 @@ returns-in-Err c = rw c.in-Err.is c.refused_answer.ensures
 
 pub returns-in-Ok : goal.returns-in-Ok
 unfolding taken_text
-returns-in-Ok c = rw c.in-Ok.is c.taken.ensures
+returns-in-Ok c = rw c.in-Ok.is c.text_of_take.ensures

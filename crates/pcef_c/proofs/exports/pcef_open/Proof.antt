@@ -1,6 +1,6 @@
 use Rattle.pcef_c.proofs.Steps.{ℕ, List, [], ◌∷◌, ◌++◌, refl, w8, Bor, MutBor, proved, full_share, id⊢, sep, ftrue, flft, flent, named, vptr, WpFn, fact, tables, sem, Body, lft_new, lft_end, ‵, raw, ◌⊛◌, some, later, prop, ◌$◌, ◌∵◌, !, qed, done, move, keep, use1, use3, split, split3, join, fsplit, fjoin, pick, await, regoal, show, suffices, frame, group, enter, of_opd, addr, stop, no_more, and_then, returns, alloc_all, pass_all, free_all, look_at, get, through, sets, lands_as, u8, yes, Is, shows, lends_ref, ref_back, mem, uint_Lawful, Ptr, RawPtr, block_ptr, in_a_block, rawptr_vals, rawptr_Tells, MutRef, plain, nothing, heard, peeks, calls_at, Lasts, lasts, triple_of, Stays, walk_of, says, stay_dropped, Goes-dropped, ends_at, framed, ShrSlice, shr_slice_vals, shr_slice_Tells, shr_slice_of}
 use Rattle.pcef_c.specs.Handles.{lies}
-use Rattle.pcef_c.specs.Calls.{OpenTold}
+use Rattle.pcef_c.specs.Calls.{OpenReturns}
 use Rattle.pcef_handle.specs.declared.held.Handle.{Handle}
 use Rattle.pcef_handle.specs.contracts.held.Handle.{the_row as R}
 use Rattle.pcef_c.specs.contracts.exports.pcef_open as f
@@ -39,7 +39,7 @@ pcef_open_spec 𝓤 𝓛 𝓜 𝓡 wired =
     calls_at ! (framed 𝓤 𝓛.H 𝓜 𝓣) G (met 𝓤 𝓛 𝓜 𝓡 (code.calls-pcef_c::calls::open 𝓡.env wired)) z
     (and_then ! (get ! refl) (and_then ! (get ! refl) (no_more !))) (λ v.
     use1 𝓛 (later (some (λ (u : ℕ). ((‵ (flft (α ∷ []) full_share) ⊛ ‵ (flft κ q) ⊛ ‵ ftrue) ⊛ ‵ (u8.own_val u (v ∷ []))) ⊛
-    some (λ (ws : Lasts g.ended z.0.0 z.0.3). ‵ (lasts g.ended z.0.0 z.0.3 ws) ⊛ raw (fact 𝓤 (OpenTold old s.now ws.0 u)))))) (id⊢ 𝓤 _) $
+    some (λ (ws : Lasts g.ended z.0.0 z.0.3). ‵ (lasts g.ended z.0.0 z.0.3 ws) ⊛ raw (fact 𝓤 (OpenReturns old s.now ws.0 u)))))) (id⊢ 𝓤 _) $
     await ! tt $ pick ! (λ u. split ! $ split ! $ split3 ! $ lft_end ! tt $ move ! (4 ∷ []) $ pick ! (λ ws. split ! $ move ! (1 ∷ []) $ heard ! _ (λ told.
     fsplit ! $ fsplit ! $
     -- [the last value; its borrow; nothing; α is over; the token of κ; nothing; the result; the lender's part]
@@ -48,4 +48,4 @@ pcef_open_spec 𝓤 𝓛 𝓜 𝓡 wired =
     returns ! (look_at ! 0 refl) $ free_all ! refl $ keep ! (0 ∷ 1 ∷ 4 ∷ []) $
     suffices ! _ (ends_at 𝓛 f.ended stayed c (y (block_ptr b o)) v u (tt, (tt, tt)) (tt, (tt, tt))) $
     nothing ! $ nothing ! $ join ! $ nothing ! $ join ! $ nothing ! $ move ! (4 ∷ 0 ∷ []) $ join ! $ group ! 3 $ frame ! $
-    show ! (λ (new : Handle). sep 𝓤 (sem 𝓛 (lies (block_ptr b o) new)) (fact 𝓤 (OpenTold old s.now new u))) ws.0 $ says ! told $ done !))))))))))
+    show ! (λ (new : Handle). sep 𝓤 (sem 𝓛 (lies (block_ptr b o) new)) (fact 𝓤 (OpenReturns old s.now new u))) ws.0 $ says ! told $ done !))))))))))

@@ -1,6 +1,6 @@
 use Rattle.pcef_c.proofs.Steps.{ℕ, List, [], ◌∷◌, ◌++◌, refl, w64, MutBor, proved, full_share, id⊢, sep, ftrue, flft, flent, named, vptr, WpFn, fact, tables, sem, Body, lft_new, lft_end, ‵, raw, ◌⊛◌, some, later, prop, ◌$◌, ◌∵◌, !, qed, done, move, keep, use1, use3, split, split3, join, fsplit, fsplit3, fjoin, feq_l, pick, await, regoal, show, suffices, frame, group, enter, of_opd, addr, stop, no_more, and_then, returns, alloc_all, pass_all, free_all, look_at, get, get_in, look_in_at, from, fld, hop, sub, whole, agg, through, sets, lands_as, u8, u64, usize, yes, Is, shows, lends_ref, ref_back, mem, uint_vals, uint_Tells, uint_Makes, uint_Lawful, Ptr, RawPtr, block_ptr, in_a_block, rawptr_vals, rawptr_Tells, MutRef, plain, nothing, owned, heard, peeks, calls_at, Lasts, lasts, triple_of, Stays, walk_of, says, stay_dropped, Goes-dropped, ends_at, framed, MutSlice, mut_slice_vals, mut_slice_Tells, gave_slice, Goes-gave_slice}
 use Rattle.pcef_c.specs.Handles.{lies}
-use Rattle.pcef_c.specs.Calls.{ReportsTold}
+use Rattle.pcef_c.specs.Calls.{ReportsReturn}
 use Rattle.pcef_handle.specs.declared.held.Handle.{Handle}
 use Rattle.pcef_handle.specs.contracts.held.Handle.{the_row as R}
 use Rattle.pcef_c.specs.contracts.exports.pcef_reports as f
@@ -45,7 +45,7 @@ pcef_reports_spec 𝓤 𝓛 𝓜 𝓡 wired =
     calls_at ! (framed 𝓤 𝓛.H 𝓜 𝓣) G (met 𝓤 𝓛 𝓜 𝓡 (code.calls-pcef_c::calls::reports 𝓡.env wired)) z
     (and_then ! (get ! refl) (and_then ! (get ! refl) (and_then ! (get ! refl) (no_more !)))) (λ v.
     use1 𝓛 (later (some (λ (u : ℕ). ((‵ (flft (α ∷ []) full_share) ⊛ ‵ (flft κ' q') ⊛ ‵ ftrue) ⊛ ‵ (usize.own_val u (v ∷ []))) ⊛
-    some (λ (ws : Lasts g.ended z.0.0 z.0.3). ‵ (lasts g.ended z.0.0 z.0.3 ws) ⊛ raw (fact 𝓤 (ReportsTold old n m.now ws.0 ws.1.1.0 u)))))) (id⊢ 𝓤 _) $
+    some (λ (ws : Lasts g.ended z.0.0 z.0.3). ‵ (lasts g.ended z.0.0 z.0.3 ws) ⊛ raw (fact 𝓤 (ReportsReturn old n m.now ws.0 ws.1.1.0 u)))))) (id⊢ 𝓤 _) $
     await ! tt $ pick ! (λ u. split ! $ split ! $ split3 ! $ lft_end ! tt $ move ! (4 ∷ []) $ pick ! (λ ws. split ! $ move ! (1 ∷ []) $ heard ! _ (λ told.
     fsplit3 ! $ fsplit ! $
     -- [the last value; its borrow; nothing; the out slice's; α is over; the token of κ'; nothing; the result; the lender's part]
@@ -59,4 +59,4 @@ pcef_reports_spec 𝓤 𝓛 𝓜 𝓡 wired =
     nothing ! $ move ! (2 ∷ 0 ∷ []) $ join ! $ nothing ! $ join ! $ nothing ! $ join ! $
     -- [the parameters; the result; the handle; the token of κ; that of κ' and nothing]
     move ! (3 ∷ 4 ∷ []) $ join ! $ group ! 3 $ frame ! $
-    show ! (λ (new : Handle). sep 𝓤 (sem 𝓛 (lies (block_ptr b o) new)) (fact 𝓤 (ReportsTold old n m.now new ws.1.1.0 u))) ws.0 $ says ! told $ done !)))))))))))
+    show ! (λ (new : Handle). sep 𝓤 (sem 𝓛 (lies (block_ptr b o) new)) (fact 𝓤 (ReportsReturn old n m.now new ws.1.1.0 u))) ws.0 $ says ! told $ done !)))))))))))

@@ -5,4 +5,4 @@ use Rattle.pcef_c.proofs.judging.verdict_on.Goals as goal
 pub returns : goal.returns
 returns c =
     let packet = c.args.packet.now in
-    (c.judge.result, subst (λ dir. JudgesHandle c.args.handle.now dir packet.octets.now packet.whole c.judge.result) c.dir_of.ensures c.judge.ensures.judged, c.told_of.ensures)
+    (c.judge.result, subst (λ dir. JudgesHandle c.args.handle.now dir packet.octets.now packet.whole c.judge.result) c.dir_of.ensures c.judge.ensures.judged, c.c_verdict_of.ensures)

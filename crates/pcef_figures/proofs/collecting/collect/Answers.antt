@@ -2,7 +2,7 @@ use Rattle.std.proofs.Common.{rules, ◌≡◌, ◌∙◌, ◌+◌, ◌++◌, []
 use Rattle.std.specs.List.{zip}
 use Rattle.pcef_figures.specs.Pairing.{exchange_of}
 use Rattle.pcef_figures.specs.Grants.{grant_of, key_of}
-use Rattle.pcef_figures.specs.Usages.{refusal_of, told_of}
+use Rattle.pcef_figures.specs.Usages.{refusal_of, usage_figure_of}
 use Rattle.pcef_figures.specs.private.Lines.{left}
 use Rattle.pcef_figures.specs.private.Steps.{exchange_by}
 use Rattle.pcef_figures.specs.Guarantees.{rules_behind}
@@ -21,7 +21,7 @@ loop-line-init c =
         lines = blank.lines;
         last = blank.last;
         generation = blank.generation;
-        usage = ap (map told_of) blank.usage;
+        usage = ap (map usage_figure_of) blank.usage;
         grants = ap (map grant_of) blank.grants;
         keys = ap (map key_of) blank.keys;
         rates = blank.rates;

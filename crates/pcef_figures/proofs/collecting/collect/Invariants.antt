@@ -1,7 +1,7 @@
 use Rattle.std.proofs.Common.{◌≡◌, ◌<◌, ◌^◌, ◌+◌, ◌++◌, List, [], length}
 use Rattle.std.specs.Prelude.{map}
 use Rattle.std.specs.List.{zip}
-use Rattle.pcef_figures.specs.Collecting.{Tells, rules_from}
+use Rattle.pcef_figures.specs.Collecting.{AreFiguresOf, rules_from}
 use Rattle.pcef_figures.specs.Pairing.{Exchange, exchange_of, exchanges, filled}
 use Rattle.pcef_figures.specs.private.Lines.{HasRoom, left, size}
 use Rattle.pcef_figures.proofs.collecting.collect.Given as goal
@@ -11,7 +11,7 @@ abbrev pub invariant-loop-line : goal.invariant-loop-line
 invariant-loop-line l = record {
   told : List Exchange;
   whole : exchanges l.fn.lines l.fn.answers ≡ told ++ map exchange_of (zip (left l.script) (left l.answers));
-  tells : Tells told l.collected.figures;
+  tells : AreFiguresOf told l.collected.figures;
   active : l.collected.active ≡ rules_from [] told;
   lines : length (filled l.fn.lines) ≡ length told + length (left l.script);
   answers : length (filled l.fn.answers) ≡ length told + length (left l.answers);

@@ -2,7 +2,7 @@ use Rattle.std.proofs.Common.{◌≡◌, ◌∙◌, ap, refl, subst, sym, ℕ}
 use Rattle.pcef_model.specs.Journals.{gen}
 use Rattle.pcef_session.specs.SessionModel.{SessionModel}
 use Rattle.pcef_answer.specs.StepAnswers.{step_text}
-use Rattle.pcef_world.specs.Steps.{TellsKept, reply_of}
+use Rattle.pcef_world.specs.Steps.{NamesKept, reply_of}
 use Rattle.pcef_findings.specs.Findings.{found_in}
 use Rattle.pcef_findings.proofs.Findings.{some_told}
 use Rattle.pcef_findings.proofs.playing.answer_found.Goals as goal
@@ -21,4 +21,4 @@ pub step_answer-requires : goal.step_answer-requires
 step_answer-requires c =
     let same : c.journal.result.now.forgotten ≡ c.args.world.now.session.forgotten =
     c.journal.ensures.forgotten ∙ ap (λ (s : SessionModel). s.forgotten) c.session-session.ensures.session in
-    subst (λ (n : ℕ). TellsKept n (reply_of c.args.answer.now)) (sym same) c.requires
+    subst (λ (n : ℕ). NamesKept n (reply_of c.args.answer.now)) (sym same) c.requires

@@ -1,5 +1,5 @@
 use Rattle.std.proofs.Common.{◌∙◌, None, Ok, arith, length-drop, subst, sym}
-use Rattle.pcef_front.specs.Fronts.{IsToldBy}
+use Rattle.pcef_front.specs.Fronts.{IsSettledBy}
 use Rattle.pcef_front.specs.private.Transports.{LeadsTo, transport, transport_in}
 use Rattle.pcef_front.proofs.FrontExtensions.{pass_on, payload_read}
 use Rattle.pcef_front.proofs.Told.{on_front}
@@ -23,12 +23,12 @@ headers-preserved c =
 
 pub returns-in-Ok : goal.returns-in-Ok
 returns-in-Ok c =
-    subst (λ r. IsToldBy (transport_in c.args.first) c.args.front.now c.args.room (on_front (transport c.headers.kind) r)) c.in-Ok.is
+    subst (λ r. IsSettledBy (transport_in c.args.first) c.args.front.now c.args.room (on_front (transport c.headers.kind) r)) c.in-Ok.is
     (c.headers.invariant.told (on_front (transport c.headers.kind) c.ports_of.result)
     (payload_read c.headers.kind c.headers.left_room c.headers.left.now (sym c.is_extension.ensures ∙ c.headers-test.false) c.ports_of.result c.ports_of.ensures))
 
 pub returns-in-Err : goal.returns-in-Err
 returns-in-Err c =
-    subst (λ r. IsToldBy (transport_in c.args.first) c.args.front.now c.args.room (on_front (transport c.headers.kind) r)) c.in-Err.is
+    subst (λ r. IsSettledBy (transport_in c.args.first) c.args.front.now c.args.room (on_front (transport c.headers.kind) r)) c.in-Err.is
     (c.headers.invariant.told (on_front (transport c.headers.kind) c.ports_of.result)
     (payload_read c.headers.kind c.headers.left_room c.headers.left.now (sym c.is_extension.ensures ∙ c.headers-test.false) c.ports_of.result c.ports_of.ensures))

@@ -1,5 +1,5 @@
 use Rattle.std.proofs.Common.{arith, inl, inr, subst}
-use Rattle.pcef_front.specs.Fronts.{IsToldBy}
+use Rattle.pcef_front.specs.Fronts.{IsSettledBy}
 use Rattle.pcef_front.specs.private.Transports.{header_with_v4, reading_v4}
 use Rattle.pcef_front.proofs.Told.{on_front}
 use Rattle.pcef_front.proofs.FrontsV4.{bad_len_told, bad_total_told, header_missing, header_told}
@@ -42,7 +42,7 @@ returns-in-Ok c =
     let fewer = c.requires.fewer in
     let told = header_told c.args.dir c.args.front.now c.args.whole c.if-front-lt-LEAST_HEADER_LEN.false (omega arith) (omega arith) (omega arith)
     c.ports_behind.result (c.ports_behind.ensures c.args.whole (omega arith) within) in
-    rw c.header_with.ensures (subst (λ r. IsToldBy (reading_v4 c.args.dir) c.args.front.now c.args.whole (on_front (header_with_v4 c.args.dir c.args.front.now) r)) c.in-Ok.is told)
+    rw c.header_with.ensures (subst (λ r. IsSettledBy (reading_v4 c.args.dir) c.args.front.now c.args.whole (on_front (header_with_v4 c.args.dir c.args.front.now) r)) c.in-Ok.is told)
 
 pub returns-in-Err : goal.returns-in-Err
 returns-in-Err c =
@@ -54,4 +54,4 @@ returns-in-Err c =
     let fewer = c.requires.fewer in
     let told = header_told c.args.dir c.args.front.now c.args.whole c.if-front-lt-LEAST_HEADER_LEN.false (omega arith) (omega arith) (omega arith)
     c.ports_behind.result (c.ports_behind.ensures c.args.whole (omega arith) within) in
-    subst (λ r. IsToldBy (reading_v4 c.args.dir) c.args.front.now c.args.whole (on_front (header_with_v4 c.args.dir c.args.front.now) r)) c.in-Err.is told
+    subst (λ r. IsSettledBy (reading_v4 c.args.dir) c.args.front.now c.args.whole (on_front (header_with_v4 c.args.dir c.args.front.now) r)) c.in-Err.is told

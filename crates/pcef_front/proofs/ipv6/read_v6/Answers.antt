@@ -1,7 +1,7 @@
 use Rattle.std.proofs.Common.{◌≡◌, ◌∙◌, ◌-◌, ap, arith, refl, slice_index, subst, take}
 use Rattle.std.specs.List.{slice_range}
 use Rattle.pcef_packet.specs.HeaderOf.{reading_v6, volume_v6}
-use Rattle.pcef_front.specs.Fronts.{IsToldBy}
+use Rattle.pcef_front.specs.Fronts.{IsSettledBy}
 use Rattle.pcef_front.specs.private.Transports.{header_with_v6, transport_in}
 use Rattle.pcef_front.proofs.Told.{on_front}
 use Rattle.pcef_front.proofs.FrontsV6.{beyond_told, header_told, short_told}
@@ -32,9 +32,9 @@ returns-in-Ok c =
     let at_hand : c.first-at_hand.result.now ≡ slice_range front 40 (volume_v6 front) =
     c.first-at_hand.ensures ∙ ap (take (c.volume_of-volume.result - 40)) c.behind.ensures ∙ rw volume refl in
     let told = header_told c.args.dir front c.args.whole c.if-front-lt-FIXED_LEN.false (omega arith) (omega arith) c.transport_of.result
-    (subst (λ room. IsToldBy (transport_in (slice_index front 6)) (slice_range front 40 (volume_v6 front)) room c.transport_of.result) room
-    (subst (λ l. IsToldBy (transport_in (slice_index front 6)) l (c.volume_of-volume.result - 40) c.transport_of.result) at_hand c.transport_of.ensures)) in
-    rw c.header_with.ensures (subst (λ r. IsToldBy (reading_v6 c.args.dir) front c.args.whole (on_front (header_with_v6 c.args.dir front) r)) c.in-Ok.is told)
+    (subst (λ room. IsSettledBy (transport_in (slice_index front 6)) (slice_range front 40 (volume_v6 front)) room c.transport_of.result) room
+    (subst (λ l. IsSettledBy (transport_in (slice_index front 6)) l (c.volume_of-volume.result - 40) c.transport_of.result) at_hand c.transport_of.ensures)) in
+    rw c.header_with.ensures (subst (λ r. IsSettledBy (reading_v6 c.args.dir) front c.args.whole (on_front (header_with_v6 c.args.dir front) r)) c.in-Ok.is told)
 
 pub returns-in-Err : goal.returns-in-Err
 returns-in-Err c =
@@ -46,6 +46,6 @@ returns-in-Err c =
     let at_hand : c.first-at_hand.result.now ≡ slice_range front 40 (volume_v6 front) =
     c.first-at_hand.ensures ∙ ap (take (c.volume_of-volume.result - 40)) c.behind.ensures ∙ rw volume refl in
     let told = header_told c.args.dir front c.args.whole c.if-front-lt-FIXED_LEN.false (omega arith) (omega arith) c.transport_of.result
-    (subst (λ room. IsToldBy (transport_in (slice_index front 6)) (slice_range front 40 (volume_v6 front)) room c.transport_of.result) room
-    (subst (λ l. IsToldBy (transport_in (slice_index front 6)) l (c.volume_of-volume.result - 40) c.transport_of.result) at_hand c.transport_of.ensures)) in
-    subst (λ r. IsToldBy (reading_v6 c.args.dir) front c.args.whole (on_front (header_with_v6 c.args.dir front) r)) c.in-Err.is told
+    (subst (λ room. IsSettledBy (transport_in (slice_index front 6)) (slice_range front 40 (volume_v6 front)) room c.transport_of.result) room
+    (subst (λ l. IsSettledBy (transport_in (slice_index front 6)) l (c.volume_of-volume.result - 40) c.transport_of.result) at_hand c.transport_of.ensures)) in
+    subst (λ r. IsSettledBy (reading_v6 c.args.dir) front c.args.whole (on_front (header_with_v6 c.args.dir front) r)) c.in-Err.is told

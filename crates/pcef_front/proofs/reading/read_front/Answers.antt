@@ -2,7 +2,7 @@ use Rattle.std.proofs.Common.{ℕ, ◌≡◌, ◌<◌, ◌∙◌, ◌==◌, true
 use Rattle.std.proofs.lemmas.Bool.Decides.{nat_tests}
 use Rattle.std.proofs.lemmas.List.{length-take-le, take_all}
 use Rattle.pcef_packet.specs.HeaderOf.{header_of, reading_v6}
-use Rattle.pcef_front.specs.Fronts.{IsOpen, IsToldBy, as_front}
+use Rattle.pcef_front.specs.Fronts.{IsOpen, IsSettledBy, as_front}
 use Rattle.pcef_front.specs.private.Transports.{reading_v4}
 use Rattle.pcef_front.proofs.EnoughOctets.{closed_v4, closed_v6}
 use Rattle.pcef_front.proofs.FrontReadings.{none_told, v4_told, v6_told, whole_told}
@@ -25,7 +25,7 @@ returns-then-whole-front-clause-reading c =
     (length-take-le c.args.whole c.args.front.now c.if-whole-front.true) (header_of c.args.dir (take c.args.whole c.args.front.now)) refl in
     let is : c.read_whole.result ≡ as_front (header_of c.args.dir (take c.args.whole c.args.front.now)) =
     c.read_whole.ensures ∙ ap (λ l. as_front (header_of c.args.dir l)) c.first.ensures in
-    subst (IsToldBy (header_of c.args.dir) (take c.args.whole c.args.front.now) c.args.whole) (sym is) told
+    subst (IsSettledBy (header_of c.args.dir) (take c.args.whole c.args.front.now) c.args.whole) (sym is) told
 
 pub returns-then-is_empty-clause-reading : goal.returns-then-is_empty-clause-reading
 returns-then-is_empty-clause-reading c =
@@ -36,20 +36,20 @@ returns-then-is_empty-clause-reading c =
 
 pub returns-in-4-clause-reading : goal.returns-in-4-clause-reading
 returns-in-4-clause-reading c =
-    subst (λ l. IsToldBy (header_of c.args.dir) l c.args.whole c.read_v4.result) (sym (at_hand c.args.front.now c.args.whole c.if-whole-front.false))
+    subst (λ l. IsSettledBy (header_of c.args.dir) l c.args.whole c.read_v4.result) (sym (at_hand c.args.front.now c.args.whole c.if-whole-front.false))
     (v4_told c.args.dir c.args.front.now c.args.whole (some c.args.front.now (sym c.is_empty.ensures ∙ c.if-is_empty.false)) (sym c.version_of.ensures ∙ c.in-4.is)
     c.read_v4.result c.read_v4.ensures)
 
 pub returns-in-6-clause-reading : goal.returns-in-6-clause-reading
 returns-in-6-clause-reading c =
-    subst (λ l. IsToldBy (header_of c.args.dir) l c.args.whole c.read_v6.result) (sym (at_hand c.args.front.now c.args.whole c.if-whole-front.false))
+    subst (λ l. IsSettledBy (header_of c.args.dir) l c.args.whole c.read_v6.result) (sym (at_hand c.args.front.now c.args.whole c.if-whole-front.false))
     (v6_told c.args.dir c.args.front.now c.args.whole (some c.args.front.now (sym c.is_empty.ensures ∙ c.if-is_empty.false)) (sym c.version_of.ensures ∙ c.in-6.is)
     c.read_v6.result c.read_v6.ensures)
 
 pub returns-in-4-clause-enough_v4 : goal.returns-in-4-clause-enough_v4
 returns-in-4-clause-enough_v4 c = λ four enough same.
-    closed_v4 c.args.dir c.args.front.now c.args.whole enough (subst (IsToldBy (reading_v4 c.args.dir) c.args.front.now c.args.whole) same c.read_v4.ensures)
+    closed_v4 c.args.dir c.args.front.now c.args.whole enough (subst (IsSettledBy (reading_v4 c.args.dir) c.args.front.now c.args.whole) same c.read_v4.ensures)
 
 pub returns-in-6-clause-enough_v6 : goal.returns-in-6-clause-enough_v6
 returns-in-6-clause-enough_v6 c = λ carried six long is four same.
-    closed_v6 c.args.dir c.args.front.now c.args.whole carried long is four (subst (IsToldBy (reading_v6 c.args.dir) c.args.front.now c.args.whole) same c.read_v6.ensures)
+    closed_v6 c.args.dir c.args.front.now c.args.whole carried long is four (subst (IsSettledBy (reading_v6 c.args.dir) c.args.front.now c.args.whole) same c.read_v6.ensures)

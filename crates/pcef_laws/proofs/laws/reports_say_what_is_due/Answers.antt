@@ -1,7 +1,7 @@
 use Rattle.std.proofs.Common.{refl}
 use Rattle.pcef_laws.proofs.Ended.{all_told}
 use Rattle.pcef_laws.proofs.GoneOff.{gone_off}
-use Rattle.pcef_laws.proofs.Grants.{grants_told}
+use Rattle.pcef_laws.proofs.Grants.{grants_reported}
 use Rattle.pcef_laws.proofs.Order.{ascends_in_order, permutes_in_order}
 use Rattle.pcef_laws.proofs.Told.{told_all}
 use Rattle.pcef_laws.specs.Reporting.{names_on}
@@ -9,7 +9,7 @@ use Rattle.pcef_model.specs.Reports.{in_order}
 use Rattle.pcef_laws.proofs.laws.reports_say_what_is_due.Goals as goal
 
 pub returns-clause-grants : goal.returns-clause-grants
-returns-clause-grants c = grants_told
+returns-clause-grants c = grants_reported
 
 pub returns-clause-all : goal.returns-clause-all
 returns-clause-all c = told_all

@@ -7,7 +7,7 @@ use Rattle.pcef_program.proofs.RunEnds.{none_told, one_told}
 use Rattle.pcef_program.proofs.plan_run.run_one.Goals as goal
 
 pub returns-in-Ok : goal.returns-in-Ok
-returns-in-Ok g c = one_told _ c.args.plan c.args.workers c.in-Ok.ran c.tell_run.result _ _ c.in-Ok.ensures.ran c.tell_run.ensures
+returns-in-Ok g c = one_told _ c.args.plan c.args.workers c.in-Ok.ran c.report_run.result _ _ c.in-Ok.ensures.ran c.report_run.ensures
 
 pub returns-in-Err : goal.returns-in-Err
 returns-in-Err g c =

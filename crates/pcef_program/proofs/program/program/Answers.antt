@@ -5,7 +5,7 @@ use Rattle.pcef_program.proofs.Endings.{status_most, whole_ended}
 use Rattle.pcef_program.proofs.program.program.Goals as goal
 
 pub returns-clause-ends : goal.returns-clause-ends
-returns-clause-ends g c = (c.end_of-end.result, c.status.ensures, c.tell.ensures, c.end_of-end.ensures)
+returns-clause-ends g c = (c.end_of-end.result, c.status.ensures, c.report_end.ensures, c.end_of-end.ensures)
 
 pub returns-clause-most : goal.returns-clause-most
 returns-clause-most g c = subst (λ n. n ≤ 4) (sym c.status.ensures) (status_most c.end_of-end.result)

@@ -21,5 +21,5 @@ returns-in-Ok-clause-unfit c =
 pub returns-in-Err-clause-unfit : goal.returns-in-Err-clause-unfit
 returns-in-Err-clause-unfit c =
     let bytes = c.args.bytes.now in
-    subst (IsFor (IsUnfit c.args.workers bytes)) (sym c.unread.ensures)
+    subst (IsFor (IsUnfit c.args.workers bytes)) (sym c.untaken_for.ensures)
     (unfit_read c.args.workers bytes c.in-Err.fault (sym c.is_blank.ensures ∙ c.if-is_blank.false) c.in-Err.ensures)

@@ -15,16 +15,16 @@ returns-in-Ok-clause-ok g c = λ whole kept few.
     let world = c.args.world.now in
     let contents = g.W.Write.contents in
     let filled : is_blank whole ≡ false = sym (c.is_blank.ensures whole kept) ∙ c.if-is_blank.false in
-    told_ends c.tell.result world.session.setting world c.answer_of.new.world whole (string_bytes c.in-Ok.answer.text) c.in-Ok.answer.is_fault c.args.faults
-    (contents c.args.writer.now) (contents c.tell.new.writer) filled (answers_same c.forget.new.self world c.answer_of.new.world whole (string_bytes c.in-Ok.answer.text) c.in-Ok.answer.is_fault c.forget.ensures.setting c.forget.ensures.standing (c.in-Ok.ensures.answer whole kept)) (c.tell.ensures.count few) c.tell.ensures.all
+    told_ends c.write_and_count.result world.session.setting world c.answer_of.new.world whole (string_bytes c.in-Ok.answer.text) c.in-Ok.answer.is_fault c.args.faults
+    (contents c.args.writer.now) (contents c.write_and_count.new.writer) filled (answers_same c.forget.new.self world c.answer_of.new.world whole (string_bytes c.in-Ok.answer.text) c.in-Ok.answer.is_fault c.forget.ensures.setting c.forget.ensures.standing (c.in-Ok.ensures.answer whole kept)) (c.write_and_count.ensures.count few) c.write_and_count.ensures.all
 
 pub returns-in-Ok-clause-err : goal.returns-in-Ok-clause-err
 returns-in-Ok-clause-err g c = λ whole kept.
     let world = c.args.world.now in
     let contents = g.W.Write.contents in
     let filled : is_blank whole ≡ false = sym (c.is_blank.ensures whole kept) ∙ c.if-is_blank.false in
-    told_fails c.tell.result world.session.setting world c.answer_of.new.world whole (string_bytes c.in-Ok.answer.text) c.in-Ok.answer.is_fault
-    (contents c.args.writer.now) (contents c.tell.new.writer) filled (answers_same c.forget.new.self world c.answer_of.new.world whole (string_bytes c.in-Ok.answer.text) c.in-Ok.answer.is_fault c.forget.ensures.setting c.forget.ensures.standing (c.in-Ok.ensures.answer whole kept)) c.tell.ensures.front
+    told_fails c.write_and_count.result world.session.setting world c.answer_of.new.world whole (string_bytes c.in-Ok.answer.text) c.in-Ok.answer.is_fault
+    (contents c.args.writer.now) (contents c.write_and_count.new.writer) filled (answers_same c.forget.new.self world c.answer_of.new.world whole (string_bytes c.in-Ok.answer.text) c.in-Ok.answer.is_fault c.forget.ensures.setting c.forget.ensures.standing (c.in-Ok.ensures.answer whole kept)) c.write_and_count.ensures.front
 
 pub returns-in-Err-clause-err : goal.returns-in-Err-clause-err
 returns-in-Err-clause-err g c = λ whole kept. Appends-nil (g.W.Write.contents c.args.writer.now)

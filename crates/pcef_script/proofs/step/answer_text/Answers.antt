@@ -5,7 +5,7 @@ use Rattle.pcef_script.proofs.step.answer_text.Goals as goal
 pub returns-in-Ok-clause-answer : goal.returns-in-Ok-clause-answer
 returns-in-Ok-clause-answer g c =
     let world = c.args.world.now in
-    line_answered c.done.result world.session.setting (standing_of world) (standing_of c.done.new.world) c.args.text.now c.in-Ok.line c.in-Ok.ensures c.done.ensures.text c.done.ensures.counts
+    line_answered c.do_step.result world.session.setting (standing_of world) (standing_of c.do_step.new.world) c.args.text.now c.in-Ok.line c.in-Ok.ensures c.do_step.ensures.text c.do_step.ensures.counts
 
 pub returns-in-Err-clause-answer : goal.returns-in-Err-clause-answer
 returns-in-Err-clause-answer g c =

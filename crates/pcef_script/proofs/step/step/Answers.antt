@@ -1,8 +1,8 @@
 use Rattle.std.proofs.Common.{◌≡◌, ◌∙◌, ap, subst, sym, ℕ}
 use Rattle.pcef_model.specs.Journals.{gen}
 use Rattle.pcef_session.specs.SessionModel.{SessionModel}
-use Rattle.pcef_world.specs.Steps.{TellsKept, reply_of, step_outcome, standing_of}
-use Rattle.pcef_world.proofs.ToldReports.{told_by_world}
+use Rattle.pcef_world.specs.Steps.{NamesKept, reply_of, step_outcome, standing_of}
+use Rattle.pcef_world.proofs.ToldReports.{answered_by_world}
 use Rattle.pcef_script.proofs.LineReads.{step_told}
 use Rattle.pcef_script.proofs.step.step.Goals as goal
 
@@ -18,5 +18,5 @@ pub step_answer-requires : goal.step_answer-requires
 step_answer-requires g c =
     let same : c.journal.result.now.forgotten ≡ c.args.world.now.session.forgotten =
     c.journal.ensures.forgotten ∙ ap (λ (s : SessionModel). s.forgotten) c.session-session.ensures.session ∙ c.step.ensures.forgotten in
-    subst (λ (n : ℕ). TellsKept n (reply_of c.in_ok-answer.answer)) (sym same)
-    (told_by_world c.args.world.now c.step.new.self c.args.step c.in_ok-answer.answer c.args.world.now.session.forgotten c.requires.kept c.in_ok-answer.ensures.answer)
+    subst (λ (n : ℕ). NamesKept n (reply_of c.in_ok-answer.answer)) (sym same)
+    (answered_by_world c.args.world.now c.step.new.self c.args.step c.in_ok-answer.answer c.args.world.now.session.forgotten c.requires.kept c.in_ok-answer.ensures.answer)

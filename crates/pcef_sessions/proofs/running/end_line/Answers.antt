@@ -20,25 +20,25 @@ returns-in-Err-clause-err g c = λ p start input h.
     let s = c.args.serving.now in
     (s.any_fault, wrote p (answered (ended_lines input)) start (g.W.Write.contents c.args.writer.now) s.sessions s.any_fault h.has_said)
 
-pub returns-in_err-write_told-in-Ok-clause-err : goal.returns-in_err-write_told-in-Ok-clause-err
-returns-in_err-write_told-in-Ok-clause-err g c = λ p start input h.
+pub returns-in_err-write_named-in-Ok-clause-err : goal.returns-in_err-write_named-in-Ok-clause-err
+returns-in_err-write_named-in-Ok-clause-err g c = λ p start input h.
     let q = err_from_is_err_and c.from_residual.result c.from_residual.ensures.1 in
     let contents = g.W.Write.contents in
     let s = c.args.serving.now in
     let new = c.answer.new.self in
     let told = c.in-Ok.told in
-    let f = c.in_err-write_told-in-Ok.ensures.front in
+    let f = c.in_err-write_named-in-Ok.ensures.front in
     let filled : is_blank s.line.items ≡ false = ap is_blank (sym c.deref.ensures.value) ∙ sym c.is_blank.ensures ∙ c.if-is_blank.false in
     let says = subst (λ (l : List ℕ). SaysTo (fixed s.sessions) (held s.sessions) (addressed l) (said_of told) (held new)) c.deref-2.ensures.value c.in-Ok.ensures.told in
-    rw (q.1, q.2, f.0) (told_fails p start (contents c.args.writer.now) (contents c.write_told.new.writer) s.line.items s.sessions new s.any_fault input (said_of told) h filled says f.1)
+    rw (q.1, q.2, f.0) (told_fails p start (contents c.args.writer.now) (contents c.write_named.new.writer) s.line.items s.sessions new s.any_fault input (said_of told) h filled says f.1)
 
-pub returns-in_ok-write_told-in-Ok-clause-ok : goal.returns-in_ok-write_told-in-Ok-clause-ok
-returns-in_ok-write_told-in-Ok-clause-ok g c = λ p start input h.
+pub returns-in_ok-write_named-in-Ok-clause-ok : goal.returns-in_ok-write_named-in-Ok-clause-ok
+returns-in_ok-write_named-in-Ok-clause-ok g c = λ p start input h.
     let contents = g.W.Write.contents in
     let s = c.args.serving.now in
     let new = c.answer.new.self in
     let told = c.in-Ok.told in
     let filled : is_blank s.line.items ≡ false = ap is_blank (sym c.deref.ensures.value) ∙ sym c.is_blank.ensures ∙ c.if-is_blank.false in
     let says = subst (λ (l : List ℕ). SaysTo (fixed s.sessions) (held s.sessions) (addressed l) (said_of told) (held new)) c.deref-2.ensures.value c.in-Ok.ensures.told in
-    told_ends p start (contents c.args.writer.now) (contents c.write_told.new.writer) s.line.items s.sessions new s.any_fault c.either-serving.result input (said_of told) h filled says c.in-Ok.ensures.fixed c.either-serving.ensures
-    c.in_ok-write_told-in-Ok.ensures.all
+    told_ends p start (contents c.args.writer.now) (contents c.write_named.new.writer) s.line.items s.sessions new s.any_fault c.either-serving.result input (said_of told) h filled says c.in-Ok.ensures.fixed c.either-serving.ensures
+    c.in_ok-write_named-in-Ok.ensures.all

@@ -27,7 +27,7 @@ fn tell_places<R: Threads + Wait + Sync>(
     places: u8,
 ) -> Result<Option<u64>, Fail> {
     let session = session(alloc, 100)?;
-    let opened = opened(&session)?;
+    let opened = open_history(&session)?;
     Ok(refused_places::<Brand, _>(rt, alloc, session, opened, Blanks::new(), places))
 }
 

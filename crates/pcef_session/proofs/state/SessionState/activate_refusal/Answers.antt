@@ -12,12 +12,12 @@ pub returns-then-is_active : goal.returns-then-is_active
 returns-then-is_active c =
     let p = c.args.self.now.setting in
     activate_again p c.args.self.now.journal c.args.name.now c.in-Some.rule
-    (subst (λ (x : Option Activation). Activates p (option_map predefined (offer_named p c.args.name.now)) x) c.in-Some.is c.offered.ensures)
+    (subst (λ (x : Option Activation). Activates p (option_map predefined (offer_named p c.args.name.now)) x) c.in-Some.is c.find_offered.ensures)
     (sym c.is_active.ensures ∙ c.if-is_active.true)
 
 pub returns : goal.returns
 returns c =
     let p = c.args.self.now.setting in
     activate_new p c.args.self.now.journal c.args.name.now c.in-Some.rule c.becoming_active.result
-    (subst (λ (x : Option Activation). Activates p (option_map predefined (offer_named p c.args.name.now)) x) c.in-Some.is c.offered.ensures)
+    (subst (λ (x : Option Activation). Activates p (option_map predefined (offer_named p c.args.name.now)) x) c.in-Some.is c.find_offered.ensures)
     (sym c.is_active.ensures ∙ c.if-is_active.false) c.becoming_active.ensures

@@ -31,8 +31,8 @@ overflow_cast-worker c =
     subst (λ (v : SessionModel). first_of (attach_faults v.journal) ≡ None) (sym c.self.view_is) (sym c.in_default.ensures) in
     omega (arith, attach_few s.counted.journal accepted, c.len-worker.ensures, lanes_count s.counted.journal s.lanes c.self.invariant.lanes)
 
-pub come-requires : goal.come-requires
-come-requires c =
+pub add_lane-requires : goal.add_lane-requires
+add_lane-requires c =
     let s = c.self.inside in
     let accepted : first_of (attach_faults s.counted.journal) ≡ None =
     subst (λ (v : SessionModel). first_of (attach_faults v.journal) ≡ None) (sym c.self.view_is) (sym c.in_default.ensures) in
@@ -47,8 +47,8 @@ invariant_of-self-2 c =
     let many = attached_len s.counted.journal s.lanes c.self.invariant.lanes in
     sound_attached s _ c.len-worker.result c.self.invariant (c.len-worker.ensures ∙ count) accepted refl refl
     (c.enter.ensures.journal ∙ ap (λ (j : Journal). entry.Attach c.len-worker.result ∷ j) c.reserve.ensures.journal)
-    (c.enter.ensures.states ∙ c.reserve.ensures.states) refl refl refl refl c.come.ensures refl refl
-    (omega (arith, many, c.attached.ensures.number, ok_of c.reserve.result c.reserve.ensures.room c.if-is_err.ensures.value, c.enter.ensures.room))
+    (c.enter.ensures.states ∙ c.reserve.ensures.states) refl refl refl refl c.add_lane.ensures refl refl
+    (omega (arith, many, c.attached_count.ensures.number, ok_of c.reserve.result c.reserve.ensures.room c.if-is_err.ensures.value, c.enter.ensures.room))
 
 pub returns-clause-answer : goal.returns-clause-answer
 returns-clause-answer c =

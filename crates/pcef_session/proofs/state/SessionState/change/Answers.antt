@@ -73,8 +73,8 @@ enter-requires-clause-places c =
     subst (λ (k : Option (List ℕ)). HasPlaceFor k c.args.change.key_places (keys_of s.counted.states)) key
     (subst (λ (ks : List (List ℕ)). HasPlaceFor (key_named p c.args.change.command) c.args.change.key_places ks) (sym c.self.invariant.agrees.keys_are) ready.key_places)
 
-pub tell-requires-clause-known : goal.tell-requires-clause-known
-tell-requires-clause-known c =
+pub report_all-requires-clause-known : goal.report_all-requires-clause-known
+report_all-requires-clause-known c =
     let s = c.self.inside in
     let p = setting_of s.profile s.listing in
     let j = s.counted.journal in
@@ -87,8 +87,8 @@ tell-requires-clause-known c =
     subst (λ (ts : List PendingReport). KnowsAll (keys_of c.enter.new.counted.states) ts) (sym (c.deref.ensures.value ∙ ready.plan_is))
     (subst (λ (ks : List (List ℕ)). KnowsAll ks (plan p j command)) (sym keys) (knows_plan p j command (asks_known p j command ready.accepted)))
 
-pub tell-requires-clause-room : goal.tell-requires-clause-room
-tell-requires-clause-room c =
+pub report_all-requires-clause-room : goal.report_all-requires-clause-room
+report_all-requires-clause-room c =
     let s = c.self.inside in
     let p = setting_of s.profile s.listing in
     let ready : IsReady (model_of s) c.args.change = subst (λ (v : SessionModel). IsReady v c.args.change) (sym c.self.view_is) c.requires in
@@ -114,8 +114,8 @@ invariant_of-self c =
     let planned : c.deref.result.now ≡ plan p j command = c.deref.ensures.value ∙ ready.plan_is in
     let entered : c.enter.new.counted.states ≡ entered_by (rule_key c.args.change.rule) command s.counted.states =
     c.enter.ensures.states ∙ ap (λ (k : Option (List ℕ)). entered_by k command s.counted.states) (c.rule_key-key.ensures ∙ ap rule_key c.as_ref.ensures.value) in
-    let journal : c.tell.new.counted.journal ≡ told_by b (plan p j command) (entered_by (rule_key c.args.change.rule) command s.counted.states) (entry.Command command ∷ j) =
-    c.tell.ensures.journal ∙ ap (λ (t : TriggerSet). told_by t.usage_report c.deref.result.now c.enter.new.counted.states c.enter.new.counted.journal) triggers ∙
+    let journal : c.report_all.new.counted.journal ≡ told_by b (plan p j command) (entered_by (rule_key c.args.change.rule) command s.counted.states) (entry.Command command ∷ j) =
+    c.report_all.ensures.journal ∙ ap (λ (t : TriggerSet). told_by t.usage_report c.deref.result.now c.enter.new.counted.states c.enter.new.counted.journal) triggers ∙
     ap (λ (ts : List PendingReport). told_by b ts c.enter.new.counted.states c.enter.new.counted.journal) planned ∙
     ap (λ (states : List KeyState). told_by b (plan p j command) states c.enter.new.counted.journal) entered ∙
     ap (told_by b (plan p j command) (entered_by (rule_key c.args.change.rule) command s.counted.states)) c.enter.ensures.journal in
@@ -123,7 +123,7 @@ invariant_of-self c =
     few_entered_by p s.counted.journal command c.args.change.rule s.counted.states c.self.invariant.agrees.keys_are ready.accepted ready.changing ready.rule c.self.invariant.small.few_keys in
     let states : length c.enter.new.counted.states ≡ length (entered_by (rule_key c.args.change.rule) command s.counted.states) = ap (λ (states : List KeyState). length states) entered in
     let reports : length c.deref.result.now ≡ length c.args.change.reports.items = ap (λ (ts : List PendingReport). length ts) c.deref.ensures.value in
-    let room : length (attached j) ≤ c.tell.new.counted.room = omega (arith, few, states, reports, ready.has_room, c.enter.ensures.room, c.tell.ensures.room) in
+    let room : length (attached j) ≤ c.report_all.new.counted.room = omega (arith, few, states, reports, ready.has_room, c.enter.ensures.room, c.report_all.ensures.room) in
     sound_commanded s _ command c.args.change.rule c.args.change.bearer c.self.invariant
     (record {
       accepted = ready.accepted;
@@ -131,11 +131,11 @@ invariant_of-self c =
       brings = ready.rule;
       rules_are = c.change_rules.ensures.active;
       rebound = c.change_rules.ensures.bearers;
-      keys_are = c.tell.ensures.states ∙ ap (λ (t : TriggerSet). left_by t.usage_report c.deref.result.now c.enter.new.counted.states) triggers ∙ ap (λ (ts : List PendingReport). left_by b ts c.enter.new.counted.states) planned ∙ ap (left_by b (plan p j command)) entered;
+      keys_are = c.report_all.ensures.states ∙ ap (λ (t : TriggerSet). left_by t.usage_report c.deref.result.now c.enter.new.counted.states) triggers ∙ ap (λ (ts : List PendingReport). left_by b ts c.enter.new.counted.states) planned ∙ ap (left_by b (plan p j command)) entered;
       triggers_are = triggers;
       shows = subst (Shows p (after_command p j command) (gen (after_command p j command))) (sym table) (table_after p j command (arc_value s.newest) (option_map (λ t. arc_value t) c.args.change.table) c.self.invariant.agrees.table_shows ready.table);
     })
-    refl refl refl c.closed_by-self-inside.ensures c.terminated_by-self-inside.ensures room (journal_commanded p j command c.args.change.rule (parts_of s) c.tell.new.counted.journal c.self.invariant.agrees ready.accepted ready.rule journal)
+    refl refl refl c.closed_by-self-inside.ensures c.terminated_by-self-inside.ensures room (journal_commanded p j command c.args.change.rule (parts_of s) c.report_all.new.counted.journal c.self.invariant.agrees ready.accepted ready.rule journal)
 
 pub returns-clause-answer : goal.returns-clause-answer
 returns-clause-answer c =
@@ -150,16 +150,16 @@ returns-clause-answer c =
     let planned : c.deref.result.now ≡ plan p j command = c.deref.ensures.value ∙ ready.plan_is in
     let entered : c.enter.new.counted.states ≡ entered_by (rule_key c.args.change.rule) command s.counted.states =
     c.enter.ensures.states ∙ ap (λ (k : Option (List ℕ)). entered_by k command s.counted.states) (c.rule_key-key.ensures ∙ ap rule_key c.as_ref.ensures.value) in
-    let journal : c.tell.new.counted.journal ≡ told_by b (plan p j command) (entered_by (rule_key c.args.change.rule) command s.counted.states) (entry.Command command ∷ j) =
-    c.tell.ensures.journal ∙ ap (λ (t : TriggerSet). told_by t.usage_report c.deref.result.now c.enter.new.counted.states c.enter.new.counted.journal) triggers ∙
+    let journal : c.report_all.new.counted.journal ≡ told_by b (plan p j command) (entered_by (rule_key c.args.change.rule) command s.counted.states) (entry.Command command ∷ j) =
+    c.report_all.ensures.journal ∙ ap (λ (t : TriggerSet). told_by t.usage_report c.deref.result.now c.enter.new.counted.states c.enter.new.counted.journal) triggers ∙
     ap (λ (ts : List PendingReport). told_by b ts c.enter.new.counted.states c.enter.new.counted.journal) planned ∙
     ap (λ (states : List KeyState). told_by b (plan p j command) states c.enter.new.counted.journal) entered ∙
     ap (told_by b (plan p j command) (entered_by (rule_key c.args.change.rule) command s.counted.states)) c.enter.ensures.journal in
-    let after : c.tell.new.counted.journal ≡ after_command p j command = journal_commanded p j command c.args.change.rule (parts_of s) c.tell.new.counted.journal c.self.invariant.agrees ready.accepted ready.rule journal in
+    let after : c.report_all.new.counted.journal ≡ after_command p j command = journal_commanded p j command c.args.change.rule (parts_of s) c.report_all.new.counted.journal c.self.invariant.agrees ready.accepted ready.rule journal in
     let parts : Parts = record {
       rules = c.change_rules.new.active.rules;
       binding = c.change_rules.new.bearers;
-      keys = c.tell.new.counted.states;
+      keys = c.report_all.new.counted.states;
       triggers = c.subscribed_by-self-inside.result;
       table = arc_value c.keep_table.new.held;
     } in
@@ -169,14 +169,14 @@ returns-clause-answer c =
       brings = ready.rule;
       rules_are = c.change_rules.ensures.active;
       rebound = c.change_rules.ensures.bearers;
-      keys_are = c.tell.ensures.states ∙ ap (λ (t : TriggerSet). left_by t.usage_report c.deref.result.now c.enter.new.counted.states) triggers ∙ ap (λ (ts : List PendingReport). left_by b ts c.enter.new.counted.states) planned ∙ ap (left_by b (plan p j command)) entered;
+      keys_are = c.report_all.ensures.states ∙ ap (λ (t : TriggerSet). left_by t.usage_report c.deref.result.now c.enter.new.counted.states) triggers ∙ ap (λ (ts : List PendingReport). left_by b ts c.enter.new.counted.states) planned ∙ ap (left_by b (plan p j command)) entered;
       triggers_are = triggers;
       shows = subst (Shows p (after_command p j command) (gen (after_command p j command))) (sym table) (table_after p j command (arc_value s.newest) (option_map (λ t. arc_value t) c.args.change.table) c.self.invariant.agrees.table_shows ready.table);
     } in
     let a : Accepted = record { generation = c.generation.result; bearer = c.args.change.bearer; first_report = c.reports_len-first_report.result; past_last_report = c.reports_len.result; unchanged = false } in
-    let given : Gives (command_outcome p j command) (Ok a) c.tell.new.counted.journal =
-    outcome_commanded p j command a c.tell.new.counted.journal ready.accepted ready.changing after
+    let given : Gives (command_outcome p j command) (Ok a) c.report_all.new.counted.journal =
+    outcome_commanded p j command a c.report_all.new.counted.journal ready.accepted ready.changing after
     (c.generation.ensures ∙ ap (λ (t : TableValue). t.number) (c.deref-2.ensures ∙ table) ∙ (table_after p j command (arc_value s.newest) (option_map (λ t. arc_value t) c.args.change.table) c.self.invariant.agrees.table_shows ready.table).number_is ∙ sym (ap gen after))
     (bearer_commanded p j command c.args.change.rule (parts_of s) parts c.args.change.bearer c.self.invariant.agrees is ∙ ap (λ (k : Journal). bearer_named (now p k) command) (sym after))
     (c.reports_len-first_report.ensures ∙ ap report_count c.journal.ensures.entries) (c.reports_len.ensures ∙ ap report_count c.journal-2.ensures.entries) refl in
-    subst (λ (v : SessionModel). Gives (command_outcome v.setting v.journal command) (Ok a) c.tell.new.counted.journal) c.self.view_is given
+    subst (λ (v : SessionModel). Gives (command_outcome v.setting v.journal command) (Ok a) c.report_all.new.counted.journal) c.self.view_is given

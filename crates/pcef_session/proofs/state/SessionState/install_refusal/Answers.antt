@@ -12,11 +12,11 @@ pub returns-in-Some : goal.returns-in-Some
 returns-in-Some c =
     let p = c.args.self.now.setting in
     install_offered p c.args.self.now.journal c.args.rule.now c.in-Some._rule
-    (subst (λ (x : Option Activation). Activates p (option_map predefined (offer_named p c.args.rule.now.name)) x) c.in-Some.is c.offered.ensures)
+    (subst (λ (x : Option Activation). Activates p (option_map predefined (offer_named p c.args.rule.now.name)) x) c.in-Some.is c.find_offered.ensures)
 
 pub returns : goal.returns
 returns c =
     let p = c.args.self.now.setting in
     install_free p c.args.self.now.journal c.args.rule.now c.becoming_active.result
-    (subst (λ (x : Option Activation). Activates p (option_map predefined (offer_named p c.args.rule.now.name)) x) c.in_default.is c.offered.ensures)
+    (subst (λ (x : Option Activation). Activates p (option_map predefined (offer_named p c.args.rule.now.name)) x) c.in_default.is c.find_offered.ensures)
     c.becoming_active.ensures

@@ -22,5 +22,5 @@ returns-in-Some c =
     let v = c.args.self.now in
     rw c.in-Activate.is
     (activate_room v.setting v.journal c.in-Activate.name c.in-Some.rule c.args.room c.over_room-in-Some.result
-    (subst (λ (x : Option Activation). Activates v.setting (option_map predefined (offer_named v.setting c.in-Activate.name)) x) c.in-Some.is c.offered.ensures)
+    (subst (λ (x : Option Activation). Activates v.setting (option_map predefined (offer_named v.setting c.in-Activate.name)) x) c.in-Some.is c.find_offered.ensures)
     (sym c.is_active.ensures ∙ c.if-is_active.false) c.over_room-in-Some.ensures)

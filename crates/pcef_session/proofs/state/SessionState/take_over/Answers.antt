@@ -51,7 +51,7 @@ invariant_of-self-2 c =
     let follow = subst (λ (v : SessionModel). BatchFollows v.setting v.journal c.args.worker (map row_of c.args.items.now)) (sym c.self.view_is) c.requires.follow in
     sound_flushed s _ c.args.worker c.args.items.now c.reserve.new.self c.self.invariant accepted follow its c.requires.octets c.reserve.ensures.states c.reserve.ensures.journal c.take_all.ensures.taken
     refl refl refl refl refl refl c.lengthen.ensures refl refl
-    (omega (arith, c.take_all.ensures.room, c.in_ok-reserve.ensures.room, c.attached.ensures.number, attached_len s.counted.journal s.lanes c.self.invariant.lanes))
+    (omega (arith, c.take_all.ensures.room, c.in_ok-reserve.ensures.room, c.attached_count.ensures.number, attached_len s.counted.journal s.lanes c.self.invariant.lanes))
 
 pub returns-clause-taken : goal.returns-clause-taken
 returns-clause-taken c =

@@ -12,4 +12,4 @@ returns-clause-entries c =
     let many : length (attached c.args.self.now.journal) ≡ length (filter (λ (e : LaneEnd). e.attached) s.lanes) =
     subst (λ (v : SessionModel). length (attached v.journal) ≡ length (filter (λ (e : LaneEnd). e.attached) s.lanes)) c.self.view_is
     (attached_len s.counted.journal s.lanes c.self.invariant.lanes) in
-    on_ok_weaker c.reserve-2.result (λ enough. omega (arith, enough, many, c.attached.ensures.number)) c.reserve-2.ensures.room
+    on_ok_weaker c.reserve-2.result (λ enough. omega (arith, enough, many, c.attached_count.ensures.number)) c.reserve-2.ensures.room

@@ -11,11 +11,11 @@ use Rattle.pcef_session.proofs.state.SessionState.terminate_refusal.Goals as goa
 pub returns-then-attached-gt0 : goal.returns-then-attached-gt0
 returns-then-attached-gt0 c =
     let s = c.self.inside in
-    subst (λ (v : SessionModel). Some (WorkersAttached c.attached-attached.result) ≡ first_of (own_refusals v.setting v.journal Terminate)) c.self.view_is
-    (terminate_refused (setting_of s.profile s.listing) s.counted.journal c.attached-attached.result (c.attached-attached.ensures.number ∙ sym (attached_len s.counted.journal s.lanes c.self.invariant.lanes)) c.if-attached-gt0.true)
+    subst (λ (v : SessionModel). Some (WorkersAttached c.attached_count-attached.result) ≡ first_of (own_refusals v.setting v.journal Terminate)) c.self.view_is
+    (terminate_refused (setting_of s.profile s.listing) s.counted.journal c.attached_count-attached.result (c.attached_count-attached.ensures.number ∙ sym (attached_len s.counted.journal s.lanes c.self.invariant.lanes)) c.if-attached-gt0.true)
 
 pub returns-else-attached-gt0 : goal.returns-else-attached-gt0
 returns-else-attached-gt0 c =
     let s = c.self.inside in
     subst (λ (v : SessionModel). None ≡ first_of (own_refusals v.setting v.journal Terminate)) c.self.view_is
-    (terminate_free (setting_of s.profile s.listing) s.counted.journal c.attached-attached.result (c.attached-attached.ensures.number ∙ sym (attached_len s.counted.journal s.lanes c.self.invariant.lanes)) c.if-attached-gt0.false)
+    (terminate_free (setting_of s.profile s.listing) s.counted.journal c.attached_count-attached.result (c.attached_count-attached.ensures.number ∙ sym (attached_len s.counted.journal s.lanes c.self.invariant.lanes)) c.if-attached-gt0.false)

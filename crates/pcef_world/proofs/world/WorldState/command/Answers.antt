@@ -12,11 +12,11 @@ invariant_of-self c =
 pub returns-clause-answer : goal.returns-clause-answer
 returns-clause-answer c =
     rw (← c.self.view_is)
-    (command_answer c.self.inside.session.setting c.args.command c.self.inside.session.journal c.command.new.self.journal (map (option_map seen) c.self.inside.workers.items) c.command.result c.command_told.result
-    c.command.ensures.answer c.command_told.ensures.told c.command_told.ensures.lack).0
+    (command_answer c.self.inside.session.setting c.args.command c.self.inside.session.journal c.command.new.self.journal (map (option_map seen) c.self.inside.workers.items) c.command.result c.command_step_answer.result
+    c.command.ensures.answer c.command_step_answer.ensures.told c.command_step_answer.ensures.lack).0
 
 pub returns-clause-lacks : goal.returns-clause-lacks
 returns-clause-lacks c =
     rw (← c.self.view_is)
-    (command_answer c.self.inside.session.setting c.args.command c.self.inside.session.journal c.command.new.self.journal (map (option_map seen) c.self.inside.workers.items) c.command.result c.command_told.result
-    c.command.ensures.answer c.command_told.ensures.told c.command_told.ensures.lack).1
+    (command_answer c.self.inside.session.setting c.args.command c.self.inside.session.journal c.command.new.self.journal (map (option_map seen) c.self.inside.workers.items) c.command.result c.command_step_answer.result
+    c.command.ensures.answer c.command_step_answer.ensures.told c.command_step_answer.ensures.lack).1

@@ -1,0 +1,140 @@
+//! What is said of an end on the writer for faults.
+
+ghost use Rattle.std.specs.Prelude.{◌≡◌};
+ghost use Rattle.pcef_program.specs.EndWriting.{AppendsSome, WritesEnd, WritesMore};
+
+use crate::end::End;
+use crate::mistake::mistake_line;
+use crate::words::paths_of;
+use pcef_profile::{explain, read_profile};
+use pcef_script::put_all;
+use std::alloc::{AllocError, Global};
+use std::io::{self, Write};
+
+/// Whether a profile can't be read, or has a fault.
+fn is_at_fault(alloc: Global, profile: &io::Result<String>) -> bool {
+    match profile {
+        Ok(text) => read_profile(alloc, text.as_str()).is_err(),
+        Err(_) => true,
+    }
+}
+
+/// What is said of a profile for which the program ends so: a line, or nothing of another end.
+fn profile_line(
+    alloc: Global,
+    end: &End,
+    path: &[u8],
+    profile: &io::Result<String>,
+) -> Result<String, AllocError> {
+    match (end, profile) {
+        (End::Profile(fault), Ok(text)) => {
+            let mut line = explain(alloc, text.as_str(), *fault)?;
+            line.push('\n')?;
+            Ok(line)
+        }
+        (End::NoProfile, Err(error)) => {
+            let path = String::from_utf8_lossy(alloc, path)?;
+            format!(in alloc; "{path}: {error}\n")
+        }
+        _ => Ok(String::new(alloc)),
+    }
+}
+
+/// What is said of the first profile that has a fault or can't be read: a line, or nothing of another end.
+fn profiles_line(
+    alloc: Global,
+    end: &End,
+    words: &[Vec<u8>],
+    profiles: &[io::Result<String>],
+) -> Result<String, AllocError> {
+    if !matches!(end, End::Profile(_) | End::NoProfile) {
+        return Ok(String::new(alloc));
+    }
+    for (path, profile) in paths_of(words).iter().zip(profiles) {
+        if is_at_fault(alloc, profile) {
+            return profile_line(alloc, end, path.as_slice(), profile);
+        }
+    }
+    Ok(String::new(alloc))
+}
+
+/// What is said of words that ask for nothing: a line, or nothing of another end.
+fn words_line(alloc: Global, end: &End, words: &[Vec<u8>]) -> Result<String, AllocError> {
+    match end {
+        End::Usage => mistake_line(alloc, words),
+        _ => Ok(String::new(alloc)),
+    }
+}
+
+/// Says a text. Whether the writer took all of it.
+fn put_text<E: Write>(text: &str, faults: &mut E) -> bool
+    ensures { AppendsSome (E.contents faults.old) (E.contents faults.new) }
+{
+    put_all(faults, text.as_bytes()).is_ok()
+}
+
+/// Says a line, where there was memory for it. Whether the writer took all that was said.
+fn put_line<E: Write>(line: Result<String, AllocError>, faults: &mut E) -> bool
+    ensures { AppendsSome (E.contents faults.old) (E.contents faults.new) }
+{
+    match line {
+        Ok(line) => put_text(line.as_str(), faults),
+        Err(_) => true,
+    }
+}
+
+/// Says what else a person needs to know of an end. Of what takes memory nothing is said where none is left.
+fn put_details<E: Write>(
+    alloc: Global,
+    end: &End,
+    words: &[Vec<u8>],
+    profiles: &[io::Result<String>],
+    faults: &mut E,
+)
+    ensures { AppendsSome (E.contents faults.old) (E.contents faults.new) }
+{
+    if !put_line(words_line(alloc, end, words), faults) {
+        return;
+    }
+    if !put_text(end.note(), faults) {
+        return;
+    }
+    put_line(profiles_line(alloc, end, words, profiles), faults);
+}
+
+/// Says what is wrong with the line that doesn't fit, if one doesn't, and then what else a person needs to know.
+fn put_reason<E: Write>(
+    alloc: Global,
+    end: &End,
+    words: &[Vec<u8>],
+    profiles: &[io::Result<String>],
+    faults: &mut E,
+)
+    ensures { WritesMore end.now (E.contents faults.old) (E.contents faults.new) }
+{
+    match put_all(faults, end.reason().as_bytes()) {
+        Ok(()) => put_details(alloc, end, words, profiles, faults),
+        Err(_) => {}
+    }
+}
+
+/// Says why the program ends early: the end's own line, and below it what a person needs to know. Says nothing of an
+/// end without a line. That it can't be said changes nothing.
+pub(crate) fn report_end<E: Write>(
+    alloc: Global,
+    end: &End,
+    words: &[Vec<u8>],
+    profiles: &[io::Result<String>],
+    faults: &mut E,
+)
+    ensures { WritesEnd end.now (E.contents faults.old) (E.contents faults.new) }
+{
+    let line = end.text();
+    if line.is_empty() {
+        return;
+    }
+    match put_all(faults, line.as_bytes()) {
+        Ok(()) => put_reason(alloc, end, words, profiles, faults),
+        Err(_) => {}
+    }
+}
