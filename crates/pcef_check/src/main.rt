@@ -15,7 +15,7 @@ use end::End;
 use options::{Options, parse_options};
 use pcef_built_in::ShapedCatalog;
 use pcef_command_line::{gather, refuse, report_no_memory};
-use pcef_explain::text_in;
+use pcef_explain::read_text;
 use pcef_findings::{FindFault, Finding, find};
 use pcef_model::Profile;
 use pcef_profile::{ReadProfileFault, explain, read_profile};
@@ -95,11 +95,6 @@ fn print_profile_fault(
     let number = fault.number();
     let explanation = explain(rt.alloc(), text, fault)?;
     println!(rt; "{file}: profile fault {number} {explanation}")
-}
-
-/// The text of a file.
-fn read_text(rt: &HostRuntime, path: &str) -> io::Result<String> {
-    text_in(rt.alloc(), fs::read(rt, path)?)
 }
 
 /// Finds and tells what is wrong in a profile, and then in lines.

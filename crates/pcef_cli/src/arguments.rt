@@ -1,11 +1,11 @@
 //! The arguments, and the files that they name.
 
-use pcef_explain::text_in;
+use pcef_explain::read_text;
 use pcef_program::words::paths_of;
 use std::alloc::{AllocError, Global};
 use std::env::{Env, FillError};
 use std::io::{self, ErrorKind};
-use std::{fs, str};
+use std::str;
 
 /// An argument, if there is one of that number.
 fn word<E: Env>(alloc: Global, env: &E, number: usize) -> Result<Option<Vec<u8>>, AllocError> {
@@ -40,7 +40,7 @@ pub(crate) fn words<E: Env>(alloc: Global, env: &E) -> Result<Vec<Vec<u8>>, Allo
 /// The text of a file, or why it can't be read as text. A file whose name isn't UTF-8 can't.
 fn text_of(rt: &HostRuntime, path: &[u8]) -> io::Result<String> {
     match str::from_utf8(path) {
-        Ok(path) => text_in(rt.alloc(), fs::read(rt, path)?),
+        Ok(path) => read_text(rt, path),
         Err(_) => Err(io::Error::new(ErrorKind::InvalidFilename, "the name isn't UTF-8")),
     }
 }

@@ -26,4 +26,4 @@ mod wrong_value;
 
 pub use explaining::{Explanation, explain, explain_field, explain_rule_name};
 pub use plain::plain_text;
-pub use text::text_in;
+pub use text::{read_text, text_in};

@@ -8,6 +8,7 @@ ghost use Rattle.pcef_explain.specs.Places.{column_behind, line_behind};
 
 use crate::wide::is_wide;
 use std::alloc::{AllocError, Global};
+use std::fs;
 use std::io::{self, ErrorKind};
 
 /// The line and the column of what stands behind these octets, both counted from 1; columns are in octets.
@@ -66,4 +67,11 @@ pub fn text_in(alloc: Global, octets: Vec<u8>) -> io::Result<String>
             }
         }
     }
+}
+
+/// Reads the text of a file. Takes memory for it.
+///
+/// Answers the error of the file system, or that of [`text_in`] where the file isn't UTF-8.
+pub fn read_text(rt: &HostRuntime, path: &str) -> io::Result<String> {
+    text_in(rt.alloc(), fs::read(rt, path)?)
 }

@@ -1,4 +1,2 @@
 pub mod Findings
-pub mod FirstLines
-pub mod LineDues
 pub mod LinesPlayed

@@ -9,11 +9,11 @@ ghost use Rattle.pcef_findings.specs.private.Playing.{AddsLine, PlaysLines};
 
 use crate::fault::FindFault;
 use crate::finding::Finding;
-use crate::lines::first_line;
 use crate::playing::play;
 use pcef_catalog::{Detects, Offers};
 use pcef_line::LineReader;
 use pcef_model::{OpenFault, Profile};
+use pcef_script::first_line;
 use pcef_world::WorldState;
 use std::alloc::{AllocError, Global};
 

@@ -3,13 +3,12 @@
 //!
 //! Its contracts say: exactly these lines, in order, each with its number and answer.
 //!
-//! In the order of reading: `fault`, `finding`, `lines`, `playing`, `checking`.
+//! In the order of reading: `fault`, `finding`, `playing`, `checking`.
 #![tactic(auto)]
 
 mod checking;
 mod fault;
 mod finding;
-mod lines;
 mod playing;
 
 pub use checking::find;

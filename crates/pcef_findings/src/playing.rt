@@ -6,11 +6,11 @@ ghost use Rattle.pcef_world.specs.Steps.{NamesKept, reply_of};
 ghost use Rattle.pcef_findings.specs.private.Playing.{IsOfFault, PlaysBytes, PlaysLine, PlaysStep, FindsAnswer};
 
 use crate::finding::{Finding, Found, found_in};
-use crate::lines::{is_blank, line_of};
 use pcef_answer::{fault_text, step_answer};
 use pcef_catalog::Detects;
 use pcef_line::{Line, LineFault, LineReader};
 use pcef_model::Step;
+use pcef_script::{is_blank, line_of};
 use pcef_world::{StepAnswer, WorldState};
 use std::alloc::{AllocError, Global};
 

@@ -14,11 +14,10 @@ use end::End;
 use options::{Options, parse_options};
 use pcef_built_in::ShapedCatalog;
 use pcef_command_line::{gather, refuse, report_no_memory};
-use pcef_explain::text_in;
+use pcef_explain::read_text;
 use pcef_model::Profile;
 use pcef_profile::{ReadProfileFault, explain, read_profile};
 use serving::{Keys, serve_in, serve_lines};
-use std::fs;
 use std::io::{self, ErrorKind};
 use std::process::ExitCode;
 use std::sync::Wait;
@@ -43,11 +42,6 @@ fn report_profile_fault<'a>(rt: &HostRuntime, text: &str, fault: ReadProfileFaul
         let _ = eprintln!(rt; "{explanation}");
     }
     End::Profile
-}
-
-/// The text of a file.
-fn read_text(rt: &HostRuntime, path: &str) -> io::Result<String> {
-    text_in(rt.alloc(), fs::read(rt, path)?)
 }
 
 /// Reads the profile, and serves lines on it.

@@ -7,7 +7,8 @@ ghost use Rattle.pcef_pool_run.specs.Orders.{IsOrder, IsWrong, IsWrongLine, Take
 
 use pcef_line::{Line, LineReader};
 use pcef_model::{Command, Step};
-use pcef_run::{Unfit, Untaken, is_blank, line_of, untaken_for};
+use pcef_run::{Unfit, Untaken, untaken_for};
+use pcef_script::{is_blank, line_of};
 use std::alloc::Global;
 
 /// A command for one of several sessions.

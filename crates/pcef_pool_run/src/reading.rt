@@ -6,7 +6,8 @@ ghost use Rattle.pcef_pool_run.specs.Orders.{AreOrdered, FailsIn, ReadsOrders};
 
 use crate::order::{Order, front_of, take_line};
 use pcef_line::LineReader;
-use pcef_run::{PlanFault, first_line, read_all};
+use pcef_run::{PlanFault, read_all};
+use pcef_script::first_line;
 use std::alloc::Global;
 use std::io::Read;
 

@@ -1,4 +1,3 @@
-pub mod FirstLines
 pub mod KeyLines
 pub mod Obeyings
 pub mod PlanInputs

@@ -65,10 +65,3 @@ pub unfit_read : (workers : ℕ) (bytes : List ℕ) (f : LineFault) → is_blank
     → (due : Result Line LineFault) × LineDue bytes due × ((f ≡ fault.NoMemory) ⊎ (due ≡ Err f)) → IsFor (IsUnfit workers bytes) (untaken_by f)
 unfit_read workers bytes f filled (due, is, inl none) = unread_for (IsUnfit workers bytes) f (inl none)
 unfit_read workers bytes f filled (due, is, inr same) = unread_for (IsUnfit workers bytes) f (inr (filled, due, is, ap (unfit_if_read workers) same))
-
--- ---- what is due to a line
-pub long_due : (bytes : List ℕ) → line_most < length bytes → LineDue bytes (Err fault.LineTooLong)
-long_due bytes long = rw (lt-ltb line_most (length bytes) long) refl
-
-pub within_due : (bytes : List ℕ) (due : Result Line LineFault) → length bytes ≤ line_most → DueWithin (Some bytes) due → LineDue bytes due
-within_due bytes due short is = rw (le-ltb line_most (length bytes) short) is

@@ -68,11 +68,6 @@ pub record IsPlanOf (asked : List Line) (plan : Plan) : Type 0 where
   pub later : plan.later.items ≡ commands_in (from_packets asked)
 
 -- ---- inputs
--- the first line of an input, and what follows the line feed that ends it
-abbrev pub IsFirstLine : List ℕ → List ℕ → Option (List ℕ) → Type 0
-IsFirstLine input first None = all_lines input ≡ first ∷ []
-IsFirstLine input first (Some rest) = (all_lines input ≡ first ∷ all_lines rest) × (length rest + 1 ≤ length input)
-
 -- a line that is read and fits
 abbrev pub Asks : ℕ → List ℕ → Line → Type 0
 Asks workers bytes asked = LineDue bytes (Ok asked) × (unfit_for workers asked ≡ None)

@@ -21,7 +21,7 @@ mod unfit;
 pub use fault::{PlanFault, RunEnd};
 pub use input::read_all;
 pub use plan::Plan;
-pub use reading::{first_line, is_blank, line_of, read_plan};
+pub use reading::read_plan;
 pub use run::{Ran, run_plan};
 pub use summary::summary_text;
 pub use taken::{Counts, Storing, Taken};

@@ -1,68 +1,18 @@
 //! Reads the plan of a run.
 
-ghost use Rattle.std.specs.Prelude.{◌≡◌, [], IfErr, IfOk, OnOk, Result, option_map};
-ghost use Rattle.std.specs.List.{list_all};
-ghost use Rattle.pcef_line.specs.LineValues.{Gives};
-ghost use Rattle.pcef_line.specs.declared.line.Line.{Line};
-ghost use Rattle.pcef_line.specs.declared.fault.LineFault.{LineFault};
-ghost use Rattle.pcef_script.specs.ScriptAnswers.{LineDue};
-ghost use Rattle.pcef_script.specs.ScriptLines.{is_blank, is_space};
+ghost use Rattle.std.specs.Prelude.{IfErr, IfOk};
 ghost use Rattle.pcef_script.specs.Scripts.{all_lines};
-ghost use Rattle.pcef_run.specs.Plans.{AddsBytes, ArePlanned, FailsIn, IsFirstLine, IsUnfit, Plans};
+ghost use Rattle.pcef_run.specs.Plans.{AddsBytes, ArePlanned, FailsIn, IsUnfit, Plans};
 ghost use Rattle.pcef_run.specs.Reasons.{IsFor};
 
 use crate::fault::PlanFault;
 use crate::input::read_all;
 use crate::plan::Plan;
 use crate::unfit::{Untaken, untaken_for};
-use memchr::memchr;
-use pcef_line::{Line, LineFault, LineReader};
+use pcef_line::LineReader;
+use pcef_script::{first_line, is_blank, line_of};
 use std::alloc::Global;
 use std::io::Read;
-use std::str;
-
-/// The most bytes of a line, without its line feed.
-const MAX_LINE: usize = 262_144;
-
-fn is_space(bytes: &[u8]) -> bool
-    ensures { result ≡ list_all is_space bytes.now }
-{
-    bytes
-        .iter()
-        .all(|byte| *byte == b' ' || *byte == b'\t' || *byte == b'\r')
-}
-
-/// Whether a line is passed over: it is within the limit of 262,144 bytes and holds only spaces, tabs and CR.
-pub fn is_blank(line: &[u8]) -> bool
-    ensures { result ≡ is_blank line.now }
-{
-    line.len() <= MAX_LINE && is_space(line)
-}
-
-/// The first line of an input, and what follows its line feed, if one ends it.
-pub fn first_line(input: &[u8]) -> (&[u8], Option<&[u8]>)
-    ensures { IsFirstLine input.now result.0.now (option_map (λ rest. rest.now) result.1) }
-{
-    let Some(place) = memchr(b'\n', input) else {
-        return (input, None);
-    };
-    let (line, rest) = input.split_at(place);
-    (line, Some(rest.split_at(1).1))
-}
-
-/// What a line is, or its first fault: that it has more than 262,144 bytes, that it isn't UTF-8 (RFC 3629), or that of
-/// the reader of lines. Takes memory for it, and may answer want of it.
-pub fn line_of(alloc: Global, reader: &mut LineReader, bytes: &[u8]) -> Result<Line, LineFault>
-    ensures { (due : Result Line LineFault) × LineDue bytes.now due × Gives (λ l. l) result due }
-{
-    if bytes.len() > MAX_LINE {
-        return Err(LineFault::LineTooLong);
-    }
-    match str::from_utf8(bytes) {
-        Ok(text) => reader.read(alloc, text),
-        Err(_) => Err(LineFault::NotUtf8),
-    }
-}
 
 /// Adds what a line asks for to a plan of the lines before it.
 fn plan_line(

@@ -1,7 +1,9 @@
 pub mod Answering
 pub mod Cuts
 pub mod Feeds
+pub mod FirstLines
 pub mod KeptLines
+pub mod LineDues
 pub mod LineReads
 pub mod ReadBlocks
 pub mod ScriptSteps

@@ -1,5 +1,5 @@
 -- What is written for a script (own choice).
-use Rattle.std.specs.Prelude.{◌≡◌, ◌⊎◌, ◌<◌, ◌==◌, ℕ, List, [], ◌∷◌, ◌++◌, length, take, Option, Some, None, Result, Ok, Err, if◌then◌else◌}
+use Rattle.std.specs.Prelude.{◌≡◌, ◌⊎◌, ◌<◌, ◌≤◌, ◌+◌, ◌==◌, ℕ, List, [], ◌∷◌, ◌++◌, length, take, Option, Some, None, Result, Ok, Err, if◌then◌else◌}
 use Rattle.std.specs.Io.KnownBytes.{Appends, IsAtEnd}
 use Rattle.pcef_model.specs.Setting.{Setting}
 use Rattle.pcef_model.specs.Refusals.{first_of, open_faults}
@@ -30,6 +30,11 @@ last_line input = (cut input).1
 -- the end of the input ends the last line
 abbrev pub all_lines : List ℕ → List (List ℕ)
 all_lines input = ended_lines input ++ last_line input ∷ []
+
+-- the first line, and what follows the line feed that ends it
+abbrev pub IsFirstLine : List ℕ → List ℕ → Option (List ℕ) → Type 0
+IsFirstLine input first None = all_lines input ≡ first ∷ []
+IsFirstLine input first (Some rest) = (all_lines input ≡ first ∷ all_lines rest) × (length rest + 1 ≤ length input)
 
 -- ---- scripts
 -- the answers to these lines, from the start of a session on, were written

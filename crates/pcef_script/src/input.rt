@@ -1,17 +1,14 @@
 //! What is read of a script, line by line.
 
 ghost use Rattle.std.specs.Prelude.{◌≡◌, ◌≤◌, ◌+◌, ◌-◌, ◌↔◌, ◌++◌, [], Err, IfErr, false, length, option_map, take};
-ghost use Rattle.std.specs.List.{list_all};
 ghost use Rattle.pcef_script.specs.declared.fault.ScriptFault.TheVariants.{NoMemory, TooMuch};
-ghost use Rattle.pcef_script.specs.ScriptLines.{ForLine, KeepsByte, script_most, kept_of, Takes, has_feed, is_blank, is_space, within_limit};
+ghost use Rattle.pcef_script.specs.ScriptLines.{ForLine, KeepsByte, script_most, kept_of, Takes, has_feed, is_blank, within_limit};
 
 use crate::fault::ScriptFault;
+use crate::lines::{MAX_LINE, is_space};
 use memchr::memchr;
 use std::alloc::Global;
 use std::marker::Model;
-
-/// The most bytes of a line, without its line feed.
-pub const MAX_LINE: usize = 262_144;
 
 /// The most bytes of a script.
 const MAX_SCRIPT: u64 = 1_073_741_824;
@@ -51,15 +48,6 @@ fn keep(bytes: &mut Vec<u8>, is_too_long: &mut bool, byte: u8) -> Result<(), Scr
         Ok(()) => Ok(()),
         Err(_) => Err(ScriptFault::NoMemory),
     }
-}
-
-/// Whether all bytes are spaces, tabs and CR.
-pub(crate) fn is_space(bytes: &[u8]) -> bool
-    ensures { result ≡ list_all is_space bytes.now }
-{
-    bytes
-        .iter()
-        .all(|byte| *byte == b' ' || *byte == b'\t' || *byte == b'\r')
 }
 
 /// How many bytes stand before the first line feed, at most so many.

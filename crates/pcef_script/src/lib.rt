@@ -1,14 +1,15 @@
 //! Runs a script: `run_script` reads lines, does what they ask for, and writes an answer for each; `answer_alone`
-//! answers a line without a script around it.
+//! answers a line without a script around it; `first_line`, `is_blank` and `line_of` read the lines of an input.
 //!
 //! Its contracts say: what was written for what was read, and how many lines are at fault; the answer that a script
 //! gives to one line.
 //!
-//! In the order of reading: `fault`, `reading`, `step`, `writing`, `input`, `lone_line`, `running`, `run`.
+//! In the order of reading: `fault`, `lines`, `reading`, `step`, `writing`, `input`, `lone_line`, `running`, `run`.
 #![tactic(auto)]
 
 mod fault;
 mod input;
+mod lines;
 mod lone_line;
 mod reading;
 mod run;
@@ -17,6 +18,7 @@ mod step;
 mod writing;
 
 pub use fault::ScriptFault;
+pub use lines::{MAX_LINE, first_line, is_blank, line_of};
 pub use lone_line::answer_alone;
 pub use reading::read_some;
 pub use run::run_script;

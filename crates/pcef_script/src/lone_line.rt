@@ -6,9 +6,9 @@ ghost use Rattle.pcef_model.specs.Journals.{report_count};
 ghost use Rattle.pcef_script.specs.LineAnswers.{AnswersBy};
 ghost use Rattle.pcef_script.specs.LoneLines.{AnswersAlone};
 ghost use Rattle.pcef_script.specs.ScriptAnswers.{LineDue};
-ghost use Rattle.pcef_script.specs.ScriptLines.{is_blank, within_limit};
+ghost use Rattle.pcef_script.specs.ScriptLines.{within_limit};
 
-use crate::input::{MAX_LINE, is_space};
+use crate::lines::{MAX_LINE, is_blank};
 use crate::step::{Answer, answer_line, answer_too_long};
 use pcef_catalog::Detects;
 use pcef_line::LineReader;
@@ -24,13 +24,6 @@ fn within_limit(line: &[u8]) -> Option<&[u8]>
     } else {
         Some(line)
     }
-}
-
-/// Whether a script leaves the line without an answer.
-fn is_blank(line: &[u8]) -> bool
-    ensures { result ≡ is_blank line.now }
-{
-    line.len() <= MAX_LINE && is_space(line)
 }
 
 fn answer_of<C: Detects>(

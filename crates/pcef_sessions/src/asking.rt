@@ -6,12 +6,10 @@ ghost use Rattle.serde_json.specs.View.{members_view, view};
 ghost use Rattle.pcef_sessions.specs.Asked.{asked_at, asked_of, asked_text, each_key, end_at, has_only, is_end_field, is_open_field, open_at, open_with};
 
 use pcef_packet::Addr;
+use pcef_script::MAX_LINE;
 use serde_json::{Map, Value};
 use std::alloc::{AllocError, Global};
 use std::str;
-
-/// The most octets of a script's line.
-const MAX_LINE: usize = 262_144;
 
 /// Why a line that opens a session or ends one isn't right.
 #[derive(Clone, Copy, Debug, PartialEq, Eq)]

@@ -3,16 +3,12 @@
 ghost use Rattle.std.specs.Prelude.{◌≡◌, Some, None, if◌then◌else◌};
 ghost use Rattle.std.specs.Option.{option_map};
 ghost use Rattle.pcef_line.specs.LineValues.{is_name};
-ghost use Rattle.std.specs.List.{list_all};
-ghost use Rattle.pcef_script.specs.ScriptLines.{is_blank, is_space};
 ghost use Rattle.pcef_sessions.specs.Addressed.{addressed, at_space};
 
 use memchr::memchr;
 use pcef_rule::Name;
+use pcef_script::is_blank;
 use std::str;
-
-/// The most octets of a script's line.
-const MAX_LINE: usize = 262_144;
 
 /// Marks the name of a session.
 #[derive(Clone, Copy, Debug, PartialEq, Eq)]
@@ -42,20 +38,6 @@ fn at_space(line: &[u8]) -> Option<(&[u8], &[u8])>
         Some(place) => Some((line.split_at(place).0, line.split_at(place + 1).1)),
         None => None,
     }
-}
-
-/// Whether all octets are spaces, tabs and CR.
-fn is_space(octets: &[u8]) -> bool
-    ensures { result ≡ list_all is_space octets.now }
-{
-    octets.iter().all(|octet| *octet == b' ' || *octet == b'\t' || *octet == b'\r')
-}
-
-/// Whether a line of a script gets no answer.
-pub(crate) fn is_blank(line: &[u8]) -> bool
-    ensures { result ≡ is_blank line.now }
-{
-    line.len() <= MAX_LINE && is_space(line)
 }
 
 /// The name of the session that a line is for, and the line that the session gets, if there are both.

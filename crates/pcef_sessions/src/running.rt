@@ -8,7 +8,7 @@ ghost use Rattle.pcef_sessions.specs.Sayings.{said_of};
 ghost use Rattle.pcef_sessions.specs.Served.{name_bytes, said_bytes};
 ghost use Rattle.pcef_sessions.specs.private.Running.{EndsAll, FailsAtEnd, KeepsMore, ReadsAll, StopsIn};
 
-use crate::name::{SessionName, is_blank};
+use crate::name::SessionName;
 use crate::saying::NamedAnswer;
 use crate::sessions::Sessions;
 use memchr::memchr;

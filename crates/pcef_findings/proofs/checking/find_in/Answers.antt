@@ -1,9 +1,8 @@
 use Rattle.std.proofs.Common.{rules, ◌≡◌, ◌∙◌, ◌+◌, ◌++◌, ◌∷◌, [], length, length-append, append_assoc, ap, arith, refl, subst, sym}
 use Rattle.std.specs.Prelude.{Some, None, option_map}
-use Rattle.pcef_script.specs.Scripts.{all_lines}
+use Rattle.pcef_script.specs.Scripts.{IsFirstLine, all_lines}
 use Rattle.pcef_world.specs.Steps.{standing_of}
 use Rattle.pcef_findings.specs.Findings.{Finds}
-use Rattle.pcef_findings.specs.private.FirstLines.{IsFirstLine}
 use Rattle.pcef_findings.proofs.Findings.{finds_added}
 use Rattle.pcef_findings.proofs.checking.find_in.Goals as goal
 

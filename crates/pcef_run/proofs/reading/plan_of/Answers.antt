@@ -1,8 +1,8 @@
 use Rattle.std.proofs.Common.{rules, ◌≡◌, ◌∙◌, ◌+◌, ◌++◌, ◌∷◌, [], List, ℕ, length, length-append, append_assoc, ap, arith, refl, subst, sym}
 use Rattle.std.specs.Prelude.{Some, None, option_map}
-use Rattle.pcef_script.specs.Scripts.{all_lines}
-use Rattle.pcef_run.specs.Plans.{ArePlanned, IsFirstLine}
-use Rattle.pcef_run.proofs.FirstLines.{first_then}
+use Rattle.pcef_script.specs.Scripts.{IsFirstLine, all_lines}
+use Rattle.pcef_run.specs.Plans.{ArePlanned}
+use Rattle.pcef_script.proofs.FirstLines.{first_then}
 use Rattle.pcef_run.proofs.PlanInputs.{fails_at}
 use Rattle.pcef_run.proofs.reading.plan_of.Goals as goal
 

@@ -1,4 +1,4 @@
-//! The lines of an input.
+//! The lines of an input that is at hand whole.
 
 ghost use Rattle.std.specs.Prelude.{◌≡◌, Result, option_map};
 ghost use Rattle.std.specs.List.{list_all};
@@ -7,7 +7,7 @@ ghost use Rattle.pcef_line.specs.declared.line.Line.{Line};
 ghost use Rattle.pcef_line.specs.declared.fault.LineFault.{LineFault};
 ghost use Rattle.pcef_script.specs.ScriptAnswers.{LineDue};
 ghost use Rattle.pcef_script.specs.ScriptLines.{is_blank, is_space};
-ghost use Rattle.pcef_findings.specs.private.FirstLines.{IsFirstLine};
+ghost use Rattle.pcef_script.specs.Scripts.{IsFirstLine};
 
 use memchr::memchr;
 use pcef_line::{Line, LineFault, LineReader};
@@ -15,9 +15,10 @@ use std::alloc::Global;
 use std::str;
 
 /// The most bytes of a line, without its line feed.
-const MAX_LINE: usize = 262_144;
+pub const MAX_LINE: usize = 262_144;
 
-fn is_space(bytes: &[u8]) -> bool
+/// Whether all bytes are spaces, tabs and CR.
+pub(crate) fn is_space(bytes: &[u8]) -> bool
     ensures { result ≡ list_all is_space bytes.now }
 {
     bytes
@@ -25,15 +26,15 @@ fn is_space(bytes: &[u8]) -> bool
         .all(|byte| *byte == b' ' || *byte == b'\t' || *byte == b'\r')
 }
 
-/// Whether a line gets no answer: it is within the limit and holds only spaces, tabs and CR.
-pub(crate) fn is_blank(line: &[u8]) -> bool
+/// Whether a script leaves a line without an answer: it has at most [`MAX_LINE`] bytes, all of them spaces, tabs and CR.
+pub fn is_blank(line: &[u8]) -> bool
     ensures { result ≡ is_blank line.now }
 {
     line.len() <= MAX_LINE && is_space(line)
 }
 
 /// The first line of an input, and what follows its line feed, if one ends it.
-pub(crate) fn first_line(input: &[u8]) -> (&[u8], Option<&[u8]>)
+pub fn first_line(input: &[u8]) -> (&[u8], Option<&[u8]>)
     ensures { IsFirstLine input.now result.0.now (option_map (λ rest. rest.now) result.1) }
 {
     let Some(place) = memchr(b'\n', input) else {
@@ -43,12 +44,9 @@ pub(crate) fn first_line(input: &[u8]) -> (&[u8], Option<&[u8]>)
     (line, Some(rest.split_at(1).1))
 }
 
-/// What a line is, or its first fault. Takes memory for it, and may answer want of it.
-pub(crate) fn line_of(
-    alloc: Global,
-    reader: &mut LineReader,
-    bytes: &[u8],
-) -> Result<Line, LineFault>
+/// What a line asks for, or its first fault: it has more than [`MAX_LINE`] bytes, it isn't UTF-8 (RFC 3629), or the
+/// reader of lines finds one. Takes memory for the line; [`LineFault::NoMemory`] where there is none.
+pub fn line_of(alloc: Global, reader: &mut LineReader, bytes: &[u8]) -> Result<Line, LineFault>
     ensures { (due : Result Line LineFault) × LineDue bytes.now due × Gives (λ l. l) result due }
 {
     if bytes.len() > MAX_LINE {

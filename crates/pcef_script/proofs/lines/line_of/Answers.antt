@@ -3,8 +3,8 @@ use Rattle.std.specs.Prelude.{Err}
 use Rattle.pcef_line.specs.LineOf.{LineOf}
 use Rattle.pcef_line.specs.declared.fault.LineFault.TheVariants.{LineTooLong, NotUtf8}
 use Rattle.pcef_script.proofs.LineReads.{other_due, text_due}
-use Rattle.pcef_findings.proofs.LineDues.{long_due, within_due}
-use Rattle.pcef_findings.proofs.lines.line_of.Goals as goal
+use Rattle.pcef_script.proofs.LineDues.{long_due, within_due}
+use Rattle.pcef_script.proofs.lines.line_of.Goals as goal
 
 pub returns-then-bytes-gt-MAX_LINE : goal.returns-then-bytes-gt-MAX_LINE
 returns-then-bytes-gt-MAX_LINE c = (Err LineTooLong, long_due c.args.bytes.now c.if-bytes-gt-MAX_LINE.true, inr refl)

@@ -1,5 +1,5 @@
-use Rattle.pcef_run.proofs.FirstLines.{first_alone, first_found}
-use Rattle.pcef_run.proofs.reading.first_line.Goals as goal
+use Rattle.pcef_script.proofs.FirstLines.{first_alone, first_found}
+use Rattle.pcef_script.proofs.lines.first_line.Goals as goal
 
 pub returns-in_default : goal.returns-in_default
 returns-in_default c = first_alone c.args.input.now c.in_default.ensures

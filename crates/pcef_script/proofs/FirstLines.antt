@@ -1,16 +1,15 @@
 -- The first line of an input.
-use Rattle.std.proofs.Common.{◌≡◌, ◌∙◌, ◌+◌, ◌-◌, ◌<◌, ◌≤◌, ℕ, suc, Bool, true, false, cond, eqb, List, [], ◌∷◌, ◌++◌, length, take, drop, refl, sym, ap, arith, subst}
+use Rattle.std.proofs.Common.{◌≡◌, ◌∙◌, ◌+◌, ◌<◌, ◌≤◌, ℕ, suc, false, List, [], ◌∷◌, ◌++◌, length, take, drop, refl, sym, ap, arith}
 use Rattle.std.specs.Prelude.{Option, Some, None}
 use Rattle.std.specs.Prelude.{◌==◌, slice_index}
-use Rattle.std.proofs.lemmas.Bool.{eqb-false, eqb-true, or_parts}
+use Rattle.std.proofs.lemmas.Bool.{eqb-true, or_parts}
 use Rattle.std.proofs.lemmas.List.{length-drop, take-append-drop, take_all}
 use Rattle.std.proofs.Math.Seq.{drop-cons}
 use Rattle.memchr.specs.Find.{IsFirstByte, is_byte}
 use Rattle.pcef_script.specs.ScriptLines.{has_feed}
-use Rattle.pcef_script.specs.Scripts.{all_lines, cut, joined}
+use Rattle.pcef_script.specs.Scripts.{IsFirstLine, all_lines, cut}
 use Rattle.pcef_script.proofs.Cuts.{cut_run}
 use Rattle.pcef_script.proofs.Feeds.{before_feed, without_feed}
-use Rattle.pcef_run.specs.Plans.{IsFirstLine}
 
 cut_first : (plain rest : List ℕ) → has_feed plain ≡ false → cut (plain ++ 10 ∷ rest) ≡ (plain ∷ (cut rest).0, (cut rest).1)
 unfolding cut
