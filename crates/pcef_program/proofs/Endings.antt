@@ -23,10 +23,10 @@ use Rattle.pcef_pooled.specs.Opening.{Asked}
 use Rattle.pcef_pooled.specs.declared.fault.PooledFault.TheVariants as pooled
 use Rattle.pcef_run.specs.declared.fault.PlanFault.{PlanFault}
 use Rattle.pcef_run.specs.declared.fault.PlanFault.TheVariants as plan
-use Rattle.pcef_pool_run.specs.PoolRuns.{RunsPool}
-use Rattle.pcef_pool_run.specs.declared.fault.PoolEnd.{PoolEnd}
-use Rattle.pcef_pool_run.specs.declared.fault.PoolEnd.TheVariants as pool
-use Rattle.pcef_pool_run.specs.declared.order.Order.{Order}
+use Rattle.pcef_run.specs.PoolRuns.{RunsPool}
+use Rattle.pcef_run.specs.declared.pool_end.PoolEnd.{PoolEnd}
+use Rattle.pcef_run.specs.declared.pool_end.PoolEnd.TheVariants as pool
+use Rattle.pcef_run.specs.declared.order.Order.{Order}
 use Rattle.pcef_program.specs.declared.end.End.{End}
 use Rattle.pcef_program.specs.declared.end.End.TheVariants as ending
 use Rattle.pcef_program.specs.Ends.{IsPlanEnd, end_status, lines_end, pool_end, profile_end, script_end, unread_end}

@@ -18,8 +18,8 @@ use Rattle.pcef_run.specs.declared.fault.RunEnd.TheVariants as run
 use Rattle.pcef_pool.specs.declared.pool_state.PoolFault.TheVariants as of_pool
 use Rattle.pcef_pooled.specs.declared.fault.PooledFault.{PooledFault}
 use Rattle.pcef_pooled.specs.declared.fault.PooledFault.TheVariants as pooled
-use Rattle.pcef_pool_run.specs.declared.fault.PoolEnd.{PoolEnd}
-use Rattle.pcef_pool_run.specs.declared.fault.PoolEnd.TheVariants as pool
+use Rattle.pcef_run.specs.declared.pool_end.PoolEnd.{PoolEnd}
+use Rattle.pcef_run.specs.declared.pool_end.PoolEnd.TheVariants as pool
 use Rattle.pcef_program.specs.declared.end.End.{End}
 use Rattle.pcef_program.specs.declared.end.End.TheVariants as end
 

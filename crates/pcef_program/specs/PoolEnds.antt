@@ -10,10 +10,10 @@ use Rattle.pcef_profile.specs.ProfileOf.{GivesProfile, ProfileOf}
 use Rattle.pcef_profile.specs.declared.fault.ReadProfileFault.{ReadProfileFault}
 use Rattle.pcef_pooled.specs.Opening.{Asked}
 use Rattle.pcef_run.specs.declared.fault.PlanFault.{PlanFault}
-use Rattle.pcef_pool_run.specs.Orders.{ReadsOrders}
-use Rattle.pcef_pool_run.specs.PoolRuns.{RunsPool}
-use Rattle.pcef_pool_run.specs.declared.fault.PoolEnd.{PoolEnd}
-use Rattle.pcef_pool_run.specs.declared.order.Order.{Order}
+use Rattle.pcef_run.specs.Orders.{ReadsOrders}
+use Rattle.pcef_run.specs.PoolRuns.{RunsPool}
+use Rattle.pcef_run.specs.declared.pool_end.PoolEnd.{PoolEnd}
+use Rattle.pcef_run.specs.declared.order.Order.{Order}
 use Rattle.pcef_program.specs.declared.end.End.{End}
 use Rattle.pcef_program.specs.declared.end.End.TheVariants as ending
 use Rattle.pcef_program.specs.Ends.{IsPlanEnd, pool_end, profile_end, unread_end}

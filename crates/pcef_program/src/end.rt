@@ -7,10 +7,9 @@ ghost use Rattle.pcef_program.specs.Ends.{IsPlanEnd, end_reason, end_status, end
 use pcef_gateway::RunFault;
 use pcef_model::OpenFault;
 use pcef_pool::PoolFault;
-use pcef_pool_run::PoolEnd;
 use pcef_pooled::PooledFault;
 use pcef_profile::ReadProfileFault;
-use pcef_run::{FirstUnfit, PlanFault, RunEnd};
+use pcef_run::{FirstUnfit, PlanFault, PoolEnd, RunEnd};
 use pcef_script::ScriptFault;
 use std::alloc::{AllocError, Global};
 use std::io::ErrorKind;

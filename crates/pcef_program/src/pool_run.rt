@@ -2,15 +2,15 @@
 
 ghost use Rattle.std.specs.Prelude.{IfErr, IfOk, length};
 ghost use Rattle.pcef_catalog.specs.Catalogs.{offers_of};
-ghost use Rattle.pcef_pool_run.specs.PoolRuns.{AreFor};
+ghost use Rattle.pcef_run.specs.PoolRuns.{AreFor};
 ghost use Rattle.pcef_program.specs.PoolEnds.{AskFor, AsksFor, EndsPool, FirstUnread, IsUnread, RanOrders, RanPool};
 
 use crate::end::{End, plan_end, pool_end, profile_end, unread_end};
 use pcef_catalog::{Catalog, Listing, Offers};
 use pcef_model::Profile;
-use pcef_pool_run::{Order, read_orders, run_pool};
 use pcef_profile::read_profile;
 use pcef_rule::Sums;
+use pcef_run::{Order, read_orders, run_pool};
 use std::alloc::Global;
 use std::io::{self, Read, Write};
 

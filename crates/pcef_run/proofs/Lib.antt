@@ -1,7 +1,9 @@
 pub mod KeyLines
 pub mod Obeyings
+pub mod OrderLines
 pub mod PlanInputs
 pub mod PlanLines
 pub mod PlannedArrivals
+pub mod PoolAnswers
 pub mod RunFaults
 pub mod Splits

@@ -1,5 +1,7 @@
 pub mod Inputs
+pub mod Orders
 pub mod Plans
+pub mod PoolRuns
 pub mod Reasons
 pub mod Runs
 pub mod Summaries

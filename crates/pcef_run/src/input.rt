@@ -15,7 +15,7 @@ const MAX_INPUT: usize = 1_073_741_824;
 /// them.
 ///
 /// Answers the first [`PlanFault`] that it meets: that of the reader, an input that is too long, or out of memory.
-pub fn read_all<R: Read>(alloc: Global, reader: &mut R) -> Result<Vec<u8>, PlanFault>
+pub(crate) fn read_all<R: Read>(alloc: Global, reader: &mut R) -> Result<Vec<u8>, PlanFault>
     ensures all { IfOk result (λ bytes.
         IsRead bytes.items (R.remaining reader.old) (R.remaining reader.new)) }
     ensures fault { IfErr result (λ e.

@@ -50,7 +50,7 @@ pub enum Untaken {
 }
 
 /// Why a line that wasn't read isn't taken.
-pub fn untaken_for(fault: LineFault) -> Untaken
+pub(crate) fn untaken_for(fault: LineFault) -> Untaken
     ensures { result ≡ untaken_by fault }
 {
     match fault {

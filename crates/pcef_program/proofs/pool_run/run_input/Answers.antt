@@ -1,9 +1,9 @@
 use Rattle.std.proofs.Common.{rules, ◌≡◌, inl, inr, length, subst}
 use Rattle.std.specs.Prelude.{Ok, Err}
 use Rattle.std.proofs.KnownBytes.{Keeps-refl}
-use Rattle.pcef_pool_run.specs.Orders.{ReadsOrders}
-use Rattle.pcef_pool_run.specs.PoolRuns.{AreFor}
-use Rattle.pcef_pool_run.proofs.OrderLines.{orders_known}
+use Rattle.pcef_run.specs.Orders.{ReadsOrders}
+use Rattle.pcef_run.specs.PoolRuns.{AreFor}
+use Rattle.pcef_run.proofs.OrderLines.{orders_known}
 use Rattle.pcef_program.proofs.pool_run.run_input.Goals as goal
 
 pub run_orders-requires : goal.run_orders-requires

@@ -1,2 +1,0 @@
-pub mod OrderLines
-pub mod PoolAnswers

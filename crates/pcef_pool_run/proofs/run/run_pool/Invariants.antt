@@ -1,7 +1,0 @@
-use Rattle.std.specs.Prelude.{true}
-use Rattle.pcef_share.specs.Names.{name_at}
-use Rattle.pcef_pool_run.proofs.run.run_pool.Given as goal
-
--- the name of the pool, of the blanks
-abbrev pub ghosts-run_named : goal.ghosts-run_named
-ghosts-run_named g a = record { ledger = name_at a.blanks; is_there = true }
