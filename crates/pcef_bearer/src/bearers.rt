@@ -11,7 +11,6 @@ ghost use Rattle.pcef_model.specs.Refusals.{first_of, over_room};
 
 use crate::ids::{count_on, finds_no_bearer, id_excluding, is_present};
 use crate::lookup::{bound_under, drop_named, drop_taken, has_name, put};
-use crate::places::Places;
 use crate::rates::{is_over, is_over_room, sums_excluding, sums_of, sums_of_all, sums_on};
 use pcef_model::{Command, OpenFault, Refusal};
 use pcef_rule::{BearerId, Kind, QciTable, Qos, Rates, RuleName, Sums};
@@ -33,6 +32,9 @@ pub struct Bound {
     /// Its bearer.
     pub bearer: BearerId,
 }
+
+/// Memory for rules that are bound later.
+pub type Places = pcef_lists::Places<Bound>;
 
 /// What a rule leaves that is no longer bound.
 #[derive(Clone, Copy, Debug, PartialEq, Eq)]

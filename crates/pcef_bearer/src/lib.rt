@@ -2,15 +2,13 @@
 //!
 //! Its contracts say: the bearer of a rule, or why the rule can't be bound.
 //!
-//! In the order of reading: `places`, `lookup`, `ids`, `rates`, `bearers`.
+//! In the order of reading: `lookup`, `ids`, `rates`, `bearers`.
 #![tactic(auto)]
 
 mod bearers;
 mod ids;
 mod lookup;
-mod places;
 mod rates;
 
-pub use bearers::{Bearers, Bound, MAX_BOUND, Released};
+pub use bearers::{Bearers, Bound, MAX_BOUND, Places, Released};
 pub use ids::DEFAULT_BEARER;
-pub use places::Places;

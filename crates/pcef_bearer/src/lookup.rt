@@ -7,8 +7,7 @@ ghost use Rattle.pcef_model.specs.Commands.{takes_away};
 ghost use Rattle.pcef_model.specs.Setting.{same_flag, same_qos};
 ghost use Rattle.pcef_bearer.specs.Bindings.{is_named, kept_by, put, without, HasRoom};
 
-use crate::bearers::Bound;
-use crate::places::Places;
+use crate::bearers::{Bound, Places};
 use pcef_model::Command;
 use pcef_rule::{Qos, RuleName};
 

@@ -9,8 +9,7 @@ ghost use Rattle.pcef_usage.specs.Counted.{IsEvent};
 ghost use Rattle.pcef_usage.specs.Keys.{CanCount, HasPlaceFor, at_place, finds_no_slot, keys_of, place_of, reported_on, started, state_at, stopped, with_octets, with_slot, with_started};
 ghost use Rattle.pcef_usage.specs.PendingReports.{Knows, KnowsAll, after_stop, after_report, body_by, states_stopped, after_reports, thresholds_at, after_thresholds, with_report, with_thresholds, appended};
 
-use crate::key_places::KeyPlaces;
-use crate::usage::{KeyState, Usage};
+use crate::usage::{KeyPlaces, KeyState, Usage};
 use pcef_journal::Journal;
 use pcef_model::{Body, Cause, Entry, InactiveCause, Level, PendingReport, Report, Row};
 use pcef_rule::{KeyName, Slot};

@@ -3,13 +3,11 @@
 //! Its contracts say: what each call does to the counter of its slot and to no other; what is reported tells exactly
 //! what the counters hold.
 //!
-//! In the order of reading: `key_places`, `usage`, `counted`.
+//! In the order of reading: `usage`, `counted`.
 #![tactic(auto)]
 
 mod counted;
-mod key_places;
 mod usage;
 
 pub use counted::CountedJournal;
-pub use key_places::KeyPlaces;
-pub use usage::{KeyState, MAX_KEYS, SlotFault, Usage, is_same_level};
+pub use usage::{KeyPlaces, KeyState, MAX_KEYS, SlotFault, Usage, is_same_level};

@@ -4,7 +4,6 @@ ghost use Rattle.std.specs.Prelude.{◌≡◌, ◌<◌, ◌≤◌, ◌+◌, ◌^
 ghost use Rattle.pcef_model.specs.Setting.{same_level};
 ghost use Rattle.pcef_usage.specs.Keys.{FitsMore, HasPlaceFor, IsSlotOf, added, at_place, clashes, finds_no_slot, fresh, has_slot, is_reached, keys_of, place_if, place_of, places_of, reached_places, reported_on, started, state_at, stopped, ungranted_if_reached, with_slot};
 
-use crate::key_places::KeyPlaces;
 use arrayvec::ArrayVec;
 use pcef_model::Level;
 use pcef_rule::{KeyName, Slot};
@@ -45,6 +44,9 @@ pub struct KeyState {
     /// The octets that were counted and not reported.
     pub unreported: u64,
 }
+
+/// Memory for keys that get a slot later.
+pub type KeyPlaces = pcef_lists::Places<KeyState>;
 
 impl KeyState {
     fn start(&mut self, amount: u64)
