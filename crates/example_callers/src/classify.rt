@@ -16,7 +16,7 @@ use pcef_index::Indexed;
 use pcef_model::Verdict;
 use pcef_packet::{Addr, Dir, PacketFault, read_header};
 use pcef_rule::{Arp, BearerId, Gate, Properties, Qci, Qos, Rule, RuleName};
-use pcef_table::{Entry, Source, Table};
+use pcef_table::{Source, Table, TableEntry};
 use std::alloc::Global;
 use std::io;
 
@@ -57,7 +57,7 @@ fn dns_table(alloc: Global, catalog: &Catalog) -> Option<Indexed>
     // Whoever asks a table for a verdict shows that it is one: its rules in order, and each of them known.
     ensures { IfSome result (λ t. IsTable (offers_of catalog.now) t.entries) }
 {
-    let entry = Entry {
+    let entry = TableEntry {
         source: Source::Dynamic(dns_rule(alloc)?),
         bearer: BearerId(5),
         // No monitoring key counts what passes.

@@ -13,7 +13,7 @@ use pcef_built_in::ShapedCatalog;
 use pcef_catalog::Offers;
 use pcef_line::LineReader;
 use pcef_profile::read_profile;
-use pcef_script::{Answer, answer_alone};
+use pcef_script::{LineAnswer, answer_alone};
 use pcef_world::WorldState;
 use std::alloc::Global;
 use std::io;
@@ -60,7 +60,7 @@ fn answer_line(
     world: &mut WorldState,
     lines: &mut LineReader,
     line: &str,
-) -> Option<Answer>
+) -> Option<LineAnswer>
     requires { catalog.now ≡ world.old.session.setting.catalog }
     // What is proved of it: the answer is that of a script, and the session stands as after that line.
     ensures answer { IfSome result (λ a. AnswersAlone line.now world.old (Some a) world.new) }

@@ -15,7 +15,7 @@ use pcef_lock::{Desk, Finished, Shared, Totals, open_history};
 use pcef_model::Command;
 use pcef_packet::{Dir, read_header};
 use pcef_profile::read_profile;
-use pcef_publish::{Board, Opened, Slot};
+use pcef_publish::{Board, Cell, Opened};
 use pcef_rule::RuleName;
 use pcef_share::{Blanks, Naming};
 use pcef_worker::{OpenGate, Worker};
@@ -47,7 +47,7 @@ fn session(alloc: Global, catalog: &ShapedCatalog) -> Option<JournaledState>
 }
 
 /// At the desk: a predefined rule is activated.
-fn at_the_desk<C: Offers + Drop, N: Naming, W: Board<Slot<N>> + Drop, R: Wait>(
+fn at_the_desk<C: Offers + Drop, N: Naming, W: Board<Cell<N>> + Drop, R: Wait>(
     rt: &R,
     shared: &Shared<C, N, W>,
     desk: Desk<N>,
@@ -59,7 +59,7 @@ fn at_the_desk<C: Offers + Drop, N: Naming, W: Board<Slot<N>> + Drop, R: Wait>(
 }
 
 /// The worker: takes a packet three times, judged by the newest rules that it finds, hands the rows over and leaves.
-fn work<C: Detects + Drop, N: Naming, W: Board<Slot<N>> + Drop, R: Wait>(
+fn work<C: Detects + Drop, N: Naming, W: Board<Cell<N>> + Drop, R: Wait>(
     rt: &R,
     alloc: Global,
     shared: &Shared<C, N, W>,
@@ -78,7 +78,7 @@ fn work<C: Detects + Drop, N: Naming, W: Board<Slot<N>> + Drop, R: Wait>(
 fn totals<
     C: Detects + Drop + Send + Sync,
     N: Naming + Send + Sync,
-    W: Board<Slot<N>> + Drop + Send,
+    W: Board<Cell<N>> + Drop + Send,
     R: Threads + Wait + Sync,
 >(rt: &R, alloc: Global, shared: Shared<C, N, W>, desk: Desk<N>) -> Option<Totals>
     // What is proved of it: of each key all that was counted is what was reported and what wasn't.

@@ -13,7 +13,7 @@ use Rattle.pcef_model.specs.declared.level.Level.{Level}
 use Rattle.pcef_model.specs.declared.level.Level.TheVariants.{Rule, Session}
 use Rattle.pcef_usage.specs.declared.usage.KeyState.{KeyState}
 use Rattle.pcef_session.specs.Agreement.{KeyAgrees, KeysAgree}
-use Rattle.pcef_table.specs.declared.entry.Entry.{Entry}
+use Rattle.pcef_table.specs.declared.entry.TableEntry.{TableEntry}
 use Rattle.pcef_bearer.specs.declared.bearers.Bound.{Bound}
 use Rattle.pcef_bearer.specs.Bindings.{Binding}
 use Rattle.std.specs.Prelude.{ℕ}
@@ -36,7 +36,7 @@ after_reports p j [] all = refl
 after_reports p j (s ∷ states) all =
     ap (λ d. d ∷ map state_data states) (state_told p j s all.0) ∙ ap (λ ds. journal_key_data p j s.key ∷ ds) (after_reports p j states all.1)
 
-pub kept_told : (p : Setting) (j : Journal) (entries : List Entry) (binding : Binding) (generation : ℕ) (keys : List KeyState) → binding ≡ binding_of p (now p j) → generation ≡ gen j → KeysAgree p j keys →
+pub kept_told : (p : Setting) (j : Journal) (entries : List TableEntry) (binding : Binding) (generation : ℕ) (keys : List KeyState) → binding ≡ binding_of p (now p j) → generation ≡ gen j → KeysAgree p j keys →
     kept_data p.catalog entries binding.bound generation keys ≡ journal_data p j entries
 kept_told p j entries binding generation keys binding_is generation_is agrees =
     let active = active_data p.catalog entries in

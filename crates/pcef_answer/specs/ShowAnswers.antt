@@ -8,7 +8,7 @@ use Rattle.serde_json.specs.Data.{Data, Members, string, boolean, array, object,
 use Rattle.serde_json.specs.View.{items_of}
 use Rattle.serde_json.specs.Written.{compact_text}
 use Rattle.pcef_rule.specs.declared.quantity.Sums.{Sums}
-use Rattle.pcef_table.specs.declared.entry.Entry.{Entry}
+use Rattle.pcef_table.specs.declared.entry.TableEntry.{TableEntry}
 use Rattle.pcef_catalog.specs.declared.listing.Offer.{Offer}
 use Rattle.pcef_table.specs.Sources.{name_of}
 use Rattle.pcef_table.specs.Tables.{TableValue}
@@ -26,10 +26,10 @@ use Rattle.pcef_answer.specs.FaultAnswers.{count}
 
 -- ---- rules
 -- the name of an entry's rule
-abbrev pub entry_data : List Offer → Entry → Data
+abbrev pub entry_data : List Offer → TableEntry → Data
 entry_data offers e = string (name_of offers e.source)
 
-abbrev pub active_data : List Offer → List Entry → Data
+abbrev pub active_data : List Offer → List TableEntry → Data
 active_data offers entries = array (items_of (map (entry_data offers) entries))
 
 -- ---- bearers
@@ -83,7 +83,7 @@ session_data active bearers generation keys =
 
 -- the active rules in the order of a table, the bearers by id, the number of the newest generation, and
 -- the keys in slot order
-abbrev pub journal_data : Setting → Journal → List Entry → Data
+abbrev pub journal_data : Setting → Journal → List TableEntry → Data
 journal_data p j entries =
     session_data (active_data p.catalog entries) (bearers_data (bound_of (now p j) (now p j).rules)) (gen j)
     (array (items_of (map (journal_key_data p j) (slots p j))))
@@ -103,7 +103,7 @@ state_data s = key_data s.key s.level s.on s.reported s.unreported
 abbrev pub states_data : List KeyState → Data
 states_data states = array (items_of (map state_data states))
 
-abbrev pub kept_data : List Offer → List Entry → List Bound → ℕ → List KeyState → Data
+abbrev pub kept_data : List Offer → List TableEntry → List Bound → ℕ → List KeyState → Data
 kept_data offers entries bound generation keys = session_data (active_data offers entries) (bearers_data bound) generation (states_data keys)
 
 -- the text of a key's level, where it has one

@@ -13,7 +13,7 @@ use pcef_catalog::Listing;
 use pcef_model::Level;
 use pcef_rule::{BearerId, Sums};
 use pcef_session::SessionState;
-use pcef_table::Entry;
+use pcef_table::TableEntry;
 use pcef_usage::KeyState;
 use std::alloc::{AllocError, Global};
 
@@ -36,7 +36,7 @@ pub fn show_answer(alloc: Global, session: &SessionState) -> Result<String, Allo
 fn push_shown(
     text: &mut String,
     listing: &Listing,
-    entries: &[Entry],
+    entries: &[TableEntry],
     bearers: &Bearers,
     generation: u32,
     states: &[KeyState],
@@ -53,7 +53,11 @@ fn push_shown(
     text.push_str("}")
 }
 
-fn push_active(text: &mut String, listing: &Listing, entries: &[Entry]) -> Result<(), AllocError>
+fn push_active(
+    text: &mut String,
+    listing: &Listing,
+    entries: &[TableEntry],
+) -> Result<(), AllocError>
     requires { All (λ e. IsKnown listing.now e.source) entries.now }
     ensures { OnOk result (GoesOn text.old text.new
         (codes "{\"active\":" ++ compact_text (active_data listing.now entries.now))) }
@@ -71,7 +75,7 @@ fn push_entry(
     text: &mut String,
     later: bool,
     listing: &Listing,
-    entry: &Entry,
+    entry: &TableEntry,
 ) -> Result<(), AllocError>
     requires { IsKnown listing.now entry.now.source }
     ensures { OnOk result (GoesOn text.old text.new

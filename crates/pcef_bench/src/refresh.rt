@@ -17,7 +17,7 @@ ghost use Rattle.std.specs.Arc.{arc_value};
 use crate::arguments::number;
 use crate::laps::Lap;
 use pcef_index::Indexed;
-use pcef_publish::{Board, Opened, Publisher, Slot, Subscriber};
+use pcef_publish::{Board, Cell, Opened, Publisher, Subscriber};
 use pcef_share::Naming;
 use std::alloc::{AllocError, Global};
 use std::io;
@@ -118,7 +118,7 @@ struct Reached {
 
 /// Publishes the next table, and lets each subscriber refresh. Where it is timed, so many owners of tables are swapped
 /// beside them.
-fn publish_next<N: Naming, W: Board<Slot<N>> + Drop, C: Clock>(
+fn publish_next<N: Naming, W: Board<Cell<N>> + Drop, C: Clock>(
     clock: &C,
     alloc: Global,
     load: Load,
@@ -139,7 +139,7 @@ fn publish_next<N: Naming, W: Board<Slot<N>> + Drop, C: Clock>(
 }
 
 /// Publishes all tables: the newest generation, the one that the last subscriber holds, and what it took.
-fn publish_all<N: Naming, W: Board<Slot<N>> + Drop, C: Clock>(
+fn publish_all<N: Naming, W: Board<Cell<N>> + Drop, C: Clock>(
     clock: &C,
     alloc: Global,
     load: Load,

@@ -10,7 +10,7 @@ use pcef_session::SessionState;
 use std::alloc::{AllocError, Global};
 
 /// The answer to a command.
-pub type Answer = Result<Accepted, Refusal>;
+pub type CommandAnswer = Result<Accepted, Refusal>;
 
 /// What a session's run comes to.
 #[derive(Drop)]
@@ -20,7 +20,7 @@ pub struct Ended {
     /// How many packets workers dropped whose flush had been refused.
     pub dropped: u64,
     /// The answer to each command, in order.
-    pub answers: Vec<Answer>,
+    pub answers: Vec<CommandAnswer>,
     /// All reports of the journal, in order.
     pub reports: Vec<Report>,
 }

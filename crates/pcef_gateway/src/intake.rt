@@ -11,14 +11,14 @@ ghost use Rattle.pcef_gateway.specs.Serving.{HandsIn};
 ghost use Rattle.pcef_gateway.specs.Taking.{taken};
 
 use crate::arrivals::Arrival;
-use crate::ended::Answer;
+use crate::ended::CommandAnswer;
 use crate::fault::Failure;
 use crate::lent::Lent;
-use crate::line::{Closed, Line};
+use crate::worker_ring::{Closed, WorkerRing};
 use pcef_catalog::{Detects, Offers};
 use pcef_lock::{Desk, Finished, Shared};
 use pcef_model::{Command, Refusal};
-use pcef_publish::{Board, Slot};
+use pcef_publish::{Board, Cell};
 use pcef_share::Naming;
 use pcef_worker::{Gate, Worker};
 use std::alloc::Global;
@@ -57,7 +57,7 @@ fn with_number<C: Detects + Drop, N: Naming, G: Gate + Drop>(
 }
 
 /// Attaches the worker of this number, to which the gate is lent.
-fn attach_worker<'g, C: Detects + Drop, N: Naming, W: Board<Slot<N>> + Drop, G: Gate, R: Wait>(
+fn attach_worker<'g, C: Detects + Drop, N: Naming, W: Board<Cell<N>> + Drop, G: Gate, R: Wait>(
     rt: &R,
     alloc: Global,
     shared: &Shared<C, N, W>,
@@ -78,7 +78,7 @@ fn start_worker<
     E,
     C: Detects + Drop + Send + Sync,
     N: Naming + Send + Sync,
-    W: Board<Slot<N>> + Drop + Send,
+    W: Board<Cell<N>> + Drop + Send,
     G: Gate + Sync,
     R: Threads + Wait + Sync,
 >(
@@ -88,11 +88,11 @@ fn start_worker<
     shared: &'s Shared<C, N, W>,
     gate: &'s G,
     number: u8,
-) -> Result<Line<N>, Failure>
+) -> Result<WorkerRing<N>, Failure>
     ensures { IfOk result (λ line. line ≡ []) }
 {
     match attach_worker(rt, alloc, shared, gate, number) {
-        Ok(worker) => Line::start(rt, scope, alloc, shared, worker),
+        Ok(worker) => WorkerRing::start(rt, scope, alloc, shared, worker),
         Err(failure) => Err(failure),
     }
 }
@@ -103,7 +103,7 @@ fn start_next<
     E,
     C: Detects + Drop + Send + Sync,
     N: Naming + Send + Sync,
-    W: Board<Slot<N>> + Drop + Send,
+    W: Board<Cell<N>> + Drop + Send,
     G: Gate + Sync,
     R: Threads + Wait + Sync,
 >(
@@ -113,7 +113,7 @@ fn start_next<
     shared: &'s Shared<C, N, W>,
     gate: &'s G,
     number: u8,
-    lines: &mut Vec<Line<N>>,
+    lines: &mut Vec<WorkerRing<N>>,
 ) -> Result<(), Failure>
     ensures many { OnOk result (vec_len lines.new ≡ vec_len lines.old + 1) }
     ensures empty { All (λ line. line ≡ []) lines.old.items
@@ -131,7 +131,7 @@ pub(crate) fn start_all<
     E,
     C: Detects + Drop + Send + Sync,
     N: Naming + Send + Sync,
-    W: Board<Slot<N>> + Drop + Send,
+    W: Board<Cell<N>> + Drop + Send,
     G: Gate + Sync,
     R: Threads + Wait + Sync,
 >(
@@ -141,7 +141,7 @@ pub(crate) fn start_all<
     shared: &'s Shared<C, N, W>,
     gate: &'s G,
     workers: u8,
-) -> Result<Vec<Line<N>>, Failure>
+) -> Result<Vec<WorkerRing<N>>, Failure>
     ensures many { IfOk result (λ lines. vec_len lines ≡ workers) }
     ensures empty { IfOk result (λ lines. All (λ line. line ≡ []) lines.items) }
 {
@@ -155,7 +155,7 @@ pub(crate) fn start_all<
 /// Leads each packet to its worker. Waits while that one's ring is full.
 pub(crate) fn feed<N: Naming + Send + Sync, R: Wait>(
     rt: &R,
-    lines: &mut [Line<N>],
+    lines: &mut [WorkerRing<N>],
     arrivals: &[Arrival],
 )
     requires known { All (λ a. a.worker < length lines.old) arrivals.now }
@@ -168,12 +168,12 @@ pub(crate) fn feed<N: Naming + Send + Sync, R: Wait>(
 }
 
 /// Gives a command, and keeps its answer. Fails when out of memory.
-fn give<C: Offers + Drop, N: Naming, W: Board<Slot<N>> + Drop, R: Wait>(
+fn give<C: Offers + Drop, N: Naming, W: Board<Cell<N>> + Drop, R: Wait>(
     rt: &R,
     shared: &Shared<C, N, W>,
     desk: &mut Desk<N>,
     command: Command,
-) -> Result<Answer, Failure>
+) -> Result<CommandAnswer, Failure>
     ensures listed { IfOk result (λ a. desk.new.commands ≡ listed a command desk.old.commands) }
     ensures memory { IfOk result FoundMemory }
 {
@@ -184,12 +184,12 @@ fn give<C: Offers + Drop, N: Naming, W: Board<Slot<N>> + Drop, R: Wait>(
 }
 
 /// Gives a command, and puts its answer at the end.
-fn give_next<C: Offers + Drop, N: Naming, W: Board<Slot<N>> + Drop, R: Wait>(
+fn give_next<C: Offers + Drop, N: Naming, W: Board<Cell<N>> + Drop, R: Wait>(
     rt: &R,
     shared: &Shared<C, N, W>,
     desk: &mut Desk<N>,
     command: Command,
-    answers: &mut Vec<Answer>,
+    answers: &mut Vec<CommandAnswer>,
 ) -> Result<(), Failure>
     ensures { (first given : List Command)
         → HaveAnswers first given desk.old.commands answers.old.items
@@ -204,15 +204,15 @@ fn give_next<C: Offers + Drop, N: Naming, W: Board<Slot<N>> + Drop, R: Wait>(
 
 /// Leads packets to the workers and gives the commands meanwhile, which stand evenly among the packets. An answer for
 /// each command.
-pub(crate) fn take_in<C: Offers + Drop, N: Naming + Send + Sync, W: Board<Slot<N>> + Drop, R: Wait>(
+pub(crate) fn take_in<C: Offers + Drop, N: Naming + Send + Sync, W: Board<Cell<N>> + Drop, R: Wait>(
     rt: &R,
     alloc: Global,
     shared: &Shared<C, N, W>,
     desk: &mut Desk<N>,
-    lines: &mut [Line<N>],
+    lines: &mut [WorkerRing<N>],
     arrivals: &[Arrival],
     commands: Vec<Command>,
-) -> Result<Vec<Answer>, Failure>
+) -> Result<Vec<CommandAnswer>, Failure>
     requires known { All (λ a. a.worker < length lines.old) arrivals.now }
     ensures packets { IfOk result (λ _. (w : ℕ) → w < length lines.old
         → slice_index_or lines.new w []
@@ -236,7 +236,7 @@ pub(crate) fn take_in<C: Offers + Drop, N: Naming + Send + Sync, W: Board<Slot<N
 /// What a worker handed in, if it had memory and is of this number.
 fn close_lines<N: Naming + Send + Sync, R: Threads>(
     rt: &R,
-    line: Line<N>,
+    line: WorkerRing<N>,
     worker: u8,
 ) -> Result<Closed<N>, Failure>
     ensures number { IfOk result (λ c. c.finished.worker ≡ worker) }
@@ -268,7 +268,7 @@ fn add<N: Naming>(handed: &mut Handed<N>, closed: Closed<N>) -> Result<(), Failu
 /// Ends the next worker's ring, waits for it, and adds what it handed in.
 fn close_next<N: Naming + Send + Sync, R: Threads>(
     rt: &R,
-    line: Line<N>,
+    line: WorkerRing<N>,
     worker: u8,
     handed: &mut Handed<N>,
 ) -> Result<(), Failure>
@@ -287,7 +287,7 @@ fn close_next<N: Naming + Send + Sync, R: Threads>(
 pub(crate) fn close_all<N: Naming + Send + Sync, R: Threads>(
     rt: &R,
     alloc: Global,
-    lines: Vec<Line<N>>,
+    lines: Vec<WorkerRing<N>>,
 ) -> Result<Handed<N>, Failure>
     requires { vec_len lines ≤ 16 }
     ensures { IfOk result (λ h. HandInTheirs lines.items h.dropped h.finished.items) }

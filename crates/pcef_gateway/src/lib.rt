@@ -3,7 +3,7 @@
 //!
 //! Its contracts say: what a session's run comes to: which packets became rows, and what all adds up to.
 //!
-//! In the order of reading: `arrivals`, `ended`, `fault`, `lent`, `serving`, `line`, `intake`, `run`.
+//! In the order of reading: `arrivals`, `ended`, `fault`, `lent`, `serving`, `worker_ring`, `intake`, `run`.
 #![tactic(auto)]
 
 mod arrivals;
@@ -11,11 +11,11 @@ mod ended;
 mod fault;
 mod intake;
 mod lent;
-mod line;
 mod run;
 mod serving;
+mod worker_ring;
 
 pub use arrivals::Arrival;
-pub use ended::{Answer, Ended};
+pub use ended::{CommandAnswer, Ended};
 pub use fault::RunFault;
 pub use run::run_session;

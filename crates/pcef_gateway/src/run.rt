@@ -14,16 +14,16 @@ ghost use Rattle.pcef_gateway.specs.Sending.{HandInArrivals};
 ghost use Rattle.pcef_gateway.specs.declared.fault.RunFault.TheVariants.{StrangeWorker, Workers};
 
 use crate::arrivals::{Arrival, are_known};
-use crate::ended::{Answer, Ended, all_reports};
+use crate::ended::{CommandAnswer, Ended, all_reports};
 use crate::fault::{Failure, RunFault};
 use crate::intake::{Handed, close_all, start_all, take_in};
-use crate::line::Line;
+use crate::worker_ring::WorkerRing;
 use pcef_catalog::{Detects, Offers};
 use pcef_journaled::JournaledState;
 use pcef_lane::MAX_WORKERS;
 use pcef_lock::{Desk, Finished, Shared, Totals, open_history};
 use pcef_model::Command;
-use pcef_publish::{Board, Opened, Slot};
+use pcef_publish::{Board, Cell, Opened};
 use pcef_share::{Blanks, Naming};
 use pcef_worker::Gate;
 use std::alloc::Global;
@@ -149,7 +149,7 @@ fn run_named<
 fn run_shared<
     C: Detects + Drop + Send + Sync,
     N: Naming + Send + Sync,
-    W: Board<Slot<N>> + Drop + Send,
+    W: Board<Cell<N>> + Drop + Send,
     G: Gate + Sync,
     R: Threads + Wait + Sync,
 >(
@@ -177,7 +177,7 @@ fn run_shared<
 #[derive(Drop)]
 struct Worked<N: Naming> {
     desk: Desk<N>,
-    answers: Vec<Answer>,
+    answers: Vec<CommandAnswer>,
     handed: Handed<N>,
 }
 
@@ -185,7 +185,7 @@ struct Worked<N: Naming> {
 fn work_all<
     C: Detects + Drop + Send + Sync,
     N: Naming + Send + Sync,
-    W: Board<Slot<N>> + Drop + Send,
+    W: Board<Cell<N>> + Drop + Send,
     G: Gate + Sync,
     R: Threads + Wait + Sync,
 >(
@@ -223,12 +223,12 @@ fn work_all<
 }
 
 /// Leads packets to workers, gives commands, and waits for the workers.
-fn lead<C: Offers + Drop, N: Naming + Send + Sync, W: Board<Slot<N>> + Drop, R: Threads + Wait>(
+fn lead<C: Offers + Drop, N: Naming + Send + Sync, W: Board<Cell<N>> + Drop, R: Threads + Wait>(
     rt: &R,
     alloc: Global,
     shared: &Shared<C, N, W>,
     desk: Desk<N>,
-    lines: Vec<Line<N>>,
+    lines: Vec<WorkerRing<N>>,
     arrivals: &[Arrival],
     commands: Vec<Command>,
 ) -> Result<Worked<N>, Failure>
@@ -252,7 +252,7 @@ fn lead<C: Offers + Drop, N: Naming + Send + Sync, W: Board<Slot<N>> + Drop, R: 
 }
 
 /// Gathers what was handed in, and compared with the journal: session and workers of a run store their rows.
-fn gather_all<C: Offers + Drop, N: Naming, W: Board<Slot<N>> + Drop, R: Wait>(
+fn gather_all<C: Offers + Drop, N: Naming, W: Board<Cell<N>> + Drop, R: Wait>(
     rt: &R,
     shared: Shared<C, N, W>,
     desk: Desk<N>,
@@ -275,7 +275,7 @@ fn gather_all<C: Offers + Drop, N: Naming, W: Board<Slot<N>> + Drop, R: Wait>(
 }
 
 /// Gathers what was handed in, and adds the reports.
-fn end<C: Offers + Drop, N: Naming, W: Board<Slot<N>> + Drop, R: Wait>(
+fn end<C: Offers + Drop, N: Naming, W: Board<Cell<N>> + Drop, R: Wait>(
     rt: &R,
     alloc: Global,
     shared: Shared<C, N, W>,

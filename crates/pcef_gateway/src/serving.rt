@@ -10,7 +10,7 @@ use pcef_catalog::Detects;
 use pcef_lock::{Finished, Shared};
 use pcef_model::FlushRefusal;
 use pcef_packet::Header;
-use pcef_publish::{Board, Slot};
+use pcef_publish::{Board, Cell};
 use pcef_session::MAX_WAITING;
 use pcef_share::Naming;
 use pcef_worker::{Gate, Worker};
@@ -48,7 +48,7 @@ impl<N: Naming> Left<N> {
 }
 
 /// Hands the waiting rows over, and reads which table is the newest.
-fn hand_over<C: Detects + Drop, N: Naming, W: Board<Slot<N>> + Drop, G: Gate + Drop, R: Wait>(
+fn hand_over<C: Detects + Drop, N: Naming, W: Board<Cell<N>> + Drop, G: Gate + Drop, R: Wait>(
     rt: &R,
     shared: &Shared<C, N, W>,
     worker: &mut Worker<C, N, G>,
@@ -65,7 +65,7 @@ fn hand_over<C: Detects + Drop, N: Naming, W: Board<Slot<N>> + Drop, G: Gate + D
 }
 
 /// Sees that fewer than 32 rows wait.
-fn make_room<C: Detects + Drop, N: Naming, W: Board<Slot<N>> + Drop, G: Gate + Drop, R: Wait>(
+fn make_room<C: Detects + Drop, N: Naming, W: Board<Cell<N>> + Drop, G: Gate + Drop, R: Wait>(
     rt: &R,
     shared: &Shared<C, N, W>,
     worker: &mut Worker<C, N, G>,
@@ -91,7 +91,7 @@ fn take<C: Detects + Drop, N: Naming, G: Gate + Drop>(worker: &mut Worker<C, N, 
 }
 
 /// While no packet comes the rows that wait are handed over.
-fn rest<C: Detects + Drop, N: Naming, W: Board<Slot<N>> + Drop, G: Gate + Drop, R: Wait>(
+fn rest<C: Detects + Drop, N: Naming, W: Board<Cell<N>> + Drop, G: Gate + Drop, R: Wait>(
     rt: &R,
     shared: &Shared<C, N, W>,
     worker: &mut Worker<C, N, G>,
@@ -107,7 +107,7 @@ fn rest<C: Detects + Drop, N: Naming, W: Board<Slot<N>> + Drop, G: Gate + Drop, 
 
 /// Takes the next packet of the ring, and hands rows over where 32 wait or no packet comes. Says whether the ring goes
 /// on, or the refusal where rows aren't taken over.
-fn serve_next<C: Detects + Drop, N: Naming, W: Board<Slot<N>> + Drop, G: Gate + Drop, R: Wait>(
+fn serve_next<C: Detects + Drop, N: Naming, W: Board<Cell<N>> + Drop, G: Gate + Drop, R: Wait>(
     rt: &R,
     shared: &Shared<C, N, W>,
     worker: &mut Worker<C, N, G>,
@@ -132,7 +132,7 @@ fn serve_next<C: Detects + Drop, N: Naming, W: Board<Slot<N>> + Drop, G: Gate + 
 }
 
 /// Takes packets till the ring ends. Ends too where rows aren't taken over, by the refusal.
-fn serve<C: Detects + Drop, N: Naming, W: Board<Slot<N>> + Drop, G: Gate + Drop, R: Wait>(
+fn serve<C: Detects + Drop, N: Naming, W: Board<Cell<N>> + Drop, G: Gate + Drop, R: Wait>(
     rt: &R,
     shared: &Shared<C, N, W>,
     worker: &mut Worker<C, N, G>,
@@ -177,7 +177,7 @@ fn drain<R: Wait>(rt: &R, consumer: &mut Consumer<Header>) -> u64
 
 /// Leaves with the last flush; where that is refused, the rows that wait are abandoned. Says too whether there was no
 /// memory for it.
-fn leave<C: Detects + Drop, N: Naming, W: Board<Slot<N>> + Drop, G: Gate + Drop, R: Wait>(
+fn leave<C: Detects + Drop, N: Naming, W: Board<Cell<N>> + Drop, G: Gate + Drop, R: Wait>(
     rt: &R,
     shared: &Shared<C, N, W>,
     worker: Worker<C, N, G>,
@@ -214,7 +214,7 @@ fn drain_and_depart<N: Naming, R: Wait>(
 
 /// A worker's work: it takes the packets of its ring till that ends, and leaves. After a refused flush it leaves at
 /// once, and drops what comes still.
-pub(crate) fn work<C: Detects + Drop, N: Naming, W: Board<Slot<N>> + Drop, G: Gate + Drop, R: Wait>(
+pub(crate) fn work<C: Detects + Drop, N: Naming, W: Board<Cell<N>> + Drop, G: Gate + Drop, R: Wait>(
     rt: &R,
     shared: &Shared<C, N, W>,
     worker: Worker<C, N, G>,

@@ -3,7 +3,7 @@ use Rattle.std.proofs.Common.{◌≡◌, ◌∙◌, List, subst}
 use Rattle.pcef_packet.specs.declared.header.Addr.{Addr}
 use Rattle.pcef_packet.specs.declared.header.Header.{Header}
 use Rattle.pcef_catalog.specs.declared.listing.Offer.{Offer}
-use Rattle.pcef_table.specs.declared.entry.Entry.{Entry}
+use Rattle.pcef_table.specs.declared.entry.TableEntry.{TableEntry}
 use Rattle.pcef_table.specs.SessionSlots.{slots_counted}
 use Rattle.pcef_table.specs.Tables.{TableValue}
 use Rattle.pcef_table.specs.Verdicts.{IsVerdict}
@@ -17,7 +17,7 @@ use Rattle.pcef_session.proofs.ShownVerdicts.{shown_judges}
 use Rattle.pcef_handle.specs.Judging.{IsJudged, IsPlaced}
 use Rattle.pcef_handle.specs.declared.judging.Judgement.{Judgement}
 
-pub judged_newest : (s : SessionModel) (offers : List Offer) (ue : Addr) (header : Header) (newest : TableValue) (entries : List Entry) (d : Judgement) → ShowsNewest s newest
+pub judged_newest : (s : SessionModel) (offers : List Offer) (ue : Addr) (header : Header) (newest : TableValue) (entries : List TableEntry) (d : Judgement) → ShowsNewest s newest
     → offers ≡ s.setting.catalog → ue ≡ s.setting.ue → entries ≡ newest.entries → d.generation ≡ newest.number
     → IsVerdict offers newest.entries ue header d.verdict → d.slots.items ≡ slots_counted offers newest d.verdict → IsPlaced offers entries d.verdict d.place → IsJudged s header d
 judged_newest s offers ue header newest entries d shows offered ue_is entries_are generation judged slots_are placed =

@@ -1,7 +1,7 @@
 -- What is written to a caller's buffer (own choice).
 use Rattle.std.specs.Prelude.{ℕ, ◌≡◌, List, length, min, take, Option, Some, None, Result, Ok, Err, string_bytes}
 use Rattle.pcef_script.specs.LoneLines.{AnswersAlone}
-use Rattle.pcef_script.specs.declared.step.Answer.{Answer}
+use Rattle.pcef_script.specs.declared.step.LineAnswer.{LineAnswer}
 use Rattle.pcef_handle.specs.declared.held.Handle.{Handle}
 use Rattle.pcef_handle.specs.declared.held.OpenSession.{OpenSession}
 use Rattle.pcef_handle.specs.declared.line.CallRefusal.{CallRefusal}
@@ -14,7 +14,7 @@ CopiesFront text before after told =
     × (take (min (length text) (length before)) after ≡ take (min (length text) (length before)) text)
 
 -- so is it of an answer; where there is none, nothing is written, and 0 is told
-abbrev pub IsPut : Option Answer → List ℕ → List ℕ → ℕ → Type 0
+abbrev pub IsPut : Option LineAnswer → List ℕ → List ℕ → ℕ → Type 0
 IsPut None before after told = (told ≡ 0) × (after ≡ before)
 IsPut (Some a) before after told = CopiesFront (string_bytes a.text) before after told
 
@@ -27,7 +27,7 @@ StaysOpen old new =
 -- a line is answered as in a script, into a buffer; when out of memory nothing is written
 abbrev pub AnswersInto : OpenSession → List ℕ → List ℕ → Result ℕ CallRefusal → OpenSession → List ℕ → Type 0
 AnswersInto old line before (Ok told) new after =
-    StaysOpen old new × ((a : Option Answer) × AnswersAlone line old.world a new.world × IsPut a before after told)
+    StaysOpen old new × ((a : Option LineAnswer) × AnswersAlone line old.world a new.world × IsPut a before after told)
 AnswersInto old line before (Err NoMemory) new after = StaysOpen old new × (after ≡ before)
 AnswersInto old line before (Err other) new after = ⊥
 

@@ -8,7 +8,7 @@ use Rattle.pcef_front.specs.Fronts.{IsSettledBy}
 use Rattle.pcef_front.specs.declared.fault.FrontFault.{FrontFault}
 use Rattle.pcef_front.specs.declared.fault.FrontFault.TheVariants as front
 use Rattle.pcef_catalog.specs.declared.listing.Offer.{Offer}
-use Rattle.pcef_table.specs.declared.entry.Entry.{Entry}
+use Rattle.pcef_table.specs.declared.entry.TableEntry.{TableEntry}
 use Rattle.pcef_table.specs.Sources.{is_named}
 use Rattle.pcef_table.specs.Tables.{TableValue}
 use Rattle.pcef_model.specs.declared.verdict.Verdict.{Verdict}
@@ -24,12 +24,12 @@ use Rattle.pcef_handle.specs.declared.judging.JudgeRefusal.TheVariants.{NoPacket
 use Rattle.pcef_handle.specs.declared.judging.Judgement.{Judgement}
 
 -- the place of the entry of a name; no two entries of a table have one name
-abbrev pub IsPlaceOf : List Offer → List Entry → List ℕ → Option ℕ → Type 0
+abbrev pub IsPlaceOf : List Offer → List TableEntry → List ℕ → Option ℕ → Type 0
 IsPlaceOf offers entries name place =
     option_and_then (λ n. slice_get entries n) place ≡ find (λ e. is_named offers name e.source) entries
 
 -- the place of the entry whose rule a verdict names
-abbrev pub IsPlaced : List Offer → List Entry → Verdict → Option ℕ → Type 0
+abbrev pub IsPlaced : List Offer → List TableEntry → Verdict → Option ℕ → Type 0
 IsPlaced offers entries (Passed rule bearer) place = IsPlaceOf offers entries rule place
 IsPlaced offers entries (Gated rule) place = IsPlaceOf offers entries rule place
 IsPlaced offers entries other place = place ≡ None

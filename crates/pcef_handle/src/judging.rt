@@ -15,7 +15,7 @@ use pcef_index::Indexed;
 use pcef_model::Verdict;
 use pcef_packet::{Dir, Header, PacketFault};
 use pcef_rule::{RuleName, Slot};
-use pcef_table::Entry;
+use pcef_table::TableEntry;
 
 /// What the newest generation decides of a packet.
 #[derive(Debug, Drop)]
@@ -42,7 +42,7 @@ pub enum JudgeRefusal {
 }
 
 /// Whether an entry's rule has this name.
-fn has_name(catalog: &ShapedCatalog, entry: &Entry, name: &RuleName) -> bool
+fn has_name(catalog: &ShapedCatalog, entry: &TableEntry, name: &RuleName) -> bool
     requires { IsKnown catalog.now entry.now.source }
     ensures { result ≡ is_named catalog.now name.now entry.now.source }
 {
@@ -50,7 +50,7 @@ fn has_name(catalog: &ShapedCatalog, entry: &Entry, name: &RuleName) -> bool
 }
 
 /// The first place of a rule's name among entries.
-fn place_of(catalog: &ShapedCatalog, entries: &[Entry], name: &RuleName) -> Option<u8>
+fn place_of(catalog: &ShapedCatalog, entries: &[TableEntry], name: &RuleName) -> Option<u8>
     requires known { All (λ e. IsKnown catalog.now e.source) entries.now }
     requires few { length entries.now ≤ 64 }
     ensures { option_and_then (λ place. slice_get entries.now place) result
@@ -65,7 +65,7 @@ fn place_of(catalog: &ShapedCatalog, entries: &[Entry], name: &RuleName) -> Opti
 }
 
 /// The place of the rule that a verdict names.
-fn place_by(catalog: &ShapedCatalog, entries: &[Entry], verdict: &Verdict) -> Option<u8>
+fn place_by(catalog: &ShapedCatalog, entries: &[TableEntry], verdict: &Verdict) -> Option<u8>
     requires known { All (λ e. IsKnown catalog.now e.source) entries.now }
     requires few { length entries.now ≤ 64 }
     ensures { IsPlaced catalog.now entries.now verdict.now result }

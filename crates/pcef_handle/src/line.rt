@@ -6,7 +6,7 @@ ghost use Rattle.pcef_handle.specs.Answering.{AnswersHandle, AnswersInto, IsPut}
 
 use crate::held::{Handle, OpenSession};
 use crate::text::copy_front;
-use pcef_script::{Answer, answer_alone};
+use pcef_script::{LineAnswer, answer_alone};
 use pcef_world::WorldState;
 use std::alloc::Global;
 
@@ -30,7 +30,7 @@ fn let_go(world: &WorldState) -> u64
 }
 
 /// Writes as much of an answer as fits, and gives how long it is: 0 where there is none.
-fn copy_answer(answer: &Option<Answer>, buffer: &mut [u8]) -> usize
+fn copy_answer(answer: &Option<LineAnswer>, buffer: &mut [u8]) -> usize
     ensures { IsPut answer.now buffer.old buffer.new result }
 {
     match answer {

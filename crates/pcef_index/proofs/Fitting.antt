@@ -11,7 +11,7 @@ use Rattle.pcef_filter.specs.declared.filter.Filter.{Filter}
 use Rattle.pcef_filter.specs.Matching.{matches}
 use Rattle.pcef_catalog.specs.declared.listing.Offer.{Offer}
 use Rattle.pcef_catalog.specs.Shapes.{detected}
-use Rattle.pcef_table.specs.declared.entry.Entry.{Entry}
+use Rattle.pcef_table.specs.declared.entry.TableEntry.{TableEntry}
 use Rattle.pcef_table.specs.declared.entry.Source.{Source}
 use Rattle.pcef_table.specs.declared.entry.Source.TheVariants.{Dynamic, Predefined}
 use Rattle.pcef_table.specs.Sources.{IsKnown, fits}
@@ -54,14 +54,14 @@ source_none offers ue h k (Predefined index) rest fails =
     let line : Line = record { place = k; part = part.Offer index } in
     cond-false (detected offers index h) (Some line) (find (line_fits offers ue h) rest) fails
 
-abbrev pub entry_fits : List Offer → Addr → Header → Entry → Bool
+abbrev pub entry_fits : List Offer → Addr → Header → TableEntry → Bool
 entry_fits offers ue h e = fits offers ue h e.source
 
-abbrev pub sources_of : List Entry → List Source
+abbrev pub sources_of : List TableEntry → List Source
 sources_of es = map (λ e. e.source) es
 
 -- where no line fits, no entry does
-pub no_entry : (offers : List Offer) (ue : Addr) (h : Header) (k : ℕ) (es : List Entry) → place_of (find (line_fits offers ue h) (lines_from k (sources_of es))) ≡ None → find (entry_fits offers ue h) es ≡ None
+pub no_entry : (offers : List Offer) (ue : Addr) (h : Header) (k : ℕ) (es : List TableEntry) → place_of (find (line_fits offers ue h) (lines_from k (sources_of es))) ≡ None → find (entry_fits offers ue h) es ≡ None
 no_entry offers ue h k [] none = refl
 no_entry offers ue h k (e ∷ es) none =
     let rest = lines_from (k + 1) (sources_of es) in
@@ -73,8 +73,8 @@ no_entry offers ue h k (e ∷ es) none =
     ]
 
 -- the place of the first line that fits is that of the first entry that does
-pub the_entry : (offers : List Offer) (ue : Addr) (h : Header) (k n : ℕ) (es : List Entry) → place_of (find (line_fits offers ue h) (lines_from k (sources_of es))) ≡ Some n
-    → (i : ℕ) × (e : Entry) × (n ≡ k + i) × (slice_get es i ≡ Some e) × (find (entry_fits offers ue h) es ≡ Some e)
+pub the_entry : (offers : List Offer) (ue : Addr) (h : Header) (k n : ℕ) (es : List TableEntry) → place_of (find (line_fits offers ue h) (lines_from k (sources_of es))) ≡ Some n
+    → (i : ℕ) × (e : TableEntry) × (n ≡ k + i) × (slice_get es i ≡ Some e) × (find (entry_fits offers ue h) es ≡ Some e)
 the_entry offers ue h k n [] some = absurd (cc)
 the_entry offers ue h k n (e ∷ es) some =
     let rest = lines_from (k + 1) (sources_of es) in
@@ -89,7 +89,7 @@ the_entry offers ue h k n (e ∷ es) some =
     ]
 
 -- the entry at the place is the first that fits
-pub entry_at : (offers : List Offer) (ue : Addr) (h : Header) (n : ℕ) (es : List Entry) → place_of (find (line_fits offers ue h) (lines_from 0 (sources_of es))) ≡ Some n
+pub entry_at : (offers : List Offer) (ue : Addr) (h : Header) (n : ℕ) (es : List TableEntry) → place_of (find (line_fits offers ue h) (lines_from 0 (sources_of es))) ≡ Some n
     → slice_get es n ≡ find (entry_fits offers ue h) es
 entry_at offers ue h n es some =
     let found = the_entry offers ue h 0 n es some in
@@ -97,8 +97,8 @@ entry_at offers ue h n es some =
     ap (slice_get es) same ∙ found.3 ∙ sym found.4
 
 -- an entry of a table is known
-pub known_at : (offers : List Offer) (es : List Entry) (n : ℕ) (o : Option (Bor Entry)) → All (λ e. IsKnown offers e.source) es → option_copied o ≡ slice_get es n → IfSome o (λ e. IsKnown offers e.now.source)
+pub known_at : (offers : List Offer) (es : List TableEntry) (n : ℕ) (o : Option (Bor TableEntry)) → All (λ e. IsKnown offers e.source) es → option_copied o ≡ slice_get es n → IfSome o (λ e. IsKnown offers e.now.source)
 known_at offers es n None all is = tt
 known_at offers es n (Some b) all is =
     let there : slice_get es n ≡ Some b.now = sym is in
-    subst (λ (e : Entry). IsKnown offers e.source) (get_or_from_slice_get es n b.now b.now there) (all n b.now (slice_get_within es n b.now there))
+    subst (λ (e : TableEntry). IsKnown offers e.source) (get_or_from_slice_get es n b.now b.now there) (all n b.now (slice_get_within es n b.now there))

@@ -14,7 +14,7 @@ use arrayvec::ArrayVec;
 use pcef_catalog::{Detects, Offers};
 use pcef_model::Verdict;
 use pcef_packet::{Addr, Header};
-use pcef_table::{Entry, Source, Table, gate_verdict, is_own};
+use pcef_table::{Source, Table, TableEntry, gate_verdict, is_own};
 use std::alloc::{AllocError, Global};
 use std::marker::Model;
 
@@ -52,7 +52,7 @@ impl Model for Index {
 }
 
 /// Copies of the rules of entries.
-fn copies(alloc: Global, entries: &[Entry]) -> Result<Vec<Source>, AllocError>
+fn copies(alloc: Global, entries: &[TableEntry]) -> Result<Vec<Source>, AllocError>
     ensures { IfOk result (λ v. v.items ≡ map (λ e. e.source) entries.now) }
 {
     let mut sources = Vec::with_capacity(alloc, entries.len())?;
@@ -121,7 +121,7 @@ fn first_sieved<'a, C: Detects>(
     catalog: &C,
     ue: &Addr,
     header: &Header,
-) -> Option<&'a Entry>
+) -> Option<&'a TableEntry>
     requires table { IsTable (C.offers catalog.now) table.now.entries }
     requires sieve { IsSieveOf (map (λ e. e.source) table.now.entries) sieve.now }
     ensures known { IfSome result (λ e. IsKnown (C.offers catalog.now) e.now.source) }
@@ -170,7 +170,7 @@ impl Index {
         catalog: &C,
         ue: &Addr,
         header: &Header,
-    ) -> Option<&'a Entry>
+    ) -> Option<&'a TableEntry>
         requires table { IsTable (C.offers catalog.now) table.now.entries }
         requires index { self.now ≡ map (λ e. e.source) table.now.entries }
         ensures known { IfSome result (λ e. IsKnown (C.offers catalog.now) e.now.source) }

@@ -14,7 +14,7 @@ use pcef_catalog::{Detects, Offers};
 use pcef_model::Verdict;
 use pcef_packet::{Addr, Header};
 use pcef_rule::Slot;
-use pcef_table::{Entry, Table, gate_verdict, is_own, judged_by};
+use pcef_table::{Table, TableEntry, gate_verdict, is_own, judged_by};
 use std::alloc::{AllocError, Global};
 use std::marker::Model;
 use std::sync::Arc;
@@ -156,7 +156,12 @@ impl Indexed {
     }
 
     /// The first entry that fits.
-    fn first_fitting<C: Detects>(&self, catalog: &C, ue: &Addr, header: &Header) -> Option<&Entry>
+    fn first_fitting<C: Detects>(
+        &self,
+        catalog: &C,
+        ue: &Addr,
+        header: &Header,
+    ) -> Option<&TableEntry>
         requires { IsTable (C.offers catalog.now) self.now.entries }
         ensures known { IfSome result (λ e. IsKnown (C.offers catalog.now) e.now.source) }
         ensures first { option_copied result

@@ -11,7 +11,7 @@ use crate::shared::Shared;
 use pcef_catalog::Offers;
 use pcef_journaled::{Commands, JournaledState};
 use pcef_model::{Accepted, Command, Refusal, Report};
-use pcef_publish::{Board, Slot};
+use pcef_publish::{Board, Cell};
 use pcef_share::{Naming, Pooling, Shares};
 use std::alloc::{AllocError, Global};
 use std::marker::Model;
@@ -101,7 +101,7 @@ impl<N: Naming> Desk<N> {
     /// Gives a command, as [`crate::State::command`] answers it, or, for a session on a pool,
     /// [`crate::State::command_within`]. One that is accepted and changes something comes to
     /// the desk's list and into its share. Takes memory, and may meet want of it before another refusal is seen.
-    pub fn command<C: Offers + Drop, W: Board<Slot<N>> + Drop, P: Pooling, R: Wait>(
+    pub fn command<C: Offers + Drop, W: Board<Cell<N>> + Drop, P: Pooling, R: Wait>(
         &mut self,
         rt: &R,
         shared: &Shared<C, N, W, P>,
@@ -130,7 +130,7 @@ impl<N: Naming> Desk<N> {
 
     /// The reports since those that were collected before, in order, without a gap. Takes memory for them; where there
     /// is none, they can be collected again.
-    pub fn collect<C: Offers + Drop, W: Board<Slot<N>> + Drop, P: Pooling, R: Wait>(
+    pub fn collect<C: Offers + Drop, W: Board<Cell<N>> + Drop, P: Pooling, R: Wait>(
         &mut self,
         rt: &R,
         shared: &Shared<C, N, W, P>,

@@ -6,13 +6,13 @@ ghost use Rattle.pcef_session.specs.Preparing.{table_made};
 ghost use Rattle.pcef_lock.specs.Published.{MayBeNext, with_last};
 
 use pcef_journaled::JournaledCommand;
-use pcef_publish::{Board, Publisher, Slot, Subscriber};
+use pcef_publish::{Board, Cell, Publisher, Subscriber};
 use pcef_share::Naming;
 use std::alloc::AllocError;
 use std::sync::Arc;
 
 /// Publishes the table of a prepared command, if it makes one.
-pub(crate) fn publish<N: Naming, W: Board<Slot<N>> + Drop>(
+pub(crate) fn publish<N: Naming, W: Board<Cell<N>> + Drop>(
     publisher: &mut Publisher<N, W>,
     prepared: &JournaledCommand,
 ) -> Result<(), AllocError>
@@ -28,7 +28,7 @@ pub(crate) fn publish<N: Naming, W: Board<Slot<N>> + Drop>(
 }
 
 /// The subscriber that comes next takes the newest table.
-pub(crate) fn make_ready<N: Naming, W: Board<Slot<N>> + Drop>(
+pub(crate) fn make_ready<N: Naming, W: Board<Cell<N>> + Drop>(
     subscribers: &mut Vec<Subscriber<N>>,
     publisher: &mut Publisher<N, W>,
 ) -> Result<(), AllocError>

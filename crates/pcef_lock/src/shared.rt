@@ -22,7 +22,7 @@ use crate::seat::Seat;
 use crate::state::{State, StateUngathered};
 use pcef_catalog::Offers;
 use pcef_model::{Accepted, AttachFault, Command, FlushRefusal, Refusal, Report, Verdicts};
-use pcef_publish::{Board, Slot};
+use pcef_publish::{Board, Cell};
 use pcef_session::Batch;
 use pcef_share::{Naming, NoPool, Pooling, Shares};
 use std::alloc::AllocError;
@@ -31,14 +31,14 @@ use std::sync::{Arc, Mutex, Wait};
 
 /// A session that threads share: its catalog, and the lock of all else. Each call takes the lock once and makes one
 /// call of the [`State`] behind it, as which it answers. Contracts see what the catalog offers.
-pub struct Shared<'p, C: Offers + Drop, N: Naming, W: Board<Slot<N>> + Drop, P: Pooling = NoPool> {
+pub struct Shared<'p, C: Offers + Drop, N: Naming, W: Board<Cell<N>> + Drop, P: Pooling = NoPool> {
     catalog: Arc<C>,
     state: Mutex<State<N, W, P>>,
     pool: Option<&'p Pool<P>>,
 }
 
 // Written out, so that an owner proves one call at each way out.
-impl<'p, C: Offers + Drop, N: Naming, W: Board<Slot<N>> + Drop, P: Pooling> Drop
+impl<'p, C: Offers + Drop, N: Naming, W: Board<Cell<N>> + Drop, P: Pooling> Drop
     for Shared<'p, C, N, W, P> {
     fn drop(self) {
         let Shared {
@@ -49,7 +49,7 @@ impl<'p, C: Offers + Drop, N: Naming, W: Board<Slot<N>> + Drop, P: Pooling> Drop
     }
 }
 
-impl<'p, C: Offers + Drop, N: Naming, W: Board<Slot<N>> + Drop, P: Pooling> Model
+impl<'p, C: Offers + Drop, N: Naming, W: Board<Cell<N>> + Drop, P: Pooling> Model
     for Shared<'p, C, N, W, P> {
     ghost use Rattle.std.specs.Prelude.{◌≡◌, List, is_some};
     ghost use Rattle.std.specs.Arc.{arc_value};
@@ -70,7 +70,7 @@ pub struct Ungathered<
     'p,
     C: Offers + Drop,
     N: Naming,
-    W: Board<Slot<N>> + Drop,
+    W: Board<Cell<N>> + Drop,
     P: Pooling = NoPool,
 > {
     /// Why.
@@ -87,7 +87,7 @@ pub struct Ungathered<
     pub finished: Vec<Finished<N>>,
 }
 
-impl<'p, C: Offers + Drop, N: Naming, W: Board<Slot<N>> + Drop, P: Pooling> Shared<'p, C, N, W, P> {
+impl<'p, C: Offers + Drop, N: Naming, W: Board<Cell<N>> + Drop, P: Pooling> Shared<'p, C, N, W, P> {
     /// Puts the value behind a lock. The catalog has to be that of the session.
     pub fn new(
         catalog: Arc<C>,

@@ -23,7 +23,7 @@ use pcef_journaled::JournaledState;
 use pcef_model::{Accepted, AttachFault, Command, Refusal};
 use pcef_packet::Addr;
 use pcef_pool::PoolState;
-use pcef_publish::{Board, Publisher, Slot, Subscriber};
+use pcef_publish::{Board, Cell, Publisher, Subscriber};
 use pcef_rule::Sums;
 use pcef_share::{Blanks, Books, Naming, NoPool, Pooling, RateShares, Shares};
 use std::alloc::{AllocError, Global};
@@ -37,7 +37,7 @@ pub use gathering::StateUngathered;
 
 /// A session with the publisher of its tables, the subscribers that no worker has yet, and its books. It is the value
 /// behind a session's lock: what always holds of it, every hold of the lock finds.
-pub struct State<N: Naming, W: Board<Slot<N>> + Drop, P: Pooling = NoPool> {
+pub struct State<N: Naming, W: Board<Cell<N>> + Drop, P: Pooling = NoPool> {
     alloc: Global,
     session: JournaledState,
     publisher: Publisher<N, W>,
@@ -48,7 +48,7 @@ pub struct State<N: Naming, W: Board<Slot<N>> + Drop, P: Pooling = NoPool> {
 }
 
 // Written out, so that an owner proves one call at each way out.
-impl<N: Naming, W: Board<Slot<N>> + Drop, P: Pooling> Drop for State<N, W, P> {
+impl<N: Naming, W: Board<Cell<N>> + Drop, P: Pooling> Drop for State<N, W, P> {
     fn drop(self) {
         let State {
             alloc: _,
@@ -62,7 +62,7 @@ impl<N: Naming, W: Board<Slot<N>> + Drop, P: Pooling> Drop for State<N, W, P> {
     }
 }
 
-impl<N: Naming, W: Board<Slot<N>> + Drop, P: Pooling> Model for State<N, W, P> {
+impl<N: Naming, W: Board<Cell<N>> + Drop, P: Pooling> Model for State<N, W, P> {
     ghost use Rattle.std.specs.Prelude.{length, ◌≡◌};
     ghost use Rattle.pcef_pool.specs.Pools.{rates_due};
     ghost use Rattle.pcef_lock.specs.Locked.{Locked};
@@ -102,7 +102,7 @@ fn ue_of(session: &JournaledState) -> Addr
     session.session().profile().ue
 }
 
-impl<N: Naming, W: Board<Slot<N>> + Drop, P: Pooling> State<N, W, P> {
+impl<N: Naming, W: Board<Cell<N>> + Drop, P: Pooling> State<N, W, P> {
     /// The value behind the lock, of a session to which no worker ever came and whose tables are published, and the
     /// shares of the desk, which hold the session's commands so far. A subscriber is there for each place.
     pub(crate) fn new(

@@ -8,7 +8,7 @@ ghost use Rattle.pcef_table.specs.Tables.{IsTable};
 ghost use Rattle.pcef_publish.specs.Lists.{IsRun, IsLonger};
 ghost use Rattle.pcef_publish.specs.private.Chains.{head_of, items_of, word_of};
 
-use crate::entry::Entry;
+use crate::publication::Publication;
 use crate::rule::{Add, Ask, Check, Draw, Law, Note, Nothing};
 use logbook::{Offer, Pen, Seen, Start, Word};
 use pcef_index::Indexed;
@@ -97,7 +97,7 @@ impl Opened {
     }
 
     /// The author under a name, and the first table with its history.
-    pub fn into_named<N: Naming>(self) -> (Author<N>, Entry<N>)
+    pub fn into_named<N: Naming>(self) -> (Author<N>, Publication<N>)
         requires book { (self.book ≡ N.book) × (self.root ≡ N.root) }
         requires first { self.table.number ≡ N.first }
         requires table { IsTable N.setting.catalog self.table.entries }
@@ -119,7 +119,7 @@ impl Opened {
         };
         author.add(&table);
         let front = author.front();
-        (author, Entry::new(table, front))
+        (author, Publication::new(table, front))
     }
 }
 

@@ -6,9 +6,9 @@ ghost use Rattle.std.specs.Arc.{arc_value};
 ghost use Rattle.pcef_table.specs.Tables.{IsTable};
 ghost use Rattle.pcef_publish.specs.Lists.{IsRun, Ends};
 
-use crate::entry::Entry;
 use crate::front::{Author, Front, Opened};
-use crate::shown::{Board, Shown, Slot, Writer};
+use crate::publication::Publication;
+use crate::shown::{Board, Cell, Shown, Writer};
 use crate::subscriber::Subscriber;
 use left_right::WriteHandle;
 use pcef_index::Indexed;
@@ -41,15 +41,15 @@ impl From<AllocError> for PublishFault {
 
 /// Publishes the tables of a session's generations, one after the other. Contracts see the list of the
 /// published tables. It keeps the allocator that it was made with.
-pub struct Publisher<N: Naming, W: Board<Slot<N>> + Drop> {
+pub struct Publisher<N: Naming, W: Board<Cell<N>> + Drop> {
     alloc: Global,
     author: Author<N>,
-    newest: Entry<N>,
+    newest: Publication<N>,
     board: W,
 }
 
 // Written out, so that an owner proves one call at each way out.
-impl<N: Naming, W: Board<Slot<N>> + Drop> Drop for Publisher<N, W> {
+impl<N: Naming, W: Board<Cell<N>> + Drop> Drop for Publisher<N, W> {
     fn drop(self) {
         let Publisher {
             alloc: _,
@@ -60,7 +60,7 @@ impl<N: Naming, W: Board<Slot<N>> + Drop> Drop for Publisher<N, W> {
     }
 }
 
-impl<N: Naming, W: Board<Slot<N>> + Drop> Model for Publisher<N, W> {
+impl<N: Naming, W: Board<Cell<N>> + Drop> Model for Publisher<N, W> {
     ghost use Rattle.std.specs.Prelude.{List, ◌≡◌};
     ghost use Rattle.pcef_table.specs.Tables.{TableValue};
 
@@ -73,7 +73,7 @@ impl<N: Naming, W: Board<Slot<N>> + Drop> Model for Publisher<N, W> {
 
 fn seat<N: Naming, R: Wait + Drop>(
     writer: &Writer<N, R>,
-    newest: &Entry<N>,
+    newest: &Publication<N>,
 ) -> Result<Subscriber<N>, PublishFault>
     ensures { IfOk result (λ s. s ≡ newest.now) }
 {
@@ -87,7 +87,7 @@ fn seat<N: Naming, R: Wait + Drop>(
 fn seat_all<N: Naming, R: Wait + Drop>(
     alloc: Global,
     writer: &Writer<N, R>,
-    newest: &Entry<N>,
+    newest: &Publication<N>,
     places: usize,
 ) -> Result<Vec<Subscriber<N>>, PublishFault>
     ensures newest { IfOk result (λ v. All (λ s. s ≡ newest.now) v.items) }
@@ -106,7 +106,7 @@ fn seat_all<N: Naming, R: Wait + Drop>(
 // A place with the first entry, twice.
 fn first_slots<N: Naming>(
     alloc: Global,
-    newest: &Entry<N>,
+    newest: &Publication<N>,
 ) -> Result<(Shown<N>, Shown<N>), AllocError>
     ensures { IfOk result (λ r. arc_value r.0.slot ≡ arc_value r.1.slot) }
 {
@@ -149,8 +149,8 @@ impl<N: Naming, R: Wait + Drop> Publisher<N, Writer<N, R>> {
     }
 }
 
-impl<N: Naming, W: Board<Slot<N>> + Drop> Publisher<N, W> {
-    pub(crate) fn newest(&self) -> &Entry<N>
+impl<N: Naming, W: Board<Cell<N>> + Drop> Publisher<N, W> {
+    pub(crate) fn newest(&self) -> &Publication<N>
         ensures { result.now ≡ self.now }
     {
         &self.newest
@@ -174,7 +174,7 @@ impl<N: Naming, W: Board<Slot<N>> + Drop> Publisher<N, W> {
     }
 
     // Shows readers an empty place. All that can be refused is done then.
-    fn open(&mut self) -> Result<Slot<N>, AllocError>
+    fn open(&mut self) -> Result<Cell<N>, AllocError>
         ensures { self.new ≡ self.old }
     {
         let slot = Arc::new(self.alloc, OnceLock::new())?;
@@ -196,8 +196,8 @@ impl<N: Naming, W: Board<Slot<N>> + Drop> Publisher<N, W> {
         let slot = self.open()?;
         self.author.add(&table);
         let front = self.author.front();
-        let _ = slot.try_set(Entry::new(second, front.again()));
-        self.newest = Entry::new(table, front);
+        let _ = slot.try_set(Publication::new(second, front.again()));
+        self.newest = Publication::new(table, front);
         Ok(())
     }
 }

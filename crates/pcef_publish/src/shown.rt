@@ -2,18 +2,18 @@
 
 ghost use Rattle.std.specs.Arc.{arc_value};
 
-use crate::entry::Entry;
+use crate::publication::Publication;
 use left_right::{Absorb, WriteHandle};
 use pcef_share::Naming;
 use std::alloc::AllocError;
 use std::sync::{Arc, OnceLock, Wait};
 
 /// A place for an entry. It is empty until the entry stands in the history.
-pub type Slot<N> = Arc<OnceLock<Entry<N>>>;
+pub type Cell<N> = Arc<OnceLock<Publication<N>>>;
 
 /// What readers take: the newest place.
 pub struct Shown<N: Naming> {
-    pub slot: Slot<N>,
+    pub slot: Cell<N>,
 }
 
 // Written out, so that an owner proves one call at each way out.
@@ -23,14 +23,14 @@ impl<N: Naming> Drop for Shown<N> {
     }
 }
 
-impl<N: Naming> Absorb<Slot<N>> for Shown<N> {
-    type State = OnceLock<Entry<N>>;
+impl<N: Naming> Absorb<Cell<N>> for Shown<N> {
+    type State = OnceLock<Publication<N>>;
 
     ghost state = { λ s. arc_value s.slot };
 
     ghost applied = { λ s slot. arc_value slot };
 
-    fn absorb_first(&mut self, operation: &Slot<N>, _other: &Shown<N>) -> Result<(), AllocError> {
+    fn absorb_first(&mut self, operation: &Cell<N>, _other: &Shown<N>) -> Result<(), AllocError> {
         self.slot = Arc::try_clone(operation)?;
         Ok(())
     }
@@ -55,4 +55,4 @@ impl<T: Absorb<O> + Drop, O: Drop, R: Wait + Drop> Board<O> for WriteHandle<T, O
 }
 
 /// The writer's end of the board.
-pub type Writer<N, R> = WriteHandle<Shown<N>, Slot<N>, R>;
+pub type Writer<N, R> = WriteHandle<Shown<N>, Cell<N>, R>;

@@ -6,9 +6,9 @@ ghost use Rattle.std.specs.Arc.{arc_value};
 ghost use Rattle.pcef_table.specs.Tables.{IsTable};
 ghost use Rattle.pcef_publish.specs.Lists.{Ends, IsSeen};
 
-use crate::entry::Entry;
+use crate::publication::Publication;
 use crate::publisher::Publisher;
-use crate::shown::{Board, Shown, Slot};
+use crate::shown::{Board, Cell, Shown};
 use left_right::ReadHandle;
 use pcef_index::Indexed;
 use pcef_share::Naming;
@@ -20,7 +20,7 @@ use std::sync::Arc;
 /// last.
 pub struct Subscriber<N: Naming> {
     reader: ReadHandle<Shown<N>>,
-    held: Entry<N>,
+    held: Publication<N>,
 }
 
 // Written out, so that an owner proves one call at each way out.
@@ -40,7 +40,10 @@ impl<N: Naming> Model for Subscriber<N> {
 }
 
 // Reads once, with no lock.
-fn newer<N: Naming>(reader: &mut ReadHandle<Shown<N>>, held: &Entry<N>) -> Option<Entry<N>>
+fn newer<N: Naming>(
+    reader: &mut ReadHandle<Shown<N>>,
+    held: &Publication<N>,
+) -> Option<Publication<N>>
     ensures { IfSome result (λ e. IsPrefix held.now e) }
 {
     let guard = reader.enter()?;
@@ -52,7 +55,7 @@ fn newer<N: Naming>(reader: &mut ReadHandle<Shown<N>>, held: &Entry<N>) -> Optio
 }
 
 impl<N: Naming> Subscriber<N> {
-    pub(crate) fn new(reader: ReadHandle<Shown<N>>, held: Entry<N>) -> Subscriber<N>
+    pub(crate) fn new(reader: ReadHandle<Shown<N>>, held: Publication<N>) -> Subscriber<N>
         ensures { result ≡ held }
     {
         Subscriber { reader, held }
@@ -83,7 +86,7 @@ impl<N: Naming> Subscriber<N> {
 
     /// Shows that what was seen is a beginning of what is published. It changes neither, takes no memory
     /// and can't fail.
-    pub fn compare<W: Board<Slot<N>> + Drop>(&self, publisher: &mut Publisher<N, W>)
+    pub fn compare<W: Board<Cell<N>> + Drop>(&self, publisher: &mut Publisher<N, W>)
         ensures begins { IsPrefix self.now publisher.old }
         ensures publisher { publisher.new ≡ publisher.old }
     {
@@ -93,7 +96,7 @@ impl<N: Naming> Subscriber<N> {
     /// Takes the newest table: what was seen is then all that is published. Where a further owner of the
     /// table is refused, the table held stays. The publisher is as it was. Counts as a call that may wait,
     /// as every call with a publisher, though nothing in it does.
-    pub fn meet<W: Board<Slot<N>> + Drop>(
+    pub fn meet<W: Board<Cell<N>> + Drop>(
         &mut self,
         publisher: &mut Publisher<N, W>,
     ) -> Result<(), AllocError>

@@ -5,7 +5,7 @@ ghost use Rattle.std.specs.List.{count_by};
 ghost use Rattle.pcef_gateway.specs.Commanding.{FoundMemory};
 ghost use Rattle.pcef_run.specs.Runs.{ObeyedBy, is_accepted};
 
-use pcef_gateway::Answer;
+use pcef_gateway::CommandAnswer;
 use pcef_journaled::JournaledState;
 use pcef_model::{Command, Refusal};
 use std::alloc::{AllocError, Global};
@@ -15,7 +15,7 @@ pub(crate) fn obey(
     alloc: Global,
     session: &mut JournaledState,
     commands: Vec<Command>,
-) -> Result<Vec<Answer>, AllocError>
+) -> Result<Vec<CommandAnswer>, AllocError>
     ensures answers { IfOk result (λ v. ObeyedBy session.old.session commands.items v.items
         session.new.session) }
     ensures memory { IfOk result (λ v. All FoundMemory v.items) }
@@ -32,7 +32,7 @@ pub(crate) fn obey(
 }
 
 /// How many commands were accepted.
-pub(crate) fn accepted_among(answers: &[Answer]) -> u64
+pub(crate) fn accepted_among(answers: &[CommandAnswer]) -> u64
     ensures { result ≡ count_by is_accepted answers.now }
 {
     answers.iter().filter(|answer| answer.is_ok()).count() as u64

@@ -13,7 +13,7 @@ use crate::fault::RunEnd;
 use crate::obeying::{accepted_among, obey};
 use crate::plan::Plan;
 use pcef_catalog::{Detects, Offers};
-use pcef_gateway::{Answer, Ended, RunFault, run_session};
+use pcef_gateway::{CommandAnswer, Ended, RunFault, run_session};
 use pcef_journaled::JournaledState;
 use pcef_model::{OpenFault, Profile};
 use pcef_worker::OpenGate;
@@ -25,7 +25,7 @@ use std::thread::Threads;
 #[derive(Drop)]
 pub struct Ran {
     /// The answer to each command before the first packet, in order.
-    pub answers: Vec<Answer>,
+    pub answers: Vec<CommandAnswer>,
     /// What the session came to, with the answers to the other commands.
     pub ended: Ended,
 }

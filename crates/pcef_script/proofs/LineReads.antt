@@ -14,7 +14,7 @@ use Rattle.pcef_line.specs.declared.fault.LineFault.{LineFault}
 use Rattle.pcef_line.specs.declared.fault.LineFault.TheVariants.{NoMemory, NotUtf8}
 use Rattle.pcef_line.specs.LineOf.{LineOf}
 use Rattle.pcef_line.specs.LineValues.{Gives}
-use Rattle.pcef_script.specs.declared.step.Answer.{Answer}
+use Rattle.pcef_script.specs.declared.step.LineAnswer.{LineAnswer}
 use Rattle.pcef_script.specs.ScriptAnswers.{AnswersAs, AnswersDue, DoesLine, DueWithin, IsDue}
 use Rattle.pcef_answer.specs.StepAnswers.{step_text}
 use Rattle.pcef_world.specs.Steps.{Reply, Standing, standing_of}
@@ -31,22 +31,22 @@ pub other_due : (line : List ℕ) → ¬ (IsUtf8 line) → DueWithin (Some line)
 other_due line isnt = other_by line (is_utf8 line) refl isnt
 
 -- the answer to what is due is one to the line
-pub due_answered : (r : Result Answer AllocError) (Due More : Result Line LineFault → Type 0) (p : Setting) (s t : Standing) → ((due : Result Line LineFault) → Due due → More due)
+pub due_answered : (r : Result LineAnswer AllocError) (Due More : Result Line LineFault → Type 0) (p : Setting) (s t : Standing) → ((due : Result Line LineFault) → Due due → More due)
     → IfOk r (λ a. AnswersDue Due p s (string_bytes a.text) a.is_fault t) → IfOk r (λ a. AnswersDue More p s (string_bytes a.text) a.is_fault t)
 due_answered r Due More p s t more told = IfOk-weaker r _ _ (λ a known. (known.0, more known.0 known.1, known.2)) told
 
-pub fault_answered : (r : Result Answer AllocError) (Due : Result Line LineFault → Type 0) (p : Setting) (s : Standing) (fault : LineFault) → Due (Err fault)
+pub fault_answered : (r : Result LineAnswer AllocError) (Due : Result Line LineFault → Type 0) (p : Setting) (s : Standing) (fault : LineFault) → Due (Err fault)
     → IfOk r (λ a. AnswersAs p s (Err fault) (string_bytes a.text) a.is_fault s) → IfOk r (λ a. AnswersDue Due p s (string_bytes a.text) a.is_fault s)
 fault_answered r Due p s fault is told = IfOk-weaker r _ _ (λ a known. (Err fault, is, known)) told
 
 -- a line that was read is what is due
-pub line_answered : (r : Result Answer AllocError) (p : Setting) (s t : Standing) (text : List ℕ) (line : Line) → (due : Result Line LineFault) × LineOf text due × Gives (λ l. l) (Ok line) due
+pub line_answered : (r : Result LineAnswer AllocError) (p : Setting) (s t : Standing) (text : List ℕ) (line : Line) → (due : Result Line LineFault) × LineOf text due × Gives (λ l. l) (Ok line) due
     → IfOk r (λ a. DoesLine p s line (string_bytes a.text) t) → IfOk r (λ a. a.is_fault ≡ false) → IfOk r (λ a. AnswersDue (LineOf text) p s (string_bytes a.text) a.is_fault t)
 line_answered (Ok a) p s t text line read steps counts = (read.0, read.1, rw read.2 (steps, counts))
 line_answered (Err e) p s t text line read steps counts = tt
 
 -- a reader's fault that isn't out of memory is the line's first fault
-pub fault_read : (r : Result Answer AllocError) (p : Setting) (s : Standing) (text : List ℕ) (fault : LineFault) → (due : Result Line LineFault) × LineOf text due × Gives (λ l. l) (Err fault) due
+pub fault_read : (r : Result LineAnswer AllocError) (p : Setting) (s : Standing) (text : List ℕ) (fault : LineFault) → (due : Result Line LineFault) × LineOf text due × Gives (λ l. l) (Err fault) due
     → IfOk r (λ a. (fault ≢ NoMemory) × AnswersAs p s (Err fault) (string_bytes a.text) a.is_fault s) → IfOk r (λ a. AnswersDue (LineOf text) p s (string_bytes a.text) a.is_fault s)
 fault_read r p s text fault (due, read, inl none) told = IfOk-weaker r _ _ (λ a known. absurd (known.0 none)) told
 fault_read r p s text fault (due, read, inr is) told = IfOk-weaker r _ _ (λ a known. (due, read, rw is known.1)) told

@@ -8,12 +8,12 @@ use Rattle.pcef_world.specs.Worlds.{World}
 use Rattle.pcef_line.specs.declared.line.Line.{Line}
 use Rattle.pcef_line.specs.declared.fault.LineFault.{LineFault}
 use Rattle.pcef_line.specs.declared.fault.LineFault.TheVariants.{NoMemory}
-use Rattle.pcef_script.specs.declared.step.Answer.{Answer}
+use Rattle.pcef_script.specs.declared.step.LineAnswer.{LineAnswer}
 use Rattle.pcef_script.specs.ScriptAnswers.{AnswersAs, AnswersDue, AnswersLine, DoesLine, IsDue}
 use Rattle.pcef_script.specs.ScriptLines.{ForLine, Kept}
 
 -- the bytes that are written for an answer: its text and a line feed
-abbrev pub answer_bytes : Answer → List ℕ
+abbrev pub answer_bytes : LineAnswer → List ℕ
 answer_bytes a = string_bytes a.text ++ 10 ∷ []
 
 -- a world makes a step, and this text tells what is due to it
@@ -26,23 +26,23 @@ abbrev pub DoesWorldLine : World → Line → List ℕ → World → Type 0
 DoesWorldLine before line text after = DoesLine before.session.setting (standing_of before) line text (standing_of after)
 
 -- a fault is answered, whatever world it is told to
-abbrev pub AnswersFault : LineFault → Result Answer AllocError → Type 0
+abbrev pub AnswersFault : LineFault → Result LineAnswer AllocError → Type 0
 AnswersFault fault result =
     (p : Setting) (before : Standing) → IfOk result (λ a. AnswersAs p before (Err fault) (string_bytes a.text) a.is_fault before)
 
 -- so is one that is not out of memory
-abbrev pub AnswersReadFault : LineFault → Result Answer AllocError → Type 0
+abbrev pub AnswersReadFault : LineFault → Result LineAnswer AllocError → Type 0
 AnswersReadFault fault result =
     (p : Setting) (before : Standing) →
     IfOk result (λ a. (fault ≢ NoMemory) × AnswersAs p before (Err fault) (string_bytes a.text) a.is_fault before)
 
 -- the answer to a line to which this is due, and the world after it
-abbrev pub AnswersBy : (Result Line LineFault → Type 0) → World → Answer → World → Type 0
+abbrev pub AnswersBy : (Result Line LineFault → Type 0) → World → LineAnswer → World → Type 0
 AnswersBy Due before a after =
     AnswersDue Due before.session.setting (standing_of before) (string_bytes a.text) a.is_fault (standing_of after)
 
 -- the answer to the line that this is kept of, and the world after it
-abbrev pub AnswersKept : Kept → World → Result Answer AllocError → World → Type 0
+abbrev pub AnswersKept : Kept → World → Result LineAnswer AllocError → World → Type 0
 AnswersKept kept before result after =
     ForLine kept (λ line. IfOk result (λ a.
     AnswersLine before.session.setting (standing_of before) line (string_bytes a.text) a.is_fault (standing_of after)))

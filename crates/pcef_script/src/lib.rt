@@ -22,5 +22,5 @@ pub use lines::{MAX_LINE, first_line, is_blank, line_of};
 pub use lone_line::answer_alone;
 pub use reading::read_some;
 pub use run::run_script;
-pub use step::Answer;
+pub use step::LineAnswer;
 pub use writing::{put_all, write_answer};

@@ -9,7 +9,7 @@ ghost use Rattle.pcef_script.specs.ScriptAnswers.{LineDue};
 ghost use Rattle.pcef_script.specs.ScriptLines.{within_limit};
 
 use crate::lines::{MAX_LINE, is_blank};
-use crate::step::{Answer, answer_line, answer_too_long};
+use crate::step::{LineAnswer, answer_line, answer_too_long};
 use pcef_catalog::Detects;
 use pcef_line::LineReader;
 use pcef_world::WorldState;
@@ -32,7 +32,7 @@ fn answer_of<C: Detects>(
     world: &mut WorldState,
     lines: &mut LineReader,
     line: &[u8],
-) -> Result<Answer, AllocError>
+) -> Result<LineAnswer, AllocError>
     requires offered { C.offers catalog.now ≡ world.old.session.setting.catalog }
     requires kept { world.old.session.forgotten ≤ report_count world.old.session.journal }
     ensures answer { IfOk result (λ a. AnswersBy (LineDue line.now) world.old a world.new) }
@@ -55,7 +55,7 @@ pub fn answer_alone<C: Detects>(
     world: &mut WorldState,
     lines: &mut LineReader,
     line: &[u8],
-) -> Result<Option<Answer>, AllocError>
+) -> Result<Option<LineAnswer>, AllocError>
     requires offered { C.offers catalog.now ≡ world.old.session.setting.catalog }
     requires kept { world.old.session.forgotten ≤ report_count world.old.session.journal }
     ensures answer { IfOk result (λ a. AnswersAlone line.now world.old a world.new) }

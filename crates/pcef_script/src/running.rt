@@ -10,7 +10,7 @@ ghost use Rattle.pcef_script.specs.Running.{EndsKept, FailsKept, ReadsAll, Reads
 
 use crate::fault::ScriptFault;
 use crate::input::Pending;
-use crate::step::{Answer, answer_line, answer_too_long};
+use crate::step::{LineAnswer, answer_line, answer_too_long};
 use crate::writing::write_answer;
 use memchr::memchr;
 use pcef_catalog::Detects;
@@ -38,7 +38,7 @@ fn answer_of<C: Detects>(
     world: &mut WorldState,
     lines: &mut LineReader,
     line: &Pending,
-) -> Result<Answer, AllocError>
+) -> Result<LineAnswer, AllocError>
     requires offered { C.offers catalog.now ≡ world.old.session.setting.catalog }
     requires kept { world.old.session.forgotten ≤ report_count world.old.session.journal }
     ensures answer { AnswersKept line.now world.old result world.new }
@@ -53,7 +53,7 @@ fn answer_of<C: Detects>(
 /// Writes an answer, and gives how many lines are at fault then.
 fn write_and_count<W: Write>(
     writer: &mut W,
-    answer: &Answer,
+    answer: &LineAnswer,
     faults: u64,
 ) -> Result<u64, ScriptFault>
     ensures count { faults < 2 ^ 63 →

@@ -18,17 +18,17 @@ use std::str;
 
 /// The answer to a line, and whether the line is at fault.
 #[derive(Drop)]
-pub struct Answer {
+pub struct LineAnswer {
     /// The text, without the line feed.
     pub text: String,
     /// Whether the line is at fault.
     pub is_fault: bool,
 }
 
-fn fault(alloc: Global, fault: LineFault) -> Result<Answer, AllocError>
+fn fault(alloc: Global, fault: LineFault) -> Result<LineAnswer, AllocError>
     ensures { AnswersFault fault result }
 {
-    Ok(Answer {
+    Ok(LineAnswer {
         text: fault_text(alloc, fault)?,
         is_fault: true,
     })
@@ -80,7 +80,7 @@ fn do_step<C: Detects>(
     catalog: &C,
     world: &mut WorldState,
     line: Line,
-) -> Result<Answer, AllocError>
+) -> Result<LineAnswer, AllocError>
     requires offered { C.offers catalog.now ≡ world.old.session.setting.catalog }
     requires kept { world.old.session.forgotten ≤ report_count world.old.session.journal }
     ensures text { IfOk result (λ a. DoesWorldLine world.old line (string_bytes a.text) world.new) }
@@ -88,14 +88,14 @@ fn do_step<C: Detects>(
     ensures setting { world.new.session.setting ≡ world.old.session.setting }
     ensures forgotten { world.new.session.forgotten ≡ world.old.session.forgotten }
 {
-    Ok(Answer {
+    Ok(LineAnswer {
         text: line_text(alloc, catalog, world, line)?,
         is_fault: false,
     })
 }
 
 /// The answer to a line with the fault that its reader met, or out of memory where it met that.
-fn read_fault(alloc: Global, at_fault: LineFault) -> Result<Answer, AllocError>
+fn read_fault(alloc: Global, at_fault: LineFault) -> Result<LineAnswer, AllocError>
     ensures { AnswersReadFault at_fault result }
 {
     match at_fault {
@@ -110,7 +110,7 @@ fn answer_text<C: Detects>(
     world: &mut WorldState,
     lines: &mut LineReader,
     text: &str,
-) -> Result<Answer, AllocError>
+) -> Result<LineAnswer, AllocError>
     requires offered { C.offers catalog.now ≡ world.old.session.setting.catalog }
     requires kept { world.old.session.forgotten ≤ report_count world.old.session.journal }
     ensures answer { IfOk result (λ a. AnswersBy (LineOf text.now) world.old a world.new) }
@@ -130,7 +130,7 @@ pub(crate) fn answer_line<C: Detects>(
     world: &mut WorldState,
     lines: &mut LineReader,
     line: &[u8],
-) -> Result<Answer, AllocError>
+) -> Result<LineAnswer, AllocError>
     requires offered { C.offers catalog.now ≡ world.old.session.setting.catalog }
     requires kept { world.old.session.forgotten ≤ report_count world.old.session.journal }
     ensures answer { IfOk result (λ a.
@@ -145,7 +145,7 @@ pub(crate) fn answer_line<C: Detects>(
 }
 
 /// The answer to a line that is too long.
-pub(crate) fn answer_too_long(alloc: Global) -> Result<Answer, AllocError>
+pub(crate) fn answer_too_long(alloc: Global) -> Result<LineAnswer, AllocError>
     ensures { AnswersFault LineTooLong result }
 {
     fault(alloc, LineFault::LineTooLong)

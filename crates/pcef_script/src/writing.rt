@@ -6,7 +6,7 @@ ghost use Rattle.pcef_script.specs.LineAnswers.{answer_bytes};
 ghost use Rattle.pcef_script.specs.ScriptLines.{WritesFront};
 
 use crate::fault::ScriptFault;
-use crate::step::Answer;
+use crate::step::LineAnswer;
 use std::io::Write;
 
 /// Writes all of some bytes, or a front of them and [`ScriptFault::Write`]. Every error of the writer ends it, an
@@ -23,7 +23,7 @@ pub fn put_all<W: Write>(writer: &mut W, bytes: &[u8]) -> Result<(), ScriptFault
 }
 
 /// Writes an answer and a line feed, as [`put_all`] does.
-pub fn write_answer<W: Write>(writer: &mut W, answer: &Answer) -> Result<(), ScriptFault>
+pub fn write_answer<W: Write>(writer: &mut W, answer: &LineAnswer) -> Result<(), ScriptFault>
     ensures all { OnOk result (Appends (W.contents writer.old) (W.contents writer.new)
         (answer_bytes answer.now)) }
     ensures front { IfErr result (WritesFront (W.contents writer.old) (W.contents writer.new)

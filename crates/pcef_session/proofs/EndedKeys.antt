@@ -12,7 +12,7 @@ use Rattle.std.specs.List.{list_any}
 use Rattle.std.specs.Option.{option_map_or}
 use Rattle.std.proofs.lemmas.Bool.{cases_Bool, or_parts}
 use Rattle.pcef_rule.specs.declared.rule.Properties.{Properties}
-use Rattle.pcef_table.specs.declared.entry.Entry.{Entry}
+use Rattle.pcef_table.specs.declared.entry.TableEntry.{TableEntry}
 use Rattle.pcef_table.specs.Sources.{properties_of}
 use Rattle.pcef_table.specs.Tables.{TableValue}
 use Rattle.pcef_model.proofs.Names.{Once}
@@ -49,7 +49,7 @@ use Rattle.pcef_model.proofs.RulesAfter.{rules_left, rules_put}
 use Rattle.pcef_session.proofs.Tests.{or_swap, same_test, any_there, any_filter}
 
 -- an entry's rule passes the tests of the rule that it stands for
-tested : (p : Setting) (j : Journal) (g : ℕ) (e : Entry) (r : Active) (test : Properties → Bool) → StandsFor p j g e r →
+tested : (p : Setting) (j : Journal) (g : ℕ) (e : TableEntry) (r : Active) (test : Properties → Bool) → StandsFor p j g e r →
     option_map_or test (properties_of p.catalog e.source) false ≡ test r.properties
 tested p j g e r test stands = ap (λ o. option_map_or test o false) (rule_is p.catalog e.source r stands.rule_is).properties_are
 
@@ -59,13 +59,13 @@ pub some_shown : (p : Setting) (j : Journal) (g : ℕ) (t : TableValue) (test : 
 some_shown p j g t test shows =
     same_test (some_entry p.catalog test t.entries) (list_any (λ r. test r.properties) (at p j g).rules)
     (λ some.
-    let w = any_there (λ (e : Entry). option_map_or test (properties_of p.catalog e.source) false) t.entries some in
+    let w = any_there (λ (e : TableEntry). option_map_or test (properties_of p.catalog e.source) false) t.entries some in
     let v = shows.only w.0 w.1 in
     any_from (λ (r : Active). test r.properties) (at p j g).rules v.0 v.1 (sym (tested p j g w.0 v.0 test v.2) ∙ w.2))
     (λ some.
     let w = any_there (λ (r : Active). test r.properties) (at p j g).rules some in
     let v = shows.each w.0 w.1 in
-    any_from (λ (e : Entry). option_map_or test (properties_of p.catalog e.source) false) t.entries v.0 v.1 (tested p j g v.0 w.0 test v.2 ∙ w.2))
+    any_from (λ (e : TableEntry). option_map_or test (properties_of p.catalog e.source) false) t.entries v.0 v.1 (tested p j g v.0 w.0 test v.2 ∙ w.2))
 
 -- and in the newest generation
 pub some_now : (p : Setting) (j : Journal) (t : TableValue) (test : Properties → Bool) → Shows p j (gen j) t →
@@ -141,7 +141,7 @@ comes_or_stays p g c (Some r) (Some x) k is prepared once =
     ∙ sym (has_key_put k r g.rules once) ∙ ap (has_key k) (sym (rules_put p g c r is))
 
 -- the entries of a table that shows the generation tell of the same rules
-stays_alike : (p : Setting) (j : Journal) (c : Command) (x : Option Activation) (k : List ℕ) (e : Entry) (r : Active) → StandsFor p j (gen j) e r →
+stays_alike : (p : Setting) (j : Journal) (c : Command) (x : Option Activation) (k : List ℕ) (e : TableEntry) (r : Active) → StandsFor p j (gen j) e r →
     stays_with p.catalog c x k e ≡ (rule_stays (now p j) c x r && is_key k r.properties.key)
 stays_alike p j c x k e r stands =
     let named = name_is p j (gen j) e r stands in

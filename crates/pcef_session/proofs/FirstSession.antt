@@ -9,7 +9,7 @@ use Rattle.pcef_rule.specs.QciKinds.{kind_of}
 use Rattle.pcef_model.specs.declared.answer.OpenFault.{OpenFault}
 use Rattle.pcef_model.specs.declared.answer.OpenFault.TheVariants as fault
 use Rattle.pcef_model.specs.Outcomes.{Opens}
-use Rattle.pcef_table.specs.declared.entry.Entry.{Entry}
+use Rattle.pcef_table.specs.declared.entry.TableEntry.{TableEntry}
 use Rattle.pcef_table.specs.declared.entry.Source.{Source}
 use Rattle.pcef_table.specs.Tables.{TableValue}
 use Rattle.pcef_table.proofs.Ordered.{empty_is_table}
@@ -66,7 +66,7 @@ shows_first p t number entries flags = record {
   ordered = empty_is_table p.catalog t.entries entries;
   session = subst (ShowsSessionKeys p [] 0) (sym flags) (session_first p);
   each = λ r there. absurd (omega (arith, there.1));
-  only = λ e there. let none : Contains [] e = subst (λ (es : List Entry). Contains es e) entries there in absurd (omega (arith, none.1));
+  only = λ e there. let none : Contains [] e = subst (λ (es : List TableEntry). Contains es e) entries there in absurd (omega (arith, none.1));
 }
 
 pub agrees_first : (p : Setting) (parts : Parts) → parts.rules ≡ [] → parts.binding ≡ binding_of p before_all → parts.keys ≡ [] → parts.triggers ≡ no_triggers →

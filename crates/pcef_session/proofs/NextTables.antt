@@ -12,7 +12,7 @@ use Rattle.std.specs.Cmp.Lexicographic.{nat_list_eq_equiv}
 use Rattle.pcef_rule.specs.declared.quantity.Slot.{Slot}
 use Rattle.pcef_rule.specs.declared.rule.Properties.{Properties}
 use Rattle.pcef_rule.specs.Precedence.{Rank, goes_before}
-use Rattle.pcef_table.specs.declared.entry.Entry.{Entry}
+use Rattle.pcef_table.specs.declared.entry.TableEntry.{TableEntry}
 use Rattle.pcef_table.specs.declared.entry.Source.{Source}
 use Rattle.pcef_table.specs.declared.entry.Source.TheVariants.{Dynamic, Predefined}
 use Rattle.pcef_catalog.specs.declared.listing.Offer.{Offer}
@@ -181,7 +181,7 @@ on_is p j states (Some k) keys all =
         none false = refl
 
 -- ---- the entry of a rule that becomes active
-pub stands_new : (p : Setting) (j : Journal) (c : Command) (r : Active) (e : Entry) (states : List KeyState) → MakesActive p c r → keys_of states ≡ slots p j → rule_of p.catalog e.source ≡ Some r →
+pub stands_new : (p : Setting) (j : Journal) (c : Command) (r : Active) (e : TableEntry) (states : List KeyState) → MakesActive p c r → keys_of states ≡ slots p j → rule_of p.catalog e.source ≡ Some r →
     e.bearer.0 ≡ (next p (now p j) c).id_of r.properties.qos →
     option_map (λ (s : Slot). s.0) e.slot ≡ option_map (λ k. place_in k states) r.properties.key → IfSome e.slot (λ s. s.0 < most_keys) → e.counted ≡ counts_now (now p j).on r.properties.key →
     StandsFor p (entry.Command c ∷ j) (gen (entry.Command c ∷ j)) e r
@@ -196,10 +196,10 @@ stands_new p j c r e states makes keys source bearer slot low counted = record {
 }
 
 -- ---- one entry for each rule
-rank_at : (p : Setting) (j : Journal) (g : ℕ) (e : Entry) (r : Active) → StandsFor p j g e r → rank_of p.catalog e.source ≡ rules.rank_of r
+rank_at : (p : Setting) (j : Journal) (g : ℕ) (e : TableEntry) (r : Active) → StandsFor p j g e r → rank_of p.catalog e.source ≡ rules.rank_of r
 rank_at p j g e r stands = (rule_is p.catalog e.source r stands.rule_is).rank_is
 
-apart_names : (p : Setting) (j : Journal) (g : ℕ) (t : TableValue) (e f : Entry) → Shows p j g t → NamesOnce (at p j g).rules → Contains t.entries e → Contains t.entries f →
+apart_names : (p : Setting) (j : Journal) (g : ℕ) (t : TableValue) (e f : TableEntry) → Shows p j g t → NamesOnce (at p j g).rules → Contains t.entries e → Contains t.entries f →
     GoesBefore p.catalog e f → same_name (name_of p.catalog e.source) (name_of p.catalog f.source) ≡ false
 apart_names p j g t e f shows once e_there f_there before =
     false_from_ne_true (same_name (name_of p.catalog e.source) (name_of p.catalog f.source)) (λ same.
@@ -215,7 +215,7 @@ apart_names p j g t e f shows once e_there f_there before =
     not_before x y is before =
         let here : goes_before x x ≡ true = ap (goes_before x) is ∙ before in contrary (goes_before x x) here (apart x x here)
 
-names_distinct : (p : Setting) (j : Journal) (g : ℕ) (t : TableValue) (entries : List Entry) → Shows p j g t → NamesOnce (at p j g).rules → ((e : Entry) → Contains entries e → Contains t.entries e) →
+names_distinct : (p : Setting) (j : Journal) (g : ℕ) (t : TableValue) (entries : List TableEntry) → Shows p j g t → NamesOnce (at p j g).rules → ((e : TableEntry) → Contains entries e → Contains t.entries e) →
     AllPairs (GoesBefore p.catalog) entries → IsDistinct same_name (map (λ e. name_of p.catalog e.source) entries)
 unfolding IsDistinct
 names_distinct p j g t [] shows once within ordered = tt
@@ -224,7 +224,7 @@ names_distinct p j g t (e ∷ entries) shows once within ordered = (
   names_distinct p j g t entries shows once (λ f there. within f (later_there e entries f there)) (ordered_tail (GoesBefore p.catalog) e entries ordered),
 )
   where
-    others : (rest : List Entry) → ((f : Entry) → Contains rest f → Contains (e ∷ entries) f) → All (GoesBefore p.catalog e) rest →
+    others : (rest : List TableEntry) → ((f : TableEntry) → Contains rest f → Contains (e ∷ entries) f) → All (GoesBefore p.catalog e) rest →
         AllByRecursion (λ name. same_name (name_of p.catalog e.source) name ≡ false) (map (λ f. name_of p.catalog f.source) rest)
     others [] inside all = tt
     others (f ∷ rest) inside all = (
@@ -233,8 +233,8 @@ names_distinct p j g t (e ∷ entries) shows once within ordered = (
     )
 
 -- ---- the name of each entry is one of a rule
-any_named : (q : List ℕ) (p : Setting) (entries : List Entry) → list_any (same_name q) (map (λ e. name_of p.catalog e.source) entries) ≡ true →
-    (e : Entry) × Contains entries e × (same_name q (name_of p.catalog e.source) ≡ true)
+any_named : (q : List ℕ) (p : Setting) (entries : List TableEntry) → list_any (same_name q) (map (λ e. name_of p.catalog e.source) entries) ≡ true →
+    (e : TableEntry) × Contains entries e × (same_name q (name_of p.catalog e.source) ≡ true)
 any_named q p [] any = absurd cc
 any_named q p (e ∷ entries) any =
     elim (cases_Bool (same_name q (name_of p.catalog e.source))) [
@@ -244,7 +244,7 @@ any_named q p (e ∷ entries) any =
 
 pub few_entries : (p : Setting) (j : Journal) (g : ℕ) (t : TableValue) → Shows p j g t → NamesOnce (at p j g).rules → length t.entries ≤ length (at p j g).rules
 few_entries p j g t shows once =
-    let names = map (λ (e : Entry). name_of p.catalog e.source) t.entries in
+    let names = map (λ (e : TableEntry). name_of p.catalog e.source) t.entries in
     let all = map (λ (r : Active). r.properties.name) (at p j g).rules in
     let fewer : length names ≤ length all = length-le_from_is_member nat_list_eq_equiv names all (names_distinct p j g t t.entries shows once (λ e there. there) shows.ordered.ordered)
     (λ q there.
@@ -252,17 +252,17 @@ few_entries p j g t shows once =
     let v = shows.only w.0 w.1 in
     let same : same_name q v.0.properties.name ≡ true = ap (same_name q) (sym (name_is p j g w.0 v.0 v.2)) ∙ w.2 in
     any_from (same_name q) all v.0.properties.name (map_to (λ (r : Active). r.properties.name) (at p j g).rules v.0 v.1) same) in
-    omega (arith, fewer, length-map t.entries (λ (e : Entry). name_of p.catalog e.source), length-map (at p j g).rules (λ (r : Active). r.properties.name))
+    omega (arith, fewer, length-map t.entries (λ (e : TableEntry). name_of p.catalog e.source), length-map (at p j g).rules (λ (r : Active). r.properties.name))
 
 -- ---- the table with a rule that becomes active
-pub put_shows : (p : Setting) (j : Journal) (c : Command) (r : Active) (e : Entry) (t : TableValue) → MakesActive p c r → Fives p (now p j) → Shows p j (gen j) t →
+pub put_shows : (p : Setting) (j : Journal) (c : Command) (r : Active) (e : TableEntry) (t : TableValue) → MakesActive p c r → Fives p (now p j) → Shows p j (gen j) t →
     StandsFor p (entry.Command c ∷ j) (gen (entry.Command c ∷ j)) e r → IsKnown p.catalog e.source → ShowsSessionKeys p (entry.Command c ∷ j) (gen (entry.Command c ∷ j)) t.session →
     Shows p (entry.Command c ∷ j) (gen (entry.Command c ∷ j)) (record { number = t.number + 1; entries = placed p.catalog e t.entries; session = t.session })
 put_shows p j c r e t makes fives shows stands known session =
     shows_put p j c r e t (t.number + 1) (placed p.catalog e t.entries) t.session makes fives shows stands refl refl (placed_is_table p.catalog e t.entries known shows.ordered) session
 
 -- it has room for the entry
-pub room_put : (p : Setting) (j : Journal) (c : Command) (r : Active) (e : Entry) (t : TableValue) → MakesActive p c r → Fives p (now p j) → Shows p j (gen j) t →
+pub room_put : (p : Setting) (j : Journal) (c : Command) (r : Active) (e : TableEntry) (t : TableValue) → MakesActive p c r → Fives p (now p j) → Shows p j (gen j) t →
     StandsFor p (entry.Command c ∷ j) (gen (entry.Command c ∷ j)) e r → IsKnown p.catalog e.source → ShowsSessionKeys p (entry.Command c ∷ j) (gen (entry.Command c ∷ j)) t.session →
     length (put r (now p j).rules) ≤ 64 → length (placed p.catalog e t.entries) ≤ 64
 room_put p j c r e t makes fives shows stands known session few =
@@ -273,7 +273,7 @@ room_put p j c r e t makes fives shows stands known session few =
     omega (arith, fewer, ap length next_rules, few)
 
 -- ---- a table with these fields
-pub shows_as : (p : Setting) (j : Journal) (g : ℕ) (t : TableValue) (number : ℕ) (entries : List Entry) (flags : List Bool) → t.number ≡ number → t.entries ≡ entries → t.session ≡ flags →
+pub shows_as : (p : Setting) (j : Journal) (g : ℕ) (t : TableValue) (number : ℕ) (entries : List TableEntry) (flags : List Bool) → t.number ≡ number → t.entries ≡ entries → t.session ≡ flags →
     Shows p j g (record { number = number; entries = entries; session = flags }) → Shows p j g t
 shows_as p j g t number entries flags number_is entries_are flags_are shows = record {
   number_is = number_is ∙ shows.number_is;
@@ -290,7 +290,7 @@ if_ok_is P x (Ok t) holds is = subst P (sym is) holds
 if_ok_is P x (Err e) holds is = tt
 
 -- a key that is switched leaves each rule
-pub same_rules : (level : Level) (slot : Slot) (on : Bool) (entries : List Entry) → map (λ e. e.source) (entries_switched level slot on entries) ≡ map (λ e. e.source) entries
+pub same_rules : (level : Level) (slot : Slot) (on : Bool) (entries : List TableEntry) → map (λ e. e.source) (entries_switched level slot on entries) ≡ map (λ e. e.source) entries
 same_rules Session slot on entries = refl
 same_rules Rule slot on [] = refl
 same_rules Rule slot on (e ∷ entries) = rest (is_slot slot e.slot) (same_rules Rule slot on entries)
@@ -336,7 +336,7 @@ low_slot v (Some key) (Some s) sound finds is =
     few_places v key s sound (slotless_is v.setting v.journal (Some key) v.parts.keys sound.agrees.keys_are ∙ finds) cc
 
 -- the entry that was made for a rule stands for it, whichever command makes it active
-entry_stands : (v : Held) (c : Command) (r : Active) (x : Activation) (e : Entry) → IsSoundHeld v → first_of (becoming_active v.setting v.journal r.properties) ≡ None → MakesActive v.setting c r → IsActivationOf v.setting r x → IsEntryOf v.parts.binding v.parts.keys x e →
+entry_stands : (v : Held) (c : Command) (r : Active) (x : Activation) (e : TableEntry) → IsSoundHeld v → first_of (becoming_active v.setting v.journal r.properties) ≡ None → MakesActive v.setting c r → IsActivationOf v.setting r x → IsEntryOf v.parts.binding v.parts.keys x e →
     StandsFor v.setting (with_command c v.journal) (gen (with_command c v.journal)) e r
 entry_stands v c r x e sound accepted makes is_of is =
     let p : Setting = v.setting in
@@ -352,7 +352,7 @@ entry_stands v c r x e sound accepted makes is_of is =
     (is.counted_is ∙ on_is p v.journal v.parts.keys x.properties.key sound.agrees.keys_are sound.agrees.usage_is ∙ ap (λ (q : Properties). counts_now g.on q.key) same)
 
 -- the entry that was made for a rule on the bearer that it gets
-pub entry_made : (v : Held) (x : Activation) (id : BearerId) (e : Entry) → IsSoundHeld v → GetsBearer v.setting v.journal (Some x) (Some id) →
+pub entry_made : (v : Held) (x : Activation) (id : BearerId) (e : TableEntry) → IsSoundHeld v → GetsBearer v.setting v.journal (Some x) (Some id) →
     IsEntryOn id v.parts.keys x e → IsEntryOf v.parts.binding v.parts.keys x e
 entry_made v x id e sound gets is =
     let found : IsBearerOf v.parts.binding x id = subst (λ (b : Binding). IsBearerOf b x id) (sym sound.agrees.binding_is) gets in
@@ -392,17 +392,17 @@ known_of offers (Predefined index) r is = from (slice_get offers index) refl is
     from None there is = absurd cc
     from (Some o) there is = slice_get_within offers index o there
 
-pub entry_known : (v : Held) (r : Active) (x : Activation) (e : Entry) → IsActivationOf v.setting r x → IsEntryOf v.parts.binding v.parts.keys x e → IsKnown v.setting.catalog e.source
+pub entry_known : (v : Held) (r : Active) (x : Activation) (e : TableEntry) → IsActivationOf v.setting r x → IsEntryOf v.parts.binding v.parts.keys x e → IsKnown v.setting.catalog e.source
 entry_known v r x e is_of is = known_of v.setting.catalog e.source r (ap (rule_of v.setting.catalog) is.source_is ∙ is_of.rule_is)
 
 -- the table with the rule that a command makes active has room for it
-pub room_for_rule : (v : Held) (c : Command) (r : Active) (x : Activation) (e : Entry) → IsSoundHeld v → first_of (becoming_active v.setting v.journal r.properties) ≡ None → MakesActive v.setting c r → activated v.setting c ≡ Some r →
+pub room_for_rule : (v : Held) (c : Command) (r : Active) (x : Activation) (e : TableEntry) → IsSoundHeld v → first_of (becoming_active v.setting v.journal r.properties) ≡ None → MakesActive v.setting c r → activated v.setting c ≡ Some r →
     IsActivationOf v.setting r x → IsEntryOf v.parts.binding v.parts.keys x e → length (placed v.setting.catalog e v.parts.table.entries) ≤ 64
 room_for_rule v c r x e sound accepted makes becomes is_of is =
     room_put v.setting v.journal c r e v.parts.table makes (fives_now v sound) (shows_now v sound) (entry_stands v c r x e sound accepted makes is_of is) (entry_known v r x e is_of is) (session_put v c r sound makes becomes)
     (few_put v.setting v.journal r (few_active v sound) accepted)
 
-pub table_with : (v : Held) (c : Command) (r : Active) (x : Activation) (e : Entry) → IsSoundHeld v → first_of (becoming_active v.setting v.journal r.properties) ≡ None → MakesActive v.setting c r → activated v.setting c ≡ Some r → IsActivationOf v.setting r x → IsEntryOf v.parts.binding v.parts.keys x e →
+pub table_with : (v : Held) (c : Command) (r : Active) (x : Activation) (e : TableEntry) → IsSoundHeld v → first_of (becoming_active v.setting v.journal r.properties) ≡ None → MakesActive v.setting c r → activated v.setting c ≡ Some r → IsActivationOf v.setting r x → IsEntryOf v.parts.binding v.parts.keys x e →
     (new : TableValue) → new.number ≡ v.parts.table.number + 1 → new.entries ≡ placed v.setting.catalog e v.parts.table.entries → new.session ≡ v.parts.table.session → ShowsNext v.setting v.journal c new
 table_with v c r x e sound accepted makes becomes is_of is new number entries flags =
     let p : Setting = v.setting in

@@ -11,7 +11,7 @@ use Rattle.pcef_rule.specs.declared.quantity.Slot.{Slot}
 use Rattle.pcef_rule.specs.declared.rule.Properties.{Properties}
 use Rattle.pcef_rule.specs.Precedence.{rank_by}
 use Rattle.pcef_rule.proofs.OrderOfRules.{one_goes_first}
-use Rattle.pcef_table.specs.declared.entry.Entry.{Entry}
+use Rattle.pcef_table.specs.declared.entry.TableEntry.{TableEntry}
 use Rattle.pcef_catalog.specs.declared.listing.Offer.{Offer}
 use Rattle.pcef_table.specs.Sources.{name_of, no_rank, origin_of, properties_of, rank_of}
 use Rattle.pcef_table.specs.Tables.{IsTable, TableValue, has_other_name, is_before, is_behind, is_slot, placed, with_counting, without}
@@ -92,13 +92,13 @@ pub after_is : (p : Setting) (j : Journal) (c : Command) → is_table c ≡ true
 after_is p j c is = at_newest p (entry.Command c ∷ j) ∙ now_after_table p j c is
 
 -- an entry keeps the bearer of a rule that was there
-bearer_next : (p : Setting) (j : Journal) (c : Command) (e : Entry) (r : Active) → is_table c ≡ true → Fives p (now p j) → Contains (now p j).rules r →
+bearer_next : (p : Setting) (j : Journal) (c : Command) (e : TableEntry) (r : Active) → is_table c ≡ true → Fives p (now p j) → Contains (now p j).rules r →
     StandsFor p j (gen j) e r → e.bearer.0 ≡ (at p (entry.Command c ∷ j) (gen (entry.Command c ∷ j))).id_of r.properties.qos
 bearer_next p j c e r is fives there stands =
     rw (after_is p j c is) (stands.bearer_is ∙ ap (λ (g : Generation). g.id_of r.properties.qos) (at_newest p j) ∙ sym (id_stays p (now p j) (rules_after p (now p j) c) r fives there))
 
 -- and the slot of its key
-slot_next : (p : Setting) (j : Journal) (c : Command) (e : Entry) (r : Active) → is_table c ≡ true → Contains (now p j).rules r →
+slot_next : (p : Setting) (j : Journal) (c : Command) (e : TableEntry) (r : Active) → is_table c ≡ true → Contains (now p j).rules r →
     StandsFor p j (gen j) e r → option_map (λ s. s.0) e.slot ≡ slot_of (slots p (entry.Command c ∷ j)) r.properties.key
 slot_next p j c e r is there stands =
     let grown : Grows (slots p j) (slots p (entry.Command c ∷ j)) = (let g = slots_grow p c (tables j) in (g.0, ap (slots_of p) (tables_of_table j c is) ∙ g.1)) in
@@ -106,7 +106,7 @@ slot_next p j c e r is there stands =
     stands.slot_is ∙ sym (slot_stays (slots p j) (slots p (entry.Command c ∷ j)) r.properties.key grown (shown_slots p j (gen j) r shown))
 
 -- an entry goes on standing for a rule that stays, where its key stays on or off
-pub stands_next : (p : Setting) (j : Journal) (c : Command) (e : Entry) (r : Active) → is_table c ≡ true → Fives p (now p j) → Contains (now p j).rules r →
+pub stands_next : (p : Setting) (j : Journal) (c : Command) (e : TableEntry) (r : Active) → is_table c ≡ true → Fives p (now p j) → Contains (now p j).rules r →
     counts_now (next p (now p j) c).on r.properties.key ≡ counts_now (now p j).on r.properties.key →
     StandsFor p j (gen j) e r → StandsFor p (entry.Command c ∷ j) (gen (entry.Command c ∷ j)) e r
 stands_next p j c e r is fives there on stands = record {
@@ -120,8 +120,8 @@ stands_next p j c e r is fives there on stands = record {
 -- what a table says of a generation that a table command made
 pub shows_next : (p : Setting) (j : Journal) (c : Command) (t : TableValue) → is_table c ≡ true → t.number ≡ gen j + 1 → IsTable p.catalog t.entries →
     ShowsSessionKeys p (entry.Command c ∷ j) (gen (entry.Command c ∷ j)) t.session →
-    ((r : Active) → Contains (rules_after p (now p j) c) r → (e : Entry) × Contains t.entries e × StandsFor p (entry.Command c ∷ j) (gen (entry.Command c ∷ j)) e r) →
-    ((e : Entry) → Contains t.entries e → (r : Active) × Contains (rules_after p (now p j) c) r × StandsFor p (entry.Command c ∷ j) (gen (entry.Command c ∷ j)) e r) →
+    ((r : Active) → Contains (rules_after p (now p j) c) r → (e : TableEntry) × Contains t.entries e × StandsFor p (entry.Command c ∷ j) (gen (entry.Command c ∷ j)) e r) →
+    ((e : TableEntry) → Contains t.entries e → (r : Active) × Contains (rules_after p (now p j) c) r × StandsFor p (entry.Command c ∷ j) (gen (entry.Command c ∷ j)) e r) →
     Shows p (entry.Command c ∷ j) (gen (entry.Command c ∷ j)) t
 shows_next p j c t is number table session each only =
     let after = after_is p j c is in
@@ -134,18 +134,18 @@ shows_next p j c t is number table session each only =
     }
 
 -- the rule of each entry, and the entry of each rule, in the newest generation
-pub each_now : (p : Setting) (j : Journal) (t : TableValue) → Shows p j (gen j) t → (r : Active) → Contains (now p j).rules r → (e : Entry) × Contains t.entries e × StandsFor p j (gen j) e r
+pub each_now : (p : Setting) (j : Journal) (t : TableValue) → Shows p j (gen j) t → (r : Active) → Contains (now p j).rules r → (e : TableEntry) × Contains t.entries e × StandsFor p j (gen j) e r
 each_now p j t shows r there = shows.each r (subst (λ (g : Generation). Contains g.rules r) (sym (at_newest p j)) there)
 
-pub only_now : (p : Setting) (j : Journal) (t : TableValue) → Shows p j (gen j) t → (e : Entry) → Contains t.entries e → (r : Active) × Contains (now p j).rules r × StandsFor p j (gen j) e r
+pub only_now : (p : Setting) (j : Journal) (t : TableValue) → Shows p j (gen j) t → (e : TableEntry) → Contains t.entries e → (r : Active) × Contains (now p j).rules r × StandsFor p j (gen j) e r
 only_now p j t shows e there = let w = shows.only e there in (w.0, subst (λ (g : Generation). Contains g.rules w.0) (at_newest p j) w.1, w.2)
 
 -- the name of an entry is that of its rule
-pub name_is : (p : Setting) (j : Journal) (g : ℕ) (e : Entry) (r : Active) → StandsFor p j g e r → name_of p.catalog e.source ≡ r.properties.name
+pub name_is : (p : Setting) (j : Journal) (g : ℕ) (e : TableEntry) (r : Active) → StandsFor p j g e r → name_of p.catalog e.source ≡ r.properties.name
 name_is p j g e r stands = ap (λ o. option_map_or (λ q. q.name) o []) (rule_is p.catalog e.source r stands.rule_is).properties_are
 
 -- ---- a rule that becomes active
-rank_name : (offers : List Offer) (e : Entry) → (rank_of offers e.source).name ≡ name_of offers e.source
+rank_name : (offers : List Offer) (e : TableEntry) → (rank_of offers e.source).name ≡ name_of offers e.source
 rank_name offers e = from (properties_of offers e.source)
   where
     from : (o : Option Properties) → (option_map_or (rank_by (origin_of e.source)) o no_rank).name ≡ option_map_or (λ q. q.name) o []
@@ -153,7 +153,7 @@ rank_name offers e = from (properties_of offers e.source)
     from (Some q) = refl
 
 -- an entry of another name stands before the new one or behind it
-side_of : (offers : List Offer) (x e : Entry) → has_other_name offers (name_of offers x.source) e ≡ true →
+side_of : (offers : List Offer) (x e : TableEntry) → has_other_name offers (name_of offers x.source) e ≡ true →
     (is_before offers x e ≡ true) ⊎ (is_behind offers x e ≡ true)
 side_of offers x e other =
     elim (one_goes_first (rank_of offers e.source) (rank_of offers x.source) (λ same.
@@ -164,12 +164,12 @@ side_of offers x e other =
       | inr behind ↦ inr behind.1
     ]
 
-placed_new : (offers : List Offer) (x : Entry) (entries : List Entry) → Contains (placed offers x entries) x
+placed_new : (offers : List Offer) (x : TableEntry) (entries : List TableEntry) → Contains (placed offers x entries) x
 placed_new offers x entries =
     let others = without offers (name_of offers x.source) entries in
     Contains-append_right (filter (is_before offers x) others) (x ∷ filter (is_behind offers x) others) x (first_there x (filter (is_behind offers x) others))
 
-placed_old : (offers : List Offer) (x : Entry) (entries : List Entry) (e : Entry) → Contains entries e → has_other_name offers (name_of offers x.source) e ≡ true →
+placed_old : (offers : List Offer) (x : TableEntry) (entries : List TableEntry) (e : TableEntry) → Contains entries e → has_other_name offers (name_of offers x.source) e ≡ true →
     Contains (placed offers x entries) e
 placed_old offers x entries e there other =
     let others = without offers (name_of offers x.source) entries in
@@ -182,7 +182,7 @@ placed_old offers x entries e there other =
           (later_there x (filter (is_behind offers x) others) e (filter_to (is_behind offers x) others e stays behind))
     ]
 
-placed_cases : (offers : List Offer) (x : Entry) (entries : List Entry) (e : Entry) → Contains (placed offers x entries) e →
+placed_cases : (offers : List Offer) (x : TableEntry) (entries : List TableEntry) (e : TableEntry) → Contains (placed offers x entries) e →
     (x ≡ e) ⊎ (Contains entries e × (has_other_name offers (name_of offers x.source) e ≡ true))
 placed_cases offers x entries e there =
     let others = without offers (name_of offers x.source) entries in
@@ -197,7 +197,7 @@ placed_cases offers x entries e there =
     ]
 
 -- the entry of the new rule stands for it, and those of other rules for theirs
-pub shows_put : (p : Setting) (j : Journal) (c : Command) (new : Active) (x : Entry) (t : TableValue) (number : ℕ) (entries : List Entry) (flags : List Bool) → MakesActive p c new → Fives p (now p j) → Shows p j (gen j) t →
+pub shows_put : (p : Setting) (j : Journal) (c : Command) (new : Active) (x : TableEntry) (t : TableValue) (number : ℕ) (entries : List TableEntry) (flags : List Bool) → MakesActive p c new → Fives p (now p j) → Shows p j (gen j) t →
     StandsFor p (entry.Command c ∷ j) (gen (entry.Command c ∷ j)) x new →
     number ≡ t.number + 1 → entries ≡ placed p.catalog x t.entries → IsTable p.catalog entries → ShowsSessionKeys p (entry.Command c ∷ j) (gen (entry.Command c ∷ j)) flags →
     Shows p (entry.Command c ∷ j) (gen (entry.Command c ∷ j)) (record { number = number; entries = entries; session = flags })
@@ -222,7 +222,7 @@ shows_put p j c new x t number entries flags makes fives shows stands number_is 
           )
     ])
     (λ e there. elim (placed_cases p.catalog x t.entries e (subst (λ es. Contains es e) entries_are there)) [
-      | inl same ↦ (new, subst (λ rs. Contains rs new) (sym rules_are) (put_new new (now p j).rules), subst (λ (y : Entry). StandsFor p k (gen k) y new) same stands)
+      | inl same ↦ (new, subst (λ rs. Contains rs new) (sym rules_are) (put_new new (now p j).rules), subst (λ (y : TableEntry). StandsFor p k (gen k) y new) same stands)
       | inr old ↦
           let w = only_now p j t shows e old.0 in
           let differs : same_name w.0.properties.name new.properties.name ≡ false =
@@ -240,7 +240,7 @@ or_false true = refl
 or_false false = refl
 
 -- an entry counts for the slot of a key that is switched on where the key is its rule's
-counting_next : (keys on : List (List ℕ)) (key : List ℕ) (slot : Slot) (e : Entry) (key_of : Option (List ℕ)) → place_of key keys ≡ Some slot.0 →
+counting_next : (keys on : List (List ℕ)) (key : List ℕ) (slot : Slot) (e : TableEntry) (key_of : Option (List ℕ)) → place_of key keys ≡ Some slot.0 →
     option_map (λ (s : Slot). s.0) e.slot ≡ slot_of keys key_of → e.counted ≡ counts_now on key_of → (with_counting slot true e).counted ≡ counts_now (add_key key on) key_of
 counting_next keys on key slot e key_of place slot_is counted_is = from e.slot key_of refl slot_is counted_is
   where
@@ -273,7 +273,7 @@ and_yes true = refl
 and_yes false = refl
 
 -- it doesn't where the key is switched off
-uncounting_next : (keys on : List (List ℕ)) (key : List ℕ) (slot : Slot) (e : Entry) (key_of : Option (List ℕ)) → place_of key keys ≡ Some slot.0 →
+uncounting_next : (keys on : List (List ℕ)) (key : List ℕ) (slot : Slot) (e : TableEntry) (key_of : Option (List ℕ)) → place_of key keys ≡ Some slot.0 →
     option_map (λ (s : Slot). s.0) e.slot ≡ slot_of keys key_of → e.counted ≡ counts_now on key_of → (with_counting slot false e).counted ≡ counts_now (filter (λ m. not (same_name key m)) on) key_of
 uncounting_next keys on key slot e key_of place slot_is counted_is = from e.slot key_of refl slot_is counted_is
   where
@@ -306,19 +306,19 @@ uncounting_next keys on key slot e key_of place slot_is counted_is = from e.slot
         ]
 
 -- what counting leaves of an entry
-keeps_source : (slot : Slot) (b : Bool) (e : Entry) → (with_counting slot b e).source ≡ e.source
+keeps_source : (slot : Slot) (b : Bool) (e : TableEntry) → (with_counting slot b e).source ≡ e.source
 keeps_source slot b e = elim (cases_Bool (is_slot slot e.slot)) [ inl hit ↦ rw hit refl | inr miss ↦ rw miss refl ]
 
-keeps_bearer : (slot : Slot) (b : Bool) (e : Entry) → (with_counting slot b e).bearer ≡ e.bearer
+keeps_bearer : (slot : Slot) (b : Bool) (e : TableEntry) → (with_counting slot b e).bearer ≡ e.bearer
 keeps_bearer slot b e = elim (cases_Bool (is_slot slot e.slot)) [ inl hit ↦ rw hit refl | inr miss ↦ rw miss refl ]
 
-keeps_slot : (slot : Slot) (b : Bool) (e : Entry) → (with_counting slot b e).slot ≡ e.slot
+keeps_slot : (slot : Slot) (b : Bool) (e : TableEntry) → (with_counting slot b e).slot ≡ e.slot
 keeps_slot slot b e = elim (cases_Bool (is_slot slot e.slot)) [ inl hit ↦ rw hit refl | inr miss ↦ rw miss refl ]
 
 -- a command that leaves the rules and switches a key: the entries that have its slot count from then on, or don't
-pub shows_switched : (p : Setting) (j : Journal) (c : Command) (slot : Slot) (b : Bool) (t : TableValue) (number : ℕ) (entries : List Entry) (flags : List Bool) → is_table c ≡ true →
+pub shows_switched : (p : Setting) (j : Journal) (c : Command) (slot : Slot) (b : Bool) (t : TableValue) (number : ℕ) (entries : List TableEntry) (flags : List Bool) → is_table c ≡ true →
     rules_after p (now p j) c ≡ (now p j).rules →
-    ((e : Entry) (key_of : Option (List ℕ)) → option_map (λ (s : Slot). s.0) e.slot ≡ slot_of (slots p (entry.Command c ∷ j)) key_of → e.counted ≡ counts_now (now p j).on key_of →
+    ((e : TableEntry) (key_of : Option (List ℕ)) → option_map (λ (s : Slot). s.0) e.slot ≡ slot_of (slots p (entry.Command c ∷ j)) key_of → e.counted ≡ counts_now (now p j).on key_of →
     (with_counting slot b e).counted ≡ counts_now (switched c (now p j).on) key_of) →
     Fives p (now p j) → Shows p j (gen j) t → number ≡ t.number + 1 → entries ≡ map (with_counting slot b) t.entries → IsTable p.catalog entries →
     ShowsSessionKeys p (entry.Command c ∷ j) (gen (entry.Command c ∷ j)) flags →
@@ -326,7 +326,7 @@ pub shows_switched : (p : Setting) (j : Journal) (c : Command) (slot : Slot) (b 
 shows_switched p j c slot b t number entries flags is stay turns fives shows number_is entries_are table session =
     let k : Journal = entry.Command c ∷ j in
     let back : (r : Active) → Contains (rules_after p (now p j) c) r → Contains (now p j).rules r = λ r there. subst (λ (rs : List Active). Contains rs r) stay there in
-    let stands : (e : Entry) (r : Active) → Contains (rules_after p (now p j) c) r → StandsFor p j (gen j) e r → StandsFor p k (gen k) (with_counting slot b e) r =
+    let stands : (e : TableEntry) (r : Active) → Contains (rules_after p (now p j) c) r → StandsFor p j (gen j) e r → StandsFor p k (gen k) (with_counting slot b e) r =
     λ e r there stands. record {
       rule_is = ap (rule_of p.catalog) (keeps_source slot b e) ∙ stands.rule_is;
       bearer_is = ap (λ (x : BearerId). x.0) (keeps_bearer slot b e) ∙ bearer_next p j c e r is fives (back r there) stands;
@@ -345,10 +345,10 @@ shows_switched p j c slot b t number entries flags is stay turns fives shows num
     let v = map_from (with_counting slot b) t.entries e (subst (λ es. Contains es e) entries_are there) in
     let w = only_now p j t shows v.0 v.1 in
     let after : Contains (rules_after p (now p j) c) w.0 = subst (λ (rs : List Active). Contains rs w.0) (sym stay) w.1 in
-    (w.0, after, subst (λ (y : Entry). StandsFor p k (gen k) y w.0) v.2 (stands v.0 w.0 after w.2)))
+    (w.0, after, subst (λ (y : TableEntry). StandsFor p k (gen k) y w.0) v.2 (stands v.0 w.0 after w.2)))
 
 -- the entries that have the slot of the key count now
-pub shows_monitor : (p : Setting) (j : Journal) (key : List ℕ) (amount : ℕ) (level : Level) (slot : Slot) (t : TableValue) (number : ℕ) (entries : List Entry) (flags : List Bool) → Fives p (now p j) → Shows p j (gen j) t →
+pub shows_monitor : (p : Setting) (j : Journal) (key : List ℕ) (amount : ℕ) (level : Level) (slot : Slot) (t : TableValue) (number : ℕ) (entries : List TableEntry) (flags : List Bool) → Fives p (now p j) → Shows p j (gen j) t →
     place_of key (slots p (entry.Command (Monitor key amount level) ∷ j)) ≡ Some slot.0 → number ≡ t.number + 1 → entries ≡ map (with_counting slot true) t.entries → IsTable p.catalog entries →
     ShowsSessionKeys p (entry.Command (Monitor key amount level) ∷ j) (gen (entry.Command (Monitor key amount level) ∷ j)) flags →
     Shows p (entry.Command (Monitor key amount level) ∷ j) (gen (entry.Command (Monitor key amount level) ∷ j)) (record { number = number; entries = entries; session = flags })
@@ -357,7 +357,7 @@ shows_monitor p j key amount level slot t number entries flags fives shows place
     (λ e key_of slot_is counted_is. counting_next (slots p (entry.Command (Monitor key amount level) ∷ j)) (now p j).on key slot e key_of place slot_is counted_is) fives shows number_is entries_are table session
 
 -- and no longer
-pub shows_stop : (p : Setting) (j : Journal) (key : List ℕ) (slot : Slot) (t : TableValue) (number : ℕ) (entries : List Entry) (flags : List Bool) → Fives p (now p j) → Shows p j (gen j) t →
+pub shows_stop : (p : Setting) (j : Journal) (key : List ℕ) (slot : Slot) (t : TableValue) (number : ℕ) (entries : List TableEntry) (flags : List Bool) → Fives p (now p j) → Shows p j (gen j) t →
     place_of key (slots p (entry.Command (Stop key) ∷ j)) ≡ Some slot.0 → number ≡ t.number + 1 → entries ≡ map (with_counting slot false) t.entries → IsTable p.catalog entries →
     ShowsSessionKeys p (entry.Command (Stop key) ∷ j) (gen (entry.Command (Stop key) ∷ j)) flags →
     Shows p (entry.Command (Stop key) ∷ j) (gen (entry.Command (Stop key) ∷ j)) (record { number = number; entries = entries; session = flags })

@@ -1,6 +1,6 @@
 -- A table goes on showing its generation as the journal grows.
 use Rattle.std.proofs.Common.{◌≡◌, ◌∙◌, ◌≤◌, ℕ, [], ◌∷◌, length, sym, ap, subst, Contains, append-nil}
-use Rattle.pcef_table.specs.declared.entry.Entry.{Entry}
+use Rattle.pcef_table.specs.declared.entry.TableEntry.{TableEntry}
 use Rattle.pcef_table.specs.Tables.{TableValue}
 use Rattle.pcef_model.specs.declared.entry.Entry.TheVariants as entry
 use Rattle.pcef_model.specs.declared.command.Command.{Command}
@@ -17,7 +17,7 @@ use Rattle.pcef_session.proofs.ShownSession.{session_later}
 use Rattle.pcef_model.proofs.SlotPlaces.{Grows}
 use Rattle.pcef_model.proofs.SlotsGrow.{shown_slots, slot_stays, slots_grow_by}
 
-pub stands_later : (p : Setting) (j k : Journal) (g : ℕ) (e : Entry) (r : Active) → at p k g ≡ at p j g → Grows (slots p j) (slots p k) →
+pub stands_later : (p : Setting) (j k : Journal) (g : ℕ) (e : TableEntry) (r : Active) → at p k g ≡ at p j g → Grows (slots p j) (slots p k) →
     Contains (at p j g).rules r → StandsFor p j g e r → StandsFor p k g e r
 stands_later p j k g e r same grows there stands = record {
   rule_is = stands.rule_is;

@@ -10,7 +10,7 @@ use Rattle.pcef_packet.specs.declared.header.Header.{Header}
 use Rattle.pcef_rule.specs.declared.quantity.BearerId.{BearerId}
 use Rattle.pcef_rule.specs.declared.rule.Properties.{Properties}
 use Rattle.pcef_rule.specs.Gate.{opens}
-use Rattle.pcef_table.specs.declared.entry.Entry.{Entry}
+use Rattle.pcef_table.specs.declared.entry.TableEntry.{TableEntry}
 use Rattle.pcef_table.specs.declared.entry.Source.{Source}
 use Rattle.pcef_table.specs.declared.entry.Source.TheVariants.{Dynamic, Predefined}
 use Rattle.pcef_catalog.specs.declared.listing.Offer.{Offer}
@@ -55,7 +55,7 @@ rule_is offers (Predefined index) r is = offer_is offers index (slice_get offers
 
 -- ---- the entry that decides, and its rule
 -- the rule of a decisive entry is the one that decides
-pub entry_decides : (p : Setting) (j : Journal) (g : ℕ) (t : TableValue) (header : Header) (e : Entry) (r : Active) → Shows p j g t → NamesOnce (at p j g).rules →
+pub entry_decides : (p : Setting) (j : Journal) (g : ℕ) (t : TableValue) (header : Header) (e : TableEntry) (r : Active) → Shows p j g t → NamesOnce (at p j g).rules →
     Contains (at p j g).rules r → StandsFor p j g e r → sources.fits p.catalog p.ue header e.source ≡ true →
     All (λ f. sources.fits p.catalog p.ue header f.source ≡ true → (f ≡ e) ⊎ GoesBefore p.catalog e f) t.entries →
     decisive (at p j g).rules p.ue header ≡ Some r
@@ -72,7 +72,7 @@ entry_decides p j g t header e r shows once there stands fitting first =
           let f_fits : sources.fits p.catalog p.ue header w.0.source ≡ true = f_is.fits_alike p.ue header ∙ hits in
           rw hits (elim (All-contains (λ f. sources.fits p.catalog p.ue header f.source ≡ true → (f ≡ e) ⊎ GoesBefore p.catalog e f) t.entries w.0 first w.1 f_fits) [
             | inl same ↦
-                let one : s ≡ r = some_is s r (sym w.2.rule_is ∙ ap (λ (x : Entry). rule_of p.catalog x.source) same ∙ stands.rule_is) in
+                let one : s ≡ r = some_is s r (sym w.2.rule_is ∙ ap (λ (x : TableEntry). rule_of p.catalog x.source) same ∙ stands.rule_is) in
                 or_left (is_named r.properties.name s) (is_before r s) (same_name_of s.properties.name r.properties.name (ap (λ (x : Active). x.properties.name) one))
             | inr before ↦ or_right (is_named r.properties.name s) (is_before r s) (rw (e_is.rank_is, f_is.rank_is) at before)
           ])

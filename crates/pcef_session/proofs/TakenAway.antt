@@ -2,7 +2,7 @@
 use Rattle.std.proofs.Common.{◌≡◌, ◌∙◌, ◌+◌, ℕ, Bool, true, false, not, List, [], ◌∷◌, refl, sym, ap, subst, arith, inl, inr, filter, Contains, None}
 use Rattle.std.specs.List.{list_any}
 use Rattle.std.proofs.lemmas.Bool.{cases_Bool}
-use Rattle.pcef_table.specs.declared.entry.Entry.{Entry}
+use Rattle.pcef_table.specs.declared.entry.TableEntry.{TableEntry}
 use Rattle.pcef_table.specs.Tables.{IsTable, TableValue, is_taken, without_taken}
 use Rattle.pcef_catalog.specs.declared.listing.Offer.{Offer}
 use Rattle.pcef_bearer.specs.Bindings.{Binding}
@@ -39,7 +39,7 @@ filter_none (x ∷ xs) = filter_none xs
 
 -- ---- the table: the entries of the rules that stay
 -- an entry goes with its rule
-pub taken_with : (p : Setting) (j : Journal) (c : Command) (e : Entry) (r : Active) → StandsFor p j (gen j) e r → not (is_taken p.catalog c e) ≡ stays (now p j) c r
+pub taken_with : (p : Setting) (j : Journal) (c : Command) (e : TableEntry) (r : Active) → StandsFor p j (gen j) e r → not (is_taken p.catalog c e) ≡ stays (now p j) c r
 taken_with p j c e r stands =
     ap (λ b. not b)
     (ap (λ name. takes_away c name e.bearer.0) (name_is p j (gen j) e r stands)

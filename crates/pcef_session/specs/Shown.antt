@@ -1,7 +1,7 @@
 -- When a table shows a generation of the journal.
 use Rattle.std.specs.Prelude.{ℕ, ◌≡◌, ◌<◌, Bool, ◌&&◌, IfSome, List, Option, Some, length, slice_get, Contains}
 use Rattle.std.specs.Option.{option_map}
-use Rattle.pcef_table.specs.declared.entry.Entry.{Entry}
+use Rattle.pcef_table.specs.declared.entry.TableEntry.{TableEntry}
 use Rattle.pcef_table.specs.declared.entry.Source.{Source}
 use Rattle.pcef_table.specs.declared.entry.Source.TheVariants.{Dynamic, Predefined}
 use Rattle.pcef_catalog.specs.declared.listing.Offer.{Offer}
@@ -21,7 +21,7 @@ rule_of offers (Dynamic rule) = Some (dynamic rule)
 rule_of offers (Predefined index) = option_map predefined (slice_get offers index)
 
 -- an entry that stands for a rule: its bearer, the slot of its key, which is one of eight, and whether the key is on
-pub record StandsFor (p : Setting) (j : Journal) (g : ℕ) (e : Entry) (r : Active) : Type 0 where
+pub record StandsFor (p : Setting) (j : Journal) (g : ℕ) (e : TableEntry) (r : Active) : Type 0 where
   pub rule_is : rule_of p.catalog e.source ≡ Some r
   pub bearer_is : e.bearer.0 ≡ (at p j g).id_of r.properties.qos
   pub slot_is : option_map (λ s. s.0) e.slot ≡ slot_of (slots p j) r.properties.key
@@ -44,5 +44,5 @@ pub record Shows (p : Setting) (j : Journal) (g : ℕ) (t : TableValue) : Type 0
   pub number_is : t.number ≡ g
   pub ordered : IsTable p.catalog t.entries
   pub session : ShowsSessionKeys p j g t.session
-  pub each : (r : Active) → Contains (at p j g).rules r → (e : Entry) × Contains t.entries e × StandsFor p j g e r
-  pub only : (e : Entry) → Contains t.entries e → (r : Active) × Contains (at p j g).rules r × StandsFor p j g e r
+  pub each : (r : Active) → Contains (at p j g).rules r → (e : TableEntry) × Contains t.entries e × StandsFor p j g e r
+  pub only : (e : TableEntry) → Contains t.entries e → (r : Active) × Contains (at p j g).rules r × StandsFor p j g e r

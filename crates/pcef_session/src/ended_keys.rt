@@ -11,7 +11,7 @@ use crate::prepared::Activation;
 use pcef_catalog::Listing;
 use pcef_model::{Cause, Command, PendingReport};
 use pcef_rule::{KeyName, RuleName};
-use pcef_table::Entry;
+use pcef_table::TableEntry;
 use pcef_usage::KeyState;
 use std::alloc::AllocError;
 
@@ -46,7 +46,7 @@ fn comes_with(rule: Option<&Activation>, key: &KeyName) -> bool
 }
 
 /// Whether the rule of some entry has this key.
-fn has_key(entries: &[Entry], listing: &Listing, key: &KeyName) -> bool
+fn has_key(entries: &[TableEntry], listing: &Listing, key: &KeyName) -> bool
     requires { All (λ e. IsKnown listing.now e.source) entries.now }
     ensures { result ≡ some_entry listing.now (has_key key.now) entries.now }
 {
@@ -59,7 +59,12 @@ fn has_key(entries: &[Entry], listing: &Listing, key: &KeyName) -> bool
 }
 
 /// Whether the rule of an entry is neither replaced by the one that becomes active nor taken away.
-fn stays(entry: &Entry, listing: &Listing, command: &Command, rule: Option<&Activation>) -> bool
+fn stays(
+    entry: &TableEntry,
+    listing: &Listing,
+    command: &Command,
+    rule: Option<&Activation>,
+) -> bool
     requires { IsKnown listing.now entry.now.source }
     ensures { result ≡ entry_stays listing.now command.now (option_copied rule.entry) entry.now }
 {
@@ -69,7 +74,7 @@ fn stays(entry: &Entry, listing: &Listing, command: &Command, rule: Option<&Acti
 
 /// Whether the rule of an entry stays, and has this key.
 fn stays_with(
-    entry: &Entry,
+    entry: &TableEntry,
     listing: &Listing,
     command: &Command,
     rule: Option<&Activation>,
@@ -85,7 +90,7 @@ fn stays_with(
 
 /// Whether a rule that has this key stays.
 fn keeps_one(
-    entries: &[Entry],
+    entries: &[TableEntry],
     listing: &Listing,
     command: &Command,
     rule: Option<&Activation>,
@@ -106,7 +111,7 @@ fn keeps_one(
 /// Whether a key is on and loses its last rule.
 fn is_lost(
     state: &KeyState,
-    entries: &[Entry],
+    entries: &[TableEntry],
     listing: &Listing,
     command: &Command,
     rule: Option<&Activation>,
@@ -124,7 +129,7 @@ fn is_lost(
 /// their last rule.
 fn is_ended(
     state: &KeyState,
-    entries: &[Entry],
+    entries: &[TableEntry],
     listing: &Listing,
     command: &Command,
     rule: Option<&Activation>,
@@ -169,7 +174,7 @@ fn note(
 pub(crate) fn add_ended_keys(
     reports: &mut Vec<PendingReport>,
     states: &[KeyState],
-    entries: &[Entry],
+    entries: &[TableEntry],
     listing: &Listing,
     command: &Command,
     rule: Option<&Activation>,

@@ -8,7 +8,7 @@ use crate::keys::{is_on, slot_of};
 use crate::prepared::Activation;
 use pcef_bearer::Bearers;
 use pcef_rule::{BearerId, Properties};
-use pcef_table::Entry;
+use pcef_table::TableEntry;
 use pcef_usage::Usage;
 use std::alloc::AllocError;
 
@@ -28,12 +28,12 @@ pub(crate) fn entry_of(
     usage: &Usage,
     rule: &Activation,
     bearer: BearerId,
-) -> Result<Entry, AllocError>
+) -> Result<TableEntry, AllocError>
     ensures { IfOk result (λ e. IsEntryOn bearer usage.now rule.now e) }
 {
     let source = rule.source.copy()?;
     let key = rule.properties.key.as_ref();
-    Ok(Entry {
+    Ok(TableEntry {
         source,
         bearer,
         slot: slot_of(usage, key),

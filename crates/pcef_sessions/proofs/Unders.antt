@@ -2,7 +2,7 @@
 use Rattle.std.proofs.Common.{◌≡◌, ◌≢◌, ◌∙◌, ℕ, Bool, true, false, List, Option, Some, None, refl, sym, ap, subst, string_bytes}
 use Rattle.pcef_model.specs.Setting.{Setting}
 use Rattle.pcef_world.specs.Steps.{Standing}
-use Rattle.pcef_script.specs.declared.step.Answer.{Answer}
+use Rattle.pcef_script.specs.declared.step.LineAnswer.{LineAnswer}
 use Rattle.pcef_script.specs.ScriptAnswers.{AnswersLine}
 use Rattle.pcef_sessions.specs.declared.asking.Asking.{Asking}
 use Rattle.pcef_sessions.specs.declared.asking.Asking.TheVariants as asking
@@ -12,13 +12,13 @@ use Rattle.pcef_sessions.specs.private.Steps.{AsksOf, InsteadOf, Runs}
 use Rattle.pcef_sessions.proofs.Asks.{fault_stays, is_of_script}
 
 -- no session is there
-asks_without : (p : Setting) (asks : Asking) (a : Answer) (after : Option Session) → AsksOf p None asks a after → WithoutSession p asks (string_bytes a.text) a.is_fault after
+asks_without : (p : Setting) (asks : Asking) (a : LineAnswer) (after : Option Session) → AsksOf p None asks a after → WithoutSession p asks (string_bytes a.text) a.is_fault after
 asks_without p (asking.Open ue) a after h = h
 asks_without p asking.End a after h = h
 asks_without p (asking.Fault why) a after h = h
 asks_without p asking.Script a after h = h
 
-pub none_told : (p : Setting) (there between after : Option Session) (asks : Asking) (line : List ℕ) (a : Answer)
+pub none_told : (p : Setting) (there between after : Option Session) (asks : Asking) (line : List ℕ) (a : LineAnswer)
     → Runs there line None between → asks ≡ asked_of line → AsksOf p between asks a after → UnderName p there line (string_bytes a.text) a.is_fault after
 none_told p None between after asks line a none is h =
     let moved : AsksOf p None asks a after = subst (λ o. AsksOf p o asks a after) none h in
@@ -26,14 +26,14 @@ none_told p None between after asks line a none is h =
 none_told p (Some s) between after asks line a none is h = absurd none
 
 -- a session answered
-pub script_told : (p : Setting) (there after : Option Session) (line : List ℕ) (a : Answer) → Runs there line (Some a) after → a.is_fault ≡ false → UnderName p there line (string_bytes a.text) a.is_fault after
+pub script_told : (p : Setting) (there after : Option Session) (line : List ℕ) (a : LineAnswer) → Runs there line (Some a) after → a.is_fault ≡ false → UnderName p there line (string_bytes a.text) a.is_fault after
 script_told p None after line a runs right = absurd runs
 script_told p (Some s) after line a runs right =
     let script = is_of_script s.setting s.standing runs.0 line (string_bytes a.text) a.is_fault runs.1 right in
     subst (λ k. UnderBy p (Some s) k line (string_bytes a.text) a.is_fault after) (sym script) runs
 
 -- a session answered with a fault, and the line may be for the sessions
-instead_by : (p : Setting) (s : Session) (asks : Asking) (line : List ℕ) (script a : Answer) (between after : Option Session) → Runs (Some s) line (Some script) between → script.is_fault ≡ true
+instead_by : (p : Setting) (s : Session) (asks : Asking) (line : List ℕ) (script a : LineAnswer) (between after : Option Session) → Runs (Some s) line (Some script) between → script.is_fault ≡ true
     → InsteadOf p between asks script a after → UnderBy p (Some s) asks line (string_bytes a.text) a.is_fault after
 instead_by p s asks line script a between after runs wrong h = by_asks asks h
   where
@@ -45,9 +45,9 @@ instead_by p s asks line script a between after runs wrong h = by_asks asks h
     by_asks asking.End h = subst (λ o. AsksOf p o asking.End a after) same h
     by_asks (asking.Fault why) h = subst (λ o. AsksOf p o (asking.Fault why) a after) same h
     by_asks asking.Script h =
-        (runs.0, subst (λ (b : Answer). AnswersLine s.setting s.standing line (string_bytes b.text) b.is_fault runs.0) (sym h.0) runs.1, h.1 ∙ runs.2)
+        (runs.0, subst (λ (b : LineAnswer). AnswersLine s.setting s.standing line (string_bytes b.text) b.is_fault runs.0) (sym h.0) runs.1, h.1 ∙ runs.2)
 
-pub instead_told : (p : Setting) (there between after : Option Session) (line : List ℕ) (script a : Answer) → Runs there line (Some script) between → script.is_fault ≡ true
+pub instead_told : (p : Setting) (there between after : Option Session) (line : List ℕ) (script a : LineAnswer) → Runs there line (Some script) between → script.is_fault ≡ true
     → InsteadOf p between (asked_of line) script a after → UnderName p there line (string_bytes a.text) a.is_fault after
 instead_told p None between after line script a runs wrong h = absurd runs
 instead_told p (Some s) between after line script a runs wrong h = instead_by p s (asked_of line) line script a between after runs wrong h

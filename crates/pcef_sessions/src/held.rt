@@ -9,7 +9,7 @@ ghost use Rattle.pcef_world.specs.Steps.{standing_of};
 use pcef_built_in::ShapedCatalog;
 use pcef_index::IndexShelf;
 use pcef_line::LineReader;
-use pcef_script::{Answer, answer_alone};
+use pcef_script::{LineAnswer, answer_alone};
 use pcef_world::WorldState;
 use std::alloc::{AllocError, Global};
 use std::marker::Model;
@@ -65,7 +65,7 @@ impl Held {
         alloc: Global,
         lines: &mut LineReader,
         line: &[u8],
-    ) -> Result<Answer, AllocError>
+    ) -> Result<LineAnswer, AllocError>
         requires { is_blank line.now ≡ false }
         ensures answer { IfOk result (λ a. AnswersLine self.old.setting self.old.standing line.now
             (string_bytes a.text) a.is_fault self.new.standing) }

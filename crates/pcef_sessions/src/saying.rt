@@ -7,7 +7,7 @@ use crate::asking::AskingFault;
 use crate::name::SessionName;
 use pcef_answer::fault_text;
 use pcef_line::LineFault;
-use pcef_script::Answer;
+use pcef_script::LineAnswer;
 use std::alloc::{AllocError, Global};
 
 /// The answer to a line.
@@ -16,15 +16,15 @@ pub struct NamedAnswer {
     /// The session's name, or none where the line has no right one.
     pub name: Option<SessionName>,
     /// What is answered.
-    pub answer: Answer,
+    pub answer: LineAnswer,
 }
 
 /// An answer of this text.
-pub(crate) fn says(alloc: Global, text: &str, is_fault: bool) -> Result<Answer, AllocError>
+pub(crate) fn says(alloc: Global, text: &str, is_fault: bool) -> Result<LineAnswer, AllocError>
     ensures text { IfOk result (λ a. string_bytes a.text ≡ text.now) }
     ensures fault { IfOk result (λ a. a.is_fault ≡ is_fault) }
 {
-    Ok(Answer {
+    Ok(LineAnswer {
         text: String::from_str(alloc, text)?,
         is_fault,
     })
@@ -45,11 +45,11 @@ fn text_of(alloc: Global, fault: AskingFault) -> Result<String, AllocError>
 }
 
 /// The answer to a line at fault that opens a session or ends one.
-pub(crate) fn says_fault(alloc: Global, fault: AskingFault) -> Result<Answer, AllocError>
+pub(crate) fn says_fault(alloc: Global, fault: AskingFault) -> Result<LineAnswer, AllocError>
     ensures text { IfOk result (λ a. string_bytes a.text ≡ asking_fault_text fault) }
     ensures fault { IfOk result (λ a. a.is_fault ≡ true) }
 {
-    Ok(Answer {
+    Ok(LineAnswer {
         text: text_of(alloc, fault)?,
         is_fault: true,
     })

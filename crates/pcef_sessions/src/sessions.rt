@@ -24,7 +24,7 @@ use pcef_index::IndexShelf;
 use pcef_line::LineReader;
 use pcef_model::{OpenFault, Profile};
 use pcef_packet::Addr;
-use pcef_script::{Answer, ScriptFault};
+use pcef_script::{LineAnswer, ScriptFault};
 use pcef_world::WorldState;
 use std::alloc::{AllocError, Global};
 use std::collections::HashMap;
@@ -148,7 +148,7 @@ impl Sessions {
 
     /// The answer of a script to a line for a name, if there is a session. Where the line changed its rules, it may share
     /// an index then.
-    fn run(&mut self, name: &SessionName, line: &[u8]) -> Result<Option<Answer>, AllocError>
+    fn run(&mut self, name: &SessionName, line: &[u8]) -> Result<Option<LineAnswer>, AllocError>
         requires { is_blank line.now ≡ false }
         ensures there { IfOk result (λ a. Runs (held self.old name.now) line.now a
             (held self.new name.now)) }
@@ -168,7 +168,11 @@ impl Sessions {
     }
 
     /// The answer to a line that opens a session.
-    fn answer_open(&mut self, name: &SessionName, ue: Option<Addr>) -> Result<Answer, AllocError>
+    fn answer_open(
+        &mut self,
+        name: &SessionName,
+        ue: Option<Addr>,
+    ) -> Result<LineAnswer, AllocError>
         ensures told { IfOk result (λ a. Asks self.old name.now (asking.Open ue) a self.new) }
         ensures fixed { fixed self.new ≡ fixed self.old }
     {
@@ -184,7 +188,7 @@ impl Sessions {
     }
 
     /// The answer to a line that ends a session.
-    fn asked_end(&mut self, name: &SessionName) -> Result<Answer, AllocError>
+    fn asked_end(&mut self, name: &SessionName) -> Result<LineAnswer, AllocError>
         ensures told { IfOk result (λ a. Asks self.old name.now asking.End a self.new) }
         ensures fixed { fixed self.new ≡ fixed self.old }
     {
@@ -196,7 +200,7 @@ impl Sessions {
     }
 
     /// The answer to a line that asks this of the sessions, or of a session that isn't open.
-    fn ask(&mut self, name: &SessionName, asking: Asking) -> Result<Answer, AllocError>
+    fn ask(&mut self, name: &SessionName, asking: Asking) -> Result<LineAnswer, AllocError>
         ensures told { IfOk result (λ a. Asks self.old name.now asking a self.new) }
         ensures fixed { fixed self.new ≡ fixed self.old }
     {
@@ -209,7 +213,7 @@ impl Sessions {
     }
 
     /// The answer to a line of a session that isn't open.
-    fn ask_first(&mut self, name: &SessionName, line: &[u8]) -> Result<Answer, AllocError>
+    fn ask_first(&mut self, name: &SessionName, line: &[u8]) -> Result<LineAnswer, AllocError>
         ensures told { IfOk result (λ a. Asks self.old name.now (asked_of line.now) a self.new) }
         ensures fixed { fixed self.new ≡ fixed self.old }
     {
@@ -222,8 +226,8 @@ impl Sessions {
         &mut self,
         name: &SessionName,
         line: &[u8],
-        answer: Answer,
-    ) -> Result<Answer, AllocError>
+        answer: LineAnswer,
+    ) -> Result<LineAnswer, AllocError>
         ensures told { IfOk result (λ a. AsksInstead self.old name.now line.now answer a self.new) }
         ensures fixed { fixed self.new ≡ fixed self.old }
     {
@@ -234,7 +238,7 @@ impl Sessions {
     }
 
     /// The answer to a line for a name.
-    fn answer_to(&mut self, name: &SessionName, line: &[u8]) -> Result<Answer, AllocError>
+    fn answer_to(&mut self, name: &SessionName, line: &[u8]) -> Result<LineAnswer, AllocError>
         requires { is_blank line.now ≡ false }
         ensures told { IfOk result (λ a. AnswersIn self.old name.now line.now a self.new) }
         ensures fixed { fixed self.new ≡ fixed self.old }

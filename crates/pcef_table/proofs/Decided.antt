@@ -11,7 +11,7 @@ use Rattle.pcef_packet.specs.declared.header.Header.{Header}
 use Rattle.pcef_packet.specs.Addresses.{is_assigned, ue_side}
 use Rattle.pcef_rule.specs.declared.rule.Properties.{Properties}
 use Rattle.pcef_rule.specs.Gate.{opens}
-use Rattle.pcef_table.specs.declared.entry.Entry.{Entry}
+use Rattle.pcef_table.specs.declared.entry.TableEntry.{TableEntry}
 use Rattle.pcef_catalog.specs.declared.listing.Offer.{Offer}
 use Rattle.pcef_model.specs.declared.verdict.Verdict.{Verdict}
 use Rattle.pcef_model.specs.declared.verdict.Verdict.TheVariants.{Gated, Passed, Stray, Unmatched}
@@ -23,9 +23,9 @@ use Rattle.pcef_lists.proofs.Foremost.{found_is_foremost}
 use Rattle.pcef_lists.proofs.Found.{find_some}
 
 -- the first entry that fits is decisive
-first_is_decisive : (offers : List Offer) (entries : List Entry) (ue : Addr) (header : Header) (e : Entry) (p : Properties) → AllPairs (GoesBefore offers) entries → find (λ (f : Entry). fits offers ue header f.source) entries ≡ Some e → properties_of offers e.source ≡ Some p → IsDecisive offers entries ue header e p
+first_is_decisive : (offers : List Offer) (entries : List TableEntry) (ue : Addr) (header : Header) (e : TableEntry) (p : Properties) → AllPairs (GoesBefore offers) entries → find (λ (f : TableEntry). fits offers ue header f.source) entries ≡ Some e → properties_of offers e.source ≡ Some p → IsDecisive offers entries ue header e p
 first_is_decisive offers entries ue header e p ordered found known =
-    let foremost = found_is_foremost (GoesBefore offers) (λ (f : Entry). fits offers ue header f.source) entries e ordered found in
+    let foremost = found_is_foremost (GoesBefore offers) (λ (f : TableEntry). fits offers ue header f.source) entries e ordered found in
     record {
       there = foremost.there;
       properties_are = known;
@@ -34,7 +34,7 @@ first_is_decisive offers entries ue header e p ordered found known =
     }
 
 -- where the first entry that fits is known, its gate decides
-pub gate_decides : (offers : List Offer) (entries : List Entry) (ue : Addr) (header : Header) (e : Entry) (p : Properties) (verdict : Verdict) → is_assigned (ue_side header) ue ≡ true → AllPairs (GoesBefore offers) entries → find (λ (f : Entry). fits offers ue header f.source) entries ≡ Some e → properties_of offers e.source ≡ Some p → verdict ≡ gate_verdict p e.bearer header.dir → IsVerdict offers entries ue header verdict
+pub gate_decides : (offers : List Offer) (entries : List TableEntry) (ue : Addr) (header : Header) (e : TableEntry) (p : Properties) (verdict : Verdict) → is_assigned (ue_side header) ue ≡ true → AllPairs (GoesBefore offers) entries → find (λ (f : TableEntry). fits offers ue header f.source) entries ≡ Some e → properties_of offers e.source ≡ Some p → verdict ≡ gate_verdict p e.bearer header.dir → IsVerdict offers entries ue header verdict
 gate_decides offers entries ue header e p verdict own ordered found known is =
     let decisive = first_is_decisive offers entries ue header e p ordered found known in
     subst (IsVerdict offers entries ue header) (sym is)
@@ -44,23 +44,23 @@ gate_decides offers entries ue header e p verdict own ordered found known is =
 
 -- ---- the slot
 -- where no two entries have one name, an entry is the first of its name
-named_is_found : (offers : List Offer) (entries : List Entry) (e : Entry) → AllPairs (AreNamedApart offers) entries → Contains entries e → find (λ (f : Entry). is_named offers (name_of offers e.source) f.source) entries ≡ Some e
+named_is_found : (offers : List Offer) (entries : List TableEntry) (e : TableEntry) → AllPairs (AreNamedApart offers) entries → Contains entries e → find (λ (f : TableEntry). is_named offers (name_of offers e.source) f.source) entries ≡ Some e
 named_is_found offers entries e apart there =
-    let named = λ (f : Entry). is_named offers (name_of offers e.source) f.source in
+    let named = λ (f : TableEntry). is_named offers (name_of offers e.source) f.source in
     let own : named e ≡ true = (bytes_eq-Decides (name_of offers e.source) (name_of offers e.source)).1 refl in
     let some = find_some named entries e there own in
     let foremost = found_is_foremost (AreNamedApart offers) named entries some.0 apart some.1 in
-    elim (All-contains (λ (y : Entry). named y ≡ true → (y ≡ some.0) ⊎ AreNamedApart offers some.0 y) entries e foremost.first there own) [
+    elim (All-contains (λ (y : TableEntry). named y ≡ true → (y ≡ some.0) ⊎ AreNamedApart offers some.0 y) entries e foremost.first there own) [
       | inl same ↦ some.1 ∙ ap (λ y. Some y) (sym same)
       | inr differs ↦ absurd (differs ((bytes_eq-Decides (name_of offers some.0.source) (name_of offers e.source)).0 foremost.passes))
     ]
 
 -- the slot of what an entry's gate decides is that of the entry
-pub entry_counts : (offers : List Offer) (entries : List Entry) (e : Entry) (dir : Dir) (verdict : Verdict) → AllPairs (AreNamedApart offers) entries → Contains entries e → verdict_by offers dir e ≡ Some verdict → slot_by e verdict ≡ slot_for offers entries verdict
+pub entry_counts : (offers : List Offer) (entries : List TableEntry) (e : TableEntry) (dir : Dir) (verdict : Verdict) → AllPairs (AreNamedApart offers) entries → Contains entries e → verdict_by offers dir e ≡ Some verdict → slot_by e verdict ≡ slot_for offers entries verdict
 entry_counts offers entries e dir verdict apart there by = from (properties_of offers e.source) refl
   where
-    passing : (p : Properties) → properties_of offers e.source ≡ Some p → find (λ (f : Entry). is_named offers p.name f.source) entries ≡ Some e
-    passing p known = subst (λ (n : List ℕ). find (λ (f : Entry). is_named offers n f.source) entries ≡ Some e) (ap (λ o. option_map_or (λ (q : Properties). q.name) o []) known) (named_is_found offers entries e apart there)
+    passing : (p : Properties) → properties_of offers e.source ≡ Some p → find (λ (f : TableEntry). is_named offers p.name f.source) entries ≡ Some e
+    passing p known = subst (λ (n : List ℕ). find (λ (f : TableEntry). is_named offers n f.source) entries ≡ Some e) (ap (λ o. option_map_or (λ (q : Properties). q.name) o []) known) (named_is_found offers entries e apart there)
 
     counts : (p : Properties) → properties_of offers e.source ≡ Some p → slot_by e (gate_verdict p e.bearer dir) ≡ slot_for offers entries (gate_verdict p e.bearer dir)
     counts p known =
@@ -76,7 +76,7 @@ entry_counts offers entries e dir verdict apart there by = from (properties_of o
         subst (λ v. slot_by e v ≡ slot_for offers entries v) same (counts p known)
 
 -- where the first entry that fits is known, what its gate decides is the verdict
-pub entry_decides : (offers : List Offer) (entries : List Entry) (ue : Addr) (header : Header) (e : Entry) (verdict : Verdict) → is_assigned (ue_side header) ue ≡ true → AllPairs (GoesBefore offers) entries → find (λ (f : Entry). fits offers ue header f.source) entries ≡ Some e → verdict_by offers header.dir e ≡ Some verdict → IsVerdict offers entries ue header verdict
+pub entry_decides : (offers : List Offer) (entries : List TableEntry) (ue : Addr) (header : Header) (e : TableEntry) (verdict : Verdict) → is_assigned (ue_side header) ue ≡ true → AllPairs (GoesBefore offers) entries → find (λ (f : TableEntry). fits offers ue header f.source) entries ≡ Some e → verdict_by offers header.dir e ≡ Some verdict → IsVerdict offers entries ue header verdict
 entry_decides offers entries ue header e verdict own ordered found by = from (properties_of offers e.source) refl
   where
     from : (o : Option Properties) → properties_of offers e.source ≡ o → IsVerdict offers entries ue header verdict
@@ -87,9 +87,9 @@ entry_decides offers entries ue header e verdict own ordered found by = from (pr
         gate_decides offers entries ue header e p verdict own ordered found known same
 
 -- what is found is there
-pub found_there : (offers : List Offer) (entries : List Entry) (ue : Addr) (header : Header) (e : Entry) → AllPairs (GoesBefore offers) entries → find (λ (f : Entry). fits offers ue header f.source) entries ≡ Some e → Contains entries e
+pub found_there : (offers : List Offer) (entries : List TableEntry) (ue : Addr) (header : Header) (e : TableEntry) → AllPairs (GoesBefore offers) entries → find (λ (f : TableEntry). fits offers ue header f.source) entries ≡ Some e → Contains entries e
 found_there offers entries ue header e ordered found =
-    (found_is_foremost (GoesBefore offers) (λ (f : Entry). fits offers ue header f.source) entries e ordered found).there
+    (found_is_foremost (GoesBefore offers) (λ (f : TableEntry). fits offers ue header f.source) entries e ordered found).there
 
 -- the slots of a verdict are its own slot and those of the keys of session level
 pub beside_counted : (offers : List Offer) (t : TableValue) (v : Verdict) → slots_beside (slot_for offers t.entries v) t.session v ≡ slots_counted offers t v

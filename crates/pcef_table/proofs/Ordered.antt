@@ -9,7 +9,7 @@ use Rattle.std.proofs.lemmas.List.Kept.{AllPairs-cons, AllPairs-filter}
 use Rattle.pcef_rule.proofs.OrderOfRules.{rank_total}
 use Rattle.pcef_rule.specs.Precedence.{Rank, goes_before, rank_cmp}
 use Rattle.pcef_rule.specs.declared.quantity.Slot.{Slot}
-use Rattle.pcef_table.specs.declared.entry.Entry.{Entry}
+use Rattle.pcef_table.specs.declared.entry.TableEntry.{TableEntry}
 use Rattle.pcef_table.specs.declared.entry.Source.{Source}
 use Rattle.pcef_catalog.specs.declared.listing.Offer.{Offer}
 use Rattle.pcef_table.specs.Sources.{IsKnown, is_named, name_of, rank_of}
@@ -42,7 +42,7 @@ ordered_around R chain (a ∷ front) x back front_ordered below back_ordered abo
 
 -- ---- names
 -- an entry that has another name than x is named apart from it
-other_is_apart : (offers : List Offer) (x e : Entry) → has_other_name offers (name_of offers x.source) e ≡ true → AreNamedApart offers x e
+other_is_apart : (offers : List Offer) (x e : TableEntry) → has_other_name offers (name_of offers x.source) e ≡ true → AreNamedApart offers x e
 other_is_apart offers x e other same =
     contrary (is_named offers (name_of offers x.source) e.source) ((bytes_eq-Decides (name_of offers e.source) (name_of offers x.source)).1 (sym same)) (not_true (is_named offers (name_of offers x.source) e.source) other)
   where
@@ -81,7 +81,7 @@ pairs_around R (a ∷ front) back front_pairs back_pairs between =
     (pairs_around R front back (ordered_tail R a front front_pairs) back_pairs (All-tail (λ b. All (R b) back) a front between))
 
 -- some entries of a table are a table
-pub part_is_table : (offers : List Offer) (test : Entry → Bool) (entries : List Entry) → IsTable offers entries → IsTable offers (filter test entries)
+pub part_is_table : (offers : List Offer) (test : TableEntry → Bool) (entries : List TableEntry) → IsTable offers entries → IsTable offers (filter test entries)
 part_is_table offers test entries table = record {
   known = All-filter test (λ e. IsKnown offers e.source) entries table.known;
   ordered = AllPairs-filter (GoesBefore offers) test entries table.ordered;
@@ -93,7 +93,7 @@ pub apart : (a x : Rank) → goes_before a x ≡ true → goes_before x a ≡ fa
 apart a x before = ap is_lt (rank_total.antisymm x a ∙ ap ordering_reverse (less_if (rank_cmp a x) before))
 
 -- an entry in its place among those of other names leaves the names apart
-placed_names : (offers : List Offer) (x : Entry) (others : List Entry) → All (AreNamedApart offers x) others → AllPairs (AreNamedApart offers) others →
+placed_names : (offers : List Offer) (x : TableEntry) (others : List TableEntry) → All (AreNamedApart offers x) others → AllPairs (AreNamedApart offers) others →
     AllPairs (AreNamedApart offers) (filter (is_before offers x) others ++ x ∷ filter (is_behind offers x) others)
 placed_names offers x others other pairs =
     let front = filter (is_before offers x) others in
@@ -106,7 +106,7 @@ placed_names offers x others other pairs =
     (kept_apart (AreNamedApart offers) (λ a b differs same. differs (sym same)) (is_before offers x) (is_behind offers x) (λ e. apart (rank_of offers e.source) (rank_of offers x.source)) others pairs))
 
 -- a table with an entry in its place is a table
-pub placed_is_table : (offers : List Offer) (x : Entry) (entries : List Entry) → IsKnown offers x.source → IsTable offers entries → IsTable offers (placed offers x entries)
+pub placed_is_table : (offers : List Offer) (x : TableEntry) (entries : List TableEntry) → IsKnown offers x.source → IsTable offers entries → IsTable offers (placed offers x entries)
 placed_is_table offers x entries x_known table =
     let others = without offers (name_of offers x.source) entries in
     let rest : IsTable offers others = part_is_table offers (has_other_name offers (name_of offers x.source)) entries table in
@@ -125,7 +125,7 @@ placed_is_table offers x entries x_known table =
     }
 
 -- what holds of an entry's rule still holds where its slot is counted or not
-counted_keeps : (P : Source → Type 0) (slot : Slot) (on : Bool) (e : Entry) → P e.source → P (with_counting slot on e).source
+counted_keeps : (P : Source → Type 0) (slot : Slot) (on : Bool) (e : TableEntry) → P e.source → P (with_counting slot on e).source
 counted_keeps P slot on e holds = cond_both (is_slot slot e.slot) (record e { counted = on }) e (λ y. P y.source) (λ _. holds) (λ _. holds)
 
 -- a change of each element that keeps how two stand to each other leaves a list in order
@@ -137,7 +137,7 @@ ordered_after R f keeps (x ∷ xs) ordered =
     (ordered_after R f keeps xs (ordered_tail R x xs ordered))
 
 -- a table where a slot is counted or not is a table
-pub counting_is_table : (offers : List Offer) (slot : Slot) (on : Bool) (entries : List Entry) → IsTable offers entries → IsTable offers (map (with_counting slot on) entries)
+pub counting_is_table : (offers : List Offer) (slot : Slot) (on : Bool) (entries : List TableEntry) → IsTable offers entries → IsTable offers (map (with_counting slot on) entries)
 counting_is_table offers slot on entries table = record {
   known = All-map (λ e. IsKnown offers e.source) (with_counting slot on) entries
       (All-weaker (λ e. IsKnown offers e.source) (λ e. IsKnown offers (with_counting slot on e).source) (counted_keeps (IsKnown offers) slot on) entries table.known);
@@ -152,7 +152,7 @@ counting_is_table offers slot on entries table = record {
 }
 
 -- an entry in its place makes a table longer by one at most
-pub placed_length : (offers : List Offer) (x : Entry) (entries : List Entry) → length (placed offers x entries) ≤ length entries + 1
+pub placed_length : (offers : List Offer) (x : TableEntry) (entries : List TableEntry) → length (placed offers x entries) ≤ length entries + 1
 placed_length offers x entries =
     let others = without offers (name_of offers x.source) entries in
     let front = filter (is_before offers x) others in
@@ -164,13 +164,13 @@ placed_length offers x entries =
     omega arith
 
 -- a table that isn't full has room for an entry
-pub has_room : (offers : List Offer) (x : Entry) (entries : List Entry) → length entries < most_entries → length (placed offers x entries) ≤ most_entries
+pub has_room : (offers : List Offer) (x : TableEntry) (entries : List TableEntry) → length entries < most_entries → length (placed offers x entries) ≤ most_entries
 has_room offers x entries more =
     let longer = placed_length offers x entries in
     omega arith
 
 -- an empty list is a table
-pub empty_is_table : (offers : List Offer) (entries : List Entry) → entries ≡ [] → IsTable offers entries
+pub empty_is_table : (offers : List Offer) (entries : List TableEntry) → entries ≡ [] → IsTable offers entries
 empty_is_table offers entries empty = rw empty (record {
   known = All-nil (λ e. IsKnown offers e.source);
   ordered = λ i j d below within. absurd (omega arith);

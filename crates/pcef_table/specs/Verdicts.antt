@@ -10,14 +10,14 @@ use Rattle.pcef_rule.specs.declared.quantity.Slot.{Slot}
 use Rattle.pcef_rule.specs.declared.rule.Properties.{Properties}
 use Rattle.pcef_rule.specs.Gate.{opens}
 use Rattle.pcef_catalog.specs.declared.listing.Offer.{Offer}
-use Rattle.pcef_table.specs.declared.entry.Entry.{Entry}
+use Rattle.pcef_table.specs.declared.entry.TableEntry.{TableEntry}
 use Rattle.pcef_model.specs.declared.verdict.Verdict.{Verdict}
 use Rattle.pcef_model.specs.declared.verdict.Verdict.TheVariants.{Stray, Unmatched, Gated, Passed}
 use Rattle.pcef_table.specs.Sources.{fits, is_named, properties_of}
 use Rattle.pcef_table.specs.Tables.{GoesBefore}
 
 -- the one entry that fits and goes before every other entry that fits, and its rule's properties
-pub record IsDecisive (offers : List Offer) (entries : List Entry) (ue : Addr) (header : Header) (e : Entry) (p : Properties) : Type 0 where
+pub record IsDecisive (offers : List Offer) (entries : List TableEntry) (ue : Addr) (header : Header) (e : TableEntry) (p : Properties) : Type 0 where
   pub there : Contains entries e
   pub properties_are : properties_of offers e.source ≡ Some p
   pub fitting : fits offers ue header e.source ≡ true
@@ -29,31 +29,31 @@ gate_verdict p bearer dir = if opens p.gate dir then Passed p.name bearer else G
 
 -- a packet whose user equipment's side isn't the session's address is a stray (own choice); one that
 -- no rule fits is unmatched, and the gateway discards it; else the decisive entry's gate decides
-abbrev pub IsVerdict : List Offer → List Entry → Addr → Header → Verdict → Type 0
+abbrev pub IsVerdict : List Offer → List TableEntry → Addr → Header → Verdict → Type 0
 IsVerdict offers entries ue header Stray = is_assigned (ue_side header) ue ≡ false
 IsVerdict offers entries ue header Unmatched =
     (is_assigned (ue_side header) ue ≡ true) × All (λ e. fits offers ue header e.source ≡ false) entries
 IsVerdict offers entries ue header (Gated rule) =
-    (is_assigned (ue_side header) ue ≡ true) × (e : Entry) × (p : Properties)
+    (is_assigned (ue_side header) ue ≡ true) × (e : TableEntry) × (p : Properties)
     × IsDecisive offers entries ue header e p × (opens p.gate header.dir ≡ false) × (rule ≡ p.name)
 IsVerdict offers entries ue header (Passed rule bearer) =
-    (is_assigned (ue_side header) ue ≡ true) × (e : Entry) × (p : Properties)
+    (is_assigned (ue_side header) ue ≡ true) × (e : TableEntry) × (p : Properties)
     × IsDecisive offers entries ue header e p × (opens p.gate header.dir ≡ true) × (rule ≡ p.name) × (bearer ≡ e.bearer)
 
-abbrev pub counted_slot : Entry → Option Slot
+abbrev pub counted_slot : TableEntry → Option Slot
 counted_slot e = if e.counted then e.slot else None
 
 -- what the gate of an entry's rule decides of a packet of this direction
-abbrev pub verdict_by : List Offer → Dir → Entry → Option Verdict
+abbrev pub verdict_by : List Offer → Dir → TableEntry → Option Verdict
 verdict_by offers dir e = option_map (λ p. gate_verdict p e.bearer dir) (properties_of offers e.source)
 
 -- the slot that a packet counts for of which this entry decided so
-abbrev pub slot_by : Entry → Verdict → Option Slot
+abbrev pub slot_by : TableEntry → Verdict → Option Slot
 slot_by e (Passed rule bearer) = counted_slot e
 slot_by e _ = None
 
 -- the slot that a packet with this verdict counts for: that of the rule that let it pass, where the
 -- slot is counted
-abbrev pub slot_for : List Offer → List Entry → Verdict → Option Slot
+abbrev pub slot_for : List Offer → List TableEntry → Verdict → Option Slot
 slot_for offers entries (Passed rule bearer) = option_map_or counted_slot (find (λ e. is_named offers rule e.source) entries) None
 slot_for offers entries _ = None

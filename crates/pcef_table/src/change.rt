@@ -5,7 +5,7 @@ ghost use Rattle.pcef_table.specs.Sides.{stays};
 ghost use Rattle.pcef_table.specs.Sources.{IsKnown};
 ghost use Rattle.pcef_table.specs.Tables.{is_taken, placed, with_counting, without_taken};
 
-use crate::entry::Entry;
+use crate::entry::TableEntry;
 use pcef_catalog::Offers;
 use pcef_model::Command;
 use pcef_rule::Slot;
@@ -19,7 +19,7 @@ enum Side {
 }
 
 /// Whether an entry stands on this side of x and has another name.
-fn stays<C: Offers>(catalog: &C, x: &Entry, side: Side, entry: &Entry) -> bool
+fn stays<C: Offers>(catalog: &C, x: &TableEntry, side: Side, entry: &TableEntry) -> bool
     requires x_known { IsKnown (C.offers catalog.now) x.now.source }
     requires known { IsKnown (C.offers catalog.now) entry.now.source }
     ensures { result ≡ stays (C.offers catalog.now) x.now side entry.now }
@@ -33,7 +33,7 @@ fn stays<C: Offers>(catalog: &C, x: &Entry, side: Side, entry: &Entry) -> bool
 }
 
 /// Appends a copy of an entry that stays.
-fn keep(kept: &mut Vec<Entry>, entry: &Entry, stays: bool) -> Result<(), AllocError>
+fn keep(kept: &mut Vec<TableEntry>, entry: &TableEntry, stays: bool) -> Result<(), AllocError>
     ensures { OnOk result
         (kept.new.items ≡ kept.old.items ++ (if stays then entry.now ∷ [] else [])) }
 {
@@ -44,7 +44,7 @@ fn keep(kept: &mut Vec<Entry>, entry: &Entry, stays: bool) -> Result<(), AllocEr
 }
 
 /// Whether a command takes the rule of an entry away.
-fn is_taken<C: Offers>(catalog: &C, command: &Command, entry: &Entry) -> bool
+fn is_taken<C: Offers>(catalog: &C, command: &Command, entry: &TableEntry) -> bool
     requires { IsKnown (C.offers catalog.now) entry.now.source }
     ensures { result ≡ is_taken (C.offers catalog.now) command.now entry.now }
 {
@@ -55,9 +55,9 @@ fn is_taken<C: Offers>(catalog: &C, command: &Command, entry: &Entry) -> bool
 pub(crate) fn copy_without_taken<C: Offers>(
     alloc: Global,
     catalog: &C,
-    entries: &[Entry],
+    entries: &[TableEntry],
     command: &Command,
-) -> Result<Vec<Entry>, AllocError>
+) -> Result<Vec<TableEntry>, AllocError>
     requires { All (λ e. IsKnown (C.offers catalog.now) e.source) entries.now }
     ensures { IfOk result
         (λ v. v.items ≡ without_taken (C.offers catalog.now) command.now entries.now) }
@@ -73,10 +73,10 @@ pub(crate) fn copy_without_taken<C: Offers>(
 /// Appends copies of the entries that stand on this side of x and have other names.
 fn copy_side<C: Offers>(
     catalog: &C,
-    entries: &[Entry],
-    x: &Entry,
+    entries: &[TableEntry],
+    x: &TableEntry,
     side: Side,
-    kept: &mut Vec<Entry>,
+    kept: &mut Vec<TableEntry>,
 ) -> Result<(), AllocError>
     requires known { All (λ e. IsKnown (C.offers catalog.now) e.source) entries.now }
     requires x_known { IsKnown (C.offers catalog.now) x.now.source }
@@ -94,9 +94,9 @@ fn copy_side<C: Offers>(
 pub(crate) fn copy_with<C: Offers>(
     alloc: Global,
     catalog: &C,
-    entries: &[Entry],
-    x: Entry,
-) -> Result<Vec<Entry>, AllocError>
+    entries: &[TableEntry],
+    x: TableEntry,
+) -> Result<Vec<TableEntry>, AllocError>
     requires known { All (λ e. IsKnown (C.offers catalog.now) e.source) entries.now }
     requires x_known { IsKnown (C.offers catalog.now) x.source }
     ensures { IfOk result (λ v. v.items ≡ placed (C.offers catalog.now) x entries.now) }
@@ -111,7 +111,7 @@ pub(crate) fn copy_with<C: Offers>(
 }
 
 /// Copies of all entries.
-pub(crate) fn copy_all(alloc: Global, entries: &[Entry]) -> Result<Vec<Entry>, AllocError>
+pub(crate) fn copy_all(alloc: Global, entries: &[TableEntry]) -> Result<Vec<TableEntry>, AllocError>
     ensures { IfOk result (λ v. v.items ≡ entries.now) }
 {
     let mut copies = Vec::with_capacity(alloc, entries.len())?;
@@ -122,7 +122,7 @@ pub(crate) fn copy_all(alloc: Global, entries: &[Entry]) -> Result<Vec<Entry>, A
 }
 
 /// A copy of an entry, whose slot is counted or not.
-fn copy_counting_one(entry: &Entry, slot: Slot, on: bool) -> Result<Entry, AllocError>
+fn copy_counting_one(entry: &TableEntry, slot: Slot, on: bool) -> Result<TableEntry, AllocError>
     ensures { IfOk result (λ e. e ≡ with_counting slot on entry.now) }
 {
     let mut copy = entry.copy()?;
@@ -135,10 +135,10 @@ fn copy_counting_one(entry: &Entry, slot: Slot, on: bool) -> Result<Entry, Alloc
 /// Copies of all entries, where a slot is counted or not.
 pub(crate) fn copy_counting(
     alloc: Global,
-    entries: &[Entry],
+    entries: &[TableEntry],
     slot: Slot,
     on: bool,
-) -> Result<Vec<Entry>, AllocError>
+) -> Result<Vec<TableEntry>, AllocError>
     ensures { IfOk result (λ v. v.items ≡ map (with_counting slot on) entries.now) }
 {
     let mut copies = Vec::with_capacity(alloc, entries.len())?;

@@ -6,7 +6,7 @@ ghost use Rattle.pcef_packet.specs.Addresses.{is_assigned, ue_side};
 ghost use Rattle.pcef_table.specs.Sources.{IsKnown, fits, is_named};
 ghost use Rattle.pcef_table.specs.Verdicts.{counted_slot, gate_verdict, slot_by, verdict_by};
 
-use crate::entry::Entry;
+use crate::entry::TableEntry;
 use pcef_catalog::{Detects, Offers};
 use pcef_model::Verdict;
 use pcef_packet::{Addr, Dir, Header};
@@ -23,10 +23,10 @@ pub fn is_own(header: &Header, ue: Addr) -> bool
 #[inline(always)]
 pub(crate) fn first_fitting<'a, C: Detects>(
     catalog: &C,
-    entries: &'a [Entry],
+    entries: &'a [TableEntry],
     ue: &Addr,
     header: &Header,
-) -> Option<&'a Entry>
+) -> Option<&'a TableEntry>
     requires { All (λ e. IsKnown (C.offers catalog.now) e.source) entries.now }
     ensures known { IfSome result (λ e. IsKnown (C.offers catalog.now) e.now.source) }
     ensures first { option_copied result
@@ -56,14 +56,14 @@ pub fn gate_verdict(properties: &Properties, bearer: BearerId, dir: Dir) -> Verd
 }
 
 /// The slot of an entry, where it is counted.
-fn counted_slot(entry: &Entry) -> Option<Slot>
+fn counted_slot(entry: &TableEntry) -> Option<Slot>
     ensures { result ≡ counted_slot entry.now }
 {
     if entry.counted { entry.slot } else { None }
 }
 
 /// The slot that a packet counts for of which this entry decided so.
-fn slot_by(entry: &Entry, verdict: &Verdict) -> Option<Slot>
+fn slot_by(entry: &TableEntry, verdict: &Verdict) -> Option<Slot>
     ensures { result ≡ slot_by entry.now verdict.now }
 {
     match verdict {
@@ -74,7 +74,7 @@ fn slot_by(entry: &Entry, verdict: &Verdict) -> Option<Slot>
 
 /// What the gate of an entry's rule decides of a packet of this direction, and the slot that the packet
 /// counts for.
-pub fn judged_by<C: Offers>(catalog: &C, entry: &Entry, dir: Dir) -> (Verdict, Option<Slot>)
+pub fn judged_by<C: Offers>(catalog: &C, entry: &TableEntry, dir: Dir) -> (Verdict, Option<Slot>)
     requires { IsKnown (C.offers catalog.now) entry.now.source }
     ensures verdict { verdict_by (C.offers catalog.now) dir entry.now ≡ Some result.0 }
     ensures slot { result.1 ≡ slot_by entry.now result.0 }
@@ -86,7 +86,11 @@ pub fn judged_by<C: Offers>(catalog: &C, entry: &Entry, dir: Dir) -> (Verdict, O
 }
 
 /// The slot of the entry of a name, where it is counted.
-pub(crate) fn slot_of<C: Offers>(catalog: &C, entries: &[Entry], name: &RuleName) -> Option<Slot>
+pub(crate) fn slot_of<C: Offers>(
+    catalog: &C,
+    entries: &[TableEntry],
+    name: &RuleName,
+) -> Option<Slot>
     requires { All (λ e. IsKnown (C.offers catalog.now) e.source) entries.now }
     ensures { result ≡ option_map_or counted_slot
         (find (λ e. is_named (C.offers catalog.now) name.now e.source) entries.now) None }

@@ -16,7 +16,7 @@ pub enum Source {
 
 /// An active rule, with its bearer and its key's slot.
 #[derive(Drop)]
-pub struct Entry {
+pub struct TableEntry {
     /// The rule.
     pub source: Source,
     /// The bearer that the rule is bound to.
@@ -39,12 +39,12 @@ impl Source {
     }
 }
 
-impl Entry {
+impl TableEntry {
     /// A copy. Fails when out of memory.
-    pub fn copy(&self) -> Result<Entry, AllocError>
+    pub fn copy(&self) -> Result<TableEntry, AllocError>
         ensures { IfOk result (λ copy. copy ≡ self.now) }
     {
-        Ok(Entry {
+        Ok(TableEntry {
             source: self.source.copy()?,
             bearer: self.bearer,
             slot: self.slot,

@@ -14,5 +14,5 @@ mod source;
 mod table;
 
 pub use deciding::{gate_verdict, is_own, judged_by};
-pub use entry::{Entry, Source};
+pub use entry::{Source, TableEntry};
 pub use table::{MAX_ENTRIES, Table};

@@ -9,7 +9,7 @@ ghost use Rattle.pcef_table.specs.Verdicts.{IsVerdict, slot_for};
 
 use crate::change::{copy_all, copy_counting, copy_with, copy_without_taken};
 use crate::deciding::{first_fitting, gate_verdict, is_own, slot_of};
-use crate::entry::Entry;
+use crate::entry::TableEntry;
 use crate::session_slots::{Flags, slots_up, slots_with};
 use arrayvec::ArrayVec;
 use pcef_catalog::{Detects, Offers};
@@ -26,7 +26,7 @@ pub const MAX_ENTRIES: usize = 64;
 /// that make the next generation take memory for its entries.
 pub struct Table {
     alloc: Global,
-    entries: Vec<Entry>,
+    entries: Vec<TableEntry>,
     generation: u32,
     session: Flags,
 }
@@ -82,7 +82,7 @@ impl Table {
     }
 
     /// The entries, in precedence order.
-    pub fn entries(&self) -> &[Entry]
+    pub fn entries(&self) -> &[TableEntry]
         ensures entries { result.now ≡ self.now.entries }
         ensures most { length result.now ≤ most_entries }
     {
@@ -98,14 +98,14 @@ impl Table {
     }
 
     /// The entry at a place, if there is one.
-    pub fn entry(&self, place: usize) -> Option<&Entry>
+    pub fn entry(&self, place: usize) -> Option<&TableEntry>
         ensures { option_copied result ≡ slice_get self.now.entries place }
     {
         self.entries.get(place)
     }
 
     /// The next generation with this entry, which takes the place of one of its name. Fails when out of memory.
-    pub fn with<C: Offers>(&self, catalog: &C, entry: Entry) -> Result<Table, AllocError>
+    pub fn with<C: Offers>(&self, catalog: &C, entry: TableEntry) -> Result<Table, AllocError>
         requires number { self.now.number + 1 < 2 ^ 32 }
         requires table { IsTable (C.offers catalog.now) self.now.entries }
         requires known { IsKnown (C.offers catalog.now) entry.source }
@@ -243,7 +243,7 @@ impl Table {
         catalog: &C,
         ue: &Addr,
         header: &Header,
-    ) -> Option<&Entry>
+    ) -> Option<&TableEntry>
         requires { IsTable (C.offers catalog.now) self.now.entries }
         ensures known { IfSome result (λ e. IsKnown (C.offers catalog.now) e.now.source) }
         ensures first { option_copied result

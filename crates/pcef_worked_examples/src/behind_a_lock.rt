@@ -14,7 +14,7 @@ use pcef_journaled::JournaledState;
 use pcef_line::{Line, read_line};
 use pcef_lock::{Shared, open_history};
 use pcef_model::{Entry, Profile, Report, Step};
-use pcef_publish::{Board, Opened, Slot};
+use pcef_publish::{Board, Cell, Opened};
 use pcef_share::{Blanks, Naming};
 use std::alloc::{AllocError, Global};
 use std::marker::Brand;
@@ -75,7 +75,7 @@ fn keep_reports(told: &mut Journal, reports: Vec<Report>) -> Result<(), AllocErr
 }
 
 /// The text of the answer to a step.
-fn answer<C: Detects + Drop, N: Naming, W: Board<Slot<N>> + Drop, R: Wait>(
+fn answer<C: Detects + Drop, N: Naming, W: Board<Cell<N>> + Drop, R: Wait>(
     rt: &R,
     alloc: Global,
     shared: &Shared<C, N, W>,
@@ -101,7 +101,7 @@ fn step_of(alloc: Global, line: &str) -> Option<Step> {
 
 /// Plays the steps of a script as long as each is answered as is due: how many there are, or the first that is answered
 /// otherwise.
-fn play_steps<C: Detects + Drop, N: Naming, W: Board<Slot<N>> + Drop, R: Wait>(
+fn play_steps<C: Detects + Drop, N: Naming, W: Board<Cell<N>> + Drop, R: Wait>(
     rt: &R,
     alloc: Global,
     shared: &Shared<C, N, W>,
@@ -133,7 +133,7 @@ fn play_steps<C: Detects + Drop, N: Naming, W: Board<Slot<N>> + Drop, R: Wait>(
 }
 
 /// Plays the steps of a script to their end, at which all workers leave and what they handed in is gathered.
-fn play_to_the_end<C: Detects + Drop, N: Naming, W: Board<Slot<N>> + Drop, R: Wait>(
+fn play_to_the_end<C: Detects + Drop, N: Naming, W: Board<Cell<N>> + Drop, R: Wait>(
     rt: &R,
     alloc: Global,
     shared: Shared<C, N, W>,

@@ -7,7 +7,7 @@ use pcef_catalog::{Detects, Offers};
 use pcef_lock::{Desk, Finished, Shared};
 use pcef_model::{AttachFault, Report, Step};
 use pcef_packet::Header;
-use pcef_publish::{Board, Slot};
+use pcef_publish::{Board, Cell};
 use pcef_share::Naming;
 use pcef_worker::{OpenGate, Worker};
 use pcef_world::{Abandoned, StepAnswer};
@@ -65,7 +65,7 @@ impl<C: Detects + Drop, N: Naming> Crew<C, N> {
     }
 
     // A worker comes: its number.
-    fn attach<W: Board<Slot<N>> + Drop, R: Wait>(
+    fn attach<W: Board<Cell<N>> + Drop, R: Wait>(
         &mut self,
         rt: &R,
         alloc: Global,
@@ -82,7 +82,7 @@ impl<C: Detects + Drop, N: Naming> Crew<C, N> {
     }
 
     // A worker hands its rows over and leaves, or stays where that is refused.
-    fn finish<W: Board<Slot<N>> + Drop, R: Wait>(
+    fn finish<W: Board<Cell<N>> + Drop, R: Wait>(
         &mut self,
         rt: &R,
         shared: &Shared<C, N, W>,
@@ -102,7 +102,7 @@ impl<C: Detects + Drop, N: Naming> Crew<C, N> {
     }
 
     // A worker leaves without its waiting rows.
-    fn abandon<W: Board<Slot<N>> + Drop, R: Wait>(
+    fn abandon<W: Board<Cell<N>> + Drop, R: Wait>(
         &mut self,
         rt: &R,
         shared: &Shared<C, N, W>,
@@ -124,7 +124,7 @@ impl<C: Detects + Drop, N: Naming> Crew<C, N> {
     }
 
     // What the step of a worker is answered.
-    fn work<W: Board<Slot<N>> + Drop, R: Wait>(
+    fn work<W: Board<Cell<N>> + Drop, R: Wait>(
         &mut self,
         rt: &R,
         shared: &Shared<C, N, W>,
@@ -153,7 +153,7 @@ impl<C: Detects + Drop, N: Naming> Crew<C, N> {
     }
 
     /// What a step is answered.
-    pub fn step<W: Board<Slot<N>> + Drop, R: Wait>(
+    pub fn step<W: Board<Cell<N>> + Drop, R: Wait>(
         &mut self,
         rt: &R,
         alloc: Global,
@@ -181,7 +181,7 @@ impl<C: Detects + Drop, N: Naming> Crew<C, N> {
     }
 
     /// The reports since those that were collected before.
-    pub fn collect<W: Board<Slot<N>> + Drop, R: Wait>(
+    pub fn collect<W: Board<Cell<N>> + Drop, R: Wait>(
         &mut self,
         rt: &R,
         shared: &Shared<C, N, W>,
@@ -190,7 +190,7 @@ impl<C: Detects + Drop, N: Naming> Crew<C, N> {
     }
 
     /// All workers leave: the desk, and what all workers handed in, of which there are sixteen at most.
-    pub fn end<W: Board<Slot<N>> + Drop, R: Wait>(
+    pub fn end<W: Board<Cell<N>> + Drop, R: Wait>(
         self,
         rt: &R,
         shared: &Shared<C, N, W>,

@@ -11,7 +11,7 @@ use crate::worker::Worker;
 use pcef_catalog::Detects;
 use pcef_lock::{Finished, LastFlush, OwnRows, Shared};
 use pcef_model::{FlushRefusal, Verdicts};
-use pcef_publish::{Board, Slot};
+use pcef_publish::{Board, Cell};
 use pcef_session::{Item, MAX_WAITING};
 use pcef_share::{Naming, Pooling};
 use std::sync::Wait;
@@ -29,7 +29,7 @@ fn keep_all(rows: &mut OwnRows, items: &[Item])
 
 impl<C: Detects + Drop, N: Naming, G: Gate + Drop> Worker<C, N, G> {
     /// Hands the waiting rows over in one hold of the lock, and keeps them in the worker's own list.
-    fn hand_over<W: Board<Slot<N>> + Drop, P: Pooling, R: Wait>(
+    fn hand_over<W: Board<Cell<N>> + Drop, P: Pooling, R: Wait>(
         &mut self,
         rt: &R,
         shared: &Shared<C, N, W, P>,
@@ -53,7 +53,7 @@ impl<C: Detects + Drop, N: Naming, G: Gate + Drop> Worker<C, N, G> {
     }
 
     /// Hands the waiting rows over and leaves, in one hold of the lock.
-    fn hand_last<W: Board<Slot<N>> + Drop, P: Pooling, R: Wait>(
+    fn hand_last<W: Board<Cell<N>> + Drop, P: Pooling, R: Wait>(
         &mut self,
         rt: &R,
         shared: &Shared<C, N, W, P>,
@@ -78,7 +78,7 @@ impl<C: Detects + Drop, N: Naming, G: Gate + Drop> Worker<C, N, G> {
     /// Hands the waiting rows over, all or none, in one hold of the lock, and gives their verdicts; or answers the
     /// first refusal in the order of [`FlushRefusal`], which changes nothing. The gate is called before and after, with
     /// no lock held. Takes memory, and may meet want of it before another refusal is seen. Waits for the lock.
-    pub fn flush<W: Board<Slot<N>> + Drop, P: Pooling, R: Wait>(
+    pub fn flush<W: Board<Cell<N>> + Drop, P: Pooling, R: Wait>(
         &mut self,
         rt: &R,
         shared: &Shared<C, N, W, P>,
@@ -98,7 +98,7 @@ impl<C: Detects + Drop, N: Naming, G: Gate + Drop> Worker<C, N, G> {
     /// Hands the waiting rows over, as [`Worker::flush`] does, and leaves, both in one hold of the lock: what it hands
     /// in, and the verdicts of its last rows. After a refusal, which changes nothing, the worker comes back and is
     /// there as before. The gate is called before and after, with no lock held. Takes memory. Waits for the lock.
-    pub fn finish<W: Board<Slot<N>> + Drop, P: Pooling, R: Wait>(
+    pub fn finish<W: Board<Cell<N>> + Drop, P: Pooling, R: Wait>(
         self,
         rt: &R,
         shared: &Shared<C, N, W, P>,
@@ -119,7 +119,7 @@ impl<C: Detects + Drop, N: Naming, G: Gate + Drop> Worker<C, N, G> {
 
     /// Leaves in one hold of the lock. The rows that wait get no verdict and never reach the session: they are only
     /// counted. Takes no memory. Waits for the lock.
-    pub fn abandon<W: Board<Slot<N>> + Drop, P: Pooling, R: Wait>(
+    pub fn abandon<W: Board<Cell<N>> + Drop, P: Pooling, R: Wait>(
         self,
         rt: &R,
         shared: &Shared<C, N, W, P>,

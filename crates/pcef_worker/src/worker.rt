@@ -9,7 +9,7 @@ use pcef_catalog::{Detects, Offers};
 use pcef_lock::{Departure, Finished, OwnRows, Seat, Shared};
 use pcef_model::AttachFault;
 use pcef_packet::Header;
-use pcef_publish::{Board, Slot};
+use pcef_publish::{Board, Cell};
 use pcef_session::{Batch, BatchFull, Item, MAX_WAITING};
 use pcef_share::{Naming, Pooling};
 use std::alloc::{AllocError, Global};
@@ -69,7 +69,7 @@ impl<C: Detects + Drop, N: Naming, G: Gate + Drop> Worker<C, N, G> {
     /// first fault in the order of [`AttachFault`], which leaves the session as it was; there is no place too where as
     /// many workers came as the lock was made for. The rows that it hands over are stored with it, so that they can be
     /// compared at the end. Takes memory, which may be refused before another fault is seen.
-    pub fn attach<W: Board<Slot<N>> + Drop, P: Pooling, R: Wait>(
+    pub fn attach<W: Board<Cell<N>> + Drop, P: Pooling, R: Wait>(
         rt: &R,
         alloc: Global,
         shared: &Shared<C, N, W, P>,
@@ -84,7 +84,7 @@ impl<C: Detects + Drop, N: Naming, G: Gate + Drop> Worker<C, N, G> {
 
     /// The same, of a worker that stores none of the rows that it hands over: it takes no memory for packets. Its shares
     /// hold what they count all the same.
-    pub fn attach_without_rows<W: Board<Slot<N>> + Drop, P: Pooling, R: Wait>(
+    pub fn attach_without_rows<W: Board<Cell<N>> + Drop, P: Pooling, R: Wait>(
         rt: &R,
         alloc: Global,
         shared: &Shared<C, N, W, P>,
@@ -98,7 +98,7 @@ impl<C: Detects + Drop, N: Naming, G: Gate + Drop> Worker<C, N, G> {
     }
 
     /// Attaches a worker with this list, which has no rows.
-    fn attach_to<W: Board<Slot<N>> + Drop, P: Pooling, R: Wait>(
+    fn attach_to<W: Board<Cell<N>> + Drop, P: Pooling, R: Wait>(
         rt: &R,
         alloc: Global,
         shared: &Shared<C, N, W, P>,
@@ -194,7 +194,7 @@ impl<C: Detects + Drop, N: Naming, G: Gate + Drop> Worker<C, N, G> {
 
     /// Takes the newest table in one hold of the lock, and answers its generation. Where a further owner of the table
     /// is refused, nothing changes. Waits for the lock.
-    pub fn meet<W: Board<Slot<N>> + Drop, P: Pooling, R: Wait>(
+    pub fn meet<W: Board<Cell<N>> + Drop, P: Pooling, R: Wait>(
         &mut self,
         rt: &R,
         shared: &Shared<C, N, W, P>,

@@ -21,7 +21,7 @@ use coming::Workers;
 use pcef_catalog::{Detects, Offers};
 use pcef_lock::{Desk, Finished, Shared};
 use pcef_model::{AttachFault, Cause, Command, FlushRefusal};
-use pcef_publish::{Board, Slot};
+use pcef_publish::{Board, Cell};
 use pcef_share::Naming;
 use pcef_worker::{Gate, OpenGate, Worker};
 use std::alloc::Global;
@@ -118,7 +118,7 @@ type Table<'a> = &'a [(Step, Seen)];
 fn tell_to_the_end<
     C: Detects + Drop + Send + Sync,
     N: Naming + Send + Sync,
-    W: Board<Slot<N>> + Drop + Send,
+    W: Board<Cell<N>> + Drop + Send,
     R: Threads + Wait + Sync,
 >(
     rt: &R,
@@ -137,7 +137,7 @@ fn tell_to_the_end<
 fn tell_till_all_left<
     C: Detects + Drop + Send + Sync,
     N: Naming + Send + Sync,
-    W: Board<Slot<N>> + Drop + Send,
+    W: Board<Cell<N>> + Drop + Send,
     R: Threads + Wait + Sync,
 >(
     rt: &R,
@@ -155,7 +155,7 @@ fn tell_till_all_left<
 fn first_difference<
     C: Detects + Drop + Send + Sync,
     N: Naming + Send + Sync,
-    W: Board<Slot<N>> + Drop + Send,
+    W: Board<Cell<N>> + Drop + Send,
     R: Threads + Wait + Sync,
 >(
     rt: &R,
@@ -178,7 +178,7 @@ fn first_difference<
 fn seen_of<
     C: Detects + Drop + Send + Sync,
     N: Naming + Send + Sync,
-    W: Board<Slot<N>> + Drop + Send,
+    W: Board<Cell<N>> + Drop + Send,
     R: Threads + Wait + Sync,
 >(
     rt: &R,
@@ -198,7 +198,7 @@ fn seen_of<
 fn seen_at_once<
     C: Detects + Drop + Send + Sync,
     N: Naming + Send + Sync,
-    W: Board<Slot<N>> + Drop + Send,
+    W: Board<Cell<N>> + Drop + Send,
     R: Threads + Wait + Sync,
 >(
     rt: &R,

@@ -17,7 +17,7 @@ use Rattle.pcef_model.specs.Journals.{at, attach_count, attached, gen, verdict_a
 use Rattle.pcef_model.specs.Reports.{after_attach, after_flush, after_leave, with_rows}
 use Rattle.pcef_model.proofs.AfterEvents.{tables_after_rows}
 use Rattle.pcef_session.specs.declared.batch.Item.{Item}
-use Rattle.pcef_world.specs.declared.worker.Worker.{Worker}
+use Rattle.pcef_world.specs.declared.worker.WorldWorker.{WorldWorker}
 use Rattle.pcef_model.specs.Slots.{CountsFor, IsWithin}
 use Rattle.pcef_session.specs.Following.{HasItsSlots, row_of}
 use Rattle.pcef_model.specs.Lawful.{BatchFollows, RowFollows, RowsFollow, newest_generation}
@@ -50,7 +50,7 @@ slots_later p j k items extends known has = λ m d inside.
 
 -- ---- as the journal grows
 -- a worker whose lane is as it was
-pub waits_later : (p : Setting) (j k : Journal) (n : ℕ) (w : Worker) → JournalExtends p j k → lane k n ≡ lane j n → is_attached k n ≡ is_attached j n → Waits p j n w → Waits p k n w
+pub waits_later : (p : Setting) (j k : Journal) (n : ℕ) (w : WorldWorker) → JournalExtends p j k → lane k n ≡ lane j n → is_attached k n ≡ is_attached j n → Waits p j n w → Waits p k n w
 waits_later p j k n w extends lane_is attached_is waits = record {
   number_is = waits.number_is;
   known = omega (arith, waits.known, extends.gen_more);
@@ -64,7 +64,7 @@ waits_later p j k n w extends lane_is attached_is waits = record {
 
 -- ---- a worker that comes
 -- its lane is empty, and nothing waits
-pub waits_new : (p : Setting) (j k : Journal) (w : Worker) → lane j (attach_count j) ≡ [] → k ≡ after_attach j → Shows p j (gen j) (held_by w) → w.number ≡ attach_count j →
+pub waits_new : (p : Setting) (j k : Journal) (w : WorldWorker) → lane j (attach_count j) ≡ [] → k ≡ after_attach j → Shows p j (gen j) (held_by w) → w.number ≡ attach_count j →
     w.waiting ≡ [] → Waits p k (attach_count j) w
 unfolding with_rows attached
 waits_new p j k w new is shows number_is none =
@@ -86,20 +86,20 @@ row_of_fields : (r : Row) (worker seq generation : ℕ) (header : Header) (verdi
 row_of_fields r worker seq generation header verdict a b c d e = rw (← a, ← b, ← c, ← d, ← e) refl
 
 -- the verdict is that of the generation that the worker holds
-pub verdict_taken : (p : Setting) (j : Journal) (n : ℕ) (w : Worker) (header : Header) (i : Item) → Waits p j n w → IsJudged p.catalog p.ue header (lane_len j n) w i →
+pub verdict_taken : (p : Setting) (j : Journal) (n : ℕ) (w : WorldWorker) (header : Header) (i : Item) → Waits p j n w → IsJudged p.catalog p.ue header (lane_len j n) w i →
     i.row.verdict ≡ verdict_at p (at p j (held_by w).number) header
 verdict_taken p j n w header i waits made =
     shown_judges p j (held_by w).number (held_by w) header i.row.verdict waits.shows (made_once p (oldest (held_by w).number (tables j))) made.verdict_is
 
 -- the row that waits then
-pub row_made : (p : Setting) (j : Journal) (n : ℕ) (w : Worker) (header : Header) (i : Item) → Waits p j n w → IsJudged p.catalog p.ue header (lane_len j n) w i →
+pub row_made : (p : Setting) (j : Journal) (n : ℕ) (w : WorldWorker) (header : Header) (i : Item) → Waits p j n w → IsJudged p.catalog p.ue header (lane_len j n) w i →
     i.row ≡ record { worker = n; seq = lane_len j n + length (map row_of w.waiting); generation = (held_by w).number; header = header; verdict = verdict_at p (at p j (held_by w).number) header }
 row_made p j n w header i waits made =
     row_of_fields i.row n (lane_len j n + length (map row_of w.waiting)) (held_by w).number header (verdict_at p (at p j (held_by w).number) header)
     (made.worker_is ∙ waits.number_is) (omega (arith, made.seq_is, length-map w.waiting row_of)) made.generation_is made.header_is (verdict_taken p j n w header i waits made)
 
 -- it may come after those that wait
-taken_follows : (p : Setting) (j : Journal) (n : ℕ) (w : Worker) (header : Header) (r : Row) → Waits p j n w →
+taken_follows : (p : Setting) (j : Journal) (n : ℕ) (w : WorldWorker) (header : Header) (r : Row) → Waits p j n w →
     r ≡ record { worker = n; seq = lane_len j n + length (map row_of w.waiting); generation = (held_by w).number; header = header; verdict = verdict_at p (at p j (held_by w).number) header } →
     RowFollows p (with_rows (map row_of w.waiting) j) r
 taken_follows p j n w header r waits is =
@@ -113,7 +113,7 @@ taken_follows p j n w header r waits is =
     })
 
 -- one more item waits
-pub waits_take : (p : Setting) (j : Journal) (n : ℕ) (w : Worker) (header : Header) (i : Item) → Waits p j n w → IsJudged p.catalog p.ue header (lane_len j n) w i → Waits p j n (with_item i w)
+pub waits_take : (p : Setting) (j : Journal) (n : ℕ) (w : WorldWorker) (header : Header) (i : Item) → Waits p j n w → IsJudged p.catalog p.ue header (lane_len j n) w i → Waits p j n (with_item i w)
 waits_take p j n w header i waits made =
     let rs : List Row = map row_of w.waiting in
     let all : map row_of (w.waiting ++ i ∷ []) ≡ rs ++ i.row ∷ [] = map-append row_of w.waiting (i ∷ []) in
@@ -138,7 +138,7 @@ waits_take p j n w header i waits made =
 
 -- ---- the newest generation is taken
 -- its rows go on waiting
-pub waits_refresh : (p : Setting) (j : Journal) (n : ℕ) (w new : Worker) → Waits p j n w → Shows p j (gen j) (held_by new) → new.number ≡ w.number → new.waiting ≡ w.waiting → Waits p j n new
+pub waits_refresh : (p : Setting) (j : Journal) (n : ℕ) (w new : WorldWorker) → Waits p j n w → Shows p j (gen j) (held_by new) → new.number ≡ w.number → new.waiting ≡ w.waiting → Waits p j n new
 waits_refresh p j n w new waits shows number_is waiting_is = record {
   number_is = number_is ∙ waits.number_is;
   known = omega (arith, shows.number_is);
@@ -152,7 +152,7 @@ waits_refresh p j n w new waits shows number_is waiting_is = record {
 
 -- ---- rows that are taken over
 -- those of the worker itself
-pub waits_flushed : (p : Setting) (j k : Journal) (n : ℕ) (w : Worker) → Waits p j n w → first_of (flush_refusals p j n (length (map row_of w.waiting))) ≡ None →
+pub waits_flushed : (p : Setting) (j k : Journal) (n : ℕ) (w : WorldWorker) → Waits p j n w → first_of (flush_refusals p j n (length (map row_of w.waiting))) ≡ None →
     k ≡ after_flush p j (map row_of w.waiting) → Waits p k n (record w { waiting = [] })
 unfolding with_rows
 waits_flushed p j k n w waits accepted is =
@@ -173,7 +173,7 @@ waits_flushed p j k n w waits accepted is =
     }
 
 -- and those of another
-pub waits_beside : (p : Setting) (j k : Journal) (n m : ℕ) (rs : List Row) (w : Worker) → Waits p j n w → (m == n) ≡ false → All (λ r. r.worker ≡ m) rs → k ≡ after_flush p j rs →
+pub waits_beside : (p : Setting) (j k : Journal) (n m : ℕ) (rs : List Row) (w : WorldWorker) → Waits p j n w → (m == n) ≡ false → All (λ r. r.worker ≡ m) rs → k ≡ after_flush p j rs →
     Waits p k n w
 waits_beside p j k n m rs w waits differ own is =
     let lane_is : lane k n ≡ lane j n = ap (filter (λ (r : Row). r.worker == n)) (ap rows is ∙ rows_after_flush p j rs) ∙ lane_other n m rs j differ own in
@@ -181,7 +181,7 @@ waits_beside p j k n m rs w waits differ own is =
     waits_later p j k n w (extends_same p j k same) lane_is (ap (λ ns. list_any (λ v. v == n) ns) (ap attached is ∙ attached_after_flush p j rs)) waits
 
 -- ---- another worker leaves
-pub waits_left : (p : Setting) (j : Journal) (n m : ℕ) (w : Worker) → (n ≡ m → ⊥) → Waits p j n w → Waits p (after_leave m j) n w
+pub waits_left : (p : Setting) (j : Journal) (n m : ℕ) (w : WorldWorker) → (n ≡ m → ⊥) → Waits p j n w → Waits p (after_leave m j) n w
 unfolding attached
 waits_left p j n m w differ waits =
     waits_later p j (after_leave m j) n w (extends_same p j (after_leave m j) refl) refl (leave_other j m n (attached j) differ) waits

@@ -33,7 +33,7 @@ use Rattle.pcef_session.specs.SessionModel.{SessionModel}
 use Rattle.pcef_session.specs.Following.{row_of}
 use Rattle.pcef_world.specs.declared.answer.StepAnswer.{StepAnswer}
 use Rattle.pcef_world.specs.declared.answer.StepAnswer.TheVariants as answer
-use Rattle.pcef_world.specs.declared.worker.Worker.{Worker}
+use Rattle.pcef_world.specs.declared.worker.WorldWorker.{WorldWorker}
 use Rattle.pcef_world.specs.private.Places.{AbandonsAt, FinishesAt, FlushesAt, RefreshesAt, TakesAt, after_coming, after_finishing, attach_step_answer, finish_step_answer, flush_step_answer}
 use Rattle.pcef_world.specs.private.Soundness.{IsSoundWith, seen}
 use Rattle.pcef_world.specs.private.Workers.{IsJudged, Waits, after_flushing, held_by, with_item}
@@ -50,25 +50,25 @@ pub past_from : (i n : ℕ) → (i < n → false ≡ true) → n ≤ i
 past_from i n none = elim (cases_lt i n) [ inl less ↦ absurd (false≢true (none less)) | inr past ↦ past ]
 
 -- ---- the worker of a step, as callers see it
-abbrev pub all_seen : List (Option Worker) → List (Option Waiting)
+abbrev pub all_seen : List (Option WorldWorker) → List (Option Waiting)
 all_seen workers = map (option_map seen) workers
 
-seen_at : (workers : List (Option Worker)) (i : ℕ) (o : Option Worker) → slice_get workers i ≡ Some o → worker_at (all_seen workers) i ≡ option_map seen o
+seen_at : (workers : List (Option WorldWorker)) (i : ℕ) (o : Option WorldWorker) → slice_get workers i ≡ Some o → worker_at (all_seen workers) i ≡ option_map seen o
 seen_at workers i o there = ap if_there (get_mapped (option_map seen) workers i ∙ ap (option_map (option_map seen)) there)
 
 -- past the last place there is none
-seen_past : (workers : List (Option Worker)) (i : ℕ) → length workers ≤ i → worker_at (all_seen workers) i ≡ None
+seen_past : (workers : List (Option WorldWorker)) (i : ℕ) → length workers ≤ i → worker_at (all_seen workers) i ≡ None
 seen_past workers i past = ap if_there (get_mapped (option_map seen) workers i ∙ ap (option_map (option_map seen)) (slice_get_past workers i past))
 
 -- a place that stays as it is leaves the list as callers see it
-seen_same : (workers : List (Option Worker)) (i : ℕ) (o new : Option Worker) → slice_get workers i ≡ Some o → new ≡ o → all_seen (slice_set workers i new) ≡ all_seen workers
+seen_same : (workers : List (Option WorldWorker)) (i : ℕ) (o new : Option WorldWorker) → slice_get workers i ≡ Some o → new ≡ o → all_seen (slice_set workers i new) ≡ all_seen workers
 seen_same workers i o new there kept = ap all_seen (ap (slice_set workers i) kept ∙ set_same workers i o there)
 
-seen_set : (workers : List (Option Worker)) (i : ℕ) (new : Option Worker) (x : Option Waiting) → option_map seen new ≡ x → all_seen (slice_set workers i new) ≡ slice_set (all_seen workers) i x
+seen_set : (workers : List (Option WorldWorker)) (i : ℕ) (new : Option WorldWorker) (x : Option Waiting) → option_map seen new ≡ x → all_seen (slice_set workers i new) ≡ slice_set (all_seen workers) i x
 seen_set workers i new x is = set_mapped (option_map seen) workers i new ∙ ap (slice_set (all_seen workers) i) is
 
 -- how a journal and workers stand
-abbrev stand : Journal → List (Option Worker) → Standing
+abbrev stand : Journal → List (Option WorldWorker) → Standing
 stand j workers = record { journal = j; workers = all_seen workers }
 
 -- a step answers as due, or memory is wanting for it
@@ -135,13 +135,13 @@ attach_answer p v w r attaches workers_are = rw workers_are (from r attaches)
 
 -- ---- a packet is taken
 -- by no worker
-pub takes_nowhere : (p : Setting) (j : Journal) (workers : List (Option Worker)) (i : ℕ) (header : Header) → length workers ≤ i →
+pub takes_nowhere : (p : Setting) (j : Journal) (workers : List (Option WorldWorker)) (i : ℕ) (header : Header) → length workers ≤ i →
     Plays p (stand j workers) (of.Take i header) answer.NoWorker (stand j workers)
 unfolding step_outcome
 takes_nowhere p j workers i header past = rw (seen_past workers i past) (refl, refl)
 
 -- the item that waits then, as callers see it
-seen_taken : (s : SessionModel) (i : ℕ) (w new : Worker) (header : Header) (item : Item) → Waits s.setting s.journal i w → IsJudged s.setting.catalog s.setting.ue header (lane_len s.journal i) w item → new ≡ with_item item w →
+seen_taken : (s : SessionModel) (i : ℕ) (w new : WorldWorker) (header : Header) (item : Item) → Waits s.setting s.journal i w → IsJudged s.setting.catalog s.setting.ue header (lane_len s.journal i) w item → new ≡ with_item item w →
     seen new ≡ with_row (row_taken s.setting s.journal i (seen w) header) (seen w)
 seen_taken s i w new header item waits made new_is =
     let all : map row_of (w.waiting ++ item ∷ []) ≡ map row_of w.waiting ++ item.row ∷ [] = map-append row_of w.waiting (item ∷ []) in
@@ -149,7 +149,7 @@ seen_taken s i w new header item waits made new_is =
     (all ∙ ap (λ r. map row_of w.waiting ++ r ∷ []) (row_made s.setting s.journal i w header item waits made))
 
 -- what is answered, where a worker is there or isn't, and what is left where memory is wanting
-abbrev TakesAs : SessionModel → List (Option Worker) → ℕ → Header → Option Waiting → Result StepAnswer AllocError → List (Option Worker) → Type 0
+abbrev TakesAs : SessionModel → List (Option WorldWorker) → ℕ → Header → Option Waiting → Result StepAnswer AllocError → List (Option WorldWorker) → Type 0
 TakesAs s before i header o (Ok a) after =
     let due : Reply × Standing = take_step s.setting (stand s.journal before) i header o in
     ((reply_of a ≡ due.0) × (stand s.journal after ≡ due.1)) × Unit {0}
@@ -157,14 +157,14 @@ TakesAs s before i header o (Err lack) after =
     Unit {0} × ((is_refusal (take_step s.setting (stand s.journal before) i header o).0 ≡ false) × (stand s.journal after ≡ stand s.journal before))
 
 -- a place that is written, where the journal is so
-place_set : (j : Journal) (workers : List (Option Worker)) (i : ℕ) (new : Option Worker) (x : Option Waiting) → option_map seen new ≡ x →
+place_set : (j : Journal) (workers : List (Option WorldWorker)) (i : ℕ) (new : Option WorldWorker) (x : Option Waiting) → option_map seen new ≡ x →
     stand j (slice_set workers i new) ≡ with_place i x (stand j workers)
 place_set j workers i new x is = ap (λ ws. record { journal = j; workers = ws }) (seen_set workers i new x is)
 
-place_same : (j : Journal) (workers : List (Option Worker)) (i : ℕ) (o new : Option Worker) → slice_get workers i ≡ Some o → new ≡ o → stand j (slice_set workers i new) ≡ stand j workers
+place_same : (j : Journal) (workers : List (Option WorldWorker)) (i : ℕ) (o new : Option WorldWorker) → slice_get workers i ≡ Some o → new ≡ o → stand j (slice_set workers i new) ≡ stand j workers
 place_same j workers i o new there kept = ap (λ ws. record { journal = j; workers = ws }) (seen_same workers i o new there kept)
 
-taken_as : (s : SessionModel) (workers : List (Option Worker)) (i : ℕ) (o new : Option Worker) (header : Header) (out : Result StepAnswer AllocError) → IsSoundWith s workers →
+taken_as : (s : SessionModel) (workers : List (Option WorldWorker)) (i : ℕ) (o new : Option WorldWorker) (header : Header) (out : Result StepAnswer AllocError) → IsSoundWith s workers →
     slice_get workers i ≡ Some o → TakesAt s.setting.catalog s.setting.ue header (lane_len s.journal i) o out new → TakesAs s workers i header (option_map seen o) out (slice_set workers i new)
 taken_as s workers i None new header out sound there (out_is, kept) = rw out_is ((refl, place_same s.journal workers i None new there kept), tt)
 taken_as s workers i (Some w) new header (Ok a) sound there (Ok count, v, (few, count_is, item, made, new_is), out_is, put) =
@@ -181,13 +181,13 @@ taken_as s workers i (Some w) new header (Ok a) sound there (Ok count, v, (few, 
     )
 taken_as s workers i (Some w) new header (Ok a) sound there (Err full, v, (many, kept), out_is, put) =
     let full_is : nat_le 32 (length (map row_of w.waiting)) ≡ true = le-leb 32 (length (map row_of w.waiting)) (omega (arith, many, length-map w.waiting row_of)) in
-    rw full_is ((ap reply_of out_is, place_same s.journal workers i (Some w) new there (put ∙ ap (λ (x : Worker). Some x) kept)), tt)
+    rw full_is ((ap reply_of out_is, place_same s.journal workers i (Some w) new there (put ∙ ap (λ (x : WorldWorker). Some x) kept)), tt)
 taken_as s workers i (Some w) new header (Err lack) sound there (v, (few, kept), put) =
     let room : nat_le 32 (length (map row_of w.waiting)) ≡ false = lt-leb 32 (length (map row_of w.waiting)) (omega (arith, few, length-map w.waiting row_of)) in
-    rw room (tt, (refl, place_same s.journal workers i (Some w) new there (put ∙ ap (λ (x : Worker). Some x) kept)))
+    rw room (tt, (refl, place_same s.journal workers i (Some w) new there (put ∙ ap (λ (x : WorldWorker). Some x) kept)))
 
 -- at a place of the list
-pub takes_answer : (s : SessionModel) (workers : List (Option Worker)) (i : ℕ) (o new : Option Worker) (offers : List Offer) (ue : Addr) (header : Header) (handed_over : ℕ) (out : Result StepAnswer AllocError) →
+pub takes_answer : (s : SessionModel) (workers : List (Option WorldWorker)) (i : ℕ) (o new : Option WorldWorker) (offers : List Offer) (ue : Addr) (header : Header) (handed_over : ℕ) (out : Result StepAnswer AllocError) →
     IsSoundWith s workers → slice_get workers i ≡ Some o → offers ≡ s.setting.catalog → ue ≡ s.setting.ue → handed_over ≡ lane_len s.journal i → TakesAt offers ue header handed_over o out new →
     Steps s.setting (stand s.journal workers) (of.Take i header) out (stand s.journal (slice_set workers i new))
 unfolding step_outcome
@@ -204,13 +204,13 @@ takes_answer s workers i o new offers ue header handed_over out sound there offe
     as_steps (Err lack) is = is
 
 -- ---- the newest generation is taken
-pub refreshes_nowhere : (p : Setting) (j : Journal) (workers : List (Option Worker)) (i : ℕ) → length workers ≤ i →
+pub refreshes_nowhere : (p : Setting) (j : Journal) (workers : List (Option WorldWorker)) (i : ℕ) → length workers ≤ i →
     Plays p (stand j workers) (of.Refresh i) answer.NoWorker (stand j workers)
 unfolding step_outcome
 refreshes_nowhere p j workers i past = rw (seen_past workers i past) (refl, refl)
 
 -- at a place of the list
-pub refreshes_answer : (s : SessionModel) (workers : List (Option Worker)) (i : ℕ) (o new : Option Worker) (out : Result StepAnswer AllocError) →
+pub refreshes_answer : (s : SessionModel) (workers : List (Option WorldWorker)) (i : ℕ) (o new : Option WorldWorker) (out : Result StepAnswer AllocError) →
     slice_get workers i ≡ Some o → RefreshesAt s.setting s.journal o out new →
     Steps s.setting (stand s.journal workers) (of.Refresh i) out (stand s.journal (slice_set workers i new))
 unfolding step_outcome
@@ -232,18 +232,18 @@ refreshes_answer s workers i (Some w) new (Err lack) there put =
 
 -- ---- rows are handed over
 -- by no worker
-pub flushes_nowhere : (p : Setting) (j : Journal) (workers : List (Option Worker)) (i : ℕ) → length workers ≤ i →
+pub flushes_nowhere : (p : Setting) (j : Journal) (workers : List (Option WorldWorker)) (i : ℕ) → length workers ≤ i →
     Plays p (stand j workers) (of.Flush i) answer.NoWorker (stand j workers)
 unfolding step_outcome
 flushes_nowhere p j workers i past = rw (seen_past workers i past) (refl, refl)
 
-flush_nobody : (p : Setting) (j : Journal) (workers : List (Option Worker)) (i : ℕ) (new : Option Worker) → slice_get workers i ≡ Some None → new ≡ None →
+flush_nobody : (p : Setting) (j : Journal) (workers : List (Option WorldWorker)) (i : ℕ) (new : Option WorldWorker) → slice_get workers i ≡ Some None → new ≡ None →
     Plays p (stand j workers) (of.Flush i) answer.NoWorker (stand j (slice_set workers i new))
 unfolding step_outcome
 flush_nobody p j workers i new there kept = rw (seen_at workers i None there) (refl, place_same j workers i None new there kept)
 
 -- by a worker, which keeps them where they are refused
-flush_plays : (p : Setting) (j k : Journal) (workers : List (Option Worker)) (i : ℕ) (w : Worker) (new : Option Worker) (r : Result Verdicts FlushRefusal) → slice_get workers i ≡ Some (Some w) →
+flush_plays : (p : Setting) (j k : Journal) (workers : List (Option WorldWorker)) (i : ℕ) (w : WorldWorker) (new : Option WorldWorker) (r : Result Verdicts FlushRefusal) → slice_get workers i ≡ Some (Some w) →
     FlushStep p i (map row_of w.waiting) j (result_map_both flush_answer_of (λ e. e) r) k → (r ≡ Err flush.NoMemory → ⊥) → new ≡ Some (after_flushing r w) →
     Plays p (stand j workers) (of.Flush i) (answer.Flush r) (stand k (slice_set workers i new))
 unfolding step_outcome
@@ -255,7 +255,7 @@ flush_plays p j k workers i w new (Err r) there flushes other put =
     rw (seen_at workers i (Some w) there, flush_given p j k i (map row_of w.waiting) (Err r) flushes (λ e. other (let is : r ≡ flush.NoMemory = cc in ap (λ x. Err x) is)))
     (refl, ap (λ l. stand l (slice_set workers i new)) same ∙ place_same j workers i (Some w) new there put)
 
-flush_lacks : (p : Setting) (j k : Journal) (workers : List (Option Worker)) (i : ℕ) (w : Worker) (new : Option Worker) → slice_get workers i ≡ Some (Some w) →
+flush_lacks : (p : Setting) (j k : Journal) (workers : List (Option WorldWorker)) (i : ℕ) (w : WorldWorker) (new : Option WorldWorker) → slice_get workers i ≡ Some (Some w) →
     FlushStep p i (map row_of w.waiting) j (Err flush.NoMemory) k → new ≡ Some w →
     Lacks p (stand j workers) (of.Flush i) (stand k (slice_set workers i new))
 unfolding step_outcome
@@ -267,7 +267,7 @@ flush_lacks p j k workers i w new there flushes put =
     )
 
 -- at a place of the list
-pub flushes_answer : (s t : SessionModel) (workers : List (Option Worker)) (i : ℕ) (o new : Option Worker) (out : Result StepAnswer AllocError) →
+pub flushes_answer : (s t : SessionModel) (workers : List (Option WorldWorker)) (i : ℕ) (o new : Option WorldWorker) (out : Result StepAnswer AllocError) →
     IsSoundWith s workers → slice_get workers i ≡ Some o → FlushesAt s.setting s.journal o out t.journal new →
     Steps s.setting (stand s.journal workers) (of.Flush i) out (stand t.journal (slice_set workers i new))
 flushes_answer s t workers i None new out sound there (out_is, same, kept) = rw (out_is, same) (flush_nobody s.setting s.journal workers i new there kept, tt)
@@ -282,18 +282,18 @@ flushes_answer s t workers i (Some w) new out sound there (r, flushes, out_is, p
     from (Err flush.RowsFull) flushes put = (flush_plays s.setting s.journal t.journal workers i w new (Err flush.RowsFull) there flushes (λ e. cc) put, tt)
 
 -- ---- a worker finishes
-pub finishes_nowhere : (p : Setting) (j : Journal) (workers : List (Option Worker)) (i : ℕ) → length workers ≤ i →
+pub finishes_nowhere : (p : Setting) (j : Journal) (workers : List (Option WorldWorker)) (i : ℕ) → length workers ≤ i →
     Plays p (stand j workers) (of.Finish i) answer.NoWorker (stand j workers)
 unfolding step_outcome
 finishes_nowhere p j workers i past = rw (seen_past workers i past) (refl, refl)
 
-finish_nobody : (p : Setting) (j : Journal) (workers : List (Option Worker)) (i : ℕ) (new : Option Worker) → slice_get workers i ≡ Some None → new ≡ None →
+finish_nobody : (p : Setting) (j : Journal) (workers : List (Option WorldWorker)) (i : ℕ) (new : Option WorldWorker) → slice_get workers i ≡ Some None → new ≡ None →
     Plays p (stand j workers) (of.Finish i) answer.NoWorker (stand j (slice_set workers i new))
 unfolding step_outcome
 finish_nobody p j workers i new there kept = rw (seen_at workers i None there) (refl, place_same j workers i None new there kept)
 
 -- it stays where its rows are refused
-finish_plays : (p : Setting) (j k : Journal) (workers : List (Option Worker)) (i : ℕ) (w : Worker) (new : Option Worker) (r : Result (Verdicts × ℕ) FlushRefusal) → slice_get workers i ≡ Some (Some w) →
+finish_plays : (p : Setting) (j k : Journal) (workers : List (Option WorldWorker)) (i : ℕ) (w : WorldWorker) (new : Option WorldWorker) (r : Result (Verdicts × ℕ) FlushRefusal) → slice_get workers i ≡ Some (Some w) →
     FinishStep p i (map row_of w.waiting) j (result_map_both finish_answer_of (λ e. e) r) k → (r ≡ Err flush.NoMemory → ⊥) → new ≡ after_finishing r w →
     Plays p (stand j workers) (of.Finish i) (answer.Finish r) (stand k (slice_set workers i new))
 unfolding step_outcome
@@ -305,7 +305,7 @@ finish_plays p j k workers i w new (Err r) there finishes other put =
     rw (seen_at workers i (Some w) there, finish_given p j k i (map row_of w.waiting) (Err r) finishes (λ e. other (let is : r ≡ flush.NoMemory = cc in ap (λ x. Err x) is)))
     (refl, ap (λ l. stand l (slice_set workers i new)) same ∙ place_same j workers i (Some w) new there put)
 
-finish_lacks : (p : Setting) (j k : Journal) (workers : List (Option Worker)) (i : ℕ) (w : Worker) (new : Option Worker) → slice_get workers i ≡ Some (Some w) →
+finish_lacks : (p : Setting) (j k : Journal) (workers : List (Option WorldWorker)) (i : ℕ) (w : WorldWorker) (new : Option WorldWorker) → slice_get workers i ≡ Some (Some w) →
     FinishStep p i (map row_of w.waiting) j (Err flush.NoMemory) k → new ≡ Some w →
     Lacks p (stand j workers) (of.Finish i) (stand k (slice_set workers i new))
 unfolding step_outcome
@@ -316,7 +316,7 @@ finish_lacks p j k workers i w new there finishes put =
       ap (λ l. stand l (slice_set workers i new)) lacks.1 ∙ place_same j workers i (Some w) new there put,
     )
 
-pub finishes_answer : (s t : SessionModel) (workers : List (Option Worker)) (i : ℕ) (o new : Option Worker) (out : Result StepAnswer AllocError) →
+pub finishes_answer : (s t : SessionModel) (workers : List (Option WorldWorker)) (i : ℕ) (o new : Option WorldWorker) (out : Result StepAnswer AllocError) →
     IsSoundWith s workers → slice_get workers i ≡ Some o → FinishesAt s.setting s.journal o out t.journal new →
     Steps s.setting (stand s.journal workers) (of.Finish i) out (stand t.journal (slice_set workers i new))
 finishes_answer s t workers i None new out sound there (out_is, same, kept) = rw (out_is, same) (finish_nobody s.setting s.journal workers i new there kept, tt)
@@ -331,12 +331,12 @@ finishes_answer s t workers i (Some w) new out sound there (r, finishes, out_is,
     from (Err flush.RowsFull) finishes put = (finish_plays s.setting s.journal t.journal workers i w new (Err flush.RowsFull) there finishes (λ e. cc) put, tt)
 
 -- ---- a worker leaves without its rows
-pub abandons_nowhere : (p : Setting) (j : Journal) (workers : List (Option Worker)) (i : ℕ) → length workers ≤ i →
+pub abandons_nowhere : (p : Setting) (j : Journal) (workers : List (Option WorldWorker)) (i : ℕ) → length workers ≤ i →
     Plays p (stand j workers) (of.Abandon i) answer.NoWorker (stand j workers)
 unfolding step_outcome
 abandons_nowhere p j workers i past = rw (seen_past workers i past) (refl, refl)
 
-pub abandons_answer : (s t : SessionModel) (workers : List (Option Worker)) (i : ℕ) (o new : Option Worker) (out : StepAnswer) →
+pub abandons_answer : (s t : SessionModel) (workers : List (Option WorldWorker)) (i : ℕ) (o new : Option WorldWorker) (out : StepAnswer) →
     IsSoundWith s workers → slice_get workers i ≡ Some o → AbandonsAt s.journal o out t.journal new →
     Plays s.setting (stand s.journal workers) (of.Abandon i) out (stand t.journal (slice_set workers i new))
 unfolding step_outcome

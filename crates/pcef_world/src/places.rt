@@ -7,7 +7,7 @@ ghost use Rattle.pcef_world.specs.private.Places.{AbandonsAt, HandsOverAt, Leave
 ghost use Rattle.pcef_world.specs.private.Workers.{MayHandOver, held_by};
 
 use crate::answer::{Abandoned, StepAnswer, finish_step_answer, flush_step_answer};
-use crate::worker::Worker;
+use crate::worker::WorldWorker;
 use pcef_catalog::Detects;
 use pcef_packet::{Addr, Header};
 use pcef_session::SessionState;
@@ -16,7 +16,7 @@ use std::sync::Arc;
 
 /// A worker takes a packet, after so many rows that it has handed over.
 pub(crate) fn take_at<C: Detects>(
-    place: &mut Option<Worker>,
+    place: &mut Option<WorldWorker>,
     catalog: &C,
     ue: Addr,
     handed_over: u64,
@@ -37,7 +37,7 @@ pub(crate) fn take_at<C: Detects>(
 
 /// A worker takes the session's newest table, and its generation is given.
 pub(crate) fn refresh_at(
-    place: &mut Option<Worker>,
+    place: &mut Option<WorldWorker>,
     session: &SessionState,
 ) -> Result<StepAnswer, AllocError>
     ensures { RefreshesAt session.now.setting session.now.journal place.old result place.new }
@@ -56,7 +56,7 @@ pub(crate) fn refresh_at(
 
 /// A worker hands its rows over.
 pub(crate) fn flush_at(
-    place: &mut Option<Worker>,
+    place: &mut Option<WorldWorker>,
     session: &mut SessionState,
 ) -> Result<StepAnswer, AllocError>
     requires { IfSome place.old (MayHandOver session.old.setting session.old.journal) }
@@ -72,7 +72,7 @@ pub(crate) fn flush_at(
 
 /// A worker hands its rows over and leaves its place.
 pub(crate) fn finish_at(
-    place: &mut Option<Worker>,
+    place: &mut Option<WorldWorker>,
     session: &mut SessionState,
 ) -> Result<StepAnswer, AllocError>
     requires { IfSome place.old (MayHandOver session.old.setting session.old.journal) }
@@ -94,7 +94,7 @@ pub(crate) fn finish_at(
 }
 
 /// A worker leaves its place without its waiting rows.
-pub(crate) fn abandon_at(place: &mut Option<Worker>, session: &mut SessionState) -> StepAnswer
+pub(crate) fn abandon_at(place: &mut Option<WorldWorker>, session: &mut SessionState) -> StepAnswer
     requires { IfSome place.old (λ w. is_attached session.old.journal w.number ≡ true) }
     ensures answer { AbandonsAt session.old.journal place.old result session.new.journal place.new }
     ensures setting { session.new.setting ≡ session.old.setting }

@@ -16,7 +16,7 @@ use std::sync::Arc;
 
 /// A worker: the table of the generation that it holds, and its waiting rows.
 #[derive(Drop)]
-pub struct Worker {
+pub struct WorldWorker {
     /// Its number.
     pub number: u8,
     /// The table that it judges by, with its index.
@@ -25,7 +25,7 @@ pub struct Worker {
     pub waiting: WaitingRows,
 }
 
-impl Worker {
+impl WorldWorker {
     /// Judges a packet by the table that the worker holds, after so many rows that it has handed over.
     fn judge<C: Detects>(&self, catalog: &C, ue: Addr, handed_over: u64, header: &Header) -> Item
         requires table { IsTable (C.offers catalog.now) (held_by self.now).entries }

@@ -15,7 +15,7 @@ ghost use Rattle.pcef_world.specs.private.Places.{after_coming};
 
 use crate::answer::{StepAnswer, attach_step_answer, command_step_answer};
 use crate::places::{abandon_at, finish_at, flush_at, refresh_at, take_at};
-use crate::worker::Worker;
+use crate::worker::WorldWorker;
 use pcef_catalog::{Detects, Listing};
 use pcef_index::{IndexShelf, Indexed};
 use pcef_model::{AttachFault, Command, OpenFault, Profile, Step};
@@ -29,7 +29,7 @@ use std::sync::Arc;
 pub struct WorldState {
     alloc: Global,
     session: SessionState,
-    workers: Vec<Option<Worker>>,
+    workers: Vec<Option<WorldWorker>>,
 }
 
 // Written out, so that an owner proves one call at each way out.
@@ -155,7 +155,7 @@ impl WorldState {
             return Err(AttachFault::NoMemory);
         };
         let number = self.session.attach()?;
-        self.workers.push_reserved(Some(Worker {
+        self.workers.push_reserved(Some(WorldWorker {
             number,
             held,
             waiting: WaitingRows::new(self.alloc),

@@ -8,7 +8,7 @@ use super::working::Left;
 use pcef_catalog::Detects;
 use pcef_lock::{Departure, Finished, OwnRows, Seat, Shared};
 use pcef_packet::Header;
-use pcef_publish::{Board, Slot};
+use pcef_publish::{Board, Cell};
 use pcef_session::{Batch, MAX_WAITING};
 use pcef_share::{Naming, Shares};
 use std::alloc::Global;
@@ -73,7 +73,7 @@ fn without_rows<N: Naming>(alloc: Global, departure: Departure<N>, shares: Share
 }
 
 /// A worker attaches, judges packets for itself alone and leaves.
-pub fn judged_alone<C: Detects + Drop, N: Naming, W: Board<Slot<N>> + Drop, R: Wait>(
+pub fn judged_alone<C: Detects + Drop, N: Naming, W: Board<Cell<N>> + Drop, R: Wait>(
     rt: &R,
     alloc: Global,
     shared: &Shared<C, N, W>,

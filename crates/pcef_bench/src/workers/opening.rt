@@ -9,7 +9,7 @@ use pcef_journaled::JournaledState;
 use pcef_lock::{Desk, Shared};
 use pcef_model::{Command, Level, Profile};
 use pcef_packet::{Addr, Dir, Header, Ports};
-use pcef_publish::{Board, Slot};
+use pcef_publish::{Board, Cell};
 use pcef_rule::{Arp, Gate, KeyName, Properties, Qci, QciTable, Qos, Rule, RuleName, Sums};
 use pcef_session::MAX_WAITING;
 use pcef_share::Naming;
@@ -118,7 +118,7 @@ pub fn packets_of(packets: &[Header], batch: u32) -> &[Header] {
 }
 
 /// The desk installs the rules and monitors their key.
-pub fn give_commands<C: Offers + Drop, N: Naming, W: Board<Slot<N>> + Drop, R: Wait>(
+pub fn give_commands<C: Offers + Drop, N: Naming, W: Board<Cell<N>> + Drop, R: Wait>(
     rt: &R,
     alloc: Global,
     shared: &Shared<C, N, W>,

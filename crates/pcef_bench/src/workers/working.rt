@@ -7,7 +7,7 @@ use crate::laps::{Lap, spread};
 use pcef_catalog::Detects;
 use pcef_lock::{Desk, Finished, Shared, Totals};
 use pcef_packet::Header;
-use pcef_publish::{Board, Slot};
+use pcef_publish::{Board, Cell};
 use pcef_share::Naming;
 use pcef_worker::{OpenGate, Worker};
 use std::alloc::Global;
@@ -58,7 +58,7 @@ fn take_each<C: Detects + Drop, N: Naming>(
 }
 
 /// Takes packets and flushes, so many times, or until a flush is refused.
-fn flush_each<C: Detects + Drop, N: Naming, W: Board<Slot<N>> + Drop, R: Wait>(
+fn flush_each<C: Detects + Drop, N: Naming, W: Board<Cell<N>> + Drop, R: Wait>(
     rt: &R,
     shared: &Shared<C, N, W>,
     worker: &mut Worker<C, N, OpenGate>,
@@ -74,7 +74,7 @@ fn flush_each<C: Detects + Drop, N: Naming, W: Board<Slot<N>> + Drop, R: Wait>(
 }
 
 /// Takes packets and flushes, so many times: what each flush took.
-fn time_each<C: Detects + Drop, N: Naming, W: Board<Slot<N>> + Drop, R: Wait, K: Clock>(
+fn time_each<C: Detects + Drop, N: Naming, W: Board<Cell<N>> + Drop, R: Wait, K: Clock>(
     rt: &R,
     clock: &K,
     shared: &Shared<C, N, W>,
@@ -93,7 +93,7 @@ fn time_each<C: Detects + Drop, N: Naming, W: Board<Slot<N>> + Drop, R: Wait, K:
 }
 
 /// A worker attaches, takes packets, flushes and finishes. It stores the rows, or counts them.
-fn handed_over<C: Detects + Drop, N: Naming, W: Board<Slot<N>> + Drop, R: Wait>(
+fn handed_over<C: Detects + Drop, N: Naming, W: Board<Cell<N>> + Drop, R: Wait>(
     rt: &R,
     alloc: Global,
     shared: &Shared<C, N, W>,
@@ -112,7 +112,7 @@ fn handed_over<C: Detects + Drop, N: Naming, W: Board<Slot<N>> + Drop, R: Wait>(
 }
 
 /// A worker attaches, takes packets, flushes, each flush timed, and finishes.
-fn time_worker<C: Detects + Drop, N: Naming, W: Board<Slot<N>> + Drop, R: Wait, K: Clock>(
+fn time_worker<C: Detects + Drop, N: Naming, W: Board<Cell<N>> + Drop, R: Wait, K: Clock>(
     rt: &R,
     clock: &K,
     alloc: Global,
@@ -135,7 +135,7 @@ fn time_worker<C: Detects + Drop, N: Naming, W: Board<Slot<N>> + Drop, R: Wait, 
 }
 
 /// What a worker leaves that finishes.
-fn finish_worker<C: Detects + Drop, N: Naming, W: Board<Slot<N>> + Drop, R: Wait>(
+fn finish_worker<C: Detects + Drop, N: Naming, W: Board<Cell<N>> + Drop, R: Wait>(
     rt: &R,
     shared: &Shared<C, N, W>,
     worker: Worker<C, N, OpenGate>,
@@ -150,7 +150,7 @@ fn finish_worker<C: Detects + Drop, N: Naming, W: Board<Slot<N>> + Drop, R: Wait
 }
 
 /// What a worker does.
-fn work_off<C: Detects + Drop, N: Naming, W: Board<Slot<N>> + Drop, R: Wait, K: Clock>(
+fn work_off<C: Detects + Drop, N: Naming, W: Board<Cell<N>> + Drop, R: Wait, K: Clock>(
     rt: &R,
     clock: &K,
     alloc: Global,
@@ -199,7 +199,7 @@ fn together<N: Naming>(alloc: Global, left: Vec<Option<Left<N>>>) -> Option<AllL
 fn work_each<
     C: Detects + Drop + Send + Sync,
     N: Naming + Send + Sync,
-    W: Board<Slot<N>> + Drop + Send,
+    W: Board<Cell<N>> + Drop + Send,
     R: Threads + Wait + Sync,
     K: Clock + Sync,
 >(
@@ -222,7 +222,7 @@ fn work_each<
 fn worked_off<
     C: Detects + Drop + Send + Sync,
     N: Naming + Send + Sync,
-    W: Board<Slot<N>> + Drop + Send,
+    W: Board<Cell<N>> + Drop + Send,
     R: Threads + Wait + Sync,
     K: Clock + Sync,
 >(
@@ -242,7 +242,7 @@ fn worked_off<
 pub fn outcome_of<
     C: Detects + Drop + Send + Sync,
     N: Naming + Send + Sync,
-    W: Board<Slot<N>> + Drop + Send,
+    W: Board<Cell<N>> + Drop + Send,
     R: Threads + Wait + Sync,
     K: Clock + Sync,
 >(
@@ -261,7 +261,7 @@ pub fn outcome_of<
 }
 
 /// What a session comes to whose workers left this after so many nanoseconds.
-fn comes_to<C: Detects + Drop, N: Naming, W: Board<Slot<N>> + Drop, R: Wait>(
+fn comes_to<C: Detects + Drop, N: Naming, W: Board<Cell<N>> + Drop, R: Wait>(
     rt: &R,
     shared: Shared<C, N, W>,
     desk: Desk<N>,
@@ -294,7 +294,7 @@ fn reached_of(
 }
 
 /// The totals of a session whose workers have left.
-fn gather_all<C: Detects + Drop, N: Naming, W: Board<Slot<N>> + Drop, R: Wait>(
+fn gather_all<C: Detects + Drop, N: Naming, W: Board<Cell<N>> + Drop, R: Wait>(
     rt: &R,
     shared: Shared<C, N, W>,
     desk: Desk<N>,

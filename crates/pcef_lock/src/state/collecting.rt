@@ -6,11 +6,11 @@ ghost use Rattle.pcef_lock.specs.Reports.{AreNumbered};
 
 use super::State;
 use pcef_model::Report;
-use pcef_publish::{Board, Slot};
+use pcef_publish::{Board, Cell};
 use pcef_share::{Naming, Pooling};
 use std::alloc::AllocError;
 
-impl<N: Naming, W: Board<Slot<N>> + Drop, P: Pooling> State<N, W, P> {
+impl<N: Naming, W: Board<Cell<N>> + Drop, P: Pooling> State<N, W, P> {
     /// The reports from a number on, in order. Takes memory for them.
     pub fn collect(&self, from: u64) -> Result<Vec<Report>, AllocError>
         ensures reports { IfOk result (λ v. v.items

@@ -12,13 +12,13 @@ use crate::finished::Finished;
 use crate::gathering::{GatherFault, Totals, abandoned_rows, are_compared, gather_fault};
 use crate::key_totals::{KeyTotal, KeyTotals};
 use arrayvec::ArrayVec;
-use pcef_publish::{Board, Slot};
+use pcef_publish::{Board, Cell};
 use pcef_session::SessionState;
 use pcef_share::{Naming, NoPool, Pooling, Shares};
 
 /// What is handed back where no totals were had: the reason, and all that was handed in.
 #[derive(Drop)]
-pub struct StateUngathered<N: Naming, W: Board<Slot<N>> + Drop, P: Pooling = NoPool> {
+pub struct StateUngathered<N: Naming, W: Board<Cell<N>> + Drop, P: Pooling = NoPool> {
     /// Why.
     pub fault: GatherFault,
     /// The value behind the lock.
@@ -65,7 +65,7 @@ fn totals_of(session: &SessionState, amounts: &[u64; 10]) -> KeyTotals
     totals
 }
 
-impl<N: Naming, W: Board<Slot<N>> + Drop, P: Pooling> State<N, W, P> {
+impl<N: Naming, W: Board<Cell<N>> + Drop, P: Pooling> State<N, W, P> {
     /// How many workers ever came.
     fn workers(&self) -> u8
         ensures number { result ≡ attach_count self.now.session.journal }

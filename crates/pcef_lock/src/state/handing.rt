@@ -15,11 +15,11 @@ use crate::lanes::{continues, end_of};
 use crate::leaving::{Departure, LastFlush, Leaving};
 use crate::seat::Seat;
 use pcef_model::{FlushRefusal, Verdicts};
-use pcef_publish::{Board, Slot};
+use pcef_publish::{Board, Cell};
 use pcef_session::Batch;
 use pcef_share::{Naming, Pooling};
 
-impl<N: Naming, W: Board<Slot<N>> + Drop, P: Pooling> State<N, W, P> {
+impl<N: Naming, W: Board<Cell<N>> + Drop, P: Pooling> State<N, W, P> {
     /// Whether rows of a worker continue its lane.
     fn continues_lane(&self, worker: u8, batch: &Batch) -> bool
         ensures { result ≡ continues_lane self.now.session.journal worker batch.now }

@@ -17,7 +17,7 @@ use pcef_index::Index;
 use pcef_model::Verdict;
 use pcef_packet::{Addr, Dir, Header, Ports};
 use pcef_rule::Gate;
-use pcef_table::{Entry, Table};
+use pcef_table::{Table, TableEntry};
 use std::alloc::Global;
 use std::process::Abort;
 use std::test::Fail;
@@ -299,7 +299,7 @@ fn made_header(state: &mut u64, six: bool) -> Header {
 }
 
 /// The entry of a rule of three filters.
-fn made_entry(alloc: Global, state: &mut u64, number: u32) -> Option<Entry>
+fn made_entry(alloc: Global, state: &mut u64, number: u32) -> Option<TableEntry>
     ensures { IfSome result (λ e. (offers : List Offer) → IsKnown offers e.source) }
 {
     let filters = [made_filter(state), made_filter(state), made_filter(state)];

@@ -12,7 +12,7 @@ use pcef_filter::{Filter, read_filter};
 use pcef_model::Verdict;
 use pcef_packet::{Addr, Dir, Header, Ports};
 use pcef_rule::{Arp, BearerId, Gate, Properties, Qci, Qos, Rule, RuleName, Slot};
-use pcef_table::{Entry, Source, Table};
+use pcef_table::{Source, Table, TableEntry};
 use std::alloc::Global;
 
 /// The address of the session.
@@ -77,11 +77,11 @@ pub(crate) fn entry_of(
     properties: Properties,
     filters: &[Filter],
     bearer: u8,
-) -> Option<Entry>
+) -> Option<TableEntry>
     ensures { IfSome result (λ e. (offers : List Offer) → IsKnown offers e.source) }
 {
     let rule = Rule::new(alloc, properties, filters).ok()?;
-    Some(Entry {
+    Some(TableEntry {
         source: Source::Dynamic(rule),
         bearer: BearerId(bearer),
         slot: Some(Slot(3)),
@@ -90,7 +90,7 @@ pub(crate) fn entry_of(
 }
 
 /// The entry of a rule with one filter.
-fn entry_of_variant(alloc: Global, variant: Variant<'_>) -> Option<Entry>
+fn entry_of_variant(alloc: Global, variant: Variant<'_>) -> Option<TableEntry>
     ensures { IfSome result (λ e. (offers : List Offer) → IsKnown offers e.source) }
 {
     let (name, precedence, gate, bearer, filter) = variant;
@@ -100,11 +100,11 @@ fn entry_of_variant(alloc: Global, variant: Variant<'_>) -> Option<Entry>
 }
 
 /// The entry of the first predefined rule.
-fn predefined_entry<C: Offers>(catalog: &C) -> Option<Entry>
+fn predefined_entry<C: Offers>(catalog: &C) -> Option<TableEntry>
     ensures { IfSome result (λ e. IsKnown (C.offers catalog.now) e.source) }
 {
     if catalog.listing().offers().len() > 0 {
-        Some(Entry {
+        Some(TableEntry {
             source: Source::Predefined(0),
             bearer: BearerId(6),
             slot: None,
@@ -124,7 +124,7 @@ pub(crate) fn empty_table<C: Offers>(alloc: Global, _catalog: &C) -> Option<Tabl
 }
 
 /// The next generation with one more entry.
-pub(crate) fn with_entry<C: Offers>(catalog: &C, table: &Table, entry: Entry) -> Option<Table>
+pub(crate) fn with_entry<C: Offers>(catalog: &C, table: &Table, entry: TableEntry) -> Option<Table>
     requires table { IsTable (C.offers catalog.now) table.now.entries }
     requires known { IsKnown (C.offers catalog.now) entry.source }
     ensures { IfSome result (λ t. IsTable (C.offers catalog.now) t.entries) }

@@ -8,7 +8,7 @@ use Rattle.pcef_model.specs.Journals.{gen}
 use Rattle.pcef_model.specs.Setting.{Setting}
 use Rattle.pcef_rule.specs.declared.quantity.BearerId.{BearerId}
 use Rattle.pcef_bearer.specs.Bindings.{Binding, id_excluding, without}
-use Rattle.pcef_table.specs.declared.entry.Entry.{Entry}
+use Rattle.pcef_table.specs.declared.entry.TableEntry.{TableEntry}
 use Rattle.pcef_table.specs.Tables.{TableValue}
 use Rattle.pcef_usage.specs.declared.usage.KeyState.{KeyState}
 use Rattle.pcef_usage.specs.Keys.{place_of}
@@ -26,7 +26,7 @@ ShowsNext p j c t = Shows p (with_command c j) (gen (with_command c j)) t
 
 -- an entry for a rule that becomes active on this bearer: the slot that its key has or gets, and whether the key
 -- is on
-pub record IsEntryOn (id : BearerId) (keys : List KeyState) (x : Activation) (e : Entry) : Type 0 where
+pub record IsEntryOn (id : BearerId) (keys : List KeyState) (x : Activation) (e : TableEntry) : Type 0 where
   pub source_is : e.source ≡ x.source
   pub bearer_is : e.bearer ≡ id
   pub slot_is : option_map (λ s. s.0) e.slot ≡ option_map (λ k. place_of k keys) x.properties.key
@@ -34,7 +34,7 @@ pub record IsEntryOn (id : BearerId) (keys : List KeyState) (x : Activation) (e 
 
 -- an entry for a rule that becomes active: the bearer of its pair, the slot that its key has or gets, and whether
 -- the key is on
-pub record IsEntryOf (b : Binding) (keys : List KeyState) (x : Activation) (e : Entry) : Type 0 where
+pub record IsEntryOf (b : Binding) (keys : List KeyState) (x : Activation) (e : TableEntry) : Type 0 where
   pub source_is : e.source ≡ x.source
   pub bearer_is : id_excluding b.default_qos b.bound (without x.properties.name b.bound) x.properties.qos ≡ Some e.bearer.0
   pub slot_is : option_map (λ s. s.0) e.slot ≡ option_map (λ k. place_of k keys) x.properties.key

@@ -20,7 +20,7 @@ use Rattle.std.specs.Option.{option_map_or}
 use Rattle.pcef_rule.specs.declared.rule.Properties.{Properties}
 use Rattle.pcef_model.specs.ActiveRules.{is_key}
 use Rattle.pcef_model.specs.Setting.{same_name}
-use Rattle.pcef_table.specs.declared.entry.Entry.{Entry}
+use Rattle.pcef_table.specs.declared.entry.TableEntry.{TableEntry}
 use Rattle.pcef_catalog.specs.declared.listing.Offer.{Offer}
 use Rattle.pcef_table.specs.Sources.{properties_of, name_of}
 use Rattle.pcef_usage.specs.declared.usage.KeyState.{KeyState}
@@ -29,7 +29,7 @@ use Rattle.pcef_model.specs.declared.command.Command.{Command}
 use Rattle.pcef_model.specs.Commands.{takes_away}
 
 -- the rule of some entry passes a test
-abbrev pub some_entry : List Offer → (Properties → Bool) → List Entry → Bool
+abbrev pub some_entry : List Offer → (Properties → Bool) → List TableEntry → Bool
 some_entry offers test entries = list_any (λ e. option_map_or test (properties_of offers e.source) false) entries
 
 abbrev pub is_on_there : List ℕ → KeyState → Bool
@@ -54,14 +54,14 @@ comes_with None key = false
 comes_with (Some x) key = is_key key x.properties.key
 
 -- the rule of an entry is neither replaced nor taken away
-abbrev pub entry_stays : List Offer → Command → Option Activation → Entry → Bool
+abbrev pub entry_stays : List Offer → Command → Option Activation → TableEntry → Bool
 entry_stays offers c x e = not (comes_named x (name_of offers e.source) || takes_away c (name_of offers e.source) e.bearer.0)
 
-abbrev pub stays_with : List Offer → Command → Option Activation → List ℕ → Entry → Bool
+abbrev pub stays_with : List Offer → Command → Option Activation → List ℕ → TableEntry → Bool
 stays_with offers c x key e = entry_stays offers c x e && option_map_or (has_key key) (properties_of offers e.source) false
 
 -- a key is on, and of whose rules there are some and none stays or comes
-abbrev pub is_lost : List Offer → List Entry → Command → Option Activation → KeyState → Bool
+abbrev pub is_lost : List Offer → List TableEntry → Command → Option Activation → KeyState → Bool
 is_lost offers entries c x s =
     s.on && some_entry offers (has_key s.key) entries
     && not (comes_with x s.key || list_any (stays_with offers c x s.key) entries)
@@ -73,12 +73,12 @@ end_cause Terminate = Terminated
 end_cause _ = RulesGone
 
 -- Terminate ends all that are on or have unreported octets, another command those that lose their last rule
-abbrev pub is_ended : List Offer → List Entry → Command → Option Activation → KeyState → Bool
+abbrev pub is_ended : List Offer → List TableEntry → Command → Option Activation → KeyState → Bool
 is_ended offers entries Terminate x s = s.on || nat_lt 0 s.unreported
 is_ended offers entries c x s = is_lost offers entries c x s
 
 -- the reports of the keys that a command ends, slot by slot
-abbrev pub ended_usage : List Offer → List Entry → Command → Option Activation → List KeyState → List PendingReport
+abbrev pub ended_usage : List Offer → List TableEntry → Command → Option Activation → List KeyState → List PendingReport
 ended_usage offers entries c x states = usage_of (end_cause c) (is_ended offers entries c x) states
 
 -- the report of a key, where it ends
@@ -101,7 +101,7 @@ level_switched (Monitor key grant level) k states = level
 level_switched c k states = (state_at (place_of k states) states).level
 
 -- the entries, and the flags of slots, where this slot counts or doesn't for a key of this level
-abbrev pub entries_switched : Level → Slot → Bool → List Entry → List Entry
+abbrev pub entries_switched : Level → Slot → Bool → List TableEntry → List TableEntry
 entries_switched Rule slot on entries = map (with_counting slot on) entries
 entries_switched Session slot on entries = entries
 

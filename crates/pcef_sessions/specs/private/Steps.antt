@@ -2,7 +2,7 @@
 use Rattle.std.specs.Prelude.{ℕ, ◌≡◌, ◌≢◌, List, true, false, Option, Some, None, string_bytes}
 use Rattle.pcef_model.specs.Setting.{Setting}
 use Rattle.pcef_world.specs.Steps.{Standing}
-use Rattle.pcef_script.specs.declared.step.Answer.{Answer}
+use Rattle.pcef_script.specs.declared.step.LineAnswer.{LineAnswer}
 use Rattle.pcef_script.specs.ScriptAnswers.{AnswersLine}
 use Rattle.pcef_sessions.specs.declared.asking.Asking.{Asking}
 use Rattle.pcef_sessions.specs.declared.asking.Asking.TheVariants as asking
@@ -16,7 +16,7 @@ abbrev pub OthersStay : Sessions → List ℕ → Sessions → Type 0
 OthersStay old name new = (other : List ℕ) → other ≢ name → held new other ≡ held old other
 
 -- a session that is there answers as a script does
-abbrev pub Runs : Option Session → List ℕ → Option Answer → Option Session → Type 0
+abbrev pub Runs : Option Session → List ℕ → Option LineAnswer → Option Session → Type 0
 Runs None line None after = after ≡ None
 Runs None line (Some a) after = ⊥
 Runs (Some s) line None after = ⊥
@@ -25,7 +25,7 @@ Runs (Some s) line (Some a) after =
     × (after ≡ Some (record s { standing = standing }))
 
 -- what the sessions answer, whatever a script would
-abbrev pub AsksOf : Setting → Option Session → Asking → Answer → Option Session → Type 0
+abbrev pub AsksOf : Setting → Option Session → Asking → LineAnswer → Option Session → Type 0
 AsksOf p None (asking.Open ue) a after = Says done_text false (Some (opened (with_address ue p))) (string_bytes a.text) a.is_fault after
 AsksOf p (Some s) (asking.Open ue) a after = Says is_open_text false (Some s) (string_bytes a.text) a.is_fault after
 AsksOf p None asking.End a after = Says no_session_text false None (string_bytes a.text) a.is_fault after
@@ -33,20 +33,20 @@ AsksOf p (Some s) asking.End a after = Says done_text false None (string_bytes a
 AsksOf p there (asking.Fault why) a after = Says (asking_fault_text why) true there (string_bytes a.text) a.is_fault after
 AsksOf p there asking.Script a after = Says no_session_text false there (string_bytes a.text) a.is_fault after
 
-abbrev pub Asks : Sessions → List ℕ → Asking → Answer → Sessions → Type 0
+abbrev pub Asks : Sessions → List ℕ → Asking → LineAnswer → Sessions → Type 0
 Asks old name asks a new = AsksOf (fixed old) (held old name) asks a (held new name) × OthersStay old name new
 
 -- the answer of a script stands where the line asks nothing of the sessions
-abbrev pub InsteadOf : Setting → Option Session → Asking → Answer → Answer → Option Session → Type 0
+abbrev pub InsteadOf : Setting → Option Session → Asking → LineAnswer → LineAnswer → Option Session → Type 0
 InsteadOf p there (asking.Open ue) script a after = AsksOf p there (asking.Open ue) a after
 InsteadOf p there asking.End script a after = AsksOf p there asking.End a after
 InsteadOf p there (asking.Fault why) script a after = AsksOf p there (asking.Fault why) a after
 InsteadOf p there asking.Script script a after = (a ≡ script) × (after ≡ there)
 
-abbrev pub AsksInstead : Sessions → List ℕ → List ℕ → Answer → Answer → Sessions → Type 0
+abbrev pub AsksInstead : Sessions → List ℕ → List ℕ → LineAnswer → LineAnswer → Sessions → Type 0
 AsksInstead old name line script a new =
     InsteadOf (fixed old) (held old name) (asked_of line) script a (held new name) × OthersStay old name new
 
-abbrev pub AnswersIn : Sessions → List ℕ → List ℕ → Answer → Sessions → Type 0
+abbrev pub AnswersIn : Sessions → List ℕ → List ℕ → LineAnswer → Sessions → Type 0
 AnswersIn old name line a new =
     UnderName (fixed old) (held old name) line (string_bytes a.text) a.is_fault (held new name) × OthersStay old name new

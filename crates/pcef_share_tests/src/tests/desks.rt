@@ -9,7 +9,7 @@ ghost use Rattle.pcef_lock.specs.Opening.{GoesBy};
 use super::*;
 use pcef_journaled::JournaledState;
 use pcef_lock::{Desk, Pool, Shared, Totals, open_history};
-use pcef_publish::{Board, Opened, Slot, Writer};
+use pcef_publish::{Board, Cell, Opened, Writer};
 use pcef_share::{Blanks, Naming, RateShares};
 use std::sync::{Arc, Wait};
 use std::thread::{Threads, join};
@@ -92,8 +92,8 @@ fn behind_lock<'p, N: Naming, P: Pooling, R: Wait + Drop>(
 fn answer<
     A: Naming,
     B: Naming,
-    V: Board<Slot<A>> + Drop,
-    W: Board<Slot<B>> + Drop,
+    V: Board<Cell<A>> + Drop,
+    W: Board<Cell<B>> + Drop,
     P: Pooling,
     R: Wait,
 >(
@@ -115,7 +115,7 @@ fn answer<
 
 /// How many of so many Installs and Removes are answered otherwise than they may be: an Install is accepted, or the
 /// pool has no room for it, and a Remove is accepted, or there is nothing to remove.
-fn odd_answers<N: Naming, W: Board<Slot<N>> + Drop, P: Pooling, R: Wait>(
+fn odd_answers<N: Naming, W: Board<Cell<N>> + Drop, P: Pooling, R: Wait>(
     rt: &R,
     alloc: Global,
     times: u32,
@@ -138,7 +138,7 @@ fn odd_answers<N: Naming, W: Board<Slot<N>> + Drop, P: Pooling, R: Wait>(
     odd
 }
 
-fn installed<N: Naming, W: Board<Slot<N>> + Drop, P: Pooling, R: Wait>(
+fn installed<N: Naming, W: Board<Cell<N>> + Drop, P: Pooling, R: Wait>(
     rt: &R,
     alloc: Global,
     shared: &Shared<'_, Listing, N, W, P>,
@@ -152,8 +152,8 @@ fn installed<N: Naming, W: Board<Slot<N>> + Drop, P: Pooling, R: Wait>(
 fn do_task<
     A: Naming + Send + Sync,
     B: Naming + Send + Sync,
-    V: Board<Slot<A>> + Drop + Send,
-    W: Board<Slot<B>> + Drop + Send,
+    V: Board<Cell<A>> + Drop + Send,
+    W: Board<Cell<B>> + Drop + Send,
     P: Pooling + Send + Sync,
     R: Threads + Wait + Sync,
 >(
@@ -192,7 +192,7 @@ fn do_task<
 }
 
 /// What a session has at its end.
-fn end_of<N: Naming, W: Board<Slot<N>> + Drop, P: Pooling, R: Wait>(
+fn end_of<N: Naming, W: Board<Cell<N>> + Drop, P: Pooling, R: Wait>(
     rt: &R,
     alloc: Global,
     shared: Shared<'_, Listing, N, W, P>,
@@ -218,8 +218,8 @@ fn end_of<N: Naming, W: Board<Slot<N>> + Drop, P: Pooling, R: Wait>(
 fn seen_and_left<
     A: Naming + Send + Sync,
     B: Naming + Send + Sync,
-    V: Board<Slot<A>> + Drop + Send,
-    W: Board<Slot<B>> + Drop + Send,
+    V: Board<Cell<A>> + Drop + Send,
+    W: Board<Cell<B>> + Drop + Send,
     P: Pooling + Send + Sync,
     R: Threads + Wait + Sync,
 >(
@@ -243,7 +243,7 @@ fn seen_and_left<
 fn second_named<
     A: Naming + Send + Sync,
     B: Naming + Send + Sync,
-    V: Board<Slot<A>> + Drop + Send,
+    V: Board<Cell<A>> + Drop + Send,
     P: Pooling + Send + Sync,
     R: Threads + Wait + Sync,
 >(

@@ -4,7 +4,7 @@ ghost use Rattle.std.specs.Arc.{arc_value};
 
 use crate::tests::expect_equal;
 use pcef_index::Indexed;
-use pcef_publish::{Board, Opened, Publisher, Slot, Subscriber, Writer};
+use pcef_publish::{Board, Cell, Opened, Publisher, Subscriber, Writer};
 use pcef_share::Naming;
 use std::alloc::{AllocError, Global};
 use std::marker::Brand;
@@ -51,7 +51,7 @@ fn finds_the_newest<N: Naming, R: Wait + Drop>(
 }
 
 // Publishes the table of the next generation, which is empty.
-fn publish_empty<N: Naming, W: Board<Slot<N>> + Drop>(
+fn publish_empty<N: Naming, W: Board<Cell<N>> + Drop>(
     alloc: Global,
     publisher: &mut Publisher<N, W>,
 ) -> Result<(), Fail> {
@@ -61,7 +61,7 @@ fn publish_empty<N: Naming, W: Board<Slot<N>> + Drop>(
     Ok(())
 }
 
-fn read_by_both<N: Naming, W: Board<Slot<N>> + Drop>(
+fn read_by_both<N: Naming, W: Board<Cell<N>> + Drop>(
     alloc: Global,
     publisher: &mut Publisher<N, W>,
     quick: &mut Subscriber<N>,
@@ -106,7 +106,7 @@ fn meets_the_newest<N: Naming, R: Wait + Drop>(
     }
 }
 
-fn read_by_one<N: Naming, W: Board<Slot<N>> + Drop>(
+fn read_by_one<N: Naming, W: Board<Cell<N>> + Drop>(
     alloc: Global,
     publisher: &mut Publisher<N, W>,
     one: &mut Subscriber<N>,
@@ -144,7 +144,7 @@ fn read_beside_the_publisher<
     }
 }
 
-fn beside<N: Naming + Send + Sync, R: Threads + Wait + Sync, W: Board<Slot<N>> + Drop + Send>(
+fn beside<N: Naming + Send + Sync, R: Threads + Wait + Sync, W: Board<Cell<N>> + Drop + Send>(
     rt: &R,
     alloc: Global,
     publisher: Publisher<N, W>,
@@ -156,7 +156,7 @@ fn beside<N: Naming + Send + Sync, R: Threads + Wait + Sync, W: Board<Slot<N>> +
     }
 }
 
-fn at_the_end<N: Naming, W: Board<Slot<N>> + Drop>(
+fn at_the_end<N: Naming, W: Board<Cell<N>> + Drop>(
     both: Option<(Publisher<N, W>, Subscriber<N>)>,
 ) -> Option<(u32, u32)> {
     match both {
@@ -165,7 +165,7 @@ fn at_the_end<N: Naming, W: Board<Slot<N>> + Drop>(
     }
 }
 
-fn met<N: Naming, W: Board<Slot<N>> + Drop>(
+fn met<N: Naming, W: Board<Cell<N>> + Drop>(
     publisher: &mut Publisher<N, W>,
     subscriber: &mut Subscriber<N>,
 ) -> Option<(u32, u32)> {
@@ -175,7 +175,7 @@ fn met<N: Naming, W: Board<Slot<N>> + Drop>(
 }
 
 // Both at once, each in a thread of its own.
-fn at_once<N: Naming + Send + Sync, R: Threads + Wait + Sync, W: Board<Slot<N>> + Drop + Send>(
+fn at_once<N: Naming + Send + Sync, R: Threads + Wait + Sync, W: Board<Cell<N>> + Drop + Send>(
     rt: &R,
     alloc: Global,
     publisher: Publisher<N, W>,
@@ -190,7 +190,7 @@ fn at_once<N: Naming + Send + Sync, R: Threads + Wait + Sync, W: Board<Slot<N>> 
 }
 
 // Publishes empty tables up to generation 200.
-fn with_two_hundred<N: Naming, W: Board<Slot<N>> + Drop>(
+fn with_two_hundred<N: Naming, W: Board<Cell<N>> + Drop>(
     alloc: Global,
     mut publisher: Publisher<N, W>,
 ) -> Option<Publisher<N, W>> {
@@ -248,7 +248,7 @@ fn twice_published<N: Naming, R: Wait + Drop>(
     }
 }
 
-fn publish_two<N: Naming, W: Board<Slot<N>> + Drop>(
+fn publish_two<N: Naming, W: Board<Cell<N>> + Drop>(
     alloc: Global,
     publisher: &mut Publisher<N, W>,
     subscriber: &mut Subscriber<N>,
@@ -260,7 +260,7 @@ fn publish_two<N: Naming, W: Board<Slot<N>> + Drop>(
 
 // Publishes the next table, where it is refused once more, and tells whether the subscriber finds it. A refused table
 // leaves no trace.
-fn publish_next<N: Naming, W: Board<Slot<N>> + Drop>(
+fn publish_next<N: Naming, W: Board<Cell<N>> + Drop>(
     alloc: Global,
     publisher: &mut Publisher<N, W>,
     subscriber: &mut Subscriber<N>,

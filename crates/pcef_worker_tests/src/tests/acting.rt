@@ -4,7 +4,7 @@ use super::*;
 use pcef_model::{Judged, Verdict};
 
 // What a step of the worker that acts tells.
-pub fn seen<C: Detects + Drop, N: Naming, W: Board<Slot<N>> + Drop, R: Wait>(
+pub fn seen<C: Detects + Drop, N: Naming, W: Board<Cell<N>> + Drop, R: Wait>(
     rt: &R,
     shared: &Shared<C, N, W>,
     workers: &mut Workers<C, N>,
@@ -16,7 +16,7 @@ pub fn seen<C: Detects + Drop, N: Naming, W: Board<Slot<N>> + Drop, R: Wait>(
     }
 }
 
-fn seen_of<C: Detects + Drop, N: Naming, W: Board<Slot<N>> + Drop, R: Wait>(
+fn seen_of<C: Detects + Drop, N: Naming, W: Board<Cell<N>> + Drop, R: Wait>(
     rt: &R,
     shared: &Shared<C, N, W>,
     worker: &mut Worker<C, N, OpenGate>,
@@ -37,7 +37,7 @@ fn seen_of<C: Detects + Drop, N: Naming, W: Board<Slot<N>> + Drop, R: Wait>(
 }
 
 // The number that a step tells first, before the rows and the generation.
-fn done<C: Detects + Drop, N: Naming, W: Board<Slot<N>> + Drop, R: Wait>(
+fn done<C: Detects + Drop, N: Naming, W: Board<Cell<N>> + Drop, R: Wait>(
     rt: &R,
     shared: &Shared<C, N, W>,
     worker: &mut Worker<C, N, OpenGate>,
@@ -52,7 +52,7 @@ fn done<C: Detects + Drop, N: Naming, W: Board<Slot<N>> + Drop, R: Wait>(
     }
 }
 
-fn verdicts_of_a_flush<C: Detects + Drop, N: Naming, W: Board<Slot<N>> + Drop, R: Wait>(
+fn verdicts_of_a_flush<C: Detects + Drop, N: Naming, W: Board<Cell<N>> + Drop, R: Wait>(
     rt: &R,
     shared: &Shared<C, N, W>,
     worker: &mut Worker<C, N, OpenGate>,
@@ -64,7 +64,7 @@ fn verdicts_of_a_flush<C: Detects + Drop, N: Naming, W: Board<Slot<N>> + Drop, R
     }
 }
 
-fn met<C: Detects + Drop, N: Naming, W: Board<Slot<N>> + Drop, R: Wait>(
+fn met<C: Detects + Drop, N: Naming, W: Board<Cell<N>> + Drop, R: Wait>(
     rt: &R,
     shared: &Shared<C, N, W>,
     worker: &mut Worker<C, N, OpenGate>,
@@ -75,7 +75,7 @@ fn met<C: Detects + Drop, N: Naming, W: Board<Slot<N>> + Drop, R: Wait>(
     }
 }
 
-fn judged<C: Detects + Drop, N: Naming, W: Board<Slot<N>> + Drop, R: Wait>(
+fn judged<C: Detects + Drop, N: Naming, W: Board<Cell<N>> + Drop, R: Wait>(
     rt: &R,
     shared: &Shared<C, N, W>,
     worker: &mut Worker<C, N, OpenGate>,

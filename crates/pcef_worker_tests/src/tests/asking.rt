@@ -54,7 +54,7 @@ fn wait(here: &AtomicBool, goes_on: &AtomicBool) {
 pub fn asked_around_a_flush<
     C: Detects + Drop + Send + Sync,
     N: Naming + Send + Sync,
-    W: Board<Slot<N>> + Drop + Send,
+    W: Board<Cell<N>> + Drop + Send,
     R: Threads + Wait + Sync,
 >(
     rt: &R,
@@ -75,7 +75,7 @@ pub fn asked_around_a_flush<
     told
 }
 
-fn asked_twice<C: Offers + Drop, N: Naming, W: Board<Slot<N>> + Drop, R: Wait>(
+fn asked_twice<C: Offers + Drop, N: Naming, W: Board<Cell<N>> + Drop, R: Wait>(
     rt: &R,
     shared: &Shared<C, N, W>,
     desk: &mut Desk<N>,
@@ -89,7 +89,7 @@ fn asked_twice<C: Offers + Drop, N: Naming, W: Board<Slot<N>> + Drop, R: Wait>(
 }
 
 // The desk asks for a report where the worker came here, and lets it go on: how many reports, and the octets of the last.
-fn asked_at<C: Offers + Drop, N: Naming, W: Board<Slot<N>> + Drop, R: Wait>(
+fn asked_at<C: Offers + Drop, N: Naming, W: Board<Cell<N>> + Drop, R: Wait>(
     rt: &R,
     shared: &Shared<C, N, W>,
     desk: &mut Desk<N>,

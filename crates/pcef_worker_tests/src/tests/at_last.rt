@@ -21,7 +21,7 @@ pub fn plain(step: Step) -> Option<Step> {
 pub fn seen<
     C: Detects + Drop + Send + Sync,
     N: Naming + Send + Sync,
-    W: Board<Slot<N>> + Drop + Send,
+    W: Board<Cell<N>> + Drop + Send,
     R: Threads + Wait + Sync,
 >(
     rt: &R,

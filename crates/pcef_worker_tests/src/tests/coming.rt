@@ -63,7 +63,7 @@ fn make_room<T>(list: &mut Vec<T>) {
 }
 
 // What a step tells by which workers come and leave.
-pub fn seen<C: Detects + Drop, N: Naming, W: Board<Slot<N>> + Drop, R: Wait>(
+pub fn seen<C: Detects + Drop, N: Naming, W: Board<Cell<N>> + Drop, R: Wait>(
     rt: &R,
     alloc: Global,
     shared: &Shared<C, N, W>,
@@ -81,7 +81,7 @@ pub fn seen<C: Detects + Drop, N: Naming, W: Board<Slot<N>> + Drop, R: Wait>(
     }
 }
 
-fn comes<C: Detects + Drop, N: Naming, W: Board<Slot<N>> + Drop, R: Wait>(
+fn comes<C: Detects + Drop, N: Naming, W: Board<Cell<N>> + Drop, R: Wait>(
     rt: &R,
     alloc: Global,
     shared: &Shared<C, N, W>,
@@ -97,7 +97,7 @@ fn comes<C: Detects + Drop, N: Naming, W: Board<Slot<N>> + Drop, R: Wait>(
     }
 }
 
-fn can_not_come<C: Detects + Drop, N: Naming, W: Board<Slot<N>> + Drop, R: Wait>(
+fn can_not_come<C: Detects + Drop, N: Naming, W: Board<Cell<N>> + Drop, R: Wait>(
     rt: &R,
     alloc: Global,
     shared: &Shared<C, N, W>,
@@ -107,7 +107,7 @@ fn can_not_come<C: Detects + Drop, N: Naming, W: Board<Slot<N>> + Drop, R: Wait>
     [u64::from(fault == Some(reason)), 0, 0, 0]
 }
 
-fn leaves<C: Detects + Drop, N: Naming, W: Board<Slot<N>> + Drop, R: Wait>(
+fn leaves<C: Detects + Drop, N: Naming, W: Board<Cell<N>> + Drop, R: Wait>(
     rt: &R,
     shared: &Shared<C, N, W>,
     workers: &mut Workers<C, N>,
@@ -133,7 +133,7 @@ fn kept<C: Detects + Drop, N: Naming>(
 }
 
 // A finish that is refused gives the worker back, which is there as before.
-fn finished<C: Detects + Drop, N: Naming, W: Board<Slot<N>> + Drop, R: Wait>(
+fn finished<C: Detects + Drop, N: Naming, W: Board<Cell<N>> + Drop, R: Wait>(
     rt: &R,
     shared: &Shared<C, N, W>,
     workers: &mut Workers<C, N>,

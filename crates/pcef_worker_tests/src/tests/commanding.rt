@@ -5,7 +5,7 @@ use pcef_model::{Accepted, Body, Level, Refusal, Report};
 use pcef_rule::KeyName;
 
 // What a step of the desk tells.
-pub fn seen<C: Offers + Drop, N: Naming, W: Board<Slot<N>> + Drop, R: Wait>(
+pub fn seen<C: Offers + Drop, N: Naming, W: Board<Cell<N>> + Drop, R: Wait>(
     rt: &R,
     shared: &Shared<C, N, W>,
     desk: &mut Desk<N>,
@@ -33,7 +33,7 @@ fn command_of(step: Step, install: &Command) -> Option<Command> {
     }
 }
 
-fn generation_after<C: Offers + Drop, N: Naming, W: Board<Slot<N>> + Drop, R: Wait>(
+fn generation_after<C: Offers + Drop, N: Naming, W: Board<Cell<N>> + Drop, R: Wait>(
     rt: &R,
     shared: &Shared<C, N, W>,
     desk: &mut Desk<N>,
@@ -62,7 +62,7 @@ pub fn still_attached(answer: Result<Accepted, Refusal>) -> Option<u64> {
 }
 
 /// Collects, asks for a report of the key and collects: what [`Step::AskForReport`] tells.
-pub fn asked_for<C: Offers + Drop, N: Naming, W: Board<Slot<N>> + Drop, R: Wait>(
+pub fn asked_for<C: Offers + Drop, N: Naming, W: Board<Cell<N>> + Drop, R: Wait>(
     rt: &R,
     shared: &Shared<C, N, W>,
     desk: &mut Desk<N>,
@@ -78,7 +78,7 @@ pub fn asked_for<C: Offers + Drop, N: Naming, W: Board<Slot<N>> + Drop, R: Wait>
     [not_asked_for, after, number, octets]
 }
 
-fn collected<C: Offers + Drop, N: Naming, W: Board<Slot<N>> + Drop, R: Wait>(
+fn collected<C: Offers + Drop, N: Naming, W: Board<Cell<N>> + Drop, R: Wait>(
     rt: &R,
     shared: &Shared<C, N, W>,
     desk: &mut Desk<N>,

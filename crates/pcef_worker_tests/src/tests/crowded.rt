@@ -50,7 +50,7 @@ impl Crowd {
 pub fn crowded<
     C: Detects + Drop + Send + Sync,
     N: Naming + Send + Sync,
-    W: Board<Slot<N>> + Drop + Send,
+    W: Board<Cell<N>> + Drop + Send,
     R: Threads + Wait + Sync,
 >(rt: &R, alloc: Global, shared: &Shared<C, N, W>, desk: &mut Desk<N>) -> Seen {
     let crowd = Crowd {
@@ -71,7 +71,7 @@ pub fn crowded<
 fn all_finish<
     C: Detects + Drop + Send + Sync,
     N: Naming + Send + Sync,
-    W: Board<Slot<N>> + Drop + Send,
+    W: Board<Cell<N>> + Drop + Send,
     R: Threads + Wait + Sync,
 >(rt: &R, alloc: Global, shared: &Shared<C, N, W>, crowd: &Crowd) {
     let _ = map_indices(
@@ -84,7 +84,7 @@ fn all_finish<
 }
 
 // A worker comes, and finishes once all have come: whether it came.
-fn comes_and_finishes<C: Detects + Drop, N: Naming, W: Board<Slot<N>> + Drop, R: Wait>(
+fn comes_and_finishes<C: Detects + Drop, N: Naming, W: Board<Cell<N>> + Drop, R: Wait>(
     rt: &R,
     alloc: Global,
     shared: &Shared<C, N, W>,
@@ -102,7 +102,7 @@ fn comes_and_finishes<C: Detects + Drop, N: Naming, W: Board<Slot<N>> + Drop, R:
 }
 
 // A worker takes a packet and finishes.
-fn finishes<C: Detects + Drop, N: Naming, W: Board<Slot<N>> + Drop, R: Wait>(
+fn finishes<C: Detects + Drop, N: Naming, W: Board<Cell<N>> + Drop, R: Wait>(
     rt: &R,
     shared: &Shared<C, N, W>,
     worker: Worker<C, N, OpenGate>,
@@ -117,7 +117,7 @@ fn finishes<C: Detects + Drop, N: Naming, W: Board<Slot<N>> + Drop, R: Wait>(
 
 // Gives Terminate once all have come, and then till it is accepted: how many workers the first one finds attached, and
 // whether one is accepted.
-fn terminates<C: Offers + Drop, N: Naming, W: Board<Slot<N>> + Drop, R: Wait>(
+fn terminates<C: Offers + Drop, N: Naming, W: Board<Cell<N>> + Drop, R: Wait>(
     rt: &R,
     shared: &Shared<C, N, W>,
     desk: &mut Desk<N>,
@@ -130,7 +130,7 @@ fn terminates<C: Offers + Drop, N: Naming, W: Board<Slot<N>> + Drop, R: Wait>(
 }
 
 // Gives Terminate till no worker is attached, and gives up at some time.
-fn is_terminated<C: Offers + Drop, N: Naming, W: Board<Slot<N>> + Drop, R: Wait>(
+fn is_terminated<C: Offers + Drop, N: Naming, W: Board<Cell<N>> + Drop, R: Wait>(
     rt: &R,
     shared: &Shared<C, N, W>,
     desk: &mut Desk<N>,

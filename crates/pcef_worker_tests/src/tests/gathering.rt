@@ -10,7 +10,7 @@ use pcef_lock::{GatherFault, Totals, Ungathered};
 /// workers were out at first; then the rows, those that were given up, what was counted, reported and not reported for
 /// the key, and how many keys have a slot. Where workers are out still, the first number stands in each place, and 0
 /// where none was out.
-pub fn ending<C: Detects + Drop, N: Naming, W: Board<Slot<N>> + Drop, R: Wait>(
+pub fn ending<C: Detects + Drop, N: Naming, W: Board<Cell<N>> + Drop, R: Wait>(
     rt: &R,
     shared: Shared<C, N, W>,
     desk: Desk<N>,
@@ -24,7 +24,7 @@ pub fn ending<C: Detects + Drop, N: Naming, W: Board<Slot<N>> + Drop, R: Wait>(
     }
 }
 
-fn ending_with<C: Detects + Drop, N: Naming, W: Board<Slot<N>> + Drop, R: Wait>(
+fn ending_with<C: Detects + Drop, N: Naming, W: Board<Cell<N>> + Drop, R: Wait>(
     rt: &R,
     back: Ungathered<C, N, W>,
     last: Option<Finished<N>>,
@@ -49,7 +49,7 @@ fn ending_with<C: Detects + Drop, N: Naming, W: Board<Slot<N>> + Drop, R: Wait>(
 }
 
 // How many workers are out.
-fn out_of<C: Detects + Drop, N: Naming, W: Board<Slot<N>> + Drop>(
+fn out_of<C: Detects + Drop, N: Naming, W: Board<Cell<N>> + Drop>(
     back: &Ungathered<C, N, W>,
 ) -> u64 {
     match back.fault {

@@ -48,7 +48,7 @@ pub fn comes(flag: &AtomicBool) -> bool {
 pub fn held_up<
     C: Detects + Drop + Send + Sync,
     N: Naming + Send + Sync,
-    W: Board<Slot<N>> + Drop + Send,
+    W: Board<Cell<N>> + Drop + Send,
     R: Threads + Wait + Sync,
 >(rt: &R, alloc: Global, shared: &Shared<C, N, W>, workers: &mut Workers<C, N>) -> Seen {
     let begun = AtomicBool::new(false);
@@ -94,7 +94,7 @@ pub fn rows_kept<C: Detects + Drop, N: Naming>(
 pub fn left_after_a_row<
     C: Detects + Drop,
     N: Naming,
-    W: Board<Slot<N>> + Drop,
+    W: Board<Cell<N>> + Drop,
     G: Gate + Drop,
     R: Wait,
 >(rt: &R, alloc: Global, shared: &Shared<C, N, W>, gate: G) -> Option<Finished<N>> {
@@ -110,7 +110,7 @@ pub fn left_after_a_row<
 fn hands_a_row_over<
     C: Detects + Drop,
     N: Naming,
-    W: Board<Slot<N>> + Drop,
+    W: Board<Cell<N>> + Drop,
     G: Gate + Drop,
     R: Wait,
 >(rt: &R, shared: &Shared<C, N, W>, worker: &mut Worker<C, N, G>) {

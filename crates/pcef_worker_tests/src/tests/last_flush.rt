@@ -35,7 +35,7 @@ impl Gate for HoldsLast<'_> {
 pub fn last_flush<
     C: Detects + Drop + Send + Sync,
     N: Naming + Send + Sync,
-    W: Board<Slot<N>> + Drop + Send,
+    W: Board<Cell<N>> + Drop + Send,
     R: Threads + Wait + Sync,
 >(
     rt: &R,
@@ -80,7 +80,7 @@ fn told_of<C: Detects + Drop, N: Naming>(
 }
 
 // The desk terminates the session where the worker's flush was answered: how many workers are attached.
-fn terminated<C: Offers + Drop, N: Naming, W: Board<Slot<N>> + Drop, R: Wait>(
+fn terminated<C: Offers + Drop, N: Naming, W: Board<Cell<N>> + Drop, R: Wait>(
     rt: &R,
     shared: &Shared<C, N, W>,
     desk: &mut Desk<N>,
@@ -93,7 +93,7 @@ fn terminated<C: Offers + Drop, N: Naming, W: Board<Slot<N>> + Drop, R: Wait>(
 }
 
 // A worker comes, takes two packets and finishes: what it hands in, and how many verdicts it is told.
-fn finishes<C: Detects + Drop, N: Naming, W: Board<Slot<N>> + Drop, R: Wait>(
+fn finishes<C: Detects + Drop, N: Naming, W: Board<Cell<N>> + Drop, R: Wait>(
     rt: &R,
     alloc: Global,
     shared: &Shared<C, N, W>,
@@ -109,7 +109,7 @@ fn finishes<C: Detects + Drop, N: Naming, W: Board<Slot<N>> + Drop, R: Wait>(
     }
 }
 
-fn finished<C: Detects + Drop, N: Naming, W: Board<Slot<N>> + Drop, R: Wait>(
+fn finished<C: Detects + Drop, N: Naming, W: Board<Cell<N>> + Drop, R: Wait>(
     rt: &R,
     shared: &Shared<C, N, W>,
     worker: Worker<C, N, HoldsLast<'_>>,

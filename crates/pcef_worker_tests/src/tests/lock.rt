@@ -12,7 +12,7 @@ use pcef_journaled::JournaledState;
 use pcef_lock::{Desk, Seat, Shared, State, open_history};
 use pcef_model::{Body, Command, Report};
 use pcef_packet::Header;
-use pcef_publish::{Board, Opened, Slot};
+use pcef_publish::{Board, Cell, Opened};
 use pcef_session::Batch;
 use pcef_share::{Blanks, Naming, Shares};
 use std::alloc::Global;
@@ -75,7 +75,7 @@ fn judged_and_flushed<C: Detects, N: Naming, R: Wait + Drop>(
 }
 
 // One worker comes before the key, the other one after it.
-fn books_around_rows<C: Detects, N: Naming, W: Board<Slot<N>> + Drop>(
+fn books_around_rows<C: Detects, N: Naming, W: Board<Cell<N>> + Drop>(
     alloc: Global,
     commands: &[Command; 3],
     catalog: &C,
@@ -92,7 +92,7 @@ fn books_around_rows<C: Detects, N: Naming, W: Board<Slot<N>> + Drop>(
 }
 
 // The key comes, and the worker after it.
-fn books_around_late<C: Detects, N: Naming, W: Board<Slot<N>> + Drop>(
+fn books_around_late<C: Detects, N: Naming, W: Board<Cell<N>> + Drop>(
     alloc: Global,
     commands: &[Command; 3],
     catalog: &C,
@@ -111,7 +111,7 @@ fn books_around_late<C: Detects, N: Naming, W: Board<Slot<N>> + Drop>(
 }
 
 // Both hand their rows over.
-fn books_of_both<C: Detects, N: Naming, W: Board<Slot<N>> + Drop>(
+fn books_of_both<C: Detects, N: Naming, W: Board<Cell<N>> + Drop>(
     alloc: Global,
     catalog: &C,
     state: &mut State<N, W>,
@@ -129,7 +129,7 @@ fn books_of_both<C: Detects, N: Naming, W: Board<Slot<N>> + Drop>(
 }
 
 // A worker hands over packets of 28 and 600 octets.
-fn hand_over<C: Detects, N: Naming, W: Board<Slot<N>> + Drop>(
+fn hand_over<C: Detects, N: Naming, W: Board<Cell<N>> + Drop>(
     alloc: Global,
     catalog: &C,
     state: &mut State<N, W>,
@@ -148,7 +148,7 @@ fn hand_over<C: Detects, N: Naming, W: Board<Slot<N>> + Drop>(
 }
 
 // A worker leaves with a packet of 40 octets that no rule fits.
-fn leave<C: Detects, N: Naming, W: Board<Slot<N>> + Drop>(
+fn leave<C: Detects, N: Naming, W: Board<Cell<N>> + Drop>(
     alloc: Global,
     catalog: &C,
     state: &mut State<N, W>,
@@ -206,7 +206,7 @@ fn told_to_the_desk<C: Detects + Drop, N: Naming, R: Wait + Drop>(
     }
 }
 
-fn told_by<C: Detects + Drop, N: Naming, W: Board<Slot<N>> + Drop, R: Wait>(
+fn told_by<C: Detects + Drop, N: Naming, W: Board<Cell<N>> + Drop, R: Wait>(
     rt: &R,
     alloc: Global,
     commands: &[Command; 3],
@@ -220,7 +220,7 @@ fn told_by<C: Detects + Drop, N: Naming, W: Board<Slot<N>> + Drop, R: Wait>(
 }
 
 // The desk installs the rule and monitors its key.
-fn give_commands<C: Offers + Drop, N: Naming, W: Board<Slot<N>> + Drop, R: Wait>(
+fn give_commands<C: Offers + Drop, N: Naming, W: Board<Cell<N>> + Drop, R: Wait>(
     rt: &R,
     commands: &[Command; 3],
     shared: &Shared<C, N, W>,
@@ -232,7 +232,7 @@ fn give_commands<C: Offers + Drop, N: Naming, W: Board<Slot<N>> + Drop, R: Wait>
 }
 
 // Two workers come, and hand rows over.
-fn handed_over_by_two<C: Detects + Drop, N: Naming, W: Board<Slot<N>> + Drop, R: Wait>(
+fn handed_over_by_two<C: Detects + Drop, N: Naming, W: Board<Cell<N>> + Drop, R: Wait>(
     rt: &R,
     alloc: Global,
     shared: &Shared<C, N, W>,
@@ -245,7 +245,7 @@ fn handed_over_by_two<C: Detects + Drop, N: Naming, W: Board<Slot<N>> + Drop, R:
 }
 
 // The octets of the report that the desk asks for, and how many reports come after it.
-fn reported<C: Offers + Drop, N: Naming, W: Board<Slot<N>> + Drop, R: Wait>(
+fn reported<C: Offers + Drop, N: Naming, W: Board<Cell<N>> + Drop, R: Wait>(
     rt: &R,
     commands: &[Command; 3],
     shared: &Shared<C, N, W>,
@@ -269,7 +269,7 @@ fn octets_of_one(reports: &[Report]) -> Option<u64> {
 }
 
 // Hands rows over one by one, each in one hold of the lock, and gives how many were taken over.
-fn handed_over<C: Detects + Drop, N: Naming, W: Board<Slot<N>> + Drop, R: Wait>(
+fn handed_over<C: Detects + Drop, N: Naming, W: Board<Cell<N>> + Drop, R: Wait>(
     rt: &R,
     alloc: Global,
     shared: &Shared<C, N, W>,
@@ -288,7 +288,7 @@ fn handed_over<C: Detects + Drop, N: Naming, W: Board<Slot<N>> + Drop, R: Wait>(
     taken
 }
 
-fn is_handed_over<C: Detects + Drop, N: Naming, W: Board<Slot<N>> + Drop, R: Wait>(
+fn is_handed_over<C: Detects + Drop, N: Naming, W: Board<Cell<N>> + Drop, R: Wait>(
     rt: &R,
     alloc: Global,
     shared: &Shared<C, N, W>,

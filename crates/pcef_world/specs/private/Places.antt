@@ -22,7 +22,7 @@ use Rattle.pcef_session.specs.SessionModel.{SessionModel}
 use Rattle.pcef_session.specs.Shown.{Shows}
 use Rattle.pcef_world.specs.declared.answer.StepAnswer.{StepAnswer}
 use Rattle.pcef_world.specs.declared.answer.StepAnswer.TheVariants as answer
-use Rattle.pcef_world.specs.declared.worker.Worker.{Worker}
+use Rattle.pcef_world.specs.declared.worker.WorldWorker.{WorldWorker}
 use Rattle.pcef_world.specs.Steps.{new_worker}
 use Rattle.pcef_world.specs.Worlds.{Waiting}
 use Rattle.pcef_world.specs.private.Workers.{LacksForItem, TakesItem, after_flushing, held_by}
@@ -50,47 +50,47 @@ abbrev pub after_coming : Journal → Result ℕ AttachFault → List (Option Wa
 after_coming j (Ok number) workers = workers ++ Some (new_worker j) ∷ []
 after_coming j (Err fault) workers = workers
 
-abbrev pub TakesAt : List Offer → Addr → Header → ℕ → Option Worker → Result StepAnswer AllocError → Option Worker → Type 0
+abbrev pub TakesAt : List Offer → Addr → Header → ℕ → Option WorldWorker → Result StepAnswer AllocError → Option WorldWorker → Type 0
 TakesAt offers ue header handed_over None out new = (out ≡ Ok answer.NoWorker) × (new ≡ None)
 TakesAt offers ue header handed_over (Some w) (Ok a) new =
-    (r : Result ℕ BatchFull) × (v : Worker) × TakesItem offers ue header handed_over w r v × (a ≡ answer.Take r) × (new ≡ Some v)
-TakesAt offers ue header handed_over (Some w) (Err lack) new = (v : Worker) × LacksForItem w v × (new ≡ Some v)
+    (r : Result ℕ BatchFull) × (v : WorldWorker) × TakesItem offers ue header handed_over w r v × (a ≡ answer.Take r) × (new ≡ Some v)
+TakesAt offers ue header handed_over (Some w) (Err lack) new = (v : WorldWorker) × LacksForItem w v × (new ≡ Some v)
 
 -- a worker holds the newest table from now on, and its rows go on waiting
-abbrev pub Holds : Setting → Journal → Worker → Worker → Type 0
+abbrev pub Holds : Setting → Journal → WorldWorker → WorldWorker → Type 0
 Holds p j w v = Shows p j (gen j) (held_by v) × (v.number ≡ w.number) × (v.waiting ≡ w.waiting)
 
-abbrev pub RefreshesAt : Setting → Journal → Option Worker → Result StepAnswer AllocError → Option Worker → Type 0
+abbrev pub RefreshesAt : Setting → Journal → Option WorldWorker → Result StepAnswer AllocError → Option WorldWorker → Type 0
 RefreshesAt p j None out new = (out ≡ Ok answer.NoWorker) × (new ≡ None)
-RefreshesAt p j (Some w) (Ok a) new = (v : Worker) × Holds p j w v × (a ≡ answer.Refresh (gen j)) × (new ≡ Some v)
+RefreshesAt p j (Some w) (Ok a) new = (v : WorldWorker) × Holds p j w v × (a ≡ answer.Refresh (gen j)) × (new ≡ Some v)
 RefreshesAt p j (Some w) (Err lack) new = new ≡ Some w
 
-abbrev pub FlushesAt : Setting → Journal → Option Worker → Result StepAnswer AllocError → Journal → Option Worker → Type 0
+abbrev pub FlushesAt : Setting → Journal → Option WorldWorker → Result StepAnswer AllocError → Journal → Option WorldWorker → Type 0
 FlushesAt p j None out k new = (out ≡ Ok answer.NoWorker) × (k ≡ j) × (new ≡ None)
 FlushesAt p j (Some w) out k new =
     (r : Result Verdicts FlushRefusal) × FlushStep p w.number (map row_of w.waiting) j (result_map_both flush_answer_of (λ e. e) r) k
     × (out ≡ flush_step_answer r) × (new ≡ Some (after_flushing r w))
 
-abbrev pub after_finishing : {A E : Type 0} → Result A E → Worker → Option Worker
+abbrev pub after_finishing : {A E : Type 0} → Result A E → WorldWorker → Option WorldWorker
 after_finishing (Ok a) w = None
 after_finishing (Err e) w = Some w
 
-abbrev pub FinishesAt : Setting → Journal → Option Worker → Result StepAnswer AllocError → Journal → Option Worker → Type 0
+abbrev pub FinishesAt : Setting → Journal → Option WorldWorker → Result StepAnswer AllocError → Journal → Option WorldWorker → Type 0
 FinishesAt p j None out k new = (out ≡ Ok answer.NoWorker) × (k ≡ j) × (new ≡ None)
 FinishesAt p j (Some w) out k new =
     (r : Result (Verdicts × ℕ) FlushRefusal) × FinishStep p w.number (map row_of w.waiting) j (result_map_both finish_answer_of (λ e. e) r) k
     × (out ≡ finish_step_answer r) × (new ≡ after_finishing r w)
 
-abbrev pub AbandonsAt : Journal → Option Worker → StepAnswer → Journal → Option Worker → Type 0
+abbrev pub AbandonsAt : Journal → Option WorldWorker → StepAnswer → Journal → Option WorldWorker → Type 0
 AbandonsAt j None out k new = (out ≡ answer.NoWorker) × (k ≡ j) × (new ≡ None)
 AbandonsAt j (Some w) out k new =
     (out ≡ answer.Abandon (record { waiting = length w.waiting; rows = lane_len j w.number })) × (k ≡ after_leave w.number j) × (new ≡ None)
 
 -- ---- what a session and a place come to
 -- a worker hands its rows over at its place
-abbrev pub HandsOverAt : SessionModel → Option Worker → Result StepAnswer AllocError → SessionModel → Option Worker → Type 0
+abbrev pub HandsOverAt : SessionModel → Option WorldWorker → Result StepAnswer AllocError → SessionModel → Option WorldWorker → Type 0
 HandsOverAt before place out after new = FlushesAt before.setting before.journal place out after.journal new
 
 -- a worker hands its last rows over, and leaves its place
-abbrev pub LeavesAt : SessionModel → Option Worker → Result StepAnswer AllocError → SessionModel → Option Worker → Type 0
+abbrev pub LeavesAt : SessionModel → Option WorldWorker → Result StepAnswer AllocError → SessionModel → Option WorldWorker → Type 0
 LeavesAt before place out after new = FinishesAt before.setting before.journal place out after.journal new

@@ -3,21 +3,21 @@ use Rattle.std.specs.Prelude.{◌≡◌, ◌≤◌, List, Option, length, map}
 use Rattle.std.specs.Option.{option_map}
 use Rattle.pcef_model.specs.Journals.{attach_count}
 use Rattle.pcef_world.specs.declared.world.WorldState.TheInside.{Inside}
-use Rattle.pcef_world.specs.declared.worker.Worker.{Worker}
+use Rattle.pcef_world.specs.declared.worker.WorldWorker.{WorldWorker}
 use Rattle.pcef_session.specs.SessionModel.{SessionModel}
 use Rattle.pcef_session.specs.Following.{row_of}
 use Rattle.pcef_world.specs.private.Workers.{AllWait, held_by}
 use Rattle.pcef_world.specs.Worlds.{Waiting, World}
 
 -- what callers see of a worker
-abbrev pub seen : Worker → Waiting
+abbrev pub seen : WorldWorker → Waiting
 seen w = record { generation = (held_by w).number; rows = map row_of w.waiting }
 
 abbrev pub world_of : Inside → World
 world_of w = record { session = w.session; workers = map (option_map seen) w.workers.items }
 
 -- there is a place for each worker that was attached, and each that is there waits with rows that may come next
-pub record IsSoundWith (s : SessionModel) (workers : List (Option Worker)) : Type 0 where
+pub record IsSoundWith (s : SessionModel) (workers : List (Option WorldWorker)) : Type 0 where
   pub counted : attach_count s.journal ≡ length workers
   pub few_rows : s.setting.rows ≤ 4294967295
   pub wait : AllWait s.setting s.journal workers

@@ -14,18 +14,18 @@ use Rattle.pcef_model.specs.Reports.{with_rows}
 use Rattle.pcef_session.specs.declared.batch.BatchFull.{BatchFull}
 use Rattle.pcef_session.specs.declared.batch.Item.{Item}
 use Rattle.pcef_model.specs.Refusals.{is_attached}
-use Rattle.pcef_world.specs.declared.worker.Worker.{Worker}
+use Rattle.pcef_world.specs.declared.worker.WorldWorker.{WorldWorker}
 use Rattle.pcef_session.specs.Following.{HasItsSlots, row_of}
 use Rattle.pcef_model.specs.Lawful.{BatchFollows, newest_generation}
 use Rattle.pcef_session.specs.Shown.{Shows}
 
 -- the table that a worker holds
-abbrev pub held_by : Worker → TableValue
+abbrev pub held_by : WorldWorker → TableValue
 held_by w = arc_value w.held
 
 -- ---- what a worker does
 -- an item that a worker makes of a packet, where it has handed over so many rows
-pub record IsJudged (offers : List Offer) (ue : Addr) (header : Header) (handed_over : ℕ) (w : Worker) (i : Item) : Type 0 where
+pub record IsJudged (offers : List Offer) (ue : Addr) (header : Header) (handed_over : ℕ) (w : WorldWorker) (i : Item) : Type 0 where
   pub worker_is : i.row.worker ≡ w.number
   pub seq_is : i.row.seq ≡ handed_over + length w.waiting
   pub generation_is : i.row.generation ≡ (held_by w).number
@@ -33,28 +33,28 @@ pub record IsJudged (offers : List Offer) (ue : Addr) (header : Header) (handed_
   pub verdict_is : IsVerdict offers (held_by w).entries ue header i.row.verdict
   pub slots_are : i.slots.items ≡ slots_counted offers (held_by w) i.row.verdict
 
-abbrev pub with_item : Item → Worker → Worker
+abbrev pub with_item : Item → WorldWorker → WorldWorker
 with_item i w = record w { waiting = w.waiting ++ i ∷ [] }
 
 -- a packet that a worker takes waits as an item, where fewer than 32 do
-abbrev pub TakesItem : List Offer → Addr → Header → ℕ → Worker → Result ℕ BatchFull → Worker → Type 0
+abbrev pub TakesItem : List Offer → Addr → Header → ℕ → WorldWorker → Result ℕ BatchFull → WorldWorker → Type 0
 TakesItem offers ue header handed_over old (Ok count) new =
     (length old.waiting < 32) × (count ≡ length old.waiting + 1) × (i : Item) × IsJudged offers ue header handed_over old i × (new ≡ with_item i old)
 TakesItem offers ue header handed_over old (Err full) new = (32 ≤ length old.waiting) × (new ≡ old)
 
 -- there is no memory for a packet that may wait
-abbrev pub LacksForItem : Worker → Worker → Type 0
+abbrev pub LacksForItem : WorldWorker → WorldWorker → Type 0
 LacksForItem old new = (length old.waiting < 32) × (new ≡ old)
 
 -- rows that are handed over wait no longer
-abbrev pub after_flushing : {A E : Type 0} → Result A E → Worker → Worker
+abbrev pub after_flushing : {A E : Type 0} → Result A E → WorldWorker → WorldWorker
 after_flushing (Ok a) w = record w { waiting = [] }
 after_flushing (Err e) w = w
 
 -- ---- what always holds of a worker
 -- it has this number and holds a generation of the journal, and its rows may come next, with the
 -- slots of the keys that they count for; none of them is of a later generation than it holds
-pub record Waits (p : Setting) (j : Journal) (number : ℕ) (w : Worker) : Type 0 where
+pub record Waits (p : Setting) (j : Journal) (number : ℕ) (w : WorldWorker) : Type 0 where
   pub number_is : w.number ≡ number
   pub known : (held_by w).number ≤ gen j
   pub shows : Shows p j (held_by w).number (held_by w)
@@ -65,10 +65,10 @@ pub record Waits (p : Setting) (j : Journal) (number : ℕ) (w : Worker) : Type 
   pub not_older : newest_generation (lane (with_rows (map row_of w.waiting) j) number) ≤ (held_by w).number
 
 -- the workers are numbered by their places
-abbrev pub AllWait : Setting → Journal → List (Option Worker) → Type 0
-AllWait p j workers = (number : ℕ) (w : Worker) → slice_get workers number ≡ Some (Some w) → Waits p j number w
+abbrev pub AllWait : Setting → Journal → List (Option WorldWorker) → Type 0
+AllWait p j workers = (number : ℕ) (w : WorldWorker) → slice_get workers number ≡ Some (Some w) → Waits p j number w
 
 -- its rows may come next
-pub record MayHandOver (p : Setting) (j : Journal) (w : Worker) : Type 0 where
+pub record MayHandOver (p : Setting) (j : Journal) (w : WorldWorker) : Type 0 where
   pub follow : BatchFollows p j w.number (map row_of w.waiting)
   pub slots : HasItsSlots p j w.waiting

@@ -1,5 +1,5 @@
 use Rattle.std.proofs.Common.{◌≡◌, ◌∙◌, ◌++◌, ◌∷◌, [], List, filter, ap, append_assoc, sym}
-use Rattle.pcef_table.specs.declared.entry.Entry.{Entry}
+use Rattle.pcef_table.specs.declared.entry.TableEntry.{TableEntry}
 use Rattle.pcef_table.specs.Sides.{stays}
 use Rattle.pcef_table.specs.declared.change.Side.TheVariants.{Before, Behind}
 use Rattle.pcef_table.specs.Sources.{name_of}
@@ -18,7 +18,7 @@ returns g c =
     let first : c.copy_side.new.kept.items ≡ filter (stays offers x Before) old = (let fresh = c.in_ok-kept.ensures.items in rw (c.in_ok-copy_side.ensures, fresh)) in
     let last : c.copy_side-2.new.kept.items ≡ filter (stays offers x Behind) old = (let fresh = c.new-behind.ensures.items in rw (c.in_ok-copy_side-2.ensures, fresh)) in
     c.in_ok-append.ensures.items
-    ∙ ap (λ (l : List Entry). l ++ c.copy_side-2.new.kept.items) c.in_ok-push.ensures.items
+    ∙ ap (λ (l : List TableEntry). l ++ c.copy_side-2.new.kept.items) c.in_ok-push.ensures.items
     ∙ append_assoc c.copy_side.new.kept.items (x ∷ []) c.copy_side-2.new.kept.items
-    ∙ ap (λ (l : List Entry). l ++ x ∷ c.copy_side-2.new.kept.items) (first ∙ sym before)
-    ∙ ap (λ (l : List Entry). filter (is_before offers x) (filter others old) ++ x ∷ l) (last ∙ sym behind)
+    ∙ ap (λ (l : List TableEntry). l ++ x ∷ c.copy_side-2.new.kept.items) (first ∙ sym before)
+    ∙ ap (λ (l : List TableEntry). filter (is_before offers x) (filter others old) ++ x ∷ l) (last ∙ sym behind)

@@ -1,5 +1,5 @@
 use Rattle.std.proofs.Common.{◌∙◌, ap, sym}
-use Rattle.pcef_table.specs.declared.entry.Entry.{Entry}
+use Rattle.pcef_table.specs.declared.entry.TableEntry.{TableEntry}
 use Rattle.pcef_table.specs.SessionSlots.{slots_beside}
 use Rattle.pcef_table.specs.Sources.{fits}
 use Rattle.pcef_table.specs.Tables.{TableValue}
@@ -10,7 +10,7 @@ use Rattle.pcef_index.proofs.indexed.Indexed.judged.Goals as goal
 pub returns-in_default-clause-verdict : goal.returns-in_default-clause-verdict
 returns-in_default-clause-verdict g c =
     let offers = g.C.Offers.offers c.args.catalog.now in
-    let passes = λ (e : Entry). fits offers c.args.ue c.args.header.now e.source in
+    let passes = λ (e : TableEntry). fits offers c.args.ue c.args.header.now e.source in
     (sym c.is_own.ensures ∙ c.if-not-is_own.false, none_passes passes c.args.self.now.entries (sym c.in_default.ensures.first))
 
 pub returns-clause-verdict : goal.returns-clause-verdict

@@ -1,6 +1,6 @@
 use Rattle.std.proofs.Common.{◌≡◌, ◌∙◌, List, None, ap, map, subst, sym}
 use Rattle.std.specs.Arc.{arc_value}
-use Rattle.pcef_table.specs.declared.entry.Entry.{Entry}
+use Rattle.pcef_table.specs.declared.entry.TableEntry.{TableEntry}
 use Rattle.pcef_table.specs.Tables.{TableValue}
 use Rattle.pcef_model.specs.Refusals.{first_of, refusals}
 use Rattle.pcef_session.specs.SessionModel.{SessionModel}
@@ -21,7 +21,7 @@ switch_key-requires-clause-slot c =
 
 pub with_table-requires : goal.with_table-requires
 with_table-requires c =
-    ap (λ (es : List Entry). map (λ e. e.source) es) (rw (c.table.ensures ∙ c.deref.ensures) at c.in_ok-table.ensures.entries)
+    ap (λ (es : List TableEntry). map (λ e. e.source) es) (rw (c.table.ensures ∙ c.deref.ensures) at c.in_ok-table.ensures.entries)
     ∙ same_rules _ _ _ (arc_value c.self.inside.newest).entries
     ∙ ap (λ (t : TableValue). map (λ e. e.source) t.entries) (sym c.deref-2.ensures)
 

@@ -1,5 +1,5 @@
 use Rattle.std.proofs.Common.{Option, subst}
-use Rattle.pcef_script.specs.declared.step.Answer.{Answer}
+use Rattle.pcef_script.specs.declared.step.LineAnswer.{LineAnswer}
 use Rattle.pcef_sessions.specs.Standing.{fixed, held}
 use Rattle.pcef_sessions.specs.private.Steps.{Runs}
 use Rattle.pcef_sessions.proofs.Unders.{script_told}
@@ -10,5 +10,5 @@ returns-else-answer-clause-told c =
     let old = c.args.self.now in
     let new = c.run.new.self in
     let name = c.args.name.now in
-    let runs = subst (λ (o : Option Answer). Runs (held old name) c.args.line.now o (held new name)) c.in-Some.is c.in_ok-run.ensures.there in
+    let runs = subst (λ (o : Option LineAnswer). Runs (held old name) c.args.line.now o (held new name)) c.in-Some.is c.in_ok-run.ensures.there in
     (script_told (fixed old) (held old name) (held new name) c.args.line.now c.in-Some.answer runs c.if-answer.false, c.in_ok-run.ensures.others)

@@ -11,7 +11,7 @@ use crate::serving::{Left, work};
 use pcef_catalog::Detects;
 use pcef_lock::{Finished, Shared};
 use pcef_packet::Header;
-use pcef_publish::{Board, Slot};
+use pcef_publish::{Board, Cell};
 use pcef_share::Naming;
 use pcef_worker::{Gate, Worker};
 use rtrb::{Consumer, Producer, PushError, RingBuffer};
@@ -37,12 +37,12 @@ impl<N: Naming> Promise<Left<N>> for SameRing {
 
 /// A worker in its thread, and the way to it. Contracts see what was sent.
 #[derive(Drop)]
-pub(crate) struct Line<N: Naming> {
+pub(crate) struct WorkerRing<N: Naming> {
     producer: Producer<Header>,
     handle: PromisedHandle<Left<N>, SameRing>,
 }
 
-impl<N: Naming> Model for Line<N> {
+impl<N: Naming> Model for WorkerRing<N> {
     ghost use Rattle.std.specs.Prelude.{List};
     ghost use Rattle.rtrb.specs.Ring.{IsPair, sent};
     ghost use Rattle.pcef_packet.specs.declared.header.Header.{Header};
@@ -68,7 +68,7 @@ fn thread_of<
     E,
     C: Detects + Drop + Send + Sync,
     N: Naming + Send + Sync,
-    W: Board<Slot<N>> + Drop + Send,
+    W: Board<Cell<N>> + Drop + Send,
     G: Gate + Sync,
     R: Threads + Wait + Sync,
 >(
@@ -96,13 +96,13 @@ fn thread_of<
     }
 }
 
-impl<N: Naming + Send + Sync> Line<N> {
+impl<N: Naming + Send + Sync> WorkerRing<N> {
     /// Starts a worker in a thread of the scope.
     pub(crate) fn start<
         's,
         E,
         C: Detects + Drop + Send + Sync,
-        W: Board<Slot<N>> + Drop + Send,
+        W: Board<Cell<N>> + Drop + Send,
         G: Gate + Sync,
         R: Threads + Wait + Sync,
     >(
@@ -111,13 +111,13 @@ impl<N: Naming + Send + Sync> Line<N> {
         alloc: Global,
         shared: &'s Shared<C, N, W>,
         worker: Worker<C, N, Lent<'s, G>>,
-    ) -> Result<Line<N>, Failure>
+    ) -> Result<WorkerRing<N>, Failure>
         requires { taken worker ≡ [] }
         ensures { IfOk result (λ line. line ≡ []) }
     {
         match RingBuffer::new(alloc, PLACES) {
             Ok((producer, consumer)) => match thread_of(rt, scope, shared, worker, consumer) {
-                Ok(handle) => Ok(Line { producer, handle }),
+                Ok(handle) => Ok(WorkerRing { producer, handle }),
                 Err(failure) => Err(failure),
             },
             Err(_) => Err(Failure::Ring),
@@ -144,7 +144,7 @@ impl<N: Naming + Send + Sync> Line<N> {
     pub(crate) fn close<R: Threads>(self, rt: &R) -> Result<Closed<N>, Failure>
         ensures { IfOk result (λ c. HandsIn self c.dropped c.finished) }
     {
-        let Line { producer, handle } = self;
+        let WorkerRing { producer, handle } = self;
         let Some(mut ended) = producer.finish() else {
             return Err(Failure::Ring);
         };

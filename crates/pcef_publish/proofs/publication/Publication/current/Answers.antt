@@ -1,6 +1,6 @@
 use Rattle.std.specs.Arc.{arc_value}
 use Rattle.pcef_publish.proofs.Runs.{run_table}
-use Rattle.pcef_publish.proofs.entry.Entry.current.Goals as goal
+use Rattle.pcef_publish.proofs.publication.Publication.current.Goals as goal
 
 pub returns-clause-table : goal.returns-clause-table
 returns-clause-table g c =

@@ -14,19 +14,19 @@ use std::marker::Model;
 use std::sync::Arc;
 
 /// A table with the history that ends with it. Contracts see it as that list.
-pub struct Entry<N: Naming> {
+pub struct Publication<N: Naming> {
     table: Arc<Indexed>,
     pub front: Front<N>,
 }
 
 // Written out, so that an owner proves one call at each way out.
-impl<N: Naming> Drop for Entry<N> {
+impl<N: Naming> Drop for Publication<N> {
     fn drop(self) {
-        let Entry { table: _, front: _ } = self;
+        let Publication { table: _, front: _ } = self;
     }
 }
 
-impl<N: Naming> Model for Entry<N> {
+impl<N: Naming> Model for Publication<N> {
     ghost use Rattle.std.specs.Prelude.{List};
     ghost use Rattle.std.specs.Arc.{arc_value};
     ghost use Rattle.pcef_table.specs.Tables.{TableValue};
@@ -39,26 +39,26 @@ impl<N: Naming> Model for Entry<N> {
     ghost invariant = { λ e. Ends e.front (arc_value e.table) };
 }
 
-impl<N: Naming> Entry<N> {
-    pub fn new(table: Arc<Indexed>, front: Front<N>) -> Entry<N>
+impl<N: Naming> Publication<N> {
+    pub fn new(table: Arc<Indexed>, front: Front<N>) -> Publication<N>
         requires { Ends front (arc_value table) }
         ensures { result ≡ front }
     {
-        Entry { table, front }
+        Publication { table, front }
     }
 
     /// A copy.
-    pub fn again(&self) -> Result<Entry<N>, AllocError>
+    pub fn again(&self) -> Result<Publication<N>, AllocError>
         ensures { IfOk result (λ e. e ≡ self.now) }
     {
-        Ok(Entry {
+        Ok(Publication {
             table: Arc::try_clone(&self.table)?,
             front: self.front.again(),
         })
     }
 
     /// Whether the other goes on from here. If not, it begins this one.
-    pub fn begins(&self, other: &Entry<N>) -> bool
+    pub fn begins(&self, other: &Publication<N>) -> bool
         ensures { MatchBool result (IsPrefix self.now other.now) (IsLonger other.now self.now) }
     {
         self.front.begins(&other.front)
