@@ -17,7 +17,7 @@ use pcef_built_in::{
 };
 use pcef_catalog::{Catalog, Detect, Predefined};
 use pcef_packet::Header;
-use pcef_program::program::program;
+use pcef_program::{Arguments, Environment, run_program};
 use pcef_run::{Storing, Taken};
 use pcef_trigger::{Outlet, ReportKind, Reporter};
 use std::alloc::AllocError;
@@ -26,31 +26,25 @@ use std::process::ExitCode;
 use std::sync::{Arc, Wait};
 use std::thread::Threads;
 
-/// Runs the program, whose catalog has the built-in rules, with these reporters.
-fn run_reporting<T: Threads + Wait + Sync>(
+/// Runs the program on the process's own streams. Its catalog has the built-in rules.
+fn run_on_streams<T: Threads + Wait + Sync>(
     threads: &T,
     rt: &HostRuntime,
-    catalog: Arc<Catalog>,
-    words: &[Vec<u8>],
-    profiles: &[io::Result<String>],
-    outlet: Outlet,
-    taken: &Taken,
+    arguments: Arguments<'_>,
+    environment: Environment<'_>,
 ) -> io::Result<u8>
-    requires { offers_of (arc_value catalog) ≡ built_in_offers }
+    requires { offers_of (arc_value environment.catalog) ≡ built_in_offers }
     ensures { IfOk result (λ status. status ≤ 4) }
 {
     let alloc = rt.alloc();
     let mut reader = rt.stdin();
     let mut writer = BufWriter::new(alloc, io::writer(rt))?;
     let mut faults = rt.stderr();
-    Ok(program(
+    Ok(run_program(
         threads,
         alloc,
-        words,
-        profiles,
-        catalog,
-        outlet,
-        taken,
+        arguments,
+        environment,
         &mut reader,
         &mut writer,
         &mut faults,
@@ -61,9 +55,8 @@ fn run_reporting<T: Threads + Wait + Sync>(
 fn run_storing<T: Threads + Wait + Sync>(
     threads: &T,
     rt: &HostRuntime,
+    arguments: Arguments<'_>,
     catalog: Arc<Catalog>,
-    words: &[Vec<u8>],
-    profiles: &[io::Result<String>],
     taken: &Arc<Taken>,
 ) -> io::Result<u8>
     requires { offers_of (arc_value catalog) ≡ built_in_offers }
@@ -77,7 +70,14 @@ fn run_storing<T: Threads + Wait + Sync>(
         reporters.push((kind, reporter))?;
     }
     match Outlet::new(reporters) {
-        Ok(outlet) => run_reporting(threads, rt, catalog, words, profiles, outlet, taken),
+        Ok(outlet) => {
+            let environment = Environment {
+                catalog,
+                outlet,
+                taken,
+            };
+            run_on_streams(threads, rt, arguments, environment)
+        }
         Err(_) => Err(AllocError.into()),
     }
 }
@@ -95,7 +95,11 @@ fn run_with<T: Threads + Wait + Sync>(
     let words = words(alloc, rt)?;
     let profiles = profiles_of(rt, &words)?;
     let taken = Arc::new(alloc, Taken::new())?;
-    run_storing(threads, rt, catalog, &words, &profiles, &taken)
+    let arguments = Arguments {
+        words: &words,
+        profiles: &profiles,
+    };
+    run_storing(threads, rt, arguments, catalog, &taken)
 }
 
 /// Makes the built-in catalog, and runs the program with it.

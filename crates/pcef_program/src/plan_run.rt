@@ -10,14 +10,14 @@ ghost use Rattle.pcef_run.specs.declared.taken.Counts.{Counts};
 ghost use Rattle.pcef_program.specs.PlanRuns.{IsWritten, RanOne, RanPlan};
 
 use crate::end::{End, plan_end, run_end};
-use pcef_catalog::Catalog;
+use crate::environment::Environment;
 use pcef_model::{Profile, Report};
 use pcef_run::{Counts, Plan, Ran, Taken, read_plan, run_plan, summary_text};
 use pcef_script::put_all;
 use pcef_trigger::Outlet;
 use std::alloc::Global;
 use std::io::{Read, Write};
-use std::sync::{Arc, Wait};
+use std::sync::Wait;
 use std::thread::Threads;
 
 /// Flushes the writer.
@@ -75,16 +75,19 @@ fn run_one<T: Threads + Wait + Sync, W: Write>(
     rt: &T,
     alloc: Global,
     profile: Profile,
-    catalog: Arc<Catalog>,
     plan: Plan,
     workers: u8,
-    outlet: Outlet,
-    taken: &Taken,
+    environment: Environment<'_>,
     writer: &mut W,
 ) -> End
-    ensures { RanOne (setting_of profile (offers_of (arc_value catalog))) workers plan result
+    ensures { RanOne (setting_of profile (offers_of (arc_value environment.catalog))) workers plan result
         (W.contents writer.old) (W.contents writer.new) }
 {
+    let Environment {
+        catalog,
+        outlet,
+        taken,
+    } = environment;
     match run_plan(rt, alloc, catalog, profile, plan, workers) {
         Ok(ran) => report_run(alloc, &ran, outlet, taken, writer),
         Err(end) => run_end(end),
@@ -96,21 +99,17 @@ pub(crate) fn run_input<T: Threads + Wait + Sync, R: Read, W: Write>(
     rt: &T,
     alloc: Global,
     profile: Profile,
-    catalog: Arc<Catalog>,
     workers: u8,
-    outlet: Outlet,
-    taken: &Taken,
+    environment: Environment<'_>,
     reader: &mut R,
     writer: &mut W,
 ) -> End
-    ensures { RanPlan (setting_of profile (offers_of (arc_value catalog))) workers result
+    ensures { RanPlan (setting_of profile (offers_of (arc_value environment.catalog))) workers result
         (R.remaining reader.old) (R.remaining reader.new)
         (W.contents writer.old) (W.contents writer.new) }
 {
     match read_plan(alloc, reader, workers) {
-        Ok(plan) => run_one(
-            rt, alloc, profile, catalog, plan, workers, outlet, taken, writer,
-        ),
+        Ok(plan) => run_one(rt, alloc, profile, plan, workers, environment, writer),
         Err(fault) => plan_end(alloc, fault),
     }
 }

@@ -10,6 +10,7 @@ ghost use Rattle.pcef_program.specs.Programs.{Ends, EndsOne, IsWhole, Ran, RanSc
 ghost use Rattle.pcef_program.specs.EndWriting.{WritesEnd};
 
 use crate::end::{End, profile_end, script_end, unread_end};
+use crate::environment::{Arguments, Environment};
 use crate::plan_run::run_input;
 use crate::pool_run::run_on_pool;
 use crate::reporting::report_end;
@@ -18,9 +19,7 @@ use pcef_catalog::Catalog;
 use pcef_model::Profile;
 use pcef_profile::read_profile;
 use pcef_rule::Sums;
-use pcef_run::Taken;
 use pcef_script::run_script;
-use pcef_trigger::Outlet;
 use std::alloc::Global;
 use std::io::{self, Read, Write};
 use std::sync::{Arc, Wait};
@@ -51,21 +50,24 @@ fn run_as_asked<T: Threads + Wait + Sync, R: Read, W: Write>(
     alloc: Global,
     profile: Profile,
     workers: Option<u8>,
-    catalog: Arc<Catalog>,
-    outlet: Outlet,
-    taken: &Taken,
+    environment: Environment<'_>,
     reader: &mut R,
     writer: &mut W,
 ) -> End
-    ensures { Ran workers (setting_of profile (offers_of (arc_value catalog))) result
+    ensures { Ran workers (setting_of profile (offers_of (arc_value environment.catalog))) result
         (R.remaining reader.old) (R.remaining reader.new)
         (W.contents writer.old) (W.contents writer.new) }
 {
     match workers {
-        None => run_on(alloc, profile, catalog, reader, writer),
-        Some(workers) => run_input(
-            rt, alloc, profile, catalog, workers, outlet, taken, reader, writer,
-        ),
+        None => {
+            let Environment {
+                catalog,
+                outlet: _,
+                taken: _,
+            } = environment;
+            run_on(alloc, profile, catalog, reader, writer)
+        }
+        Some(workers) => run_input(rt, alloc, profile, workers, environment, reader, writer),
     }
 }
 
@@ -74,13 +76,11 @@ fn with_profile<T: Threads + Wait + Sync, R: Read, W: Write>(
     alloc: Global,
     profile: &io::Result<String>,
     workers: Option<u8>,
-    catalog: Arc<Catalog>,
-    outlet: Outlet,
-    taken: &Taken,
+    environment: Environment<'_>,
     reader: &mut R,
     writer: &mut W,
 ) -> End
-    ensures { EndsOne (offers_of (arc_value catalog)) workers (Some profile.now) result
+    ensures { EndsOne (offers_of (arc_value environment.catalog)) workers (Some profile.now) result
         (R.remaining reader.old) (R.remaining reader.new)
         (W.contents writer.old) (W.contents writer.new) }
 {
@@ -89,9 +89,7 @@ fn with_profile<T: Threads + Wait + Sync, R: Read, W: Write>(
         Err(error) => return unread_end(error.kind()),
     };
     match read_profile(alloc, text.as_str()) {
-        Ok(profile) => run_as_asked(
-            rt, alloc, profile, workers, catalog, outlet, taken, reader, writer,
-        ),
+        Ok(profile) => run_as_asked(rt, alloc, profile, workers, environment, reader, writer),
         Err(fault) => profile_end(fault),
     }
 }
@@ -115,21 +113,17 @@ fn one_end<T: Threads + Wait + Sync, R: Read, W: Write>(
     alloc: Global,
     asked: Option<&io::Result<String>>,
     workers: Option<u8>,
-    catalog: Arc<Catalog>,
-    outlet: Outlet,
-    taken: &Taken,
+    environment: Environment<'_>,
     reader: &mut R,
     writer: &mut W,
 ) -> End
-    ensures { EndsOne (offers_of (arc_value catalog)) workers
+    ensures { EndsOne (offers_of (arc_value environment.catalog)) workers
         (option_map (λ p. p.now) asked.entry) result
         (R.remaining reader.old) (R.remaining reader.new)
         (W.contents writer.old) (W.contents writer.new) }
 {
     match asked {
-        Some(profile) => with_profile(
-            rt, alloc, profile, workers, catalog, outlet, taken, reader, writer,
-        ),
+        Some(profile) => with_profile(rt, alloc, profile, workers, environment, reader, writer),
         None => End::Usage,
     }
 }
@@ -148,53 +142,57 @@ fn asked_pool(words: &[Vec<u8>], profiles: &[io::Result<String>]) -> Option<Sums
 fn end_of<T: Threads + Wait + Sync, R: Read, W: Write>(
     rt: &T,
     alloc: Global,
-    words: &[Vec<u8>],
-    profiles: &[io::Result<String>],
-    catalog: Arc<Catalog>,
-    outlet: Outlet,
-    taken: &Taken,
+    arguments: Arguments<'_>,
+    environment: Environment<'_>,
     reader: &mut R,
     writer: &mut W,
 ) -> End
-    ensures { Ends (offers_of (arc_value catalog)) words.now profiles.now result
+    ensures { Ends (offers_of (arc_value environment.catalog)) arguments.words.now arguments.profiles.now result
         (R.remaining reader.old) (R.remaining reader.new)
         (W.contents writer.old) (W.contents writer.new) }
 {
+    let Arguments { words, profiles } = arguments;
     match asked_pool(words, profiles) {
-        Some(capacity) => run_on_pool(alloc, capacity, profiles, &*catalog, reader, writer),
-        None => one_end(
-            rt,
-            alloc,
-            request_of(words, profiles),
-            workers_of(words),
-            catalog,
-            outlet,
-            taken,
-            reader,
-            writer,
-        ),
+        Some(capacity) => {
+            run_on_pool(
+                alloc,
+                capacity,
+                profiles,
+                &*environment.catalog,
+                reader,
+                writer,
+            )
+        }
+        None => {
+            let asked = request_of(words, profiles);
+            one_end(
+                rt,
+                alloc,
+                asked,
+                workers_of(words),
+                environment,
+                reader,
+                writer,
+            )
+        }
     }
 }
 
-/// Runs the program and gives its exit status: 0; 1 for a profile fault or a line at fault; 2 for wrong
-/// arguments; 3 when out of memory; 4 for a failing end or a run that failed.
+/// Runs the program and returns its exit status: 0; 1 for a profile fault or a line at fault; 2 for wrong arguments; 3
+/// when out of memory; 4 for a failing stream or a run that failed.
 ///
-/// `words` are the arguments after the program's name, `profiles` are the texts of the files that they name as
-/// profiles, in their order, or why these can't be read. Where there are more or fewer of them than are named, the
-/// arguments are wrong. `catalog` has the predefined rules.
-/// `faults` is told why the program ends early: a line, and below it what a person needs to know. That it fails
-/// changes nothing else. A script is run as `run_script` does, and the writer is flushed at its end. A run reads the
-/// whole input first, starts a thread for each worker and waits for them; its reports go to `outlet`, whose reporters
-/// count them in `taken`, and one that refuses ends the program as `want of memory`. Sessions on a pool read the whole
-/// input first, too, and are run as `run_pool` does; the writer is flushed at its end.
-pub fn program<T: Threads + Wait + Sync, R: Read, W: Write, E: Write>(
+/// Where there are more or fewer profiles than the words name, the arguments are wrong. `faults` gets the reason why the
+/// program ends early: a line, and below it what a person needs to know. That it fails changes nothing else.
+///
+/// A script is run as `run_script` does, and the writer is flushed at its end. A run reads the whole input first, starts a
+/// thread for each worker and waits for them; its reports go to the outlet, whose reporters count them, and one that
+/// refuses ends the program as `want of memory`. Sessions on a pool read the whole input first, too, and are run as
+/// `run_pool` does; the writer is flushed at its end.
+pub fn run_program<T: Threads + Wait + Sync, R: Read, W: Write, E: Write>(
     rt: &T,
     alloc: Global,
-    words: &[Vec<u8>],
-    profiles: &[io::Result<String>],
-    catalog: Arc<Catalog>,
-    outlet: Outlet,
-    taken: &Taken,
+    arguments: Arguments<'_>,
+    environment: Environment<'_>,
     reader: &mut R,
     writer: &mut W,
     faults: &mut E,
@@ -202,19 +200,17 @@ pub fn program<T: Threads + Wait + Sync, R: Read, W: Write, E: Write>(
     // The status and what is said are those of the end to which the words, the profile and the input come.
     ensures ends { (end : End) × (result ≡ end_status end)
         × WritesEnd end (E.contents faults.old) (E.contents faults.new)
-        × Ends (offers_of (arc_value catalog)) words.now profiles.now end
+        × Ends (offers_of (arc_value environment.catalog)) arguments.words.now arguments.profiles.now end
         (R.remaining reader.old) (R.remaining reader.new)
         (W.contents writer.old) (W.contents writer.new) }
     ensures most { result ≤ 4 }
     // Status 0 comes only where the whole input was read and all that is due is written.
     ensures whole { result ≡ 0 →
-        IsWhole (offers_of (arc_value catalog)) words.now profiles.now
+        IsWhole (offers_of (arc_value environment.catalog)) arguments.words.now arguments.profiles.now
         (R.remaining reader.old) (R.remaining reader.new)
         (W.contents writer.old) (W.contents writer.new) }
 {
-    let end = end_of(
-        rt, alloc, words, profiles, catalog, outlet, taken, reader, writer,
-    );
-    report_end(alloc, &end, words, profiles, faults);
+    let end = end_of(rt, alloc, arguments, environment, reader, writer);
+    report_end(alloc, &end, arguments.words, arguments.profiles, faults);
     end.status()
 }

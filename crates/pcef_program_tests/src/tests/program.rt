@@ -5,7 +5,7 @@ use pcef_catalog::Catalog;
 use pcef_model::OpenFault;
 use pcef_profile::ReadProfileFault;
 use pcef_program::end::{End, profile_end, script_end, unread_end};
-use pcef_program::program::program;
+use pcef_program::{Arguments, Environment, run_program};
 use pcef_run::{Storing, Taken};
 use pcef_script::ScriptFault;
 use pcef_test_scripts::PROFILE;
@@ -53,9 +53,13 @@ pub(crate) fn program_on<T: Threads + Wait + Sync, R: Read, W: Write, E: Write>(
     let catalog = Arc::new(alloc, Catalog::new(alloc, Vec::new(alloc))?)?;
     let taken = Arc::new(alloc, Taken::new())?;
     let outlet = storing_outlet(alloc, &taken)?;
-    Ok(program(
-        rt, alloc, words, profiles, catalog, outlet, &taken, reader, writer, faults,
-    ))
+    let arguments = Arguments { words, profiles };
+    let environment = Environment {
+        catalog,
+        outlet,
+        taken: &taken,
+    };
+    Ok(run_program(rt, alloc, arguments, environment, reader, writer, faults))
 }
 
 /// The exit status of the program on these words, profile (none can't be read) and input, and what it wrote of

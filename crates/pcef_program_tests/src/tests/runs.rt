@@ -7,7 +7,7 @@ use crate::tests::expect_equal;
 use pcef_catalog::Catalog;
 use pcef_history::History;
 use pcef_model::Report;
-use pcef_program::program::program;
+use pcef_program::{Arguments, Environment, run_program};
 use pcef_run::Taken;
 use pcef_test_scripts::{PROFILE, script_of};
 use pcef_trigger::{Answer, Outlet, ReportKind, Reporter};
@@ -357,14 +357,21 @@ fn a_reporter_that_refuses_ends_the_program(rt: HostRuntime) -> Result<(), Fail>
     let mut written = Vec::new(alloc);
     let mut faults = Vec::new(alloc);
     let mut input = lines.as_bytes();
-    let status = program(
-        &rt,
-        alloc,
-        &words,
-        &profiles,
+    let arguments = Arguments {
+        words: &words,
+        profiles: &profiles,
+    };
+    let taken = Taken::new();
+    let environment = Environment {
         catalog,
         outlet,
-        &Taken::new(),
+        taken: &taken,
+    };
+    let status = run_program(
+        &rt,
+        alloc,
+        arguments,
+        environment,
         &mut input,
         &mut written,
         &mut faults,

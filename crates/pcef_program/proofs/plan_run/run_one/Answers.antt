@@ -11,6 +11,6 @@ returns-in-Ok g c = one_told _ c.args.plan c.args.workers c.in-Ok.ran c.report_r
 
 pub returns-in-Err : goal.returns-in-Err
 returns-in-Err g c =
-    let p = setting_of c.args.profile (offers_of (arc_value c.args.catalog)) in
+    let p = setting_of c.args.profile (offers_of (arc_value c.args.environment.catalog)) in
     let old = g.W.Write.contents c.args.writer.now in
     subst (λ e. RanOne p c.args.workers c.args.plan e old old) (sym c.run_end.ensures) (none_told p c.args.plan c.args.workers c.in-Err.end old c.in-Err.ensures.fault)

@@ -10,20 +10,20 @@ pub returns-in-Some : goal.returns-in-Some
 returns-in-Some g c =
     let remaining = g.R.Read.remaining in
     let contents = g.W.Write.contents in
-    let same : c.deref.result.now ≡ arc_value c.args.catalog = search rules in
-    let pool = subst (λ k. EndsPool (offers_of k) c.in-Some.capacity c.args.profiles.now c.run_on_pool.result (remaining c.args.reader.now) (remaining c.run_on_pool.new.reader)
+    let same : c.deref.result.now ≡ arc_value c.args.environment.catalog = search rules in
+    let pool = subst (λ k. EndsPool (offers_of k) c.in-Some.capacity c.args.arguments.profiles.now c.run_on_pool.result (remaining c.args.reader.now) (remaining c.run_on_pool.new.reader)
     (contents c.args.writer.now) (contents c.run_on_pool.new.writer)) same c.run_on_pool.ensures in
-    subst (λ p. EndsAsked (offers_of (arc_value c.args.catalog)) p c.args.words.now c.args.profiles.now c.run_on_pool.result (remaining c.args.reader.now) (remaining c.run_on_pool.new.reader)
+    subst (λ p. EndsAsked (offers_of (arc_value c.args.environment.catalog)) p c.args.arguments.words.now c.args.arguments.profiles.now c.run_on_pool.result (remaining c.args.reader.now) (remaining c.run_on_pool.new.reader)
     (contents c.args.writer.now) (contents c.run_on_pool.new.writer)) c.in-Some.ensures pool
 
 pub returns-in-None : goal.returns-in-None
 returns-in-None g c =
     let remaining = g.R.Read.remaining in
     let contents = g.W.Write.contents in
-    let offers = offers_of (arc_value c.args.catalog) in
-    let one = subst (λ w. EndsOne offers w (asked c.args.words.now c.args.profiles.now) c.one_end.result (remaining c.args.reader.now) (remaining c.one_end.new.reader)
+    let offers = offers_of (arc_value c.args.environment.catalog) in
+    let one = subst (λ w. EndsOne offers w (asked c.args.arguments.words.now c.args.arguments.profiles.now) c.one_end.result (remaining c.args.reader.now) (remaining c.one_end.new.reader)
     (contents c.args.writer.now) (contents c.one_end.new.writer)) c.workers_of.ensures
     (subst (λ a. EndsOne offers c.workers_of.result a c.one_end.result (remaining c.args.reader.now) (remaining c.one_end.new.reader) (contents c.args.writer.now) (contents c.one_end.new.writer))
     c.request_of.ensures c.one_end.ensures) in
-    subst (λ p. EndsAsked offers p c.args.words.now c.args.profiles.now c.one_end.result (remaining c.args.reader.now) (remaining c.one_end.new.reader)
+    subst (λ p. EndsAsked offers p c.args.arguments.words.now c.args.arguments.profiles.now c.one_end.result (remaining c.args.reader.now) (remaining c.one_end.new.reader)
     (contents c.args.writer.now) (contents c.one_end.new.writer)) c.in-None.ensures one
