@@ -204,10 +204,8 @@ fn push_octets(alloc: Global, line: &mut String, octets: &[u8]) -> Result<(), Al
 /// What is told of octets that begin no capture and no other format that is known.
 fn first_line(alloc: Global, octets: &[u8]) -> Result<String, AllocError> {
     let mut line = String::from_str(alloc, "it begins with")?;
-    match push_octets(alloc, &mut line, octets) {
-        Ok(()) => Ok(line),
-        Err(error) => Err(error),
-    }
+    push_octets(alloc, &mut line, octets)?;
+    Ok(line)
 }
 
 /// A line on a fault: what the octets from it on are that begin no capture, of an unknown link type or version its number

@@ -44,10 +44,8 @@ fn packet_in<'a>(
         packet_in (framed block.now) interface recorded line place ≡ DueErr fault) }
 {
     let behind = block.body.split_at(place).1;
-    match packet_at_front(interface.link, block.endianness, recorded, line, behind) {
-        Ok((packet, _)) => Ok(packet),
-        Err(fault) => Err(fault),
-    }
+    let (packet, _) = packet_at_front(interface.link, block.endianness, recorded, line, behind)?;
+    Ok(packet)
 }
 
 /// The packet of a block with lengths in octets 12 to 19 and an interface of this number.

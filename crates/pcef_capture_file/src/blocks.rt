@@ -127,10 +127,8 @@ fn block_in<'a>(
     ensures fault { IfErr result (λ fault. block_in endianness octets.now ≡ DueErr fault) }
     ensures shorter { IfOk result (λ found. length found.1.now < length octets.now) }
 {
-    match len_of(endianness, octets) {
-        Ok(len) => Ok(block_front(endianness, octets, len)),
-        Err(fault) => Err(fault),
-    }
+    let len = len_of(endianness, octets)?;
+    Ok(block_front(endianness, octets, len))
 }
 
 /// The block at the front, in a section of this order, and the octets behind it; else `CutBlock` where
@@ -148,8 +146,5 @@ pub(crate) fn read_block<'a>(
     if octets.len() < FRAME_LEN {
         return Err(CaptureFault::CutBlock);
     }
-    match order_of(endianness, octets) {
-        Ok(order) => block_in(order, octets),
-        Err(fault) => Err(fault),
-    }
+    block_in(order_of(endianness, octets)?, octets)
 }

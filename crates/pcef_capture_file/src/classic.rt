@@ -204,8 +204,5 @@ pub fn read_classic<'a>(alloc: Global, octets: &'a [u8]) -> Result<Capture<'a>, 
     ensures fault { IfErr result (λ fault.
         (fault ≡ NoMemory) ⊎ (file_header_of octets.now ≡ DueErr fault)) }
 {
-    match read_file_header(octets) {
-        Ok(header) => behind_header(alloc, header, octets),
-        Err(fault) => Err(fault),
-    }
+    behind_header(alloc, read_file_header(octets)?, octets)
 }

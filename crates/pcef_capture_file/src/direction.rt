@@ -13,16 +13,12 @@ use pcef_packet::{Addr, Dir, PacketFault, read_header};
 pub fn direction_of(ue: Addr, octets: &[u8]) -> Result<Option<Dir>, PacketFault>
     ensures { result ≡ direction_in ue octets.now }
 {
-    match read_header(Dir::Up, octets) {
-        Ok(header) => {
-            if header.src.is_assigned(ue) {
-                Ok(Some(Dir::Up))
-            } else if header.dst.is_assigned(ue) {
-                Ok(Some(Dir::Down))
-            } else {
-                Ok(None)
-            }
-        }
-        Err(fault) => Err(fault),
+    let header = read_header(Dir::Up, octets)?;
+    if header.src.is_assigned(ue) {
+        Ok(Some(Dir::Up))
+    } else if header.dst.is_assigned(ue) {
+        Ok(Some(Dir::Down))
+    } else {
+        Ok(None)
     }
 }

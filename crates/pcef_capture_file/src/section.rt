@@ -105,10 +105,7 @@ impl Section {
         ensures fault { IfErr result (λ fault. (fault ≡ NoMemory)
             ⊎ (described_in (standing self.old) (framed block.now) ≡ DueErr fault)) }
     {
-        match interface_in(block) {
-            Ok(interface) => self.note(interface),
-            Err(fault) => Err(fault),
-        }
+        self.note(interface_in(block)?)
     }
 
     /// Takes in what a block says of the section; an `Err` is the fault of the block, or `NoMemory`.

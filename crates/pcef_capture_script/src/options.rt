@@ -197,8 +197,6 @@ pub fn parse_options<'a>(alloc: Global, words: &'a [String]) -> Result<Option<Re
         takes command_line (map string_bytes words.entry.now) ≡ true →
         kind_of error ≡ OutOfMemory) }
 {
-    match parse(alloc, words) {
-        Ok(matches) => Ok(request_of(&matches)),
-        Err(error) => Err(error),
-    }
+    let matches = parse(alloc, words)?;
+    Ok(request_of(&matches))
 }

@@ -91,10 +91,8 @@ fn start_worker<
 ) -> Result<WorkerRing<N>, Failure>
     ensures { IfOk result (λ line. line ≡ []) }
 {
-    match attach_worker(rt, alloc, shared, gate, number) {
-        Ok(worker) => WorkerRing::start(rt, scope, alloc, shared, worker),
-        Err(failure) => Err(failure),
-    }
+    let worker = attach_worker(rt, alloc, shared, gate, number)?;
+    WorkerRing::start(rt, scope, alloc, shared, worker)
 }
 
 /// Starts the worker of this number, and puts the way to it at the end.

@@ -68,23 +68,18 @@ fn session_of(alloc: Global, profile: Profile) -> Result<OpenSession, OpenRefusa
     let Ok(catalog) = ShapedCatalog::built_in(alloc) else {
         return Err(OpenRefusal::NoMemory);
     };
-    match world_of(alloc, profile, &catalog) {
-        Err(refusal) => Err(refusal),
-        Ok(world) => Ok(OpenSession {
-            catalog,
-            world,
-            lines: LineReader::new(alloc),
-        }),
-    }
+    let world = world_of(alloc, profile, &catalog)?;
+    Ok(OpenSession {
+        catalog,
+        world,
+        lines: LineReader::new(alloc),
+    })
 }
 
 fn open_session(alloc: Global, text: &[u8]) -> Result<OpenSession, OpenRefusal>
     ensures { OpensText text.now result }
 {
-    match profile_of(alloc, text) {
-        Err(refusal) => Err(refusal),
-        Ok(profile) => session_of(alloc, profile),
-    }
+    session_of(alloc, profile_of(alloc, text)?)
 }
 
 impl Handle {
@@ -96,12 +91,7 @@ impl Handle {
         if self.session.is_some() {
             return Err(OpenRefusal::AlreadyOpen);
         }
-        match open_session(self.alloc, text) {
-            Err(refusal) => Err(refusal),
-            Ok(session) => {
-                self.session = Some(session);
-                Ok(())
-            }
-        }
+        self.session = Some(open_session(self.alloc, text)?);
+        Ok(())
     }
 }

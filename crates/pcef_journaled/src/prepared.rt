@@ -46,10 +46,8 @@ impl JournaledCommand {
         ensures kept { archive.old.room ≤ archive.new.room }
         ensures room { OnOk result (entries_for prepared attached ≤ archive.new.room) }
     {
-        match kept_of(archive, &prepared, attached) {
-            Ok(kept) => Ok(JournaledCommand { prepared, kept }),
-            Err(refused) => Err(refused),
-        }
+        let kept = kept_of(archive, &prepared, attached)?;
+        Ok(JournaledCommand { prepared, kept })
     }
 
     /// What was prepared.

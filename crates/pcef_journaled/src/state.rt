@@ -67,13 +67,11 @@ impl JournaledState {
         ensures made { IfOk result (λ s. IsOpened (setting_of profile listing) s.session) }
         ensures keeps { IfOk result (λ s. s.keeps ≡ true) }
     {
-        match SessionState::open(alloc, profile, listing) {
-            Ok(state) => Ok(JournaledState {
-                state,
-                archive: Archive::new(alloc),
-            }),
-            Err(fault) => Err(fault),
-        }
+        let state = SessionState::open(alloc, profile, listing)?;
+        Ok(JournaledState {
+            state,
+            archive: Archive::new(alloc),
+        })
     }
 
     /// The same, of a session whose rows are not stored: it takes no memory for packets.
@@ -86,13 +84,11 @@ impl JournaledState {
         ensures made { IfOk result (λ s. IsOpened (setting_of profile listing) s.session) }
         ensures keeps { IfOk result (λ s. s.keeps ≡ false) }
     {
-        match SessionState::open(alloc, profile, listing) {
-            Ok(state) => Ok(JournaledState {
-                state,
-                archive: Archive::without_rows(alloc),
-            }),
-            Err(fault) => Err(fault),
-        }
+        let state = SessionState::open(alloc, profile, listing)?;
+        Ok(JournaledState {
+            state,
+            archive: Archive::without_rows(alloc),
+        })
     }
 
     /// Whether rows are stored.
@@ -219,10 +215,7 @@ impl JournaledState {
         ensures command { IfOk result (λ d. command_of d ≡ command) }
         ensures others { KeepsPrepared self.old.session self.new.session }
     {
-        let prepared = match self.state.prepare(command) {
-            Ok(prepared) => prepared,
-            Err(refusal) => return Err(refusal),
-        };
+        let prepared = self.state.prepare(command)?;
         let attached = self.state.attached_count();
         match JournaledCommand::new(&mut self.archive, prepared, attached) {
             Ok(command) => Ok(command),
@@ -246,10 +239,7 @@ impl JournaledState {
         ensures command { IfOk result (λ d. command_of d ≡ command) }
         ensures others { KeepsPrepared self.old.session self.new.session }
     {
-        let prepared = match self.state.prepare_within(command, room) {
-            Ok(prepared) => prepared,
-            Err(refusal) => return Err(refusal),
-        };
+        let prepared = self.state.prepare_within(command, room)?;
         let attached = self.state.attached_count();
         match JournaledCommand::new(&mut self.archive, prepared, attached) {
             Ok(command) => Ok(command),

@@ -147,7 +147,7 @@ fn serve_all<T: Threads + Wait + Drop + Send + Sync + Copy + 'static>(
         return Ok(false);
     }
     let alloc = rt.alloc();
-    match serve_in_threads(
+    let ran = serve_in_threads(
         starting,
         alloc,
         rt.stdin(),
@@ -155,10 +155,8 @@ fn serve_all<T: Threads + Wait + Drop + Send + Sync + Copy + 'static>(
         profile,
         keys.lines,
         keys.names,
-    ) {
-        Ok(ran) => end_of_all(ran),
-        Err(fault) => Err(fault),
-    }
+    )?;
+    end_of_all(ran)
 }
 
 /// Serves lines in so many threads.

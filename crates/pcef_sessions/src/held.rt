@@ -72,10 +72,9 @@ impl Held {
         ensures setting { self.new.setting ≡ self.old.setting }
     {
         self.world.forget();
-        match answer_alone(alloc, &*self.catalog, &mut self.world, lines, line) {
-            Ok(Some(answer)) => Ok(answer),
-            Ok(None) => unreachable!(),
-            Err(error) => Err(error),
+        match answer_alone(alloc, &*self.catalog, &mut self.world, lines, line)? {
+            Some(answer) => Ok(answer),
+            None => unreachable!(),
         }
     }
 

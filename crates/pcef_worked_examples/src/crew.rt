@@ -71,14 +71,10 @@ impl<C: Detects + Drop, N: Naming> Crew<C, N> {
         alloc: Global,
         shared: &Shared<C, N, W>,
     ) -> Result<u8, AttachFault> {
-        match Worker::attach(rt, alloc, shared, OpenGate) {
-            Ok(worker) => {
-                let number = worker.worker();
-                keep(&mut self.attached, worker);
-                Ok(number)
-            }
-            Err(fault) => Err(fault),
-        }
+        let worker = Worker::attach(rt, alloc, shared, OpenGate)?;
+        let number = worker.worker();
+        keep(&mut self.attached, worker);
+        Ok(number)
     }
 
     // A worker hands its rows over and leaves, or stays where that is refused.

@@ -28,10 +28,10 @@ pub(crate) fn take_at<C: Detects>(
 {
     match place {
         None => Ok(StepAnswer::NoWorker),
-        Some(worker) => match worker.take(catalog, ue, handed_over, header) {
-            Ok(taken) => Ok(StepAnswer::Take(taken)),
-            Err(lack) => Err(lack),
-        },
+        Some(worker) => {
+            let taken = worker.take(catalog, ue, handed_over, header)?;
+            Ok(StepAnswer::Take(taken))
+        }
     }
 }
 
@@ -44,13 +44,10 @@ pub(crate) fn refresh_at(
 {
     match place {
         None => Ok(StepAnswer::NoWorker),
-        Some(worker) => match Arc::try_clone(session.indexed()) {
-            Err(lack) => Err(lack),
-            Ok(newest) => {
-                worker.held = newest;
-                Ok(StepAnswer::Refresh(worker.held.generation()))
-            }
-        },
+        Some(worker) => {
+            worker.held = Arc::try_clone(session.indexed())?;
+            Ok(StepAnswer::Refresh(worker.held.generation()))
+        }
     }
 }
 

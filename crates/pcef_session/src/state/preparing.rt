@@ -324,18 +324,16 @@ impl SessionState {
         let rule = self.activation(&command)?;
         let bearer = self.bearer_for_rule(&command, rule.as_ref());
         let key_places = self.key_places_for(&command, rule.as_ref())?;
-        match self.ready_with(&command, rule.as_ref(), bearer) {
-            Ok((table, reports, places)) => Ok(PreparedChange {
-                command,
-                table,
-                rule,
-                bearer,
-                places,
-                key_places,
-                reports,
-            }),
-            Err(refused) => Err(refused),
-        }
+        let (table, reports, places) = self.ready_with(&command, rule.as_ref(), bearer)?;
+        Ok(PreparedChange {
+            command,
+            table,
+            rule,
+            bearer,
+            places,
+            key_places,
+            reports,
+        })
     }
 
     /// Prepares a command, in a room where the session has one.
