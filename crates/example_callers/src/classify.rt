@@ -1,4 +1,4 @@
-//! Makes a table of one rule, with its index, and tells what it decides of packets.
+//! Makes a table of one rule, with its index, and prints its verdicts on packets.
 //!
 //! Its libraries: `pcef_index`, `pcef_table`, `pcef_model`, `pcef_catalog`, `pcef_rule`, `pcef_filter`, `pcef_packet`.
 
@@ -68,7 +68,7 @@ fn dns_table(alloc: Global, catalog: &Catalog) -> Option<Indexed>
     Indexed::new(alloc, table, catalog).ok()
 }
 
-/// What the table decides of a packet to the user equipment of this address, or why the octets are none.
+/// What the table decides of a packet to the user equipment of this address, or why the octets are no packet.
 fn verdict(
     catalog: &Catalog,
     table: &Indexed,
@@ -86,7 +86,7 @@ fn verdict(
     Ok(table.classify(catalog, ue, &header))
 }
 
-/// Tells what the table decides of three packets, of which one is cut.
+/// Prints the table's verdicts on three packets, of which one is cut.
 pub fn run(rt: &HostRuntime) -> io::Result<()> {
     // No predefined rules: all rules come from the PCRF.
     let Ok(catalog) = Catalog::new(rt.alloc(), Vec::new(rt.alloc())) else {

@@ -1,7 +1,8 @@
 //! Examples for callers in Rattle, each in a file that stands alone: judging packets (`classify.rt`), a session in one
 //! thread (`session.rt`), and a session that two threads share (`shared.rt`).
 //!
-//! The head of each file names the libraries that a crate uses which takes the file over; `run` is then its `main`.
+//! The head of each file names the libraries that it needs. A crate that takes a file over makes its `run` the crate's
+//! `main`.
 #![tactic(auto)]
 
 mod classify;

@@ -23,7 +23,8 @@ const PROFILE: &str = "ue = '10.0.0.2'\nrows = 1000\ncommands = 1000\n\
     default = { qci = 9, level = 8, capability = false, vulnerability = true }\n\
     capacity = { up = 1000000, down = 2000000 }\n";
 
-/// A predefined rule is activated; a worker comes, takes a packet of a name server, and hands it over; a word is wrong.
+/// A predefined rule is activated; a worker attaches, takes a packet of a name server and flushes; the last line's word
+/// is unknown.
 const LINES: [&str; 5] = [
     "{\"do\":\"activate\",\"name\":\"pre-dns\"}",
     "{\"do\":\"attach\"}",
@@ -66,12 +67,12 @@ fn answer_line(
     ensures answer { IfSome result (λ a. AnswersAlone line.now world.old (Some a) world.new) }
     ensures setting { world.new.session.setting ≡ world.old.session.setting }
 {
-    // The reports of the lines before stood in their answers. A session that isn't told to lets none go.
+    // The answers so far held the reports. A session keeps them all until it is asked to forget them.
     world.forget();
     answer_alone(alloc, catalog, world, lines, line.as_bytes()).ok()?
 }
 
-/// Opens a session, and tells the answer to each line.
+/// Opens a session, and prints the answer to each line.
 pub fn run(rt: &HostRuntime) -> io::Result<()> {
     let alloc = rt.alloc();
     let Ok(catalog) = ShapedCatalog::built_in(alloc) else {

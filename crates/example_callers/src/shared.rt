@@ -74,7 +74,7 @@ fn work<C: Detects + Drop, N: Naming, W: Board<Cell<N>> + Drop, R: Wait>(
     Some(finished)
 }
 
-/// Both at work, each in a thread, and what all comes to.
+/// Runs both, each in a thread, and returns the session's totals.
 fn totals<
     C: Detects + Drop + Send + Sync,
     N: Naming + Send + Sync,
@@ -130,8 +130,8 @@ fn share_session<R: Threads + Wait + Sync>(rt: &R, alloc: Global) -> Option<Tota
     behind_its_lock::<ShapedCatalog, Brand, _>(rt, alloc, catalog, session, opened, blanks)
 }
 
-/// Tells how many packets were handed over. The runtime comes twice: outside `main` a function may start threads and wait
-/// only by a bound that says so.
+/// Prints how many packets were handed over. The runtime is passed twice: outside `main` a function may start threads
+/// and wait only by a bound that says so.
 pub fn run<R: Threads + Wait + Sync>(threads: &R, rt: &HostRuntime) -> io::Result<()> {
     match share_session(threads, rt.alloc()) {
         Some(totals) => println!(rt; "{} packets were handed over", totals.rows),

@@ -1,4 +1,4 @@
--- The map's words for the rule of a name, in ours.
+-- What the map's definitions say of the rule of a name, in terms of this crate's.
 use Rattle.std.proofs.Common.{◌≡◌, ℕ, true, false, List, [], ◌∷◌, refl, ap, sym, subst, inl, inr, is_some}
 use Rattle.std.specs.List.{AllByRecursion, IsDistinct, list_any}
 use Rattle.std.specs.Map.{keys_of, lookup}
@@ -36,7 +36,7 @@ all_stay name (e ∷ rules) none =
     let other : is_kept_as name e ≡ false = same_name_not name e.0 none.0 in
     rw other (ap (λ rest. e ∷ rest) (all_stay name rules none.1))
 
--- the map takes the first one of a name away, and no other has it
+-- the map removes the first one of a name, and no other has it
 pub removed_is : (name : List ℕ) (rules : List Kept) → IsDistinct same_name (keys_of rules) → shift_remove_entry (same_name name) rules ≡ without_kept name rules
 unfolding IsDistinct
 removed_is name [] once = refl

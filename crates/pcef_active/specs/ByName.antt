@@ -5,11 +5,11 @@ use Rattle.pcef_bearer.specs.Bindings.{Binding, is_named}
 use Rattle.pcef_model.specs.Named.{has_name, put_by, without_name}
 use Rattle.pcef_table.specs.declared.entry.Source.{Source}
 
--- a name, and where its rule comes from
+-- a name, and the source of its rule
 abbrev pub Kept : Type 0
 Kept = List ℕ × Source
 
--- the rules in the order in which they became active, and how many more there is room for
+-- the rules in the order in which they became active, and how many more fit
 pub record RulesByName : Type 0 where
   pub rules : List Kept
   pub room : ℕ

@@ -18,7 +18,7 @@ pub struct ActiveRules {
     rules: IndexMap<RuleName, Source>,
 }
 
-// Written out, so that an owner proves one call at each way out.
+// Written out, so that an owner proves one call on each return path.
 impl Drop for ActiveRules {
     fn drop(self) {
         let ActiveRules { rules: _ } = self;
@@ -58,7 +58,7 @@ impl ActiveRules {
         self.rules.contains_key(name)
     }
 
-    /// The name at a place of that order, counted from 0, with where its rule comes from.
+    /// The name and the source of the rule at a place of that order, counted from 0.
     pub fn get_index(&self, place: usize) -> Option<(&RuleName, &Source)>
         ensures { option_map (λ e. (e.0.now, e.1.now)) result ≡ slice_get self.now.rules place }
     {
@@ -75,7 +75,7 @@ impl ActiveRules {
         self.rules.reserve(additional)
     }
 
-    /// Puts a rule that became active in the place of the one of its name, or behind all others. Takes no memory.
+    /// Puts an active rule in the place of the one of its name, or behind all others. Takes no memory.
     pub fn put(&mut self, name: RuleName, source: Source)
         requires { 0 < self.old.room }
         ensures rules { self.new.rules ≡ put_kept (name, source) self.old.rules }
@@ -87,17 +87,17 @@ impl ActiveRules {
         }
     }
 
-    /// Lets the rule of this name go, if it is active. The others keep their order.
+    /// Removes the rule of this name, if it is active. The others keep their order.
     pub fn remove(&mut self, name: &RuleName)
         ensures rules { self.new.rules ≡ without_kept name.now self.old.rules }
         ensures room { self.old.room ≤ self.new.room }
     {
-        // For what it says of the names: that each stands there once.
+        // For its contract on the names: each of them occurs once.
         let _count = self.rules.len();
         let _removed = self.rules.shift_remove(name);
     }
 
-    /// Lets the rules go that aren't bound to a bearer any more. The others keep their order.
+    /// Removes the rules that are no longer bound to a bearer. The others keep their order.
     pub fn retain_bound(&mut self, bearers: &Bearers)
         ensures rules { self.new.rules ≡ filter (is_still_bound bearers.now) self.old.rules }
         ensures room { self.old.room ≤ self.new.room }
@@ -110,7 +110,7 @@ impl ActiveRules {
         );
     }
 
-    /// Lets all rules go.
+    /// Removes all rules.
     pub fn clear(&mut self)
         ensures rules { self.new.rules ≡ [] }
         ensures room { self.old.room ≤ self.new.room }

@@ -1,6 +1,6 @@
 //! The active rules of a session by their names, in the order in which they became active: `ActiveRules`.
 //!
-//! Its contracts say: a rule that is put takes the place of the one of its name or comes last, and those that stay keep
+//! Its contracts say: a rule that is put replaces the one of its name or goes last, and those that stay keep
 //! their order.
 #![tactic(auto)]
 

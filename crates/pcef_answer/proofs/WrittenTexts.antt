@@ -13,7 +13,7 @@ pub last_two : {A E : Type 0} (result : Result A E) (s t u a b : List ℕ) → t
 last_two (Ok x) s t u a b p q = q ∙ ap (λ x. x ++ b) p ∙ append_assoc s a b
 last_two (Err e) s t u a b p q = tt
 
--- the last one as `push_str` tells it
+-- the last one by the contract of `push_str`
 pub pushed_two : {A E : Type 0} (result : Result A E) (s t u a b : List ℕ) → t ≡ s ++ a → u ≡ (if is_ok result then t ++ b else t) → OnOk result (u ≡ s ++ (a ++ b))
 pushed_two (Ok x) s t u a b p q = q ∙ ap (λ x. x ++ b) p ∙ append_assoc s a b
 pushed_two (Err e) s t u a b p q = tt
@@ -31,7 +31,7 @@ pub last_three : {A E : Type 0} (result : Result A E) (s t u v a b c : List ℕ)
 last_three (Ok x) s t u v a b c p q r = three s t u v a b c p q r
 last_three (Err e) s t u v a b c p q r = tt
 
--- the last one as `push_str` tells it
+-- the last one by the contract of `push_str`
 pub pushed_three : {A E : Type 0} (result : Result A E) (s t u v a b c : List ℕ) → t ≡ s ++ a → u ≡ t ++ b → v ≡ (if is_ok result then u ++ c else u) → OnOk result (v ≡ s ++ (a ++ (b ++ c)))
 pushed_three (Ok x) s t u v a b c p q r = three s t u v a b c p q r
 pushed_three (Err e) s t u v a b c p q r = tt

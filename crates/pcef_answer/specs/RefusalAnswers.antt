@@ -68,12 +68,12 @@ refusal_name PoolUp = codes "PoolUp"
 refusal_name PoolDown = codes "PoolDown"
 refusal_name NoMemory = codes "NoMemory"
 
--- how many workers are still attached, where that is why
+-- the number of workers that are still attached, where they are the reason
 abbrev pub refusal_count : Refusal → Option ℕ
 refusal_count (WorkersAttached workers) = Some workers
 refusal_count other = None
 
--- with how many stand in the way
+-- with the number of those in the way
 abbrev pub counted_data : ℕ → List ℕ → ℕ → Data
 counted_data workers name number =
     object (member (codes "count") (count workers)

@@ -52,6 +52,6 @@ abbrev pub reports_data : List Report → Data
 reports_data told = array (items_of (map report_data told))
 
 -- ---- for private clauses
--- the reports that are told from one number to another
+-- the text of the reports from one number to another
 abbrev pub reports_text : Journal → ℕ → ℕ → List ℕ
 reports_text journal first past_last = compact_text (reports_data (reports_between journal first past_last))

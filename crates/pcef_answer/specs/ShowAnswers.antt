@@ -92,7 +92,7 @@ journal_data p j entries =
 abbrev pub ShowsJournal : Setting → Journal → List ℕ → Type 0
 ShowsJournal p j text = (table : TableValue) × Shows p j (gen j) table × (text ≡ compact_text (journal_data p j table.entries))
 
--- what is told of a session by itself
+-- what `show` answers of a session by itself
 abbrev pub ShowsSession : SessionModel → List ℕ → Type 0
 ShowsSession s text = ShowsJournal s.setting s.journal text
 

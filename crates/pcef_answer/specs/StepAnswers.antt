@@ -27,7 +27,7 @@ abbrev pub bearer_before : Option BearerId → Members → Members
 bearer_before None members = members
 bearer_before (Some bearer) members = member (codes "bearer") (count bearer.0) members
 
--- that nothing changed stands last, where it is so
+-- where nothing changed, the member that says so stands last
 abbrev pub unchanged_last : Bool → Members
 unchanged_last true = member (codes "unchanged") (boolean true) no_members
 unchanged_last false = no_members
@@ -47,7 +47,7 @@ unfoldable pub command_text : Journal → Result Accepted Refusal → List ℕ
 command_text journal (Ok accepted) = compact_text (accepted_data journal accepted)
 command_text journal (Err refusal) = refusal_text refusal
 
--- ---- workers that come, and packets
+-- ---- workers that attach, and packets
 abbrev pub attached_data : ℕ → ℕ → Data
 attached_data generation worker =
     object (member (codes "generation") (count generation)
@@ -126,7 +126,7 @@ abandoned_data abandoned =
     (member (codes "rows") (count abandoned.rows) no_members)))
 
 -- ---- steps
--- the answer to a step, after which the journal and the number of the newest generation are so
+-- the answer to a step, by the journal and the number of the newest generation after it
 abbrev pub step_text : Journal → ℕ → Reply → List ℕ
 step_text journal generation (command_reply answer) = command_text journal answer
 step_text journal generation (attach_reply answer) = attached_text generation answer

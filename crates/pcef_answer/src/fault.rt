@@ -12,7 +12,7 @@ use crate::written::{push_count, push_word};
 use pcef_line::{Field, LineFault};
 use std::alloc::{AllocError, Global};
 
-// the last member of each answer
+// Appends the last member of each answer.
 fn push_last(text: &mut String, fault: LineFault) -> Result<(), AllocError>
     ensures { OnOk result (GoesOn text.old text.new (name_ending (fault_name fault))) }
 {
@@ -63,8 +63,8 @@ fn push_fault(text: &mut String, fault: LineFault) -> Result<(), AllocError>
     }
 }
 
-/// The answer to a line with this fault: its number and name, its field where it has one, and the
-/// number of the inner fault where there is one.
+/// The answer to a line with this fault: its number and name, its field where it has one, and the number of the inner
+/// fault where there is one.
 pub fn fault_text(alloc: Global, fault: LineFault) -> Result<String, AllocError>
     ensures { IfOk result (λ text. string_bytes text ≡ fault_text fault) }
 {

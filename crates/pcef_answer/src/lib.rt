@@ -1,6 +1,6 @@
 //! The texts of answers: compact JSON, whose keys stand in the order of their octets, without the line feed.
 //!
-//! Its contracts say: the text of what was answered, of a fault and of how a session stands.
+//! Its contracts say: the text of an answer, of a fault and of a session's state.
 //!
 //! In the order of reading: `report`, `written`, `fault`, `show`, `refusal`, `step`.
 #![tactic(auto)]

@@ -10,7 +10,7 @@ use crate::written::{push_count, push_word};
 use pcef_model::{AttachFault, FlushRefusal, Refusal};
 use std::alloc::{AllocError, Global};
 
-// the front ends with the quotation mark before the name
+// `front` ends with the quotation mark before the name.
 fn push_refused(text: &mut String, front: &str, name: &str, number: u8) -> Result<(), AllocError>
     requires { escape name.now ≡ name.now }
     ensures { OnOk result (GoesOn text.old text.new
@@ -22,7 +22,7 @@ fn push_refused(text: &mut String, front: &str, name: &str, number: u8) -> Resul
     text.push_str("}")
 }
 
-/// A refusal by its name and number.
+/// The answer with a refusal's name and number.
 pub(crate) fn refused_answer(alloc: Global, name: &str, number: u8) -> Result<String, AllocError>
     requires { escape name.now ≡ name.now }
     ensures { IfOk result (λ text. string_bytes text ≡ refused_text name.now number) }
@@ -32,7 +32,7 @@ pub(crate) fn refused_answer(alloc: Global, name: &str, number: u8) -> Result<St
     Ok(text)
 }
 
-/// A step of a worker that isn't attached.
+/// The answer to a step of a worker that isn't attached.
 #[tactic(auto, unfolding(crate::specs::RefusalAnswers::no_worker_text, json::specs::Print::escape_byte))]
 pub(crate) fn no_worker_answer(alloc: Global) -> Result<String, AllocError>
     ensures { IfOk result (λ text. string_bytes text ≡ no_worker_text) }
@@ -40,7 +40,7 @@ pub(crate) fn no_worker_answer(alloc: Global) -> Result<String, AllocError>
     refused_answer(alloc, "NoWorker", 0)
 }
 
-/// A refused command.
+/// The answer to a refused command.
 pub(crate) fn refusal_answer(alloc: Global, refusal: Refusal) -> Result<String, AllocError>
     ensures { IfOk result (λ text. string_bytes text ≡ refusal_text refusal) }
 {
@@ -68,7 +68,7 @@ fn push_counted(text: &mut String, count: u8, name: &str, number: u8) -> Result<
     push_refused(text, ",\"name\":\"", name, number)
 }
 
-/// A refused `attach`.
+/// The answer to a refused `attach`.
 #[tactic(auto, unfolding(crate::specs::RefusalAnswers::attach_fault_text, json::specs::Print::escape_byte))]
 pub(crate) fn attach_fault_answer(alloc: Global, fault: AttachFault) -> Result<String, AllocError>
     ensures { IfOk result (λ text. string_bytes text ≡ attach_fault_text fault) }
@@ -80,7 +80,7 @@ pub(crate) fn attach_fault_answer(alloc: Global, fault: AttachFault) -> Result<S
     }
 }
 
-/// A refused `flush`.
+/// The answer to a refused `flush`.
 #[tactic(auto, unfolding(crate::specs::RefusalAnswers::flush_refusal_text, json::specs::Print::escape_byte))]
 pub(crate) fn flush_refusal_answer(
     alloc: Global,

@@ -90,7 +90,7 @@ fn push_inactive(
     push_last(text, number, ",\"rule\":\"", rule.as_str())
 }
 
-// the number, and a name as the last member
+// Appends the number, and a name as the last member.
 fn push_last(text: &mut String, number: u64, front: &str, name: &str) -> Result<(), AllocError>
     requires { IsName name.now }
     ensures { OnOk result (GoesOn text.old text.new
@@ -122,7 +122,8 @@ fn push_list(text: &mut String, reports: Reports<'_>) -> Result<(), AllocError>
     text.push_str("]")
 }
 
-/// The reports of a journal from a number on, of which none is forgotten, if it is before the other one, else none.
+/// Appends the reports of a journal from `first` up to its end where `first` is below `past_last`, else none. The
+/// journal has forgotten none of them.
 pub(crate) fn push_reports(
     text: &mut String,
     journal: &Journal,
@@ -140,8 +141,8 @@ pub(crate) fn push_reports(
     }
 }
 
-/// The reports of a journal from this number on, of which none is forgotten, the oldest first: a JSON array. Takes
-/// memory for the text.
+/// The reports of a journal from `first` on, the oldest first: a JSON array. The journal has forgotten none of them.
+/// Takes memory for the text.
 pub fn reports_answer(alloc: Global, journal: &Journal, first: u64) -> Result<String, AllocError>
     requires { journal.now.forgotten ≤ first }
     ensures { IfOk result (λ text. string_bytes text

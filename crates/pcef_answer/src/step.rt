@@ -15,8 +15,8 @@ use pcef_session::BatchFull;
 use pcef_world::StepAnswer;
 use std::alloc::{AllocError, Global};
 
-/// The answer to a step that was made: what was answered, with the reports that the journal after it has for it, of
-/// which none is forgotten, and the number of the newest generation where a worker came.
+/// The answer to a step that was made, with the reports that it made, from the journal after it, which has forgotten
+/// none of them. The answer to an `attach` has the number of the newest generation.
 pub fn step_answer(
     alloc: Global,
     journal: &Journal,
@@ -39,7 +39,7 @@ pub fn step_answer(
     }
 }
 
-/// What a session answered to a command, with the reports that its journal has for it.
+/// The answer to a command, with the reports that the command made, from the session's journal.
 pub fn command_answer(
     alloc: Global,
     journal: &Journal,
@@ -55,7 +55,7 @@ pub fn command_answer(
     }
 }
 
-// A worker comes in this generation.
+// The answer to an `attach`: the worker starts in this generation.
 fn attached_answer(
     alloc: Global,
     generation: u32,
@@ -78,7 +78,7 @@ fn taken_answer(alloc: Global, answer: &Result<u8, BatchFull>) -> Result<String,
     }
 }
 
-// The verdicts, with the reports that the journal has for them.
+// The verdicts, with the reports that they made, from the journal.
 fn flushed_answer(
     alloc: Global,
     journal: &Journal,
@@ -94,7 +94,7 @@ fn flushed_answer(
     }
 }
 
-// The verdicts, with the reports that the journal has for them, and the length of the worker's lane.
+// The verdicts, with the reports that they made, from the journal, and the length of the worker's lane.
 fn finished_answer(
     alloc: Global,
     journal: &Journal,

@@ -1,4 +1,4 @@
-//! The answers to steps, written piece by piece: no JSON value stands between.
+//! The answers to steps, written piece by piece: no JSON value is built.
 
 ghost use Rattle.std.specs.Prelude.{◌≡◌, ◌++◌, ◌<◌, ◌≤◌, ◌||◌, ◌==◌, IfOk, true, OnOk, codes, decimal, string_bytes};
 ghost use Rattle.std.specs.Bool.{OnTrue};
@@ -19,7 +19,7 @@ use pcef_rule::{BearerId, RuleName};
 use pcef_world::Abandoned;
 use std::alloc::{AllocError, Global};
 
-/// The answer to a command that was accepted, with the reports that the journal has for it.
+/// The answer to an accepted command, with the reports that it made, from the journal.
 pub(crate) fn text_of_accepted(
     alloc: Global,
     journal: &Journal,
@@ -83,7 +83,7 @@ fn push_end(text: &mut String, unchanged: bool) -> Result<(), AllocError>
     }
 }
 
-/// The answer to a worker that comes in this generation.
+/// The answer to an `attach`: the worker starts in this generation.
 pub(crate) fn text_of_attach(
     alloc: Global,
     generation: u32,
@@ -98,7 +98,7 @@ pub(crate) fn text_of_attach(
     Ok(text)
 }
 
-/// The answer to a worker that holds this generation then.
+/// The answer to a `refresh`, after which the worker holds this generation.
 pub(crate) fn text_of_refresh(alloc: Global, generation: u32) -> Result<String, AllocError>
     ensures { IfOk result (λ text. string_bytes text ≡ compact_text (refreshed_data generation)) }
 {
@@ -108,7 +108,7 @@ pub(crate) fn text_of_refresh(alloc: Global, generation: u32) -> Result<String, 
     Ok(text)
 }
 
-/// How many rows waited, and the length of the worker's lane.
+/// The answer to an `abandon`: how many rows waited, and the length of the worker's lane.
 pub(crate) fn text_of_abandon(alloc: Global, abandoned: Abandoned) -> Result<String, AllocError>
     ensures { IfOk result (λ text. string_bytes text ≡ compact_text (abandoned_data abandoned)) }
 {
@@ -118,7 +118,7 @@ pub(crate) fn text_of_abandon(alloc: Global, abandoned: Abandoned) -> Result<Str
     Ok(text)
 }
 
-/// The answer to a packet that was taken.
+/// The answer to a packet that was taken: how many rows wait.
 pub(crate) fn text_of_take(alloc: Global, waiting: u8) -> Result<String, AllocError>
     ensures { IfOk result (λ text. string_bytes text ≡ compact_text (taken_data waiting)) }
 {
@@ -127,7 +127,7 @@ pub(crate) fn text_of_take(alloc: Global, waiting: u8) -> Result<String, AllocEr
     Ok(text)
 }
 
-/// The answer to a flush: its verdicts, with the reports that the journal has for them.
+/// The answer to a flush: its verdicts, with the reports that they made, from the journal.
 pub(crate) fn text_of_flush(
     alloc: Global,
     journal: &Journal,
@@ -152,7 +152,7 @@ pub(crate) fn text_of_flush(
     Ok(text)
 }
 
-/// The answer to a finish: as that to a flush, and the length of the worker's lane.
+/// The answer to a finish: that to a flush, and the length of the worker's lane.
 pub(crate) fn text_of_finish(
     alloc: Global,
     journal: &Journal,
@@ -245,7 +245,7 @@ fn push_passed(
     push_rule(text, rule, "\",\"verdict\":\"Passed\"}")
 }
 
-// the end begins with the quotation mark behind the name
+// `end` begins with the quotation mark behind the name.
 fn push_rule(text: &mut String, rule: &RuleName, end: &str) -> Result<(), AllocError>
     ensures { OnOk result (GoesOn text.old text.new
         (codes ",\"rule\":\"" ++ (escape rule.now ++ end.now))) }
@@ -255,7 +255,7 @@ fn push_rule(text: &mut String, rule: &RuleName, end: &str) -> Result<(), AllocE
     text.push_str(end)
 }
 
-/// A name behind a front that ends with the quotation mark before it.
+/// Appends a name behind a front, which ends with the quotation mark before it.
 pub(crate) fn push_name(text: &mut String, front: &str, name: &str) -> Result<(), AllocError>
     requires { IsName name.now }
     ensures { OnOk result (GoesOn text.old text.new
@@ -266,7 +266,7 @@ pub(crate) fn push_name(text: &mut String, front: &str, name: &str) -> Result<()
     text.push_str("\"")
 }
 
-/// A word that needs no escape, behind a front that ends with the quotation mark before it.
+/// Appends a word that needs no escape behind a front, which ends with the quotation mark before it.
 pub(crate) fn push_word(text: &mut String, front: &str, word: &str) -> Result<(), AllocError>
     requires { escape word.now ≡ word.now }
     ensures { OnOk result (GoesOn text.old text.new
@@ -289,7 +289,7 @@ fn push_escaped(text: &mut String, name: &str) -> Result<(), AllocError>
     }
 }
 
-// most names are
+// Whether a name needs no escape. Most names need none.
 fn is_plain(name: &str) -> bool
     requires { IsName name.now }
     ensures { OnTrue result (escape name.now ≡ name.now) }
@@ -330,14 +330,14 @@ fn push_byte(text: &mut String, byte: u8) -> Result<(), AllocError>
     }
 }
 
-/// A comma between an item and the one before it.
+/// Appends the comma before an item, unless it is the first.
 pub(crate) fn push_comma(text: &mut String, later: bool) -> Result<(), AllocError>
     ensures { OnOk result (GoesOn text.old text.new (comma_if later)) }
 {
     if later { text.push_str(",") } else { Ok(()) }
 }
 
-/// A number behind a front. Inlined, so that a front of known length is copied without a call.
+/// Appends a number behind a front. Inlined, so that a front of known length is copied without a call.
 #[inline(always)]
 pub(crate) fn push_count(text: &mut String, front: &str, number: u64) -> Result<(), AllocError>
     ensures { OnOk result (GoesOn text.old text.new (front.now ++ decimal number)) }
@@ -346,7 +346,7 @@ pub(crate) fn push_count(text: &mut String, front: &str, number: u64) -> Result<
     push_number(text, number)
 }
 
-/// A number behind a front, as the last member.
+/// Appends a number behind a front, as the last member.
 #[inline(always)]
 pub(crate) fn push_last_count(text: &mut String, front: &str, number: u64) -> Result<(), AllocError>
     ensures { OnOk result (GoesOn text.old text.new
@@ -368,7 +368,7 @@ fn push_number(text: &mut String, number: u64) -> Result<(), AllocError>
     }
 }
 
-// most numbers of an answer have one digit or two, and need no buffer
+// Most numbers of an answer have one digit or two, and need no buffer.
 fn push_two_digits(text: &mut String, number: u8) -> Result<(), AllocError>
     requires { (10 ≤ number) × (number < 100) }
     ensures { OnOk result (GoesOn text.old text.new (decimal number)) }

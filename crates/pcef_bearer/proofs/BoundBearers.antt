@@ -305,7 +305,7 @@ pub next_id : (p : Setting) (g : Generation) (c : Command) (r : Active) (id : �
 next_id p g c r id makes bound found =
     (put_bound p g (next p g c) r id bound found (makes.rules_are g) (λ q. ap (λ (rules : List Active). id_after p g rules q) (makes.rules_are g))).1
 
--- some rules are taken away, and the others stay
+-- some rules are removed, and the others stay
 pub next_left : (p : Setting) (g : Generation) (c : Command) → activated p c ≡ None → IsBound p g →
     binding_of p (next p g c) ≡ with_rules (binding_of p g) (filter (λ b. not (takes_away c b.name b.bearer.0)) (binding_of p g).bound)
 next_left p g c none bound =

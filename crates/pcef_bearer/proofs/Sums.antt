@@ -54,7 +54,7 @@ past_down p [] (suc i) past = refl
 past_down p (b ∷ bound) zero past = absurd (omega (arith, past))
 past_down p (b ∷ bound) (suc i) past = past_down p bound i (omega (arith, past))
 
--- a part has no more than all
+-- the sum of a part is at most that of all
 pub part_up : (p : Bound → Bool) (bound : List Bound) → total_up (filter p bound) ≤ total_up bound
 unfolding sum_up
 part_up p [] = omega arith

@@ -96,7 +96,7 @@ abbrev pub guaranteed : ℕ → List Bound → Option Sums
 guaranteed id bound =
     if is_present id bound then Some (record { up = total_up (rules_on id bound); down = total_down (rules_on id bound) }) else None
 
--- what a rule leaves that is no longer bound: a bearer ends that isn't present beside the rules that stay
+-- what is left of a rule that is no longer bound: its bearer ends where the rules that stay aren't on it
 abbrev pub released : Option Bound → List Bound → Option Released
 released None others = None
 released (Some b) others = Some (record { bearer = b.bearer; ended = not (is_present b.bearer.0 others) })
@@ -143,16 +143,16 @@ id_for v name q = id_excluding v.default_qos v.bound (without name v.bound) q
 abbrev pub first_refusal : Binding → List ℕ → Qos → Option Rates → Option Refusal
 first_refusal v name q rates = first_of (refusals v (without name v.bound) q rates)
 
--- a binding of which nothing is bound yet
+-- a binding without bound rules
 abbrev pub empty_binding : Qos → Sums → List (Option Kind) → Binding
 empty_binding default_qos capacity qcis =
     record { default_qos = default_qos; capacity = capacity; qcis = qcis; bound = [] }
 
--- what the rule of a name leaves, where one is bound
+-- what is left of the rule of a name, where one is bound
 abbrev pub left_by : List ℕ → List Bound → Option Released
 left_by name bound = released (find (is_named name) bound) (without name bound)
 
--- the rules that a command doesn't take away
+-- the rules that a command keeps
 abbrev pub kept_by : Command → List Bound → List Bound
 kept_by command bound = filter (λ b. not (takes_away command b.name b.bearer.0)) bound
 
@@ -178,7 +178,7 @@ Agree a b = same_qos a.qos b.qos ≡ (a.bearer.0 == b.bearer.0)
 abbrev pub DifferInName : Bound → Bound → Type 0
 DifferInName a b = same_name a.name b.name ≡ false
 
--- the default pair is on the default bearer, and another one on another bearer
+-- the default pair is on the default bearer, and any other pair on another bearer
 abbrev pub HasItsId : Qos → Bound → Type 0
 HasItsId default b =
     (same_qos b.qos default ≡ true → b.bearer.0 ≡ default_id)

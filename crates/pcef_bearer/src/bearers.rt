@@ -36,7 +36,7 @@ pub struct Bound {
 /// Memory for rules that are bound later.
 pub type Places = pcef_lists::Places<Bound>;
 
-/// What a rule leaves that is no longer bound.
+/// What is left of a rule that is no longer bound.
 #[derive(Clone, Copy, Debug, PartialEq, Eq)]
 pub struct Released {
     /// The bearer that it was bound to.
@@ -46,7 +46,7 @@ pub struct Released {
 }
 
 /// The bearers of a session, and the rules that are bound to them. Two rules are on one bearer exactly where they have
-/// the same QCI and the same ARP (TS 23.203, clause 6.1.1.4). What is bound takes memory rule by rule: see [`Places`].
+/// the same QCI and the same ARP (TS 23.203, clause 6.1.1.4). Memory is taken for each bound rule: see [`Places`].
 pub struct Bearers {
     alloc: Global,
     default_qos: Qos,
@@ -55,7 +55,7 @@ pub struct Bearers {
     bound: Vec<Bound>,
 }
 
-// Written out, so that an owner proves one call at each way out.
+// Written out, so that an owner proves one call on each return path.
 impl Drop for Bearers {
     fn drop(self) {
         let Bearers {
@@ -120,8 +120,8 @@ fn has_unwanted_rates(kind: Option<Kind>, rates: Option<Rates>) -> bool
 }
 
 impl Bearers {
-    /// The default bearer for this pair of QCI and ARP, up to this capacity, or the first fault in the
-    /// order of [`OpenFault`]. Takes no memory, so it is never out of it.
+    /// The default bearer for this pair of QCI and ARP, with this capacity in bit/s, or the first fault in the order of
+    /// [`OpenFault`]. Takes no memory, so it is never `NoMemory`.
     pub fn new(
         alloc: Global,
         default_qos: Qos,
@@ -148,9 +148,8 @@ impl Bearers {
         }
     }
 
-    /// The rules that are bound. What always holds of a binding holds of them: at most 64 rules, with
-    /// names of their own, of which two are on one bearer exactly where they have the same pair, with sums
-    /// within the capacity.
+    /// The rules that are bound: at most 64, with distinct names. Two of them are on one bearer exactly where they have
+    /// the same pair, and the sums of their rates are within the capacity.
     pub fn bound(&self) -> &[Bound]
         ensures bound { result.now ≡ self.now.bound }
         ensures binding { IsBinding self.now }
@@ -165,16 +164,16 @@ impl Bearers {
         has_name(&self.bound, name)
     }
 
-    /// Why a rule of this name can't be bound with this pair and these rates, if it can't. What is bound
-    /// under its name doesn't count.
+    /// Why a rule of this name can't be bound with this pair and these rates, if it can't. A rule that is bound under
+    /// its name doesn't count.
     pub fn refusal(&self, name: &RuleName, qos: Qos, rates: Option<Rates>) -> Option<Refusal>
         ensures { result ≡ first_refusal self.now name.now qos rates }
     {
         self.refusal_excluding(name, &qos, rates)
     }
 
-    /// Why the rates of all rules would be over a room with a rule of this name and these rates, if they would. What is
-    /// bound under its name doesn't count.
+    /// Why the rates of all rules would exceed a room with a rule of this name and these rates, if they would. A rule
+    /// that is bound under its name doesn't count.
     pub fn room_refusal(&self, name: &RuleName, rates: Option<Rates>, room: Sums) -> Option<Refusal>
         ensures { result ≡ first_of (over_room room (total_with self.now name.now rates)) }
     {
@@ -196,8 +195,8 @@ impl Bearers {
         sums_of_all(&self.bound)
     }
 
-    /// The bearer that a rule of this name gets by this pair: the one of the pair, or else the least id
-    /// that no other rule is on.
+    /// The bearer that a rule of this name gets by this pair: the one of the pair, or else the least id that no other
+    /// rule is on.
     pub fn bearer_for(&self, name: &RuleName, qos: Qos) -> Option<BearerId>
         ensures { number_of result ≡ id_for self.now name.now qos }
     {
@@ -272,8 +271,8 @@ impl Bearers {
         Ok(bearer)
     }
 
-    /// Binds a rule that isn't bound, and gives its bearer, or the first refusal in the order of
-    /// [`Refusal`]: the last is [`Refusal::NoMemory`].
+    /// Binds a rule that isn't bound, and returns its bearer, or the first refusal in the order of [`Refusal`]: the
+    /// last is [`Refusal::NoMemory`].
     pub fn bind(
         &mut self,
         name: RuleName,
@@ -297,9 +296,9 @@ impl Bearers {
         }
     }
 
-    /// Binds a rule anew that is bound, and gives its bearer, or the first refusal in the order of
-    /// [`Refusal`], which changes nothing. A pair that stays keeps its bearer, and a new pair may get
-    /// the bearer that the rule leaves. Takes no memory.
+    /// Binds a bound rule anew, and returns its bearer, or the first refusal in the order of [`Refusal`], which changes
+    /// nothing. A rule whose pair stays keeps its bearer; with a new pair it may get the bearer that it leaves. Takes
+    /// no memory.
     pub fn rebind(
         &mut self,
         name: RuleName,
@@ -315,8 +314,8 @@ impl Bearers {
         self.set(name, &qos, rates, Places::none(self.alloc))
     }
 
-    /// Binds a rule, anew where it is bound, to the bearer that [`Bearers::bearer_for`] gives for it.
-    /// [`Bearers::refusal`] finds nothing against it. Judges nothing again, and takes no memory but these places.
+    /// Binds a rule, anew where it is bound, to the bearer that [`Bearers::bearer_for`] gives, where
+    /// [`Bearers::refusal`] finds nothing against it. Checks nothing again, and takes no memory but `places`.
     pub fn bind_to(
         &mut self,
         name: RuleName,
@@ -340,8 +339,7 @@ impl Bearers {
         put(&mut self.bound, places, new);
     }
 
-    /// Drops the rule of this name, and tells what it leaves, or `None` where no rule of this name is
-    /// bound.
+    /// Drops the rule of this name, and returns what it leaves, or `None` where no rule of this name is bound.
     pub fn unbind(&mut self, name: &RuleName) -> Option<Released>
         ensures released { result ≡ left_by name.now self.old.bound }
         ensures bound { self.new ≡ with_rules self.old (without name.now self.old.bound) }
@@ -354,7 +352,7 @@ impl Bearers {
         Some(Released { bearer, ended })
     }
 
-    /// Drops the rules that a command takes away. Takes no memory.
+    /// Drops the rules that a command removes. Takes no memory.
     pub fn take_away(&mut self, command: &Command)
         ensures { self.new ≡ with_rules self.old (kept_by command.now self.old.bound) }
     {

@@ -11,7 +11,7 @@ use pcef_rule::{BearerId, Qos, RuleName};
 /// The id of the default bearer.
 pub const DEFAULT_BEARER: BearerId = BearerId(5);
 
-/// Whether a rule other than the one of this name is on the bearer of this id.
+/// Whether the bearer of this id carries a rule other than the one of this name.
 fn is_used_excluding(name: &RuleName, bound: &[Bound], id: u8) -> bool
     ensures { result ≡ list_any (λ b. id == b.bearer.0) (without name.now bound.now) }
 {
@@ -23,7 +23,7 @@ fn is_used_excluding(name: &RuleName, bound: &[Bound], id: u8) -> bool
     false
 }
 
-/// The first of these ids that no rule other than the one of this name is on.
+/// The first of these ids whose bearer carries no rule other than the one of this name.
 fn first_free(ids: &[u8], name: &RuleName, bound: &[Bound]) -> Option<BearerId>
     ensures { number_of result ≡ first_unused ids.now (without name.now bound.now) }
 {
@@ -35,14 +35,14 @@ fn first_free(ids: &[u8], name: &RuleName, bound: &[Bound]) -> Option<BearerId>
     None
 }
 
-/// The least id that no rule other than the one of this name is on.
+/// The least id whose bearer carries no rule other than the one of this name.
 pub(crate) fn least_free(name: &RuleName, bound: &[Bound]) -> Option<BearerId>
     ensures { number_of result ≡ least_free (without name.now bound.now) }
 {
     first_free(&[6, 7, 8, 9, 10, 11, 12, 13, 14, 15], name, bound)
 }
 
-/// The id that a binding of this name to this pair gives.
+/// The id of the bearer that a rule of this name gets by this pair.
 pub(crate) fn id_excluding(
     default: &Qos,
     name: &RuleName,
@@ -61,7 +61,7 @@ pub(crate) fn id_excluding(
     }
 }
 
-/// Whether this pair has no bearer beside the rule of this name, and none is free for it.
+/// Whether, without the rule of this name, this pair has no bearer and no id is free for one.
 pub(crate) fn finds_no_bearer(default: &Qos, name: &RuleName, bound: &[Bound], qos: &Qos) -> bool
     ensures { result ≡ finds_no_bearer default.now (without name.now bound.now) qos.now }
 {

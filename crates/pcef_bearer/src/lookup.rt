@@ -95,7 +95,7 @@ pub(crate) fn drop_named(bound: &mut Vec<Bound>, name: &RuleName)
     );
 }
 
-/// Drops the rules that a command takes away.
+/// Drops the rules that a command removes.
 pub(crate) fn drop_taken(bound: &mut Vec<Bound>, command: &Command)
     ensures { bound.new.items ≡ kept_by command.now bound.old.items }
 {
@@ -106,7 +106,7 @@ pub(crate) fn drop_taken(bound: &mut Vec<Bound>, command: &Command)
     );
 }
 
-/// Puts a rule in the place of the one of its name, or behind all others, which move to these places with it.
+/// Puts a rule in the place of the one of its name, or behind all others: then all move to `places` with it.
 pub(crate) fn put(bound: &mut Vec<Bound>, places: Places, new: Bound)
     requires { HasRoom new.name places bound.old.items }
     ensures { bound.new.items ≡ put new bound.old.items }

@@ -1,4 +1,4 @@
--- What no rows count.
+-- The counts of no rows.
 use Rattle.std.proofs.Common.{◌≡◌, ℕ, List, [], refl}
 use Rattle.pcef_session.specs.declared.batch.Item.{Item}
 use Rattle.pcef_lock.specs.Counting.{with_items}

@@ -11,7 +11,7 @@ pub fn words(rt: &HostRuntime) -> io::Result<Vec<String>> {
     Ok(words)
 }
 
-/// The number that a word is.
+/// The number in a word, or none.
 pub fn number(word: &String) -> Option<u32> {
     word.as_str().parse::<u32>().ok()
 }

@@ -1,14 +1,14 @@
-//! What a packet's verdict takes: recorded packets are judged by a table of rules, again and again, by the index or by
-//! a linear scan.
+//! Measures the time of a packet's verdict: recorded packets are judged by a table of rules, again and again, by the
+//! index or by a linear scan.
 //!
-//! `classify RULES PACKETS PASSES [ADDRESS] [scan]`. RULES has a line for each filter,
-//! `NAME PRECEDENCE FLOW TEXT`, where FLOW is a flow word or `-`, and the filters of a rule stand together.
-//! PACKETS has a count of four octets, and for each packet its length in two octets, its direction (0 uplink,
-//! 1 downlink) and its octets, little endian. With PASSES 0 the verdict on each packet is written, one a line,
-//! else how many packets of all passes went which way. ADDRESS is the session's, of either version; without
-//! it the session has 10.0.0.2. With `scan` no index is asked.
+//! `classify RULES PACKETS PASSES [ADDRESS] [scan]`. RULES has a line for each filter, `NAME PRECEDENCE FLOW TEXT`,
+//! where FLOW is a flow word or `-`, and the filters of a rule stand together. PACKETS has a count of four octets, and
+//! for each packet its length in two octets, its direction (0 uplink, 1 downlink) and its octets, little endian. PASSES
+//! is how often all packets are judged; then the count of each kind of verdict over all passes is written. With PASSES
+//! 0 the verdict on each packet is written, one a line. ADDRESS is the session's, of either version, 10.0.0.2 by
+//! default. With `scan` no index is asked.
 //!
-//! `classify RULES build TIMES` builds the index so many times, and writes the number of rules.
+//! `classify RULES build TIMES` builds the index TIMES times, and writes the number of rules.
 
 mod packets;
 mod rules;
@@ -25,13 +25,13 @@ use std::alloc::AllocError;
 use std::fs;
 use std::io::{self, BufWriter, Write};
 
-/// The session's address where no word gives one: 10.0.0.2.
+/// The session's address where none is given: 10.0.0.2.
 const UE: Addr = Addr::V4(0x0A00_0002);
 
 /// How the packets are judged.
 #[derive(Clone, Copy)]
 struct Work {
-    /// How many times, or 0 for the verdict on each.
+    /// How many times each packet is judged, or 0 for the verdict on each.
     passes: u32,
     /// The session's address.
     ue: Addr,
@@ -44,7 +44,8 @@ fn address_of(word: &String) -> Option<Addr> {
     Addr::from_text(word.as_bytes())
 }
 
-/// Builds the index of the rules of a file again and again, or tells that these are none.
+/// Builds the index of the rules of a file `times` times, and writes the number of rules. False where the rules can't
+/// be read.
 fn build(rt: &HostRuntime, catalog: &Catalog, rules: &str, times: u32) -> io::Result<bool> {
     let text = fs::read_to_string(rt, rules)?;
     let mut writer = io::writer(rt);
@@ -58,7 +59,8 @@ fn build(rt: &HostRuntime, catalog: &Catalog, rules: &str, times: u32) -> io::Re
     Ok(true)
 }
 
-/// Judges recorded packets so many times, and writes how many went which way, or the verdict on each packet.
+/// Judges the recorded packets `passes` times, and writes the count of each kind of verdict; or, with 0, the verdict on
+/// each packet.
 fn judge<W: Write>(
     catalog: &Catalog,
     rules: &Indexed,
@@ -99,7 +101,7 @@ fn judge_file(
     writer.flush()
 }
 
-/// Judges the packets of one file by the rules of another, or tells that these are none.
+/// Judges the packets of one file by the rules of another. False where the rules can't be read.
 fn run(
     rt: &HostRuntime,
     catalog: &Catalog,
@@ -116,7 +118,7 @@ fn run(
     Ok(true)
 }
 
-/// Does what the words ask for, or tells that they ask for nothing.
+/// Does what the words ask for. False where they ask for nothing.
 fn do_as_asked(rt: &HostRuntime, catalog: &Catalog, words: &[String]) -> io::Result<bool> {
     let (rules, packets, passes, ue, way) = match words {
         [rules, packets, passes] => (rules, packets, passes, Some(UE), Way::Index),
@@ -142,7 +144,7 @@ fn do_as_asked(rt: &HostRuntime, catalog: &Catalog, words: &[String]) -> io::Res
     run(rt, catalog, rules.as_str(), packets.as_str(), work)
 }
 
-/// Judges packets or builds the index, as the words ask, or tells that they ask for nothing.
+/// Judges packets or builds the index, as the words ask. False where they ask for nothing.
 pub fn measure(rt: &HostRuntime, words: &[String]) -> io::Result<bool> {
     let Ok(catalog) = Catalog::new(rt.alloc(), Vec::new(rt.alloc())) else {
         return Err(AllocError.into());

@@ -1,4 +1,4 @@
-//! What the parts of a run took, by the clock.
+//! The times of the parts of a run, by the clock.
 
 use std::alloc::AllocError;
 use std::io;
@@ -18,7 +18,7 @@ impl Lap {
         })
     }
 
-    /// Looks again, and answers what passed since the last look, in nanoseconds. The next lap begins with this look.
+    /// Looks again, and returns the nanoseconds since the last look. The next lap begins with this look.
     pub fn end<K: Clock>(&mut self, clock: &K) -> io::Result<u64> {
         let now = Instant::now(clock)?;
         let passed = now.saturating_duration_since(self.from);
@@ -28,13 +28,13 @@ impl Lap {
     }
 }
 
-/// What stands at so many hundredths of the way from the least to the greatest, where all are in order.
+/// The time at `hundredths` of the way from the least to the greatest. `passed` is in order.
 fn at(passed: &[u64], hundredths: usize) -> u64 {
     let place = passed.len().saturating_mul(hundredths) / 100;
     passed.get(place).copied().unwrap_or(0)
 }
 
-/// The least, the median and the ninetieth of a hundred.
+/// The least, the median and the 90th percentile.
 pub fn spread(mut passed: Vec<u64>) -> Result<[u64; 3], AllocError> {
     passed.sort()?;
     let passed = passed.as_slice();

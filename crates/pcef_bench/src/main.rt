@@ -1,14 +1,14 @@
-//! A program that measures, again and again, what a packet's verdict takes, a refresh, and workers behind a lock.
+//! A program that measures the time of a packet's verdict, of a refresh, and of workers behind a lock, again and again.
 //!
 //! - `pcef_bench classify ..` judges recorded packets by a table of rules, with its index or by a linear scan.
 //! - `pcef_bench refresh ..` publishes tables and refreshes subscribers.
 //! - `pcef_bench workers ..` has workers judge packets and hand them over, each in a thread of its own.
 //!
-//! The module of each measurement says what follows its word. Several measurements come one behind the other, with the
-//! word `then` between two. Their output is the same each time; what passed stands on standard error.
+//! The module of each measurement says what follows its word. The word `then` stands between two measurements. The
+//! output is the same in each run; the times stand on standard error.
 //!
-//! The exit status is 2 where the words ask for nothing that is measured, and 4 where a file can't be read, memory is
-//! out or a thread doesn't start.
+//! The exit status is 2 where the words ask for no measurement, and 4 where a file can't be read, memory is out or a
+//! thread doesn't start.
 #![tactic(auto)]
 
 mod arguments;
@@ -23,7 +23,7 @@ use std::process::ExitCode;
 use std::sync::Wait;
 use std::thread::Threads;
 
-/// Makes the measurement that these words ask for, or tells that they ask for none.
+/// Makes the measurement that these words ask for. False where they ask for none.
 fn measure<T: Threads + Wait + Sync>(
     threads: &T,
     rt: &HostRuntime,
@@ -40,7 +40,7 @@ fn measure<T: Threads + Wait + Sync>(
     }
 }
 
-/// Makes each measurement in turn, up to one that isn't asked for as it should be.
+/// Makes each measurement in turn. False, and no further one is made, where one is asked for wrongly.
 fn measure_each<T: Threads + Wait + Sync>(threads: &T, rt: &HostRuntime) -> io::Result<bool> {
     let words = words(rt)?;
     for asked in words.as_slice().split(|word| word.as_str() == "then") {

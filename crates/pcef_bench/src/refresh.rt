@@ -1,13 +1,13 @@
-//! What a refresh takes: tables are published and subscribers refreshed, again and again.
+//! Measures the time of a refresh: tables are published and subscribers refreshed, again and again.
 //!
-//! `refresh SUBSCRIBERS TABLES REFRESHES` publishes so many empty tables, one after the other, and after each lets each
-//! of so many subscribers refresh so many times. At the end the newest generation and the one that the last subscriber
-//! holds are written.
+//! `refresh SUBSCRIBERS TABLES REFRESHES` publishes TABLES empty tables, one after the other. After each table
+//! each of SUBSCRIBERS subscribers refreshes REFRESHES times. At the end the newest generation is written, and the one
+//! that the last subscriber holds.
 //!
-//! `refresh SUBSCRIBERS TABLES REFRESHES times` tells on standard error, too, what a refresh that finds a newer table
-//! took, what one that finds none, and what the swap of an own `Arc` for the newest table, all of the same subscribers,
-//! tables and run, in turn: of all tables the least, the median and the ninetieth of a hundred, the time of a look at
-//! the clock left out.
+//! `refresh SUBSCRIBERS TABLES REFRESHES times` writes times on standard error, too: of a refresh that finds a newer
+//! table, of one that finds none, and of the swap of an own `Arc` for the newest table. They are taken in turn in one
+//! run, with the same subscribers and tables. Each has the least, the median and the 90th percentile over all tables,
+//! less the time of a look at the clock.
 
 mod times;
 
@@ -76,7 +76,7 @@ fn swap_each(held: &mut [Arc<Indexed>], newest: &Arc<Indexed>) -> Result<(), All
     Ok(())
 }
 
-/// So many owners of a table.
+/// `count` owners of a table.
 fn owners(
     alloc: Global,
     table: &Arc<Indexed>,
@@ -89,7 +89,8 @@ fn owners(
     Ok(owners)
 }
 
-/// Refreshes all subscribers, and swaps as many owners, each after a look at the clock.
+/// Times one refresh of all subscribers that finds a newer table, one that finds none, the swap of as many owners, and
+/// a look at the clock.
 fn time_each<N: Naming, C: Clock>(
     clock: &C,
     subscribers: &mut [Subscriber<N>],
@@ -108,7 +109,7 @@ fn time_each<N: Naming, C: Clock>(
     Ok(())
 }
 
-/// What was reached in the end, and what it took.
+/// The outcome: the generations at the end, and the times.
 #[derive(Clone, Copy)]
 struct Reached {
     newest: u32,
@@ -116,8 +117,8 @@ struct Reached {
     spreads: Spreads,
 }
 
-/// Publishes the next table, and lets each subscriber refresh. Where it is timed, so many owners of tables are swapped
-/// beside them.
+/// Publishes the next table, and lets each subscriber refresh. Where it is timed, as many owners of tables are swapped,
+/// too.
 fn publish_next<N: Naming, W: Board<Cell<N>> + Drop, C: Clock>(
     clock: &C,
     alloc: Global,
@@ -138,7 +139,7 @@ fn publish_next<N: Naming, W: Board<Cell<N>> + Drop, C: Clock>(
     Some(())
 }
 
-/// Publishes all tables: the newest generation, the one that the last subscriber holds, and what it took.
+/// Publishes all tables, and returns the newest generation, the one that the last subscriber holds, and the times.
 fn publish_all<N: Naming, W: Board<Cell<N>> + Drop, C: Clock>(
     clock: &C,
     alloc: Global,
@@ -166,7 +167,7 @@ fn publish_all<N: Naming, W: Board<Cell<N>> + Drop, C: Clock>(
     })
 }
 
-/// What is reached by a publisher of its own.
+/// The outcome with a publisher of its own.
 fn measure_rounds<N: Naming, R: Wait + Drop, C: Clock>(
     rt: R,
     clock: &C,
@@ -187,7 +188,7 @@ fn measure_rounds<N: Naming, R: Wait + Drop, C: Clock>(
     }
 }
 
-/// Tells what one refresh or swap of a kind took, in hundredths of a nanosecond.
+/// Prints the times of one refresh or swap of a kind, in hundredths of a nanosecond.
 fn print_times(rt: &HostRuntime, name: &str, load: Load, rounds: [u64; 3], look: u64) {
     let [least, median, late] = rounds;
     let least = of_each(least, look, load.subscribers);
@@ -196,7 +197,7 @@ fn print_times(rt: &HostRuntime, name: &str, load: Load, rounds: [u64; 3], look:
     let _ = eprintln!(rt; "{name}: least {least}, median {median}, ninetieth {late} (1/100 ns)");
 }
 
-/// Tells what each kind took.
+/// Prints the times of each kind.
 fn print_all(rt: &HostRuntime, load: Load, spreads: Spreads) {
     let [look, _, _] = spreads.clock;
     print_times(rt, "newer", load, spreads.newer, look);
@@ -204,7 +205,7 @@ fn print_all(rt: &HostRuntime, load: Load, spreads: Spreads) {
     print_times(rt, "own Arc", load, spreads.own, look);
 }
 
-/// Publishes and refreshes as the words ask, or tells that they ask for nothing.
+/// Publishes and refreshes as the words ask. False where they ask for nothing.
 pub fn measure<R: Wait>(waiting: &R, rt: &HostRuntime, words: &[String]) -> io::Result<bool> {
     let Some(load) = load_of(words) else {
         return Ok(false);

@@ -1,18 +1,18 @@
-//! What workers of one session reach, beside workers that share nothing: each in a thread of its own, they judge
-//! packets and hand them over.
+//! Measures the throughput of the workers of one session, and of workers that share nothing: each in a thread of its
+//! own, they judge packets and hand them over.
 //!
 //! `workers WORKERS BATCHES RULES` opens a session with 1 to 64 rules behind a lock. Each of 1 to 16 workers attaches,
-//! takes 32 packets and flushes, so many times, and finishes. Then all is gathered, and the rows of the journal and the
-//! octets that were counted for the key of the rules are written.
+//! takes 32 packets and flushes BATCHES times, and finishes. Then all is gathered. The rows of the journal are written,
+//! and the octets that were counted for the key of the rules.
 //!
 //! With a fourth word the workers do something else:
 //!
 //! - `counted`: as without a word, but neither the session nor a worker stores the rows.
-//! - `times`: each flush is timed, and on standard error stand the least, the median and the ninetieth of a hundred.
-//! - `own`: each judges 32 packets by the table that it holds and lets their rows go. Nothing is shared.
+//! - `times`: each flush is timed, and the least, the median and the 90th percentile stand on standard error.
+//! - `own`: each judges 32 packets by the table that it holds and drops their rows. Nothing is shared.
 //! - `read`: as `own`, and each refreshes before it judges 32 packets.
-//!
-//! With the last two no row reaches the session, and the rows that were judged are written. What all workers together
+//! With the last two no row reaches the session, and the count of judged rows is written. The time of all workers
+//! together, in nanoseconds, stands on standard error.
 //! took, in nanoseconds, stands on standard error.
 
 mod alone;
@@ -59,7 +59,7 @@ pub enum Work {
 pub struct Load {
     /// How many workers there are.
     pub workers: u8,
-    /// How many times each has 32 packets.
+    /// How many batches of 32 packets each takes.
     pub batches: u32,
     /// How many rules the session has.
     pub rules: u8,
@@ -101,7 +101,7 @@ fn load_of(words: &[String]) -> Option<Load> {
     load_within(number(workers)?, number(batches)?, number(rules)?, work)
 }
 
-/// What the workers of a session reach.
+/// The outcome of the workers of a session.
 fn measure_rounds<R: Threads + Wait + Sync, K: Clock + Sync>(
     rt: &R,
     clock: &K,
@@ -128,7 +128,7 @@ fn measure_rounds<R: Threads + Wait + Sync, K: Clock + Sync>(
     )
 }
 
-/// What the workers of a session reach that comes behind its lock and takes its rules.
+/// The outcome of the workers of a session, which is put behind its lock and gets its rules.
 fn behind_its_lock<
     C: Detects + Drop + Send + Sync,
     N: Naming + Send + Sync,
@@ -156,7 +156,7 @@ fn behind_its_lock<
     }
 }
 
-/// Has the workers do as the words ask, or tells that they ask for nothing.
+/// Lets the workers do as the words ask. False where they ask for nothing.
 pub fn measure<T: Threads + Wait + Sync>(
     threads: &T,
     rt: &HostRuntime,

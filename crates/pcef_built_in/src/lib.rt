@@ -1,5 +1,5 @@
-//! The three built-in predefined rules, which the program `pcef` and the library for C offer, and `ShapedCatalog`,
-//! which offers them without closures.
+//! The three built-in predefined rules, which the program `pcef` and the library for C offer, and `ShapedCatalog`, a
+//! catalog of them without closures.
 //!
 //! Its contracts say: what each rule is, and that each detects as its shape says.
 //!

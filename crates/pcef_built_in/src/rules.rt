@@ -1,5 +1,4 @@
-//! The rules (own choice). The program makes closures of them in its `main`, which call the functions of this
-//! module.
+//! The rules (own choice). The program makes closures of them in its `main`; these call the functions of this module.
 
 ghost use Rattle.std.specs.Prelude.{◌≡◌, None};
 ghost use Rattle.pcef_catalog.specs.Shapes.{port_between, remote_port, shape_holds};

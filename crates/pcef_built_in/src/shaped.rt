@@ -18,7 +18,7 @@ pub struct ShapedCatalog {
     listing: Listing,
 }
 
-// Written out, so that an owner proves one call at each way out.
+// Written out, so that an owner proves one call on each return path.
 impl Drop for ShapedCatalog {
     fn drop(self) {
         let ShapedCatalog { listing: _ } = self;

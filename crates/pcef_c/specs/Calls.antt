@@ -1,4 +1,4 @@
--- What a call does to what lies at a handle, and the number that it tells (own choice).
+-- What a call does to what lies at a handle, and the number that it returns (own choice).
 use Rattle.std.specs.Prelude.{ℕ, ◌≡◌, List, None, Result, is_some}
 use Rattle.pcef_handle.specs.Answering.{AnswersHandle}
 use Rattle.pcef_handle.specs.Opening.{OpensHandle}
@@ -17,15 +17,15 @@ abbrev pub LineReturns : Handle → List ℕ → List ℕ → Handle → List �
 LineReturns old line before new after told =
     (r : Result ℕ CallRefusal) × AnswersHandle old line before r new after × (told ≡ length_number r)
 
--- the reports from a number on are told, or there is a reason why they aren't; the handle stays as it is
+-- the reports from a number on are written, or there is a reason why they aren't; the handle stays
 abbrev pub ReportsReturn : Handle → ℕ → List ℕ → Handle → List ℕ → ℕ → Type 0
 ReportsReturn old first before new after told =
     (new ≡ old) × (r : Result ℕ CallRefusal) × ReportsHandle old first before r after × (told ≡ length_number r)
 
--- the reports so far are let go, or there is no session
+-- the reports so far are forgotten, or there is no session
 abbrev pub ForgetReturns : Handle → Handle → ℕ → Type 0
 ForgetReturns old new told = (r : Result ℕ CallRefusal) × ForgetsHandle old r new × (told ≡ length_number r)
 
--- there is no session any more, and whether there was one is told
+-- there is no session any more, and the number says whether there was one
 abbrev pub Closes : Handle → Handle → ℕ → Type 0
 Closes old new told = (new.session ≡ None) × (told ≡ number_of (is_some old.session))

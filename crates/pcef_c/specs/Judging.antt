@@ -1,4 +1,4 @@
--- The verdicts that C is told (own choice).
+-- The verdicts that C gets (own choice).
 use Rattle.std.specs.Prelude.{ℕ, ◌≡◌, ◌<◌, ◌≤◌, ◌==◌, if◌then◌else◌, List, [], ◌∷◌, get_or, length, min, Option, Some, None, Result, Ok, Err}
 use Rattle.std.specs.Int.Bits.{bit_or}
 use Rattle.pcef_packet.specs.declared.header.Dir.{Dir}
@@ -36,7 +36,7 @@ place_of None = 255
 abbrev pub flag_of : ℕ → ℕ
 flag_of n = get_or (1 ∷ 2 ∷ 4 ∷ 8 ∷ 16 ∷ 32 ∷ 64 ∷ 128 ∷ []) n 0
 
--- the bits of slots beside some that are up
+-- the bits of slots beside some that are set
 abbrev pub flags_of : List Slot → ℕ → ℕ
 flags_of [] flags = flags
 flags_of (slot ∷ slots) flags = flags_of slots (bit_or flags (flag_of slot.0))
@@ -56,12 +56,13 @@ c_verdict_of (Err NoSession) = unjudged 4
 c_verdict_of (Err (NoPacket fault)) = unjudged (packet_number fault)
 c_verdict_of (Err TooFew) = unjudged 10
 
--- the verdict tells what the session of a handle decides of a packet
+-- the verdict is what the session of a handle decides of a packet
 abbrev pub IsVerdictOn : Handle → CPacket → CVerdict → Type 0
 IsVerdictOn h packet v =
     (r : Result Judgement JudgeRefusal) × JudgesHandle h (dir_of packet.up) packet.octets.now packet.whole r × (v ≡ c_verdict_of r)
 
--- as many packets are judged as there are verdicts, and that many are told; no other verdict is written, and the handle stays
+-- as many packets are judged as there are verdicts, and their number is returned; no other verdict
+-- is written, and the handle stays
 pub record AreJudged (h : Handle) (packets : List CPacket) (before after : List CVerdict) (told : ℕ) : Type 0 where
   pub told_is : told ≡ min (length packets) (length before)
   pub length_is : length after ≡ length before

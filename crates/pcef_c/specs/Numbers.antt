@@ -1,4 +1,4 @@
--- The numbers that C is told (own choice). `include/pcef.h` has a name for each.
+-- The numbers that C gets (own choice). `include/pcef.h` has a name for each.
 use Rattle.std.specs.Prelude.{ℕ, Bool, true, false, Result, Ok, Err}
 use Rattle.pcef_model.specs.declared.answer.OpenFault.{OpenFault}
 use Rattle.pcef_model.specs.declared.answer.OpenFault.TheVariants as opening
@@ -11,7 +11,7 @@ use Rattle.pcef_handle.specs.declared.opening.OpenRefusal.{OpenRefusal}
 use Rattle.pcef_handle.specs.declared.opening.OpenRefusal.TheVariants as refusal
 
 -- ---- opening
--- no session can have the profile: as where its text says so
+-- no session can have the profile: the numbers of the same faults in its text
 abbrev pub session_number : OpenFault → ℕ
 session_number opening.UnknownQci = 5
 session_number opening.DefaultIsGbr = 6

@@ -1,4 +1,4 @@
-//! What C calls, behind its pointers: each call on a handle, with its answer as a number.
+//! The calls of C behind their pointers: each is a call on a handle, with its answer as a number.
 
 ghost use Rattle.std.specs.Prelude.{◌≡◌, None};
 ghost use Rattle.pcef_c.specs.Calls.{Closes, ForgetReturns, LineReturns, OpenReturns, ReportsReturn};
@@ -16,7 +16,7 @@ pub(crate) fn empty(alloc: Global) -> Handle
     Handle::new(alloc)
 }
 
-/// Opens a session by the text of a profile: 0, or why there is none.
+/// Opens a session by the text of a profile. Returns 0, or why there is none.
 pub(crate) fn open(handle: &mut Handle, profile: &[u8]) -> u8
     ensures { OpenReturns handle.old profile.now handle.new result }
 {
@@ -24,7 +24,7 @@ pub(crate) fn open(handle: &mut Handle, profile: &[u8]) -> u8
     open_number(opened)
 }
 
-/// Answers a line: how long the answer is, or why there is none.
+/// Answers a line. Returns the answer's length, or why there is none.
 pub(crate) fn line(handle: &mut Handle, line: &[u8], answer: &mut [u8]) -> usize
     ensures { LineReturns handle.old line.now answer.old handle.new answer.new result }
 {
@@ -32,8 +32,8 @@ pub(crate) fn line(handle: &mut Handle, line: &[u8], answer: &mut [u8]) -> usize
     length_number(told)
 }
 
-/// Judges packets, and gives how many. The handle stands last, so that the lifetimes before it have the places that they
-/// have in the call from C.
+/// Judges packets, and returns their number. The handle stands last, so that the lifetimes before it have the same
+/// places as in the call from C.
 pub(crate) fn judge(
     packets: &[CPacket<'_>],
     verdicts: &mut [CVerdict],
@@ -44,7 +44,7 @@ pub(crate) fn judge(
     judge_all(handle, packets, verdicts)
 }
 
-/// Tells the reports from a number on: how long their text is, or why there is none.
+/// Writes the reports from number `first` on. Returns the length of their text, or why there is none.
 pub(crate) fn reports(handle: &mut Handle, first: u64, answer: &mut [u8]) -> usize
     ensures { ReportsReturn handle.old first answer.old handle.new answer.new result }
 {
@@ -52,7 +52,7 @@ pub(crate) fn reports(handle: &mut Handle, first: u64, answer: &mut [u8]) -> usi
     length_number(told)
 }
 
-/// Lets the reports so far go: how many these are, or why there are none.
+/// Forgets the reports so far. Returns their number, or why there are none.
 pub(crate) fn forget(handle: &mut Handle) -> usize
     ensures { ForgetReturns handle.old handle.new result }
 {
@@ -60,7 +60,7 @@ pub(crate) fn forget(handle: &mut Handle) -> usize
     count_number(told)
 }
 
-/// Lets the session go: 1, or 0 where there was none.
+/// Closes the session. Returns 1, or 0 where there was none.
 pub(crate) fn close(handle: &mut Handle) -> u8
     ensures { Closes handle.old handle.new result }
 {

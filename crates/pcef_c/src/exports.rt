@@ -1,5 +1,5 @@
-//! What C calls: each is one call of a safe function, by a pointer to a handle. `include/pcef.h` says what the caller
-//! owes.
+//! The functions that C calls: each makes one call of a safe function, by a pointer to a handle. `include/pcef.h` says
+//! what the caller owes.
 
 ghost use Rattle.std.specs.Prelude.{◌≡◌, None};
 ghost use Rattle.std.specs.Borrow.{sem};
@@ -14,13 +14,13 @@ use pcef_handle::Handle;
 use std::alloc::Global;
 use std::mem::size_of;
 
-/// How many octets of room a handle needs. They are aligned to 16.
+/// The size of a handle, in octets. Its room must be aligned to 16.
 #[unsafe(no_mangle)]
 pub extern "C" fn pcef_size() -> usize {
     size_of::<Handle>()
 }
 
-/// Makes the room at an address a handle without a session. Takes no memory.
+/// Makes a handle without a session in the room at an address. Takes no memory.
 #[unsafe(no_mangle)]
 pub unsafe extern "C" fn pcef_room(alloc: Global, at: *mut u8)
     requires* { sem 𝓛 (room at) }
@@ -29,8 +29,8 @@ pub unsafe extern "C" fn pcef_room(alloc: Global, at: *mut u8)
     std::ptr::write(at as *mut Handle, empty(alloc));
 }
 
-/// Opens a session by the text of a profile (TOML v1.0.0), over the predefined rules that `pcef` has: 0, or why there is
-/// none. A refusal leaves the handle as it was. Takes memory for the session.
+/// Opens a session by the text of a profile (TOML v1.0.0), over the predefined rules that `pcef` has. Returns 0, or why
+/// there is none. A refusal leaves the handle as it was. Takes memory for the session.
 #[unsafe(no_mangle)]
 pub unsafe extern "C" fn pcef_open(at: *mut u8, profile: &[u8]) -> u8
     ghost old: { Handle }
@@ -41,8 +41,8 @@ pub unsafe extern "C" fn pcef_open(at: *mut u8, profile: &[u8]) -> u8
     open(&mut *(at as *mut Handle), profile)
 }
 
-/// Answers a line of a script as `pcef script` does: how long the answer is, of which as much as fits is written, or why
-/// there is none. Takes memory for the answer and for what the session keeps.
+/// Answers a line of a script as `pcef script` does. Returns the answer's length in octets, or why there is none. As
+/// much of the answer as fits is written. Takes memory for the answer and for what the session keeps.
 #[unsafe(no_mangle)]
 pub unsafe extern "C" fn pcef_line(at: *mut u8, text: &[u8], answer: &mut [u8]) -> usize
     ghost old: { Handle }
@@ -53,8 +53,8 @@ pub unsafe extern "C" fn pcef_line(at: *mut u8, text: &[u8], answer: &mut [u8]) 
     line(&mut *(at as *mut Handle), text, answer)
 }
 
-/// Judges as many packets as there are verdicts by the newest generation, and gives how many these are. Of a packet the
-/// first octets may be at hand alone. Nothing is counted, and no row is kept. Takes no memory.
+/// Judges as many packets as there are verdicts by the newest generation, and returns their number. A packet
+/// may be given by its first octets alone. Nothing is counted, and no row is kept. Takes no memory.
 #[unsafe(no_mangle)]
 pub unsafe extern "C" fn pcef_judge(
     at: *mut u8,
@@ -69,8 +69,8 @@ pub unsafe extern "C" fn pcef_judge(
     judge(packets, verdicts, &mut *(at as *mut Handle))
 }
 
-/// Tells the reports of the session from a number on: how long their text is, of which as much as fits is written, or
-/// why there is none. Refused where one of them was let go. Takes memory for the text.
+/// Writes the reports of the session from number `first` on, as far as they fit. Returns the length of their text in
+/// octets, or why there is none: no session, no memory, or one of them is forgotten. Takes memory for the text.
 #[unsafe(no_mangle)]
 pub unsafe extern "C" fn pcef_reports(at: *mut u8, first: u64, answer: &mut [u8]) -> usize
     ghost old: { Handle }
@@ -81,8 +81,8 @@ pub unsafe extern "C" fn pcef_reports(at: *mut u8, first: u64, answer: &mut [u8]
     reports(&mut *(at as *mut Handle), first, answer)
 }
 
-/// Lets the reports of the session so far go: how many these are, which is the number of the next one, or why there are
-/// none. Takes no memory.
+/// Forgets the reports of the session so far. Returns their number, which is the number of the next one, or why there
+/// are none. Takes no memory.
 #[unsafe(no_mangle)]
 pub unsafe extern "C" fn pcef_forget(at: *mut u8) -> usize
     ghost old: { Handle }
@@ -92,7 +92,8 @@ pub unsafe extern "C" fn pcef_forget(at: *mut u8) -> usize
     forget(&mut *(at as *mut Handle))
 }
 
-/// Lets the session go, if there is one, and all its memory but the handle's own: 1, or 0 where there was none.
+/// Closes the session, if there is one, and frees all its memory but the handle's own. Returns 1, or 0 where there was
+/// none.
 #[unsafe(no_mangle)]
 pub unsafe extern "C" fn pcef_close(at: *mut u8) -> u8
     ghost old: { Handle }

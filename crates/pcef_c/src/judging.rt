@@ -1,4 +1,4 @@
-//! Packets as C hands them over, and their verdicts as C is told them.
+//! Packets as C passes them, and their verdicts as C gets them.
 
 ghost use Rattle.std.specs.Prelude.{◌≡◌};
 ghost use Rattle.pcef_c.specs.Judging.{AreJudged, IsVerdictOn, bearer_of, dir_of, flag_of, flags_of, place_of, status_of, c_verdict_of};
@@ -32,7 +32,7 @@ pub struct CVerdict {
     pub bearer: u8,
     /// The place of the rule that decided, else 255.
     pub place: u8,
-    /// Bit n is up where the packet counts for slot n.
+    /// Bit n is set where the packet counts for slot n.
     pub slots: u8,
 }
 
@@ -93,7 +93,7 @@ fn flags_of(slots: &[Slot]) -> u8
     flags
 }
 
-/// What is told where a packet wasn't judged.
+/// The verdict on a packet that wasn't judged.
 fn unjudged(status: u8) -> CVerdict
     ensures { result ≡ record { generation = 0; status = status; bearer = 0; place = 255; slots = 0 } }
 {
@@ -129,7 +129,7 @@ fn verdict_on(handle: &Handle, packet: &CPacket<'_>) -> CVerdict
     c_verdict_of(&handle.judge(dir_of(packet.up), packet.octets, packet.whole))
 }
 
-/// Judges as many packets as there are verdicts, and gives how many these are.
+/// Judges as many packets as there are verdicts, and returns their number.
 pub(crate) fn judge_all(
     handle: &Handle,
     packets: &[CPacket<'_>],

@@ -1,4 +1,4 @@
-//! The numbers that C is told.
+//! The numbers that C gets.
 
 ghost use Rattle.std.specs.Prelude.{◌≡◌};
 ghost use Rattle.pcef_c.specs.Numbers.{length_number, open_number, packet_number, session_number};
@@ -13,10 +13,10 @@ const NO_SESSION: usize = 18_446_744_073_709_551_615;
 /// In place of a length: there is no memory left.
 const NO_MEMORY: usize = 18_446_744_073_709_551_614;
 
-/// In place of a length: reports that are asked for were let go.
+/// In place of a length: a report that is asked for is forgotten.
 const FORGOTTEN: usize = 18_446_744_073_709_551_613;
 
-/// No session can have the profile: the numbers of the same faults of a profile's text.
+/// The number of the reason why no session can have the profile: that of the same fault in a profile's text.
 fn session_number(fault: OpenFault) -> u8
     ensures { result ≡ session_number fault }
 {
@@ -63,7 +63,7 @@ pub(crate) fn count_number(told: Result<u64, CallRefusal>) -> usize
     }
 }
 
-/// Why octets are no packet, among the numbers of verdicts.
+/// The number of the reason why octets are no packet, among the numbers of verdicts.
 pub(crate) fn packet_number(fault: PacketFault) -> u8
     ensures { result ≡ packet_number fault }
 {

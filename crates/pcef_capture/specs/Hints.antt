@@ -1,4 +1,4 @@
--- What the octets from a fault of a capture on say of it (own choice).
+-- The hints on the faults of a capture, by the octets from the fault on (own choice).
 use Rattle.std.specs.Prelude.{ℕ, ◌+◌, ◌*◌, ◌==◌, List, ◌++◌, codes, decimal, slice_index_or, if◌then◌else◌}
 use Rattle.pcef_capture_file.specs.declared.fault.CaptureFault.{CaptureFault}
 use Rattle.pcef_capture_file.specs.declared.fault.CaptureFault.TheVariants.{TooManyInterfaces}
@@ -13,8 +13,8 @@ little_at octets place = octet_at octets place + 256 * octet_at octets (place + 
 abbrev pub big_at : List ℕ → ℕ → ℕ
 big_at octets place = 256 * octet_at octets place + octet_at octets (place + 1)
 
--- It ends a classic file's header, which begins with 0xD4 or 0x4D where the lower octets stand first, and else with 0xA1.
--- It is the first thing in the body of an interface description, whose own type is 1.
+-- It ends a classic file's header, which begins with 0xD4 or 0x4D where the lower octets stand first,
+-- and else with 0xA1. It begins the body of an interface description, whose own type is 1.
 abbrev pub link_by : ℕ → List ℕ → ℕ
 link_by first octets =
     if first == 212 then little_at octets 20
@@ -30,7 +30,7 @@ abbrev pub link_text : List ℕ → List ℕ
 link_text octets =
     codes "its number is " ++ (decimal (link_number octets) ++ codes ": 0, 1, 12, 14, 101, 108, 113, 228, 229 and 276 are read")
 
--- two numbers, where an octet tells that the lower octets stand first by 0xD4 or 0x4D
+-- two numbers, in the order that an octet gives: 0xD4 or 0x4D where the lower octets stand first
 abbrev pub pair_by : ℕ → List ℕ → ℕ → ℕ × ℕ
 pair_by order octets place =
     if order == 212 then (little_at octets place, little_at octets (place + 2))
@@ -40,8 +40,8 @@ pair_by order octets place =
 abbrev pub pair_at : List ℕ → ℕ → ℕ → ℕ × ℕ
 pair_at octets order place = pair_by (octet_at octets order) octets place
 
--- The version stands behind the order of a section header, which begins with 0x0A, and else behind the first four octets of a
--- classic file's header, which tell it.
+-- The version stands at octet 12 of a section header, which begins with 0x0A, behind the octets of its
+-- order. It stands at octet 4 of a classic file's header, whose first octets give the order.
 abbrev pub version_of : List ℕ → ℕ × ℕ
 version_of octets = if octet_at octets 0 == 10 then pair_at octets 8 12 else pair_at octets 0 4
 

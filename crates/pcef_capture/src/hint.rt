@@ -1,4 +1,4 @@
-//! What a fault of a capture needs beside its name: what the octets are, or which number is unknown, and which are read.
+//! The hints on the faults of a capture: what the octets are, or which number is unknown, and which are read.
 
 ghost use Rattle.std.specs.Prelude.{◌≡◌, ◌≢◌, ◌<◌, IfOk, string_bytes};
 ghost use Rattle.pcef_capture_file.specs.declared.fault.CaptureFault.TheVariants.{LinkType, NotACapture, Version};
@@ -7,7 +7,7 @@ ghost use Rattle.pcef_capture.specs.Hints.{advice_on, big_at, link_number, link_
 use pcef_capture_file::CaptureFault;
 use std::alloc::{AllocError, Global};
 
-/// The formats that are no captures of these here, by their first octets.
+/// The formats other than captures that are known, by their first octets.
 const OTHERS: [(&[u8], &str); 13] = [
     (
         b"\x1f\x8b",
@@ -57,24 +57,24 @@ const OTHERS: [(&[u8], &str); 13] = [
     ),
 ];
 
-/// What is told of other text.
+/// The hint on any other text.
 const TEXT: &str =
     "text: a capture is expected, as tcpdump -w FILE writes it, or text2pcap of a dump in hexadecimal";
 
-/// What to do with a capture of too many interfaces.
+/// The hint on a capture of too many interfaces.
 const FEWER: &str =
     "tshark -F pcap -r FILE -w NEW makes a capture of it without interfaces, if all have one link type";
 
-/// What to do with a capture that ends too early, or has numbers that can't be.
+/// The hint on a capture that ends too early, or has impossible numbers.
 const ANEW: &str =
     "it is cut or damaged there: copy or capture it anew; the lines of the packets before that are written";
 
-/// Whether an octet stands in a text of ASCII.
+/// Whether an octet is one of ASCII text.
 fn is_text(octet: u8) -> bool {
     matches!(octet, b'\t' | b'\n' | b'\r' | b' '..=b'~')
 }
 
-/// What octets that begin no capture are, if they are known.
+/// What octets that begin no capture are, if that is known.
 fn other_format(octets: &[u8]) -> Option<&'static str> {
     for (magic, name) in &OTHERS {
         if octets.starts_with(*magic) {
@@ -100,7 +100,7 @@ fn octet_at(octets: &[u8], place: usize) -> u8
     }
 }
 
-/// The number in two octets from a place on, the lower one first.
+/// The number in two octets at a place, the lower one first.
 fn little_at(octets: &[u8], place: usize) -> u16
     requires { place < 256 }
     ensures { result ≡ little_at octets.now place }
@@ -110,7 +110,7 @@ fn little_at(octets: &[u8], place: usize) -> u16
     low + 256 * high
 }
 
-/// The number in two octets from a place on, the lower one last.
+/// The number in two octets at a place, the higher one first.
 fn big_at(octets: &[u8], place: usize) -> u16
     requires { place < 256 }
     ensures { result ≡ big_at octets.now place }
@@ -120,7 +120,7 @@ fn big_at(octets: &[u8], place: usize) -> u16
     256 * high + low
 }
 
-/// The number of a link type that isn't known, of the header of a classic file or of an interface description.
+/// The number of the unknown link type, from the header of a classic file or from an interface description.
 fn link_number(octets: &[u8]) -> u16
     ensures { result ≡ link_number octets.now }
 {
@@ -132,7 +132,7 @@ fn link_number(octets: &[u8]) -> u16
     }
 }
 
-/// The two numbers of two octets each from a place on. Another octet tells their order: it is 0xD4 or 0x4D where the lower
+/// Two numbers of two octets each at a place. Their order is in the octet at `order`: 0xD4 or 0x4D where the lower
 /// octets stand first.
 fn pair_at(octets: &[u8], order: usize, place: usize) -> (u16, u16)
     requires { place < 16 }
@@ -155,7 +155,7 @@ fn version_of(octets: &[u8]) -> (u16, u16)
     }
 }
 
-/// Which versions are read, of the format that the octets have.
+/// Which versions of the octets' format are read.
 fn versions_read(octets: &[u8]) -> &'static str
     ensures { version_text octets.now ≡ version_with (version_of octets.now) result.now }
 {
@@ -166,7 +166,7 @@ fn versions_read(octets: &[u8]) -> &'static str
     }
 }
 
-/// What is told of a version that isn't read.
+/// The hint on a version that isn't read.
 fn version_line(alloc: Global, octets: &[u8]) -> Result<String, AllocError>
     ensures { IfOk result (λ text. string_bytes text ≡ version_text octets.now) }
 {
@@ -175,7 +175,7 @@ fn version_line(alloc: Global, octets: &[u8]) -> Result<String, AllocError>
     format!(in alloc; "its version is {major}.{minor}{read}")
 }
 
-/// What is told of a link type that isn't known.
+/// The hint on an unknown link type.
 fn link_line(alloc: Global, octets: &[u8]) -> Result<String, AllocError>
     ensures { IfOk result (λ text. string_bytes text ≡ link_text octets.now) }
 {
@@ -201,15 +201,15 @@ fn push_octets(alloc: Global, line: &mut String, octets: &[u8]) -> Result<(), Al
     )
 }
 
-/// What is told of octets that begin no capture and no other format that is known.
+/// The hint on octets that begin neither a capture nor another known format.
 fn first_line(alloc: Global, octets: &[u8]) -> Result<String, AllocError> {
     let mut line = String::from_str(alloc, "it begins with")?;
     push_octets(alloc, &mut line, octets)?;
     Ok(line)
 }
 
-/// A line on a fault: what the octets from it on are that begin no capture, of an unknown link type or version its number
-/// and which are read, and of another fault what to do. Takes memory for it.
+/// The hint on a fault, by the octets from the fault on. Of octets that begin no capture, what they are; of an unknown
+/// link type or version, its number and those that are read; of another fault, what to do. Takes memory for it.
 pub fn hint_of(alloc: Global, fault: CaptureFault, octets: &[u8]) -> Result<String, AllocError>
     ensures link { fault ≡ LinkType → IfOk result (λ hint. string_bytes hint ≡ link_text octets.now) }
     ensures version { fault ≡ Version → IfOk result (λ hint. string_bytes hint ≡ version_text octets.now) }

@@ -1,8 +1,8 @@
 //! The program `pcef_capture`, which writes the packets of a capture as lines of a script, while it reads it.
 //!
-//! `pcef_capture --ue ADDRESS [--workers N] [--batch N] [--pad] FILE` writes a `take` line for each packet that
-//! goes from the session of the address or to it, and a `flush` line after each batch and at the end. FILE `-` is
-//! standard input. What was counted is told on standard error.
+//! `pcef_capture --ue ADDRESS [--workers N] [--batch N] [--pad] FILE` writes a `take` line for each packet from or to
+//! the session of the address, and a `flush` line after each batch and at the end. FILE `-` is standard input. The
+//! counts of frames are printed on standard error.
 #![tactic(auto)]
 
 mod hint;
@@ -17,7 +17,7 @@ use std::fs::File;
 use std::io::{self, BufWriter, ErrorKind, Read, Write};
 use std::process::ExitCode;
 
-/// Where an error of the system ends the program.
+/// The end of the program at an error of the system: `NoMemory` or this other one.
 fn end_of(error: io::Error, other: End) -> End {
     match error.kind() {
         ErrorKind::OutOfMemory => End::NoMemory,
@@ -25,7 +25,7 @@ fn end_of(error: io::Error, other: End) -> End {
     }
 }
 
-/// Tells what was counted. That it can't be told changes nothing.
+/// Prints the counts on standard error. A failing write changes nothing.
 fn print_counts(rt: &HostRuntime, counts: &Counts) {
     let _ = eprintln!(rt;
         "read {}, taken {}, not IP {}, cut {}, on neither side {}",
@@ -33,14 +33,14 @@ fn print_counts(rt: &HostRuntime, counts: &Counts) {
     );
 }
 
-/// Tells where every packet is one of others: the address may be wrong.
+/// Warns where no packet has the session's address: it may be wrong.
 fn warn_of_strangers(rt: &HostRuntime, counts: &Counts) {
     if counts.taken == 0 && counts.cut == 0 && counts.neither > 0 {
         let _ = eprintln!(rt; "no packet has the session's address: is --ue right?");
     }
 }
 
-/// Tells what was counted up to the end or the fault.
+/// Prints the counts up to the end or the fault.
 fn end_of_lines(rt: &HostRuntime, counts: &Counts, fault: Option<CaptureFault>) -> End {
     print_counts(rt, counts);
     warn_of_strangers(rt, counts);
@@ -70,7 +70,7 @@ fn write_to<R: Read, W: Write>(
     }
 }
 
-/// Writes the lines of what is read, and leaves the octets that have none.
+/// Writes the lines of what is read, and leaves in `waiting` the octets that have none.
 fn write<R: Read>(
     rt: &HostRuntime,
     options: &Options<'_>,
@@ -104,8 +104,8 @@ fn run(rt: &HostRuntime, options: &Options<'_>, waiting: &mut Vec<u8>) -> End
     }
 }
 
-/// Tells why the program ends early, and what the octets at a fault say, and gives the exit status. That it can't be
-/// told changes nothing.
+/// Reports why the program ends early, and what the octets at a fault are, and returns the exit status. A failing write
+/// changes nothing.
 fn report_end(rt: &HostRuntime, file: &str, end: &End, octets: &[u8]) -> u8 {
     match end {
         End::Done => {}
@@ -129,7 +129,7 @@ fn report_end(rt: &HostRuntime, file: &str, end: &End, octets: &[u8]) -> u8 {
     end.status()
 }
 
-/// Writes the lines that are asked for, and tells how that ended.
+/// Writes the lines that are asked for, and reports how that ended.
 fn follow(rt: &HostRuntime, options: &Options<'_>) -> u8 {
     let mut waiting = Vec::new(rt.alloc());
     let end = run(rt, options, &mut waiting);
@@ -141,7 +141,7 @@ fn follow(rt: &HostRuntime, options: &Options<'_>) -> u8 {
     report_end(rt, file, &end, waiting.as_slice())
 }
 
-/// Does what the words ask for, and gives the exit status.
+/// Does what the words ask for, and returns the exit status.
 fn answer(rt: &HostRuntime, words: &[String]) -> u8 {
     match parse_options(rt.alloc(), words) {
         Ok(Some(Request::Options(options))) => follow(rt, &options),
@@ -159,7 +159,7 @@ fn answer(rt: &HostRuntime, words: &[String]) -> u8 {
     }
 }
 
-/// Does what the arguments ask for, and gives the exit status.
+/// Does what the arguments ask for, and returns the exit status.
 fn status(rt: &HostRuntime) -> u8 {
     match gather(rt) {
         Ok(words) => answer(rt, words.as_slice()),

@@ -83,7 +83,7 @@ header_long h n line o lt = rw (lt-ltb most_packet n lt) refl
 header_fits : (h : FileHeader) (n line : ℕ) (o : List ℕ) → n ≤ most_packet → behind_header h n line o ≡ packet_front h.link h.endianness n line o
 header_fits h n line o le = rw (le-ltb most_packet n le) refl
 
--- the octets end within the record, of which there are never many
+-- the octets end within the record, and are never many
 abbrev pub CutsRecord : FileHeader → List ℕ → Type 0
 CutsRecord h o = (f : CaptureFault) × (record_of h o ≡ Err f) × (f ≢ fault.TooLong) × (length o < most_block)
 
@@ -233,7 +233,7 @@ len_cut : (e : Endianness) (o : List ℕ) → is_block_len (total_of e o) ≡ tr
 unfolding len_of
 len_cut e o is le lt = rw (is, le-ltb most_block (total_of e o) le, lt-ltb (length o) (total_of e o) lt) refl
 
--- the octets end within the block, of which there are never many
+-- the octets end within the block, and are never many
 abbrev pub CutsBlock : Endianness → List ℕ → Type 0
 CutsBlock e o = (block_of e o ≡ Err fault.CutBlock) × (length o < most_block)
 
@@ -241,7 +241,7 @@ CutsBlock e o = (block_of e o ≡ Err fault.CutBlock) × (length o < most_block)
 abbrev pub GrowsBlock : Endianness → List ℕ → List ℕ → Type 0
 GrowsBlock e o more = (block_of e (o ++ more) ≡ grown more (block_of e o)) × (block_of e o ≢ Err fault.CutBlock)
 
--- the same of a block of which the order is known
+-- the same of a block whose order is known
 abbrev CutsIn : Endianness → List ℕ → Type 0
 CutsIn e o = (block_in e o ≡ Err fault.CutBlock) × (length o < most_block)
 
@@ -330,7 +330,7 @@ block_whole : (e : Endianness) (o : List ℕ) → 12 ≤ length o → block_of e
 unfolding block_of
 block_whole e o le = rw (le-ltb (length o) 12 le) refl
 
--- by what tells the order
+-- by what states the order
 abbrev order_by : Endianness → Bool → Option Endianness → Result Endianness CaptureFault
 order_by e begins told = if begins then or_fault fault.ByteOrder told else Ok e
 

@@ -11,7 +11,7 @@ use Rattle.pcef_capture_file.specs.declared.classic.FileHeader.{FileHeader}
 use Rattle.pcef_capture_file.specs.declared.fault.CaptureFault.{CaptureFault}
 use Rattle.pcef_capture_file.proofs.Growth.{block_behind, record_behind}
 
--- octets of which some were read are fewer
+-- octets are fewer once some were read
 fewer : (o rest : List ℕ) (k n : ℕ) → 0 < k → k ≤ length o → rest ≡ drop k o → length o ≤ suc n → length rest ≤ n
 fewer o rest k n some within is le = omega (arith, some, within, le, ap length is, length-drop k o)
 

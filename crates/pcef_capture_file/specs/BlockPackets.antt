@@ -17,30 +17,31 @@ unfoldable pub packet_in : Framed → Interface → ℕ → ℕ → ℕ → Resu
 packet_in block interface recorded line place =
     packet_front interface.link block.endianness recorded line (drop place block.body) >>= (λ found. Ok found.0)
 
--- the packet of the interface of a number, behind 20 octets, of which octets 12 to 15 are the recorded length
--- and octets 16 to 19 the length on the line
+-- the packet behind 20 octets, of the interface of a number: octets 12 to 15 are the recorded length, and octets
+-- 16 to 19 the length on the line
 unfoldable pub behind_lengths : List Interface → Framed → ℕ → Result Captured CaptureFault
 behind_lengths interfaces block n =
     interface_at interfaces n
     >>= (λ interface. packet_in block interface (number block.endianness block.body 12 4) (number block.endianness block.body 16 4) 20)
 
--- an enhanced packet block tells its interface in octets 0 to 3
+-- an enhanced packet block states its interface in octets 0 to 3
 unfoldable pub enhanced_in : List Interface → Framed → Result Captured CaptureFault
 enhanced_in interfaces block =
     if nat_lt (length block.body) 20 then Err fault.BlockLength
     else behind_lengths interfaces block (number block.endianness block.body 0 4)
 
--- an obsolete packet block in octets 0 and 1
+-- an obsolete packet block states it in octets 0 and 1
 unfoldable pub obsolete_in : List Interface → Framed → Result Captured CaptureFault
 obsolete_in interfaces block =
     if nat_lt (length block.body) 20 then Err fault.BlockLength
     else behind_lengths interfaces block (number block.endianness block.body 0 2)
 
--- so much is recorded of a frame; 0 is no limit
+-- the length that is recorded of a frame; 0 is no limit
 unfoldable pub snapped : ℕ → ℕ → ℕ
 snapped snap_len line = if snap_len == 0 then line else min snap_len line
 
--- A simple packet block has its packet, which is of the first interface, behind 4 octets: the length on the line.
+-- A simple packet block has 4 octets with the length on the line, and then its packet, which is of the first
+-- interface.
 unfoldable pub simple_in : List Interface → Framed → Result Captured CaptureFault
 simple_in interfaces block =
     if nat_lt (length block.body) 4 then Err fault.BlockLength

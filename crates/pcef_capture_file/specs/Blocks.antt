@@ -8,7 +8,7 @@ use Rattle.pcef_capture_file.specs.declared.endianness.Endianness.TheVariants.{B
 use Rattle.pcef_capture_file.specs.declared.fault.CaptureFault.{CaptureFault}
 use Rattle.pcef_capture_file.specs.declared.fault.CaptureFault.TheVariants as fault
 
--- a block without where it lies in memory
+-- a block, wherever it lies in memory
 pub record Framed : Type 0 where
   pub endianness : Endianness
   pub kind : ℕ
@@ -54,7 +54,7 @@ len_of e octets =
     else Err fault.BlockLength
     else Err fault.BlockLength
 
--- the block of so many octets, and what stands behind it: its first four octets are its type
+-- the block of this length, and what stands behind it: its first four octets are its type
 unfoldable pub block_front : Endianness → List ℕ → ℕ → Framed × List ℕ
 block_front e octets total =
     (record { endianness = e; kind = number e octets 0 4; body = take (total - 12) (drop 8 octets) }, drop total octets)

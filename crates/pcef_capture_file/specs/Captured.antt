@@ -6,7 +6,7 @@ use Rattle.pcef_capture_file.specs.declared.fault.CaptureFault.TheVariants as fa
 use Rattle.pcef_capture_file.specs.declared.link.Link.{Link}
 use Rattle.pcef_capture_file.specs.declared.packet.Packet.{Packet}
 
--- a packet without where it lies in memory
+-- a packet, wherever it lies in memory
 pub record Captured : Type 0 where
   pub link : Link
   pub endianness : Endianness
@@ -16,7 +16,7 @@ pub record Captured : Type 0 where
 abbrev pub captured : Packet → Captured
 captured p = record { link = p.link; endianness = p.endianness; original = p.original; octets = p.octets.now }
 
--- the packet of so many octets at the front, and what stands behind it
+-- the packet whose recorded octets stand at the front, and what stands behind it
 unfoldable pub packet_front : Link → Endianness → ℕ → ℕ → List ℕ → Result (Captured × List ℕ) CaptureFault
 packet_front link e recorded line octets =
     if nat_lt (length octets) recorded then Err fault.CutPacket

@@ -9,8 +9,8 @@ use Rattle.pcef_capture_file.specs.Frames.{ip_in}
 use Rattle.pcef_capture_file.specs.declared.content.Content.{Content}
 use Rattle.pcef_capture_file.specs.declared.content.Content.TheVariants.{Packet, Neither, Cut, NotIp}
 
--- These octets stand in the frame where an IP packet is said to. Of which version it is, its own first octet tells,
--- whatever version the type or family before it is of (own choice).
+-- These octets stand where the frame's headers place an IP packet. The version is that of the first of them,
+-- whichever the type or family before it states (own choice).
 abbrev pub Holds : Captured → List ℕ → Type 0
 Holds p octets = ip_in p.link p.endianness p.octets ≡ Some octets
 

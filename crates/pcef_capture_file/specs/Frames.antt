@@ -34,7 +34,7 @@ behind_type octets place =
     else None
 
 -- The protocol family of IPv4 is 2 on every system. That of IPv6 is 24 on NetBSD and OpenBSD, 28 on FreeBSD, 30 on
--- Darwin (the page of link type 0 in the registry of the tcpdump group); a file doesn't tell the system.
+-- Darwin (the page of link type 0 in the registry of the tcpdump group); a file doesn't name the system.
 unfoldable pub is_ip_family : ℕ → Bool
 is_ip_family family = (family == 2) || ((family == 24) || ((family == 28) || (family == 30)))
 

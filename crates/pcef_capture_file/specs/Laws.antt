@@ -6,7 +6,7 @@ use Rattle.pcef_capture_file.specs.Classic.{record_of}
 use Rattle.pcef_capture_file.specs.declared.classic.FileHeader.{FileHeader}
 use Rattle.pcef_capture_file.specs.declared.fault.CaptureFault.{CaptureFault}
 
--- of the records of a classic file no others are the packets, and none other is the fault
+-- the records of a classic file have these packets and this fault, and no others
 abbrev pub OneReading : Type 0
 OneReading =
     (header : FileHeader) (octets : List ℕ) (packets others : List Captured) (fault other : Option CaptureFault)
@@ -14,7 +14,7 @@ OneReading =
     → Reads (record_of header) octets others other
     → (packets ≡ others) × (fault ≡ other)
 
--- and so of a file in either format
+-- the same of a file in either format
 abbrev pub OneCapture : Type 0
 OneCapture =
     (octets : List ℕ) (packets others : List Captured) (fault other : Option CaptureFault)

@@ -3,7 +3,7 @@ use Rattle.std.specs.Prelude.{ℕ, ◌==◌, ◌||◌, Bool, Option, Some, None,
 use Rattle.pcef_capture_file.specs.declared.link.Link.{Link}
 use Rattle.pcef_capture_file.specs.declared.link.Link.TheVariants.{Null, Ethernet, Raw, Loop, LinuxCooked, LinuxCooked2}
 
--- raw packets: two numbers that systems wrote of old, that of any version, and one for each version
+-- raw packets: two old numbers of systems, one for any version, and one for each version
 abbrev pub is_raw : ℕ → Bool
 is_raw n = (n == 12) || ((n == 14) || ((n == 101) || ((n == 228) || (n == 229))))
 

@@ -1,8 +1,8 @@
--- What stands for a packet that was recorded in part.
+-- The octets of a packet that was recorded in part.
 use Rattle.std.specs.Prelude.{ℕ, ◌-◌, ◌==◌, ◌&&◌, ◌++◌, nat_le, List, length, replicate, if◌then◌else◌}
 use Rattle.pcef_packet.specs.HeaderOf.{total_len_v4, version, volume_v6}
 
--- How many octets a packet says that it has: Total Length in version 4 (RFC 791, clause 3.1), and in version 6
+-- The length that a packet's header states: Total Length in version 4 (RFC 791, clause 3.1), and in version 6
 -- Payload Length beside the 40 octets of the fixed header (RFC 8200, clause 3). Where the header without options
 -- or extensions wasn't recorded, nothing is filled in (own choice).
 unfoldable pub stated_len : List ℕ → ℕ

@@ -30,7 +30,7 @@ ReadsBlocks s octets [] (Some fault) = (0 < length octets) × (step_of s octets 
 ReadsBlocks s octets (found ∷ others) fault =
     (after : Standing) × (rest : List ℕ) × (step_of s octets ≡ Ok (after, (found, rest))) × ReadsBlocks after rest others fault
 
--- those that are there
+-- the packets of those blocks that have one
 abbrev pub packets_among : List (Option Captured) → List Captured
 packets_among found = filter_map (λ packet. packet) found
 

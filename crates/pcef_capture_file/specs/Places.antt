@@ -1,4 +1,4 @@
--- Where the reading of a capture stands, and what the octets from there on come to.
+-- Where the reading of a capture stands, and the packets of the octets from there on.
 use Rattle.std.specs.Prelude.{◌≡◌, ℕ, List, Option}
 use Rattle.pcef_capture_file.specs.Captured.{Captured, Reads}
 use Rattle.pcef_capture_file.specs.Classic.{record_of}

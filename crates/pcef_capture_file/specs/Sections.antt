@@ -11,7 +11,7 @@ use Rattle.pcef_capture_file.specs.declared.fault.CaptureFault.TheVariants as fa
 use Rattle.pcef_capture_file.specs.declared.section.Interface.{Interface}
 use Rattle.pcef_capture_file.specs.declared.section.Section.{Section}
 
--- how a section stands: the order of its numbers, and the interfaces that were described so far
+-- the state of a section: the order of its numbers, and the interfaces that were described so far
 pub record Standing : Type 0 where
   pub endianness : Endianness
   pub interfaces : List Interface
@@ -19,7 +19,7 @@ pub record Standing : Type 0 where
 abbrev pub standing : Section → Standing
 standing section = record { endianness = section.endianness; interfaces = section.interfaces.items }
 
--- before the first section header, which tells the order
+-- before the first section header, which states the order
 abbrev pub at_start : Standing
 at_start = record { endianness = Big; interfaces = [] }
 

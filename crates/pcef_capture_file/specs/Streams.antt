@@ -34,8 +34,8 @@ GoesOn before octets packet after rest =
     → ReadsOn after (rest ++ more) packets fault
     → ReadsOn before (octets ++ more) (packets_among (packet ∷ []) ++ packets) fault
 
--- Of the octets at hand none are whole: if these are the last ones, they end so. There are never more of them than
--- a block may have. Or what stands here is at fault, whatever follows.
+-- No record or block of the octets at hand is whole: if no more follow, they end so. They are never more than a
+-- block may have. Or what stands here is at fault, whatever follows.
 abbrev pub Stops : Place → List ℕ → Stop → Place → Type 0
 Stops before octets (Waits fault) after =
     ReadsOn before octets [] fault × (length octets < most_block) × (after ≡ before)

@@ -28,7 +28,7 @@ fn interface_at(interfaces: &[Interface], number: usize) -> Result<Interface, Ca
     }
 }
 
-/// The packet in the body from a place on.
+/// The packet in the body at a place.
 #[tactic(auto, unfolding(crate::specs::BlockPackets::packet_in))]
 fn packet_in<'a>(
     block: &Block<'a>,
@@ -48,7 +48,7 @@ fn packet_in<'a>(
     Ok(packet)
 }
 
-/// The packet of a block with lengths in octets 12 to 19 and an interface of this number.
+/// The packet behind the lengths in octets 12 to 19 of a block, of the interface of this number.
 #[tactic(auto, unfolding(crate::specs::BlockPackets::behind_lengths))]
 fn behind_lengths<'a>(
     interfaces: &[Interface],
@@ -97,7 +97,7 @@ fn obsolete_in<'a>(interfaces: &[Interface], block: &Block<'a>) -> Result<Packet
     behind_lengths(interfaces, block, usize::from(number))
 }
 
-/// How many octets of a frame are recorded.
+/// The length that is recorded of a frame of `line` octets; a `snap_len` of 0 is no limit.
 #[tactic(auto, unfolding(crate::specs::BlockPackets::snap))]
 fn snap(snap_len: u32, line: u32) -> u32
     ensures { result ≡ snapped snap_len line }

@@ -9,7 +9,7 @@ use crate::fault::CaptureFault;
 /// The type of a section header, which reads the same in both orders.
 pub(crate) const SECTION_HEADER: u32 = 0x0a0d_0d0a;
 
-/// What tells the order of a section.
+/// The byte-order magic of a section header, which gives the order of the section's numbers.
 const BYTE_ORDER: u32 = 0x1a2b_3c4d;
 
 /// The most octets of a block that are read.
@@ -37,7 +37,7 @@ pub(crate) fn begins_section(octets: &[u8]) -> bool
     4 <= octets.len() && Endianness::Big.number_in_4(octets, 0) == SECTION_HEADER
 }
 
-/// The order that a section header tells.
+/// The order that a section header states.
 #[tactic(auto, unfolding(crate::specs::Blocks::section_order))]
 fn section_order(octets: &[u8]) -> Option<Endianness>
     requires { 12 ≤ length octets.now }
@@ -65,7 +65,7 @@ fn order_of(endianness: Endianness, octets: &[u8]) -> Result<Endianness, Capture
     }
 }
 
-/// Whether a block may have so many octets.
+/// Whether a block may have `total` octets.
 #[tactic(auto, unfolding(crate::specs::Blocks::is_block_len))]
 fn is_block_len(total: u32) -> bool
     ensures { result ≡ is_block_len total }
@@ -73,7 +73,7 @@ fn is_block_len(total: u32) -> bool
     12 <= total && total % 4 == 0
 }
 
-/// The length of the block, its two lengths counted.
+/// The length of the block in octets, which both its ends must state.
 #[tactic(auto, unfolding(crate::specs::Blocks::len_of, crate::specs::Blocks::total_of, crate::specs::Blocks::is_block_len))]
 fn len_of(endianness: Endianness, octets: &[u8]) -> Result<usize, CaptureFault>
     requires { 12 ≤ length octets.now }
@@ -99,7 +99,7 @@ fn len_of(endianness: Endianness, octets: &[u8]) -> Result<usize, CaptureFault>
     }
 }
 
-/// The block of so many octets at the front, and the octets behind it.
+/// The block of `len` octets at the front, and the octets behind it.
 #[tactic(auto, unfolding(crate::specs::Blocks::block_front))]
 fn block_front<'a>(endianness: Endianness, octets: &'a [u8], len: usize) -> (Block<'a>, &'a [u8])
     requires least { 12 ≤ len }

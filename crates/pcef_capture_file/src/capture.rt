@@ -14,10 +14,9 @@ use crate::packet::Capture;
 use crate::pcapng::read_pcapng;
 use std::alloc::Global;
 
-/// The packets of a capture file, of the format pcapng where it begins with a section header, else of the
-/// classic one: up to the end of the file or to the first fault, which is told beside them. The packets
-/// borrow the file's octets; the list of them takes memory. An `Err` is the fault of a classic file's
-/// header, or `NoMemory`.
+/// The packets of a capture file: of the format pcapng where it begins with a section header, else of the classic one.
+/// They go up to the end of the file or to the first fault, which is returned beside them. The packets borrow the
+/// file's octets; the list of them takes memory. An `Err` is the fault of a classic file's header, or `NoMemory`.
 pub fn read_capture<'a>(alloc: Global, octets: &'a [u8]) -> Result<Capture<'a>, CaptureFault>
     ensures packets { IfOk result (λ capture.
         ReadsCapture octets.now (map captured capture.packets.items) capture.fault) }

@@ -41,11 +41,11 @@ pub struct FileHeader {
     pub endianness: Endianness,
     /// The unit of the fractions of seconds.
     pub scale: TimeScale,
-    /// What each frame begins with.
+    /// The header that each frame begins with.
     pub link: Link,
 }
 
-/// The order and the scale that the first four octets tell.
+/// The order and the scale that the first four octets state.
 #[tactic(auto, unfolding(crate::specs::Classic::magic_of))]
 fn magic(octets: &[u8]) -> Option<(Endianness, TimeScale)>
     ensures { result ≡ magic_of octets.now }
@@ -96,9 +96,9 @@ fn header_behind(
     }
 }
 
-/// The header at the front of a file, which takes 24 octets, or its first fault in this
-/// order: `NotACapture`, `CutHeader`, `Version` (2.4 alone is read) or `LinkType`. Of the
-/// number of the link type the lower 16 bits count. Takes no memory.
+/// The header at the front of a file, which takes 24 octets, or its first fault in this order: `NotACapture`,
+/// `CutHeader`, `Version` (2.4 alone is read) or `LinkType`. Only the lower 16 bits of the link type's number count.
+/// Takes no memory.
 #[tactic(auto, unfolding(crate::specs::Classic::file_header_of))]
 pub fn read_file_header(octets: &[u8]) -> Result<FileHeader, CaptureFault>
     ensures header { result ≡ file_header_of octets.now }
@@ -110,8 +110,7 @@ pub fn read_file_header(octets: &[u8]) -> Result<FileHeader, CaptureFault>
     }
 }
 
-/// The lengths that the header of a record tells: of the packet behind it as it was recorded, and on the
-/// line.
+/// The lengths in the header of a record: of the packet as it was recorded, and on the line.
 #[tactic(auto, unfolding(crate::specs::Classic::recorded_len, crate::specs::Classic::line_len))]
 fn record_lengths(endianness: Endianness, octets: &[u8]) -> (u32, u32)
     requires { 16 ≤ length octets.now }
@@ -123,9 +122,9 @@ fn record_lengths(endianness: Endianness, octets: &[u8]) -> (u32, u32)
     (recorded, line)
 }
 
-/// The packet of the record at the front of the octets, and the octets behind the record; `CutRecord`
-/// where there are fewer than 16 octets, `TooLong` where the packet has more than 262,144, `CutPacket`
-/// where it goes on beyond the octets. Takes no memory.
+/// The packet of the record at the front of the octets, and the octets behind the record. An `Err` is `CutRecord` where
+/// there are fewer than 16 octets, `TooLong` where the packet has more than 262,144, or `CutPacket` where it goes on
+/// beyond the octets. Takes no memory.
 #[tactic(auto, unfolding(crate::specs::Classic::record_of))]
 pub fn read_record<'a>(
     header: FileHeader,
@@ -195,9 +194,9 @@ fn behind_header<'a>(
     }
 }
 
-/// The packets of a capture file: those of its records one after another, up to the end of the file or
-/// to the first record at fault, which is told beside them. The packets borrow the file's octets; the
-/// list of them takes memory. An `Err` is the fault of the file's header, or `NoMemory`.
+/// The packets of a capture file: those of its records one after another, up to the end of the file or to the first
+/// record at fault, which is returned beside them. The packets borrow the file's octets; the list of them takes memory.
+/// An `Err` is the fault of the file's header, or `NoMemory`.
 pub fn read_classic<'a>(alloc: Global, octets: &'a [u8]) -> Result<Capture<'a>, CaptureFault>
     ensures packets { IfOk result (λ capture.
         ReadsClassic octets.now (map captured capture.packets.items) capture.fault) }

@@ -22,9 +22,9 @@ pub enum Content<'a> {
     NotIp,
 }
 
-/// What a frame is for the session of an address, whose side of a packet is the address itself in
-/// version 4 and any address of its /64 in version 6. Of which version a packet is, its own first octet
-/// tells: a type before it that says the other version changes nothing. Takes no memory.
+/// What a frame is for the session of an address. The session's side of a packet has the address itself in version 4,
+/// and any address of its /64 in version 6. The version is that of the packet's own first octet, even where a type
+/// before it states the other one. Takes no memory.
 pub fn content_of<'a>(ue: Addr, packet: &Packet<'a>) -> Content<'a>
     ensures { IsContent ue (captured packet.now) result }
 {

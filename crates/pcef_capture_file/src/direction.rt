@@ -5,10 +5,9 @@ ghost use Rattle.pcef_capture_file.specs.Directions.{direction_in};
 
 use pcef_packet::{Addr, Dir, PacketFault, read_header};
 
-/// Which way a packet goes for the session of an address: up where its source is an address of the
-/// session, else down where its destination is one, else none. A session of version 6 has all addresses
-/// of its /64. An `Err` is the first fault of the packet's header: the octets aren't a whole packet.
-/// Takes no memory.
+/// Which way a packet goes for the session of an address: up where its source is an address of the session, else down
+/// where its destination is one, else none. A session of version 6 has all addresses of its /64. An `Err` is the first
+/// fault of the packet's header: the octets aren't a whole packet. Takes no memory.
 #[tactic(auto, unfolding(crate::specs::Directions::direction_in))]
 pub fn direction_of(ue: Addr, octets: &[u8]) -> Result<Option<Dir>, PacketFault>
     ensures { result ≡ direction_in ue octets.now }

@@ -6,15 +6,14 @@ ghost use Rattle.pcef_capture_file.specs.Faults.{fault_number};
 use std::error::Error;
 use std::fmt::{self, Display, Formatter, Write};
 
-/// Why a capture file is refused, or read no further. Of several faults the first in the file is
-/// answered.
+/// Why a capture file is refused, or read no further: the first fault in the file.
 #[derive(Clone, Copy, Debug, PartialEq, Eq)]
 pub enum CaptureFault {
     /// The first four octets are those of no format that is known.
     NotACapture,
     /// The file ends within its header.
     CutHeader,
-    /// The version of the format isn't the one that is read.
+    /// The version of the format isn't one that is read.
     Version,
     /// The link type is unknown.
     LinkType,
@@ -27,7 +26,7 @@ pub enum CaptureFault {
     /// The length of a block is no multiple of four, leaves no room for what its type has, or isn't the
     /// same at both ends.
     BlockLength,
-    /// The octets that tell the order of a section's numbers are unknown.
+    /// The byte-order magic of a section is unknown.
     ByteOrder,
     /// A packet names an interface that its section didn't describe before.
     UnknownInterface,
@@ -35,7 +34,7 @@ pub enum CaptureFault {
     TooLong,
     /// A section describes more than 65,536 interfaces.
     TooManyInterfaces,
-    /// There is no memory left. It may come before any other.
+    /// There is no memory left. It may be returned in place of any other.
     NoMemory,
 }
 
@@ -69,7 +68,7 @@ impl Display for CaptureFault {
 impl Error for CaptureFault {}
 
 impl CaptureFault {
-    /// The number under which programs tell it, from 1 on.
+    /// The number by which programs report it, from 1 on.
     pub fn number(self) -> u8
         ensures { result ≡ fault_number self }
     {

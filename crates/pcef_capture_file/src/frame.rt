@@ -10,7 +10,7 @@ use crate::packet::Packet;
 /// The type of IPv4 in Ethernet and in the cooked headers.
 const IPV4_TYPE: u16 = 0x0800;
 
-/// The type of IPv6 there.
+/// The type of IPv6 in Ethernet and in the cooked headers.
 const IPV6_TYPE: u16 = 0x86dd;
 
 /// Whether this number of two octets stands at a place.
@@ -34,7 +34,7 @@ fn is_tag_at(octets: &[u8], place: usize) -> bool
         || is_type_at(octets, place, 0x9100)
 }
 
-/// What stands from a place on.
+/// The octets from a place on, or none where it is beyond the end.
 #[tactic(auto, unfolding(crate::specs::Frames::behind))]
 fn behind(octets: &[u8], place: usize) -> Option<&[u8]>
     ensures { option_map (λ o. o.now) result ≡ behind octets.now place }
@@ -77,7 +77,7 @@ fn is_ip_family(family: u32) -> bool
     matches!(family, 2 | 24 | 28 | 30)
 }
 
-/// What stands behind a type, where it is IPv4's or IPv6's: at most two tags may stand before it.
+/// The octets behind a type, if it is that of IPv4 or IPv6. At most two tags may stand before it.
 #[tactic(auto, unfolding(crate::specs::Frames::behind_type))]
 fn behind_type(octets: &[u8], place: usize) -> Option<&[u8]>
     requires { place < 200 }
@@ -91,7 +91,7 @@ fn behind_type(octets: &[u8], place: usize) -> Option<&[u8]>
     }
 }
 
-/// What stands behind a protocol family, where it is IPv4's or IPv6's.
+/// The octets behind a protocol family, if it is that of IPv4 or IPv6.
 #[tactic(auto, unfolding(crate::specs::Frames::behind_family))]
 fn behind_family(endianness: Endianness, octets: &[u8]) -> Option<&[u8]>
     ensures { option_map (λ o. o.now) result ≡ behind_family endianness octets.now }
@@ -103,9 +103,9 @@ fn behind_family(endianness: Endianness, octets: &[u8]) -> Option<&[u8]>
     }
 }
 
-/// The octets of a frame behind its link header, where that header says that a packet of IPv4 or IPv6
-/// comes, or none. That the packet is of the version that the header says isn't looked at. Raw frames have
-/// no header: all of them is given. Behind a packet padding may stand. Takes no memory.
+/// The octets of a frame behind its link header, if that header says that a packet of IPv4 or IPv6 follows. Whether the
+/// packet has that version isn't checked. Raw frames have no header: all their octets are returned. Padding may follow
+/// the packet. Takes no memory.
 #[tactic(auto, unfolding(crate::specs::Frames::ip_in))]
 pub fn ip_of<'a>(packet: &Packet<'a>) -> Option<&'a [u8]>
     ensures { option_map (λ o. o.now) result

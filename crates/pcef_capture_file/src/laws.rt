@@ -2,13 +2,12 @@
 
 ghost use Rattle.pcef_capture_file.specs.Laws.{OneCapture, OneReading};
 
-/// The packets that are read of a classic file's records are its packets, and no others are; so is the
-/// fault behind them.
+/// The records of a classic file have one list of packets, and one fault or none behind them.
 pub fn one_reading()
     ensures { OneReading }
 {}
 
-/// A capture file in either format has its packets and no others, and so its fault.
+/// A capture file in either format has one list of packets, and one fault or none behind them.
 pub fn one_capture()
     ensures { OneCapture }
 {}

@@ -1,14 +1,14 @@
-//! What frames begin with.
+//! The headers that frames begin with.
 
 ghost use Rattle.std.specs.Prelude.{◌≡◌};
 ghost use Rattle.pcef_capture_file.specs.Links.{link_of};
 
-/// What the frames of an interface begin with.
+/// The header that the frames of an interface begin with.
 #[derive(Clone, Copy, Debug, PartialEq, Eq)]
 pub enum Link {
     /// The protocol family in four octets, in the order of the machine that recorded.
     Null,
-    /// Ethernet: two addresses, at most two VLAN tags that are read, and the type.
+    /// Ethernet: two addresses, at most two VLAN tags, and the type.
     Ethernet,
     /// Nothing: the packet itself.
     Raw,

@@ -1,4 +1,4 @@
-//! What is read of a capture file.
+//! The packets that are read of a capture file.
 
 ghost use Rattle.std.specs.Prelude.{◌≡◌, ◌≤◌, IfErr, IfOk, Ok as DueOk, Err as DueErr, length};
 ghost use Rattle.pcef_capture_file.specs.Captured.{captured, packet_front};
@@ -10,7 +10,7 @@ use crate::link::Link;
 /// A frame as it was recorded. Its time isn't read.
 #[derive(Clone, Copy, Debug, PartialEq, Eq)]
 pub struct Packet<'a> {
-    /// What the frame begins with.
+    /// The header that the frame begins with.
     pub link: Link,
     /// The order of the machine that recorded.
     pub endianness: Endianness,
@@ -29,8 +29,8 @@ pub struct Capture<'a> {
     pub fault: Option<CaptureFault>,
 }
 
-/// The packet whose so many recorded octets stand at the front, and the octets behind it; `CutPacket`
-/// where there are fewer.
+/// The packet of the recorded octets at the front, and the octets behind it; `CutPacket` where there are fewer than it
+/// has.
 #[tactic(auto, unfolding(crate::specs::Captured::packet_front))]
 pub(crate) fn packet_at_front<'a>(
     link: Link,

@@ -12,7 +12,7 @@ const IPV4_HEADER_LEN: usize = 20;
 /// The length of the fixed header of version 6.
 const IPV6_HEADER_LEN: usize = 40;
 
-/// How many octets a packet says that it has, or 0 where too little of its header was recorded.
+/// The length in octets that a packet's header states, or 0 where too little of its header was recorded.
 #[tactic(auto, unfolding(crate::specs::Padding::stated_len, pcef_packet::specs::HeaderOf::total_len_v4, pcef_packet::specs::HeaderOf::volume_v6))]
 fn stated_len(octets: &[u8]) -> usize
     ensures { result ≡ stated_len octets.now }
@@ -26,9 +26,9 @@ fn stated_len(octets: &[u8]) -> usize
     }
 }
 
-/// The octets of a packet with zeros behind them up to the length that its header tells, at most 65,575
-/// octets in all; as they are where they reach it, or where fewer than 20 octets of version 4 or 40 of
-/// version 6 were recorded.
+/// The octets of a packet, with zeros behind them up to the length that its header states, at most 65,575 octets in
+/// all. They stay as they are where they reach that length, or where fewer than 20 octets of version 4 or 40 of version
+/// 6 were recorded.
 #[tactic(auto, unfolding(crate::specs::Padding::padded))]
 pub fn padded(alloc: Global, octets: &[u8]) -> Result<Vec<u8>, AllocError>
     ensures { IfOk result (λ whole. whole.items ≡ padded octets.now) }

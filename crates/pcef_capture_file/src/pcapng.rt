@@ -15,8 +15,8 @@ use crate::packet::{Capture, Packet};
 use crate::section::Section;
 use std::alloc::{AllocError, Global};
 
-/// Takes in what a block says of the section, and gives its packet, if it has one. An `Err` is the block's
-/// fault, or `NoMemory`.
+/// Updates the section by a block, and returns the block's packet, if it has one. An `Err` is the block's fault, or
+/// `NoMemory`.
 #[tactic(auto, unfolding(crate::specs::PcapNg::taken_of))]
 pub(crate) fn take_block<'a>(
     section: &mut Section,
@@ -32,8 +32,8 @@ pub(crate) fn take_block<'a>(
     packet
 }
 
-/// Reads the block at the front: takes in what it says of the section, and gives its packet, if it has one,
-/// and the octets behind it. An `Err` is the block's fault, or `NoMemory`.
+/// Reads the block at the front, updates the section by it, and returns its packet, if it has one, and the octets
+/// behind it. An `Err` is the block's fault, or `NoMemory`.
 #[tactic(auto, unfolding(crate::specs::PcapNg::step_of))]
 fn read_step<'a>(
     section: &mut Section,
@@ -50,7 +50,7 @@ fn read_step<'a>(
     Ok((packet, rest))
 }
 
-/// Notes a packet, if there is one.
+/// Appends a packet, if there is one.
 fn note<'a>(packets: &mut Vec<Packet<'a>>, packet: Option<Packet<'a>>) -> Result<(), AllocError>
     ensures { OnOk result (map captured packets.new.items
         ≡ map captured packets.old.items ++ packets_among (option_map captured packet.entry ∷ [])) }
@@ -61,7 +61,7 @@ fn note<'a>(packets: &mut Vec<Packet<'a>>, packet: Option<Packet<'a>>) -> Result
     }
 }
 
-/// What was read up to a block at fault; `NoMemory` where that is the fault.
+/// The capture up to a block at fault; `NoMemory` where that is the fault.
 fn capture_until<'a>(
     packets: Vec<Packet<'a>>,
     fault: CaptureFault,
@@ -109,10 +109,10 @@ fn read_blocks<'a>(alloc: Global, octets: &'a [u8]) -> Result<Capture<'a>, Captu
     })
 }
 
-/// The packets of a pcapng file: those of its blocks one after another, up to the end of the file or to the
-/// first block at fault, which is told beside them. Sections may have either order. Blocks of other types
-/// are passed over. The packets borrow the file's octets; the lists of them and of interfaces take memory.
-/// An `Err` is `NotACapture`, where the first four octets aren't those of a section header, or `NoMemory`.
+/// The packets of a pcapng file: those of its blocks one after another, up to the end of the file or to the first block
+/// at fault, which is returned beside them. Sections may have either order. Blocks of other types are skipped. The
+/// packets borrow the file's octets; the lists of packets and of interfaces take memory. An `Err` is `NotACapture`,
+/// where the first four octets aren't those of a section header, or `NoMemory`.
 pub fn read_pcapng<'a>(alloc: Global, octets: &'a [u8]) -> Result<Capture<'a>, CaptureFault>
     ensures packets { IfOk result (λ capture.
         ReadsFile octets.now (map captured capture.packets.items) capture.fault) }

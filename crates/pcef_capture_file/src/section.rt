@@ -16,16 +16,16 @@ const INTERFACE_DESCRIPTION: u32 = 1;
 /// The most interfaces of a section.
 const MAX_INTERFACES: usize = 65_536;
 
-/// What a section says of an interface.
+/// An interface of a section.
 #[derive(Clone, Copy)]
 pub(crate) struct Interface {
-    /// What its frames begin with.
+    /// The header that its frames begin with.
     pub link: Link,
     /// How many octets of a frame are recorded at most; 0 is no limit.
     pub snap_len: u32,
 }
 
-/// How a section stands.
+/// The state of a section.
 #[derive(Drop)]
 pub(crate) struct Section {
     /// The order of its numbers.
@@ -34,7 +34,7 @@ pub(crate) struct Section {
     pub interfaces: Vec<Interface>,
 }
 
-/// Whether a section header tells a version that is read.
+/// Whether a section header states a version that is read.
 #[tactic(auto, unfolding(crate::specs::Sections::is_section_version))]
 fn is_section_version(block: &Block<'_>) -> bool
     requires { 16 ≤ length block.now.body.now }
@@ -64,7 +64,7 @@ fn interface_in(block: &Block<'_>) -> Result<Interface, CaptureFault>
 }
 
 impl Section {
-    /// Begins the section of a header: `BlockLength` or `Version`.
+    /// Begins the section of a header. An `Err` is `BlockLength` or `Version`.
     #[tactic(auto, unfolding(crate::specs::Sections::section_in))]
     fn begin(&mut self, block: &Block<'_>) -> Result<(), CaptureFault>
         ensures ok { OnOk result (section_in (framed block.now) ≡ DueOk (standing self.new)) }
@@ -81,7 +81,7 @@ impl Section {
         Ok(())
     }
 
-    /// Notes an interface: `TooManyInterfaces`, or `NoMemory`.
+    /// Appends an interface. An `Err` is `TooManyInterfaces` or `NoMemory`.
     #[tactic(auto, unfolding(crate::specs::Sections::noted))]
     fn note(&mut self, interface: Interface) -> Result<(), CaptureFault>
         ensures ok { OnOk result (noted (standing self.old) interface ≡ DueOk (standing self.new)) }
@@ -97,7 +97,8 @@ impl Section {
         }
     }
 
-    /// Notes the interface of a description: `BlockLength`, `LinkType`, `TooManyInterfaces`, or `NoMemory`.
+    /// Appends the interface of a description. An `Err` is `BlockLength`, `LinkType`, `TooManyInterfaces` or
+    /// `NoMemory`.
     #[tactic(auto, unfolding(crate::specs::Sections::described_in))]
     fn describe(&mut self, block: &Block<'_>) -> Result<(), CaptureFault>
         ensures ok { OnOk result (
@@ -108,7 +109,7 @@ impl Section {
         self.note(interface_in(block)?)
     }
 
-    /// Takes in what a block says of the section; an `Err` is the fault of the block, or `NoMemory`.
+    /// Updates the section by a block. An `Err` is the fault of the block, or `NoMemory`.
     #[tactic(auto, unfolding(crate::specs::Sections::section_after))]
     pub(crate) fn take_in(&mut self, block: &Block<'_>) -> Result<(), CaptureFault>
         ensures ok { OnOk result (

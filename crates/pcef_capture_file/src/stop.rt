@@ -5,8 +5,8 @@ use crate::fault::CaptureFault;
 /// Why nothing more is read of the octets at hand.
 #[derive(Clone, Copy)]
 pub enum Stop {
-    /// They are read, or end within a record or a block: more octets are wanted. If there are none, the
-    /// capture ends with this fault, or well.
+    /// They are all read, or end within a record or a block: more octets are wanted. If none follow, the capture ends
+    /// with this fault, or without one.
     Waits(Option<CaptureFault>),
     /// What stands here is at fault, whatever follows.
     Fault(CaptureFault),

@@ -18,7 +18,7 @@ use crate::stop::Stop;
 use std::alloc::Global;
 use std::marker::Model;
 
-/// What the reading of a capture goes by.
+/// The format of a capture, and what is known of it so far.
 #[derive(Drop)]
 enum Format {
     /// The header of a classic file.
@@ -27,8 +27,8 @@ enum Format {
     PcapNg(Section),
 }
 
-/// Reads a capture whose octets come in parts, in either format. The caller keeps the octets that were not
-/// read yet: never more than 16,777,216 when it waits for the next ones.
+/// Reads a capture whose octets come in parts, in either format. The caller keeps the octets that weren't read yet: at
+/// most 16,777,216 when the reader waits for more.
 #[derive(Drop)]
 pub struct CaptureStream {
     format: Format,
@@ -44,7 +44,7 @@ impl Model for CaptureStream {
     ghost view = { λ s. place_of s.format };
 }
 
-/// What the fault of a record is, where more octets may come.
+/// Why reading stops at the fault of a record, where more octets may follow.
 fn record_stop(fault: CaptureFault) -> Stop
     ensures { result ≡ record_stop fault }
 {
@@ -54,7 +54,7 @@ fn record_stop(fault: CaptureFault) -> Stop
     }
 }
 
-/// What the fault of a block is, where more octets may come.
+/// Why reading stops at the fault of a block, where more octets may follow.
 fn block_stop(fault: CaptureFault) -> Stop
     ensures { result ≡ block_stop fault }
 {
@@ -64,7 +64,7 @@ fn block_stop(fault: CaptureFault) -> Stop
     }
 }
 
-/// What the fault of a whole block is, or want of memory.
+/// Why reading stops at the fault of a whole block, or when out of memory.
 fn content_stop(fault: CaptureFault) -> Stop
     ensures { result ≡ content_stop fault }
 {
@@ -118,10 +118,10 @@ fn next_block<'a>(
 }
 
 impl CaptureStream {
-    /// Begins to read the capture that begins with these octets, and gives those behind its front: a file of
-    /// the format pcapng where they begin with a section header, else a classic one. An `Err` is the fault of
-    /// a classic file's header. The caller gives 24 octets or more, or all that there are: with fewer, the
-    /// fault may be one that the next octets mend. Takes no memory.
+    /// Begins to read a capture by its first octets, and returns the octets behind its front. Its format is pcapng
+    /// where it begins with a section header, else the classic one. An `Err` is the fault of a classic file's header.
+    /// The caller passes 24 octets or more, or all that there are: with fewer, more octets may mend the fault. Takes no
+    /// memory.
     pub fn open<'a>(
         alloc: Global,
         octets: &'a [u8],
@@ -148,8 +148,8 @@ impl CaptureStream {
         }
     }
 
-    /// Reads the record or the block at the front of the octets at hand: gives its packet, if it has one, and
-    /// the octets behind it; or tells why not. Takes memory for the interfaces of a pcapng file.
+    /// Reads the record or the block at the front of the octets at hand. Returns its packet, if it has one, and the
+    /// octets behind it, or why nothing was read. Takes memory for the interfaces of a pcapng file.
     pub fn step<'a>(&mut self, octets: &'a [u8]) -> Result<(Option<Packet<'a>>, &'a [u8]), Stop>
         ensures goes_on { IfOk result (λ found.
             GoesOn self.old octets.now (option_map captured found.0) self.new found.1.now) }

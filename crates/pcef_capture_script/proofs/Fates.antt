@@ -27,7 +27,7 @@ wrong_content ue p octets f holds is differs =
       )
     ]
 
--- what stands where a packet is said to
+-- the octets that the frame has in the place of a packet
 content_at : (ue : Addr) (p : Captured) (octets : List ℕ) → Holds p octets → (r : Result (Option Dir) PacketFault) → direction_in ue octets ≡ r → (content : Content) × IsContent ue p content
 content_at ue p octets holds (Ok (Some dir)) is = (Packet dir (record { ref_ptr = (0, 0); now = octets }), (holds, is))
 content_at ue p octets holds (Ok None) is = (Neither, (octets, holds, is))

@@ -36,7 +36,7 @@ goes_further input frames place after rest others p reached goes more packets fa
     let found = packets_among (p ∷ []) in
     subst (λ t. ReadsCapture (input ++ more) t fault) (sym (append_assoc frames found packets)) (reached more (found ++ packets) fault (goes more packets fault read))
 
--- more octets came
+-- more octets were read
 comes_further : (input block : List ℕ) (frames : List Captured) (place : Place) (rest : List ℕ) → Reached input frames place rest → Reached (input ++ block) frames place (rest ++ block)
 comes_further input block frames place rest reached more packets fault read =
     subst (λ t. ReadsCapture t (frames ++ packets) fault) (sym (append_assoc input block more))

@@ -1,5 +1,5 @@
--- What the program is asked for. How words are matched with options is clap's (`matches_of`, `takes`), and so
--- is which words are right; what the options mean is own choice.
+-- The options of the program. How words are matched with options is clap's (`matches_of`, `takes`), and so is which
+-- words are right; what the options mean is own choice.
 use Rattle.std.specs.Prelude.{◌≡◌, pos, true, false, List, [], ◌∷◌, Option, Some, codes}
 use Rattle.std.specs.Str.Parse.{digits_value, without_leading_plus}
 use Rattle.clap.specs.Words.{App, Rule, Text, first_of, matches_of, new_app, new_rule, one_of, with_rule}

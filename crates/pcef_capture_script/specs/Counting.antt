@@ -1,4 +1,4 @@
--- What is counted: each frame, and once more by what became of it.
+-- What is counted: each frame, and once more by its outcome.
 use Rattle.std.specs.Prelude.{ℕ, ◌+◌, ◌-◌, ◌^◌, min, List, fold}
 use Rattle.pcef_capture_script.specs.declared.counts.Counts.{Counts}
 use Rattle.pcef_capture_script.specs.declared.counts.Outcome.{Outcome}

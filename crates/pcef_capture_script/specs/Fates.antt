@@ -1,4 +1,4 @@
--- What becomes of frames.
+-- The outcomes of frames, and their packets.
 use Rattle.std.specs.Prelude.{◌≡◌, ℕ, Bool, List, [], ◌∷◌, map, Option, Some, None, Result, Ok, Err, if◌then◌else◌}
 use Rattle.std.specs.List.{filter_map}
 use Rattle.pcef_packet.specs.declared.header.Addr.{Addr}

@@ -23,7 +23,7 @@ Reached input frames place rest =
     → ReadsOn place (rest ++ more) packets fault
     → ReadsCapture (input ++ more) (frames ++ packets) fault
 
--- so it stands after some octets, whose lines were written from `start` on
+-- such is the state after some octets, whose lines were written from `start` on
 abbrev pub IsAfter : Addr → Bool → Rota → Option (List ℕ) → Option (List ℕ) → Written → Place → List ℕ → List ℕ → Type 0
 IsAfter ue pads rota start now written place rest input =
     (frames : List Captured) × Reached input frames place rest × WroteSoFar ue pads rota frames start now written.turn written.counts
@@ -48,7 +48,7 @@ IsWriteEnd («end».Write error) = Unit {0}
 IsWriteEnd «end».NoMemory = Unit {0}
 IsWriteEnd other = ⊥
 
--- more octets came, or none at the end; where the reader fails none came
+-- more octets were read, or none at the end; where the reader fails none were
 abbrev pub ReadsMore : Result ℕ End → Option (List ℕ) → Option (List ℕ) → List ℕ → List ℕ → Type 0
 ReadsMore result before left old new =
     IfOk result (λ n. (block : List ℕ) × Consumes before left block × (new ≡ old ++ block) × (length block ≡ n) × (n ≡ 0 → IsAtEnd left))

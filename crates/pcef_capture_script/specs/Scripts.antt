@@ -8,11 +8,11 @@ pub record Rota : Type 0 where
   pub workers : ℕ
   pub batch : ℕ
 
--- no packets are as one
+-- a batch of 0 packets counts as one of 1
 abbrev pub batch_of : Rota → ℕ
 batch_of rota = max rota.batch 1
 
--- workers in turn take a batch each; no workers are as one
+-- workers in turn take a batch each; 0 workers count as 1
 abbrev pub worker_of : Rota → ℕ → ℕ
 worker_of rota n = (n / batch_of rota) % max rota.workers 1
 

@@ -1,4 +1,4 @@
--- What is written for a capture that is read as it comes (own choice).
+-- What is written for a capture while it is read (own choice).
 use Rattle.std.specs.Prelude.{◌<◌, ◌⊎◌, ℕ, Bool, List, [], ◌++◌, length, Option, Result, Ok, Err}
 use Rattle.std.specs.Io.KnownBytes.{Appends, Consumes, IsAtEnd}
 use Rattle.pcef_packet.specs.declared.header.Addr.{Addr}
@@ -12,12 +12,13 @@ use Rattle.pcef_capture_script.specs.declared.counts.Counts.{Counts}
 use Rattle.pcef_capture_script.specs.declared.end.End.{End}
 use Rattle.pcef_capture_script.specs.declared.end.End.TheVariants as «end»
 
--- It is so of the octets that were read, and what is left changes nothing: there is nothing left, or it is so
+-- This holds of the octets that were read, and those that are left change nothing: there are none, or it holds
 -- whatever follows.
 abbrev pub Lasts : Option (List ℕ) → (List ℕ → Type 0) → List ℕ → Type 0
 Lasts left P input = P input × (IsAtEnd left ⊎ ((more : List ℕ) → P (input ++ more)))
 
--- the frames of the octets so far have their lines, and no other has; within the header of a file there are none
+-- the frames of the octets so far have their lines, and there are no other lines; within the header of a file there
+-- are none
 abbrev pub WroteSoMuch : Addr → Bool → Rota → List ℕ → Option (List ℕ) → Option (List ℕ) → Type 0
 WroteSoMuch ue pads rota input old new =
     ((frames : List Captured) × (fault : Option CaptureFault) × ReadsCapture input frames fault × WritesLines ue pads rota frames old new)
@@ -31,8 +32,8 @@ WroteFrontOf ue pads rota input old new =
 
 -- What was written for the octets that were read. At the end of the capture, or at its fault, it is the script for its
 -- frames. Where the header of a classic file is at fault, nothing is written. Where the reader fails, the lines of all
--- frames so far are; it may fail at any time, so they always are before more is read. Where the writer fails or memory
--- runs out, a front of the script is.
+-- frames so far are written; it may fail at any time, so they always are written before more is read. Where the writer
+-- fails or memory runs out, a front of the script is written.
 abbrev pub Wrote : Addr → Bool → Rota → Result (Counts × Option CaptureFault) End → Option (List ℕ) → List ℕ → Option (List ℕ) → Option (List ℕ) → Type 0
 Wrote ue pads rota (Ok told) left input old new =
     (frames : List Captured) × Lasts left (λ octets. ReadsCapture octets frames told.1) input × WritesTakes ue pads rota frames old new told.0

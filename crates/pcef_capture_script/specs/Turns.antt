@@ -27,7 +27,7 @@ taken_after turn =
     then record { workers = turn.workers; batch = turn.batch; worker = turn.worker; waiting = turn.waiting + 1 }
     else record { workers = turn.workers; batch = turn.batch; worker = next_worker turn.workers turn.worker; waiting = 0 }
 
--- the turn when so many packets were taken
+-- the turn after this number of packets
 abbrev pub turn_at : Rota → ℕ → Turn
 turn_at rota n = record { workers = rota.workers; batch = rota.batch; worker = worker_of rota n; waiting = n % batch_of rota }
 

@@ -1,9 +1,9 @@
-//! What became of packets.
+//! The outcomes of packets.
 
 ghost use Rattle.std.specs.Prelude.{◌≡◌};
 ghost use Rattle.pcef_capture_script.specs.Counting.{counted};
 
-/// What became of a frame.
+/// The outcome of a frame.
 #[derive(Clone, Copy)]
 pub enum Outcome {
     /// Its packet has a line.
@@ -16,7 +16,7 @@ pub enum Outcome {
     Neither,
 }
 
-/// How many frames came to what. None of the numbers goes beyond 2 ^ 64 - 1.
+/// How many frames had each outcome. The counts stop at 2 ^ 64 - 1.
 #[derive(Clone, Copy, Default)]
 pub struct Counts {
     /// All that were read.

@@ -1,5 +1,5 @@
-//! The lines of a script for the packets of a capture, written while it is read, and what the program that writes them
-//! is asked for: `asked`, `write_capture`.
+//! The lines of a script for the packets of a capture, written while it is read, and the options of the program that
+//! writes them: `parse_options`, `write_capture`.
 //!
 //! Its contracts say: which lines were written for the packets so far, or a front of them.
 //!

@@ -1,4 +1,4 @@
-//! What the program is asked for.
+//! The options of the program.
 
 ghost use Rattle.std.specs.Prelude.{◌≡◌, ◌∷◌, [], ℕ, List, IfErr, IfOk, IfSome, Some, codes, false, map, string_bytes, true};
 ghost use Rattle.clap.specs.Words.{app_of, found_of, kind_of, matches_of, new_app, new_rule, rows_of, rule_of, takes, with_rule};
@@ -10,7 +10,7 @@ use clap::{Arg, ArgAction, ArgMatches, Command, Error, value_parser};
 use pcef_packet::Addr;
 use std::alloc::{AllocError, Global};
 
-/// What the program is asked for.
+/// The options of the program.
 #[derive(Clone, Copy)]
 pub struct Options<'a> {
     /// The session's address, of either version.
@@ -25,12 +25,12 @@ pub struct Options<'a> {
     pub file: &'a str,
 }
 
-/// What the words come to.
+/// The request that the words make.
 #[derive(Clone, Copy)]
 pub enum Request<'a> {
-    /// They ask for this.
+    /// Work with these options.
     Options(Options<'a>),
-    /// They give this text as the session's address, and it writes none.
+    /// The text that is given for the session's address is no address.
     NoAddress(&'a str),
 }
 
@@ -123,7 +123,7 @@ fn with_ue<'a>(alloc: Global) -> Result<Command<'a>, AllocError>
         .arg(ue(alloc))
 }
 
-/// And with how many workers take packets.
+/// The same with the number of workers that take packets.
 fn with_workers<'a>(alloc: Global) -> Result<Command<'a>, AllocError>
     ensures { IfOk result (λ more. app_of more
         ≡ with_rule (with_rule (new_app (codes "pcef_capture")) ue_rule) workers_rule) }
@@ -131,7 +131,7 @@ fn with_workers<'a>(alloc: Global) -> Result<Command<'a>, AllocError>
     with_ue(alloc)?.arg(workers(alloc))
 }
 
-/// And with how many packets each takes.
+/// The same with the number of packets that each takes.
 fn with_batch<'a>(alloc: Global) -> Result<Command<'a>, AllocError>
     ensures { IfOk result (λ more. app_of more ≡ with_rule (with_rule (with_rule
         (new_app (codes "pcef_capture")) ue_rule) workers_rule) batch_rule) }
@@ -139,7 +139,7 @@ fn with_batch<'a>(alloc: Global) -> Result<Command<'a>, AllocError>
     with_workers(alloc)?.arg(batch(alloc))
 }
 
-/// And with whether packets are padded.
+/// The same with the option to pad packets.
 fn with_pad<'a>(alloc: Global) -> Result<Command<'a>, AllocError>
     ensures { IfOk result (λ more. app_of more ≡ with_rule (with_rule (with_rule (with_rule
         (new_app (codes "pcef_capture")) ue_rule) workers_rule) batch_rule) pad_rule) }
@@ -154,7 +154,7 @@ pub fn command<'a>(alloc: Global) -> Result<Command<'a>, AllocError>
     with_pad(alloc)?.arg(file(alloc))
 }
 
-/// What a command line that clap took comes to, or none where an option has no value.
+/// The request of a command line that clap accepted, or none where an option has no value.
 fn request_of<'a>(matches: &ArgMatches<'a>) -> Option<Request<'a>>
     ensures { (words : List (List ℕ)) →
         rows_of (found_of matches.now) ≡ matches_of command_line words
@@ -176,7 +176,7 @@ fn request_of<'a>(matches: &ArgMatches<'a>) -> Option<Request<'a>>
     }))
 }
 
-/// What clap takes the words for.
+/// The matches that clap finds in the words, or its error.
 fn parse<'a>(alloc: Global, words: &'a [String]) -> Result<ArgMatches<'a>, Error>
     ensures rows { IfOk result (λ matches. rows_of (found_of matches)
         ≡ matches_of command_line (map string_bytes words.entry.now)) }
@@ -187,9 +187,9 @@ fn parse<'a>(alloc: Global, words: &'a [String]) -> Result<ArgMatches<'a>, Error
     command(alloc)?.try_get_matches_from(words)
 }
 
-/// What the words come to, of which the first is the program's name. Other wrong words than an address that isn't one
-/// are clap's error, and so are the questions for help and for the version; out of memory too. None would be an option
-/// without a value, which clap doesn't pass. Takes memory.
+/// The request in the words, the first of which is the program's name. Other wrong words than an address are clap's
+/// error; so are the requests for help and for the version, and out of memory. `None` would be an option without a
+/// value, which clap never accepts. Takes memory.
 pub fn parse_options<'a>(alloc: Global, words: &'a [String]) -> Result<Option<Request<'a>>, Error>
     ensures asks { IfOk result
         (λ request. IfSome request (IsRequest (map string_bytes words.entry.now))) }

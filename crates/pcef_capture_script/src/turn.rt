@@ -8,7 +8,7 @@ ghost use Rattle.pcef_capture_script.specs.Turns.{full_after, taken_after};
 pub struct Turn {
     /// How many workers there are.
     pub workers: u8,
-    /// How many packets a worker takes before it flushes; 0 is as 1.
+    /// How many packets a worker takes before it flushes; 0 counts as 1.
     pub batch: u8,
     /// The worker that takes the next packet, numbered from 0.
     pub worker: u8,
@@ -17,7 +17,7 @@ pub struct Turn {
 }
 
 impl Turn {
-    /// The first worker of so many, where nothing waits, and each takes so many packets in its turn.
+    /// The turn of the first of `workers`, where nothing waits, and each takes `batch` packets in its turn.
     pub fn first(workers: u8, batch: u8) -> Turn
         ensures { result ≡ record { workers = workers; batch = batch; worker = 0; waiting = 0 } }
     {
@@ -29,8 +29,7 @@ impl Turn {
         }
     }
 
-    /// Notes that the worker took a packet, and answers it if it is to flush. Then the next worker has
-    /// its turn.
+    /// Notes that the worker took a packet. Returns it if it is to flush; then the next worker has its turn.
     pub fn take(&mut self) -> Option<u8>
         ensures full { result ≡ full_after self.old }
         ensures turn { self.new ≡ taken_after self.old }

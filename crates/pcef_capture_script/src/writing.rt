@@ -24,7 +24,7 @@ use std::io::{self, ErrorKind, Read, Write};
 /// How many octets are read at a time.
 const BLOCK_LEN: usize = 8192;
 
-/// How many octets tell a capture's format, and whether a classic file's header is at fault.
+/// How many octets it takes to know a capture's format, and whether a classic file's header is at fault.
 const FRONT_LEN: usize = 24;
 
 /// What was written so far.
@@ -36,7 +36,7 @@ pub(crate) struct Written {
     pub counts: Counts,
 }
 
-/// How the program ends where the writer fails, or memory runs out while lines are made.
+/// The end of the program where the writer fails, or memory runs out while lines are made.
 fn write_end(error: io::Error) -> End
     ensures { IsWriteEnd result }
 {
@@ -77,8 +77,8 @@ fn put_frame<W: Write>(
     }
 }
 
-/// Puts the lines for all whole records or blocks at the front of the octets at hand; gives the octets behind
-/// them, and why nothing more is read of these.
+/// Puts the lines for all whole records or blocks at the front of the octets at hand. Returns the octets behind them,
+/// and why nothing more is read of these.
 fn put_whole<'a, W: Write>(
     alloc: Global,
     options: &Options<'_>,
@@ -111,7 +111,7 @@ fn put_whole<'a, W: Write>(
     }
 }
 
-/// Lets octets at the front go.
+/// Drops `taken` octets at the front.
 fn forget(octets: &mut Vec<u8>, taken: usize) -> Result<(), AllocError>
     requires { taken ≤ length octets.old.items }
     ensures { OnOk result (octets.new.items ≡ drop taken octets.old.items) }
@@ -122,8 +122,8 @@ fn forget(octets: &mut Vec<u8>, taken: usize) -> Result<(), AllocError>
     Ok(())
 }
 
-/// Puts the lines for all whole records or blocks at hand and flushes the writer; keeps the octets behind them,
-/// and tells why nothing more is read of these.
+/// Puts the lines for all whole records or blocks at hand and flushes the writer. Keeps the octets behind them, and
+/// returns why nothing more is read of these.
 fn put_waiting<W: Write>(
     alloc: Global,
     options: &Options<'_>,
@@ -159,7 +159,7 @@ fn put_waiting<W: Write>(
     }
 }
 
-/// Reads some octets behind those that wait, and gives how many: none at the end of the input.
+/// Reads some octets behind those that wait, and returns their number: 0 at the end of the input.
 fn read_more<R: Read>(reader: &mut R, waiting: &mut Vec<u8>) -> Result<usize, End>
     ensures more { ReadsMore result (R.remaining reader.old) (R.remaining reader.new)
         waiting.old.items waiting.new.items }
@@ -179,7 +179,7 @@ fn read_more<R: Read>(reader: &mut R, waiting: &mut Vec<u8>) -> Result<usize, En
     }
 }
 
-/// Reads octets until those that wait tell the format and a header's fault, or the input ends.
+/// Reads octets until enough wait to know the format and a header's fault, or the input ends.
 fn read_front<R: Read>(reader: &mut R, waiting: &mut Vec<u8>) -> Result<(), End>
     requires { waiting.old.items ≡ [] }
     ensures front { OnOk result
@@ -195,7 +195,7 @@ fn read_front<R: Read>(reader: &mut R, waiting: &mut Vec<u8>) -> Result<(), End>
     Ok(())
 }
 
-/// Puts the line of a flush where packets wait; tells what was counted, and the fault.
+/// Puts the line of a flush where packets wait. Returns the counts, and the fault.
 fn finish<W: Write>(
     alloc: Global,
     written: &Written,
@@ -246,7 +246,7 @@ fn write_rest<R: Read, W: Write>(
     Err(End::NoMemory)
 }
 
-/// Lets the octets that were taken go, and writes the lines for the capture from those behind them on.
+/// Drops the octets that were taken, and writes the lines for the capture from those behind them on.
 fn write_behind<R: Read, W: Write>(
     alloc: Global,
     options: &Options<'_>,
@@ -270,17 +270,17 @@ fn write_behind<R: Read, W: Write>(
 }
 
 /// Writes the lines for a capture while it is read: a `take` line for each packet with the session's address on one
-/// side, workers in turn, a `flush` line after each batch, and one at the end where packets wait. Before it reads more,
-/// the lines of all frames that were read whole are written and the writer is flushed. Gives what was counted, and the
-/// fault up to which the capture was read, or none at its end.
+/// side, workers in turn, a `flush` line after each batch, and one at the end where packets wait. Before more is read,
+/// the lines of all whole frames are written and the writer is flushed. Returns the counts, and the fault up to which
+/// the capture was read, or none at its end.
 ///
 /// An `Err` is `Capture`, where the header of a classic file is at fault and nothing is written; the reader's error; or
-/// the writer's or out of memory, where a front of the lines is written. That it ends after 2 ^ 64 - 1 reads, with
-/// `NoMemory`, never comes to pass.
+/// the writer's error or out of memory, where a front of the lines is written. After 2 ^ 64 - 1 reads, which never
+/// happen, it would be `NoMemory`.
 ///
-/// `waiting` has the octets that were read and have no lines yet, and so takes memory: those of the record or the block
-/// that isn't whole, at most 16,777,216, and the 8,192 that are read at once. At a fault they begin with what is at
-/// fault. Beside them the interfaces of a pcapng section take memory.
+/// `waiting` takes memory for the octets that were read and have no lines yet: those of the record or the block that
+/// isn't whole, at most 16,777,216, and the 8,192 that are read at once. At a fault they begin where it is. The
+/// interfaces of a pcapng section take memory, too.
 pub fn write_capture<R: Read, W: Write>(
     alloc: Global,
     options: &Options<'_>,

@@ -20,7 +20,7 @@ names_of offers = map (λ o. o.properties.name) offers
 abbrev pub AreDistinct : List (List ℕ) → Type 0
 AreDistinct names = (i j : ℕ) → i < j → j < length names → slice_get names i ≢ slice_get names j
 
--- when rules make a catalog, and when each fault comes; out of memory comes after the others
+-- when rules make a catalog, and when each fault is due; out of memory is the last
 abbrev pub Makes : List Offer → Option CatalogFault → Type 0
 Makes offers None = AreDistinct (names_of offers) × (length offers ≤ most_offers)
 Makes offers (Some SameName) = ¬ AreDistinct (names_of offers)

@@ -26,15 +26,15 @@ pub trait Offers {
         ensures { result.now ≡ offers self.now };
 }
 
-/// What judges packets by predefined rules takes a catalog through this trait: the rules' closures answer.
+/// What judges packets by predefined rules takes a catalog through this trait: the rules' closures detect.
 pub trait Detects: Offers {
-    /// Whether the closure of the rule at this place of the listing answers yes to a header. Places count
-    /// from 0; where no rule stands at one, the answer is no.
+    /// Whether the closure of the rule at this place of the listing detects a header. Places count from 0; where no
+    /// rule stands, the answer is no.
     fn detects(&self, index: u8, header: &Header) -> bool
         ensures { result ≡ detected (Self.offers self.now) index header.now };
 }
 
-/// Why rules make no catalog. Of several faults the first in this order is answered.
+/// Why rules make no catalog: the first fault in this order.
 #[derive(Clone, Copy, Debug, PartialEq, Eq, Error)]
 pub enum CatalogFault {
     /// Two rules have one name.
@@ -48,14 +48,14 @@ pub enum CatalogFault {
     NoMemory,
 }
 
-/// The predefined rules of a gateway, at most 32, of which no two have one name.
+/// The predefined rules of a gateway: at most 32, with distinct names.
 pub struct Catalog {
     rules: Vec<Predefined>,
     listing: Listing,
     ghost listed: { listing ≡ offers_in rules.items },
 }
 
-// Written out, so that an owner proves one call at each way out.
+// Written out, so that an owner proves one call on each return path.
 impl Drop for Catalog {
     fn drop(self) {
         let Catalog {

@@ -11,7 +11,7 @@ use std::alloc::{AllocError, Global};
 use std::marker::Model;
 use std::sync::Arc;
 
-/// The most rules of a catalog.
+/// The most rules that a catalog may have.
 pub const MAX_OFFERS: usize = 32;
 
 /// A predefined rule without its closure: its properties and what it detects.
@@ -29,7 +29,7 @@ pub struct Listing {
     offers: Arc<Vec<Offer>>,
 }
 
-// Written out, so that an owner proves one call at each way out.
+// Written out, so that an owner proves one call on each return path.
 impl Drop for Listing {
     fn drop(self) {
         let Listing { offers: _ } = self;
@@ -60,7 +60,7 @@ impl Listing {
         })
     }
 
-    /// Another owner of the same rules. Fails when out of memory.
+    /// A copy, which shares the same rules. Fails when out of memory.
     pub fn share(&self) -> Result<Listing, AllocError>
         ensures { IfOk result (λ l. l ≡ self.now) }
     {

@@ -46,7 +46,7 @@ pub(crate) fn are_distinct(rules: &[Predefined]) -> bool
     true
 }
 
-/// Whether the closure of the rule at a place answers yes to a header; no where there is no such place.
+/// Whether the closure of the rule at a place detects a header; false where there is no such place.
 pub(crate) fn detects_at(rules: &[Predefined], index: u8, header: &Header) -> bool
     ensures { result ≡ detected (offers_in rules.now) index header.now }
 {

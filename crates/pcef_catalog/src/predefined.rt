@@ -7,7 +7,7 @@ use crate::shape::Shape;
 use pcef_packet::Header;
 use pcef_rule::Properties;
 
-/// Answers whether a packet is of a rule's traffic.
+/// Returns whether a packet is of a rule's traffic.
 pub type Detect = Box<dyn Fn(&Header) -> bool + Send + Sync>;
 
 /// A rule that stands in the catalog, with the closure that detects its packets (TS 23.203, clause 6.2.2.2).
@@ -19,7 +19,7 @@ pub struct Predefined {
     ghost exact: { (at : _) (r : Bool) → Detect.post detect at r → r ≡ shape_holds shape at.now },
 }
 
-// Written out, so that an owner proves one call at each way out.
+// Written out, so that an owner proves one call on each return path.
 impl Drop for Predefined {
     fn drop(self) {
         let Predefined {
@@ -33,8 +33,8 @@ impl Drop for Predefined {
 impl Predefined {
     ghost use Rattle.pcef_catalog.specs.PlainRules.{offer_of};
 
-    /// The rule with these parts. Whoever makes one proves two things of its closure: any header may be
-    /// handed to it, and its answer is the shape's. Takes no memory.
+    /// The rule with these parts. Whoever makes one proves two things of its closure: it takes any header, and its
+    /// answer is the shape's. Takes no memory.
     pub fn new(properties: Properties, shape: Shape, detect: Detect) -> Predefined
         requires callable { Detect.IsAlwaysCallable detect }
         requires exact { (at : _) (r : Bool) → Detect.post detect at r →

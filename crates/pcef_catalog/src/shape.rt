@@ -39,7 +39,7 @@ impl Default for Test {
     }
 }
 
-/// Tests that are all to be true. With none, the alternative is always true.
+/// Tests that must all be true. With none, the alternative is always true.
 #[derive(Debug, Default, Drop)]
 pub struct Alternative {
     /// The tests, at most 8.
@@ -57,13 +57,13 @@ impl Alternative {
     }
 }
 
-/// At most 8 alternatives, of which one is to be true. With none, the shape never holds.
+/// At most 8 alternatives. The shape holds where one of them is true; with none it never holds.
 #[derive(Debug)]
 pub struct Shape {
     alternatives: ArrayVec<Alternative, 8>,
 }
 
-// Written out, so that an owner proves one call at each way out.
+// Written out, so that an owner proves one call on each return path.
 impl Drop for Shape {
     fn drop(self) {
         let Shape { alternatives: _ } = self;

@@ -14,7 +14,7 @@ fn on_command(refusal: Refusal) -> Option<&'static str> {
         Refusal::UnknownRule => "remove takes an active rule, and activate a predefined one",
         Refusal::UnknownKey => "monitor it first",
         Refusal::ZeroGrant => "a whole number from 1 on is expected",
-        Refusal::UnknownBearer => "show tells the bearers",
+        Refusal::UnknownBearer => "show lists the bearers",
         Refusal::DefaultBearer => "only another one can",
         Refusal::WorkersAttached(_) => "finish or abandon them first",
         Refusal::RulesFull => "remove one of the 64 that are active first",
@@ -34,7 +34,7 @@ fn on_command(refusal: Refusal) -> Option<&'static str> {
     })
 }
 
-/// The field of a line at which a command is refused, if it's always there or the one that lacks.
+/// The field at which a command is refused, if the line always has it, or if it is the one that is missing.
 fn field_of(refusal: Refusal) -> Option<Field> {
     match refusal {
         Refusal::NameIsPredefined => Some(Field::Name),
@@ -47,7 +47,7 @@ fn field_of(refusal: Refusal) -> Option<Field> {
     }
 }
 
-/// The field of a line that isn't at fault to which the advice belongs, if it is one.
+/// The field that the advice on a line belongs to, if there is one. The line isn't at fault.
 pub(crate) fn field_on(found: Found) -> Option<Field> {
     match found {
         Found::Command(refusal) => field_of(refusal),
@@ -56,7 +56,7 @@ pub(crate) fn field_on(found: Found) -> Option<Field> {
     }
 }
 
-/// What to do about what was found in a line that isn't at fault, if something can be done.
+/// What to do about what was found in a line that isn't at fault, if anything.
 pub(crate) fn advice_on(found: Found) -> Option<&'static str> {
     match found {
         Found::Command(refusal) => on_command(refusal),
@@ -66,7 +66,7 @@ pub(crate) fn advice_on(found: Found) -> Option<&'static str> {
         Found::Attach(AttachFault::Closed) => Some("attach before close"),
         Found::Flush(FlushRefusal::NotAttached) => Some("attach it first"),
         Found::Flush(FlushRefusal::RowsFull) => Some("raise rows in the profile"),
-        Found::NoWorker => Some("attach it first; the answer tells its number"),
+        Found::NoWorker => Some("attach it first; the answer has its number"),
         _ => None,
     }
 }

@@ -1,5 +1,5 @@
-//! The program `pcef_check`, which tells which lines of a script `pcef script` would answer by a fault or a refusal,
-//! and why.
+//! The program `pcef_check`, which reports the lines of a script that `pcef script` would answer by a fault or a
+//! refusal, and why.
 //!
 //! `pcef_check PROFILE [LINES]` plays the lines on a session of the profile and its own, with the built-in catalog.
 #![tactic(auto)]
@@ -27,7 +27,7 @@ use writing::write_findings;
 /// The most bytes of a script.
 const MAX_SCRIPT: usize = 1_073_741_824;
 
-/// Where an error of the system ends the program.
+/// The end of the program at an error of the system: `NoMemory` or this other one.
 fn end_of<'a>(error: io::Error, other: End<'a>) -> End<'a> {
     match error.kind() {
         ErrorKind::OutOfMemory => End::NoMemory,
@@ -58,7 +58,7 @@ fn write(
     writer.flush()
 }
 
-/// Finds and tells what is wrong in lines.
+/// Finds and writes what is wrong in lines.
 fn check_lines<'a>(
     rt: &HostRuntime,
     catalog: &ShapedCatalog,
@@ -85,7 +85,7 @@ fn check_lines<'a>(
     }
 }
 
-/// Tells the fault of a profile.
+/// Prints the fault of a profile.
 fn print_profile_fault(
     rt: &HostRuntime,
     file: &str,
@@ -97,7 +97,7 @@ fn print_profile_fault(
     println!(rt; "{file}: profile fault {number} {explanation}")
 }
 
-/// Finds and tells what is wrong in a profile, and then in lines.
+/// Finds and writes what is wrong in a profile, and then in lines.
 fn check<'a>(rt: &HostRuntime, catalog: &ShapedCatalog, options: Options<'a>) -> End<'a> {
     let text = match read_text(rt, options.profile) {
         Ok(text) => text,
@@ -119,7 +119,7 @@ fn check<'a>(rt: &HostRuntime, catalog: &ShapedCatalog, options: Options<'a>) ->
     }
 }
 
-/// Tells why the program ends early, and gives its exit status. That it can't be told changes nothing.
+/// Reports why the program ends early, and returns its exit status. A failing write changes nothing.
 fn report_end(rt: &HostRuntime, end: &End<'_>) -> u8
     ensures { result ≤ 4 }
 {
@@ -138,7 +138,7 @@ fn report_end(rt: &HostRuntime, end: &End<'_>) -> u8
     end.status()
 }
 
-/// Does what the arguments ask for, and gives the exit status.
+/// Does what the arguments ask for, and returns the exit status.
 fn status_with(rt: &HostRuntime, catalog: &ShapedCatalog) -> u8
     ensures { result ≤ 4 }
 {

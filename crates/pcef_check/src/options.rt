@@ -1,9 +1,9 @@
-//! What the program is asked for.
+//! The options of the program.
 
 use clap::{Arg, ArgAction, Command, Error};
 use std::alloc::Global;
 
-/// What the program is asked for.
+/// The options of the program.
 #[derive(Clone, Copy)]
 pub(crate) struct Options<'a> {
     /// The path of the profile.
@@ -12,8 +12,8 @@ pub(crate) struct Options<'a> {
     pub lines: Option<&'a str>,
 }
 
-/// What the words ask for, of which the first is the program's name. Wrong words are clap's error, and so are the
-/// questions for help and for the version; out of memory too. Takes memory.
+/// The options in the words, the first of which is the program's name. Wrong words are clap's error; so are the
+/// requests for help and for the version, and out of memory. Takes memory.
 pub(crate) fn parse_options<'a>(
     alloc: Global,
     words: &'a [String],

@@ -1,4 +1,4 @@
-//! Tells what was found.
+//! Writes what was found.
 
 use crate::advice::{advice_on, field_on};
 use pcef_built_in::ShapedCatalog;
@@ -9,7 +9,7 @@ use pcef_model::Refusal;
 use std::alloc::{AllocError, Global};
 use std::io::{self, Write};
 
-/// What is told of a line that isn't at fault, beside what was found in it.
+/// The advice on a line that isn't at fault, beside what was found in it.
 fn advice_for(
     alloc: Global,
     catalog: &ShapedCatalog,
@@ -33,7 +33,7 @@ fn advice_for(
     }
 }
 
-/// What is told of a line beside its answer.
+/// The explanation of a line, beside its answer.
 fn explanation_of(
     alloc: Global,
     catalog: &ShapedCatalog,
@@ -55,7 +55,7 @@ fn explanation_of(
     }
 }
 
-/// Tells what was found in a line of a file.
+/// Writes what was found in a line of a file.
 fn write_finding<W: Write>(
     alloc: Global,
     writer: &mut W,
@@ -74,8 +74,8 @@ fn write_finding<W: Write>(
     }
 }
 
-/// Tells what was found in the lines of a file, each with its number, its column where that is known, and the answer of a
-/// script.
+/// Writes what was found in the lines of a file: for each, its number, its column where that is known, and the answer
+/// of a script.
 pub(crate) fn write_findings<W: Write>(
     alloc: Global,
     writer: &mut W,

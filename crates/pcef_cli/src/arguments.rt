@@ -7,7 +7,7 @@ use std::env::{Env, FillError};
 use std::io::{self, ErrorKind};
 use std::str;
 
-/// An argument, if there is one of that number.
+/// The argument of this number, if there is one.
 fn word<E: Env>(alloc: Global, env: &E, number: usize) -> Result<Option<Vec<u8>>, AllocError> {
     let mut room = 256usize;
     for _ in 0..usize::BITS {
@@ -45,7 +45,7 @@ fn text_of(rt: &HostRuntime, path: &[u8]) -> io::Result<String> {
     }
 }
 
-/// The texts of the profiles that the arguments ask for. No file is read where they ask for none. Takes memory for them.
+/// The texts of the profiles that the arguments name. No file is read where they name none. Takes memory for them.
 pub(crate) fn profiles_of(
     rt: &HostRuntime,
     words: &[Vec<u8>],

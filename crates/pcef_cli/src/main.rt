@@ -135,7 +135,7 @@ fn run<T: Threads + Wait + Sync>(threads: &T, rt: &HostRuntime) -> io::Result<u8
     run_with(threads, rt, Arc::new(alloc, catalog)?)
 }
 
-/// Runs the program and gives its exit status. What keeps it from starting is reported as out of memory.
+/// Runs the program and returns its exit status. What keeps it from starting is reported as out of memory.
 fn status<T: Threads + Wait + Sync>(threads: &T, rt: &HostRuntime) -> u8
     ensures { result ≤ 4 }
 {

@@ -1,4 +1,4 @@
-//! What a program over clap does before its work: it gathers its words, and tells why they ask for none.
+//! What a program over clap does before its work: it gathers its words, and reports why they ask for none.
 //!
 //! Its contracts say: the exit status that goes with each reason.
 //!

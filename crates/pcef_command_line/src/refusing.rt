@@ -7,7 +7,7 @@ ghost use Rattle.pcef_command_line.specs.Statuses.{IsDue};
 use clap::Error;
 use clap::error::ErrorKind;
 
-/// Reports `want of memory` on standard error, and gives its exit status. A failing write changes nothing.
+/// Reports `want of memory` on standard error, and returns its exit status. A failing write changes nothing.
 pub fn report_no_memory(rt: &HostRuntime) -> u8
     ensures { result ≡ 3 }
 {
@@ -16,8 +16,8 @@ pub fn report_no_memory(rt: &HostRuntime) -> u8
 }
 
 /// Reports an error of clap, and returns the exit status: 3 when out of memory, 0 where help or the version was asked
-/// for, else 2; or 4 where nothing can be written. What was asked for stands on standard output: that it can't be
-/// written is reported.
+/// for, else 2; or 4 where nothing can be written. Help and the version stand on standard output, and a failing write
+/// of them is reported.
 pub fn refuse(rt: &HostRuntime, error: &Error) -> u8
     ensures due { IsDue (kind_of error.now) result }
     ensures within { result ≤ 4 }

@@ -17,7 +17,7 @@ world_of w = w.state.value
 abbrev pub world_setting : {d h g : _} → World d h g → Setting
 world_setting w = (world_of w).session.setting
 
--- how a world stands: the journal of its session, and its workers
+-- the state of a world: the journal of its session, and its workers
 abbrev pub world_standing : {d h g : _} → World d h g → Standing
 world_standing w = standing_of (world_of w)
 

@@ -39,10 +39,10 @@ pub record SessionIsExact (p : Setting) (s : KeptBySession) : Type 0 where
   -- all rates together are within the capacity
   pub within_up : total_up s.binding.bound ≤ p.capacity.up
   pub within_down : total_down s.binding.bound ≤ p.capacity.down
-  -- the keys are those that were ever named, in that order
+  -- the keys are those that were ever named, in the order of their first naming
   pub keys_are : map (λ k. k.key) s.keys ≡ slots p s.journal
-  -- the reported octets of each are those that the journal's reports tell; with the unreported ones they are those that
-  -- its packet rows passed for the key, each row by its own generation (TS 29.212, clause 4.5.16)
+  -- the reported octets of each are those of the journal's reports; with the unreported ones they are those that its
+  -- packet rows passed for the key, each row by its own generation (TS 29.212, clause 4.5.16)
   pub reported_octets : AllByRecursion (λ k. k.reported ≡ reported s.journal k.key) s.keys
   pub octets : AllByRecursion (λ k. k.reported + k.unreported ≡ counted p s.journal k.key) s.keys
   -- each row has the verdict of its own generation

@@ -20,8 +20,8 @@ use pcef_usage::Usage;
 use std::alloc::Global;
 use std::sync::Arc;
 
-/// A session and the catalog of its predefined rules. All rows, commands and reports are kept.
-// In a box, so that whoever owns a session has one pointer to prove, and not each part of the state.
+/// A session and the catalog of its predefined rules. It keeps all rows, commands and reports.
+// In a box, so that an owner proves one pointer, and not each part of the state.
 pub struct Session {
     catalog: Arc<Catalog>,
     state: Box<JournaledState>,
@@ -29,7 +29,7 @@ pub struct Session {
     ghost kept: { state.value.keeps ≡ true },
 }
 
-// Written out, so that an owner proves one call at each way out.
+// Written out, so that an owner proves one call on each return path.
 impl Drop for Session {
     fn drop(self) {
         let Session {
@@ -54,8 +54,8 @@ impl Session {
     ghost use Rattle.pcef_session.specs.Preparing.{IsPreparedFor, command_of};
     ghost use Rattle.pcef_session.specs.SessionModel.{HasAtLeast};
 
-    /// A session with an empty journal, or the first fault in the order of [`OpenFault`]. Takes memory for the rules
-    /// that may come, and for the first table.
+    /// A session with an empty journal, or the first fault in the order of [`OpenFault`]. Takes memory for the rules to
+    /// come, and for the first table.
     pub fn open(
         alloc: Global,
         profile: Profile,
@@ -132,7 +132,7 @@ impl Session {
         self.state.flush(worker, batch)
     }
 
-    /// Where a worker's lane ends, and whether the worker is attached; or `None` of a worker that never came.
+    /// Where a worker's lane ends, and whether the worker is attached; or `None` of a worker that never attached.
     pub fn lane_end(&self, worker: u8) -> Option<LaneEnd>
         ensures end { IsLaneEnd (journal_in self.now) worker result }
         ensures none { IfNone result (lane (journal_in self.now) worker ≡ []) }

@@ -14,9 +14,9 @@ use pcef_world::StepAnswer;
 use std::alloc::Global;
 use std::sync::Arc;
 
-/// Opens a session and makes steps, one after the other. Gives the world after them, and one answer for each. Takes
-/// memory for both. A fault is the first that keeps the session from being opened, or out of memory, on which the run
-/// is given up.
+/// Opens a session and makes steps, one after the other. Returns the world after them, and one answer for each. Takes
+/// memory for both. An `Err` is the first fault that keeps the session from being opened, or out of memory, which ends
+/// the run.
 pub fn run(
     alloc: Global,
     profile: Profile,

@@ -13,7 +13,7 @@ use std::alloc::{AllocError, Global};
 use std::sync::Arc;
 
 /// A session and its workers, and the catalog of the session's predefined rules.
-// In a box, so that whoever owns a world has one pointer to prove, and not each part of the state.
+// In a box, so that an owner proves one pointer, and not each part of the state.
 pub struct World {
     catalog: Arc<Catalog>,
     state: Box<WorldState>,
@@ -21,7 +21,7 @@ pub struct World {
     ghost kept: { state.value.session.forgotten ≡ 0 },
 }
 
-// Written out, so that an owner proves one call at each way out.
+// Written out, so that an owner proves one call on each return path.
 impl Drop for World {
     fn drop(self) {
         let World {
@@ -37,8 +37,8 @@ impl World {
     ghost use Rattle.pcef_model.specs.Outcomes.{Opens};
     ghost use Rattle.pcef_world.specs.Steps.{LacksForStep, MakesFront, MakesStep, MakesSteps, at_start};
 
-    /// A session with an empty journal and no workers, or the first fault in the order of [`OpenFault`]. Takes
-    /// memory for the rules and keys that may come.
+    /// A session with an empty journal and no workers, or the first fault in the order of [`OpenFault`]. Takes memory
+    /// for the rules and keys to come.
     pub fn open(alloc: Global, profile: Profile, catalog: Arc<Catalog>) -> Result<World, OpenFault>
         ensures answer { Opens (setting_with profile (arc_value catalog)) (result_err result) }
         ensures setting { IfOk result (λ w.
@@ -69,8 +69,8 @@ impl World {
         self.state.step(&*self.catalog, step)
     }
 
-    /// Makes steps one after the other, as [`WorldState::play`]. Out of memory leaves some of them made, from the
-    /// first on, and nothing else changed.
+    /// Makes steps one after the other, as [`WorldState::play`]. Out of memory, some of them are made, from the first
+    /// on, and nothing else has changed.
     pub fn play(&mut self, alloc: Global, steps: Vec<Step>) -> Result<Vec<StepAnswer>, AllocError>
         ensures answers { IfOk result (λ v.
             MakesSteps (world_of self.old) steps.items v.items (world_of self.new)) }

@@ -38,7 +38,7 @@ fn is_key(step: Option<Step<'_>>, key: &str) -> bool {
 }
 
 impl Walk<'_> {
-    /// The step that leads on from the innermost level, if that is on the way.
+    /// The step from the innermost level on, if that level is on the way.
     fn next_step(&self) -> Option<Step<'_>> {
         match self.levels.last() {
             Some(level) if level.is_on_way => self.place.step(self.levels.len().saturating_sub(1)),
@@ -55,7 +55,7 @@ impl Walk<'_> {
         }
     }
 
-    /// Whether no step leads on from the value that begins here.
+    /// Whether the value that begins here is at the end of the way.
     fn is_last(&self) -> bool {
         self.place.step(self.levels.len()).is_none()
     }
@@ -79,7 +79,7 @@ impl Walk<'_> {
         Ok(is_place)
     }
 
-    /// Takes a token, and tells whether the value at the place begins with it.
+    /// Takes a token, and returns whether the value at the place begins with it.
     fn take(&mut self, token: Token<'_>) -> Result<bool, AllocError> {
         match token {
             Token::Key(key) => {
@@ -111,8 +111,8 @@ fn column_from(line: &[u8], offset: usize) -> Option<usize> {
         .map(|(number, _)| number.saturating_add(1))
 }
 
-/// The column, from 1 and counted in octets, in which the value at a place begins, if there is one. Of a key that stands
-/// twice it's the last value that counts. Takes memory.
+/// The column in which the value at a place begins, from 1 and counted in octets, if there is one. Of a key that stands
+/// twice, the last value counts. Takes memory.
 pub(crate) fn column_of(
     alloc: Global,
     line: &str,

@@ -1,4 +1,4 @@
-//! Says why a line can't be read.
+//! Explains why a line can't be read.
 
 ghost use Rattle.std.specs.Prelude.{◌≡◌, ◌+◌, IfOk, Some, length, string_bytes};
 ghost use Rattle.pcef_explain.specs.Plain.{IsPlain};
@@ -25,7 +25,7 @@ use std::str;
 /// The most bytes of a line.
 const MAX_LINE: usize = 262_144;
 
-/// What a person needs to know of a line at fault.
+/// The explanation of a line at fault, for a person.
 #[derive(Drop)]
 pub struct Explanation {
     /// The column of the line in which the fault is, from 1 and counted in octets, where it is known.
@@ -34,7 +34,7 @@ pub struct Explanation {
     pub text: String,
 }
 
-/// What the reader of JSON says, up to the place.
+/// What the reader of JSON reports, without the place.
 fn without_place(message: &str) -> &str {
     match message.split_once(" at line ") {
         Some((front, _)) => front,
@@ -42,11 +42,11 @@ fn without_place(message: &str) -> &str {
     }
 }
 
-/// What is told of a line in UTF-16.
+/// The text about a line in UTF-16.
 const WIDE: &str =
     "the line is UTF-16, by its byte order mark or its octets 0: UTF-8 is expected, as iconv -f UTF-16 -t UTF-8 writes it";
 
-/// Tells of a text that isn't JSON, and gives the column.
+/// Writes why a text isn't JSON, and returns the column.
 fn write_not_json(
     alloc: Global,
     message: &mut Message,
@@ -67,7 +67,7 @@ fn write_not_json(
     Ok(error.column())
 }
 
-/// Tells of octets that are no packet.
+/// Writes why octets are no packet.
 fn write_octets(alloc: Global, message: &mut Message, found: Option<&Value>, fault: PacketFault) {
     let text = found.and_then(Value::as_str).unwrap_or("");
     message.text(" ");
@@ -81,7 +81,7 @@ fn write_octets(alloc: Global, message: &mut Message, found: Option<&Value>, fau
     }
 }
 
-/// Tells of a text that isn't hexadecimal.
+/// Writes why a text isn't hexadecimal.
 fn write_digits(message: &mut Message, text: &str) {
     let other = text
         .chars()
@@ -102,7 +102,7 @@ fn write_digits(message: &mut Message, text: &str) {
     }
 }
 
-/// Tells of a rule with no filters or too many, and gives their place.
+/// Writes that a rule has no filters or too many, and returns their place.
 fn write_rule(message: &mut Message, line: &Value) -> Place<'static> {
     let (place, found) = field_in(line, Field::Filters);
     let count = match found.and_then(Value::as_array) {
@@ -116,14 +116,14 @@ fn write_rule(message: &mut Message, line: &Value) -> Place<'static> {
     place
 }
 
-/// Tells of a text that is no name.
+/// Writes that a text is no name.
 fn write_name(message: &mut Message, found: &Value) {
     message.text(" is ");
     message.value_found(found);
     message.text(": 1 to 64 characters of ASCII without blanks are expected");
 }
 
-/// Tells of a field's value that is of its kind, and still wrong, and gives the place of the fault.
+/// Writes why a field's value is wrong, though it may be of its kind, and returns the place of the fault.
 fn write_value(
     alloc: Global,
     message: &mut Message,
@@ -152,7 +152,7 @@ fn write_value(
     Some(place)
 }
 
-/// Tells of a line that is JSON, and gives the place of the fault.
+/// Writes why a line in JSON has a fault, and returns the place of the fault.
 fn write_line<'a>(
     alloc: Global,
     message: &mut Message,
@@ -184,7 +184,7 @@ fn column_at(
     }
 }
 
-/// Tells of a text, and gives the column.
+/// Writes why a text has a fault, and returns the column.
 fn write_text(
     alloc: Global,
     message: &mut Message,
@@ -198,7 +198,7 @@ fn write_text(
     }
 }
 
-/// Tells of octets that aren't UTF-8 from this place on, and gives the column.
+/// Writes which octet isn't UTF-8, at this place, and returns the column.
 fn write_not_utf8(message: &mut Message, line: &[u8], place: usize) -> Option<usize> {
     if is_wide(line) {
         message.text(WIDE);
@@ -214,7 +214,7 @@ fn write_not_utf8(message: &mut Message, line: &[u8], place: usize) -> Option<us
     Some(place.saturating_add(1))
 }
 
-/// Tells of a line that isn't too long, and gives the column.
+/// Writes why a line within the limit has a fault, and returns the column.
 fn write_why(
     alloc: Global,
     message: &mut Message,
@@ -227,7 +227,7 @@ fn write_why(
     }
 }
 
-/// The explanation with what a message says, and `?` in the place of each octet that is no printable ASCII.
+/// The explanation with the text of a message, and `?` in the place of each octet that is no printable ASCII.
 fn in_plain(
     alloc: Global,
     column: Option<usize>,
@@ -243,7 +243,7 @@ fn in_plain(
     })
 }
 
-/// Tells of a line that is too long.
+/// Writes that a line of `count` octets is too long.
 fn write_too_long(message: &mut Message, count: usize) {
     message.text("the line has ");
     message.number(count);
@@ -252,9 +252,9 @@ fn write_too_long(message: &mut Message, count: usize) {
     message.text(" at most are expected");
 }
 
-/// Says why a line has a fault: the column, the place as in `rule.filters[0].text`, what was found there and what is
-/// expected, and of an unknown word the nearest one. The text is for people: it may change. Takes memory for it, and for
-/// the line as JSON.
+/// Explains why a line has a fault: the column, the place as in `rule.filters[0].text`, what was found there and what
+/// is expected, and of an unknown word the nearest one. The text is for people: it may change. Takes memory for it, and
+/// for the line as JSON.
 pub fn explain(alloc: Global, line: &[u8], fault: LineFault) -> Result<Explanation, AllocError>
     ensures plain { IfOk result (λ e. IsPlain (string_bytes e.text)) }
     ensures long { fault ≡ LineTooLong → IfOk result (λ e. e.column ≡ Some 262145) }
@@ -273,13 +273,13 @@ pub fn explain(alloc: Global, line: &[u8], fault: LineFault) -> Result<Explanati
 /// What is expected at a field.
 #[derive(Clone, Copy)]
 enum Expected<'a> {
-    /// What this text tells.
+    /// What this text says.
     Told(&'a str),
-    /// The name of a rule: one of these, which are predefined, in an `activate`, and of an active one in other lines.
+    /// The name of a rule: in an `activate` one of these, which are predefined; in other lines that of an active rule.
     Rule(&'a [&'a str]),
 }
 
-/// Tells of a name that no predefined rule has: the nearest one, or all of them where none is near.
+/// Writes which name of a predefined rule is expected: the nearest one, or all of them where none is near.
 fn write_predefined(alloc: Global, message: &mut Message, found: &Value, names: &[&str]) {
     let near = match found.as_str() {
         Some(text) => nearest(alloc, text, names),
@@ -296,7 +296,7 @@ fn write_predefined(alloc: Global, message: &mut Message, found: &Value, names: 
     }
 }
 
-/// Tells what is expected in the place of what was found in a line.
+/// Writes what is expected in the place of what was found in a line.
 fn write_expected(
     alloc: Global,
     message: &mut Message,
@@ -310,13 +310,13 @@ fn write_expected(
             write_predefined(alloc, message, found, names);
         }
         Expected::Rule(_) => {
-            message.text("an active rule is expected, and show tells these");
+            message.text("an active rule is expected, and show lists these");
         }
     }
 }
 
-/// Tells what stands at a field of a line that is JSON, and what is expected of it, and gives the place of the field if it
-/// is there.
+/// Writes what stands at a field of a line that is JSON, and what is expected there. Returns the place of the field, if
+/// it is there.
 fn write_at_field(
     alloc: Global,
     message: &mut Message,
@@ -342,7 +342,7 @@ fn write_at_field(
     }
 }
 
-/// The same of a line, if it is JSON; else tells what is expected. Gives the column.
+/// As [`write_at_field`] where the line is JSON; else writes what is expected. Returns the column.
 fn write_field_of(
     alloc: Global,
     message: &mut Message,
@@ -364,9 +364,9 @@ fn write_field_of(
     Ok(None)
 }
 
-/// Says what stands at a field of a line that has no fault and still isn't taken: the column, the field, what was found
-/// there, and `told`, which tells what is expected. The text is for people, as that of [`explain`]. Takes memory for it,
-/// and for the line as JSON.
+/// Explains what stands at a field of a line that has no fault and still isn't taken: the column, the field, what was
+/// found there, and `told`, the text of what is expected. The text is for people, as that of [`explain`]. Takes memory
+/// for it, and for the line as JSON.
 pub fn explain_field(
     alloc: Global,
     line: &[u8],
@@ -380,10 +380,10 @@ pub fn explain_field(
     in_plain(alloc, column, message)
 }
 
-/// Says what stands at the `name` of a line that has no fault and still isn't taken, since no rule has that name: the
-/// column, what was found there, and what is expected: of an `activate` the nearest of the predefined rules, whose names
-/// these are, or all of them where none is near. The text is for people, as that of [`explain`]. Takes memory for it, and
-/// for the line as JSON.
+/// Explains the `name` of a line that has no fault and still isn't taken, since no rule has that name: the column, what
+/// was found there, and what is expected. In an `activate` this is the nearest of the names in `predefined`, or all of
+/// them where none is near. The text is for people, as that of [`explain`]. Takes memory for it, and for the line as
+/// JSON.
 pub fn explain_rule_name(
     alloc: Global,
     line: &[u8],

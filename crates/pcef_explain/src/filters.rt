@@ -1,4 +1,4 @@
-//! The filter of a rule that is wrong, and the token at which it is.
+//! The wrong filter of a rule, and its wrong token.
 
 ghost use Rattle.std.specs.Prelude.{◌≤◌};
 
@@ -78,7 +78,7 @@ fn token_at(text: &str, fault: FilterFault) -> usize {
     }
 }
 
-/// What is expected there.
+/// What is expected at the token.
 fn expected_text(fault: FilterFault) -> &'static str {
     match fault {
         FilterFault::Action => "\"permit\"",
@@ -97,8 +97,8 @@ fn expected_text(fault: FilterFault) -> &'static str {
     }
 }
 
-/// Tells what is wrong within a token, if it is a list of ports or an address of which that can be told, and answers
-/// whether it can.
+/// Writes what is wrong within a token, if it is a list of ports or an address and that is known. Returns whether it
+/// is.
 fn write_within(message: &mut Message, token: &str, fault: FilterFault) -> bool {
     match fault {
         _ if token.len() > MOST_SHOWN => false,
@@ -108,7 +108,7 @@ fn write_within(message: &mut Message, token: &str, fault: FilterFault) -> bool 
     }
 }
 
-/// Tells which token is missing or wrong, and what is expected.
+/// Writes which token is missing or wrong, and what is expected.
 fn write_token(message: &mut Message, text: &str, fault: FilterFault) {
     let number = token_at(text, fault);
     message.text(": token ");
@@ -133,7 +133,7 @@ fn wrong_filter(filters: Option<&Value>) -> Option<(usize, &str)> {
     first_wrong(filters?.as_array()?.as_slice())
 }
 
-/// Tells what is wrong with the first filter of a rule whose text is wrong, and gives the place of the fault.
+/// Writes what is wrong with the first filter of a rule whose text is wrong. Returns the place of the fault.
 pub(crate) fn write_filter(
     message: &mut Message,
     filters: Option<&Value>,

@@ -1,11 +1,11 @@
-//! Says in words why a line of a script can't be read or isn't taken: where, what was found there, and what is expected;
-//! and where a file is no text. For people.
+//! Explains in words, for people, why a line of a script can't be read or isn't taken: where, what was found there, and
+//! what is expected; and where a file is no text.
 //!
-//! Its contracts say: that what is said of a line stands on one line of printable ASCII; the line and the column of an
-//! octet.
+//! Its contracts say: that the explanation of a line stands on one line of printable ASCII; the line and the column of
+//! an octet.
 //!
-//! In the order of reading: `wide`, `text`, `place`, `plain`, `wanted`, `column`, `nearest`, `message`, `wrong_value`, `ports`,
-//! `filters`, `packets`, `parts`, `syntax`, `explaining`.
+//! In the order of reading: `wide`, `text`, `place`, `plain`, `wanted`, `column`, `nearest`, `message`, `wrong_value`,
+//! `ports`, `filters`, `packets`, `parts`, `syntax`, `explaining`.
 #![tactic(auto)]
 
 mod column;

@@ -6,8 +6,8 @@ use serde_json::Value;
 use std::alloc::{AllocError, Global};
 use std::fmt::Display;
 
-/// A text that is written piece by piece. Once there is no memory for a piece, nothing more is written, and the whole is
-/// refused: so a function that writes has no return path behind each piece.
+/// A text that is written piece by piece. Once there is no memory for a piece, nothing more is written, and the whole
+/// text fails: so a function that writes has no return path behind each piece.
 #[derive(Drop)]
 pub(crate) struct Message {
     text: String,
@@ -18,7 +18,7 @@ pub(crate) struct Message {
 pub(crate) const MOST_SHOWN: usize = 80;
 
 impl Message {
-    /// An empty one. Takes no memory.
+    /// An empty message. Takes no memory.
     pub(crate) fn new(alloc: Global) -> Message {
         Message {
             text: String::new(alloc),

@@ -10,8 +10,8 @@ fn small(alloc: Global, text: &str) -> Result<String, AllocError> {
         .collect(alloc)
 }
 
-/// The word that is nearest to a text, if one is near: at most a third of the letters differ. The case of letters doesn't
-/// count. Takes memory.
+/// The word that is nearest to a text, if at most a third of the letters differ. The case of letters doesn't count.
+/// Takes memory.
 pub(crate) fn nearest<'a>(
     alloc: Global,
     text: &str,

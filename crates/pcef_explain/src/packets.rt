@@ -1,4 +1,4 @@
-//! What is wrong with the octets of a packet: how many there are, and how many its header asks for (RFC 791, clause 3.1;
+//! What is wrong with the octets of a packet: how many there are, and how many its header states (RFC 791, clause 3.1;
 //! RFC 8200, clauses 3 and 4).
 
 ghost use Rattle.std.specs.Prelude.{◌<◌, ◌≤◌};
@@ -51,14 +51,14 @@ fn header_len(octets: &[u8]) -> usize
     4 * (octet_at(octets, 0) % 16)
 }
 
-/// Tells that a packet has this number of octets.
+/// Writes how many octets a packet has.
 fn write_count(message: &mut Message, count: usize) {
     message.text("has ");
     message.number(count);
     message.text(if count == 1 { " octet" } else { " octets" });
 }
 
-/// Tells of octets that begin neither as version 4 nor as version 6.
+/// Writes how octets begin that are neither version 4 nor version 6.
 fn write_version(message: &mut Message, octets: &[u8]) {
     if is_frame(octets) {
         message.text(
@@ -71,7 +71,7 @@ fn write_version(message: &mut Message, octets: &[u8]) {
     message.text(": 4, for IPv4, or 6, for IPv6, is expected");
 }
 
-/// Tells of too few octets for a header.
+/// Writes that there are too few octets for a header.
 fn write_short(message: &mut Message, octets: &[u8]) {
     write_count(message, octets.len());
     if is_six(octets) {
@@ -122,7 +122,7 @@ fn cut_extension(octets: &[u8], volume: usize) -> Option<Extension> {
     None
 }
 
-/// Tells of a header of version 4 whose length is wrong.
+/// Writes which length a header of version 4 states, and which it may have.
 fn write_header_len(message: &mut Message, octets: &[u8]) {
     let count = octets.len();
     message.text("has ");
@@ -136,7 +136,7 @@ fn write_header_len(message: &mut Message, octets: &[u8]) {
     message.text(" is expected");
 }
 
-/// Tells of an extension header that is cut.
+/// Writes which extension header is cut.
 fn write_cut(message: &mut Message, octets: &[u8]) {
     let volume = FIXED_V6 + pair_at(octets, 4);
     message.text("has ");
@@ -158,7 +158,7 @@ fn write_cut(message: &mut Message, octets: &[u8]) {
     }
 }
 
-/// The total length that a packet's header tells.
+/// The total length that a packet's header states.
 fn total_of(octets: &[u8]) -> usize {
     if is_six(octets) {
         FIXED_V6 + pair_at(octets, 4)
@@ -167,7 +167,7 @@ fn total_of(octets: &[u8]) -> usize {
     }
 }
 
-/// Tells of a packet with fewer octets than its header tells, or whose total length leaves none for its header.
+/// Writes that a packet has fewer octets than its header states, or that its total length leaves none for its header.
 fn write_total(message: &mut Message, octets: &[u8]) {
     let count = octets.len();
     let total = total_of(octets);
@@ -192,7 +192,7 @@ fn write_total(message: &mut Message, octets: &[u8]) {
     }
 }
 
-/// Tells of octets that are no packet, behind the name of their field.
+/// Writes why octets are no packet, behind the name of their field.
 pub(crate) fn write_packet(message: &mut Message, octets: &[u8], fault: PacketFault) {
     match fault {
         PacketFault::Empty => message.text("is empty: the octets of an IP packet are expected"),

@@ -58,8 +58,8 @@ fn expectation_within(field: Field) -> Wanted {
     }
 }
 
-/// Tells of the first of the fields in an object at a place that is missing or wrong, if one is, and gives the place of
-/// the fault.
+/// Writes which of the fields of an object is the first that is missing or wrong, if one is. Returns the place of the
+/// fault.
 fn write_object<'a>(
     alloc: Global,
     message: &mut Message,
@@ -87,7 +87,7 @@ fn write_object<'a>(
     None
 }
 
-/// Tells of the first item of `events` that is no trigger, if there is one, and gives its place.
+/// Writes which item of `events` is the first that is no trigger, if one is. Returns its place.
 fn write_events<'a>(
     alloc: Global,
     message: &mut Message,
@@ -107,7 +107,7 @@ fn write_events<'a>(
     None
 }
 
-/// Tells of a filter that is no object, or lacks its text, or has a wrong text or flow word, and gives the place of the
+/// Writes why a filter is no object, lacks its text, or has a wrong text or flow word, if so. Returns the place of the
 /// fault.
 fn write_filter<'a>(
     alloc: Global,
@@ -122,7 +122,7 @@ fn write_filter<'a>(
     write_object(alloc, message, item, filter, OF_FILTER)
 }
 
-/// The same of the first filter of a list, if there is such a one.
+/// As [`write_filter`], of the first filter of a list that is wrong.
 fn write_filters<'a>(
     alloc: Global,
     message: &mut Message,
@@ -142,7 +142,7 @@ fn write_filters<'a>(
     None
 }
 
-/// Tells what is wrong in the value of a field, if something is, and gives the place of the fault.
+/// Writes what is wrong in the value of a field, if anything. Returns the place of the fault.
 fn write_inside<'a>(
     alloc: Global,
     message: &mut Message,
@@ -163,7 +163,7 @@ fn write_inside<'a>(
     }
 }
 
-/// Where a line's field stands, or its rule's, and its value.
+/// The place of a line's field, or of its rule's, and its value.
 pub(crate) fn field_in<'a>(line: &'a Value, field: Field) -> (Place<'static>, Option<&'a Value>) {
     let key = field.text();
     if !matches!(field, Field::Do | Field::Rule) && word_of(line) == "install" {
@@ -173,8 +173,8 @@ pub(crate) fn field_in<'a>(line: &'a Value, field: Field) -> (Place<'static>, Op
     (Place::new(false, key), line.get(key))
 }
 
-/// Tells of a field that is missing, of a wrong kind or out of its range, and gives the place in whose column the fault is,
-/// if there is one.
+/// Writes that a field is missing, of a wrong kind or out of its range. Returns the place whose column is that of the
+/// fault, if there is one.
 pub(crate) fn write_field(
     alloc: Global,
     message: &mut Message,
@@ -199,7 +199,7 @@ pub(crate) fn write_field(
     Some(place)
 }
 
-/// The first member of a value, if it is an object, that is none of the fields.
+/// The first member of an object that is none of the fields.
 fn unknown_in<'a>(value: &'a Value, fields: &[Field]) -> Option<&'a str> {
     for key in value.as_object()?.keys() {
         let key = key.as_str();
@@ -210,7 +210,7 @@ fn unknown_in<'a>(value: &'a Value, fields: &[Field]) -> Option<&'a str> {
     None
 }
 
-/// Where the first member of a filter stands that a filter doesn't have.
+/// The place of the first member of a filter that filters don't have.
 fn unknown_in_filters<'a>(place: Place<'a>, filters: &'a Value) -> Option<Place<'a>> {
     for (number, filter) in filters.as_array()?.iter().enumerate() {
         if let Some(key) = unknown_in(filter, OF_FILTER) {
@@ -224,7 +224,7 @@ fn unknown_in_filters<'a>(place: Place<'a>, filters: &'a Value) -> Option<Place<
     None
 }
 
-/// Where the first member of an object in a rule stands that the object doesn't have.
+/// The place of the first member of an object in a rule that such objects don't have.
 fn unknown_below<'a>(rule: &'a Value, field: Field) -> Option<Place<'a>> {
     let place = Place::new(true, field.text());
     let value = rule.get(field.text())?;
@@ -240,7 +240,7 @@ fn unknown_below<'a>(rule: &'a Value, field: Field) -> Option<Place<'a>> {
     })
 }
 
-/// Where the first member stands that a rule, or an object in it, doesn't have.
+/// The place of the first member that a rule, or an object in it, doesn't have.
 fn unknown_in_rule<'a>(rule: &'a Value) -> Option<Place<'a>> {
     if let Some(key) = unknown_in(rule, OF_RULE) {
         return Some(Place::new(true, key));
@@ -253,7 +253,7 @@ fn unknown_in_rule<'a>(rule: &'a Value) -> Option<Place<'a>> {
     None
 }
 
-/// Where the first member stands that a line, or an object in it, doesn't have.
+/// The place of the first member that a line, or an object in it, doesn't have.
 fn unknown_field<'a>(line: &'a Value) -> Option<Place<'a>> {
     if let Some(key) = unknown_in(line, fields_of(word_of(line))) {
         return Some(Place::new(false, key));
@@ -261,7 +261,7 @@ fn unknown_field<'a>(line: &'a Value) -> Option<Place<'a>> {
     unknown_in_rule(line.get("rule")?)
 }
 
-/// The fields beside which a member stands that isn't among them.
+/// The fields that the object around an unknown member may have.
 fn fields_at(line: &Value, place: Place<'_>) -> &'static [Field] {
     if !place.is_in_rule {
         return fields_of(word_of(line));
@@ -274,7 +274,7 @@ fn fields_at(line: &Value, place: Place<'_>) -> &'static [Field] {
     }
 }
 
-/// Tells which fields there are.
+/// Writes the names of fields.
 fn write_fields(message: &mut Message, fields: &[Field]) {
     let mut is_first = true;
     for field in fields {
@@ -299,7 +299,7 @@ fn field_meant(
     nearest(alloc, key, texts.as_slice())
 }
 
-/// Tells of the first member that a line, or an object in it, doesn't have, and gives its place.
+/// Writes which member is the first that a line, or an object in it, doesn't have. Returns its place.
 pub(crate) fn write_unknown<'a>(
     alloc: Global,
     message: &mut Message,

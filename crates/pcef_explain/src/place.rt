@@ -9,7 +9,7 @@ pub(crate) enum Step<'a> {
     Item(usize),
 }
 
-/// Where a value stands in a line, as in `rule.filters[1].text`.
+/// The place of a value in a line, as `rule.filters[1].text`.
 #[derive(Clone, Copy)]
 pub(crate) struct Place<'a> {
     /// Whether it stands in the line's rule.
@@ -33,7 +33,7 @@ impl<'a> Place<'a> {
         }
     }
 
-    /// A member of what stands there.
+    /// A member of the value at this place.
     pub(crate) fn member(self, name: &'a str) -> Place<'a> {
         Place {
             inner: Some(name),
@@ -41,7 +41,7 @@ impl<'a> Place<'a> {
         }
     }
 
-    /// The step that leads to it after so many others, if there is one.
+    /// The step of this number on the way to the place, from 0, if there is one.
     pub(crate) fn step(self, done: usize) -> Option<Step<'a>> {
         let mut done = done;
         if self.is_in_rule {

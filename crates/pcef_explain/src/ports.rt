@@ -22,7 +22,7 @@ fn number_of(text: &str) -> Option<u32> {
     Some(number)
 }
 
-/// Tells what is wrong with a text in the place of a port, if it is none, and answers whether it is none.
+/// Writes what is wrong with a text that should be a port. Returns whether anything is.
 fn write_port(message: &mut Message, text: &str) -> bool {
     if text.is_empty() {
         message.text(
@@ -39,7 +39,7 @@ fn write_port(message: &mut Message, text: &str) -> bool {
     true
 }
 
-/// Tells that a range is reversed.
+/// Writes that a range is reversed.
 fn write_reversed(message: &mut Message, first: &str, last: &str) {
     message.text("the range ");
     message.text(first);
@@ -52,7 +52,7 @@ fn write_reversed(message: &mut Message, first: &str, last: &str) {
     message.text(", with the lower port first, is expected");
 }
 
-/// Tells what is wrong with a range of ports, if it is none, and answers whether it is none.
+/// Writes what is wrong with a range of ports. Returns whether anything is.
 fn write_range(message: &mut Message, first: &str, last: &str) -> bool {
     if write_port(message, first) || write_port(message, last) {
         return true;
@@ -64,8 +64,8 @@ fn write_range(message: &mut Message, first: &str, last: &str) -> bool {
     false
 }
 
-/// Tells what is wrong with a list of ports, of its first item that is no port and no range, or of their number; and
-/// answers whether something is.
+/// Writes what is wrong with a list of ports: the first item that is no port and no range, or their number. Returns
+/// whether anything is.
 pub(crate) fn write_ports(message: &mut Message, token: &str) -> bool {
     let mut count = 0usize;
     for item in token.split(',') {
@@ -87,13 +87,12 @@ pub(crate) fn write_ports(message: &mut Message, token: &str) -> bool {
     false
 }
 
-/// Whether a text is an address, or stands for some.
+/// Whether a text is an address, or a word for addresses.
 fn is_address(text: &str) -> bool {
     text == "any" || text == "assigned" || Addr::from_text(text.as_bytes()).is_some()
 }
 
-/// Tells of a text in the place of an address what its bits should be, if it is a network with other ones, and answers
-/// whether it is.
+/// Writes which number of bits is expected behind a slash, where an address stands before it. Returns whether one does.
 fn write_bits(message: &mut Message, token: &str) -> bool {
     let Some((address, bits)) = token.split_once('/') else {
         return false;
@@ -108,8 +107,8 @@ fn write_bits(message: &mut Message, token: &str) -> bool {
     true
 }
 
-/// Tells what is wrong with a text in the place of an address, if more can be told than that it is none, and answers
-/// whether it can: of the bits of a network, or of ports that stand too near.
+/// Writes what is wrong with a text that should be an address, where more is known than that it is none: the bits of a
+/// network, or ports that follow without a blank. Returns whether it is.
 pub(crate) fn write_address(message: &mut Message, token: &str) -> bool {
     if write_bits(message, token) {
         return true;

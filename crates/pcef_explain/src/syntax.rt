@@ -5,10 +5,10 @@ use json::{Reader, Scratch, Token};
 use serde_json::Value;
 use std::alloc::{AllocError, Global};
 
-/// The most objects and lists in one another that the reader of lines takes.
+/// The most levels of nested objects and lists that the reader of lines takes.
 const MAX_LEVELS: usize = 127;
 
-/// What a text goes on with.
+/// What may follow at a place of a text.
 #[derive(Clone, Copy)]
 pub(crate) enum Due {
     /// The line's object.
@@ -16,24 +16,24 @@ pub(crate) enum Due {
     Value,
     /// The name of a member.
     Name,
-    /// That of the first member, or the end of the object.
+    /// The name of the first member, or the end of the object.
     NameOrEnd,
     Colon,
     /// The first value of a list, or its end.
     ItemOrEnd,
-    /// A member more, or the end of the object.
+    /// Another member, or the end of the object.
     MemberOrEnd,
-    /// A value more, or the end of the list.
+    /// Another value, or the end of the list.
     MoreOrEnd,
     /// A quotation mark, behind a text.
     Quote,
-    /// What may stand behind a backslash.
+    /// An escape, behind a backslash.
     Escape,
     /// A character of a text.
     Character,
-    /// A text that spells characters.
+    /// A text whose surrogates, \ud800 to \udfff, stand in pairs.
     Pairs,
-    /// What isn't in too many objects and lists.
+    /// An object or a list that isn't nested too deeply.
     Shallow,
     /// A number that the reader can hold.
     Range,
@@ -73,7 +73,7 @@ impl Due {
 /// The place of an octet that doesn't fit, from 0, and what is expected there.
 pub(crate) type Misplaced = (usize, Due);
 
-/// The objects and lists that a text is in, and what it goes on with.
+/// The objects and lists around a place of a text, and what is due there.
 #[derive(Drop)]
 struct Syntax {
     /// Whether each, from the outermost, is a list.
@@ -81,7 +81,7 @@ struct Syntax {
     due: Due,
 }
 
-/// The place of the last octet of a part of a text that is no blank, if it is this one.
+/// The place of the last octet of a part of a text that is no blank, if that octet is `mark`.
 fn mark_at_end(text: &[u8], from: usize, to: usize, mark: u8) -> Option<usize> {
     let mut found = None;
     for (number, octet) in text.get(from..to)?.iter().enumerate() {
@@ -183,7 +183,7 @@ fn is_beyond(alloc: Global, number: &str) -> Result<bool, AllocError> {
     }
 }
 
-/// The limit of the reader of lines that a token passes in so many objects and lists, if it does.
+/// The limit of the reader of lines that a token within `levels` objects and lists passes, if it does.
 fn limit_passed(alloc: Global, levels: usize, token: Token<'_>) -> Result<Option<Due>, AllocError> {
     match token {
         Token::BeginObject | Token::BeginArray if levels >= MAX_LEVELS => Ok(Some(Due::Shallow)),
@@ -192,13 +192,13 @@ fn limit_passed(alloc: Global, levels: usize, token: Token<'_>) -> Result<Option
     }
 }
 
-/// Whether so many octets from a place on are hexadecimal digits.
+/// Whether `count` octets from a place on are hexadecimal digits.
 fn are_digits(text: &[u8], from: usize, count: usize) -> bool {
     let digits = text.iter().skip(from).take(count);
     digits.filter(|octet| octet.is_ascii_hexdigit()).count() == count
 }
 
-/// The first fault of a text in quotation marks, from its first one on.
+/// The first fault of a text in quotation marks, by the place of its opening one.
 fn fault_in_text(text: &[u8], from: usize) -> Misplaced {
     let mut is_escape = false;
     for (number, octet) in text.iter().enumerate().skip(from).skip(1) {
@@ -219,7 +219,7 @@ fn fault_in_text(text: &[u8], from: usize) -> Misplaced {
     (text.len(), Due::Quote)
 }
 
-/// The first octet of a text that doesn't fit, if this can tell it. Takes memory.
+/// The first octet of a text that doesn't fit, if it is found here. Takes memory.
 pub(crate) fn first_fault(alloc: Global, text: &str) -> Result<Option<Misplaced>, AllocError> {
     let mut scratch = Scratch::new(alloc);
     let mut reader = Reader::new(text, &mut scratch)?;
@@ -267,7 +267,7 @@ fn word_of(text: &str) -> &str {
     text.get(..count.max(1)).unwrap_or(text)
 }
 
-/// Tells which character stands at the front of a text, or which word.
+/// Writes which character or word stands at the front of a text.
 fn write_front(message: &mut Message, text: &str) {
     match text.chars().next() {
         None => message.text("the line ends"),
@@ -287,8 +287,8 @@ fn write_front(message: &mut Message, text: &str) {
     }
 }
 
-/// Tells of a text that isn't JSON what stands at the first octet that doesn't fit, and what is expected there, also where
-/// a limit of the reader of lines is passed.
+/// Writes, of a text that isn't JSON, what stands at the first octet that doesn't fit, and what is expected there. It
+/// is also used where a limit of the reader of lines is passed.
 pub(crate) fn write_misplaced(message: &mut Message, text: &str, (place, due): Misplaced) {
     write_front(message, text.get(place..).unwrap_or(""));
     message.text(" where ");

@@ -1,4 +1,4 @@
-//! Octets of a file that have to be a text.
+//! The octets of files that must be text.
 
 ghost use Rattle.std.specs.Prelude.{◌≡◌, ◌⊎◌, IfErr, IfOk, IsOk, string_bytes};
 ghost use Rattle.std.specs.IoError.{error_kind};
@@ -29,7 +29,7 @@ fn place_behind(octets: &[u8]) -> (usize, usize)
     (line, column)
 }
 
-/// What is told of octets that are UTF-8 up to this place: where the first one stands that isn't, and which it is.
+/// Where the first octet stands that isn't UTF-8, and which it is. `place` is its place.
 fn not_utf8(alloc: Global, octets: &[u8], place: usize) -> Result<String, AllocError> {
     let (front, rest) = octets.split_at(place.min(octets.len()));
     let (line, column) = place_behind(front);
@@ -47,11 +47,11 @@ fn not_utf8(alloc: Global, octets: &[u8], place: usize) -> Result<String, AllocE
     }
 }
 
-/// The text that the octets of a file are. Takes memory only to say why they are none.
+/// The octets of a file as a text. Takes memory only to report why they are none.
 ///
-/// Answers an error of the kind InvalidData where they aren't UTF-8 (RFC 3629). Its message tells the first octet that
-/// isn't, with its line and its column, both counted from 1 and columns in octets. The kind is OutOfMemory where there is
-/// no memory for the message.
+/// An `Err` is of the kind InvalidData where they aren't UTF-8 (RFC 3629). Its message gives the first octet that
+/// isn't, with its line and its column, both counted from 1, and columns in octets. The kind is OutOfMemory where there
+/// is no memory for the message.
 pub fn text_in(alloc: Global, octets: Vec<u8>) -> io::Result<String>
     ensures text { IfOk result (λ text. string_bytes text ≡ octets.items) }
     ensures whole { IsUtf8 octets.items → IsOk result }

@@ -93,7 +93,7 @@ pub(crate) fn wanted_at(field: Field) -> Wanted {
 }
 
 impl Wanted {
-    /// Whether a value is of the kind and in the range. What a name or octets are is judged apart.
+    /// Whether a value is of the kind and in the range. Names and octets are judged elsewhere.
     pub(crate) fn is(self, value: &Value) -> bool {
         match self {
             Wanted::Number(least, most) => value

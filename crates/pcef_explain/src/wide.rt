@@ -5,8 +5,8 @@ fn is_nul(octets: &[u8], place: usize) -> bool {
     octets.get(place) == Some(&0)
 }
 
-/// Whether octets are a text in UTF-16, as far as their front tells: they begin with its byte order mark, or every other
-/// one of the first four is NUL, as in letters and digits.
+/// Whether octets are a text in UTF-16, by their front: they begin with its byte order mark, or every other one of the
+/// first four is NUL, as in letters and digits.
 pub(crate) fn is_wide(octets: &[u8]) -> bool {
     if octets.starts_with(b"\xff\xfe") || octets.starts_with(b"\xfe\xff") {
         return true;

@@ -1,4 +1,4 @@
-//! What is told of a value that is missing, or in the place of another.
+//! The texts about a value that is missing or wrong.
 
 use crate::message::Message;
 use crate::nearest::nearest;
@@ -7,7 +7,7 @@ use crate::wanted::Wanted;
 use serde_json::Value;
 use std::alloc::Global;
 
-/// Tells that a value is missing.
+/// Writes that a value is missing.
 pub(crate) fn write_missing(message: &mut Message, place: Place<'_>, wanted: Wanted) {
     message.place(place);
     message.text(" is missing: ");
@@ -15,14 +15,14 @@ pub(crate) fn write_missing(message: &mut Message, place: Place<'_>, wanted: Wan
     message.text(" is expected");
 }
 
-/// Tells which word was meant.
+/// Writes which word was meant.
 pub(crate) fn write_meant(message: &mut Message, word: &str) {
     message.text("did you mean ");
     message.word(word);
     message.text("?");
 }
 
-/// Tells what is expected in the place of a value: the word that was meant, if one is near.
+/// Writes which value is expected: the word that was meant, if one is near.
 fn write_wanted(alloc: Global, message: &mut Message, found: &Value, wanted: Wanted) {
     let near = match (wanted, found.as_str()) {
         (Wanted::Word(words), Some(text)) => nearest(alloc, text, words),
@@ -38,7 +38,7 @@ fn write_wanted(alloc: Global, message: &mut Message, found: &Value, wanted: Wan
     }
 }
 
-/// Tells that a value stands in the place of another.
+/// Writes that a value is wrong, and which is expected.
 pub(crate) fn write_wrong(
     alloc: Global,
     message: &mut Message,

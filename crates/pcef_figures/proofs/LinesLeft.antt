@@ -38,7 +38,7 @@ first_found octets line back rest place found front back_is rest_is =
     let shorter : length rest + 1 ≤ length octets = omega (arith, ap length later ∙ length-drop (suc place) octets, below) in
     (ap lines_of whole ∙ slice_split_at (λ b. b == 10) (take place octets) 10 rest plain refl ∙ ap (λ l. l ∷ lines_of rest) (sym front), shorter)
 
--- a blank line is passed over, and another one comes first
+-- a blank line is skipped, and the next one comes first
 pub blank_first : (number : ℕ) (line : List ℕ) (lines : List (List ℕ)) → is_blank line ≡ true → filled_from number (line ∷ lines) ≡ filled_from (number + 1) lines
 blank_first number line lines is = rw is refl
 

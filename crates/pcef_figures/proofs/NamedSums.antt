@@ -1,4 +1,4 @@
--- A sum of a name that has so many octets more.
+-- The sum of a name with some octets more.
 use denote.Ref.{Bor}
 use Rattle.std.proofs.Common.{◌≡◌, ◌+◌, ℕ, Bool, true, false, cond, List, Option, Some, BTreeMap, refl, sym, ap, subst, add-zero, if◌then◌else◌}
 use Rattle.std.specs.Prelude.{is_some, string_bytes}

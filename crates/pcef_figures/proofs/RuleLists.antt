@@ -43,7 +43,7 @@ pub more_pairs : (all : List (ℕ × ℕ)) (place : ℕ) (x : ℕ × ℕ) (due :
     → ((j : ℕ) → j < place → slice_index_or all j (0, 0) ≡ due j) → (k : ℕ) → k < place + 1 → slice_index_or (slice_set all place x) k (0, 0) ≡ due k
 more_pairs all place x due within is before k next = next_pair all place k x due within is before (cases_lt k place) next
 
--- a list that is told up to a place is told up to the next
+-- a list that is made up to a place is made up to the next
 pub flat_next : {X : Type 0} (f : ℕ → List X) (told before new : List X) (xs : List ℕ) (place : ℕ) → place < length xs
     → told ≡ before ++ flat_map f (take place xs) → new ≡ told ++ f (slice_index xs place) → new ≡ before ++ flat_map f (take (place + 1) xs)
 flat_next f told before new xs place within was is =

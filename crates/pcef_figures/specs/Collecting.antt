@@ -1,4 +1,4 @@
--- What is told of a script by its answers (own choice).
+-- The figures of a script by its answers (own choice).
 use Rattle.std.specs.Prelude.{ℕ, ◌≡◌, ◌<◌, true, false, List, [], ◌∷◌, ◌++◌, length, map, is_some, Option, None}
 use Rattle.std.specs.List.{All, flat_map}
 use Rattle.serde_json.specs.Data.{Data}
@@ -30,12 +30,13 @@ abbrev pub keys_from : List KeyFigure → List Exchange → List KeyFigure
 keys_from keys [] = keys
 keys_from keys (x ∷ xs) = keys_from (keys_behind keys x.number x.answer) xs
 
--- the newest generation that these lines tell, or else this one
+-- the newest generation of the answers to these lines, or else this one
 abbrev pub generation_from : ℕ → List Exchange → ℕ
 generation_from generation [] = generation
 generation_from generation (x ∷ xs) = generation_from (generation_behind generation x.number x.answer) xs
 
--- the rules that are active behind these lines, and the rates that change with them, where these rules were active before
+-- the rules that are active behind these lines, and the rates that change with them; these rules
+-- were active before
 abbrev pub rules_from : List RuleFigure → List Exchange → List RuleFigure
 rules_from rules [] = rules
 rules_from rules (x ∷ xs) = rules_from (rules_behind rules x.number x.line x.answer) xs
@@ -44,7 +45,7 @@ abbrev pub rates_from : List RuleFigure → List Exchange → List Rates
 rates_from rules [] = []
 rates_from rules (x ∷ xs) = rates_in rules x.number x.line x.answer ++ rates_from (rules_behind rules x.number x.line x.answer) xs
 
--- these lines with their answers are told, and no others
+-- the figures of these lines with their answers, and of no others
 pub record AreFiguresOf (xs : List Exchange) (f : Figures) : Type 0 where
   pub lines : f.lines ≡ length xs
   pub last : f.last ≡ last_from 0 xs
@@ -56,7 +57,7 @@ pub record AreFiguresOf (xs : List Exchange) (f : Figures) : Type 0 where
   pub refusals : map refusal_of f.refused.items ≡ refusal_figures xs
   pub answered : All (λ x. is_answered x ≡ true) xs
 
--- nothing is told
+-- no figures
 pub record IsBlank (f : Figures) : Type 0 where
   pub lines : f.lines ≡ 0
   pub last : f.last ≡ 0
@@ -68,7 +69,8 @@ pub record IsBlank (f : Figures) : Type 0 where
   pub rates : f.rates.items ≡ []
   pub refused : f.refused.items ≡ []
 
--- what is wrong with the line of a number and its answer, an object; where that has verdicts on other packets, the line was done
+-- what is wrong with the line of a number and its answer, an object; verdicts on other packets are
+-- only in the answer to a line that was done
 abbrev pub IsMismatch : ℕ → Option Data → Data → CollectFault → Type 0
 IsMismatch number line answer (fault.NoAnswer n) = (n ≡ number) × (has_value number line answer ≡ false)
 IsMismatch number line answer (fault.OtherPackets n) = (n ≡ number) × (refusal_in number answer ≡ None) × (is_some line ≡ true)

@@ -1,4 +1,4 @@
--- Grants of monitoring keys, how keys stand, and the generation, as lines and answers tell them (own choice).
+-- Grants of monitoring keys, the states of keys, and the generation, by lines and answers (own choice).
 use Rattle.std.specs.Prelude.{ℕ, Bool, false, List, [], ◌∷◌, Option, Some, None, codes, max, option_and_then, string_bytes, if◌then◌else◌}
 use Rattle.std.specs.Str.{bytes_eq}
 use Rattle.serde_json.specs.Data.{Data, Items, item, no_items}
@@ -57,7 +57,7 @@ abbrev pub grant_of : Grant → GrantFigure
 grant_of g = record { line = g.line; key = string_bytes g.key; octets = g.octets }
 
 -- ---- keys
--- how a key stands
+-- the state of a key
 pub record KeyFigure : Type 0 where
   pub key : List ℕ
   pub is_on : Bool
@@ -76,7 +76,7 @@ abbrev pub keys_in_all : Items → List KeyFigure
 keys_in_all no_items = []
 keys_in_all (item d ds) = key_in d ∷ keys_in_all ds
 
--- an answer to `show` has a list of them, which takes the place of the one before
+-- an answer to `show` has a list of them, which replaces the one before
 abbrev pub keys_shown : List KeyFigure → Option Data → Data → List KeyFigure
 keys_shown before None answer = before
 keys_shown before (Some list) answer = keys_in_all (list_in (codes "keys") answer)
@@ -93,7 +93,7 @@ abbrev pub key_of : KeyState → KeyFigure
 key_of k = record { key = string_bytes k.key; is_on = k.is_on; reported = k.reported; unreported = k.unreported }
 
 -- ---- generations
--- the newest of those that lines that were done tell
+-- the newest of those in the answers to lines that were done
 abbrev pub generation_done : ℕ → Option RefusalFigure → Data → ℕ
 generation_done before (Some refused) answer = before
 generation_done before None answer = max before (or_zero (number_in (codes "generation") answer))

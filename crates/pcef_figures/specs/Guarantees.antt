@@ -1,4 +1,4 @@
--- The guaranteed rates of bearers, by the rules that lines that were done made active (own choice).
+-- The guaranteed rates of bearers, by the rules that a script made active (own choice).
 use Rattle.std.specs.Prelude.{ℕ, ◌-◌, ◌^◌, ◌==◌, ◌&&◌, ◌||◌, Bool, not, List, [], ◌∷◌, ◌++◌, filter, min, Option, Some, None, codes, if◌then◌else◌}
 use Rattle.std.specs.List.{flat_map, sum_by}
 use Rattle.std.specs.Str.{bytes_eq}
@@ -16,11 +16,11 @@ pub record RuleFigure : Type 0 where
   pub up : ℕ
   pub down : ℕ
 
--- the rules but those of a name
+-- the rules without those of a name
 abbrev pub without : List ℕ → List RuleFigure → List RuleFigure
 without name rules = filter (λ r. not (bytes_eq r.name name)) rules
 
--- a rule takes the place of those of its name, and stands last
+-- a rule replaces those of its name, and stands last
 abbrev pub entered : List RuleFigure → RuleFigure → List RuleFigure
 entered rules rule = without rule.name rules ++ rule ∷ []
 
@@ -40,7 +40,7 @@ rule_in rule bearer = record {
   down = rate_in (codes "down") rule;
 }
 
--- the answer tells the bearer
+-- the answer gives the bearer
 abbrev pub installed : List RuleFigure → Option Data → Option ℕ → List RuleFigure
 installed rules None bearer = rules
 installed rules (Some rule) None = rules
@@ -51,7 +51,7 @@ abbrev pub activated : List RuleFigure → List ℕ → Option ℕ → List Rule
 activated rules name None = rules
 activated rules name (Some bearer) = entered rules (record { name = name; bearer = bearer; up = 0; down = 0 })
 
--- the rules but those on a bearer
+-- the rules without those on a bearer
 abbrev pub left_by : List RuleFigure → Option ℕ → List RuleFigure
 left_by rules None = rules
 left_by rules (Some bearer) = filter (λ r. not (r.bearer == bearer)) rules
@@ -107,7 +107,7 @@ change_of generation before after bearer =
 abbrev pub changes : ℕ → List RuleFigure → List RuleFigure → List Rates
 changes generation before after = flat_map (change_of generation before after) bearers
 
--- those that come with a line, behind these rules
+-- those of a line, behind these rules
 abbrev pub rates_commanded : List RuleFigure → Option ℕ → Data → Data → List Rates
 rates_commanded rules None line answer = []
 rates_commanded rules (Some generation) line answer = changes generation rules (rules_by rules line answer)

@@ -1,4 +1,4 @@
--- Sums of octets over what the answers of a script tell (own choice).
+-- Sums of octets over the figures of a script (own choice).
 use denote.Ref.{Bor}
 use Rattle.std.specs.Prelude.{ℕ, ◌≡◌, ◌≤◌, ◌^◌, List, Option, Some, None, is_some, string_bytes, ◌&&◌, if◌then◌else◌}
 use Rattle.std.specs.BTreeMap.{BTreeMap, get_by}
@@ -24,7 +24,7 @@ IsSum octets None = 2 ^ 64 ≤ octets
 IsSum octets (Some sum) = sum ≡ octets
 
 -- ---- octets
--- the octets that the reports of a key tell
+-- the octets of the reports of a key
 abbrev pub octets_for : List ℕ → Usage → ℕ
 octets_for key u = if bytes_eq (string_bytes u.key) key then u.octets else 0
 

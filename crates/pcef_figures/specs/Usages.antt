@@ -1,4 +1,4 @@
--- What the answer to a line tells (own choice).
+-- The reports and refusals in the answer to a line (own choice).
 use Rattle.std.specs.Prelude.{ℕ, Bool, true, false, List, [], ◌∷◌, ◌++◌, Option, Some, None, codes, option_and_then, string_bytes}
 use Rattle.std.specs.Option.{option_to_list}
 use Rattle.serde_json.specs.Data.{Data, Items, item, no_items}

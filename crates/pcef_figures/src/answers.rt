@@ -1,4 +1,4 @@
-//! What the answer to a line tells.
+//! The figures in the answer to a line.
 
 ghost use Rattle.std.specs.Prelude.{◌≡◌, ◌++◌, IfOk, OnOk, codes, map, option_map};
 ghost use Rattle.serde_json.specs.View.{view};
@@ -30,7 +30,7 @@ pub(crate) fn refused_in(
     }))
 }
 
-/// Adds a report, if it is one of usage.
+/// Appends a report, if it is one of usage.
 fn push_report(
     alloc: Global,
     usage: &mut Vec<Usage>,
@@ -54,7 +54,7 @@ fn push_report(
     Ok(())
 }
 
-/// Adds the reports of usage that an answer has.
+/// Appends the reports of usage that an answer has.
 pub(crate) fn push_usage(
     alloc: Global,
     usage: &mut Vec<Usage>,
@@ -70,7 +70,7 @@ pub(crate) fn push_usage(
     Ok(())
 }
 
-/// Adds the grant of a `monitor` line.
+/// Appends the grant of a `monitor` line.
 pub(crate) fn push_grant(
     alloc: Global,
     grants: &mut Vec<Grant>,
@@ -95,7 +95,7 @@ pub(crate) fn push_grant(
     Ok(())
 }
 
-/// How a key stands by an answer to `show`.
+/// The state of a key, by an answer to `show`.
 fn key_in(alloc: Global, state: &Value) -> Result<KeyState, AllocError>
     ensures { IfOk result (λ key. key_of key ≡ key_in (view state.now)) }
 {
@@ -120,14 +120,14 @@ pub(crate) fn keys_in(alloc: Global, answer: &Value) -> Result<Vec<KeyState>, Al
     Ok(keys)
 }
 
-/// Takes the first packet of a worker out of those that wait.
+/// Removes the first packet of a worker from those that wait, and returns it.
 fn take_waiting(waiting: &mut Vec<Handed>, worker: u64) -> Option<Handed> {
     let place = waiting.iter().position(|packet| packet.worker == worker)?;
     Some(waiting.remove(place))
 }
 
-/// A packet with a verdict, if the answer has one there.
-fn add_verdict(
+/// A packet with its verdict, if the answer has one there.
+fn judged_packet(
     alloc: Global,
     packet: Handed,
     answered: u64,
@@ -146,7 +146,7 @@ fn add_verdict(
     }))
 }
 
-/// Adds the verdicts of an answer on the packets of a worker that wait, and tells whether there was a packet for each.
+/// Appends the verdicts of an answer on the packets of a worker that wait. Returns whether there was a packet for each.
 pub(crate) fn push_judged(
     alloc: Global,
     all: &mut Vec<Judged>,
@@ -159,7 +159,7 @@ pub(crate) fn push_judged(
         let Some(packet) = take_waiting(waiting, worker) else {
             return Ok(false);
         };
-        match add_verdict(alloc, packet, line, told)? {
+        match judged_packet(alloc, packet, line, told)? {
             Some(judged) => all.push(judged)?,
             None => return Ok(false),
         }

@@ -1,4 +1,4 @@
-//! Collects what a script and its answers tell.
+//! Collects the figures of a script and its answers.
 
 ghost use Rattle.std.specs.Prelude.{◌≡◌, ◌≤◌, ◌+◌, ◌-◌, ◌^◌, ◌++◌, [], IfErr, IfOk, IsOk, OnOk, codes, length, map, min, option_map, true};
 ghost use Rattle.serde_json.specs.View.{view};
@@ -23,10 +23,10 @@ use thiserror::Error;
 /// Why a script and answers don't belong together.
 #[derive(Clone, Copy, Debug, PartialEq, Eq, Error)]
 pub enum CollectFault {
-    /// What should be the answer to the line of this number, from 1, is none.
+    /// The answer to the line of this number, from 1, is no answer.
     #[error("the answer to line {0} isn't one")]
     NoAnswer(u64),
-    /// The answer to the line of this number has more verdicts than packets wait, or one that is none.
+    /// The answer to the line of this number has more verdicts than packets wait, or something that is no verdict.
     #[error("the answer to line {0} has verdicts on other packets")]
     OtherPackets(u64),
     /// There are more answers than lines.
@@ -60,7 +60,7 @@ impl<T: Drop> From<AllocFailed<T>> for CollectFault {
 /// What is collected so far.
 #[derive(Drop)]
 pub struct Collected {
-    /// What is told so far.
+    /// The figures so far.
     pub figures: Figures,
     /// The rules that are active.
     pub active: ActiveRules,
@@ -105,7 +105,7 @@ impl Collected {
         figures
     }
 
-    /// Tells what a line that was done asked for, and what its answer shows.
+    /// Takes what a line that was done asked for, and what its answer shows.
     fn take_answered(
         &mut self,
         alloc: Global,
@@ -125,7 +125,7 @@ impl Collected {
             .take(alloc, &mut self.figures.rates, line, answer)
     }
 
-    /// Takes what a worker did, and tells whether the packets are those of the verdicts.
+    /// Takes the step of a worker. Returns whether the verdicts are on the packets that wait.
     fn take_step(
         &mut self,
         alloc: Global,
@@ -203,10 +203,10 @@ impl Collected {
         }
     }
 
-    /// Takes the line of a number with its answer, a JSON object. A line that isn't JSON is none. Takes memory for what is
-    /// told. Where it fails, some of that may be told already.
+    /// Takes the line of a number with its answer, a JSON object. `line` is none where the line isn't JSON. Takes
+    /// memory for the figures. Where it fails, some of them may be there already.
     ///
-    /// Answers that the line can't have this answer, or want of memory.
+    /// An `Err` is that the line can't have this answer, or out of memory.
     pub fn take(
         &mut self,
         alloc: Global,
@@ -248,7 +248,7 @@ fn is_answer(value: &Value) -> bool
     value.is_object() && value.get("do").is_none()
 }
 
-/// Takes the octets of a line with those of its answer.
+/// Takes a line and its answer by their octets.
 fn take_octets(
     alloc: Global,
     collected: &mut Collected,
@@ -266,10 +266,10 @@ fn take_octets(
     collected.take(alloc, line.number, told.as_ref(), &answer)
 }
 
-/// Collects what the lines of a script and its answers tell: the nth line that isn't blank has the nth answer. There may
-/// be fewer answers than lines. Takes memory for what is told.
+/// Collects the figures of a script's lines and its answers: the nth line that isn't blank has the nth answer. There
+/// may be fewer answers than lines. Takes memory for the figures.
 ///
-/// Answers the first fault in the order of the lines, or want of memory.
+/// An `Err` is the first fault in the order of the lines, or out of memory.
 pub fn collect(alloc: Global, lines: &[u8], answers: &[u8]) -> Result<Figures, CollectFault>
     ensures told { IfOk result (AreFiguresOf (exchanges lines.now answers.now)) }
     ensures all { IsOk result → length (filled answers.now) ≤ length (filled lines.now) }

@@ -1,4 +1,4 @@
-//! What is told of a session.
+//! The figures of a session.
 
 ghost use Rattle.std.specs.Prelude.{◌≡◌, ◌≢◌, MatchOption};
 ghost use Rattle.pcef_figures.specs.Collecting.{IsBlank};
@@ -6,7 +6,7 @@ ghost use Rattle.pcef_figures.specs.Verdicts.{verdict_name};
 
 use std::alloc::Global;
 
-/// What became of a packet.
+/// The verdict on a packet.
 #[derive(Clone, Copy, Debug, PartialEq, Eq)]
 pub enum Verdict {
     /// It passed by a rule.
@@ -20,7 +20,7 @@ pub enum Verdict {
 }
 
 impl Verdict {
-    /// The verdict that an answer names so.
+    /// The verdict with this name in answers.
     pub(crate) fn from_text(text: &str) -> Option<Verdict>
         ensures { MatchOption result ((v : Verdict) → verdict_name v ≢ text.now)
             (λ v. verdict_name v ≡ text.now) }
@@ -65,7 +65,7 @@ pub struct Handed {
 pub struct Judged {
     /// The packet.
     pub packet: Handed,
-    /// The number of the line with whose answer the verdict came, from 1.
+    /// The number of the line whose answer has the verdict, from 1.
     pub answered: u64,
     /// The generation that judged it.
     pub generation: u64,
@@ -80,13 +80,13 @@ pub struct Judged {
 /// A report of usage.
 #[derive(Drop)]
 pub struct Usage {
-    /// The number of the line with whose answer it came, from 1.
+    /// The number of the line whose answer has it, from 1.
     pub line: u64,
     /// The monitoring key.
     pub key: String,
     /// Why it was reported.
     pub cause: String,
-    /// How many octets it tells.
+    /// How many octets it has.
     pub octets: u64,
 }
 
@@ -101,7 +101,7 @@ pub struct Grant {
     pub octets: u64,
 }
 
-/// How a key stands by the last `show`.
+/// The state of a key, by the last `show`.
 #[derive(Drop)]
 pub struct KeyState {
     /// The monitoring key.
@@ -110,7 +110,7 @@ pub struct KeyState {
     pub is_on: bool,
     /// How many octets were reported.
     pub reported: u64,
-    /// How many octets wait.
+    /// How many octets are counted and not yet reported.
     pub unreported: u64,
 }
 
@@ -140,7 +140,7 @@ pub struct Refused {
     pub is_fault: bool,
 }
 
-/// What a script and its answers tell of a session, each list in the order of the lines.
+/// The figures of a session, from a script and its answers, each list in the order of the lines.
 #[derive(Drop)]
 pub struct Figures {
     /// How many lines have an answer.
@@ -157,14 +157,14 @@ pub struct Figures {
     pub grants: Vec<Grant>,
     /// The keys by the last `show`.
     pub keys: Vec<KeyState>,
-    /// The guaranteed rates, an entry where those of a bearer change.
+    /// The guaranteed rates: an entry where those of a bearer change.
     pub rates: Vec<Rates>,
     /// The lines that were refused or at fault.
     pub refused: Vec<Refused>,
 }
 
 impl Figures {
-    /// Nothing is told yet. Takes no memory.
+    /// No figures yet. Takes no memory.
     pub(crate) fn new(alloc: Global) -> Figures
         ensures { IsBlank result }
     {

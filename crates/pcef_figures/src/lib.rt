@@ -1,4 +1,4 @@
-//! What a script and its answers tell of a session: verdicts, octets of keys, guaranteed rates, refusals.
+//! The figures of a session from a script and its answers: verdicts, octets of keys, guaranteed rates, refusals.
 //!
 //! Its contracts say: which line has which answer; which reports of usage, grants, states of keys, guaranteed rates,
 //! refusals and faults come with it; and exact sums of octets.

@@ -1,4 +1,4 @@
-//! What a line of a script asked for.
+//! The packet of a line of a script.
 
 use crate::figures::Handed;
 use crate::values::{number_at, text_at};
@@ -19,7 +19,7 @@ fn volume(alloc: Global, dir: Dir, packet: &str) -> Result<u64, AllocError> {
     })
 }
 
-/// The packet of a `take` line of this number.
+/// The packet of the `take` line of this number.
 pub(crate) fn packet_of(
     alloc: Global,
     number: u64,

@@ -7,7 +7,7 @@ ghost use Rattle.pcef_figures.specs.private.Lines.{HasRoom, IsFirstLine, left, l
 
 use memchr::memchr;
 
-/// The most octets of a line that may be blank: a longer one is at fault, and so has an answer.
+/// The most octets of a blank line: a longer one is at fault, and so has an answer.
 const MAX_BLANK: usize = 262_144;
 
 fn is_space(line: &[u8]) -> bool

@@ -1,4 +1,4 @@
-//! The guaranteed rates of bearers, by the rules that were made active.
+//! The guaranteed rates of bearers, by the rules that a script made active.
 
 ghost use Rattle.std.specs.Prelude.{◌≡◌, ℕ, List, [], ◌<◌, ◌++◌, ◌==◌, OnOk, IfOk, codes, not, option_map, slice_index, slice_index_or, string_bytes};
 ghost use Rattle.std.specs.Str.{bytes_eq};
@@ -25,7 +25,7 @@ struct Active {
     down: u64,
 }
 
-/// The rules that lines that were done made active, in the order in which they became it.
+/// The rules that a script made active, in the order in which they became active.
 #[derive(Drop)]
 pub struct ActiveRules {
     rules: Vec<Active>,
@@ -41,7 +41,7 @@ impl Model for ActiveRules {
     ghost view = { λ s. map rule_of s.rules.items };
 }
 
-/// The rate in a direction that a rule asks for, or 0.
+/// The guaranteed rate of a rule in a direction, in bit/s, or 0.
 fn rate(rule: &Value, direction: &str) -> u64
     ensures { result ≡ rate_in direction.now (view rule.now) }
 {
@@ -65,7 +65,7 @@ fn rule_in(alloc: Global, rule: &Value, bearer: u64) -> Result<Active, AllocErro
 }
 
 impl ActiveRules {
-    /// None is. Takes no memory.
+    /// No rule. Takes no memory.
     pub(crate) fn new(alloc: Global) -> ActiveRules
         ensures { result ≡ [] }
     {
@@ -136,7 +136,7 @@ impl ActiveRules {
         }
     }
 
-    /// Does what a command that was done does to the active rules.
+    /// Applies a command that was done to the active rules.
     fn command(&mut self, alloc: Global, line: &Value, answer: &Value) -> Result<(), AllocError>
         ensures { OnOk result (self.new ≡ rules_by self.old (view line.now) (view answer.now)) }
     {
@@ -158,7 +158,7 @@ impl ActiveRules {
         Ok(())
     }
 
-    /// The sums of the rates of a bearer's rules, up and down, 2^64 - 1 at most.
+    /// The sums of the rates of a bearer's rules, up and down, at most 2^64 - 1.
     fn sums(&self, bearer: u64) -> (u64, u64)
         ensures up { result.0 ≡ up_of self.now bearer }
         ensures down { result.1 ≡ down_of self.now bearer }
@@ -186,7 +186,7 @@ impl ActiveRules {
         all
     }
 
-    /// Adds the rates of a bearer, if they aren't these any more.
+    /// Appends the rates of a bearer, if its sums changed.
     fn push_change(
         &self,
         rates: &mut Vec<Rates>,
@@ -209,7 +209,7 @@ impl ActiveRules {
         Ok(())
     }
 
-    /// Adds the rates of each bearer whose sums aren't these any more.
+    /// Appends the rates of each bearer whose sums changed.
     fn push_changes(
         &self,
         rates: &mut Vec<Rates>,
@@ -226,7 +226,7 @@ impl ActiveRules {
         Ok(())
     }
 
-    /// Does what a line that was done does to the active rules, and adds the rates that change with it.
+    /// Applies a line that was done to the active rules, and appends the rates that it changes.
     pub(crate) fn take(
         &mut self,
         alloc: Global,

@@ -8,7 +8,7 @@ use crate::figures::{Judged, Usage};
 use std::alloc::{AllocError, Global};
 use std::collections::BTreeMap;
 
-/// Sums of octets by name, of which none stands for one of 2^64 or more. A name that isn't there has 0.
+/// Sums of octets by name. `None` stands for a sum of 2^64 or more. A name that isn't there has 0.
 pub type Sums<'a> = BTreeMap<&'a str, Option<u64>>;
 
 /// The sum of a name.
@@ -21,7 +21,7 @@ pub fn sum_of<'a>(sums: &Sums<'a>, name: &'a str) -> Option<u64>
     }
 }
 
-/// A sum with so many octets more.
+/// A sum with `octets` more.
 fn more(sum: Option<u64>, octets: u64) -> Option<u64>
     ensures { (n : ℕ) → IsSum n sum → IsSum (n + octets) result }
 {
@@ -41,7 +41,7 @@ fn add<'a>(sums: &mut Sums<'a>, name: &'a str, octets: u64) -> Result<(), AllocE
     Ok(())
 }
 
-/// How many octets the reports of usage tell of each key. Takes memory for the keys.
+/// The octets that the reports of usage have for each key. Takes memory for the keys.
 pub fn octets_by_key<'a>(alloc: Global, usage: &'a [Usage]) -> Result<Sums<'a>, AllocError>
     ensures { IfOk result (λ sums. (key : List ℕ) → IsSum (usage_octets key usage.now) (sum_in sums key)) }
 {
@@ -52,7 +52,7 @@ pub fn octets_by_key<'a>(alloc: Global, usage: &'a [Usage]) -> Result<Sums<'a>, 
     Ok(sums)
 }
 
-/// How many octets the packets have that passed by each rule. Takes memory for the rules.
+/// The octets of the packets that passed by each rule. Takes memory for the rules.
 pub fn octets_by_rule<'a>(alloc: Global, judged: &'a [Judged]) -> Result<Sums<'a>, AllocError>
     ensures { IfOk result (λ sums. (rule : List ℕ) → IsSum (judged_octets rule judged.now) (sum_in sums rule)) }
 {

@@ -42,7 +42,7 @@ pub(crate) fn flag_at(object: &Value, key: &str) -> bool
     }
 }
 
-/// Whether a line asks for this.
+/// Whether a line's `do` is this word.
 pub(crate) fn asks(line: &Value, word: &str) -> bool
     ensures { result ≡ asks word.now (view line.now) }
 {

@@ -1,4 +1,4 @@
--- A fault that the reader answers stands behind the longest front that can be completed.
+-- A fault that the reader returns stands behind the longest front that can be completed.
 use Rattle.std.proofs.Common.{ℕ, ◌≡◌, Result, Ok, Err, Bool, true, false, List, [], ◌∷◌, Option, Some, None, refl, sym, ◌∙◌}
 use Rattle.std.specs.Prelude.{codes, if◌then◌else◌}
 use Rattle.std.proofs.lemmas.Option.{cond_some}
@@ -18,7 +18,7 @@ use Rattle.pcef_filter.specs.declared.filter.FilterFault.{FilterFault}
 use Rattle.pcef_filter.specs.declared.filter.FilterFault.TheVariants as fault
 use Rattle.pcef_filter.proofs.Fronts.{FaultsAt, Succeeds, fails, same_fault, stage, step, stop_empty, stop_token, alike}
 
--- a fixed word as a class of tokens, whose value says nothing
+-- a fixed word as a class of tokens, whose value is empty
 abbrev word_in : Token → Token → Option (Unit {0})
 word_in w t = if is_word w t then Some tt else None
 

@@ -5,7 +5,7 @@ use Rattle.pcef_filter.specs.Tokens.{Token}
 use Rattle.pcef_filter.specs.Faults.{IsViable, IsLongestViable}
 use Rattle.pcef_filter.specs.declared.filter.FilterFault.{FilterFault}
 
--- `e` is what `rows` answers for the place behind the longest front that can be completed
+-- `e` is the fault that `rows` has for the place behind the longest front that can be completed
 pub record FaultsAt (Right : List Token → Type 0) (rows : List Token → Option Token → FilterFault) (ts : List Token) (e : FilterFault) : Type 0 where
   pub count : ℕ
   pub longest : IsLongestViable Right ts count

@@ -1,5 +1,5 @@
--- The functions that restate the grammar say what it says: what they answer is spelled, and what is
--- spelled they answer.
+-- The functions that restate the grammar agree with it: what they return is spelled, and what is
+-- spelled they return.
 use Rattle.std.proofs.Common.{ℕ, ◌≡◌, Result, Ok, Err, Bool, true, false, List, [], ◌∷◌, ◌++◌, Option, Some, None, refl, sym, ap, ◌∙◌, subst}
 use Rattle.std.specs.Prelude.{codes}
 use Rattle.arrayvec.specs.ArrayVec.{ArrayVec}
@@ -46,7 +46,7 @@ token_ok {X = X} read e (t ∷ ts) x h = go (read t) refl
         let pair : (y, ts) ≡ x = cc in
         (t, ap (λ (p : X × List Token). t ∷ p.1) pair, is ∙ ap (λ (p : X × List Token). Some p.0) pair)
 
--- ---- what is answered is spelled
+-- ---- what is returned is spelled
 end_spelled : (t : Token) (rest ts : List Token) (p : Place) (x : Endpoint) → ts ≡ t ∷ rest → x.place ≡ p → IsPlace t p → SpellsPorts rest x.ports.items → SpellsEndpoint ts x
 end_spelled t rest ts p x order place is ports = rw order (rw place is, ports)
 
@@ -140,7 +140,7 @@ filter_spelled flow d p s t f ts t1 t2 t3 t4 source target dt pt same o1 o2 o3 o
       refl,
     )
 
--- the first law: answered filters are spelled
+-- the first law: filters that are returned are spelled
 pub tokens_found : (flow : Option Flow) (ts : List Token) (f : Filter) → parts_in flow ts ≡ Ok f → SpellsTokens ts f × (f.flow ≡ flow)
 unfolding parts_in
 tokens_found flow ts f h =
@@ -158,7 +158,7 @@ tokens_found flow ts f h =
     same (word_ok (codes "permit") fault.Action ts a.0 a.1) dir.1 pro.1 (word_ok (codes "from") fault.From c.0.1 d.0 d.1) src.1
     (direction_found dir.0 b.0.0 dir.2) (proto_found pro.0 c.0.0 pro.2) src.2 (target_found s.0.1 t.0 t.1)
 
--- ---- what is spelled is answered
+-- ---- what is spelled is returned
 no_ports_is : (a : ArrayVec PortRange) → a.items ≡ [] → no_ports ≡ a
 no_ports_is a h = ap (λ (xs : List PortRange). record { items = xs }) (sym h)
 
@@ -194,7 +194,7 @@ source_again (t ∷ u ∷ []) rest x h =
     rw (place, digit, ports) refl
 source_again (t ∷ u ∷ v ∷ ts) rest x h = absurd h.1
 
--- the second law: spelled filters are answered, with the flow word that was given
+-- the second law: spelled filters are returned, with the flow word that was given
 pub tokens_again : (flow : Option Flow) (ts : List Token) (f : Filter) → SpellsTokens ts f → parts_in flow ts ≡ Ok (record f { flow = flow })
 unfolding parts_in
 tokens_again flow ts f h =

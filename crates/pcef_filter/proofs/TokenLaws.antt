@@ -37,7 +37,7 @@ parts_front p (x ∷ xs) =
           rw (filled, one) (rest.0, ap (onto_first x) rest.1, rest.2)
     ]
 
--- what begins with no separator has its first part first
+-- what begins with no separator begins with its first part
 parts_first : (p : ℕ → Bool) (x : ℕ) (xs : List ℕ) → p x ≡ false
     → parts p (x ∷ xs) ≡ take (position_or_len p (x ∷ xs)) (x ∷ xs) ∷ parts p (drop (position_or_len p (x ∷ xs)) (x ∷ xs))
 parts_first p x xs filled =

@@ -1,4 +1,5 @@
--- What single tokens of a filter text spell (RFC 6733, clause 4.3.1). How many digits a number may have, and how many ranges a port list, are own choices.
+-- What single tokens of a filter text spell (RFC 6733, clause 4.3.1). The limits on the digits of a number and on the
+-- ranges of a port list are own choices.
 use Rattle.std.specs.Prelude.{ℕ, ◌≡◌, ◌≤◌, List, [], ◌∷◌, length, Option, Some, None, codes, ⊤}
 use Rattle.pcef_packet.specs.AddressTexts.{WritesAddress}
 use Rattle.pcef_packet.specs.Addresses.{width_of}
@@ -61,7 +62,7 @@ IsPorts token ranges = AreRanges (pieces comma token) ranges × (length ranges �
 
 -- ---- the flow word
 -- which flow words may stand beside a text of this direction: beside `in` none (own choice), since a
--- flow word says for which packets an `out` text is meant (TS 29.212, clause 5.3.65, Flow-Direction)
+-- flow word says to which packets an `out` text applies (TS 29.212, clause 5.3.65, Flow-Direction)
 abbrev pub AllowsFlow : Direction → Option Flow → Type 0
 AllowsFlow In flow = flow ≡ None
 AllowsFlow Out flow = ⊤

@@ -18,7 +18,7 @@ IsRight ts = (filter : Filter) × SpellsTokens ts filter
 abbrev pub IsViable : (List Token → Type 0) → List Token → Type 0
 IsViable Right ts = (more : List Token) × Right (ts ++ more)
 
--- so many tokens can be completed, and no more of them
+-- `count` tokens can be completed, and no more of them
 pub record IsLongestViable (Right : List Token → Type 0) (ts : List Token) (count : ℕ) : Type 0 where
   pub within : count ≤ length ts
   pub viable : IsViable Right (take count ts)

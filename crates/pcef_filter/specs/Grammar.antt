@@ -32,7 +32,7 @@ pub record SpellsTokens (ts : List Token) (filter : Filter) : Type 0 where
   pub spells_source : SpellsEndpoint source filter.source
   pub spells_target : SpellsEndpoint target filter.target
 
--- the text spells the filter, whose flow word is the one that was given, and may be given
+-- the text spells the filter, which has the given flow word, and may have it
 pub record Spells (text : List ℕ) (flow : Option Flow) (filter : Filter) : Type 0 where
   pub parts : SpellsTokens (tokens text) filter
   pub given : filter.flow ≡ flow

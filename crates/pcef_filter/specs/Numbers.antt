@@ -4,8 +4,8 @@ use Rattle.std.specs.Str.{all_ascii_digits}
 use Rattle.std.specs.Str.Parse.{digits_value}
 use Rattle.pcef_filter.specs.Tokens.{Token}
 
--- The token is a decimal number of at least one digit and at most so many. Leading zeros count as
--- digits and change nothing (own choice).
+-- The token is a decimal number of 1 to `most_digits` digits. Leading zeros count as digits and
+-- change nothing (own choice).
 pub record IsNumber (most_digits : ℕ) (token : Token) (number : ℕ) : Type 0 where
   pub some : 0 < length token
   pub few : length token ≤ most_digits

@@ -27,7 +27,7 @@ value_or (Some x) e next = next x
 abbrev pub Front : Type 0 → Type 0
 Front X = Result (X × List Token) FilterFault
 
--- what a reader answers and leaves behind is this front
+-- what a reader returns and leaves behind is this front
 abbrev pub IsFront : {X : Type 0} → Result X FilterFault → List Token → Front X → Type 0
 IsFront (Ok x) rest front = front ≡ Ok (x, rest)
 IsFront (Err e) rest front = front ≡ Err e

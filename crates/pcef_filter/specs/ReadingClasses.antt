@@ -21,7 +21,7 @@ use Rattle.pcef_filter.specs.declared.filter.PortRange.{PortRange}
 abbrev pub is_word : Token → Token → Bool
 is_word word token = bytes_eq token word
 
--- a value, and what is made of it
+-- a value, and what follows from it
 abbrev pub and_then : {X Y : Type 0} → Option X → (X → Option Y) → Option Y
 and_then None next = None
 and_then (Some x) next = next x

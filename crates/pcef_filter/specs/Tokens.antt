@@ -7,11 +7,11 @@ use Rattle.std.specs.Char.{is_ascii_digit}
 abbrev pub Token : Type 0
 Token = List ℕ
 
--- spaces and tabs keep tokens apart (own choice)
+-- spaces and tabs separate tokens (own choice)
 abbrev pub is_blank : ℕ → Bool
 is_blank octet = (octet == 32) || (octet == 9)
 
--- what stands between two blanks that follow each other is no token
+-- between two adjacent blanks there is no token
 abbrev pub has_octets : List ℕ → Bool
 has_octets [] = false
 has_octets (octet ∷ octets) = true

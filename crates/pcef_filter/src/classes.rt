@@ -1,4 +1,4 @@
-//! The values of single tokens. A reader answers `None` for a token that isn't of its class.
+//! The values of single tokens. A reader returns `None` for a token that isn't of its class.
 
 ghost use Rattle.std.specs.Prelude.{◌≡◌};
 ghost use Rattle.pcef_filter.specs.Tokens.{begins_with_digit};

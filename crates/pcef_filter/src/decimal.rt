@@ -6,7 +6,7 @@ ghost use Rattle.pcef_filter.specs.ReadingClasses.{number_in};
 /// The most digits of a number that stands alone.
 pub const MOST_DIGITS: usize = 5;
 
-/// The number that a token writes in no more than so many digits.
+/// The number that a token writes in at most `most_digits` digits.
 #[tactic(auto, unfolding(crate::specs::ReadingClasses::number_in))]
 pub(crate) fn number_of(token: &[u8], most_digits: usize) -> Option<u32>
     // Five digits are within 32 bits.

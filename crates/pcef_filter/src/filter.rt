@@ -33,7 +33,7 @@ pub enum Flow {
 pub enum Place {
     /// Every address.
     Any,
-    /// The addresses of the session: its own, or of version 6 the network of 64 bits that it stands in.
+    /// The addresses of the session: its own, or in version 6 those of its /64.
     Assigned,
     /// The addresses of a network.
     Net(Net),
@@ -44,7 +44,7 @@ pub enum Place {
 pub struct Net {
     /// An address of the network. Bits below the mask don't count.
     pub addr: Addr,
-    /// How many bits count: 0 to 32, or to 128 for version 6.
+    /// How many bits count: 0 to 32 in version 4, 0 to 128 in version 6.
     pub bits: u8,
 }
 
@@ -66,7 +66,7 @@ pub struct Endpoint {
     pub ports: ArrayVec<PortRange, 8>,
 }
 
-/// A filter, as its text and its flow word give it.
+/// A filter, by its text and its flow word.
 #[derive(Debug, PartialEq, Eq, Drop)]
 pub struct Filter {
     /// The direction word.
@@ -94,13 +94,13 @@ pub enum FilterFault {
     From,
     /// The source is wrong.
     Source,
-    /// What follows the source begins with a digit and is no port list.
+    /// What follows the source begins with a digit, and is no port list.
     SourcePorts,
     /// There is no `to` where it must stand.
     To,
     /// The target is wrong.
     Target,
-    /// What follows the target begins with a digit and is no port list.
+    /// What follows the target begins with a digit, and is no port list.
     TargetPorts,
     /// Something else follows the target.
     Rest,

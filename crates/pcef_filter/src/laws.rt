@@ -1,4 +1,4 @@
-//! Laws of the definitions, for whoever builds on them.
+//! Laws of the definitions, for those who build on them.
 
 ghost use Rattle.std.specs.Prelude.{◌≡◌, List, Option, ℕ};
 ghost use Rattle.pcef_filter.specs.Grammar.{Spells};

@@ -81,17 +81,17 @@ fn dst_of(ports: Option<Ports>) -> Option<u16>
     ports.map(|ports| ports.dst)
 }
 
-/// Whether a filter doesn't apply, or has another protocol. Most filters end here, so it is one sum and
-/// one branch, which a processor guesses well.
+/// Whether a filter doesn't apply, or has another protocol. Most filters end here, so this is one sum and one branch,
+/// which a processor predicts well.
 fn fails_early(applies: bool, proto_difference: u8) -> bool
     ensures { result ≡ not (applies && (proto_difference == 0)) }
 {
     u32::from(!applies) + u32::from(proto_difference) != 0
 }
 
-/// Whether one endpoint fits the packet's source, and the other its destination. The addresses come first,
-/// since few fit by them. The session's address comes by reference: by value its 32 octets were written to
-/// memory again for each filter of a scan. It isn't inlined, so that the tests before it are, which most filters fail.
+/// Whether one endpoint fits the packet's source, and the other its destination. The addresses are tested first, since
+/// few fit by them. The session's address is passed by reference: by value, its 32 octets were written to memory again
+/// for each filter of a scan. Not inlined, so that the tests before it are, which most filters fail.
 #[inline(never)]
 fn fit(source: &Endpoint, target: &Endpoint, ue: &Addr, header: &Header) -> bool
     ensures { result ≡ endpoints_fit source.now target.now ue.now header.now }
@@ -142,8 +142,8 @@ impl Filter {
         self.matches_for(&ue, header)
     }
 
-    /// The same as `matches`, by a reference to the session's address, which callers that try many filters needn't
-    /// copy for each.
+    /// As `matches`, with a reference to the session's address, so that callers that try many filters needn't copy it
+    /// for each.
     pub fn matches_for(&self, ue: &Addr, header: &Header) -> bool
         ensures { result ≡ matches self.now ue.now header.now }
     {

@@ -20,7 +20,7 @@ fn bits_of(width: u8, piece: &[u8]) -> Option<u8>
     Some(bits as u8)
 }
 
-/// A network, or one address, of which all bits count.
+/// A network, or one address, all of whose bits count.
 #[tactic(auto, unfolding(crate::specs::ReadingClasses::net_in))]
 fn net_of(token: &[u8]) -> Option<Net>
     ensures { result ≡ net_in token.now }

@@ -15,7 +15,7 @@ use crate::ports::ports_of;
 use crate::tokens::Tokens;
 use arrayvec::ArrayVec;
 
-/// Reads a word that has to stand here.
+/// Reads a word that must stand here.
 fn expect_word(left: &mut Tokens<'_>, word: &[u8], fault: FilterFault) -> Result<(), FilterFault>
     ensures { MatchResult result (λ _. word_at word.now fault left.old ≡ Ok left.new)
         (λ e. word_at word.now fault left.old ≡ Err e) }
@@ -103,7 +103,7 @@ fn take_target(mut left: Tokens<'_>) -> Result<Endpoint, FilterFault>
     }
 }
 
-/// The filter that a text spells, whether or not its flow word may stand there.
+/// The filter that a text spells, whether or not it may have this flow word.
 #[tactic(auto, unfolding(crate::specs::Reading::parts_in))]
 fn read_spelled(text: &str, flow: Option<Flow>) -> Result<Filter, FilterFault>
     ensures { result ≡ parts_in flow (tokens text.now) }
@@ -124,7 +124,7 @@ fn read_spelled(text: &str, flow: Option<Flow>) -> Result<Filter, FilterFault>
     })
 }
 
-/// The flow word is judged last.
+/// That filter, if it may have this flow word, which is judged last.
 #[tactic(auto, unfolding(crate::specs::Reading::filter_in))]
 fn read_allowed(text: &str, flow: Option<Flow>) -> Result<Filter, FilterFault>
     ensures { result ≡ filter_in flow (tokens text.now) }
@@ -155,14 +155,14 @@ fn read_allowed(text: &str, flow: Option<Flow>) -> Result<Filter, FilterFault>
 /// Spaces and tabs stand between tokens, and may stand at both ends. Numbers have one to five digits
 /// and those of an address one to three, leading zeros included.
 ///
-/// The fault is that of the first token that doesn't fit, or of the place where a token is missing.
-/// `Flow` comes after all others: beside `in` no flow word may be given. Takes no memory.
+/// The fault is that of the first token that doesn't fit, or of the place where a token is missing. `Flow` is the last
+/// in order: beside `in` no flow word may be given. Takes no memory.
 pub fn read_filter(text: &str, flow: Option<Flow>) -> Result<Filter, FilterFault>
-    // A filter that is answered is spelled by the text.
+    // A filter that is returned is spelled by the text.
     ensures found { IfOk result (λ filter. Spells text.now flow filter) }
-    // The filter that the text spells is answered.
+    // The filter that the text spells is returned.
     ensures only { (filter : Filter) → Spells text.now flow filter → result ≡ Ok filter }
-    // A fault that is answered is the text's. `one_fault` says that it is the only one.
+    // A fault that is returned is the text's. `one_fault` says that it is the only one.
     ensures fault { IfErr result (λ e. FilterFaultOf text.now flow e) }
     // The same, as a function of the tokens.
     ensures reading { result ≡ reading_of text.now flow }

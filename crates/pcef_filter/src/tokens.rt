@@ -6,7 +6,7 @@ ghost use Rattle.pcef_filter.specs.Tokens.{Token, is_blank, tokens};
 
 use std::marker::Model;
 
-/// Whether an octet keeps tokens apart.
+/// Whether an octet separates tokens.
 fn is_between(octet: u8) -> bool
     ensures { result ≡ is_blank octet }
 {

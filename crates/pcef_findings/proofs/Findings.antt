@@ -9,11 +9,11 @@ use Rattle.pcef_findings.specs.private.Playing.{AddsLine, PlaysLines}
 use Rattle.pcef_findings.specs.declared.finding.Finding.{Finding}
 use Rattle.pcef_findings.specs.declared.finding.Found.{Found}
 
--- nothing is found, and nothing is told
+-- where nothing is found, there is no finding
 pub none_told : (number : ℕ) (f : Option Found) (text : List ℕ) → f ≡ None → IsFindingOf number f text None
 none_told number f text is = rw is refl
 
--- what is found is told
+-- where something is found, there is a finding
 pub some_told : (number : ℕ) (f : Option Found) (text : List ℕ) (x : Finding) → f ≡ Some x.found → x.line ≡ number → string_bytes x.answer ≡ text → IsFindingOf number f text (Some x)
 some_told number f text x is line answer = rw is (x, refl, line, refl, answer)
 

@@ -1,4 +1,4 @@
--- What a line that is played tells.
+-- The finding on a line that is played.
 use Rattle.std.proofs.Common.{◌≡◌, ◌∙◌, ℕ, List, ◌++◌, false, ap, inl, inr, refl, subst}
 use Rattle.std.proofs.lemmas.Result.{IfOk-weaker}
 use Rattle.std.specs.Prelude.{◌≢◌, Option, Some, Result, Ok, Err, IfOk, OnOk}
@@ -41,7 +41,7 @@ fault_played number w bytes fault x filled some (due, is, inl none) told = absur
 fault_played number w bytes fault x filled some (due, is, inr same) (line, found, answer) =
     inr (filled, (Err fault, subst (LineDue bytes) same is, ((x, refl, line, found, answer), refl)))
 
--- what is found is told beside what was told before
+-- its finding is appended to those before
 pub line_added : (r : Result (Unit {0}) AllocError) (before after : World) (number : ℕ) (bytes : List ℕ) (old new : List Finding) (told : Option Finding) → PlaysBytes before number bytes told after
     → OnOk r (new ≡ old ++ as_list told) → OnOk r (AddsLine before number bytes old new after)
 line_added (Ok done) before after number bytes old new told plays is = (told, plays, is)

@@ -1,4 +1,4 @@
--- Which lines of a script are answered by a fault or a refusal, and what is told of them (own choice).
+-- Which lines of a script are answered by a fault or a refusal, and the findings on them (own choice).
 use Rattle.std.specs.Prelude.{ℕ, ◌≡◌, ◌⊎◌, ◌+◌, true, false, List, [], ◌∷◌, ◌++◌, Option, Some, None, Result, Ok, Err, string_bytes}
 use Rattle.pcef_model.specs.Setting.{Setting}
 use Rattle.pcef_model.specs.Refusals.{first_of, open_faults}
@@ -32,7 +32,7 @@ found_in (finish_reply (Err refusal)) = Some (found.Flush refusal)
 found_in (abandon_reply abandoned) = None
 found_in no_worker = Some found.NoWorker
 
--- what is told of the line of a number: what is found in it, with the script's answer, or nothing where nothing is found
+-- the finding on the line of a number, with the script's answer, or none where nothing is found
 abbrev pub IsFindingOf : ℕ → Option Found → List ℕ → Option Finding → Type 0
 IsFindingOf number None text told = told ≡ None
 IsFindingOf number (Some f) text told =

@@ -40,7 +40,7 @@ fn push(found: &mut Vec<Finding>, next: Option<Finding>) -> Result<(), AllocErro
     Ok(())
 }
 
-/// What is found in the next line, beside what was found before.
+/// Plays the next line, and appends its finding.
 fn take_line<C: Detects>(
     alloc: Global,
     catalog: &C,
@@ -85,11 +85,11 @@ fn find_in<C: Detects>(
     }
 }
 
-/// Opens a session of a profile, plays the lines of an input on it as a script does, and gives those that it answers by a
-/// fault or a refusal, in order, each with its number and answer. A line feed ends a line, and so does the end of the
-/// input. Takes memory for the session, for one line, and for what is found.
+/// Opens a session of a profile and plays the lines of an input on it, as a script does. Returns those that it answers
+/// by a fault or a refusal, in order, each with its number and answer. A line feed ends a line, and so does the end of
+/// the input. Takes memory for the session, for one line, and for the findings.
 ///
-/// Answers a fault of the profile, before any line, or out of memory.
+/// An `Err` is a fault of the profile, before any line, or out of memory.
 pub fn find<C: Detects>(
     alloc: Global,
     profile: Profile,

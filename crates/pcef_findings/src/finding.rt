@@ -1,4 +1,4 @@
-//! What is found in a line.
+//! The findings on lines.
 
 ghost use Rattle.std.specs.Prelude.{◌≡◌};
 ghost use Rattle.pcef_world.specs.Steps.{reply_of};
@@ -17,11 +17,11 @@ pub enum Found {
     Fault(LineFault),
     /// A command is refused.
     Command(Refusal),
-    /// A worker can't come.
+    /// A worker can't attach.
     Attach(AttachFault),
     /// A worker can't take a packet.
     Take(BatchFull),
-    /// A worker can't hand its rows over, and stays where it was to leave.
+    /// A worker can't hand its rows over; it stays attached where it was to finish.
     Flush(FlushRefusal),
     /// The worker isn't attached.
     NoWorker,
@@ -51,7 +51,7 @@ pub struct Finding {
     pub answer: String,
 }
 
-/// Why a step isn't made, where it is refused.
+/// Why a step isn't made, if it is refused.
 pub(crate) fn found_in(answer: &StepAnswer) -> Option<Found>
     ensures { result ≡ found_in (reply_of answer.now) }
 {

@@ -14,7 +14,7 @@ use pcef_script::{is_blank, line_of};
 use pcef_world::{StepAnswer, WorldState};
 use std::alloc::{AllocError, Global};
 
-/// What is found in a line that is at fault.
+/// The finding on a line at fault.
 fn fault_found(alloc: Global, number: u64, fault: LineFault) -> Result<Finding, AllocError>
     ensures { IfOk result (IsOfFault number fault) }
 {
@@ -25,7 +25,7 @@ fn fault_found(alloc: Global, number: u64, fault: LineFault) -> Result<Finding, 
     })
 }
 
-/// The same, or out of memory where the line's reader met that.
+/// The finding on a line at fault, or out of memory where the line's reader met that.
 fn read_fault(alloc: Global, number: u64, fault: LineFault) -> Result<Finding, AllocError>
     ensures { IfOk result (λ x. (fault ≢ NoMemory) × IsOfFault number fault x) }
 {
@@ -35,7 +35,7 @@ fn read_fault(alloc: Global, number: u64, fault: LineFault) -> Result<Finding, A
     }
 }
 
-/// What is found in a line whose step was answered so.
+/// The finding on a line whose step has this answer.
 fn answer_found(
     alloc: Global,
     world: &WorldState,
@@ -56,7 +56,7 @@ fn answer_found(
     }))
 }
 
-/// Makes a step, and finds whether it is refused. The reports of the steps before it are forgotten.
+/// Makes a step. Returns a finding if it is refused. The reports of the steps before it are forgotten.
 fn step<C: Detects>(
     alloc: Global,
     catalog: &C,
@@ -73,7 +73,7 @@ fn step<C: Detects>(
     answer_found(alloc, world, number, &answer)
 }
 
-/// Does what a line asks for, and finds whether it is done.
+/// Does what a line asks for. Returns a finding if it isn't done.
 fn line_found<C: Detects>(
     alloc: Global,
     catalog: &C,
@@ -91,7 +91,7 @@ fn line_found<C: Detects>(
     }
 }
 
-/// Reads a line, does what it asks for, and finds whether it is done. Nothing is found in a blank line.
+/// Reads a line, and does what it asks for. Returns a finding if it isn't done. A blank line has none.
 pub(crate) fn play<C: Detects>(
     alloc: Global,
     catalog: &C,

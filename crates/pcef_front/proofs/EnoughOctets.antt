@@ -43,7 +43,7 @@ payload_enough front rest long enough =
     rw (index_front front rest 9 (omega arith), len_front front rest (omega arith), total_front front rest (omega arith), behind)
     (ports_enough (slice_index front 9) (total_len_v4 front - header_len_v4 front) (drop (header_len_v4 front) front) rest (omega arith))
 
--- what is read of the octets in front, in a packet of so many
+-- what is read of the octets in front, in a packet of this length
 abbrev faults_in : List ℕ → ℕ → Header → Result Header PacketFault
 faults_in front whole header =
     if nat_lt whole 20 then Err fault.ShortHeader

@@ -22,7 +22,7 @@ use Rattle.pcef_front.proofs.FrontNumbers.{index_front, number_front}
 use Rattle.pcef_front.proofs.FrontPorts.{few_ports, no_carrier, no_protocol, with_ports, without_ports}
 use Rattle.pcef_front.proofs.Told.{IsOctet, Keeps, blank, blank_len, made, on_front, on_ok, same_read, shorter, windowed, zeros}
 
--- ---- what a header in front makes of the reading
+-- ---- what a header in front does to the reading
 read_on : (kind next : ℕ) (octets left : List ℕ) → is_extension kind ≡ true → past kind octets ≡ Some (next, left, false) → transport_in kind octets ≡ transport_in next left
 unfolding transport_in
 read_on kind next octets left extends on = ap transport_carried (sym (step_on kind octets (carried_in kind octets) next left refl extends on))
@@ -39,7 +39,7 @@ pub read_end : (kind : ℕ) (octets : List ℕ) → is_extension kind ≡ false 
 unfolding transport_in
 read_end kind octets ends = ap transport_carried (sym (step_end kind octets (carried_in kind octets) refl ends))
 
--- ---- a header that is passed
+-- ---- a header that is skipped
 on_ok_same : {X : Type 0} (r : Result X PacketFault) → on_ok (λ (x : X). x) r ≡ r
 on_ok_same (Ok x) = refl
 on_ok_same (Err e) = refl
@@ -106,7 +106,7 @@ read_eight kind next more extends = read_on kind next (eight next more) more ext
 eight_octets : (next : ℕ) (more : List ℕ) → next < 256 → All IsOctet more → All IsOctet (eight next more)
 eight_octets next more small rest = All-cons IsOctet next (0 ∷ 0 ∷ 0 ∷ 0 ∷ 0 ∷ 0 ∷ 0 ∷ more) small (All-append IsOctet (blank 7) more (zeros 7) rest)
 
--- a header of which nothing is at hand
+-- a header without octets at hand
 abbrev read_as : ℕ → Option Ports → Result Transport PacketFault
 read_as proto ports = Ok (transport proto ports)
 
@@ -141,7 +141,7 @@ unknown kind room extends fits =
         let numbers : proto_of (Ok (transport 58 None)) ≡ proto_of (Ok (transport 59 None)) = ap proto_of protos in
         omega arith
 
--- ---- a header that tells its length, of which the first octet alone is at hand
+-- ---- a header that states its length, of which only the first octet is at hand
 options_len : (kind : ℕ) (octets : List ℕ) → is_fragment kind ≡ false → extension_len kind octets ≡ 8 + 8 * slice_index octets 1
 unfolding extension_len
 options_len kind octets other = rw other refl
@@ -215,7 +215,7 @@ first_octet_portless kind next room extends other ends none many = λ rest follo
     ∙ read_end next (drop (extension_len kind (next ∷ rest)) (next ∷ rest)) ends
     ∙ ap (λ o. Ok (transport next o)) (no_protocol next (drop (extension_len kind (next ∷ rest)) (next ∷ rest)) (no_carrier next (room - 8) none (omega arith)))
 
--- ---- one of which more is at hand
+-- ---- one with more octets at hand
 len_at_hand : (kind : ℕ) (left rest : List ℕ) → is_fragment kind ≡ false → 2 ≤ length left → extension_len kind (left ++ rest) ≡ 8 + 8 * slice_index left 1
 len_at_hand kind left rest other two = options_len kind (left ++ rest) other ∙ ap (λ n. 8 + 8 * n) (index_front left rest 1 (omega arith))
 
@@ -297,7 +297,7 @@ either_portless left room some fits ends none = λ rest follows.
           ∙ ap (λ o. Ok (transport (slice_index left 0) o)) without
     ]
 
--- and makes one
+-- and where it makes one
 abbrev fragment_of : ℕ → ℕ → ℕ → List ℕ → List ℕ
 fragment_of x y offset more = x ∷ y ∷ 0 ∷ offset ∷ 0 ∷ 0 ∷ 0 ∷ 0 ∷ more
 
@@ -353,7 +353,7 @@ ports_apart x y room ends has fits =
     some_apart : read_as x (Some (ports_at (blank (room - 8)))) ≢ read_as x None
     some_apart same = let ports : Some (ports_at (blank (room - 8))) ≡ None = ap ports_of same in absurd (cc)
 
--- it holds for one octet of the header, two, and three of which the last is 0
+-- it holds for one or two octets of the header, and for three that end with 0
 fewer : (left : List ℕ) (room : ℕ) → 0 < length left → length left < 4 → slice_index left 2 ≡ 0
     → ((x y : ℕ) → x ≡ slice_index left 0 → IsOpen (transport_in 44) (x ∷ y ∷ 0 ∷ []) room) → IsOpen (transport_in 44) left room
 fewer [] room some few third is = absurd (omega arith)

@@ -20,7 +20,7 @@ use Rattle.pcef_front.specs.private.Transports.{header_with_v4, ports_read, port
 use Rattle.pcef_front.proofs.FrontNumbers.{index_front, last_apart, number_front}
 use Rattle.pcef_front.proofs.Told.{IsOctet, blank, blank_len, made, on_front, on_ok, same_read, shorter, windowed, zeros}
 
--- ---- what the front says is said by the packet
+-- ---- what the front states, the packet states
 pub len_front : (front rest : List ℕ) → 0 < length front → header_len_v4 (front ++ rest) ≡ header_len_v4 front
 unfolding header_len_v4
 len_front front rest some = ap (λ o. 4 * (o % 16)) (index_front front rest 0 some)
@@ -76,7 +76,7 @@ read_fine dir octets least order within =
       more (length octets) (total_len_v4 octets) within,
     ) refl
 
--- ---- what is told of a front, fault by fault
+-- ---- the answer for a front, fault by fault
 pub short_told : (dir : Dir) (front : List ℕ) (whole : ℕ) → whole < 20 → IsSure (reading_v4 dir) front whole (Err fault.ShortHeader)
 short_told dir front whole short = λ rest follows. read_short dir (front ++ rest) (let all = whole_len front rest whole follows in omega arith)
 

@@ -23,7 +23,7 @@ use Rattle.pcef_front.proofs.FrontNumbers.{at_seam, index_front, last_apart, num
 use Rattle.pcef_front.proofs.FrontsV4.{dst_in}
 use Rattle.pcef_front.proofs.Told.{IsOctet, blank, blank_len, made, on_front, on_ok, shorter, windowed, zeros}
 
--- ---- what the front says is said by the packet
+-- ---- what the front states, the packet states
 pub volume_front : (front rest : List ℕ) → 6 ≤ length front → volume_v6 (front ++ rest) ≡ volume_v6 front
 unfolding volume_v6
 volume_front front rest six = ap (λ n. 40 + n) (number_front front rest 4 2 six)
@@ -56,7 +56,7 @@ read_within dir octets within =
     let least = least_volume octets in
     rw (more (length octets) 40 (omega arith), more (length octets) (volume_v6 octets) within) refl
 
--- ---- what is told of a front, fault by fault
+-- ---- the answer for a front, fault by fault
 pub short_told : (dir : Dir) (front : List ℕ) (whole : ℕ) → whole < 40 → IsSure (reading_v6 dir) front whole (Err fault.ShortHeader)
 short_told dir front whole short = λ rest follows. read_short dir (front ++ rest) (let all = whole_len front rest whole follows in omega arith)
 

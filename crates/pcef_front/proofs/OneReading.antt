@@ -1,4 +1,4 @@
--- Of a front one thing is told.
+-- A front has one answer.
 use Rattle.std.proofs.Common.{ℕ, ◌≡◌, ◌-◌, ◌≤◌, ◌∙◌, List, length, take, Result, Ok, Err, refl, sym, ap, arith}
 use Rattle.std.proofs.lemmas.List.{length-take}
 use Rattle.pcef_packet.specs.declared.header.PacketFault.{PacketFault}

@@ -1,4 +1,4 @@
--- What readers say of fronts, and how one reader's answer carries over to another's.
+-- The answers of readers for fronts, and how one reader's answer carries over to another's.
 use Rattle.std.proofs.Common.{ℕ, zero, suc, ◌≡◌, ◌+◌, ◌-◌, ◌<◌, ◌≤◌, ◌∙◌, ◌++◌, List, [], ◌∷◌, length, take, drop, replicate, Result, Ok, Err, refl, sym, ap, arith, append_assoc}
 use Rattle.std.specs.List.{All, slice_range}
 use Rattle.std.proofs.lemmas.List.{length-append, length-drop, length-replicate, length-take}
@@ -54,7 +54,7 @@ shorter read front filler whole fill is = (
   λ same. is.4 (ap read (append_assoc front filler is.0) ∙ same ∙ ap read (sym (append_assoc front filler is.1))),
 )
 
--- ---- a reader that makes more of what another one reads
+-- ---- a reader that maps what another one reads
 abbrev pub on_ok : {X Y : Type 0} → (X → Y) → Result X PacketFault → Result Y PacketFault
 on_ok f (Ok x) = Ok (f x)
 on_ok f (Err e) = Err e
@@ -63,7 +63,7 @@ abbrev pub on_front : {X Y : Type 0} → (X → Y) → Result X FrontFault → R
 on_front f (Ok x) = Ok (f x)
 on_front f (Err e) = Err e
 
--- different values make different ones
+-- different values map to different ones
 abbrev pub Keeps : {X Y : Type 0} → (X → Y) → Type 0
 Keeps {X = X} f = (a b : X) → f a ≡ f b → a ≡ b
 

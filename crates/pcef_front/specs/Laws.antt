@@ -6,7 +6,7 @@ use Rattle.pcef_packet.specs.declared.header.Header.{Header}
 use Rattle.pcef_front.specs.Fronts.{IsSettledBy}
 use Rattle.pcef_front.specs.declared.fault.FrontFault.{FrontFault}
 
--- of a front nothing else is told
+-- a front has one answer, and no other
 abbrev pub OneAnswer : Type 0
 OneAnswer =
     (dir : Dir) (front : List ℕ) (whole : ℕ) (answer other : Result Header FrontFault)

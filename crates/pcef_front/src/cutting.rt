@@ -1,8 +1,8 @@
-//! Parts of some octets, as far as they are there.
+//! Parts of octets, as far as these go.
 
 ghost use Rattle.std.specs.Prelude.{◌≡◌, drop, take};
 
-/// The first octets, at most so many.
+/// The first `count` octets, or all where there are fewer.
 pub(crate) fn first(octets: &[u8], count: usize) -> &[u8]
     ensures { result.now ≡ take count octets.now }
 {
@@ -13,7 +13,7 @@ pub(crate) fn first(octets: &[u8], count: usize) -> &[u8]
     }
 }
 
-/// The octets behind so many, or none.
+/// The octets behind the first `count`, or none where there are fewer.
 pub(crate) fn behind(octets: &[u8], count: usize) -> &[u8]
     ensures { result.now ≡ drop count octets.now }
 {

@@ -24,7 +24,7 @@ const MOST_LEN: usize = 2048;
 /// The fault of a packet that ends within an extension header.
 const CUT_HEADER: FrontFault = FrontFault::Packet(PacketFault::BadHeaderLength);
 
-/// What rules look at behind the extension headers.
+/// The protocol and ports behind the extension headers, which rules test.
 #[derive(Clone, Copy)]
 pub(crate) struct Transport {
     /// The protocol.
@@ -33,16 +33,16 @@ pub(crate) struct Transport {
     pub ports: Option<Ports>,
 }
 
-/// What an extension header leads to.
+/// What follows an extension header.
 #[derive(Clone, Copy)]
 enum Beyond {
-    /// A header, or a payload, of this kind, which begins so many octets further on.
+    /// A header, or a payload, of this kind, and how many octets further on it begins.
     To(u8, usize),
     /// A payload of this protocol, which has no ports.
     Portless(u8),
 }
 
-/// Whether a header of this kind is passed over.
+/// Whether a header of this kind is an extension header, which is skipped.
 fn is_extension(kind: u8) -> bool
     ensures { result ≡ is_extension kind }
 {
@@ -58,7 +58,7 @@ fn offset_of(left: &[u8]) -> u16
 }
 
 /// Whether the fragment header that begins with these octets is that of a fragment other than the first. None where
-/// its octets beyond them decide.
+/// that depends on octets that aren't at hand.
 fn is_later(left: &[u8]) -> Option<bool>
     ensures { ShowsLater left.now result }
 {
@@ -71,7 +71,8 @@ fn is_later(left: &[u8]) -> Option<bool>
     }
 }
 
-/// What the fragment header in front leads to, which names this kind, in so many octets.
+/// What follows the fragment header in front, which names the kind `next`. `room` is how many octets the packet has
+/// from this header on.
 fn past_fragment(next: u8, left: &[u8], room: usize) -> Result<Beyond, FrontFault>
     requires some { 0 < length left.now }
     requires within { length left.now ≤ room }
@@ -88,8 +89,8 @@ fn past_fragment(next: u8, left: &[u8], room: usize) -> Result<Beyond, FrontFaul
     }
 }
 
-/// What a header leads to of which the first octet alone is at hand, and names this kind, in so many octets. Its
-/// second octet would tell its length.
+/// What follows a header that names the kind `next`, where only its first octet is at hand: its second octet, which is
+/// missing, states its length. `room` is how many octets the packet has from this header on.
 fn past_first_octet(next: u8, room: usize) -> Result<Beyond, FrontFault>
     requires fits { 8 ≤ room }
     ensures { (kind : ℕ) → is_extension kind ≡ true → is_fragment kind ≡ false → LeadsTo kind (next ∷ []) room result }
@@ -107,7 +108,8 @@ fn past_first_octet(next: u8, room: usize) -> Result<Beyond, FrontFault>
     }
 }
 
-/// What the header in front leads to, which names this kind and isn't a fragment's, in so many octets.
+/// What follows the header in front, which names the kind `next` and isn't a fragment header. `room` is how many octets
+/// the packet has from this header on.
 fn past_options(next: u8, left: &[u8], room: usize) -> Result<Beyond, FrontFault>
     requires some { 0 < length left.now }
     requires within { length left.now ≤ room }
@@ -126,7 +128,7 @@ fn past_options(next: u8, left: &[u8], room: usize) -> Result<Beyond, FrontFault
     }
 }
 
-/// What the header of this kind in front leads to, in so many octets.
+/// What follows the header of this kind in front. `room` is how many octets the packet has from this header on.
 fn past(kind: u8, left: &[u8], room: usize) -> Result<Beyond, FrontFault>
     requires extends { is_extension kind ≡ true }
     requires within { length left.now ≤ room }
@@ -145,7 +147,8 @@ fn past(kind: u8, left: &[u8], room: usize) -> Result<Beyond, FrontFault>
     }
 }
 
-/// What is carried in so many octets, of which these are at hand, and the first header has this kind.
+/// The transport in the `room` octets behind the fixed header, where the first header has this kind and only the octets
+/// of `front` are at hand.
 pub(crate) fn transport_of(first: u8, front: &[u8], room: usize) -> Result<Transport, FrontFault>
     requires within { length front.now ≤ room }
     ensures { IsSettledBy (transport_in first) front.now room result }

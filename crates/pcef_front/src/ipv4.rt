@@ -45,8 +45,8 @@ fn fragment_offset_of(front: &[u8]) -> u16
     BigEndian::read_u16(&front[6..]) & 0x1fff
 }
 
-/// Why the front has no header where it ends before the total length does: of three octets the last may say that
-/// the total length is beyond the packet.
+/// Why the front has no header where it ends before the total length does. With three octets at hand, the last of them
+/// may show that the total length is beyond the packet.
 fn without_total_len(front: &[u8], whole: usize) -> FrontFault
     requires some { 0 < length front.now }
     requires few { length front.now < 4 }
@@ -99,7 +99,7 @@ fn header_with(dir: Dir, front: &[u8], ports: Option<Ports>) -> Header
     }
 }
 
-/// The header of a packet of version 4, of so many octets, that begins with these.
+/// The header of a packet of version 4, of `whole` octets, that begins with those of `front`.
 pub(crate) fn read_v4(dir: Dir, front: &[u8], whole: usize) -> Result<Header, FrontFault>
     requires some { 0 < length front.now }
     requires fewer { length front.now < whole }

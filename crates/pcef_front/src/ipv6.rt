@@ -28,8 +28,8 @@ fn volume_of(front: &[u8]) -> usize
     FIXED_LEN + usize::from(BigEndian::read_u16(&front[4..]))
 }
 
-/// Why the front has no header where it ends before the payload length does: of five octets the last may say that
-/// the volume is beyond the packet.
+/// Why the front has no header where it ends before the payload length does. With five octets at hand, the last of them
+/// may show that the volume is beyond the packet.
 fn without_volume(front: &[u8], whole: usize) -> FrontFault
     requires some { 0 < length front.now }
     requires few { length front.now < 6 }
@@ -61,7 +61,7 @@ fn without_addresses(front: &[u8], whole: usize, volume: usize) -> FrontFault
     }
 }
 
-/// The header of a packet that carries this.
+/// The header of a packet with this transport.
 #[tactic(auto, unfolding(pcef_packet::specs::HeaderOf::volume_v6))]
 fn header_with(dir: Dir, front: &[u8], carried: Transport) -> Header
     requires { 40 ≤ length front.now }
@@ -78,7 +78,7 @@ fn header_with(dir: Dir, front: &[u8], carried: Transport) -> Header
     }
 }
 
-/// The header of a packet of version 6, of so many octets, that begins with these.
+/// The header of a packet of version 6, of `whole` octets, that begins with those of `front`.
 pub(crate) fn read_v6(dir: Dir, front: &[u8], whole: usize) -> Result<Header, FrontFault>
     requires some { 0 < length front.now }
     requires fewer { length front.now < whole }

@@ -1,8 +1,8 @@
-//! A law of the definitions, proved for whoever reads them.
+//! A law of the definitions, proved for those who rely on them.
 
 ghost use Rattle.pcef_front.specs.Laws.{OneAnswer};
 
-/// Of a front one answer is right, and no other: a header, a fault, or `TooFew`.
+/// For a front exactly one answer is right: a header, a fault, or `TooFew`.
 pub fn one_answer()
     ensures { OneAnswer }
 {}

@@ -1,4 +1,4 @@
-//! Reads the header of a packet of which only the first octets are at hand, and the length is told: `read_front`.
+//! Reads the header of a packet of which only the length and the first octets are known: `read_front`.
 //!
 //! Its contracts say: what every packet that begins with these octets is read as, or that two such packets are read
 //! differently.

@@ -19,7 +19,7 @@ fn carries_ports(proto: u8) -> bool
     matches!(proto, 6 | 17 | 132)
 }
 
-/// Whether a payload of so many octets has ports.
+/// Whether a payload of `room` octets has ports.
 pub(crate) fn has_ports(proto: u8, room: usize) -> bool
     ensures { result ≡ has_ports proto room }
 {
@@ -37,7 +37,8 @@ fn ports_at(payload: &[u8]) -> Ports
     }
 }
 
-/// The ports at the front of a payload of so many octets, of which these are at hand, for a protocol that has them.
+/// The ports at the front of a payload of `room` octets, of which only the first may be at hand, or none where the
+/// protocol has no ports.
 pub(crate) fn ports_of(proto: u8, payload: &[u8], room: usize) -> Result<Option<Ports>, FrontFault>
     ensures { IsSettledBy (ports_read proto) payload.now room result }
 {

@@ -20,7 +20,7 @@ fn version_of(front: &[u8]) -> u8
     front[0] >> 4
 }
 
-/// The header of a packet that is whole.
+/// The header of a packet that is whole at hand.
 fn read_whole(dir: Dir, octets: &[u8]) -> Result<Header, FrontFault>
     ensures { result ≡ as_front (header_of dir octets.now) }
 {
@@ -30,14 +30,14 @@ fn read_whole(dir: Dir, octets: &[u8]) -> Result<Header, FrontFault>
     }
 }
 
-/// The header of a packet of `whole` octets that begins with those of `front`, or its first fault: what `read_header` of
-/// `pcef_packet` answers for every such packet. `TooFew` where it answers differently for two of them. What `front` has
-/// beyond `whole` octets is ignored. Takes no memory.
+/// The header of a packet of `whole` octets that begins with those of `front`, or its first fault: what `read_header`
+/// of `pcef_packet` returns for every such packet. `TooFew` where it returns different results for two of them. The
+/// octets of `front` beyond `whole` are ignored. Takes no memory.
 pub fn read_front(dir: Dir, front: &[u8], whole: usize) -> Result<Header, FrontFault>
     ensures reading { IsSettledBy (header_of dir) (take whole front.now) whole result }
-    // A packet that is whole at hand is read as such.
+    // A packet that is whole at hand is read as `read_header` reads it.
     ensures at_hand { whole ≤ length front.now → result ≡ as_front (header_of dir (take whole front.now)) }
-    // 64 octets are enough of version 4; all headers and four octets behind them, of version 6.
+    // Of version 4, 64 octets are enough; of version 6, all headers and four octets behind them.
     ensures enough_v4 { version front.now ≡ 4 → 64 ≤ length front.now → result ≢ Err TooFew }
     ensures enough_v6 { (carried : Carried) → version front.now ≡ 6 → 40 ≤ length front.now
         → IsCarried (first_kind front.now) (drop 40 front.now) carried → 4 ≤ length carried.payload → result ≢ Err TooFew }

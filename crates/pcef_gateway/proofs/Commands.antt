@@ -25,7 +25,7 @@ changing_more (d ∷ cs) [] c a same = absurd (omega (arith, same))
 changing_more (d ∷ cs) (b ∷ answers) c a same =
     ap (λ xs. listed b d [] ++ xs) (changing_more cs answers c a (omega (arith, same))) ∙ sym (append_assoc (listed b d []) (changing cs answers) (listed a c []))
 
--- one command more was answered
+-- one more command was answered
 more : (first now new : List Command) (cs : List Command) (answers : List (Result Accepted Refusal)) (c : Command) (a : Result Accepted Refusal) → length answers ≡ length cs
     → now ≡ first ++ changing cs answers → new ≡ listed a c now → new ≡ first ++ changing (cs ++ c ∷ []) (answers ++ a ∷ [])
 more first now new cs answers c a same so_far is =

@@ -1,4 +1,4 @@
--- What a session's run comes to, by what was handed in.
+-- The outcome of a session's run, by what was handed in.
 use Rattle.std.proofs.Common.{◌≡◌, ◌≢◌, ◌∙◌, ◌<◌, ◌+◌, ℕ, zero, suc, ◌==◌, true, false, List, [], ◌∷◌, ◌++◌, All, Some, find, length, filter, map, reverse, get_or, sum_by, refl, ap, sym, subst, arith}
 use Rattle.std.specs.Prelude.{IfOk, Result, Ok, Err}
 use Rattle.std.specs.Option.{option_map}
@@ -106,7 +106,7 @@ runs_to p before arrivals given first listed workers dropped handed e add_up com
       reports_are = reports_are;
     }
 
--- where it came to an end
+-- where the run ends
 pub ends_so : {E : Type 0} (r : Result Ended E) (p : Setting) (before : Journal) (arrivals : List Arrival) (given first listed : List Command) (workers dropped : ℕ) (handed : List HandedIn) (answers : List (Result Accepted Refusal))
     → IfOk r (λ e. AddUpTo p false listed handed e.totals) → IfOk r (λ e. e.totals.compared ≡ true) → HandInArrivals workers arrivals dropped handed → IfOk r (λ e. Lawful e.totals.session.setting e.totals.session.journal)
     → IfOk r (λ e. (e.dropped ≡ dropped) × (e.answers.items ≡ answers)) → HaveAnswers first given listed answers → first ≡ commands_of before → IfOk r (λ e. e.reports.items ≡ reports_of e.totals.session.journal)

@@ -1,4 +1,4 @@
--- Packets that are led to their workers.
+-- Packets that are sent to their workers.
 use Rattle.std.proofs.Common.{◌≡◌, ◌≢◌, ◌∙◌, ◌<◌, ◌+◌, ℕ, ◌==◌, List, [], ◌∷◌, ◌++◌, length, filter, map, set, take, get_or, get_or-set_same, get_or-set_other, length-set, append-nil, append_assoc, refl, ap, sym, arith, inl, inr}
 use Rattle.std.proofs.lemmas.Bool.{eq-eqb, ne_eqb}
 use Rattle.std.proofs.lemmas.Bool.Decides.{eqb_tells}

@@ -42,7 +42,7 @@ none_yet = record {
   whole = refl;
 }
 
--- a worker more hands in
+-- one more worker hands in
 pub one_more : (sent : List (List Header)) (dropped : ℕ) (handed : List HandedIn) (s : List Header) (more : ℕ) (h : HandedIn) → HandInTheirs sent dropped handed
     → h.worker ≡ length sent → HandsIn s more h → HandInTheirs (sent ++ s ∷ []) (dropped + more) (handed ++ h ∷ [])
 one_more sent dropped handed s more h so_far own is = record {

@@ -1,4 +1,4 @@
--- What workers hand in that leave.
+-- What workers that leave hand in.
 use Rattle.std.proofs.Common.{◌≡◌, ◌∙◌, ◌≤◌, ◌+◌, ℕ, List, ◌++◌, length, map, take, ap, sym, arith}
 use mathlib.Core.List.{IsPrefix}
 use Rattle.std.proofs.lemmas.List.{length-append, length-map, map-append, take-append-le}
@@ -27,7 +27,7 @@ handed_some w =
       whole = omega (arith, length-map (w.rows ++ w.waiting) header_of, length-append w.rows w.waiting);
     }
 
--- the packets that come after them are dropped
+-- the packets that arrive after them are dropped
 pub and_dropped : (xs ys : List Header) (more : ℕ) (h : HandedIn) → HandsIn xs 0 h → IsPrefix xs ys → length ys ≡ length xs + more → HandsIn ys more h
 and_dropped xs ys more h is begins many =
     let within : length h.items ≤ length xs = omega (arith, is.whole) in

@@ -15,8 +15,8 @@ changing cs answers = []
 abbrev pub FoundMemory : Result Accepted Refusal → Type 0
 FoundMemory answer = answer ≡ Err NoMemory → ⊥
 
--- Each of these commands has its answer, and none ran out of memory. A list of commands, which had the first ones, has
--- those too now that changed something.
+-- Each of these commands has its answer, and none ran out of memory. The list of the accepted commands grew by those
+-- of them that changed something.
 pub record HaveAnswers (first given now : List Command) (answers : List (Result Accepted Refusal)) : Type 0 where
   pub many : length answers ≡ length given
   pub memory : All FoundMemory answers

@@ -1,4 +1,4 @@
--- What a session's run comes to (TS 29.212, clause 4.5.16, for the octets that are reported).
+-- The outcome of a session's run (TS 29.212, clause 4.5.16, for the octets that are reported).
 use Rattle.std.specs.Prelude.{ℕ, ◌≡◌, ◌+◌, ◌++◌, ◌<◌, List, All, Result, Ok, Err, length}
 use mathlib.Core.List.{IsPrefix}
 use Rattle.pcef_model.specs.declared.command.Command.{Command}
@@ -15,7 +15,7 @@ use Rattle.pcef_gateway.specs.declared.arrivals.Arrival.{Arrival}
 use Rattle.pcef_gateway.specs.declared.ended.Ended.{Ended}
 use Rattle.pcef_gateway.specs.declared.fault.RunFault.{RunFault}
 
--- by these lists of the workers: each of its lane, and together they have what was counted for each key
+-- from these hand-ins of the workers: each has its lane, and together they have what was counted for each key
 pub record AreGatheredFrom {l : Type 0} (t : Totals l) : Type 0 where
   pub handed : List HandedIn
   pub many : length handed ≡ attach_count t.session.journal
@@ -23,12 +23,13 @@ pub record AreGatheredFrom {l : Type 0} (t : Totals l) : Type 0 where
   pub gathered : AreGathered t.keys handed
   pub abandoned_are : t.abandoned ≡ rows_abandoned handed
 
--- it came to nothing for this reason
+-- it failed for this reason
 abbrev pub FailsBy : {A : Type 0} → RunFault → Result A RunFault → Type 0
 FailsBy fault (Ok a) = ⊥
 FailsBy fault (Err e) = e ≡ fault
 
--- a session of this setting and journal ran with these packets and commands and so many workers, and came to this
+-- a session of this setting and journal ran with these packets, commands and `workers` workers, and this is the
+-- outcome
 pub record RunsTo (p : Setting) (before : Journal) (arrivals : List Arrival) (given : List Command) (workers : ℕ) (e : Ended) : Type 0 where
   pub setting_is : e.totals.session.setting ≡ p
   pub attached : attach_count e.totals.session.journal ≡ workers

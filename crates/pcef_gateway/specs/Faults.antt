@@ -1,4 +1,4 @@
--- The numbers of the faults of a run, and which fault is told of what failed.
+-- The numbers of the faults of a run, and which fault is reported for which failure.
 use Rattle.std.specs.Prelude.{ℕ}
 use Rattle.pcef_lock.specs.declared.opening.SharedFault.{SharedFault}
 use Rattle.pcef_lock.specs.declared.opening.SharedFault.TheVariants as shared
@@ -20,7 +20,7 @@ number_of Gather = 7
 number_of NoMemory = 8
 
 -- ---- for private clauses
--- the fault that is told of what failed
+-- the fault that is reported for a failure
 abbrev pub run_fault_of : Failure → RunFault
 run_fault_of failure.Shared = Shared
 run_fault_of failure.Ring = Ring
@@ -29,12 +29,12 @@ run_fault_of failure.Thread = Thread
 run_fault_of failure.Gather = Gather
 run_fault_of failure.NoMemory = NoMemory
 
--- a worker that wasn't attached: out of memory is told as such
+-- a worker that wasn't attached: out of memory is reported as such
 abbrev pub failure_of_attach : AttachFault → Failure
 failure_of_attach attach.NoMemory = failure.NoMemory
 failure_of_attach _ = failure.Attach
 
--- a session that didn't come behind its lock: out of memory is told as such
+-- a session that couldn't be put behind its lock: out of memory is reported as such
 abbrev pub failure_of : SharedFault → Failure
 failure_of shared.NoMemory = failure.NoMemory
 failure_of _ = failure.Shared

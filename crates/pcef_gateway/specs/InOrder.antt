@@ -1,4 +1,4 @@
--- What stands in a journal, in the order in which it came.
+-- What stands in a journal, the oldest first.
 use Rattle.std.specs.Prelude.{ℕ, List, map, reverse}
 use Rattle.pcef_packet.specs.declared.header.Header.{Header}
 use Rattle.pcef_model.specs.declared.command.Command.{Command}

@@ -7,7 +7,7 @@ use Rattle.pcef_gateway.specs.Arriving.{headers_for}
 use Rattle.pcef_gateway.specs.Serving.{header_of}
 use Rattle.pcef_gateway.specs.declared.arrivals.Arrival.{Arrival}
 
--- so many rows stand in what a worker handed in, or were abandoned
+-- the rows in what a worker handed in, and those that it abandoned
 abbrev pub rows_of : HandedIn → ℕ
 rows_of h = length h.items + abandoned_by h
 
@@ -19,7 +19,7 @@ pub record HandInTheirs (sent : List (List Header)) (dropped : ℕ) (handed : Li
   pub first : (w : ℕ) (h : HandedIn) → w < length handed → IsPrefix (map header_of (slice_index_or handed w h).items) (slice_index_or sent w [])
   pub whole : sum_by length sent ≡ sum_by rows_of handed + dropped
 
--- So of packets that arrive for so many workers.
+-- The same for packets that arrive for `workers` workers.
 pub record HandInArrivals (workers : ℕ) (arrivals : List Arrival) (dropped : ℕ) (handed : List HandedIn) : Type 0 where
   pub many : length handed ≡ workers
   pub numbered : (w : ℕ) (h : HandedIn) → w < length handed → (slice_index_or handed w h).worker ≡ w

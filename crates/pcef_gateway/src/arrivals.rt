@@ -8,7 +8,7 @@ use std::mem::size_of;
 /// A packet that arrives for a worker.
 #[derive(Drop)]
 pub struct Arrival {
-    /// What is read of the packet.
+    /// The packet's header.
     pub header: PackedHeader,
     /// The number of the worker, from 0 on.
     pub worker: u8,
@@ -16,7 +16,7 @@ pub struct Arrival {
 
 const _: () = prove!(size_of::<Arrival>() == 52);
 
-/// Whether each packet arrives for one of so many workers.
+/// Whether each packet arrives for one of `workers` workers.
 pub(crate) fn are_known(arrivals: &[Arrival], workers: u8) -> bool
     ensures { IsTrue result ↔ All (λ a. a.worker < workers) arrivals.now }
 {

@@ -1,4 +1,4 @@
-//! What a session's run comes to.
+//! The outcome of a session's run.
 
 ghost use Rattle.std.specs.Prelude.{◌≡◌, IfOk};
 ghost use Rattle.pcef_model.specs.Lawful.{Lawful};
@@ -12,12 +12,12 @@ use std::alloc::{AllocError, Global};
 /// The answer to a command.
 pub type CommandAnswer = Result<Accepted, Refusal>;
 
-/// What a session's run comes to.
+/// The outcome of a session's run.
 #[derive(Drop)]
 pub struct Ended {
-    /// What the session adds up to.
+    /// The totals of the session.
     pub totals: Totals,
-    /// How many packets workers dropped whose flush had been refused.
+    /// How many packets were dropped by workers whose flush was refused.
     pub dropped: u64,
     /// The answer to each command, in order.
     pub answers: Vec<CommandAnswer>,
@@ -25,8 +25,8 @@ pub struct Ended {
     pub reports: Vec<Report>,
 }
 
-/// The reports of a session, of which none is forgotten, in order. Takes memory for them. The session's journal is
-/// lawful.
+/// The reports of a session, in order. None of them is forgotten, and the session's journal is lawful. Takes memory for
+/// them.
 pub(crate) fn all_reports(alloc: Global, session: &SessionState) -> Result<Vec<Report>, AllocError>
     requires { session.now.forgotten ≡ 0 }
     ensures reports { IfOk result (λ v. v.items ≡ reports_of session.now.journal) }

@@ -15,9 +15,9 @@ pub enum RunFault {
     Workers,
     /// A packet names a worker that does not exist.
     StrangeWorker,
-    /// The session didn't come behind its lock.
+    /// The session couldn't be put behind its lock.
     Shared,
-    /// There is no ring to a worker, or a ring doesn't give at the end what went into it.
+    /// There is no ring to a worker, or a packet was left in a ring at the end.
     Ring,
     /// A worker wasn't attached.
     Attach,
@@ -71,7 +71,7 @@ impl RunFault {
     }
 }
 
-/// Why a run that had its workers, and packets for no others, failed.
+/// Why a run failed that had its workers, and no packets for others.
 #[derive(Clone, Copy, Debug)]
 pub(crate) enum Failure {
     Shared,
@@ -83,7 +83,7 @@ pub(crate) enum Failure {
 }
 
 impl Failure {
-    /// The fault that is told of it.
+    /// The fault that is reported for it.
     pub(crate) fn fault(self) -> RunFault
         ensures { result ≡ run_fault_of self }
     {

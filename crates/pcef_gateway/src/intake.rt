@@ -1,5 +1,5 @@
-//! What the calling thread does: it attaches the workers and starts them, leads packets to them and gives commands, and
-//! ends it all.
+//! The calling thread's part: it attaches the workers and starts them, sends packets to them, gives commands, and ends
+//! the run.
 
 ghost use Rattle.std.specs.Prelude.{◌≡◌, ◌+◌, ◌++◌, ◌∷◌, ◌<◌, ◌≤◌, ℕ, All, IfOk, List, OnOk, [], length, slice_index_or, vec_len};
 ghost use Rattle.pcef_packet.specs.declared.header.Header.{Header};
@@ -32,7 +32,7 @@ pub(crate) struct Handed<N: Naming> {
     pub(crate) dropped: u64,
 }
 
-/// Puts one more at the end. Fails when out of memory.
+/// Appends one more. Fails when out of memory.
 fn keep<T: Drop>(all: &mut Vec<T>, one: T) -> Result<(), Failure>
     ensures { OnOk result (all.new.items ≡ all.old.items ++ one ∷ []) }
 {
@@ -42,7 +42,7 @@ fn keep<T: Drop>(all: &mut Vec<T>, one: T) -> Result<(), Failure>
     }
 }
 
-/// A worker, if it is of this number.
+/// Returns a worker, if it has this number.
 fn with_number<C: Detects + Drop, N: Naming, G: Gate + Drop>(
     worker: Worker<C, N, G>,
     number: u8,
@@ -95,7 +95,7 @@ fn start_worker<
     WorkerRing::start(rt, scope, alloc, shared, worker)
 }
 
-/// Starts the worker of this number, and puts the way to it at the end.
+/// Starts the worker of this number, and appends its line.
 fn start_next<
     's,
     E,
@@ -123,7 +123,7 @@ fn start_next<
     }
 }
 
-/// Attaches so many workers, to which the gate is lent, and starts each in a thread of the scope.
+/// Attaches `workers` workers, to which the gate is lent, and starts each in a thread of the scope.
 pub(crate) fn start_all<
     's,
     E,
@@ -150,7 +150,7 @@ pub(crate) fn start_all<
     Ok(lines)
 }
 
-/// Leads each packet to its worker. Waits while that one's ring is full.
+/// Sends each packet to its worker. Waits while that worker's ring is full.
 pub(crate) fn feed<N: Naming + Send + Sync, R: Wait>(
     rt: &R,
     lines: &mut [WorkerRing<N>],
@@ -165,7 +165,7 @@ pub(crate) fn feed<N: Naming + Send + Sync, R: Wait>(
     }
 }
 
-/// Gives a command, and keeps its answer. Fails when out of memory.
+/// Gives a command, and returns its answer. Fails when out of memory.
 fn give<C: Offers + Drop, N: Naming, W: Board<Cell<N>> + Drop, R: Wait>(
     rt: &R,
     shared: &Shared<C, N, W>,
@@ -181,7 +181,7 @@ fn give<C: Offers + Drop, N: Naming, W: Board<Cell<N>> + Drop, R: Wait>(
     }
 }
 
-/// Gives a command, and puts its answer at the end.
+/// Gives a command, and appends its answer.
 fn give_next<C: Offers + Drop, N: Naming, W: Board<Cell<N>> + Drop, R: Wait>(
     rt: &R,
     shared: &Shared<C, N, W>,
@@ -200,8 +200,8 @@ fn give_next<C: Offers + Drop, N: Naming, W: Board<Cell<N>> + Drop, R: Wait>(
     }
 }
 
-/// Leads packets to the workers and gives the commands meanwhile, which stand evenly among the packets. An answer for
-/// each command.
+/// Sends packets to the workers and gives the commands, spread evenly among the packets. Returns an answer for each
+/// command.
 pub(crate) fn take_in<C: Offers + Drop, N: Naming + Send + Sync, W: Board<Cell<N>> + Drop, R: Wait>(
     rt: &R,
     alloc: Global,
@@ -231,8 +231,8 @@ pub(crate) fn take_in<C: Offers + Drop, N: Naming + Send + Sync, W: Board<Cell<N
     Ok(answers)
 }
 
-/// What a worker handed in, if it had memory and is of this number.
-fn close_lines<N: Naming + Send + Sync, R: Threads>(
+/// What a worker handed in, if it had memory and has this number.
+fn close_ring<N: Naming + Send + Sync, R: Threads>(
     rt: &R,
     line: WorkerRing<N>,
     worker: u8,
@@ -275,7 +275,7 @@ fn close_next<N: Naming + Send + Sync, R: Threads>(
         → OnOk result (HandInTheirs (sent ++ line ∷ [])
         handed.new.dropped handed.new.finished.items) }
 {
-    match close_lines(rt, line, worker) {
+    match close_ring(rt, line, worker) {
         Ok(closed) => add(handed, closed),
         Err(failure) => Err(failure),
     }

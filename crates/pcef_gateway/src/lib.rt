@@ -1,7 +1,7 @@
-//! A session over threads of its own: by `run_session` the calling thread leads packets through one ring to each
-//! worker, and gives the session's commands meanwhile.
+//! A session over threads of its own: in `run_session` the calling thread sends packets to each worker through one
+//! ring, and gives the session's commands meanwhile.
 //!
-//! Its contracts say: what a session's run comes to: which packets became rows, and what all adds up to.
+//! Its contracts say: which packets of a session's run became rows, and the totals.
 //!
 //! In the order of reading: `arrivals`, `ended`, `fault`, `lent`, `serving`, `worker_ring`, `intake`, `run`.
 #![tactic(auto)]

@@ -32,17 +32,17 @@ use std::sync::{Arc, Wait};
 use std::thread;
 use std::thread::Threads;
 
-/// Runs a session with so many workers, each in a thread of its own, till all packets were led to their workers and
-/// all commands were given. Each worker is attached before the first packet and the first command; it holds the gate
-/// only by a loan. The commands are given in order, spread evenly among the packets. A worker hands its rows over
-/// where 32 wait or no packet comes, and then reads which table is the newest. One whose rows are refused leaves, and
-/// drops what comes still.
+/// Runs a session with `workers` workers, each in a thread of its own, till all packets were sent to their workers and
+/// all commands were given. Each worker is attached before the first packet and the first command, and borrows the
+/// gate. The commands are given in order, spread evenly among the packets. A worker hands its rows over where 32 wait
+/// or its ring is empty, and then takes the newest table. A worker whose rows are refused leaves; the packets that
+/// arrive for it after that are dropped.
 ///
-/// The catalog has to be that of the session, and no worker may ever have come to it: that is the caller's condition.
-/// Answers the first [`RunFault`] in their order for the first two of them, before anything is done; the session is
-/// given up with a fault. Out of memory ends the run with [`RunFault::NoMemory`], also where a command or a worker
-/// meets it; where the publication gives no reader that is [`RunFault::Shared`]. Takes memory for rings, answers and
-/// reports. Waits for the lock, for places in the rings, and for the workers' threads.
+/// The caller ensures that the catalog is the session's, and that no worker was ever attached to it. The first two
+/// [`RunFault`]s are returned before anything is done. A fault discards the session. Out of memory ends the run with
+/// [`RunFault::NoMemory`], also where a command or a worker meets it; it is [`RunFault::Shared`] where the publication
+/// gives no reader. Takes memory for rings, answers and reports. Waits for the lock, for places in the rings, and for
+/// the workers' threads.
 pub fn run_session<C: Detects + Drop + Send + Sync, G: Gate + Sync, R: Threads + Wait + Sync>(
     rt: &R,
     alloc: Global,
@@ -75,7 +75,7 @@ pub fn run_session<C: Detects + Drop + Send + Sync, G: Gate + Sync, R: Threads +
     }
 }
 
-/// Runs a session with packets for its workers alone.
+/// Runs a session, where each packet is for one of its workers.
 fn run_known<C: Detects + Drop + Send + Sync, G: Gate + Sync, R: Threads + Wait + Sync>(
     rt: &R,
     alloc: Global,
@@ -110,7 +110,7 @@ fn run_known<C: Detects + Drop + Send + Sync, G: Gate + Sync, R: Threads + Wait 
     )
 }
 
-/// Runs a session that goes by a name.
+/// Runs a session that has a name.
 fn run_named<
     C: Detects + Drop + Send + Sync,
     N: Naming + Send + Sync,
@@ -145,7 +145,7 @@ fn run_named<
     }
 }
 
-/// Runs a session that stands behind its lock, from a history with the commands that its desk has.
+/// Runs a session behind its lock. Its desk has the commands of its journal so far.
 fn run_shared<
     C: Detects + Drop + Send + Sync,
     N: Naming + Send + Sync,
@@ -173,7 +173,7 @@ fn run_shared<
     }
 }
 
-/// What desk and workers hand in.
+/// What the desk and the workers hand in.
 #[derive(Drop)]
 struct Worked<N: Naming> {
     desk: Desk<N>,
@@ -181,7 +181,7 @@ struct Worked<N: Naming> {
     handed: Handed<N>,
 }
 
-/// Runs so many workers in threads, with the calling thread as the intake.
+/// Runs `workers` workers in threads, with the calling thread as the intake.
 fn work_all<
     C: Detects + Drop + Send + Sync,
     N: Naming + Send + Sync,
@@ -222,7 +222,7 @@ fn work_all<
     )
 }
 
-/// Leads packets to workers, gives commands, and waits for the workers.
+/// Sends packets to workers, gives commands, and waits for the workers.
 fn lead<C: Offers + Drop, N: Naming + Send + Sync, W: Board<Cell<N>> + Drop, R: Threads + Wait>(
     rt: &R,
     alloc: Global,
@@ -251,7 +251,8 @@ fn lead<C: Offers + Drop, N: Naming + Send + Sync, W: Board<Cell<N>> + Drop, R: 
     })
 }
 
-/// Gathers what was handed in, and compared with the journal: session and workers of a run store their rows.
+/// Gathers what was handed in, which must also be compared with the journal: session and workers of a run store their
+/// rows.
 fn gather_all<C: Offers + Drop, N: Naming, W: Board<Cell<N>> + Drop, R: Wait>(
     rt: &R,
     shared: Shared<C, N, W>,

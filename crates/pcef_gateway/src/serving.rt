@@ -1,4 +1,4 @@
-//! What a worker does in its thread.
+//! A worker's part, in its thread.
 
 ghost use Rattle.std.specs.Prelude.{◌≡◌, ◌+◌, ◌++◌, ◌∷◌, ◌<◌, [], OnOk, length};
 ghost use mathlib.Core.List.{IsPrefix};
@@ -18,7 +18,7 @@ use rtrb::Consumer;
 use std::sync::Wait;
 use std::thread;
 
-/// What a worker leaves behind: what it hands in, its end of the ring, and how many packets it dropped.
+/// What a worker that left returns: what it hands in, its end of the ring, and how many packets it dropped.
 #[derive(Drop)]
 pub(crate) struct Left<N: Naming> {
     pub(crate) finished: Finished<N>,
@@ -47,7 +47,7 @@ impl<N: Naming> Left<N> {
     }
 }
 
-/// Hands the waiting rows over, and reads which table is the newest.
+/// Hands the waiting rows over, and takes the newest table.
 fn hand_over<C: Detects + Drop, N: Naming, W: Board<Cell<N>> + Drop, G: Gate + Drop, R: Wait>(
     rt: &R,
     shared: &Shared<C, N, W>,
@@ -64,7 +64,7 @@ fn hand_over<C: Detects + Drop, N: Naming, W: Board<Cell<N>> + Drop, G: Gate + D
     }
 }
 
-/// Sees that fewer than 32 rows wait.
+/// Hands the waiting rows over where 32 wait, so that there is room for one more.
 fn make_room<C: Detects + Drop, N: Naming, W: Board<Cell<N>> + Drop, G: Gate + Drop, R: Wait>(
     rt: &R,
     shared: &Shared<C, N, W>,
@@ -90,7 +90,7 @@ fn take<C: Detects + Drop, N: Naming, G: Gate + Drop>(worker: &mut Worker<C, N, 
     }
 }
 
-/// While no packet comes the rows that wait are handed over.
+/// Hands the waiting rows over while the ring is empty, or yields where none wait.
 fn rest<C: Detects + Drop, N: Naming, W: Board<Cell<N>> + Drop, G: Gate + Drop, R: Wait>(
     rt: &R,
     shared: &Shared<C, N, W>,
@@ -105,8 +105,8 @@ fn rest<C: Detects + Drop, N: Naming, W: Board<Cell<N>> + Drop, G: Gate + Drop, 
     hand_over(rt, shared, worker)
 }
 
-/// Takes the next packet of the ring, and hands rows over where 32 wait or no packet comes. Says whether the ring goes
-/// on, or the refusal where rows aren't taken over.
+/// Takes the next packet of the ring, and hands rows over where 32 wait or the ring is empty. Returns whether the ring
+/// goes on, or the refusal where the rows are refused.
 fn serve_next<C: Detects + Drop, N: Naming, W: Board<Cell<N>> + Drop, G: Gate + Drop, R: Wait>(
     rt: &R,
     shared: &Shared<C, N, W>,
@@ -131,7 +131,7 @@ fn serve_next<C: Detects + Drop, N: Naming, W: Board<Cell<N>> + Drop, G: Gate + 
     Ok(true)
 }
 
-/// Takes packets till the ring ends. Ends too where rows aren't taken over, by the refusal.
+/// Takes packets till the ring ends, or returns the refusal where the rows are refused.
 fn serve<C: Detects + Drop, N: Naming, W: Board<Cell<N>> + Drop, G: Gate + Drop, R: Wait>(
     rt: &R,
     shared: &Shared<C, N, W>,
@@ -150,7 +150,7 @@ fn serve<C: Detects + Drop, N: Naming, W: Board<Cell<N>> + Drop, G: Gate + Drop,
     unreachable!()
 }
 
-/// Drops packets till the ring ends: how many.
+/// Drops packets till the ring ends, and returns how many.
 fn drain<R: Wait>(rt: &R, consumer: &mut Consumer<Header>) -> u64
     ensures ring { SameConsumer consumer.old consumer.new }
     ensures more { IsPrefix (received consumer.old) (received consumer.new) }
@@ -175,7 +175,7 @@ fn drain<R: Wait>(rt: &R, consumer: &mut Consumer<Header>) -> u64
     dropped
 }
 
-/// Leaves with the last flush; where that is refused, the rows that wait are abandoned. Says too whether there was no
+/// Leaves with the last flush; where that is refused, abandons the rows that wait. Returns also whether there was no
 /// memory for it.
 fn leave<C: Detects + Drop, N: Naming, W: Board<Cell<N>> + Drop, G: Gate + Drop, R: Wait>(
     rt: &R,
@@ -197,7 +197,7 @@ fn lacks_memory(refusal: FlushRefusal) -> bool {
     matches!(refusal, FlushRefusal::NoMemory)
 }
 
-/// What a worker leaves behind that has left. What comes still is dropped.
+/// What a worker that left returns. The packets that arrive after that are dropped.
 fn drain_and_depart<N: Naming, R: Wait>(
     rt: &R,
     finished: Finished<N>,
@@ -213,7 +213,7 @@ fn drain_and_depart<N: Naming, R: Wait>(
 }
 
 /// A worker's work: it takes the packets of its ring till that ends, and leaves. After a refused flush it leaves at
-/// once, and drops what comes still.
+/// once, and the packets that arrive after that are dropped.
 pub(crate) fn work<C: Detects + Drop, N: Naming, W: Board<Cell<N>> + Drop, G: Gate + Drop, R: Wait>(
     rt: &R,
     shared: &Shared<C, N, W>,

@@ -1,4 +1,4 @@
-//! The ring to a worker, and its thread.
+//! The ring to a worker, and the worker's thread.
 
 ghost use Rattle.std.specs.Prelude.{◌≡◌, ◌++◌, ◌∷◌, [], IfOk};
 ghost use Rattle.rtrb.specs.Ring.{SameConsumer, received};
@@ -25,7 +25,7 @@ use std::thread::{Promise, PromisedHandle, Scope, Threads};
 /// The places of a ring.
 const PLACES: usize = 64;
 
-/// A worker gives back the end of the ring that it was given.
+/// A worker's promise to return the end of the ring that it was given.
 #[derive(Drop)]
 pub(crate) struct SameRing {
     end: Snapshot<Consumer<Header>>,
@@ -35,7 +35,7 @@ impl<N: Naming> Promise<Left<N>> for SameRing {
     ghost kept_by = { λ p r. SameConsumer p.end.value r.consumer };
 }
 
-/// A worker in its thread, and the way to it. Contracts see what was sent.
+/// A worker in its thread, and the ring to it. Contracts see the packets that were sent.
 #[derive(Drop)]
 pub(crate) struct WorkerRing<N: Naming> {
     producer: Producer<Header>,
@@ -54,7 +54,7 @@ impl<N: Naming> Model for WorkerRing<N> {
     ghost invariant = { λ l. IsPair l.producer l.handle.promise.end.value };
 }
 
-/// What a worker handed in that left, and how many packets it dropped.
+/// What a worker that left has handed in, and how many packets it dropped.
 #[derive(Drop)]
 pub(crate) struct Closed<N: Naming> {
     pub(crate) finished: Finished<N>,
@@ -62,7 +62,7 @@ pub(crate) struct Closed<N: Naming> {
     pub(crate) lacked_memory: bool,
 }
 
-/// The thread of a worker that takes the packets of a ring.
+/// Starts the thread of a worker, which takes the packets of a ring.
 fn thread_of<
     's,
     E,
@@ -140,7 +140,7 @@ impl<N: Naming + Send + Sync> WorkerRing<N> {
         unreachable!()
     }
 
-    /// Ends the ring, and waits for the worker.
+    /// Ends the ring, and waits for the worker to leave.
     pub(crate) fn close<R: Threads>(self, rt: &R) -> Result<Closed<N>, Failure>
         ensures { IfOk result (λ c. HandsIn self c.dropped c.finished) }
     {

@@ -7,18 +7,19 @@ use Rattle.pcef_handle.specs.declared.held.OpenSession.{OpenSession}
 use Rattle.pcef_handle.specs.declared.line.CallRefusal.{CallRefusal}
 use Rattle.pcef_handle.specs.declared.line.CallRefusal.TheVariants.{NoMemory, NoSession}
 
--- as much of a text as fits stands at the front of a buffer, whose length stays, and the length of the text is told
+-- as much of a text as fits stands at the front of a buffer, whose length stays, and the length of the text is
+-- returned
 abbrev pub CopiesFront : List ℕ → List ℕ → List ℕ → ℕ → Type 0
 CopiesFront text before after told =
     (told ≡ length text) × (length after ≡ length before)
     × (take (min (length text) (length before)) after ≡ take (min (length text) (length before)) text)
 
--- so is it of an answer; where there is none, nothing is written, and 0 is told
+-- the same of an answer; where there is none, nothing is written, and 0 is returned
 abbrev pub IsPut : Option LineAnswer → List ℕ → List ℕ → ℕ → Type 0
 IsPut None before after told = (told ≡ 0) × (after ≡ before)
 IsPut (Some a) before after told = CopiesFront (string_bytes a.text) before after told
 
--- what is fixed for a session stays, and no more of its reports are let go
+-- what is fixed for a session stays, and no more of its reports are forgotten
 abbrev pub StaysOpen : OpenSession → OpenSession → Type 0
 StaysOpen old new =
     (new.world.session.setting ≡ old.world.session.setting)
@@ -31,7 +32,7 @@ AnswersInto old line before (Ok told) new after =
 AnswersInto old line before (Err NoMemory) new after = StaysOpen old new × (after ≡ before)
 AnswersInto old line before (Err other) new after = ⊥
 
--- in the session of a handle, which stays open; this, where there is none
+-- in the session of a handle, which stays open; this refusal, where there is none
 abbrev pub InSession : Option OpenSession → Option OpenSession → (OpenSession → OpenSession → Type 0) → Type 0 → Type 0
 InSession (Some s) (Some t) P none = P s t
 InSession None None P none = none

@@ -1,4 +1,4 @@
--- What the newest generation of a session decides of a packet (TS 23.203, clause 6.2.2).
+-- The decision of the newest generation of a session on a packet (TS 23.203, clause 6.2.2).
 use Rattle.std.specs.Prelude.{ℕ, ◌≡◌, List, find, slice_get, take, Option, Some, None, Result, Ok, Err}
 use Rattle.std.specs.Option.{option_and_then}
 use Rattle.pcef_packet.specs.HeaderOf.{header_of}
@@ -34,8 +34,8 @@ IsPlaced offers entries (Passed rule bearer) place = IsPlaceOf offers entries ru
 IsPlaced offers entries (Gated rule) place = IsPlaceOf offers entries rule place
 IsPlaced offers entries other place = place ≡ None
 
--- what the newest generation decides of a header: its verdict, the place of the rule in its table, and exactly the slots of
--- the keys that the packet counts for
+-- the decision of the newest generation on a header: its verdict, the place of the rule in its table, and exactly the
+-- slots of the keys that the packet counts for
 pub record IsJudged (s : SessionModel) (header : Header) (d : Judgement) : Type 0 where
   pub generation_is : d.generation ≡ gen s.journal
   pub verdict_is : d.verdict ≡ verdict_at s.setting (at s.setting s.journal (gen s.journal)) header
@@ -43,7 +43,7 @@ pub record IsJudged (s : SessionModel) (header : Header) (d : Judgement) : Type 
       counts_in s.setting (at s.setting s.journal (gen s.journal)) key header ≡ has_one_of (slots s.setting s.journal) d.slots.items key
   pub placed : (t : TableValue) × ShowsNewest s t × IsPlaced s.setting.catalog t.entries d.verdict d.place
 
--- the header that is told is judged, or why there is none
+-- the header that is read is judged, or why there is none
 abbrev pub JudgesRead : OpenSession → (Result Header FrontFault → Type 0) → Result Judgement JudgeRefusal → Type 0
 JudgesRead s Told (Ok d) = (header : Header) × Told (Ok header) × IsJudged s.world.session header d
 JudgesRead s Told (Err (NoPacket fault)) = Told (Err (front.Packet fault))
@@ -54,7 +54,7 @@ abbrev pub JudgesIn : Option OpenSession → (Result Header FrontFault → Type 
 JudgesIn None Told result = result ≡ Err NoSession
 JudgesIn (Some s) Told result = JudgesRead s Told result
 
--- a packet of so many octets that begins with these is judged, where the handle has a session: as all such packets are
+-- a packet of `whole` octets that begins with these is judged, where the handle has a session: as all such packets are
 -- read, unless two of them are read differently
 abbrev pub JudgesHandle : Handle → Dir → List ℕ → ℕ → Result Judgement JudgeRefusal → Type 0
 JudgesHandle h dir octets whole result = JudgesIn h.session (IsSettledBy (header_of dir) (take whole octets) whole) result

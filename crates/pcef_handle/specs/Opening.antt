@@ -1,4 +1,4 @@
--- What opening a session by the text of a profile comes to (own choice).
+-- The outcome of opening a session by the text of a profile (own choice).
 use Rattle.std.specs.Prelude.{ℕ, ◌≡◌, true, List, Option, Some, None, Result, Ok, Err, is_some}
 use Rattle.std.specs.Str.{IsUtf8}
 use Rattle.pcef_model.specs.Setting.{Setting}
@@ -12,7 +12,7 @@ use Rattle.pcef_handle.specs.declared.held.OpenSession.{OpenSession}
 use Rattle.pcef_handle.specs.declared.opening.OpenRefusal.{OpenRefusal}
 use Rattle.pcef_handle.specs.declared.opening.OpenRefusal.TheVariants as refusal
 
--- the profile that a text spells, or its first fault
+-- the profile of a text, or its first fault
 abbrev pub ReadsProfile : List ℕ → Result ProfileModel OpenRefusal → Type 0
 ReadsProfile text (Ok p) = IsUtf8 text × GivesProfile (Ok p) (ProfileOf text)
 ReadsProfile text (Err refusal.NotUtf8) = ¬ (IsUtf8 text)
@@ -37,7 +37,7 @@ OpensText text (Err (refusal.Session fault)) = (p : ProfileModel) × ReadsProfil
 OpensText text (Err refusal.NoMemory) = Unit {0}
 OpensText text (Err other) = ReadsProfile text (Err other)
 
--- there is a session, of which this is so
+-- there is a session, of which this holds
 abbrev pub IfThere : Option OpenSession → (OpenSession → Type 0) → Type 0
 IfThere (Some s) P = P s
 IfThere None P = ⊥

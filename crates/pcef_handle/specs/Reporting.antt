@@ -1,4 +1,4 @@
--- The text of a session's reports from a number on, and reports that are let go (own choice).
+-- The text of a session's reports from a number on, and reports that are forgotten (own choice).
 use Rattle.std.specs.Prelude.{ℕ, ◌≡◌, ◌<◌, ◌≤◌, List, drop, reverse, Option, Some, None, Result, Ok, Err}
 use Rattle.serde_json.specs.Written.{compact_text}
 use Rattle.pcef_model.specs.Entries.{Journal, reports}
@@ -15,7 +15,7 @@ use Rattle.pcef_handle.specs.declared.line.CallRefusal.TheVariants.{Forgotten, N
 abbrev pub text_from : ℕ → Journal → List ℕ
 text_from first journal = compact_text (reports_data (drop first (reverse (reports journal))))
 
--- they are told unless one of them was let go; where they aren't told, nothing is written
+-- they are written unless one of them is forgotten; where they aren't, nothing is written
 abbrev pub ReportsInto : OpenSession → ℕ → List ℕ → Result ℕ CallRefusal → List ℕ → Type 0
 ReportsInto s first before (Ok told) after =
     (s.world.session.forgotten ≤ first) × CopiesFront (text_from first s.world.session.journal) before after told
@@ -30,14 +30,14 @@ ReportsOf None first before result after = (result ≡ Err NoSession) × (after 
 abbrev pub ReportsHandle : Handle → ℕ → List ℕ → Result ℕ CallRefusal → List ℕ → Type 0
 ReportsHandle h first before result after = ReportsOf h.session first before result after
 
--- the reports so far are let go, and how many these are is told: the number of the next one; nothing else changes
-pub record LetsGo (old : OpenSession) (told : ℕ) (new : OpenSession) : Type 0 where
+-- the reports so far are forgotten, and their number is returned: that of the next one; nothing else changes
+pub record ForgetsReports (old : OpenSession) (told : ℕ) (new : OpenSession) : Type 0 where
   pub told_is : told ≡ report_count old.world.session.journal
   pub forgotten_is : new.world.session.forgotten ≡ told
   pub setting_stays : new.world.session.setting ≡ old.world.session.setting
   pub standing_stays : standing_of new.world ≡ standing_of old.world
 
 abbrev pub ForgetsHandle : Handle → Result ℕ CallRefusal → Handle → Type 0
-ForgetsHandle old (Ok told) new = InSession old.session new.session (λ s t. LetsGo s told t) ⊥
+ForgetsHandle old (Ok told) new = InSession old.session new.session (λ s t. ForgetsReports s told t) ⊥
 ForgetsHandle old (Err NoSession) new = (old.session ≡ None) × (new.session ≡ None)
 ForgetsHandle old (Err other) new = ⊥

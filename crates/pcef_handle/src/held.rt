@@ -1,4 +1,4 @@
-//! What lies at a handle.
+//! The state of a handle.
 
 ghost use Rattle.std.specs.Prelude.{◌≡◌, None};
 
@@ -18,7 +18,7 @@ pub struct OpenSession {
     pub ghost offered: { catalog ≡ world.session.setting.catalog },
 }
 
-// Written out, so that an owner proves one call at each way out.
+// Written out, so that an owner proves one call on each return path.
 impl Drop for OpenSession {
     fn drop(self) {
         let OpenSession {
@@ -29,10 +29,10 @@ impl Drop for OpenSession {
     }
 }
 
-/// What lies at a handle: a session, while one is open.
+/// The state of a handle: a session, while one is open.
 #[derive(Drop)]
 pub struct Handle {
-    /// Where memory comes from.
+    /// The allocator of all its memory.
     pub alloc: Global,
     /// The session.
     pub session: Option<OpenSession>,
@@ -49,7 +49,7 @@ impl Handle {
         }
     }
 
-    /// Lets the session go, if there is one, and all its memory.
+    /// Drops the session, if there is one, and frees all its memory.
     pub fn close(&mut self)
         ensures { self.new.session ≡ None }
     {

@@ -1,4 +1,4 @@
-//! What the newest generation decides of a packet.
+//! Judges a packet by the newest generation.
 
 ghost use Rattle.std.specs.Prelude.{◌≡◌, ◌≢◌, ◌≤◌, All, Err, find, length, slice_get};
 ghost use Rattle.std.specs.Option.{option_and_then};
@@ -17,14 +17,14 @@ use pcef_packet::{Dir, Header, PacketFault};
 use pcef_rule::{RuleName, Slot};
 use pcef_table::TableEntry;
 
-/// What the newest generation decides of a packet.
+/// The decision of the newest generation on a packet.
 #[derive(Debug, Drop)]
 pub struct Judgement {
     /// The number of the generation.
     pub generation: u32,
     /// The verdict.
     pub verdict: Verdict,
-    /// The place of the rule that decided, where one did: how many of the active rules go before it.
+    /// The place of the rule that decided, where one did: the number of active rules before it.
     pub place: Option<u8>,
     /// The slots that the packet counts for, in slot order.
     pub slots: ArrayVec<Slot, 8>,
@@ -35,7 +35,7 @@ pub struct Judgement {
 pub enum JudgeRefusal {
     /// The handle has no session.
     NoSession,
-    /// The octets are no packet, whatever those beyond them are.
+    /// The octets are no packet, whatever follows them.
     NoPacket(PacketFault),
     /// The octets of the packet beyond those at hand decide what is read.
     TooFew,
@@ -94,9 +94,9 @@ fn judge_header(session: &OpenSession, header: &Header) -> Judgement
 }
 
 impl Handle {
-    /// What the newest generation decides of a packet of `whole` octets that begins with these. A packet at hand whole
-    /// has `whole` octets; what `octets` has beyond them is ignored. `TooFew` where two packets that begin so are read
-    /// differently. Nothing is counted, and no row is kept. Takes no memory.
+    /// Judges a packet of `whole` octets by the newest generation. The packet begins with `octets`; those beyond
+    /// `whole` are ignored. Nothing is counted, and no row is kept. Takes no memory. `TooFew` where two packets that
+    /// begin so are read differently.
     pub fn judge(&self, dir: Dir, octets: &[u8], whole: usize) -> Result<Judgement, JudgeRefusal>
         ensures judged { JudgesHandle self.now dir octets.now whole result }
         ensures at_hand { whole ≤ length octets.now → result ≢ Err TooFew }

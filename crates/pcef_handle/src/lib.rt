@@ -1,7 +1,7 @@
-//! What lies at a handle that another language holds: `Handle`, a session while one is open, and the calls on it. There
+//! The state of a handle that another language holds: `Handle`, a session while one is open, and the calls on it. There
 //! is no pointer here.
 //!
-//! Its contracts say: what each call makes of the session, and what is written to a buffer.
+//! Its contracts say: what each call does to the session, and what is written to a buffer.
 //!
 //! In the order of reading: `held`, `judging`, `opening`, `text`, `line`, `reporting`.
 #![tactic(auto)]

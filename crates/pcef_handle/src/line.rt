@@ -17,19 +17,19 @@ pub enum CallRefusal {
     NoSession,
     /// There is no memory left.
     NoMemory,
-    /// Reports that are asked for were let go.
+    /// A report that is asked for is forgotten.
     Forgotten,
 }
 
-/// How many reports were let go, which were all made.
-fn let_go(world: &WorldState) -> u64
+/// The number of forgotten reports: at most all that were made.
+fn forgotten_count(world: &WorldState) -> u64
     ensures count { result ≡ world.now.session.forgotten }
     ensures made { world.now.session.forgotten ≤ report_count world.now.session.journal }
 {
     world.session().journal().forgotten()
 }
 
-/// Writes as much of an answer as fits, and gives how long it is: 0 where there is none.
+/// Writes as much of an answer as fits, and returns its length in octets: 0 where there is none.
 fn copy_answer(answer: &Option<LineAnswer>, buffer: &mut [u8]) -> usize
     ensures { IsPut answer.now buffer.old buffer.new result }
 {
@@ -47,8 +47,8 @@ fn answer_into(
 ) -> Result<usize, CallRefusal>
     ensures { AnswersInto session.old line.now buffer.old result session.new buffer.new }
 {
-    // For what it says: answers tell of no report that was let go.
-    let _gone = let_go(&session.world);
+    // For its contract: no forgotten report is in an answer.
+    let _gone = forgotten_count(&session.world);
     match answer_alone(
         alloc,
         &session.catalog,
@@ -62,10 +62,10 @@ fn answer_into(
 }
 
 impl Handle {
-    /// Does what a line of a script asks for, and gives how long the answer is, of which as much as fits is written
-    /// to the front of a buffer: the text that `pcef script` writes for the line, without its line feed. A line of
-    /// spaces, tabs and CR alone has no answer and gives 0. Takes memory for the answer and for what the session
-    /// keeps; for want of it the line may be done or not.
+    /// Does what a line of a script asks for, and returns the answer's length in octets. The answer is the text that
+    /// `pcef script` writes for the line, without its line feed; as much of it as fits is written to the front of a
+    /// buffer. A line of spaces, tabs and CR alone has no answer: 0 is returned. Takes memory for the answer and for
+    /// what the session keeps; when out of memory, the line may be done or not.
     pub fn line(&mut self, line: &[u8], buffer: &mut [u8]) -> Result<usize, CallRefusal>
         ensures { AnswersHandle self.old line.now buffer.old result self.new buffer.new }
     {

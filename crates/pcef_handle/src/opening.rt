@@ -15,8 +15,7 @@ use pcef_world::WorldState;
 use std::alloc::Global;
 use std::str;
 
-/// Why no session is opened. Of several reasons the first in this order is answered, but when out of memory, which
-/// may come at any time.
+/// Why no session is opened: the first reason in this order. Out of memory may be returned in place of any other.
 #[derive(Clone, Copy, Debug, PartialEq, Eq)]
 pub enum OpenRefusal {
     /// The handle has a session, which stays.
@@ -31,7 +30,7 @@ pub enum OpenRefusal {
     NoMemory,
 }
 
-/// The profile that octets spell.
+/// The profile of a text in octets.
 fn profile_of(alloc: Global, text: &[u8]) -> Result<Profile, OpenRefusal>
     ensures { ReadsProfile text.now result }
 {

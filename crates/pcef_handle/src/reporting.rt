@@ -1,7 +1,7 @@
-//! Tells reports, and lets them go.
+//! Writes reports, and forgets them.
 
 ghost use Rattle.std.specs.Prelude.{◌≡◌};
-ghost use Rattle.pcef_handle.specs.Reporting.{ForgetsHandle, LetsGo, ReportsHandle, ReportsInto};
+ghost use Rattle.pcef_handle.specs.Reporting.{ForgetsHandle, ForgetsReports, ReportsHandle, ReportsInto};
 
 use crate::held::{Handle, OpenSession};
 use crate::line::CallRefusal;
@@ -27,9 +27,9 @@ fn reports_into(
     }
 }
 
-/// Lets the reports so far go, and gives how many these are.
-fn let_go(session: &mut OpenSession) -> u64
-    ensures { LetsGo session.old result session.new }
+/// Forgets the reports so far, and returns their number.
+fn forget_reports(session: &mut OpenSession) -> u64
+    ensures { ForgetsReports session.old result session.new }
 {
     let count = session.world.session().journal().reports_len();
     session.world.forget();
@@ -37,9 +37,9 @@ fn let_go(session: &mut OpenSession) -> u64
 }
 
 impl Handle {
-    /// Gives how long the text of the session's reports from this number on is, of which as much as fits is written
-    /// to the front of a buffer: a JSON array, the oldest report first, each as answers tell it. Refused where one of
-    /// them was let go. Takes memory for the text.
+    /// Writes the text of the session's reports from number `first` on, as much of it as fits, to the front of a
+    /// buffer, and returns its length in octets. The text is a JSON array, the oldest report first, each as in answers.
+    /// Refused where one of them is forgotten. Takes memory for the text.
     pub fn reports(&self, first: u64, buffer: &mut [u8]) -> Result<usize, CallRefusal>
         ensures { ReportsHandle self.now first buffer.old result buffer.new }
     {
@@ -49,14 +49,14 @@ impl Handle {
         }
     }
 
-    /// Lets go of the reports that the session made so far, and gives how many these are, which is the number of the
-    /// next one: they can't be told any more, and the memory that they took serves for the next ones. They still count,
-    /// and nothing else changes. Takes no memory.
+    /// Forgets the reports that the session has made so far. Returns their number, which is the number of the next one.
+    /// They can't be read any more, and their memory serves for the next ones; they still count. Nothing else changes.
+    /// Takes no memory.
     pub fn forget(&mut self) -> Result<u64, CallRefusal>
         ensures { ForgetsHandle self.old result self.new }
     {
         match &mut self.session {
-            Some(session) => Ok(let_go(session)),
+            Some(session) => Ok(forget_reports(session)),
             None => Err(CallRefusal::NoSession),
         }
     }

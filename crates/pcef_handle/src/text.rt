@@ -3,7 +3,7 @@
 ghost use Rattle.std.specs.Prelude.{◌≡◌};
 ghost use Rattle.pcef_handle.specs.Answering.{CopiesFront};
 
-/// Writes as much of a text as fits to the front of a buffer, and gives how long the text is.
+/// Writes as much of a text as fits to the front of a buffer, and returns the text's length in octets.
 pub(crate) fn copy_front(text: &[u8], buffer: &mut [u8]) -> usize
     ensures { CopiesFront text.now buffer.old buffer.new result }
 {

@@ -1,11 +1,11 @@
-//! A history that only proofs read. It takes no memory, and its methods do nothing at run time.
+//! A history for proofs. It takes no memory, and its methods do nothing at run time.
 
 ghost use Rattle.std.specs.Prelude.{◌≡◌, List, [], ◌∷◌};
 ghost use Rattle.std.specs.Borrow.{ftrue};
 
 use std::marker::{Model, PhantomData};
 
-/// What happened, the newest first. A clause reads it as `items`.
+/// The events so far, the newest first. A clause reads them as `items`.
 #[derive(Drop)]
 pub struct History<A> {
     of: PhantomData<A>,
@@ -20,14 +20,14 @@ impl<A> Model for History<A> {
 unsafe impl<A: Send> Send for History<A> {}
 
 impl<A> History<A> {
-    /// Nothing happened.
+    /// A history without events.
     pub fn new() -> History<A>
         ensures { result.items ≡ [] }
     {
         History { of: PhantomData }
     }
 
-    /// What happened, and then this.
+    /// The history with one more event.
     pub fn then(&self, next: &A) -> History<A>
         ensures { result.items ≡ next.now ∷ self.now.items }
     {

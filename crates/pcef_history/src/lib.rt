@@ -1,4 +1,4 @@
-//! A history that only proofs read.
+//! A history for proofs: it does nothing at run time.
 #![tactic(auto)]
 
 mod history;

@@ -14,7 +14,7 @@ use Rattle.pcef_index.specs.declared.steps.Steps.{Steps}
 use Rattle.pcef_index.specs.private.Cells.{is_in, place_passes, ports_pass}
 use Rattle.pcef_index.specs.private.Marks.{Has, Marks, Sets, Shows, Spreads}
 
--- the word with a bit more
+-- the word with one more bit
 abbrev pub with_bit : ℕ → ℕ → ℕ
 with_bit word bit = bit_or word (1 * 2 ^ bit % 2 ^ 64)
 
@@ -31,7 +31,7 @@ or_adds a b i has =
     let l = bit_at-lt a i in
     omega arith
 
--- words of which one has more bits
+-- words, one of them with more bits
 abbrev pub with_bits : List ℕ → ℕ → ℕ → List ℕ
 with_bits words j bits = set words j (bit_or (get_or words j 0) bits)
 

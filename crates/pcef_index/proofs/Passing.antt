@@ -50,7 +50,7 @@ octet_small : (shift : ℕ) (addr : Addr) → octet_of shift addr < 256
 octet_small shift (V4 a) = omega arith
 octet_small shift (V6 a) = omega arith
 
--- two numbers agree above their lowest bits, so many of them, if those above so many and a shift agree
+-- two numbers, shifted, agree above their lowest bits if they agree above no more bits than these and the shift
 parts_agree : (a b rest shift loose : ℕ) → rest ≤ shift + loose → a / 2 ^ rest ≡ b / 2 ^ rest → a / 2 ^ shift / 2 ^ loose ≡ b / 2 ^ shift / 2 ^ loose
 parts_agree a b rest shift loose less same =
     let one : (n : ℕ) → n / 2 ^ shift / 2 ^ loose ≡ n / 2 ^ (shift + loose) = λ n. div-div-eq-div-mul n (2 ^ shift) (2 ^ loose) ∙ ap (λ (m : ℕ). n / m) (sym (pow-add 2 shift loose)) in

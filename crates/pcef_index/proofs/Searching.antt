@@ -67,7 +67,7 @@ one_fails test [] (suc a) fails = refl
 one_fails test (l ∷ ls) zero fails = sym (cond-false (test l) (Some l) (find test ls) fails)
 one_fails test (l ∷ ls) (suc a) fails = one_fails test ls a fails
 
--- lines that fail are passed over
+-- lines that fail are skipped
 pub passed_over : (test : Line → Bool) (lines : List Line) (a n : ℕ) → FailTo test lines a n → find test (drop (a + n) lines) ≡ find test (drop a lines)
 passed_over test lines a zero fail =
     let same : a + 0 ≡ a = omega arith in
@@ -90,7 +90,7 @@ pub found_in : (test : Line → Bool) (lines : List Line) (from place : ℕ) (fi
 found_in test lines from place (i, l, fail, there, passes, is) =
     sym (passed_over test lines from i fail) ∙ found_here test lines (from + i) l there passes
 
--- what `get` finds of a line that fails, and past the last line
+-- what `get` gives of a line that fails, and past the last line
 pub line_fails : (test : Line → Bool) (lines : List Line) (j : ℕ) (l : Line) → slice_get lines j ≡ Some l → test l ≡ false → fits_at test lines j ≡ false
 line_fails test lines j l there fails = ap (λ (o : Option Line). option_map_or test o false) there ∙ fails
 

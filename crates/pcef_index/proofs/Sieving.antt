@@ -58,7 +58,7 @@ cells_there steps h words at ranged long =
     (λ k within. rw (take_rest words at, length-drop at words) (omega (arith, within, long)))
     (header_cells steps h) (cells_within steps h ranged)
 
--- what words from a place on have, they have where they are cut there
+-- words that are cut from a place on have the bits that they had from there on
 pub from_there : (words : List ℕ) (at i : ℕ) (cells : List ℕ) → All (λ k. Has words (at + k) i) cells → All (λ k. Has (take (length words - at) (drop at words)) k i) cells
 from_there words at i cells =
     All-weaker (λ k. Has words (at + k) i) (λ k. Has (take (length words - at) (drop at words)) k i) (λ k has. rw (take_rest words at, get_or-drop at words k 0) has) cells
@@ -69,7 +69,7 @@ some_found test lines from place first same =
     let found : find test lines ≡ Some first.1 = sym same ∙ found_in test lines from place first in
     sym (ap (option_map (λ (l : Line). l.place)) found ∙ ap (λ (n : ℕ). Some n) first.5)
 
--- a block in which all lines fail is passed over
+-- a block in which all lines fail is skipped
 pub next_block : (test : Line → Bool) (lines : List Line) (block : ℕ) → FailTo test lines (block * 64) 64 → find test (drop (block * 64) lines) ≡ find test lines → find test (drop ((block + 1) * 64) lines) ≡ find test lines
 next_block test lines block fail same =
     let next : (block + 1) * 64 ≡ block * 64 + 64 = omega arith in

@@ -1,4 +1,4 @@
--- Which entries stay in question when port lists are left out.
+-- Which entries may fit where port lists are ignored.
 use Rattle.std.specs.Prelude.{ℕ, ◌+◌, Bool, true, List, [], ◌∷◌, if◌then◌else◌}
 use Rattle.std.specs.List.{list_any}
 use Rattle.pcef_packet.specs.declared.header.Addr.{Addr}

@@ -1,4 +1,4 @@
-//! Which entries stay in question when port lists are left out.
+//! Which entries may fit where port lists are ignored.
 
 ghost use Rattle.std.specs.Prelude.{◌≡◌};
 ghost use Rattle.pcef_index.specs.Candidates.{is_candidate, is_filter_candidate, without_ports};
@@ -35,7 +35,7 @@ fn any_bare(filters: &[Filter], ue: Addr, header: &Header) -> bool
         .any(|filter| bare(filter).matches(ue, header))
 }
 
-/// Whether an entry stays in question.
+/// Whether an entry may fit where port lists are ignored.
 pub(crate) fn is_candidate(source: &Source, ue: Addr, header: &Header) -> bool
     ensures { result ≡ is_candidate ue header.now source.now }
 {

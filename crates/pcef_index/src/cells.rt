@@ -7,8 +7,7 @@ use crate::steps::Steps;
 use pcef_filter::{Direction, Endpoint, Filter, Flow, Net, Place, PortRange};
 use pcef_packet::Addr;
 
-/// Where the cells of a field begin. A cell stands for each octet of the field, but for the direction two
-/// cells.
+/// Where the cells of each field begin. A field has a cell for each octet; the direction has two cells.
 pub(crate) const PROTO: u16 = 0;
 /// The high octet of the remote port.
 pub(crate) const REMOTE_HIGH: u16 = 1280;
@@ -44,7 +43,7 @@ pub(crate) enum Half {
     Low,
 }
 
-/// All cells of a field of octets.
+/// All cells of a field of octets, which begin at `base`.
 fn whole(base: u16) -> Cells
     requires { base ≤ 2048 }
     ensures { result ≡ whole base }
@@ -66,7 +65,7 @@ pub(crate) fn only(cell: u16) -> Cells
     }
 }
 
-/// The number of the field whose cells these are, all of them.
+/// The number of the field, if these are all its cells.
 pub(crate) fn field_of(cells: Cells) -> Option<u16>
     ensures { IfSome result (λ f. (f * 256 ≡ cells.first) × (f * 256 + 255 ≡ cells.last)) }
 {
@@ -124,8 +123,8 @@ pub(crate) fn proto_cells(proto: Option<u8>) -> Cells
     }
 }
 
-/// The shift of version 6 that stands for one of version 4: octets 3, 5, 7 and 15 for the four, since networks of
-/// 32, 48, 64 and 128 bits end there.
+/// The shift in version 6 for one in version 4: octets 3, 5, 7 and 15 correspond to the four of version 4, since
+/// networks of 32, 48, 64 and 128 bits end there.
 fn wide_shift(shift: u8) -> u8
     requires { shift < 32 }
     ensures is { result ≡ wide_shift shift }
@@ -134,7 +133,7 @@ fn wide_shift(shift: u8) -> u8
     if shift == 0 { 0 } else { 48 + 2 * shift }
 }
 
-/// An octet of an address: the lowest of those that are left by a shift. Both versions have the same cells.
+/// An octet of an address: the lowest one after a shift. Both versions have the same cells.
 pub(crate) fn octet_of(shift: u8, addr: Addr) -> u16
     requires { shift < 32 }
     ensures is { result ≡ octet_of shift addr }
@@ -146,7 +145,7 @@ pub(crate) fn octet_of(shift: u8, addr: Addr) -> u16
     }
 }
 
-/// How many bits a shift leaves out.
+/// How many bits a shift drops.
 fn shift_of(shift: u8, addr: Addr) -> u8
     requires { shift < 32 }
     ensures { result ≡ shift_of shift addr }
@@ -164,7 +163,7 @@ fn rest_of(net: Net) -> u8
     net.addr.width().saturating_sub(net.bits)
 }
 
-/// The octets that agree with one but for so many low bits.
+/// The octets that agree with one but for the lowest `loose` bits.
 fn block(base: u16, octet: u16, loose: u8) -> Cells
     requires low { base ≤ 2048 }
     requires octet { octet < 256 }
@@ -220,8 +219,8 @@ fn high_cells(base: u16, range: &PortRange) -> Cells
     }
 }
 
-/// The cell of a port in a low field that begins with cell 0: how many steps the port has reached or, where there
-/// are no steps, its low octet.
+/// The cell of a port in a low field whose first cell is 0: how many steps are at or below the port or, where there are
+/// no steps, its low octet.
 pub(crate) fn low_cell(steps: &Steps, port: u16) -> u16
     ensures is { result ≡ low_cell steps.now port }
     ensures small { result < 256 }

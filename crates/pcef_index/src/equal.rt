@@ -4,7 +4,7 @@ ghost use Rattle.std.specs.Prelude.{◌≡◌, ◌↔◌, IsTrue};
 
 use pcef_table::Source;
 
-/// Whether two rules are equal, and come from the same place.
+/// Whether two rules are equal and of the same kind.
 fn is_equal(a: &Source, b: &Source) -> bool
     ensures { IsTrue result ↔ (a.now ≡ b.now) }
 {

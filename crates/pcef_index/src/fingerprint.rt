@@ -1,10 +1,10 @@
-//! Numbers that tell most lists of rules apart. No contract speaks of them.
+//! Numbers that distinguish most lists of rules. No contract speaks of them.
 
 use pcef_filter::{Endpoint, Filter, Place};
 use pcef_packet::Addr;
 use pcef_table::Source;
 
-/// A number mixed into others.
+/// Mixes a number into others.
 fn mix(others: u64, number: u64) -> u64 {
     let product = (others ^ number).wrapping_mul(0x9e37_79b9_7f4a_7c15);
     product ^ (product >> 29)
@@ -20,7 +20,7 @@ fn with_addr(others: u64, addr: Addr) -> u64 {
     }
 }
 
-/// The place, and the first ports.
+/// Mixes the place and the first ports into others.
 fn with_endpoint(others: u64, endpoint: &Endpoint) -> u64 {
     let others = match endpoint.place {
         Place::Any => mix(others, 1),
@@ -59,7 +59,7 @@ fn with_source(others: u64, source: &Source) -> u64 {
     }
 }
 
-/// A number that depends on the rules alone, and on their filters' protocols, addresses and first ports among others.
+/// A number that depends on the rules alone, among others on their filters' protocols, addresses and first ports.
 pub(crate) fn fingerprint(sources: &[Source]) -> u64 {
     let mut all = 0;
     for source in sources {

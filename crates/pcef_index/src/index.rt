@@ -18,18 +18,18 @@ use pcef_table::{Source, Table, TableEntry, gate_verdict, is_own};
 use std::alloc::{AllocError, Global};
 use std::marker::Model;
 
-/// So many filters are searched one after the other: as many as one rule has at most.
+/// Up to this many filters are searched one after the other: as many as one rule has at most.
 const MOST_SEARCHED: usize = 16;
 
-/// The compiled index of a table. Contracts see the rules of the table's entries, in order. It keeps copies
-/// of them, which share their filters, so that what it says of a packet is said of these rules, whatever
-/// becomes of the table. Few filters are searched one after the other, and have no sieve.
+/// The compiled index of a table. Contracts see the rules of the table's entries, in order. It keeps copies of the
+/// rules, which share their filters, so that its answers are about these rules, whatever becomes of the table. A few
+/// filters are searched one after the other, and have no sieve.
 pub struct Index {
     sources: Vec<Source>,
     sieve: Option<Sieve>,
 }
 
-// Written out, so that an owner proves one call at each way out.
+// Written out, so that an owner proves one call on each return path.
 impl Drop for Index {
     fn drop(self) {
         let Index {
@@ -62,7 +62,7 @@ fn copies(alloc: Global, entries: &[TableEntry]) -> Result<Vec<Source>, AllocErr
     Ok(sources)
 }
 
-/// Appends a place where its rule passes.
+/// Appends a place if its rule passes.
 fn push_if(places: &mut ArrayVec<u8, 64>, place: u8, passes: bool)
     requires { length places.old.items < 64 }
     ensures { places.new.items ≡ places.old.items ++ (if passes then place ∷ [] else []) }
@@ -105,7 +105,7 @@ fn sieve_if_many(alloc: Global, sources: &[Source]) -> Result<Option<Sieve>, All
     }
 }
 
-/// The index of some rules, which are no more than a table has.
+/// The index of some rules, at most as many as a table has.
 pub(crate) fn index_of(alloc: Global, sources: Vec<Source>) -> Result<Index, AllocError>
     requires { length sources.items ≤ 64 }
     ensures { IfOk result (λ i. i ≡ sources.items) }
@@ -142,8 +142,8 @@ fn first_sieved<'a, C: Detects>(
 }
 
 impl Index {
-    /// The index of a table, or out of memory. The catalog isn't read: what a predefined rule detects is
-    /// asked of its closure when a packet comes.
+    /// The index of a table, or out of memory. The catalog isn't read: the closure of a predefined rule is called for
+    /// each packet.
     pub fn build<C: Offers>(alloc: Global, table: &Table, _catalog: &C) -> Result<Index, AllocError>
         ensures { IfOk result (λ i. i ≡ map (λ e. e.source) table.now.entries) }
     {
@@ -158,7 +158,7 @@ impl Index {
         &self.sources
     }
 
-    /// Whether there is a sieve, which takes memory for each 64 filters.
+    /// Whether there is a sieve. It takes memory for each 64 filters.
     pub(crate) fn is_sieved(&self) -> bool {
         self.sieve.is_some()
     }
@@ -183,8 +183,8 @@ impl Index {
         }
     }
 
-    /// What the generation decides of a packet, for a session with this address (TS 23.203,
-    /// clause 6.2.2). The table has the rules that the index was built of. Takes no memory.
+    /// The generation's verdict on a packet, for a session with this address (TS 23.203, clause 6.2.2). The table has
+    /// the rules that the index was built of. Takes no memory.
     pub fn classify<C: Detects>(
         &self,
         table: &Table,
@@ -208,8 +208,8 @@ impl Index {
         }
     }
 
-    /// The places of the entries that stay in question where port lists are left out, in table order:
-    /// those of predefined rules, and of dynamic ones with a filter that matches without its port lists.
+    /// The places of the entries that may fit where port lists are ignored, in table order: those of predefined rules,
+    /// and of dynamic ones with a filter that matches without its port lists.
     pub fn candidates(&self, ue: Addr, header: &Header) -> ArrayVec<u8, 64>
         ensures { result.items ≡ places_from (is_candidate ue header.now) 0 self.now }
     {

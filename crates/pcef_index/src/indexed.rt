@@ -19,8 +19,8 @@ use std::alloc::{AllocError, Global};
 use std::marker::Model;
 use std::sync::Arc;
 
-/// A table and the index of its rules, which never change. Tables that have the same rules may share an index. Contracts
-/// see the table.
+/// A table and the index of its rules, which never change. Tables with equal rules may share an index. Contracts see
+/// the table.
 pub struct Indexed {
     table: Table,
     index: Arc<Index>,
@@ -28,7 +28,7 @@ pub struct Indexed {
     is_shelved: bool,
 }
 
-// Written out, so that an owner proves one call at each way out.
+// Written out, so that an owner proves one call on each return path.
 impl Drop for Indexed {
     fn drop(self) {
         let Indexed {
@@ -67,7 +67,7 @@ impl Indexed {
         })
     }
 
-    /// The table with its index. When out of memory, the table is given up.
+    /// The table with its index. When out of memory, the table is dropped.
     pub fn new<C: Offers>(alloc: Global, table: Table, catalog: &C) -> Result<Indexed, AllocError>
         ensures { IfOk result (λ i. i ≡ table) }
     {
@@ -79,7 +79,7 @@ impl Indexed {
         })
     }
 
-    /// A table that has the rules of this one, with the same index. When out of memory, the table is given up.
+    /// A table that has the rules of this one, with the same index. When out of memory, the table is dropped.
     pub fn with_table(&self, table: Table) -> Result<Indexed, AllocError>
         requires { map (λ e. e.source) table.entries ≡ map (λ e. e.source) self.now.entries }
         ensures { IfOk result (λ i. i ≡ table) }
@@ -106,12 +106,12 @@ impl Indexed {
         &self.index
     }
 
-    /// Whether the index takes memory that other tables could share, and no shelf knows it yet.
+    /// Whether the index takes memory that other tables could share, and was on no shelf yet.
     pub(crate) fn is_to_share(&self) -> bool {
         self.index.is_sieved() && !self.is_shelved
     }
 
-    /// Another owner of the index, for a shelf. Fails when out of memory.
+    /// A copy of the index for a shelf, which shares its memory. Fails when out of memory.
     pub(crate) fn shelved(&mut self) -> Result<Arc<Index>, AllocError>
         ensures index { IfOk result (λ i. arc_value i ≡ map (λ e. e.source) self.old.entries) }
         ensures table { self.new ≡ self.old }
@@ -121,7 +121,7 @@ impl Indexed {
         shelved
     }
 
-    /// Takes an index of a shelf in the place of its own, or keeps its own when out of memory.
+    /// Replaces its index by one of a shelf, or keeps its own when out of memory.
     pub(crate) fn share(&mut self, index: &Arc<Index>)
         requires { arc_value index.now ≡ map (λ e. e.source) self.old.entries }
         ensures { self.new ≡ self.old }
@@ -139,8 +139,8 @@ impl Indexed {
         self.table.generation()
     }
 
-    /// What the generation decides of a packet, for a session with this address (TS 23.203,
-    /// clause 6.2.2), found by the index. Takes no memory.
+    /// The generation's verdict on a packet, for a session with this address (TS 23.203, clause 6.2.2), found by the
+    /// index. Takes no memory.
     pub fn classify<C: Detects>(&self, catalog: &C, ue: Addr, header: &Header) -> Verdict
         requires { IsTable (C.offers catalog.now) self.now.entries }
         ensures { IsVerdict (C.offers catalog.now) self.now.entries ue header.now result }
@@ -170,9 +170,8 @@ impl Indexed {
         self.index.first_fitting(&self.table, catalog, ue, header)
     }
 
-    /// What the generation decides of a packet, for a session with this address (TS 23.203,
-    /// clause 6.2.2), and the slots that the packet counts for, in slot order, by one look-up. Takes no
-    /// memory.
+    /// The generation's verdict on a packet, for a session with this address (TS 23.203, clause 6.2.2), and the slots
+    /// that the packet counts for, in slot order, by one look-up. Takes no memory.
     pub fn judged<C: Detects>(
         &self,
         catalog: &C,

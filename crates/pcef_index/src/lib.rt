@@ -1,5 +1,5 @@
-//! A compiled index of a table: `Index`, made for fast look-ups, and `Indexed`, a table with its index. Tables of equal
-//! rules share one by an `IndexShelf`.
+//! A compiled index of a table: `Index`, for fast look-ups, and `Indexed`, a table with its index. Tables of equal
+//! rules share an index by an `IndexShelf`.
 //!
 //! Its contracts say: the same verdict and slots as the table's, by one look-up, and which entries may match a header;
 //! that a shared index changes nothing.

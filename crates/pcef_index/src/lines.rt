@@ -1,4 +1,4 @@
-//! What can fit a packet, one line each: a filter of a dynamic rule, or a predefined rule.
+//! The lines of rules. A line is what can fit a packet: a filter of a dynamic rule, or a predefined rule.
 
 ghost use Rattle.std.specs.Prelude.{◌≡◌, ◌<◌, ◌≤◌, ◌++◌, length, IfOk, OnOk};
 ghost use Rattle.pcef_index.specs.private.Lines.{filter_lines, line_fits, lines_from, source_lines};

@@ -13,7 +13,7 @@ use crate::lines::{Line, Part};
 use crate::steps::{PortSteps, Steps};
 use pcef_filter::{Filter, Place, PortRange};
 
-/// Where the marks of a line stand: its bit, in the words from one on.
+/// Where the marks of a line stand: at its bit, in the words from `at` on.
 #[derive(Clone, Copy)]
 pub(crate) struct Spot {
     /// The word of the first cell.
@@ -34,7 +34,7 @@ fn set(words: &mut [u64], spot: Spot, cells: Cells)
     }
 }
 
-/// Marks a line at some cells: at their field, where they are all cells of one.
+/// Marks a line at some cells: at their field, where they are all cells of one field.
 fn mark(words: &mut [u64], spot: Spot, cells: Cells)
     requires bit { spot.bit < 64 }
     requires within { spot.at + 2316 ≤ length words.old }
@@ -81,8 +81,8 @@ fn any_spans(ranges: &[PortRange]) -> bool
         .any(|range| range.first / 256 != range.last / 256)
 }
 
-/// Whether a port list lets all cells of this half pass: where it is empty, and all low ones where there are no
-/// steps and a range has several high octets.
+/// Whether a port list lets all cells of this half pass: where the list is empty, and in the low half also where there
+/// are no steps and a range has several high octets.
 fn are_whole(half: Half, steps: &Steps, ranges: &[PortRange]) -> bool
     ensures { result ≡ are_whole half steps.now ranges.now }
 {

@@ -1,4 +1,4 @@
-//! A filter by the rule that it belongs to.
+//! A filter of a rule.
 
 ghost use Rattle.std.specs.Prelude.{◌≡◌, ◌<◌, IfOk, length};
 ghost use Rattle.pcef_index.specs.private.RuleFilters.{filter_at};
@@ -8,13 +8,13 @@ use pcef_rule::Rule;
 use std::alloc::AllocError;
 use std::marker::Model;
 
-/// A filter of a rule, which it shares. Contracts see the filter.
+/// A filter of a rule, with which it shares the memory. Contracts see the filter.
 pub(crate) struct RuleFilter {
     rule: Rule,
     place: usize,
 }
 
-// Written out, so that an owner proves one call at each way out.
+// Written out, so that an owner proves one call on each return path.
 impl Drop for RuleFilter {
     fn drop(self) {
         let RuleFilter { rule: _, place: _ } = self;

@@ -16,7 +16,7 @@ use std::sync::Arc;
 /// The most indexes of a shelf.
 pub const MAX_SHELVED: usize = 16;
 
-/// An index, and the fingerprint of its rules: lists with other ones needn't be compared.
+/// An index, and the fingerprint of its rules: lists with other fingerprints needn't be compared.
 #[derive(Drop)]
 struct Shelved {
     fingerprint: u64,
@@ -28,7 +28,7 @@ pub struct IndexShelf {
     indexes: Vec<Shelved>,
 }
 
-// Written out, so that an owner proves one call at each way out.
+// Written out, so that an owner proves one call on each return path.
 impl Drop for IndexShelf {
     fn drop(self) {
         let IndexShelf { indexes: _ } = self;
@@ -64,7 +64,7 @@ fn equal_to<'a>(
     None
 }
 
-/// How many own an index, the shelf among them.
+/// The number of owners of an index, the shelf among them.
 fn owners(shelved: &Shelved) -> usize {
     Arc::strong_count(&shelved.index)
 }
@@ -83,26 +83,27 @@ fn place_of_least_owned(indexes: &[Shelved]) -> usize
     least
 }
 
-/// Lets the indexes go that nobody else owns: a table that comes brings an index of its own.
-fn let_go(indexes: &mut Vec<Shelved>)
+/// Drops the indexes that nobody else owns: a new table has an index of its own.
+fn drop_unowned(indexes: &mut Vec<Shelved>)
     ensures { length indexes.new.items ≤ length indexes.old.items }
 {
     indexes.retain(|shelved| owners(shelved) > 1);
 }
 
-/// Makes a place for one more index. Of those that have the fewest owners the oldest goes.
+/// Makes a place for one more index: drops those that nobody else owns and, where the shelf is still full, the oldest
+/// of those with the fewest owners.
 fn make_place(indexes: &mut Vec<Shelved>)
     requires { length indexes.old.items ≤ most_shelved }
     ensures { length indexes.new.items < most_shelved }
 {
-    let_go(indexes);
+    drop_unowned(indexes);
     if indexes.len() >= MAX_SHELVED {
         indexes.remove(place_of_least_owned(indexes));
     }
 }
 
 impl IndexShelf {
-    /// An empty one. Takes no memory.
+    /// An empty shelf. Takes no memory.
     pub fn new(alloc: Global) -> IndexShelf
         ensures { result ≡ [] }
     {
@@ -129,9 +130,9 @@ impl IndexShelf {
         }
     }
 
-    /// Gives a table the index of another one whose rules are equal, or puts its own here, for others to share. A full
-    /// shelf lets the oldest index go of those with the fewest owners. A table with few filters keeps its index, which
-    /// takes little memory, and so does one whose index was here before. Where there is no memory, nothing is shared.
+    /// Gives a table the index of another table whose rules are equal, or puts its own here, for others to share. A
+    /// full shelf drops the oldest index of those with the fewest owners. A table with few filters keeps its index,
+    /// which takes little memory, and so does one whose index was here before. When out of memory, nothing is shared.
     pub fn share(&mut self, indexed: &mut Indexed)
         ensures { indexed.new ≡ indexed.old }
     {

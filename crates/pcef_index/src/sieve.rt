@@ -21,21 +21,21 @@ use pcef_packet::{Addr, Header};
 use pcef_table::Source;
 use std::alloc::{AllocError, Global};
 
-/// How many words there are for 64 lines: one for each cell, and one for each field.
+/// The number of words for 64 lines: one for each cell, and one for each field.
 const BLOCK: usize = 2316;
 
-/// The lines of some rules, and the words that tell which of them may fit a packet.
+/// The lines of some rules, and the words that say which of them may fit a packet.
 #[derive(Drop)]
 pub(crate) struct Sieve {
     /// The lines.
     pub lines: Vec<Line>,
-    /// What the low fields of ports have cells for.
+    /// The steps for which the low fields of ports have cells.
     pub steps: PortSteps,
     /// For each 64 lines a block of words.
     pub words: Vec<u64>,
 }
 
-/// The sieve of some rules, which are no more than a table has. Fails when out of memory.
+/// The sieve of some rules, at most as many as a table has. Fails when out of memory.
 pub(crate) fn sieve_of(alloc: Global, sources: &[Source]) -> Result<Sieve, AllocError>
     requires { length sources.now ≤ 64 }
     ensures { IfOk result (IsSieveOf sources.now) }
@@ -85,7 +85,7 @@ fn mark_lines(words: &mut [u64], steps: &PortSteps, lines: &[Line])
     }
 }
 
-/// Gives some cells of one field the bits of the field's word.
+/// Sets the bits of a field's word in some cells of the field.
 fn spread(words: &mut [u64], at: usize, cells: Cells)
     requires within { at + 2316 ≤ length words.old }
     requires few { cells.last ≤ 2305 }
@@ -98,7 +98,7 @@ fn spread(words: &mut [u64], at: usize, cells: Cells)
     }
 }
 
-/// Gives the cells of octets the bits of their fields' words.
+/// Sets the bits of the fields' words in the cells of octets.
 fn spread_octets(words: &mut [u64], at: usize)
     requires { at + 2316 ≤ length words.old }
     ensures { Spreads words.old words.new at (λ k. nat_lt k 2304) }
@@ -108,7 +108,7 @@ fn spread_octets(words: &mut [u64], at: usize)
     }
 }
 
-/// Gives all cells the bits of their fields' words.
+/// Sets the bits of the fields' words in all cells.
 fn spread_block(words: &mut [u64], at: usize)
     requires { at + 2316 ≤ length words.old }
     ensures { Spreads words.old words.new at (λ k. nat_lt k 2306) }
@@ -121,7 +121,7 @@ fn spread_block(words: &mut [u64], at: usize)
     spread(words, at, ways);
 }
 
-/// Gives the cells of each block the bits of their fields' words.
+/// Sets the bits of the fields' words in the cells of each block.
 fn spread_blocks(words: &mut [u64], lines: &[Line])
     requires { length words.old ≡ blocks lines.now * 2316 }
     ensures { (steps : PortSteps) → IsMarked steps lines.now words.old
@@ -132,7 +132,7 @@ fn spread_blocks(words: &mut [u64], lines: &[Line])
     }
 }
 
-/// The lines, of the 64 whose words stand in front, that let all these cells pass.
+/// Which of the 64 lines with the words in front let all these cells pass: a bit for each.
 fn word_of(words: &[u64], cells: &[usize; 10]) -> u64
     requires within { All (λ k. k < length words.now) cells.now }
     ensures { (i : ℕ) → i < 64 → All (λ k. Has words.now k i) cells.now → bit_at result i ≡ 1 }
@@ -144,7 +144,7 @@ fn word_of(words: &[u64], cells: &[usize; 10]) -> u64
     word
 }
 
-/// The place of the rule of the first line that fits, of 64 of which a word tells which may fit.
+/// The place of the rule of the first of 64 lines that fits; a word says which of them may fit.
 fn first_in<C: Detects>(
     lines: &[Line],
     from: usize,

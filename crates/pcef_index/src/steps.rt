@@ -1,12 +1,12 @@
-//! Steps: the ports at which the intervals begin that the low field of a side has cells for.
+//! Steps: the ports where the intervals begin for which the low field of a side has cells.
 
 ghost use Rattle.std.specs.Prelude.{◌≡◌, ◌≤◌, ◌<◌, IfOk, length};
 ghost use Rattle.pcef_index.specs.private.Starts.{ArePlaced, cell_of, count_to};
 
 use std::alloc::{AllocError, Global};
 
-/// The ports at which an interval begins, in ascending order, and where those of each high octet begin among them, and
-/// where they end. Where there are none, the low field has a cell for each low octet.
+/// The ports where intervals begin, in ascending order, and where those of each high octet begin and end among them.
+/// Where there are none, the low field has a cell for each low octet.
 #[derive(Drop)]
 pub(crate) struct Steps {
     /// Where the steps of each high octet begin, and where the last end; empty where there are none.
@@ -24,7 +24,7 @@ pub(crate) struct PortSteps {
     pub local: Steps,
 }
 
-/// How many steps are at or below a port.
+/// The number of steps at or below a port.
 fn count_to(ports: &[u16], port: u16) -> u16
     requires { length ports.now ≤ 255 }
     ensures { result ≡ count_to port ports.now }
@@ -38,7 +38,7 @@ fn count_to(ports: &[u16], port: u16) -> u16
     count
 }
 
-/// Where the first of these ports stands that isn't below a limit, from a place on.
+/// The place, from `from` on, of the first of these ports that isn't below a limit.
 fn count_up_to(ports: &[u16], from: usize, limit: u32) -> usize
     requires { from ≤ length ports.now }
     ensures least { from ≤ result }
@@ -61,7 +61,7 @@ impl Steps {
         }
     }
 
-    /// These steps, in ascending order. Fails when out of memory.
+    /// The steps at these ports, which are in ascending order. Fails when out of memory.
     pub(crate) fn new(alloc: Global, ports: Vec<u16>) -> Result<Steps, AllocError>
         requires { length ports.items ≤ 255 }
     {
@@ -74,7 +74,7 @@ impl Steps {
         Ok(Steps { starts, ports })
     }
 
-    /// How many steps a port has reached. Those of lower octets aren't compared.
+    /// How many steps are at or below a port. Those of lower high octets aren't compared.
     #[tactic(auto, unfolding(crate::specs::private::Starts::cell_of))]
     pub(crate) fn cell_of(&self, port: u16) -> u16
         requires { 0 < length self.now.starts.items }

@@ -11,8 +11,8 @@ use std::marker::Model;
 
 /// What happened in a session, entry by entry. Entries are added and never changed.
 ///
-/// The entries themselves are not stored: only how many commands, rows and reports there are, and the reports that weren't
-/// forgotten yet. The entries stand in the contracts, as a history that takes no memory.
+/// The entries themselves are not stored: only how many commands, rows and reports there are, and the reports that
+/// weren't forgotten yet. The entries stand in the contracts, as a history that takes no memory.
 pub struct Journal {
     history: History<Entry>,
     commands: u64,
@@ -22,7 +22,7 @@ pub struct Journal {
     reports: Vec<Report>,
 }
 
-// Written out, so that an owner proves one call at each way out.
+// Written out, so that an owner proves one call on each return path.
 impl Drop for Journal {
     fn drop(self) {
         let Journal {

@@ -41,7 +41,7 @@ abbrev pub change_of : Prepared → Option Command
 change_of (Changing change) = Some change.command
 change_of (Unchanged name) = None
 
--- how many entries a command that was prepared may come to, with the leaving of so many workers
+-- the entries that a prepared command may need, with the leaving of `attached` workers
 abbrev pub entries_for : Prepared → ℕ → ℕ
 entries_for (Changing change) attached = length change.reports.items + 9 + attached
 entries_for (Unchanged name) attached = 0

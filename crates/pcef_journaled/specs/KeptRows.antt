@@ -24,7 +24,7 @@ row_of names r = record { worker = r.worker; seq = r.seq; generation = r.generat
 abbrev pub rows_of : List (List ℕ) → List KeptRow → List Row
 rows_of names kept = map (row_of names) kept
 
--- a verdict that speaks of a rule has its name among so many
+-- where a verdict names a rule, the place of the name is below `count`
 abbrev pub IsPlaced : ℕ → ℕ → KeptVerdict → Type 0
 IsPlaced count place Stray = Unit {0}
 IsPlaced count place Unmatched = Unit {0}

@@ -9,15 +9,15 @@ use pcef_model::{Command, Row};
 use std::alloc::{AllocError, Global};
 use std::marker::Model;
 
-/// The rows and the commands of a session, each in order. They are added and never changed. Commands are stored, of which
-/// a profile allows so many. Rows are stored too, or stand in contracts alone and take no memory.
+/// The rows and the commands of a session, each in order: they are added, and never changed. Commands are stored, up to
+/// the profile's limit. Rows are stored too, or stand in contracts alone and take no memory.
 pub struct Archive {
     commands: Vec<Command>,
     rows: History<Row>,
     store: Option<Store>,
 }
 
-// Written out, so that an owner proves one call at each way out.
+// Written out, so that an owner proves one call on each return path.
 impl Drop for Archive {
     fn drop(self) {
         let Archive {

@@ -1,6 +1,7 @@
 //! A session with an archive of its commands and of its rows, which are stored or not: `Archive`, and `JournaledState`.
 //!
-//! Its contracts say: each call what the session's own tells, and walks over the rows and the commands of its journal.
+//! Its contracts say: each call answers as the session's own does, and walks over the rows and the commands of its
+//! journal.
 //!
 //! In the order of reading: `names`, `kept_row`, `walk`, `store`, `archive`, `rows`, `prepared`, `state`.
 #![tactic(auto)]

@@ -19,7 +19,7 @@ pub(crate) struct Names {
     last: u32,
 }
 
-// Written out, so that an owner proves one call at each way out.
+// Written out, so that an owner proves one call on each return path.
 impl Drop for Names {
     fn drop(self) {
         let Names { names: _, last: _ } = self;

@@ -31,8 +31,8 @@ impl Model for JournaledCommand {
 }
 
 impl JournaledCommand {
-    /// What was prepared, with the copy for the archive and room there for as many entries as a session with so many
-    /// attached workers has room for. Takes memory.
+    /// Pairs a prepared command with its copy for the archive, and makes room there for all its entries and for the
+    /// leaving of `attached` workers. Takes memory.
     pub(crate) fn new(
         archive: &mut Archive,
         prepared: Prepared,

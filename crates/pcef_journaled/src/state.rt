@@ -26,14 +26,14 @@ use pcef_session::{Batch, SessionState};
 use std::alloc::Global;
 use std::marker::Model;
 
-/// A session with an archive of its commands and rows. The rows are stored, or stand in contracts alone. Its reports are
-/// all kept. It answers as [`SessionState`] does. Contracts see a session, and whether rows are stored.
+/// A session with an archive of its commands and rows. The rows are stored, or stand in contracts alone. Its reports
+/// are all kept. It answers as [`SessionState`] does. Contracts see a session, and whether rows are stored.
 pub struct JournaledState {
     state: SessionState,
     archive: Archive,
 }
 
-// Written out, so that an owner proves one call at each way out.
+// Written out, so that an owner proves one call on each return path.
 impl Drop for JournaledState {
     fn drop(self) {
         let JournaledState {

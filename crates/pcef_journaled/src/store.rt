@@ -17,7 +17,7 @@ pub(crate) struct Store {
     names: Names,
 }
 
-// Written out, so that an owner proves one call at each way out.
+// Written out, so that an owner proves one call on each return path.
 impl Drop for Store {
     fn drop(self) {
         let Store { rows: _, names: _ } = self;

@@ -75,7 +75,7 @@ pub lanes_first : LanesAgree [] []
 unfolding attach_count attached
 lanes_first = record { ends_are = refl; attached_are = refl }
 
--- where neither workers nor rows come
+-- where no worker is attached and no row is added
 pub lanes_same : (j k : Journal) (lanes : List LaneEnd) → attach_count k ≡ attach_count j → attached k ≡ attached j → ((w : ℕ) → lane k w ≡ lane j w) →
     LanesAgree j lanes → LanesAgree k lanes
 lanes_same j k lanes count numbers rows agree = record {
@@ -86,7 +86,7 @@ lanes_same j k lanes count numbers rows agree = record {
 pub lanes_count : (j : Journal) (lanes : List LaneEnd) → LanesAgree j lanes → length lanes ≡ attach_count j
 lanes_count j lanes agree = ap length agree.ends_are ∙ ends_length j 0 (attach_count j)
 
--- a worker comes
+-- a worker is attached
 come_other : (j : Journal) (n w : ℕ) → w < n → lane_end (entry.Attach n ∷ j) w ≡ lane_end j w
 unfolding attached
 come_other j n w below = ap (λ b. record { rows = length (lane j w); newest_generation = newest_generation (lane j w); attached = b || is_attached j w })
@@ -199,7 +199,7 @@ lanes_rows j n rs lanes within own agree =
           ∙ sym (present_lengthen 0 lanes n (length rs) (last_generation (get_or lanes n at_start).newest_generation rs) within);
     }
 
--- ---- what the ends tell
+-- ---- what the ends hold
 slice_get_at : (es : List LaneEnd) (place : ℕ) (other : LaneEnd) → place < length es → slice_get es place ≡ Some (get_or es place other)
 slice_get_at [] place other within = absurd (omega (arith, within))
 slice_get_at (e ∷ es) zero other within = refl
@@ -222,7 +222,7 @@ attached_is j lanes worker agree =
           ∙ sym (ap (λ o. option_map_or (λ (e : LaneEnd). e.attached) o false) (slice_get_past lanes worker past))
     ]
 
--- an attached worker came
+-- an attached worker was attached at some time
 pub attached_came : (j : Journal) (lanes : List LaneEnd) (worker : ℕ) → LanesAgree j lanes → is_attached j worker ≡ true → worker < length lanes
 attached_came j lanes worker agree is =
     elim (cases_Bool (nat_lt worker (length lanes))) [
@@ -236,13 +236,13 @@ attached_came j lanes worker agree is =
 pub attached_len : (j : Journal) (lanes : List LaneEnd) → LanesAgree j lanes → length (attached j) ≡ length (filter (λ (end : LaneEnd). end.attached) lanes)
 attached_len j lanes agree = ap length agree.attached_are ∙ present_count 0 lanes
 
--- where the lane of a worker that came ends
+-- where the lane of a worker that was attached ends
 pub end_is : (j : Journal) (lanes : List LaneEnd) (worker : ℕ) → LanesAgree j lanes → worker < length lanes → get_or lanes worker at_start ≡ lane_end j worker
 end_is j lanes worker agree within =
     let count = lanes_count j lanes agree in
     ap (λ ends. get_or ends worker at_start) agree.ends_are ∙ ends_at j 0 (attach_count j) worker at_start (omega (arith, within, count)) ∙ ap (lane_end j) (omega arith)
 
--- the end of a worker's lane, where the worker ever came
+-- the end of a worker's lane, where the worker was ever attached
 pub end_found : (j : Journal) (lanes : List LaneEnd) (worker : ℕ) → LanesAgree j lanes →
     MatchOption (end_of lanes worker) (attach_count j ≤ worker) (λ end. (worker < attach_count j) × (end ≡ lane_end j worker))
 end_found j lanes worker agree =

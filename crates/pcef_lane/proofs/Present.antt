@@ -1,4 +1,4 @@
--- The workers that are attached, as workers come and leave.
+-- The attached workers, as workers are attached and leave.
 use Rattle.std.proofs.Common.{◌≡◌, ◌∙◌, ◌≤◌, ◌<◌, ◌+◌, ◌++◌, ◌==◌, ℕ, suc, zero, List, [], ◌∷◌, Bool, true, false, length, refl, sym, ap, arith, inl, inr, not, set, get_or, filter, if◌then◌else◌, append-nil}
 use Rattle.std.specs.List.{list_any}
 use Rattle.std.proofs.lemmas.Bool.{cases_Bool, eq-eqb, eqb-true, false_from_ne_true}
@@ -19,7 +19,7 @@ other_number m n differ = false_from_ne_true (m == n) (λ same. absurd (differ (
 pub own_number : (n : ℕ) → (n == n) ≡ true
 own_number n = eq-eqb n n refl
 
--- ---- a worker comes
+-- ---- a worker is attached
 pub present_come : (first : ℕ) (ends : List LaneEnd) → present first (ends ++ at_start ∷ []) ≡ (first + length ends) ∷ present first ends
 present_come first [] = ap (λ n. n ∷ []) (omega arith)
 present_come first (end ∷ ends) =

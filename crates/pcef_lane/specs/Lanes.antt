@@ -15,17 +15,17 @@ lane_end j worker = record {
   attached = is_attached j worker;
 }
 
--- the ends of the lanes of so many workers, from this one on
+-- the ends of the lanes of `n` workers, from this one on
 abbrev pub ends_from : Journal → ℕ → ℕ → List LaneEnd
 ends_from j worker zero = []
 ends_from j worker (suc n) = lane_end j worker ∷ ends_from j (suc worker) n
 
--- the ends of the lanes of all workers that ever came, by their numbers
+-- the ends of the lanes of all workers that were ever attached, by their numbers
 abbrev pub lane_ends : Journal → List LaneEnd
 lane_ends j = ends_from j 0 (attach_count j)
 
 -- ---- changes
--- a worker that has just come
+-- a worker that was just attached
 abbrev pub at_start : LaneEnd
 at_start = record { rows = 0; newest_generation = 0; attached = true }
 
@@ -49,7 +49,7 @@ abbrev pub present : ℕ → List LaneEnd → List ℕ
 present worker [] = []
 present worker (end ∷ ends) = present (suc worker) ends ++ (if end.attached then worker ∷ [] else [])
 
--- the lanes end where the journal says, and those are attached who are so there
+-- the lanes end where the journal says, and the same workers are attached
 pub record LanesAgree (j : Journal) (lanes : List LaneEnd) : Type 0 where
   pub ends_are : lanes ≡ lane_ends j
   pub attached_are : attached j ≡ present 0 lanes

@@ -7,7 +7,7 @@ ghost use Rattle.pcef_lane.specs.Lanes.{at_start, end_of, left, lengthened};
 use arrayvec::ArrayVec;
 use std::marker::Model;
 
-/// The most workers that ever come to a session.
+/// The most workers that are ever attached to a session.
 pub const MAX_WORKERS: usize = 16;
 
 /// Where a worker's lane ends.
@@ -21,12 +21,12 @@ pub struct LaneEnd {
     pub attached: bool,
 }
 
-/// The ends of the lanes of all workers that ever came, by their numbers. Takes no memory.
+/// The ends of the lanes of all workers that were ever attached, by their numbers. Takes no memory.
 pub struct Lanes {
     ends: ArrayVec<LaneEnd, 16>,
 }
 
-// Written out, so that an owner proves one call at each way out.
+// Written out, so that an owner proves one call on each return path.
 impl Drop for Lanes {
     fn drop(self) {
         let Lanes { ends: _ } = self;
@@ -43,7 +43,7 @@ impl Model for Lanes {
 }
 
 impl Lanes {
-    /// No worker has come.
+    /// No worker was attached.
     pub fn new() -> Lanes
         ensures { result ≡ [] }
     {
@@ -52,14 +52,14 @@ impl Lanes {
         }
     }
 
-    /// How many workers ever came.
+    /// How many workers were ever attached.
     pub fn len(&self) -> usize
         ensures { result ≡ length self.now }
     {
         self.ends.len()
     }
 
-    /// Where the lane of a worker ends, if it ever came.
+    /// Where the lane of a worker ends, if it was ever attached.
     pub fn get(&self, worker: u8) -> Option<&LaneEnd>
         ensures { option_copied result ≡ end_of self.now worker }
     {
@@ -98,7 +98,7 @@ impl Lanes {
             .count()
     }
 
-    /// A worker comes, with the next number.
+    /// Attaches a worker, with the next number.
     pub fn add_lane(&mut self)
         requires { length self.old < 16 }
         ensures { self.new ≡ self.old ++ at_start ∷ [] }
@@ -110,7 +110,7 @@ impl Lanes {
         });
     }
 
-    /// A worker that came leaves.
+    /// Detaches a worker that was attached.
     pub fn leave(&mut self, worker: u8)
         requires { worker < length self.old }
         ensures { self.new ≡ set self.old worker (left (get_or self.old worker at_start)) }
@@ -119,7 +119,8 @@ impl Lanes {
         ends[usize::from(worker)].attached = false;
     }
 
-    /// The lane of a worker that came grows by so many rows, of which this is the generation of the newest.
+    /// Adds `rows` rows to the lane of a worker, the newest of them by `generation`. The worker was attached at some
+    /// time.
     pub fn lengthen(&mut self, worker: u8, rows: u64, generation: u32)
         requires came { worker < length self.old }
         requires fits { (get_or self.old worker at_start).rows + rows < 2 ^ 64 }

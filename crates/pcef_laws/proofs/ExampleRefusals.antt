@@ -84,7 +84,7 @@ a_key_of_the_session : IsRefused (accept (Monitor vid 9 Session) ∷ []) (asking
 unfolding refusals_worked_out
 a_key_of_the_session = refl
 
--- ---- of two reasons the first is told
+-- ---- of two reasons the first is given
 a_name_of_the_catalog_and_a_ninth_key : IsRefused eight_keys (asking (codes "dns") vid (qos_of 9) None) NameIsPredefined
 unfolding refusals_worked_out
 a_name_of_the_catalog_and_a_ninth_key = refl

@@ -53,7 +53,7 @@ granted =
     accept (Install (rule_of 9 Enabled web 17 vid)) ∷ accept (Monitor vid 50 Rule)
     ∷ accept (Triggers (record no_triggers { usage_report = true })) ∷ []
 
--- 28 octets each are told when they are asked for, and 28 more don't reach the grant
+-- 28 octets are reported when a report is asked for, and 28 more don't reach the grant
 a_report_that_is_asked_for_begins_the_grant_anew :
     told (after_these (granted ++ flush (28 ∷ []) ∷ accept (ReportNow vid) ∷ flush (28 ∷ []) ∷ []))
     ≡ record { number = 0; body = Usage vid 28 Requested } ∷ []

@@ -28,7 +28,7 @@ told_of : (key : List ℕ) (cause : Cause) (keys : List (List ℕ)) → list_any
 told_of key cause [] = refl
 told_of key cause (k ∷ keys) = ap (λ b. same_name key k || b) (told_of key cause keys)
 
--- what is told of keys that end, and what is told as requested, is told
+-- a report of a key that ends is in the plan, and so is one that was requested
 by_end : (p : Setting) (j : Journal) (c : Command) (key : List ℕ) → list_any (is_usage_of key) (keys_ended p j c) ≡ true → list_any (is_usage_of key) (plan p j c) ≡ true
 by_end p j c key told = any_back (is_usage_of key) (inactive (now p j) c) _ (any_front (is_usage_of key) (keys_ended p j c) _ told)
 

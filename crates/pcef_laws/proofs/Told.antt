@@ -1,4 +1,4 @@
--- A usage report tells all that is unreported.
+-- A usage report has all octets that are unreported.
 use Rattle.std.proofs.Common.{◌≡◌, ◌∙◌, ℕ, List, [], ◌∷◌, refl, sym, arith, true}
 use Rattle.pcef_model.specs.declared.pending_report.PendingReport.TheVariants.{Usage}
 use Rattle.pcef_model.specs.declared.report.Cause.{Cause}

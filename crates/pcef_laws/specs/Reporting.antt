@@ -53,7 +53,7 @@ Ascends (name ∷ names) = AllByRecursion (λ later. is_lt (slice_cmp nat_cmp la
 abbrev pub names_on : Generation → BearerId → List (List ℕ)
 names_on g id = map (λ r. r.properties.name) (filter (λ r. g.id_of r.properties.qos == id.0) g.rules)
 
--- the rules of a lost bearer are told by their names in ascending order, each once
+-- the rules of a lost bearer are reported in ascending order of their names, each once
 abbrev pub LostRulesAreReportedInOrder : Type 0
 LostRulesAreReportedInOrder = (g : Generation) (id : BearerId) →
     (told : List (List ℕ)) × (inactive g (LoseBearer id) ≡ map Inactive told) × IsPermutation (names_on g id) told × Ascends told

@@ -5,10 +5,10 @@ ghost use Rattle.pcef_laws.specs.Bearing.{NewBearersTakeTheLeastId};
 ghost use Rattle.pcef_laws.specs.Deciding.{OneDecidesWhereSomeFit};
 ghost use Rattle.pcef_laws.specs.Places.{SlotsStayInPlace};
 
-/// Reports (TS 29.212, clauses 4.5.16 and 4.5.17): while usage reports are subscribed, each key that is on has fewer
-/// unreported octets than its grant between two events; a key goes off only with a report of it; right after a usage
-/// report of a key all that was counted for it is reported; and after a Terminate nothing is unreported any more, whatever follows. The rules of
-/// a lost bearer are told in the order of their names (TS 29.212, clause 5.3.18).
+/// Reports (TS 29.212, clauses 4.5.16 and 4.5.17). While usage reports are subscribed, each key that is on has fewer
+/// unreported octets than its grant between two events. A key goes off only with a report of it. Right after a usage
+/// report of a key, all that was counted for it is reported. After a Terminate nothing is unreported any more, whatever
+/// follows. The rules of a lost bearer are reported in the order of their names (TS 29.212, clause 5.3.18).
 pub fn reports_say_what_is_due()
     ensures grants { GrantsAreReported }
     ensures off { KeysGoOffWithAReport }

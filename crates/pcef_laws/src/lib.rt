@@ -1,4 +1,4 @@
-//! Laws that characterize the definitions: each says in other words what they come to, so that a definition that says
+//! Laws that characterize the definitions. Each states in other words what follows from them: a definition that says
 //! something else breaks one.
 //!
 //! Its contracts say: what holds of bearers, of decisions, of reports, of grants and of slots in every lawful journal.

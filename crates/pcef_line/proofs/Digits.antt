@@ -10,7 +10,7 @@ abbrev or_255 : Option ℕ → ℕ
 or_255 (Some v) = v
 or_255 None = 255
 
--- the values of so many codes, from one on
+-- the values of `n` codes, from `a` on
 abbrev pub values_from : ℕ → ℕ → List ℕ
 values_from a zero = []
 values_from a (suc n) = or_255 (hex_digit_value a) ∷ values_from (a + 1) n

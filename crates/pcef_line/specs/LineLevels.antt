@@ -1,4 +1,4 @@
--- The level of a monitoring key, as a line tells it (own choice).
+-- The level of a monitoring key, as a line states it (own choice).
 use Rattle.std.specs.Prelude.{List, ℕ, Option, Some, None, Result, Ok, codes, if◌then◌else◌}
 use Rattle.std.specs.Str.{bytes_eq}
 use Rattle.serde_json.specs.Data.{Data}

@@ -1,5 +1,5 @@
--- The values of fields, each with its faults in their order. A fault names the field `told`: the
--- field itself, or the one whose object it stands in (own choice; JSON: RFC 8259).
+-- The values of fields, each with its faults in their order. A fault names the field itself, or the
+-- one whose object it stands in (own choice; JSON: RFC 8259).
 use Rattle.std.specs.Prelude.{ℕ, List, length, codes, Bool, ◌&&◌, Option, Some, None, option_and_then, is_some, Result, if◌then◌else◌}
 use Rattle.std.specs.Str.{bytes_eq}
 use Rattle.std.specs.List.{list_all}

@@ -12,8 +12,8 @@ use std::alloc::AllocFailed;
 use std::error::Error;
 use std::fmt::{self, Display, Formatter, Write};
 
-/// Why a line can't be read. Of several faults that of the lowest number is answered up to
-/// [`LineFault::UnknownField`], and then that of the first field in the order of checking.
+/// Why a line can't be read. Of several faults up to [`LineFault::UnknownField`] the one of the lowest number is
+/// answered; of the others, the one whose field is checked first.
 #[derive(Clone, Copy, Debug, PartialEq, Eq)]
 pub enum LineFault {
     /// The line has more than 262,144 bytes.

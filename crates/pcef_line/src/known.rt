@@ -80,7 +80,8 @@ fn rule_is_known(rule: &Value) -> bool
             .is_none_or(|gbr| has_only(OF_GBR, gbr))
 }
 
-/// Whether each object in a line with this word, that stands where an object belongs, has only fields that it may have.
+/// Whether each object in a line with this word has only fields that it may have. An object that stands where none
+/// belongs isn't checked.
 fn inner_is_known(word: Word, line: &Value) -> bool
     ensures { result ≡ inner_is_known word (view line.now) }
 {
@@ -90,8 +91,8 @@ fn inner_is_known(word: Word, line: &Value) -> bool
     }
 }
 
-/// Whether a line with this word, and each object in it that stands where an object belongs, has only
-/// fields that it may have.
+/// Whether a line with this word, and each object in it, has only fields that it may have. An object that stands where
+/// none belongs isn't checked.
 pub(crate) fn is_known(word: Word, line: &Value) -> bool
     ensures { result ≡ is_known word (view line.now) }
 {

@@ -31,7 +31,7 @@ fn level_word(line: &Value) -> Result<Level, LineFault>
     }
 }
 
-/// The level that a line tells, or rule level.
+/// The level that a line states, or rule level.
 #[tactic(auto, unfolding(crate::specs::LineLevels::level_at))]
 pub(crate) fn level_field(line: &Value) -> Result<Level, LineFault>
     ensures { Gives (λ l. l) result (level_at (view line.now)) }

@@ -5,8 +5,8 @@ ghost use Rattle.std.specs.Bool.{MatchBool};
 ghost use Rattle.hex.specs.Hex.{decode_of, hex_digit_value, pair_value};
 ghost use Rattle.hex.specs.declared.error.FromHexError.{FromHexError};
 
-/// The value of each code as a digit of either case, and 255 of one that is none. Digits of packets come in no order,
-/// so that a look here is faster than a test whose answer no processor foresees.
+/// The value of each code as a digit of either case, and 255 of one that is none. The digits of a packet are in no
+/// order that a branch predictor learns, so a table is faster than a test.
 const DIGITS: [u8; 256] = [
     255, 255, 255, 255, 255, 255, 255, 255, 255, 255, 255, 255, 255, 255, 255, 255, 255, 255, 255,
     255, 255, 255, 255, 255, 255, 255, 255, 255, 255, 255, 255, 255, 255, 255, 255, 255, 255, 255,

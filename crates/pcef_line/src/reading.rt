@@ -37,7 +37,7 @@ fn word_field(line: &Value) -> Result<Word, LineFault>
     }
 }
 
-/// What the fields of a line with this word tell.
+/// Reads the fields of a line that has this word.
 #[tactic(auto, unfolding(crate::specs::LineOf::fields_at))]
 fn fields(alloc: Global, word: Word, line: &Value) -> Result<Line, LineFault>
     ensures { Gives (λ l. l) result (fields_at reading_of word (view line.now)) }
@@ -89,9 +89,10 @@ fn line_of(alloc: Global, text: &str) -> Result<Line, LineFault>
     }
 }
 
-/// The line that a text is, or its first fault, of which there is one ([`one_line`](crate::one_line)). Whole
-/// numbers are JSON numbers without fraction and exponent below 2^64; of a key that stands twice in an object the
-/// last value counts. Takes memory; want of it is answered in place of any line or fault.
+/// The line that a text is, or its first fault. For each text exactly one of these is due
+/// ([`one_line`](crate::one_line)). Whole numbers are JSON numbers without fraction and exponent below 2^64; of a key
+/// that stands twice in an object the last value counts. Takes memory; out of memory is answered in place of any line
+/// or fault.
 pub fn read_line(alloc: Global, text: &str) -> Result<Line, LineFault>
     ensures { (due : Result Line LineFault) × LineOf text.now due × Gives (λ l. l) result due }
 {
@@ -116,7 +117,7 @@ impl LineReader {
     }
 
     /// The line that a text is, or its first fault, as [`read_line`] answers it. The reader may go on after a fault.
-    /// Takes memory; want of it is answered in place of any line or fault.
+    /// Takes memory; out of memory is answered in place of any line or fault.
     pub fn read(&mut self, alloc: Global, text: &str) -> Result<Line, LineFault>
         ensures { (due : Result Line LineFault) × LineOf text.now due × Gives (λ l. l) result due }
     {

@@ -1,5 +1,5 @@
-//! Lines in their canonical spelling, which are compared with it before any token is read: `take`, `flush` and `refresh`
-//! without a space, their fields in the usual order.
+//! Lines in their canonical spelling, which are compared with it before any token is read: `take`, `flush` and
+//! `refresh` without a space, their fields in the usual order.
 
 ghost use Rattle.std.specs.Prelude.{◌≡◌, ◌≤◌, ◌++◌, IfSome, Ok};
 ghost use Rattle.std.specs.Fmt.{decimal};

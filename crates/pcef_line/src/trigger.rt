@@ -96,7 +96,7 @@ fn lists(values: &[Value], trigger: Trigger) -> bool
     values.iter().any(|value| is_word(value, trigger))
 }
 
-/// The set that a list of triggers tells.
+/// The set of the triggers in a list.
 pub(crate) fn set_of(values: &[Value]) -> TriggerSet
     ensures { result ≡ set_of (items_view values.now) }
 {

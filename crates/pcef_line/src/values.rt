@@ -16,7 +16,7 @@ use pcef_rule::Name;
 use serde_json::Value;
 use std::alloc::Global;
 
-/// The value of a field. A fault names `told`: the field itself, or that of the object it stands in.
+/// The value of a field. A fault names the field itself, or the one whose object it stands in.
 #[tactic(auto, unfolding(crate::specs::LineValues::member_at))]
 pub(crate) fn member(object: &Value, field: Field, told: Field) -> Result<&Value, LineFault>
     ensures { Gives (λ v. view v.now) result (member_at field told (view object.now)) }

@@ -3,7 +3,7 @@ use Rattle.std.specs.Prelude.{◌≡◌, ◌⊎◌, ℕ, nat_le, List, Bool, tru
 use Rattle.std.specs.Str.{bytes_eq}
 use Rattle.std.specs.List.{list_any}
 
--- what comes next is read with what came before at hand; a fault is the end
+-- the next thing is read by what was read before; a fault is the end
 infixl 10 ◌>>=◌
 abbrev pub ◌>>=◌ : {A B E : Type 0} → Result A E → (A → Result B E) → Result B E
 (Ok x) >>= next = next x
@@ -26,7 +26,7 @@ abbrev pub under : {A E F : Type 0} → (E → F) → Result A E → Result A F
 under name (Ok x) = Ok x
 under name (Err e) = Err (name e)
 
--- What is answered, seen by `view`, is what is due. Where memory ran out, nothing is said.
+-- What is returned, seen by `view`, is what is due. When out of memory, it says nothing.
 abbrev pub GivesUnless : {X Y E : Type 0} → E → (X → Y) → Result X E → Result Y E → Type 0
 GivesUnless no_memory view (Ok x) due = due ≡ Ok (view x)
 GivesUnless no_memory view (Err e) due = (e ≡ no_memory) ⊎ (due ≡ Err e)

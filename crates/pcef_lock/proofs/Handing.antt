@@ -32,7 +32,7 @@ use Rattle.pcef_lock.proofs.Judged.{all_right, right_slots}
 use Rattle.pcef_lock.proofs.Keeps.{locked, own_sound, sound_after}
 use Rattle.pcef_lock.proofs.Publications.{published_same}
 
--- the rows of a lane, and so many more, fit 64 bits
+-- the rows of a lane, and `n` more, fit 64 bits
 pub end_fits : (p : Setting) (first : ℕ) (s : SessionModel) (ts : List TableValue) (b : Account) (places free worker m n : ℕ) → IsSound p first (locked s ts b places) free → m ≡ lane_len s.journal worker → n ≤ 32 → m + n < 2 ^ 64
 end_fits p first s ts b places free worker m n is m_is small = omega (arith, m_is, lane_few worker (rows s.journal), is.few_rows, is.most_rows, small)
 

@@ -105,7 +105,7 @@ settled_gains s t (Unchanged name) a m n idle gives m_is n_is =
     let none : n - m ≡ 0 = omega (arith, same, m_is, n_is) in
     (omega (arith, same, m_is, n_is), λ xs. rw done.0 (ap (plus xs command_ledger) none ∙ plus_none xs command_ledger))
 
--- ---- a worker comes
+-- ---- a worker is attached
 pub sound_attached : (p : Setting) (first : ℕ) (s t : SessionModel) (ts : List TableValue) (b c : Account) (places free left number : ℕ) → AttachStep s.journal (Ok number) t.journal → t.setting ≡ s.setting →
     c ≡ record b { issued = b.issued + 1 } → left + 1 ≡ free → IsSound p first (locked s ts b places) free → IsSound p first (locked t ts c places) left
 unfolding attach_count

@@ -59,7 +59,7 @@ slots_step own i d o t u all within new before =
 pub slots_end : (own : List Slot) (i o : ℕ) (t all : List ℕ) → length own ≤ i → with_slots t (drop i own) o ≡ all → t ≡ all
 slots_end own i o t all past before = sym (ap (λ xs. with_slots t xs o) (drop_all i own past)) ∙ before
 
--- the totals of these slots can take so many octets more
+-- the totals of these slots can take `o` octets more
 abbrev pub TakeMore : List Slot → ℕ → List ℕ → Type 0
 TakeMore own o t = (n : ℕ) → n < 8 → is_one_of n own ≡ true → slice_index t n + o < 2 ^ 64
 

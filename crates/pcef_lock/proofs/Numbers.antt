@@ -11,7 +11,7 @@ use Rattle.pcef_model.specs.Reports.{after_command, plan, tell, thresholds, with
 use Rattle.pcef_model.specs.Setting.{Setting}
 use Rattle.pcef_lock.specs.Reports.{AreNumbered}
 
--- the newest first, each tells how many stand before it
+-- the newest first, the number of each is how many stand before it
 unfoldable Counted : List Report → Type 0
 Counted [] = Unit {0}
 Counted (r ∷ rs) = (r.number ≡ length rs) × Counted rs

@@ -1,4 +1,4 @@
--- The subscriber that comes next.
+-- The subscriber of the next worker.
 use Rattle.std.proofs.Common.{◌≡◌, ◌∙◌, ◌<◌, ◌-◌, ℕ, zero, suc, List, [], ◌∷◌, ◌++◌, length, refl, sym, ap, arith, Some, length-set}
 use Rattle.std.specs.Prelude.{slice_get, slice_set}
 use Rattle.std.proofs.lemmas.List.{length_push}
@@ -12,7 +12,7 @@ set_here (y ∷ xs) (suc n) x inside = set_here xs n x (omega (arith, inside))
 some_same : {X : Type 0} (x y : X) → Some x ≡ Some y → x ≡ y
 some_same x y same = cc
 
--- who comes next is the last, which just took the newest table
+-- the next worker's is the last one, which just took the newest table
 pub next_is_ready : {X : Type 0} (old ready rest : List X) (newest next : X) → 0 < length old → ready ≡ slice_set old (length old - 1) newest → ready ≡ rest ++ next ∷ [] → next ≡ newest
 next_is_ready old ready rest newest next some set popped =
     let count : length ready ≡ length old = ap length set ∙ length-set old (length old - 1) newest in

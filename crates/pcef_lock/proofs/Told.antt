@@ -1,4 +1,4 @@
--- What is told of rows that are taken over.
+-- The answer to rows that are taken over.
 use Rattle.std.proofs.Common.{◌≡◌, ℕ, List, Option, Some, None, Ok, inl, inr, length, map}
 use Rattle.pcef_model.specs.Setting.{Setting}
 use Rattle.pcef_model.specs.Entries.{Journal}
@@ -12,7 +12,7 @@ rows_told : (p : Setting) (j : Journal) (rows : List Row) (refusal : Option Flus
 rows_told p j rows None answer told = cc
 rows_told p j rows (Some r) answer told = absurd cc
 
--- a flush tells each row that it takes over
+-- a flush answers with each row that it takes over
 pub flush_answered : (p : Setting) (worker : ℕ) (rows : List Row) (j k : Journal) (answer : FlushAnswer) →
     FlushStep p worker rows j (Ok answer) k → answer.rows ≡ map judged_of rows
 unfolding flush_outcome

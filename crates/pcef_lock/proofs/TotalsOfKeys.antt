@@ -46,7 +46,7 @@ total_here p j states amounts n s agree few books within is =
     let rest : s.unreported ≡ unreported p j s.key = omega (arith, agrees.reported_is, agrees.counted_is) in
     rw (book, agrees.reported_is, rest) refl
 
--- the first so many totals, with the next one
+-- the first `n` totals, with the next one
 pub totals_more : (p : Setting) (j : Journal) (states : List KeyState) (n : ℕ) (s : KeyState) → n < length states → s ≡ get_or states n s
     → map (λ (x : KeyState). total_of p j x.key) (take (n + 1) states) ≡ map (λ (x : KeyState). total_of p j x.key) (take n states) ++ total_of p j s.key ∷ []
 totals_more p j states n s within is =

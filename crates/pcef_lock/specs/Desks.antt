@@ -29,7 +29,7 @@ listed (Err r) c cs = cs
 abbrev pub desk_shares : Journal → List ℕ
 desk_shares j = plus zeros command_ledger (length (commands j))
 
--- the books of a session to which no worker ever came: its commands, and the share of its desk
+-- the books of a session to which no worker was ever attached: its commands, and the share of its desk
 abbrev pub first_books : Journal → Account
 first_books j = record { totals = desk_shares j; issued = 1 }
 

@@ -25,7 +25,7 @@ own_list worker handed = option_map (λ h. map row_of h.items) (find (λ h. h.wo
 abbrev pub HasLane : Journal → List HandedIn → ℕ → Type 0
 HasLane j handed worker = own_list worker handed ≡ Some (reverse (lane j worker))
 
--- so it is for every worker that ever came
+-- so it is for every worker that was ever attached
 abbrev pub HaveLanes : Journal → List HandedIn → Type 0
 HaveLanes j handed = (worker : ℕ) → worker < attach_count j → HasLane j handed worker
 
@@ -62,7 +62,7 @@ key_totals p j = map (total_of p j) (slots p j)
 abbrev pub AreGathered : List KeyTotal → List HandedIn → Type 0
 AreGathered keys handed = (n : ℕ) (k : KeyTotal) → slice_get keys n ≡ Some k → k.counted ≡ gathered n handed
 
--- ---- whether totals are had
+-- ---- whether there are totals
 -- the session stores its rows, and each worker its own list: so lists are compared
 abbrev pub AreCompared : Bool → List HandedIn → Type 0
 AreCompared keeps handed = (keeps ≡ true) × All (λ h. h.keeps ≡ true) handed
@@ -72,8 +72,9 @@ abbrev pub AgreeWith : Journal → List Command → List HandedIn → Type 0
 AgreeWith j listed handed = HaveLanes j handed × (listed ≡ reverse (commands j))
 
 -- What the desk and the workers handed in adds up to this, with the session's journal (a pool is there or not): all
--- workers that came are there; where lists are compared, they agree; and for each key the octets that the journal's
--- rows passed for it, those of all own lists, and those that were reported and that weren't are one number.
+-- workers that were attached are there; where lists are compared, they agree; and for each key three sums of octets are
+-- the same: those that the journal's rows passed for it, those of all own lists, and the reported with the unreported
+-- ones.
 pub record AddUpTo {l : Type 0} (p : Setting) (is_there : Bool) (listed : List Command) (handed : List HandedIn) (t : Totals l) : Type 0 where
   pub setting_is : t.session.setting ≡ p
   pub many : length handed ≡ attach_count t.session.journal
@@ -88,12 +89,13 @@ pub record AddUpTo {l : Type 0} (p : Setting) (is_there : Bool) (listed : List C
   pub abandoned_are : t.abandoned ≡ rows_abandoned handed
   pub rates_are : t.rates ≡ rates_due is_there p t.session.journal
 
--- as many are handed in as workers came, and what is compared agrees with the journal
+-- as many are handed in as workers were attached, and what is compared agrees with the journal
 abbrev pub CanGather : Bool → Journal → List Command → List HandedIn → Type 0
 CanGather compared j listed handed = (attach_count j ≤ length handed) × (compared ≡ true → AgreeWith j listed handed)
 
--- Why there are no totals, the first that holds: so many workers fewer were handed in than came (that none is handed in
--- twice is the caller's condition); the lane of this worker isn't its own list; the desk's list isn't the journal's commands.
+-- Why there are no totals, the first reason that holds: `n` of the workers that were attached weren't handed in (that
+-- none is handed in twice is the caller's condition); the lane of this worker isn't its own list; the desk's list isn't
+-- the journal's commands.
 abbrev pub IsAtFault : Journal → List Command → List HandedIn → GatherFault → Type 0
 IsAtFault j listed handed (WorkersOut n) = (n + length handed ≡ attach_count j) × (0 < n)
 IsAtFault j listed handed (LaneDiffers w) = (attach_count j ≤ length handed) × (w < attach_count j) × (HasLane j handed w → ⊥)

@@ -6,7 +6,7 @@ use Rattle.pcef_model.specs.Journals.{lane_len}
 use Rattle.pcef_model.specs.Lawful.{newest_generation}
 use Rattle.pcef_session.specs.declared.batch.Item.{Item}
 
--- a row that comes next in a lane of so many rows, of which this is the newest generation
+-- a row that comes next in a lane of `rows` rows, the newest of them by `generation`
 abbrev pub is_next : ℕ → ℕ → ℕ → Row → Bool
 is_next worker rows generation r = (r.worker == worker) && ((r.seq == rows) && nat_le generation r.generation)
 

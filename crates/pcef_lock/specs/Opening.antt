@@ -1,4 +1,4 @@
--- What a session goes by behind its lock, and why it didn't come there.
+-- What a session goes by behind its lock, and why it wasn't put there.
 use Rattle.std.specs.Prelude.{ℕ, ◌≡◌, List, Result, Ok, Err}
 use Rattle.logbook.specs.Pages.{Book}
 use Rattle.pcef_model.specs.Journals.{gen}

@@ -21,17 +21,17 @@ use Rattle.pcef_lock.specs.Lanes.{continues_lane}
 use Rattle.pcef_lock.specs.Locked.{Locked}
 use Rattle.pcef_lock.specs.Seats.{seat_number}
 
--- a worker comes as to any session; where all places were taken, there is none
+-- a worker is attached as to any session; where all places were taken, there is none
 abbrev pub SeatStep : ℕ → ℕ → Journal → Result ℕ AttachFault → Journal → Type 0
 SeatStep issued places before result after =
     (issued ≡ places + 1 → Gives (Err NoPlace, before) result after) × (issued ≢ places + 1 → AttachStep before result after)
 
--- a share more is issued where a worker came
+-- a share more is issued where a worker was attached
 abbrev pub with_share : {A E : Type 0} → Result A E → Account → Account
 with_share (Ok a) books = record books { issued = books.issued + 1 }
 with_share (Err e) books = books
 
--- what is told of rows that are taken over: the generation and the verdict of each, in order
+-- the answer to rows that are taken over: the generation and the verdict of each, in order
 abbrev pub judged_rows : List Item → List Judged
 judged_rows items = map judged_of (map row_of items)
 
@@ -60,7 +60,7 @@ LeaveStep p worker items before result after =
     (flushed : Journal) × HandOverStep p worker items before result flushed × (after ≡ after_last result worker flushed)
 
 -- ---- the value behind the lock, before and after
--- a worker that comes is answered as due
+-- attaching a worker is answered as due
 abbrev pub AnswersSeat : {l : _} → Locked → Result (Seat l) AttachFault → Locked → Type 0
 AnswersSeat before result after =
     SeatStep before.books.issued before.places before.session.journal (result_map_both seat_number (λ e. e) result) after.session.journal
@@ -75,7 +75,7 @@ abbrev pub AnswersLeave : {l : _} → Setting → ℕ → List Item → Locked �
 AnswersLeave p worker items before result after =
     LeaveStep p worker items before.session.journal (flushed_of (result_map_both last_verdicts (λ e. e) result)) after.session.journal
 
--- ---- what is told through the lock: it is due after some lawful journal
+-- ---- answers through the lock: each is due after some lawful journal
 abbrev pub IsDueToSeat : {l : _} → Setting → Result (Seat l) AttachFault → Type 0
 IsDueToSeat p result = (before : Locked) × (after : Locked) × Lawful p before.session.journal × AnswersSeat before result after
 

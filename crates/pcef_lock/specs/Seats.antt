@@ -11,7 +11,8 @@ use Rattle.pcef_lock.specs.declared.seat.Seat.{Seat}
 abbrev pub seat_number : {l : _} → Seat l → ℕ
 seat_number s = s.worker
 
--- the seat of a worker that comes: nothing is counted into its shares, and it has seen these tables
+-- the seat of a worker that is attached: nothing is counted into its shares, and it has seen these
+-- tables
 abbrev pub IsNewSeat : {l : _} → Setting → List TableValue → Seat l → Type 0
 IsNewSeat p tables s = (s.shares ≡ zeros) × (s.subscriber ≡ tables) × (s.ue ≡ p.ue)
 

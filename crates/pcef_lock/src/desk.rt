@@ -18,14 +18,14 @@ use std::marker::Model;
 use std::sync::Wait;
 
 /// Gives the commands of a session and collects its reports. It keeps a list of the commands that were accepted and
-/// changed something, and as many are in its share of them.
+/// changed something; its share counts as many.
 pub struct Desk<N: Naming> {
     commands: Vec<Command>,
     shares: Shares<N>,
     collected: u64,
 }
 
-// Written out, so that an owner proves one call at each way out.
+// Written out, so that an owner proves one call on each return path.
 impl<N: Naming> Drop for Desk<N> {
     fn drop(self) {
         let Desk {
@@ -67,7 +67,7 @@ pub fn commands_so_far(alloc: Global, session: &JournaledState) -> Result<Vec<Co
 }
 
 impl<N: Naming> Desk<N> {
-    /// A desk with these commands, which are as many as its shares hold, and no report collected.
+    /// A desk with these commands, as many as its shares hold, and no report collected.
     pub fn new(commands: Vec<Command>, shares: Shares<N>) -> Desk<N>
         requires { shares ≡ plus zeros command_ledger (length commands.items) }
         ensures { result ≡ record { commands = commands.items; collected = 0 } }
@@ -98,9 +98,9 @@ impl<N: Naming> Desk<N> {
         shares
     }
 
-    /// Gives a command, as [`crate::State::command`] answers it, or, for a session on a pool,
-    /// [`crate::State::command_within`]. One that is accepted and changes something comes to
-    /// the desk's list and into its share. Takes memory, and may meet want of it before another refusal is seen.
+    /// Gives a command, and answers as [`crate::State::command`] does, or, for a session on a pool, as
+    /// [`crate::State::command_within`]. A command that is accepted and changes something is added to the desk's list
+    /// and to its share. Takes memory, and may answer out of memory before another refusal is seen.
     pub fn command<C: Offers + Drop, W: Board<Cell<N>> + Drop, P: Pooling, R: Wait>(
         &mut self,
         rt: &R,

@@ -18,7 +18,7 @@ pub struct Finished<N: Naming> {
     shares: Shares<N>,
 }
 
-// Written out, so that an owner proves one call at each way out.
+// Written out, so that an owner proves one call on each return path.
 impl<N: Naming> Drop for Finished<N> {
     fn drop(self) {
         let Finished {
@@ -48,7 +48,7 @@ impl<N: Naming> Model for Finished<N> {
 }
 
 impl<N: Naming> Finished<N> {
-    /// What a worker hands in that left so, and whose shares count these rows.
+    /// What a worker that left so hands in. Its shares count these rows.
     pub fn new(departure: Departure<N>, rows: OwnRows, shares: Shares<N>) -> Finished<N>
         requires { shares ≡ with_items zeros rows.items }
         ensures { result ≡ record {

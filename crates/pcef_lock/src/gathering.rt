@@ -17,10 +17,10 @@ use pcef_session::{Item, SessionState};
 use pcef_share::{Naming, NoPool, Pooling, RateShares};
 use thiserror::Error;
 
-/// Why no totals were had. The reasons are looked for in this order.
+/// Why there are no totals. The reasons are looked for in this order.
 #[derive(Clone, Copy, Debug, PartialEq, Eq, Error)]
 pub enum GatherFault {
-    /// So many of the workers that ever came weren't handed in, from 1 to 16.
+    /// Workers that were attached, 1 to 16 of them, weren't handed in.
     #[error("workers that were not handed in: {0}")]
     WorkersOut(u8),
     /// The own list of this worker isn't its lane.
@@ -116,7 +116,7 @@ fn has_lane<N: Naming>(session: &JournaledState, finished: &[Finished<N>], worke
     }
 }
 
-/// The first of so many workers whose lane differs.
+/// The first of the workers below `workers` whose lane differs from its own list.
 pub(crate) fn first_difference<N: Naming>(
     session: &JournaledState,
     finished: &[Finished<N>],
@@ -137,8 +137,8 @@ pub(crate) fn first_difference<N: Naming>(
     None
 }
 
-/// The first of what is stored that isn't as the journal has it: the own list of one of so many workers, or the list of
-/// the desk.
+/// The first stored list that differs from the journal: the own list of one of the workers below `workers`, or the list
+/// of the desk.
 fn difference<N: Naming>(
     session: &JournaledState,
     listed: &[Command],
@@ -162,7 +162,8 @@ fn difference<N: Naming>(
     None
 }
 
-/// Why no totals can be had of a session to which so many workers came, if they can't. The session's journal is lawful.
+/// Why there are no totals of a session to which `workers` workers were attached, if there are none. The session's
+/// journal is lawful.
 pub(crate) fn gather_fault<N: Naming>(
     session: &JournaledState,
     listed: &[Command],

@@ -40,7 +40,7 @@ pub struct KeyTotals {
     totals: ArrayVec<KeyTotal, 8, Vacant>,
 }
 
-// Written out, so that an owner proves one call at each way out.
+// Written out, so that an owner proves one call on each return path.
 impl Drop for KeyTotals {
     fn drop(self) {
         let KeyTotals { totals: _ } = self;

@@ -11,7 +11,7 @@ use pcef_lane::LaneEnd;
 use pcef_model::Row;
 use pcef_session::Item;
 
-/// Where the lane of a worker ends. A worker that never came has no rows.
+/// Where the lane of a worker ends. A worker that was never attached has no rows.
 pub(crate) fn end_of(session: &JournaledState, worker: u8) -> LaneEnd
     ensures rows { result.rows ≡ lane_len session.now.session.journal worker }
     ensures generation { result.newest_generation
@@ -27,7 +27,7 @@ pub(crate) fn end_of(session: &JournaledState, worker: u8) -> LaneEnd
     }
 }
 
-/// Whether a row may come next in a lane of so many rows, of which this is the newest generation.
+/// Whether a row may come next in a lane of `rows` rows, the newest of them by `generation`.
 fn is_next(row: &Row, worker: u8, rows: u64, generation: u32) -> bool
     ensures { result ≡ is_next worker rows generation row.now }
 {

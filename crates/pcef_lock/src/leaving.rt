@@ -22,7 +22,7 @@ pub struct Departure<N: Naming> {
     name: PhantomData<N>,
 }
 
-// Written out, so that an owner proves one call at each way out.
+// Written out, so that an owner proves one call on each return path.
 impl<N: Naming> Drop for Departure<N> {
     fn drop(self) {
         let Departure {
@@ -68,7 +68,7 @@ impl<N: Naming> Departure<N> {
     }
 }
 
-/// What a worker is told that finishes.
+/// The answer to a worker that finishes.
 #[derive(Drop)]
 pub struct LastFlush<N: Naming> {
     /// That it left.

@@ -4,8 +4,8 @@
 //! Its contracts say: what each hold of the lock finds, what each call in it answers and changes, and what all adds up
 //! to at the end.
 //!
-//! In the order of reading: `own_rows`, `leaving`, `finished`, `key_totals`, `pool`, `seat`, `sameness`, `gathering`, `counting`,
-//! `lanes`, `pooled_share`, `publishing`, `state`, `shared`, `desk`, `opening`.
+//! In the order of reading: `own_rows`, `leaving`, `finished`, `key_totals`, `pool`, `seat`, `sameness`, `gathering`,
+//! `counting`, `lanes`, `pooled_share`, `publishing`, `state`, `shared`, `desk`, `opening`.
 #![tactic(auto)]
 
 mod counting;

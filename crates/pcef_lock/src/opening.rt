@@ -1,4 +1,4 @@
-//! Sessions that come behind a lock.
+//! Sessions that are put behind a lock.
 
 ghost use Rattle.std.specs.Prelude.{◌≡◌, ◌≢◌, ◌≤◌, ◌<◌, ◌⊎◌, ◌↔◌, [], ◌∷◌, All, IfErr, IfOk, IsOk, IsTrue, OnErr, OnOk, length, reverse, true};
 ghost use Rattle.std.specs.Arc.{arc_value};
@@ -27,7 +27,7 @@ use std::alloc::{AllocError, Global};
 use std::sync::{Arc, Wait};
 use thiserror::Error;
 
-/// Why a session didn't come behind a lock. `Places` is looked for first.
+/// Why a session wasn't put behind a lock. `Places` is looked for first.
 #[derive(Clone, Copy, Debug, PartialEq, Eq, Error)]
 pub enum SharedFault {
     /// The number of workers is not 1 to 16.
@@ -52,7 +52,7 @@ pub fn open_history(session: &JournaledState) -> Result<Opened, AllocError>
     Ok(Opened::new(Arc::try_clone(session.session().indexed())?))
 }
 
-/// Why a session didn't come behind its lock whose first table wasn't published.
+/// The fault of a session whose first table wasn't published.
 fn fault_of(fault: PublishFault) -> SharedFault
     ensures { result ≡ unpublished fault }
 {
@@ -84,7 +84,7 @@ fn publish_first<N: Naming, R: Wait + Drop>(
     }
 }
 
-/// Whether so many places can be made.
+/// Whether a lock may have `places` places: 1 to 16.
 fn are_places(places: u8) -> bool
     ensures { IsTrue result ↔ ((0 < places) × (places ≤ 16)) }
 {
@@ -92,10 +92,10 @@ fn are_places(places: u8) -> bool
 }
 
 impl<N: Naming, R: Wait + Drop> State<N, Writer<N, R>> {
-    /// The value behind the lock of a session, with so many places for workers, and the shares of its desk, which hold
-    /// the session's commands so far. The condition of the caller: no worker ever came to the session, and the name is
-    /// that of the session, of the blanks and of a history that was opened with the session's newest table. The session
-    /// comes back with a fault; the opened history is then lost. Takes memory. May wait for readers.
+    /// The value behind the lock of a session, with `places` places for workers, and the shares of its desk, which hold
+    /// the session's commands so far. The condition of the caller: no worker was ever attached to the session, and the
+    /// name is that of the session, of the blanks and of a history that was opened with the session's newest table. A
+    /// fault gives the session back; the opened history is then lost. Takes memory. May wait for readers.
     // Apart, for inlined into `Shared::open` it takes LLVM a minute: the value is large, and is moved several times.
     #[inline(never)]
     pub fn open(
@@ -179,7 +179,7 @@ impl<N: Naming, R: Wait + Drop, P: Pooling> State<N, Writer<N, R>, P> {
     }
 }
 
-/// What comes back where a session didn't come behind its lock.
+/// What is given back where a session wasn't put behind its lock.
 #[derive(Drop)]
 pub struct Unopened<C: Drop> {
     /// Why.
@@ -202,9 +202,9 @@ fn lacks_memory(places: u8) -> SharedFault
 }
 
 impl<C: Offers + Drop, N: Naming, R: Wait + Drop> Shared<'_, C, N, Writer<N, R>> {
-    /// Puts a session behind its lock, with so many places for workers, beside a desk that has the session's commands
-    /// so far. The conditions of the caller are those of [`State::open`], and the catalog is that of the session.
-    /// Catalog and session come back with a fault; the opened history is then lost. Takes memory. May wait for readers.
+    /// Puts a session behind its lock, with `places` places for workers, beside a desk that has the session's commands
+    /// so far. The conditions of the caller are those of [`State::open`], and the catalog is that of the session. A
+    /// fault gives catalog and session back; the opened history is then lost. Takes memory. May wait for readers.
     pub fn open(
         rt: R,
         alloc: Global,

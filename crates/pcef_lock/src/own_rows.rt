@@ -18,7 +18,7 @@ pub struct OwnRows {
     stored: Option<Vec<Item>>,
 }
 
-// Written out, so that an owner proves one call at each way out.
+// Written out, so that an owner proves one call on each return path.
 impl Drop for OwnRows {
     fn drop(self) {
         let OwnRows {

@@ -16,7 +16,7 @@ pub struct Pool<P: Pooling> {
     pub(crate) state: Mutex<PoolState<P>>,
 }
 
-// Written out, so that an owner proves one call at each way out.
+// Written out, so that an owner proves one call on each return path.
 impl<P: Pooling> Drop for Pool<P> {
     fn drop(self) {
         let Pool { state: _ } = self;
@@ -40,8 +40,8 @@ impl<P: Pooling> Pool<P> {
     }
 
     /// As [`PoolState::gather`], of the value behind the lock, which ends with it: what the pool has granted is the sum
-    /// of the shares that its sessions hand in. No session is behind a lock on the pool any more. A share that was let
-    /// go stays missing. Takes no memory.
+    /// of the shares that its sessions hand in. No session is behind a lock on the pool any more. A dropped share stays
+    /// missing. Takes no memory.
     pub fn gather(
         self,
         shares: Vec<RateShares<P>>,

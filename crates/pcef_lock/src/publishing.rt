@@ -27,7 +27,7 @@ pub(crate) fn publish<N: Naming, W: Board<Cell<N>> + Drop>(
     }
 }
 
-/// The subscriber that comes next takes the newest table.
+/// Lets the subscriber of the next worker take the newest table.
 pub(crate) fn make_ready<N: Naming, W: Board<Cell<N>> + Drop>(
     subscribers: &mut Vec<Subscriber<N>>,
     publisher: &mut Publisher<N, W>,
@@ -42,7 +42,7 @@ pub(crate) fn make_ready<N: Naming, W: Board<Cell<N>> + Drop>(
     subscribers[last].meet(publisher)
 }
 
-/// The subscriber that comes next.
+/// Takes out the subscriber of the next worker.
 pub(crate) fn next_subscriber<N: Naming>(subscribers: &mut Vec<Subscriber<N>>) -> Subscriber<N>
     requires { 0 < length subscribers.old.items }
     ensures items { subscribers.old.items ≡ subscribers.new.items ++ result ∷ [] }

@@ -37,7 +37,7 @@ pub struct Shared<'p, C: Offers + Drop, N: Naming, W: Board<Cell<N>> + Drop, P: 
     pool: Option<&'p Pool<P>>,
 }
 
-// Written out, so that an owner proves one call at each way out.
+// Written out, so that an owner proves one call on each return path.
 impl<'p, C: Offers + Drop, N: Naming, W: Board<Cell<N>> + Drop, P: Pooling> Drop
     for Shared<'p, C, N, W, P> {
     fn drop(self) {
@@ -63,7 +63,7 @@ impl<'p, C: Offers + Drop, N: Naming, W: Board<Cell<N>> + Drop, P: Pooling> Mode
         × (is_some s.pool ≡ P.is_there) };
 }
 
-/// What is handed back where no totals were had: the reason, and all that was handed in. [`Shared::new`] puts the value
+/// What is given back where there are no totals: the reason, and all that was handed in. [`Shared::new`] puts the value
 /// behind a lock again.
 #[derive(Drop)]
 pub struct Ungathered<
@@ -203,9 +203,9 @@ impl<'p, C: Offers + Drop, N: Naming, W: Board<Cell<N>> + Drop, P: Pooling> Shar
         self.state.lock(rt).collect(from)
     }
 
-    /// As [`State::gather`], of the value behind the lock, which ends with it. For each monitoring key the octets that
-    /// the journal's rows passed for it, those of all workers' lists, and those that were reported and that weren't are
-    /// one number. Where lists are compared, each row stands in one worker's list, once.
+    /// As [`State::gather`], of the value behind the lock, which ends with it. For each monitoring key three sums of
+    /// octets are the same: those that the journal's rows passed for it, those of all workers' lists, and the reported
+    /// with the unreported ones. Where lists are compared, each row stands in one worker's list, once.
     pub fn gather<R: Wait>(
         self,
         rt: &R,

@@ -47,7 +47,7 @@ pub struct State<N: Naming, W: Board<Cell<N>> + Drop, P: Pooling = NoPool> {
     places: u8,
 }
 
-// Written out, so that an owner proves one call at each way out.
+// Written out, so that an owner proves one call on each return path.
 impl<N: Naming, W: Board<Cell<N>> + Drop, P: Pooling> Drop for State<N, W, P> {
     fn drop(self) {
         let State {
@@ -103,8 +103,8 @@ fn ue_of(session: &JournaledState) -> Addr
 }
 
 impl<N: Naming, W: Board<Cell<N>> + Drop, P: Pooling> State<N, W, P> {
-    /// The value behind the lock, of a session to which no worker ever came and whose tables are published, and the
-    /// shares of the desk, which hold the session's commands so far. A subscriber is there for each place.
+    /// The value behind the lock, of a session to which no worker was ever attached and whose tables are published, and
+    /// the shares of the desk, which hold the session's commands so far. A subscriber is there for each place.
     pub(crate) fn new(
         alloc: Global,
         session: JournaledState,
@@ -143,8 +143,8 @@ impl<N: Naming, W: Board<Cell<N>> + Drop, P: Pooling> State<N, W, P> {
         (state, shares)
     }
 
-    /// The session. Its journal is lawful, its published tables show its generations, and its books hold what its journal
-    /// counts.
+    /// The session. Its journal is lawful, its published tables show its generations, and its books hold what its
+    /// journal counts.
     pub fn session(&self) -> &JournaledState
         ensures session { result.now.session ≡ self.now.session }
         ensures lawful { Lawful N.setting self.now.session.journal }
@@ -169,9 +169,9 @@ impl<N: Naming, W: Board<Cell<N>> + Drop, P: Pooling> State<N, W, P> {
         self.books.totals()
     }
 
-    /// Does a command, whose table, if it makes one, is published with it, and counts it into the shares of the one
-    /// who gives it, unless it changed nothing; or answers the first refusal in the order of [`Refusal`], which
-    /// changes nothing. Takes memory. May wait for readers of the publication.
+    /// Does a command, publishes the table that it makes, if it makes one, and counts it into the shares of its giver,
+    /// unless it changed nothing. Or answers the first refusal in the order of [`Refusal`], which changes nothing.
+    /// Takes memory. May wait for readers of the publication.
     pub fn command(&mut self, shares: &mut Shares<N>, command: Command) -> Result<Accepted, Refusal>
         requires { P.is_there ≡ false }
         ensures answer { CommandStep N.setting command
@@ -241,8 +241,8 @@ impl<N: Naming, W: Board<Cell<N>> + Drop, P: Pooling> State<N, W, P> {
     }
 
     /// Attaches a worker, which then holds the newest table; or answers the first fault in the order of
-    /// [`AttachFault`], which changes nothing. There is no place too where as many workers came as the lock was made
-    /// for. Takes memory.
+    /// [`AttachFault`], which changes nothing. There is no place, either, once as many workers were attached as the
+    /// lock has places. Takes memory.
     pub fn attach(&mut self) -> Result<Seat<N>, AttachFault>
         ensures answer { AnswersSeat self.old result self.new }
         ensures rest { self.new ≡ record self.old {

@@ -13,7 +13,7 @@ pub(crate) enum End<'a> {
     Clean,
     /// All lines are answered, and some are at fault.
     Faults,
-    /// The profile has a fault, which is told already.
+    /// The profile has a fault, which is printed already.
     Profile,
     /// No session of the profile can be opened.
     Session(OpenFault),
@@ -40,7 +40,7 @@ impl End<'_> {
         }
     }
 
-    /// Tells why the program ends early, and gives its exit status. That it can't be told changes nothing.
+    /// Prints why the program ends early, and returns its exit status. A failing print changes nothing.
     pub(crate) fn report(&self, rt: &HostRuntime) -> u8
         ensures { result ≤ 4 }
     {

@@ -31,7 +31,7 @@ fn end_of<'a>(error: io::Error, other: End<'a>) -> End<'a> {
     }
 }
 
-/// Tells the fault of a profile.
+/// Prints the fault of a profile.
 fn report_profile_fault<'a>(rt: &HostRuntime, text: &str, fault: ReadProfileFault) -> End<'a> {
     if fault == ReadProfileFault::NoMemory {
         return End::NoMemory;
@@ -70,7 +70,7 @@ fn run<'a, T: Threads + Wait + Drop + Send + Sync + Copy + 'static>(
     }
 }
 
-/// Does what the arguments ask for, and gives the exit status.
+/// Does what the arguments ask for, and returns the exit status.
 fn status_with<T: Threads + Wait + Drop + Send + Sync + Copy + 'static>(
     starting: T,
     rt: &HostRuntime,

@@ -12,8 +12,8 @@ pub(crate) struct Options<'a> {
     pub profile: &'a str,
 }
 
-/// What the words ask for, of which the first is the program's name. Wrong words are clap's error, and so are the
-/// questions for help and for the version; out of memory too. Takes memory.
+/// What the words ask for; the first one is the program's name. Wrong words are clap's error, and so are the questions
+/// for help and for the version; out of memory too. Takes memory.
 pub(crate) fn parse_options<'a>(
     alloc: Global,
     words: &'a [String],

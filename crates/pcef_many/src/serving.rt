@@ -106,7 +106,7 @@ fn end_of_thread<T: Wait + Drop>(one: Ended<Way<T>>) -> Result<bool, ScriptFault
     }
 }
 
-/// What of two ends is told: a fault, and one that isn't the reader's before that.
+/// One end for two: a fault before none, and any other fault before the reader's.
 fn first_end(
     one: Result<bool, ScriptFault>,
     other: Result<bool, ScriptFault>,
@@ -118,7 +118,7 @@ fn first_end(
     }
 }
 
-/// What all threads come to, after the answers that wait are written.
+/// The end of all threads, after the answers that wait are written.
 fn end_of_all<T: Wait + Drop>(ran: Ran<Way<T>>) -> Result<bool, ScriptFault> {
     let Ran {
         threads,
@@ -159,7 +159,7 @@ fn serve_all<T: Threads + Wait + Drop + Send + Sync + Copy + 'static>(
     end_of_all(ran)
 }
 
-/// Serves lines in so many threads.
+/// Serves lines in `threads` threads.
 pub(crate) fn serve_in<'a, T: Threads + Wait + Drop + Send + Sync + Copy + 'static>(
     starting: T,
     rt: &HostRuntime,

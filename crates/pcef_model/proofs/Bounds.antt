@@ -83,7 +83,7 @@ few_else j (LoseBearer id) = omega arith
 few_else j Close = omega arith
 few_else j Terminate = omega arith
 
--- a command tells at most one report for each rule and each key, and one more
+-- a command has at most one report for each rule and each key, and one more
 pub few_planned : (p : Setting) (j : Journal) (c : Command) → length (plan p j c) ≤ length (now p j).rules + length (slots p j) + 1
 few_planned p j c =
     let first = length-append (inactive (now p j) c) (keys_ended p j c ++ (requested c ++ noticed j c)) in

@@ -27,7 +27,7 @@ use Rattle.pcef_model.proofs.JournalExtends.{attached_after_command}
 use Rattle.pcef_model.proofs.Reports.{reported_after_command}
 use Rattle.pcef_model.proofs.Sameness.{same_name_is}
 
--- ---- telling
+-- ---- reporting
 -- the journal with one report
 abbrev with_report : Setting → PendingReport → Journal → Journal
 with_report p t j = entry.Report (record { number = report_count j; body = body_of p j t }) ∷ j
@@ -42,7 +42,7 @@ unfolding with_reports
 tell_zero p [] j key none = none
 tell_zero p (t ∷ ts) j key none = tell_zero p ts (with_report p t j) key (one_zero p t j key none)
 
--- a key that is told has nothing unreported then
+-- a key that is reported has nothing unreported then
 abbrev tells : List ℕ → PendingReport → Bool
 tells key (Usage other cause) = same_name key other
 tells key _ = false
@@ -65,7 +65,7 @@ tell_clears p (t ∷ ts) j key is =
       | inr other ↦ let rest : list_any (tells key) ts ≡ true = rw other at is in tell_clears p ts (with_report p t j) key rest
     ]
 
--- ---- what a Terminate tells
+-- ---- what a Terminate reports
 -- a key that is on or has unreported octets
 abbrev wants_end : Setting → Journal → List ℕ → Bool
 wants_end p j k = is_among k (now p j).on || nat_lt 0 (unreported p j k)

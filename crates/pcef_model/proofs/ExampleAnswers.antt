@@ -142,7 +142,7 @@ a_terminate_after_a_close = refl
 abbrev ended : List Event
 ended = closed ++ leave 0 ∷ accept Terminate ∷ []
 
--- that the session was closed before isn't what is told
+-- the answer isn't that the session was closed before
 a_close_after_a_terminate_is_refused : IsRefusedAfter (session_on 9) ended Close Terminated
 unfolding answers_worked_out
 a_close_after_a_terminate_is_refused = refl

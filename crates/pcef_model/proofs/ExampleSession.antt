@@ -43,7 +43,7 @@ session_on qci = record {
   catalog = [];
 }
 
--- a UDP packet of so many octets from 198.51.100.7 port 53 to 10.0.0.2 port 5000
+-- a UDP packet of `octets` octets from 198.51.100.7 port 53 to 10.0.0.2 port 5000
 abbrev pub packet_of : ℕ → Header
 packet_of octets = record {
   dir = Down;
@@ -80,8 +80,8 @@ on_default = Passed web (record { 0 = 5 })
 abbrev pub row_of : ℕ → Row
 row_of octets = record { worker = 0; seq = 0; generation = 2; header = packet_of octets; verdict = on_default }
 
--- what happens: a command is accepted, worker 0 flushes packets of so many octets each, the next worker comes, or one
--- leaves
+-- what happens: a command is accepted, worker 0 flushes packets of these numbers of octets, the next worker is
+-- attached, or one leaves
 pub data Event : Type 0 where
   accept : Command → Event
   flush : List ℕ → Event

@@ -148,8 +148,8 @@ a_grant_that_is_not_reached :
 unfolding worked_out
 a_grant_that_is_not_reached = refl
 
--- a grant is told only while usage reports are subscribed, by whatever event comes then; a report that was asked for
--- leaves it
+-- a reached grant is reported only while usage reports are subscribed, by whatever event comes then; a report that was
+-- asked for leaves the grant
 a_grant_waits_for_the_subscription :
     told (history (session_on 9)
     (web_rule ∷ monitor vid 28 ∷ flush (28 ∷ []) ∷ accept (ReportNow vid) ∷ flush (40 ∷ []) ∷ subscribe_usage ∷ flush (50 ∷ []) ∷ monitor vid 50 ∷ []))
@@ -183,7 +183,7 @@ it_is_off : (now (session_on 9) stopped).on ≡ []
 unfolding worked_out
 it_is_off = refl
 
--- a key goes off with its last rule, and is told once
+-- a key goes off with its last rule, and is reported once
 the_last_rule_of_a_key_is_removed :
     told (history (session_on 9) (web_rule ∷ monitor vid 1000 ∷ accept (Remove web) ∷ flush (28 ∷ []) ∷ [])) ≡ usage 0 vid 0 RulesGone ∷ []
 unfolding worked_out

@@ -60,7 +60,7 @@ unfolding after_command
 rows_after_command p j c =
     tell_rows p (thresholds p (with_reports p (plan p j c) (entry.Command c ∷ j))) (with_reports p (plan p j c) (entry.Command c ∷ j)) ∙ tell_rows p (plan p j c) (entry.Command c ∷ j)
 
--- no worker comes or leaves by a report
+-- a report attaches no worker and detaches none
 tell_attach_count : (p : Setting) (ts : List PendingReport) (j : Journal) → attach_count (with_reports p ts j) ≡ attach_count j
 unfolding with_reports attach_count
 tell_attach_count p [] j = refl
@@ -94,7 +94,7 @@ unfolding with_rows
 rows_after_flush p j [] = refl
 rows_after_flush p j (r ∷ rs) = tell_rows p (thresholds p (with_rows (r ∷ rs) j)) (with_rows (r ∷ rs) j)
 
--- no worker comes or leaves by a row
+-- a row attaches no worker and detaches none
 attach_count_with : (rs : List Row) (j : Journal) → attach_count (with_rows rs j) ≡ attach_count j
 unfolding with_rows attach_count
 attach_count_with [] j = refl
@@ -145,7 +145,7 @@ commanded p c j k result (inl done) = from (first_of (refusals p j c)) done.1
           | inr unchanged ↦ commanded_not p j k (rw unchanged at is)
         ]
 
--- a worker comes with the next number
+-- a worker is attached with the next number
 pub attached_once : (j k : Journal) (number : ℕ) → AttachStep j (Ok number) k → (number ≡ attach_count j) × (k ≡ after_attach j)
 unfolding attach_outcome
 attached_once j k number (inr none) = absurd (let e = none.1.0 in cc)
@@ -155,7 +155,7 @@ attached_once j k number (inl done) = from (first_of (attach_faults j)) done
     from (Some f) is = absurd (let e = is.0 in cc)
     from None is = (let e = is.0 in cc, is.1)
 
--- or none comes
+-- or none is
 pub attached_not : (j k : Journal) (fault : AttachFault) → AttachStep j (Err fault) k → k ≡ j
 unfolding attach_outcome
 attached_not j k fault (inr none) = none.1.1

@@ -84,7 +84,7 @@ none_of n (r ∷ rs) below =
 pub new_lane : (p : Setting) (j : Journal) → Lawful p j → lane j (attach_count j) ≡ []
 new_lane p j l = none_of (attach_count j) (rows j) (lawful_numbered p j l).rows_below
 
--- nor has any worker that is yet to come
+-- nor has any worker that isn't attached yet
 pub past_lane : (p : Setting) (j : Journal) (n : ℕ) → Lawful p j → attach_count j ≤ n → lane j n ≡ []
 past_lane p j n l past =
     none_of n (rows j)

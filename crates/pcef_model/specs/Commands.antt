@@ -25,7 +25,7 @@ activated p (Install rule) = Some (dynamic rule)
 activated p (Activate name) = option_map predefined (offer_named p name)
 activated p _ = None
 
--- the rules that a command takes away, told by their names and the ids of their bearers: Remove takes one, the loss of a
+-- the rules that a command takes away, by their names and the ids of their bearers: Remove takes one, the loss of a
 -- bearer those that are bound to it (TS 23.203, clause 6.2.2.1), and Close and Terminate take all (own choice)
 abbrev pub takes_away : Command → List ℕ → ℕ → Bool
 takes_away (Remove other) name id = same_name name other

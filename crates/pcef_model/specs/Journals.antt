@@ -136,7 +136,7 @@ abbrev pub octets_of_report : List ℕ → Body → ℕ
 octets_of_report key (Usage other octets cause) = if same_name key other then octets else 0
 octets_of_report key _ = 0
 
--- the octets that usage reports told of a key
+-- the octets of a key that usage reports have
 unfoldable pub reported : Journal → List ℕ → ℕ
 reported [] key = 0
 reported (entry.Report r ∷ before) key = octets_of_report key r.body + reported before key

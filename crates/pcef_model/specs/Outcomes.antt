@@ -44,7 +44,7 @@ bearer_named g (Install rule) = bearer_of g (find (is_named rule.properties.name
 bearer_named g (Activate name) = bearer_of g (find (is_named name) g.rules)
 bearer_named g _ = None
 
--- what is told of a command, read off the journals before and after it
+-- the answer to an accepted command, read off the journals before and after it
 abbrev pub accepted : Setting → Command → Journal → Journal → Bool → Accepted
 accepted p c before after unchanged = record {
   generation = gen after;
@@ -78,7 +78,7 @@ attach_outcome j = attach_outcome_by j (first_of (attach_faults j))
 abbrev pub judged_of : Row → Judged
 judged_of r = record { generation = r.generation; verdict = r.verdict }
 
--- what is told of rows that were taken over: their verdicts, and the reports from one number to another
+-- the answer to rows that were taken over: their verdicts, and the reports from one number to another
 pub record FlushAnswer : Type 0 where
   pub rows : List Judged
   pub first_report : ℕ
@@ -106,7 +106,7 @@ finish_outcome_by p j worker rows (Some r) = (Err r, j)
 finish_outcome_by p j worker rows None =
     (Ok (flush_answer rows j (after_flush p j rows), lane_len (after_flush p j rows) worker), after_finish p j worker rows)
 
--- the last flush, and the leaving with it, which tells the length of the lane
+-- the last flush, and the leaving with it, whose answer has the length of the lane
 unfoldable pub finish_outcome : Setting → Journal → ℕ → List Row → Outcome (FlushAnswer × ℕ) FlushRefusal
 finish_outcome p j worker rows = finish_outcome_by p j worker rows (first_of (flush_refusals p j worker (length rows)))
 
@@ -115,7 +115,7 @@ abbrev pub abandon_outcome : Journal → ℕ → ℕ × Journal
 abandon_outcome j worker = (lane_len j worker, if is_attached j worker then after_leave worker j else j)
 
 -- ---- promises
--- the first fault is told, or where there is none out of memory
+-- the fault is the first one, or where there is none out of memory
 abbrev pub IsFirstFault : {R : Type 0} → Option R → R → R → Type 0
 IsFirstFault first want fault = (first ≡ Some fault) ⊎ ((first ≡ None) × (fault ≡ want))
 

@@ -207,7 +207,7 @@ most_workers = 16
 abbrev pub attach_faults : Journal → Conditions AttachFault
 attach_faults j = (nat_le most_workers (attach_count j), attach.NoPlace) ∷ (was_closed j || was_terminated j, attach.Closed) ∷ []
 
--- rows to be taken over, so many of them
+-- `count` rows to be taken over
 abbrev pub flush_refusals : Setting → Journal → ℕ → ℕ → Conditions FlushRefusal
 flush_refusals p j worker count =
     (not (is_attached j worker), flush.NotAttached) ∷ (nat_lt p.rows (length (rows j) + count), flush.RowsFull) ∷ []

@@ -23,8 +23,8 @@ use Rattle.pcef_model.specs.Commands.{is_among, switched}
 use Rattle.pcef_model.specs.Entries.{Journal}
 use Rattle.pcef_model.specs.Journals.{attach_count, grant, now, report_count, slots, subscribed, unreported}
 
--- ---- telling
--- a usage report tells all that is unreported just before it, zero included
+-- ---- reporting
+-- a usage report has all octets that are unreported just before it, zero included
 abbrev pub body_of : Setting → Journal → PendingReport → Body
 body_of p j (Inactive rule) = body.Inactive rule BearerLost
 body_of p j (Usage key cause) = body.Usage key (unreported p j key) cause
@@ -115,7 +115,7 @@ abbrev pub after_flush : Setting → Journal → List Row → Journal
 after_flush p j [] = j
 after_flush p j (r ∷ rs) = with_thresholds p (with_rows (r ∷ rs) j)
 
--- a worker comes
+-- a worker is attached
 abbrev pub after_attach : Journal → Journal
 after_attach j = entry.Attach (attach_count j) ∷ j
 

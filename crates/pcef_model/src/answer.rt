@@ -41,7 +41,7 @@ pub enum Refusal {
     UnknownBearer,
     /// The default bearer can't be lost.
     DefaultBearer,
-    /// So many workers are still attached.
+    /// Workers are still attached, 1 to 16 of them.
     WorkersAttached(u8),
     /// As many rules are active as may be.
     RulesFull,
@@ -110,7 +110,7 @@ impl Display for Refusal {
 
 impl error::Error for Refusal {}
 
-/// What is told of an accepted command.
+/// The answer to an accepted command.
 #[derive(Clone, Copy, Debug, PartialEq, Eq)]
 pub struct Accepted {
     /// The generation after the command.
@@ -128,7 +128,7 @@ pub struct Accepted {
 /// Why a worker can't be attached. Of several faults the first in this order is answered.
 #[derive(Clone, Copy, Debug, PartialEq, Eq, Error)]
 pub enum AttachFault {
-    /// Sixteen workers came to the session; one that leaves gives no place back.
+    /// Sixteen workers were attached already; one that leaves gives no place back.
     #[error("all places of workers are used")]
     NoPlace,
     /// The session was closed or terminated.
@@ -162,7 +162,7 @@ pub struct Judged {
     pub verdict: Verdict,
 }
 
-/// What is told of rows that were taken over.
+/// The answer to rows that were taken over.
 #[derive(Drop)]
 pub struct Verdicts {
     /// The verdicts of the rows, in order.

@@ -32,14 +32,14 @@ pub enum Command {
     ReportNow(KeyName),
     /// Subscribes to these events, and to no other.
     Triggers(TriggerSet),
-    /// Tells of an access event.
+    /// Notifies of an access event.
     Notice {
         /// Its kind.
         kind: AccessKind,
         /// Its value.
         value: NoticeValue,
     },
-    /// Tells that a bearer was lost, with the rules that are bound to it.
+    /// Says that a bearer was lost, with the rules that are bound to it.
     LoseBearer(BearerId),
     /// Ends what the PCRF may do, and takes all rules away.
     Close,

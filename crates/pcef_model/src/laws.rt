@@ -11,7 +11,7 @@ pub fn journals_grow()
     ensures counted { RowsCountByTheirOwnGeneration }
 {}
 
-/// What usage reports tell: each counted octet once at most, and none is lost.
+/// Usage reports are exact: each counted octet is reported once at most, and none is lost.
 pub fn usage_is_exact()
     ensures twice { NothingIsReportedTwice }
     ensures lost { NothingIsLost }

@@ -4,7 +4,7 @@ use crate::report::Cause;
 use crate::trigger::{AccessKind, NoticeValue};
 use pcef_rule::{KeyName, RuleName};
 
-/// What a report is to tell, before its number and its octets are known.
+/// What a report is about, before its number and its octets are known.
 #[derive(Debug, PartialEq, Eq, Drop)]
 pub enum PendingReport {
     /// A rule became inactive since its bearer was lost.

@@ -27,7 +27,7 @@ pub enum InactiveCause {
     BearerLost,
 }
 
-/// What a report tells.
+/// What a report says.
 #[derive(Debug, PartialEq, Eq, Drop)]
 pub enum Body {
     /// The usage of a monitoring key.
@@ -60,7 +60,7 @@ pub enum Body {
 pub struct Report {
     /// How many reports the session made before.
     pub number: u64,
-    /// What it tells.
+    /// What it says.
     pub body: Body,
 }
 

@@ -6,9 +6,9 @@ use pcef_packet::Header;
 /// What happens next to a session and its workers. Workers are named by their numbers, 0 to 15.
 #[derive(Drop)]
 pub enum Step {
-    /// A command comes.
+    /// A command is given.
     Command(Command),
-    /// A worker comes.
+    /// A worker is attached.
     Attach,
     /// A worker takes a packet.
     Take {

@@ -34,5 +34,5 @@ pub struct TriggerSet {
 #[derive(Clone, Copy, Debug, PartialEq, Eq)]
 pub struct OfNotice;
 
-/// What a notice tells of an access event, in the form of a name.
+/// The value that a notice gives for an access event, in the form of a name.
 pub type NoticeValue = Name<OfNotice>;

@@ -319,7 +319,7 @@ address_found text addr h =
           subst (λ (a : Addr). WritesAddress text a) same (dotted_found text number.0 number.1))
     ]
 
--- what a reader answers that answers so
+-- what a reader with such answers answers
 pub answer_found : (text : List ℕ) (r : Option Addr) → r ≡ address_of text → IfSome r (λ addr. WritesAddress text addr)
 answer_found text None is = tt
 answer_found text (Some addr) is = address_found text addr (sym is)

@@ -1,5 +1,5 @@
--- What a version 6 packet carries, once more as a function. It only serves the proof of the reader: it is
--- proved to agree with the chains of extension headers.
+-- What a version 6 packet carries, as a function too. It only serves the proof of the reader: it is proved
+-- to agree with the chains of extension headers.
 use Rattle.std.specs.Prelude.{ℕ, zero, suc, ◌+◌, Bool, true, false, List, length, drop, nat_lt, Option, Some, None, if◌then◌else◌}
 use Rattle.pcef_packet.specs.ExtensionHeaders.{Carried, extension_len, is_extension, is_later, next_of}
 

@@ -3,7 +3,7 @@
 use Rattle.std.specs.Prelude.{ℕ, ◌+◌, ◌*◌, ◌/◌, ◌==◌, ◌≡◌, ◌<◌, Bool, true, false, ◌&&◌, ◌||◌, not, List, [], ◌∷◌, ◌++◌, length, drop, slice_index, if◌then◌else◌}
 use Rattle.byteorder.specs.Endian.{big_number}
 
--- Hop-by-Hop Options, Routing and Destination Options (clauses 4.3, 4.4 and 4.6) tell their own length;
+-- Hop-by-Hop Options, Routing and Destination Options (clauses 4.3, 4.4 and 4.6) state their own length;
 -- Fragment (clause 4.5) has 8 octets
 abbrev pub states_length : ℕ → Bool
 states_length kind = (kind == 0) || ((kind == 43) || (kind == 60))

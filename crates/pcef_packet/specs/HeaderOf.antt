@@ -25,7 +25,7 @@ abbrev pub header_unless : List FaultWhen → Header → Result Header PacketFau
 header_unless [] header = Ok header
 header_unless (w ∷ ws) header = if w.holds then Err w.fault else header_unless ws header
 
--- the number in so many octets from a place on, the highest octet first (RFC 791, appendix B)
+-- the number in `len` octets from a place on, the highest octet first (RFC 791, appendix B)
 abbrev pub number : List ℕ → ℕ → ℕ → ℕ
 number octets place len = big_number len (drop place octets)
 

@@ -35,7 +35,7 @@ impl Addr {
     /// zero that are missing.
     pub fn from_text(text: &[u8]) -> Option<Addr>
         ensures reading { result ≡ address_of text.now }
-        // The address that is answered is written by the text, and one that is written is answered.
+        // The text writes the address that is answered, and no other.
         ensures found { IfSome result (λ addr. WritesAddress text.now addr) }
         ensures only { (addr : Addr) → WritesAddress text.now addr → result ≡ Some addr }
     {

@@ -63,8 +63,8 @@ fn is_later(kind: u8, octets: &[u8]) -> bool
     kind == FRAGMENT && BigEndian::read_u16(&octets[2..]) / 8 != 0
 }
 
-/// The kind that the header of this kind in front names, what follows the header, and whether it is that of
-/// a fragment other than the first. None where the header isn't whole.
+/// Reads the header of this kind in front: the kind that it names, what follows it, and whether it is that of a
+/// fragment other than the first. None where the header isn't whole.
 #[tactic(auto, unfolding(crate::specs::Carrying::past, crate::specs::ExtensionHeaders::extension_len))]
 fn past(kind: u8, octets: &[u8]) -> Option<(u8, &[u8], bool)>
     ensures { MatchOption result (past kind octets.now ≡ None)
@@ -80,8 +80,7 @@ fn past(kind: u8, octets: &[u8]) -> Option<(u8, &[u8], bool)>
     Some((octets[0], octets.split_at(len).1, is_later(kind, octets)))
 }
 
-/// What is carried behind the headers in front, of which the first has this kind. None where one of them
-/// isn't whole.
+/// What is carried behind the headers in front; the first of them has this kind. None where one of them isn't whole.
 pub(crate) fn payload_behind(first: u8, octets: &[u8]) -> Option<Payload<'_>>
     ensures { result ≡ carried_in first octets.now }
 {

@@ -43,7 +43,7 @@ pub struct PoolState<P: Pooling> {
     capacity: Sums,
 }
 
-// Written out, so that an owner proves one call at each way out.
+// Written out, so that an owner proves one call on each return path.
 impl<P: Pooling> Drop for PoolState<P> {
     fn drop(self) {
         let PoolState {
@@ -66,7 +66,7 @@ impl<P: Pooling> Model for PoolState<P> {
 impl<P: Pooling> PoolState<P> {
     /// A pool of this capacity, in bit/s, of which nothing is granted, or `OutOfRange` where it is above
     /// 1,099,511,627,775 in a direction. The blanks are those that the name stands for. Takes no memory, so it never
-    /// answers want of it.
+    /// answers out of memory.
     pub fn new(capacity: Sums, blanks: RateBlanks) -> Result<PoolState<P>, PoolFault>
         requires { P.ledger ≡ name_at blanks }
         ensures made { IfOk result (λ s. s ≡ record {
@@ -151,8 +151,8 @@ impl<P: Pooling> PoolState<P> {
         self.books.compare(shares)
     }
 
-    /// What is granted, where all issued shares are handed in; it is the sum over them. Else all comes back as it was,
-    /// with the number of shares that are missing. A share that was let go stays missing. Takes no memory.
+    /// What is granted, where all issued shares are handed in: the sum over them. Else gives all back as it was, with
+    /// the number of shares that are missing. A dropped share stays missing. Takes no memory.
     pub fn gather(
         self,
         shares: Vec<RateShares<P>>,

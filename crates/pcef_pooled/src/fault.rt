@@ -7,11 +7,10 @@ use thiserror::Error;
 /// Why sessions can't be opened on a pool. Of several faults the first in this order is answered.
 #[derive(Clone, Copy, Debug, PartialEq, Eq, Error)]
 pub enum PooledFault {
-    /// There is to be no session, or more than sixty-four.
+    /// No session is asked for, or more than sixty-four.
     #[error("a pool has one to sixty-four sessions")]
     Sessions,
-    /// The session of this number, counted from 0, can't be opened. Out of memory is told as
-    /// [`PooledFault::NoMemory`].
+    /// The session of this number, counted from 0, can't be opened. Out of memory is [`PooledFault::NoMemory`] instead.
     #[error("session {0} can't be opened: {1}")]
     Session(u8, OpenFault),
     /// The pool can't be made.

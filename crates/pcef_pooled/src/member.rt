@@ -21,7 +21,7 @@ pub struct Member<P: Pooling> {
     rates: RateShares<P>,
 }
 
-// Written out, so that an owner proves one call at each way out.
+// Written out, so that an owner proves one call on each return path.
 impl<P: Pooling> Drop for Member<P> {
     fn drop(self) {
         let Member {

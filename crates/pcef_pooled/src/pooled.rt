@@ -24,7 +24,7 @@ pub struct Pooled<P: Pooling> {
     pool: PoolState<P>,
 }
 
-// Written out, so that an owner proves one call at each way out.
+// Written out, so that an owner proves one call on each return path.
 impl<P: Pooling> Drop for Pooled<P> {
     fn drop(self) {
         let Pooled {

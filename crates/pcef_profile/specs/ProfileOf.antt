@@ -26,7 +26,7 @@ pub record Said : Type 0 where
   pub capacity : Sums
   pub declared : List (ℕ × Kind)
 
--- what the text of a profile says that declares these QCIs
+-- what the text of a profile says, where it declares these QCIs
 abbrev pub said : List (ℕ × Kind) → ProfileModel → Said
 said declared t = record { ue = t.ue; rows = t.rows; commands = t.commands; default_qos = t.default_qos; capacity = t.capacity; declared = declared }
 

@@ -25,13 +25,14 @@ fn line_at(text: &str, place: usize) -> (usize, &str) {
     }
 }
 
-/// Whether a text seems to be one in UTF-16 that was read as UTF-8: one of its first two octets is NUL, and the other not.
+/// Whether a text seems to be one in UTF-16 that was read as UTF-8: one of its first two octets is NUL, and the other
+/// not.
 fn is_wide(text: &str) -> bool {
     let octets = text.as_bytes();
     (octets.first() == Some(&0)) != (octets.get(1) == Some(&0))
 }
 
-/// What is told of a text that isn't TOML: the line, and what the reader of TOML says.
+/// The message for a text that isn't TOML: the line, and what the reader of TOML says.
 fn not_toml(alloc: Global, text: &str, error: &Error) -> Result<String, AllocError> {
     if is_wide(text) {
         return format!(in alloc; "line 1: the text is UTF-16: save it as UTF-8");
@@ -58,7 +59,7 @@ fn unknown_in(level: Level, table: &Table) -> Option<&str> {
     None
 }
 
-/// What is told of a key that a table may not have.
+/// The message for a key that a table may not have.
 fn unknown_key_text(alloc: Global, level: Level, text: &str) -> Result<String, AllocError> {
     let text = if is_plain(text) { text } else { ".." };
     let keys = level.expected_keys();
@@ -150,7 +151,7 @@ fn bad_value(alloc: Global, table: &Table) -> Result<Option<String>, AllocError>
     }
 }
 
-/// What is told of the default QCI.
+/// The message for the default QCI, if there is one.
 fn default_qci(alloc: Global, table: &Table, expected: &str) -> Result<Option<String>, AllocError> {
     match inner(table, Key::Default).and_then(|table| entry(table, Key::Qci)) {
         Some(value) => {

@@ -1,4 +1,4 @@
-//! What may stand at a key of a profile, and how it is told.
+//! What may stand at a key of a profile, and how a message names it.
 
 use crate::key::Key;
 use crate::shape::Level;
@@ -96,7 +96,7 @@ pub(crate) fn is_plain(text: &str) -> bool {
             .all(|octet| b' ' <= *octet && *octet <= b'~')
 }
 
-/// A value as it is told: a short text, a number or a flag as such, others by their kind.
+/// A value as messages show it: a short text, a number or a flag as such, others by their kind.
 #[derive(Clone, Copy)]
 pub(crate) struct Shown<'a>(pub &'a Value);
 

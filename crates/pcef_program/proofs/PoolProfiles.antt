@@ -24,7 +24,7 @@ pub asked_next : (offers : List Offer) (texts : List Text) (i : ℕ) (text : Tex
 asked_next offers texts i text asked a within is are asks =
     subst (λ ts. AskFor offers ts (asked ++ a ∷ [])) (sym (take_more texts i text within ∙ ap (λ x. take i texts ++ x ∷ []) (sym is))) (asked_more offers (take i texts) asked text a are asks)
 
--- or it can't be had
+-- or it can't be read
 pub first_unread : (offers : List Offer) (texts : List Text) (i : ℕ) (text : Text) (asked : List Asked) (e : End) → i < length texts → text ≡ get_or texts i text → AskFor offers (take i texts) asked → IsUnread text e
     → FirstUnread offers texts e
 first_unread offers texts i text asked e within is are unread = (

@@ -55,7 +55,7 @@ abbrev pub end_reason : End → List ℕ
 end_reason (end.Line first text) = string_bytes first.told
 end_reason other = []
 
--- a profile that can't be had
+-- a profile that can't be read
 abbrev pub profile_end : ReadProfileFault → End
 profile_end profile.NoMemory = end.NoMemory
 profile_end fault = end.Profile fault

@@ -19,7 +19,7 @@ use Rattle.pcef_program.specs.declared.end.End.{End}
 use Rattle.pcef_program.specs.declared.end.End.TheVariants as ending
 use Rattle.pcef_program.specs.Ends.{line_text, open_end}
 
--- what a run came to is written, or a front of it where the writer fails
+-- the summary of a run is written, or a front of it where the writer fails
 abbrev pub IsWritten : Ran → Counts → End → Option (List ℕ) → Option (List ℕ) → Type 0
 IsWritten ran taken ending.Done old new = Appends old new (summary_text ran taken)
 IsWritten ran taken ending.Write old new = AppendsFront old new (summary_text ran taken)
@@ -34,8 +34,8 @@ WritesRun p plan workers end old new = (ran : Ran) × RunsPlan p plan workers ra
 abbrev pub IsOpenFault : Setting → ReadProfileFault → Type 0
 IsOpenFault p fault = (first : OpenFault) × (first_of (open_faults p) ≡ Some first) × (open_end first ≡ ending.Profile fault)
 
--- A fault of a run with so many workers whose input is a plan: no packet is for a worker that there isn't, and want of
--- memory has an end of its own.
+-- A fault of a run with `workers` workers whose input is a plan: no packet is for a worker that there isn't, and out
+-- of memory has an end of its own.
 abbrev pub IsRunFault : ℕ → RunFault → Type 0
 IsRunFault workers failure.Workers = (workers ≡ 0) ⊎ (16 < workers)
 IsRunFault workers failure.StrangeWorker = ⊥

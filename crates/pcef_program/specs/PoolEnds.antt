@@ -33,7 +33,7 @@ AskFor offers [] asked = asked ≡ []
 AskFor offers (text ∷ texts) asked =
     (first : Asked) × (others : List Asked) × (asked ≡ first ∷ others) × AsksFor offers text first × AskFor offers texts others
 
--- a profile that can't be had; there may be no memory for its session
+-- a profile that can't be read; there may be no memory for its session
 abbrev pub IsUnread : Text → End → Type 0
 IsUnread (Ok text) end =
     (end ≡ ending.NoMemory) ⊎ ((fault : ReadProfileFault) × GivesProfile (Err fault) (ProfileOf (string_bytes text)) × (end ≡ profile_end fault))

@@ -40,7 +40,7 @@ RanScript p end before left old new =
     (result : Result ℕ ScriptFault) × Opened p result × (written : Option (List ℕ)) × Runs p result before left old written × Keeps written new
     × ((end ≡ script_end result) ⊎ (end ≡ ending.Write))
 
--- a script, or a plan with so many workers
+-- a script, or a plan with `workers` workers
 abbrev pub Ran : Option ℕ → Setting → End → Option (List ℕ) → Option (List ℕ) → Option (List ℕ) → Option (List ℕ) → Type 0
 Ran None p end before left old new = RanScript p end before left old new
 Ran (Some workers) p end before left old new = RanPlan p workers end before left old new
@@ -76,7 +76,7 @@ IsWholeScript offers asked before left old new =
     × (asked ≡ Some (Ok text)) × GivesProfile (Ok profile) (ProfileOf (string_bytes text))
     × Consumes before left input × IsAtEnd left × Wrote (setting_of profile offers) (all_lines input) 0 old new
 
--- or a run: the session of its profile ran the plan that the input is, and what it came to is written
+-- or a run: the session of its profile ran the plan that the input is, and the summary of the run is written
 abbrev pub IsWholeRun : List Offer → ℕ → Option Text → Option (List ℕ) → Option (List ℕ) → Option (List ℕ) → Option (List ℕ) → Type 0
 IsWholeRun offers workers asked before left old new =
     (text : String Global) × (profile : ProfileModel)

@@ -1,4 +1,5 @@
--- What the words of the program ask for (own choice): a script, a run with so many workers, or sessions on a pool.
+-- What the words of the program ask for (own choice): a script, a run with a number of workers, or sessions on a
+-- pool.
 use Rattle.std.specs.Prelude.{ℕ, ◌-◌, ◌==◌, ◌&&◌, Bool, false, not, nat_le, List, [], ◌∷◌, drop, length, take, Vec, codes, Option, Some, None, is_some, if◌then◌else◌}
 use Rattle.std.specs.Str.{all_ascii_digits, bytes_eq}
 use Rattle.std.specs.Str.Parse.{digits_value}

@@ -172,7 +172,7 @@ pub fn unread_end(kind: ErrorKind) -> End
     }
 }
 
-/// The end of a program whose profile can't be had.
+/// The end of a program whose profile has this fault.
 pub fn profile_end(fault: ReadProfileFault) -> End
     ensures { result ≡ profile_end fault }
 {
@@ -240,7 +240,7 @@ fn open_end(fault: OpenFault) -> End
     }
 }
 
-/// The end of a program whose run came to none.
+/// The end of a program whose run failed.
 pub fn run_end(end: RunEnd) -> End
     ensures { result ≡ run_end end }
 {

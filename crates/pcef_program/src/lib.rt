@@ -1,7 +1,7 @@
 //! The program `pcef` without the process that it runs in: `run_program`; `words`, what its arguments ask for; `end`, how
 //! it ends.
 //!
-//! Its contracts say: what the words of a call ask for, the outcome, and the table of its ends.
+//! Its contracts say: what the words of a call ask for, its outcome, and the table of its ends.
 //!
 //! In the order of reading: `environment`, `end`, `words`, `mistake`, `plan_run`, `pool_run`, `reporting`, `program`.
 #![tactic(auto)]

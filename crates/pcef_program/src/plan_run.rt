@@ -31,7 +31,7 @@ fn flush_end<W: Write>(writer: &mut W) -> End
     }
 }
 
-/// Writes what a run came to, and flushes the writer.
+/// Writes the summary of a run, and flushes the writer.
 fn write_summary<W: Write>(alloc: Global, ran: &Ran, taken: Counts, writer: &mut W) -> End
     ensures { IsWritten ran.now taken result (W.contents writer.old) (W.contents writer.new) }
 {
@@ -50,7 +50,7 @@ fn report(outlet: Outlet, reports: &[Report]) -> bool {
     outlet.deliver(reports).refused.is_none()
 }
 
-/// Hands the reports of a run on, and writes what it came to. A reporter refuses when out of memory.
+/// Hands the reports of a run on, and writes its summary. A reporter refuses when out of memory.
 fn report_run<W: Write>(
     alloc: Global,
     ran: &Ran,
@@ -70,7 +70,7 @@ fn report_run<W: Write>(
     }
 }
 
-/// Runs a plan, and writes what it came to.
+/// Runs a plan, and writes its summary.
 fn run_one<T: Threads + Wait + Sync, W: Write>(
     rt: &T,
     alloc: Global,
@@ -94,7 +94,7 @@ fn run_one<T: Threads + Wait + Sync, W: Write>(
     }
 }
 
-/// Runs the plan that an input is on the session of a profile, and writes what it came to.
+/// Runs the plan that an input is on the session of a profile, and writes the summary.
 pub(crate) fn run_input<T: Threads + Wait + Sync, R: Read, W: Write>(
     rt: &T,
     alloc: Global,

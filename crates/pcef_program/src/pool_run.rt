@@ -14,7 +14,7 @@ use pcef_run::{Order, read_orders, run_pool};
 use std::alloc::Global;
 use std::io::{self, Read, Write};
 
-/// What a session is asked for by a profile's text, or the end of the program where there is none.
+/// The profile of a text, with the catalog's listing, or the end of the program where there is none.
 fn read_one(
     alloc: Global,
     profile: &io::Result<String>,
@@ -37,7 +37,8 @@ fn read_one(
     }
 }
 
-/// What sessions are asked for by profiles, in their order, or the end of the program for the first that can't be had.
+/// The profiles of these texts, in their order, each with the catalog's listing, or the end of the program for the
+/// first that can't be read.
 fn read_profiles(
     alloc: Global,
     profiles: &[io::Result<String>],

@@ -44,7 +44,7 @@ fn run_on<R: Read, W: Write>(
     }
 }
 
-/// Runs a script, or with so many workers a plan, on the session of a profile.
+/// Runs a script on the session of a profile, or, with a number of workers, a plan.
 fn run_as_asked<T: Threads + Wait + Sync, R: Read, W: Write>(
     rt: &T,
     alloc: Global,
@@ -128,7 +128,7 @@ fn one_end<T: Threads + Wait + Sync, R: Read, W: Write>(
     }
 }
 
-/// The capacity of the pool that the arguments ask for, if they do, and each profile that they name is there.
+/// The capacity of the pool, if the arguments ask for one and each profile that they name is there.
 fn asked_pool(words: &[Vec<u8>], profiles: &[io::Result<String>]) -> Option<Sums>
     ensures { result ≡ asked_pool words.now profiles.now }
 {
@@ -182,7 +182,7 @@ fn end_of<T: Threads + Wait + Sync, R: Read, W: Write>(
 /// when out of memory; 4 for a failing stream or a run that failed.
 ///
 /// Where there are more or fewer profiles than the words name, the arguments are wrong. `faults` gets the reason why the
-/// program ends early: a line, and below it what a person needs to know. That it fails changes nothing else.
+/// program ends early: a line, and below it what a person needs to know. Where `faults` fails, nothing else changes.
 ///
 /// A script is run as `run_script` does, and the writer is flushed at its end. A run reads the whole input first, starts a
 /// thread for each worker and waits for them; its reports go to the outlet, whose reporters count them, and one that
@@ -197,7 +197,7 @@ pub fn run_program<T: Threads + Wait + Sync, R: Read, W: Write, E: Write>(
     writer: &mut W,
     faults: &mut E,
 ) -> u8
-    // The status and what is said are those of the end to which the words, the profile and the input come.
+    // The status and what is said are those of the end to which the words, the profile and the input lead.
     ensures ends { (end : End) × (result ≡ end_status end)
         × WritesEnd end (E.contents faults.old) (E.contents faults.new)
         × Ends (offers_of (arc_value environment.catalog)) arguments.words.now arguments.profiles.now end

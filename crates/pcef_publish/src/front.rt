@@ -46,7 +46,7 @@ pub struct Opened {
     table: Arc<Indexed>,
 }
 
-// Written out, so that an owner proves one call at each way out.
+// Written out, so that an owner proves one call on each return path.
 impl Drop for Opened {
     fn drop(self) {
         let Opened {
@@ -132,7 +132,7 @@ pub struct Author<N: Naming> {
     of: PhantomData<N>,
 }
 
-// Written out, so that an owner proves one call at each way out.
+// Written out, so that an owner proves one call on each return path.
 impl<N: Naming> Drop for Author<N> {
     fn drop(self) {
         let Author {
@@ -228,7 +228,7 @@ pub struct Front<N: Naming> {
     of: PhantomData<N>,
 }
 
-// Written out, so that an owner proves one call at each way out.
+// Written out, so that an owner proves one call on each return path.
 impl<N: Naming> Drop for Front<N> {
     fn drop(self) {
         let Front {

@@ -19,7 +19,7 @@ pub struct Publication<N: Naming> {
     pub front: Front<N>,
 }
 
-// Written out, so that an owner proves one call at each way out.
+// Written out, so that an owner proves one call on each return path.
 impl<N: Naming> Drop for Publication<N> {
     fn drop(self) {
         let Publication { table: _, front: _ } = self;

@@ -48,7 +48,7 @@ pub struct Publisher<N: Naming, W: Board<Cell<N>> + Drop> {
     board: W,
 }
 
-// Written out, so that an owner proves one call at each way out.
+// Written out, so that an owner proves one call on each return path.
 impl<N: Naming, W: Board<Cell<N>> + Drop> Drop for Publisher<N, W> {
     fn drop(self) {
         let Publisher {
@@ -117,10 +117,10 @@ fn first_slots<N: Naming>(
 }
 
 impl<N: Naming, R: Wait + Drop> Publisher<N, Writer<N, R>> {
-    /// A publisher whose list is the one table of the opened history, and as many subscribers as there
-    /// are places, at least one, each of which holds that table. The name stands for the opened history,
-    /// and the table is over the name's catalog. Takes memory. A fault tells that there was none, or
-    /// that the board gave no reader; the opened history is then lost. May wait for readers.
+    /// A publisher whose list is the one table of the opened history, and as many subscribers as there are places, at
+    /// least one, each of which holds that table. The name stands for the opened history, and the table is over the
+    /// name's catalog. Takes memory. A fault says that there was none, or that the board gave no reader; the opened
+    /// history is then lost. May wait for readers.
     pub fn new(
         rt: R,
         alloc: Global,

@@ -16,7 +16,7 @@ pub struct Shown<N: Naming> {
     pub slot: Cell<N>,
 }
 
-// Written out, so that an owner proves one call at each way out.
+// Written out, so that an owner proves one call on each return path.
 impl<N: Naming> Drop for Shown<N> {
     fn drop(self) {
         let Shown { slot: _ } = self;

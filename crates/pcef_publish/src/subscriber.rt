@@ -23,7 +23,7 @@ pub struct Subscriber<N: Naming> {
     held: Publication<N>,
 }
 
-// Written out, so that an owner proves one call at each way out.
+// Written out, so that an owner proves one call on each return path.
 impl<N: Naming> Drop for Subscriber<N> {
     fn drop(self) {
         let Subscriber { reader: _, held: _ } = self;

@@ -18,7 +18,7 @@ const AXES: &str =
 const LEAST: &str =
     "</text><text x=\"-6\" y=\"160\" text-anchor=\"end\">0</text><text x=\"720\" y=\"180\" text-anchor=\"end\">";
 
-/// The colors of series, in turn: told apart also by those who see red and green alike.
+/// The colors of series, in turn: distinct also for those who see red and green alike.
 const COLORS: &[&str] = &[
     "#0072b2", "#d55e00", "#009e73", "#cc79a7", "#56b4e9", "#e69f00", "#000000", "#999999",
 ];
@@ -43,7 +43,7 @@ pub(crate) fn scale(value: u64, most: u64, room: u64) -> u64
     part.min(room)
 }
 
-/// Begins a chart, whose axes tell the most that goes up and along.
+/// Begins a chart, whose axes are labeled with the most that goes up and along.
 pub(crate) fn begin(page: &mut Sheet, title: &str, most: u64, along: &str, last: u64) {
     page.raw("<svg viewBox=\"-90 -16 830 210\" role=\"img\"><title>");
     page.text(title);
@@ -71,7 +71,7 @@ fn attribute(page: &mut Sheet, name: &str, value: u64) {
     page.raw("\"");
 }
 
-/// Adds a bar, whose foot stands so high, with what it tells.
+/// Adds a bar whose foot stands at the height `foot`.
 pub(crate) fn bar(page: &mut Sheet, x: u64, width: u64, foot: u64, height: u64, color: &str) {
     page.raw("<rect");
     attribute(page, "x", x);
@@ -125,7 +125,7 @@ pub(crate) fn end_steps(page: &mut Sheet) {
     page.raw("\"/>");
 }
 
-/// Begins a dot on the axis along; what it tells stands between this and its end.
+/// Begins a dot on the axis along; its title stands between this and its end.
 pub(crate) fn begin_dot(page: &mut Sheet, place: u64, style: Steps<'_>) {
     page.raw("<circle");
     attribute(page, "cx", scale(place, style.last, WIDTH));
@@ -141,7 +141,7 @@ pub(crate) fn end_dot(page: &mut Sheet) {
     page.raw("</title></circle>");
 }
 
-/// Begins an entry of a legend below a chart; what it tells stands behind.
+/// Begins an entry of a legend below a chart; its text stands behind.
 pub(crate) fn mark(page: &mut Sheet, color: &str) {
     page.raw("<span class=\"key\" style=\"background:");
     page.raw(color);

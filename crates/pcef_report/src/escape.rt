@@ -5,7 +5,7 @@ ghost use Rattle.pcef_report.specs.Escaping.{escaped, escaped_octet};
 
 use std::alloc::AllocError;
 
-/// What stands in a page for an octet that can't stand there as it is.
+/// The escape of an octet that can't stand in a page as it is.
 fn stand_in(octet: u8) -> Option<&'static str>
     ensures { MatchOption result (escaped_octet octet ≡ octet ∷ [])
         (λ text. escaped_octet octet ≡ text.now) }

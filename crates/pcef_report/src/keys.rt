@@ -14,7 +14,7 @@ const KEYS: &str = "<table><tr><th>Key</th><th>Grants</th><th>Reports</th><th>Oc
 const EVENTS: &str = "<details><summary>Grants and reports</summary>\n<table>\
 <tr><th>Key</th><th>Line</th><th></th><th>Octets</th></tr>\n";
 
-/// What is told of a key.
+/// The figures of a key.
 pub(crate) struct Key<'a> {
     /// The lines of its grants, with their octets.
     grants: Vec<(u64, u64)>,
@@ -24,7 +24,7 @@ pub(crate) struct Key<'a> {
     states: Vec<&'a KeyState>,
 }
 
-// Written out, so that an owner proves one call at each way out.
+// Written out, so that an owner proves one call on each return path.
 impl Drop for Key<'_> {
     fn drop(self) {
         let Key {
@@ -136,7 +136,7 @@ fn push_key(page: &mut Sheet, name: &str, key: &Key<'_>, octets: Option<u64>) {
     page.raw("</td></tr>\n");
 }
 
-/// Adds a row of the list of grants and reports: what came of a key with a line.
+/// Adds a row of the list of grants and reports: the event of a key at a line.
 fn push_event(page: &mut Sheet, key: &str, line: u64, event: &str, octets: u64) {
     page.raw("<tr><td>");
     page.text(key);
@@ -223,7 +223,7 @@ fn push_table<'a>(page: &mut Sheet, keys: &[(&'a str, Key<'a>)], octets: &Sums<'
     page.raw("</table>\n");
 }
 
-/// Adds what is told of the keys, and of the sums of their octets.
+/// Adds the section of the keys, with the sums of their octets.
 fn push_key_section<'a>(
     page: &mut Sheet,
     figures: &Figures,

@@ -1,8 +1,8 @@
-//! The program `pcef_report`, which shows what a script and its answers tell of a session, as a page, as CSV or as
+//! The program `pcef_report`, which shows what a script and its answers say of a session, as a page, as CSV or as
 //! OpenMetrics text.
 //!
-//! `pcef_report [--format html|csv|openmetrics] LINES ANSWERS` writes a page of HTML in one file, a record of CSV for each
-//! packet with a verdict, or OpenMetrics text.
+//! `pcef_report [--format html|csv|openmetrics] LINES ANSWERS` writes a page of HTML in one file, a record of CSV for
+//! each packet with a verdict, or OpenMetrics text.
 #![tactic(auto)]
 
 mod chart;
@@ -67,7 +67,7 @@ fn write(rt: &HostRuntime, format: Format, figures: &Figures) -> io::Result<()> 
     }
 }
 
-/// What lines and answers that don't belong together seem to be: a line behind a line feed, or nothing.
+/// Guesses why lines and answers don't belong together: a line of text behind a line feed, or nothing.
 fn hint_of(lines: &[u8], answers: &[u8]) -> &'static str {
     for octets in &[lines, answers] {
         if octets.starts_with(b"\xff\xfe") || octets.starts_with(b"\xfe\xff") {
@@ -88,7 +88,7 @@ fn octets_of<'a>(rt: &HostRuntime, file: &'a str) -> Result<Vec<u8>, End<'a>> {
     }
 }
 
-/// Collects what the octets of the files tell.
+/// Collects the figures from the octets of the files.
 fn collect_figures<'a>(
     alloc: Global,
     options: Options<'a>,
@@ -102,14 +102,14 @@ fn collect_figures<'a>(
     }
 }
 
-/// Collects what the files tell.
+/// Reads the files, and collects their figures.
 fn read<'a>(rt: &HostRuntime, options: Options<'a>) -> Result<Figures, End<'a>> {
     let lines = octets_of(rt, options.lines)?;
     let answers = octets_of(rt, options.answers)?;
     collect_figures(rt.alloc(), options, &lines, &answers)
 }
 
-/// Shows what the files tell.
+/// Shows the figures of the files.
 fn report<'a>(rt: &HostRuntime, options: Options<'a>) -> End<'a> {
     let figures = match read(rt, options) {
         Ok(figures) => figures,
@@ -121,7 +121,7 @@ fn report<'a>(rt: &HostRuntime, options: Options<'a>) -> End<'a> {
     }
 }
 
-/// Tells why the program ends early, and gives its exit status. That it can't be told changes nothing.
+/// Prints why the program ends early, and returns its exit status. A failing print changes nothing.
 fn report_end(rt: &HostRuntime, end: &End<'_>) -> u8
     ensures { result ≤ 4 }
 {
@@ -146,7 +146,7 @@ fn report_end(rt: &HostRuntime, end: &End<'_>) -> u8
     end.status()
 }
 
-/// Does what the arguments ask for, and gives the exit status.
+/// Does what the arguments ask for, and returns the exit status.
 fn status(rt: &HostRuntime) -> u8
     ensures { result ≤ 4 }
 {

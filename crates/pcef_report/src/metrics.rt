@@ -165,7 +165,7 @@ fn push_packets(alloc: Global, text: &mut Sheet, figures: &Figures) -> Result<()
     Ok(())
 }
 
-/// The octets of each key that no report told: there is one sample of each, of the first one of its name.
+/// The unreported octets of each key, one sample of each: that of the first state with its name.
 fn unreported_by_key<'a>(
     alloc: Global,
     figures: &'a Figures,
@@ -177,13 +177,13 @@ fn unreported_by_key<'a>(
     Ok(keys)
 }
 
-/// Adds the octets of each key that reports told, but those of 2^64 or more.
+/// Adds the reported octets of each key, but those of 2^64 or more.
 fn push_reported<'a>(text: &mut Sheet, keys: &[(&'a str, Key<'a>)], octets: &Sums<'a>) {
     family(
         text,
         "pcef_reported_octets",
         "counter",
-        "Octets that reports of usage tell of a key.",
+        "Octets that usage reports have for a key.",
     );
     for (key, _) in keys {
         if let Some(octets) = sum_of(octets, *key) {
@@ -205,7 +205,7 @@ fn push_unreported(alloc: Global, text: &mut Sheet, figures: &Figures) -> Result
         text,
         "pcef_unreported_octets",
         "gauge",
-        "Octets of a key that no report told by the last show.",
+        "Octets of a key that no report has, by the last show.",
     );
     push_samples(text, "pcef_unreported_octets", "key", keys.entries());
     Ok(())

@@ -3,14 +3,14 @@
 use std::alloc::{AllocError, Global};
 use std::collections::BTreeMap;
 
-/// A value for each name, in the order in which the names come first. A name is found in so many steps as the logarithm
-/// of their number.
+/// A value for each name, in the order in which the names first appear. Finding a name takes a number of steps that is
+/// logarithmic in the number of names.
 pub(crate) struct ByName<'a, T: Drop> {
     entries: Vec<(&'a str, T)>,
     places: BTreeMap<&'a str, usize>,
 }
 
-// Written out, so that an owner proves one call at each way out.
+// Written out, so that an owner proves one call on each return path.
 impl<'a, T: Drop> Drop for ByName<'a, T> {
     fn drop(self) {
         let ByName {

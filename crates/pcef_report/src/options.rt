@@ -62,13 +62,13 @@ fn answers_argument<'a>(alloc: Global) -> Arg<'a> {
 /// The command line.
 fn command<'a>(alloc: Global) -> Result<Command<'a>, AllocError> {
     Command::new(alloc, "pcef_report")
-        .about("Shows what a script of pcef and its answers tell of a session")
+        .about("Shows what a script of pcef and its answers say of a session")
         .arg(format_argument(alloc))?
         .arg(lines_argument(alloc))?
         .arg(answers_argument(alloc))
 }
 
-/// What a command line that clap took asks for, or none where the format is none.
+/// What a command line that clap accepted asks for, or none where the format is none.
 fn options_of<'a>(matches: &ArgMatches<'a>) -> Option<Options<'a>> {
     Some(Options {
         format: matches.get_str("format").and_then(format_of)?,
@@ -77,7 +77,7 @@ fn options_of<'a>(matches: &ArgMatches<'a>) -> Option<Options<'a>> {
     })
 }
 
-/// What the words ask for, of which the first is the program's name, or none where the format is none. Other wrong words
+/// What the words ask for, or none where the format is none. The first word is the program's name. Other wrong words
 /// are clap's error, and so are the questions for help and for the version; out of memory too. Takes memory.
 pub(crate) fn parse_options<'a>(
     alloc: Global,

@@ -39,7 +39,7 @@ fn push_head(page: &mut Sheet) {
     page.raw("</style></head><body>\n<h1>A session of pcef</h1>\n");
 }
 
-/// Says how much is told.
+/// Adds the counts of lines, packets, reports and refusals, and the newest generation.
 fn push_summary(page: &mut Sheet, figures: &Figures) {
     page.raw("<p>Lines with an answer: ");
     page.number(figures.lines);
@@ -54,7 +54,7 @@ fn push_summary(page: &mut Sheet, figures: &Figures) {
     page.raw(".</p>\n");
 }
 
-/// The bar to which a line belongs, of so many lines.
+/// The bar to which a line belongs, of `last` lines.
 fn bar_of(line: u64, last: u64) -> usize
     ensures { result < BARS }
 {
@@ -163,7 +163,7 @@ fn push_row(page: &mut Sheet, refused: &Refused) {
     page.raw("</td></tr>\n");
 }
 
-/// Tells how many lines of the table of refusals are left out.
+/// Says how many lines of the table of refusals are left out.
 fn push_more(page: &mut Sheet, more: usize) {
     if more > 0 {
         page.raw("<p>And ");
@@ -198,8 +198,8 @@ fn push_page(alloc: Global, page: &mut Sheet, figures: &Figures) -> Result<(), A
     Ok(())
 }
 
-/// A page of HTML that shows the figures: verdicts over the lines, octets of the keys, guaranteed rates over generations,
-/// refusals. It has no script and names no other file. Takes memory for it.
+/// A page of HTML that shows the figures: verdicts over the lines, octets of the keys, guaranteed rates over
+/// generations, refusals. It has no script and names no other file. Takes memory for it.
 pub(crate) fn html_page(alloc: Global, figures: &Figures) -> Result<String, AllocError> {
     let mut page = Sheet::new(alloc);
     push_page(alloc, &mut page, figures)?;

@@ -4,8 +4,8 @@ use crate::escape::push_text;
 use crate::metrics::push_label;
 use std::alloc::{AllocError, Global};
 
-/// A text that is written piece by piece. Once there is no memory for a piece, nothing more is written, and the whole is
-/// refused.
+/// A text that is written piece by piece. Once there is no memory for a piece, nothing more is written, and the whole
+/// is refused.
 #[derive(Drop)]
 pub(crate) struct Sheet {
     text: String,

@@ -88,7 +88,7 @@ impl<K> Name<K> {
         })
     }
 
-    /// The name that a text is which is known to be one. Takes no memory.
+    /// The name that a text is. The text is known to be one. Takes no memory.
     pub fn known(text: &str) -> Name<K>
         requires { IsName text.now }
         ensures { result ≡ text.now }

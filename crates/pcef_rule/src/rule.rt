@@ -121,7 +121,7 @@ pub struct Rule {
     shared: Arc<Shared>,
 }
 
-// Written out, so that an owner proves one call at each way out.
+// Written out, so that an owner proves one call on each return path.
 impl Drop for Rule {
     fn drop(self) {
         let Rule { shared: _ } = self;

@@ -1,4 +1,4 @@
--- What an input that was read comes to.
+-- The outcome of an input that was read.
 use Rattle.std.proofs.Common.{◌≡◌, ◌∙◌, ◌+◌, ◌++◌, ◌∷◌, ℕ, List, arith, length, subst, sym}
 use Rattle.std.specs.Prelude.{IfErr, IfOk, Option, Result, Ok, Err, string_bytes}
 use Rattle.pcef_line.specs.declared.line.Line.{Line}

@@ -11,7 +11,7 @@ pub record IsRead (input : List ℕ) (before left : Option (List ℕ)) : Type 0 
   pub ended : IsAtEnd left
   pub most : length input ≤ script_most
 
--- how much was read of an input that can't be had
+-- how much was read of an input that can't be read whole
 abbrev pub LengthIs : PlanFault → ℕ → Type 0
 LengthIs fault.Read n = n ≤ script_most
 LengthIs fault.TooMuch n = n ≡ script_most + 1

@@ -35,7 +35,7 @@ session_in (first ∷ []) = None
 session_in (first ∷ second ∷ rest) =
     if is_between 48 57 first && (second == 32) then Some (first - 48, rest) else after_two_digits first second rest
 
--- a line is an order for one of so many sessions: its number, and a line of a script that is a command
+-- a line is an order for one of `sessions` sessions: its number, and a line of a script that is a command
 abbrev pub IsOrder : ℕ → List ℕ → Order → Type 0
 IsOrder sessions bytes o =
     (rest : List ℕ) × (session_in bytes ≡ Some (o.session, rest)) × (o.session < sessions) × LineDue rest (Ok (command_line o.command))
@@ -78,7 +78,7 @@ IsFirstWrong sessions lines first =
     × (lines ≡ front ++ bytes ∷ rest) × (first.number ≡ length front + 1) × AreOrdered sessions front before
     × IsWrongLine sessions bytes first.why × SaysReason first.why (string_bytes first.told)
 
--- The orders of an input that was read to its end, or its first line that is none; and else why it wasn't read. Want of
+-- The orders of an input that was read to its end, or its first line that is none; and else why it wasn't read. Out of
 -- memory may come in either.
 abbrev pub ReadsOrders : ℕ → Result (Vec Order Global) PlanFault → Option (List ℕ) → Option (List ℕ) → Type 0
 ReadsOrders sessions (Ok orders) before left = (input : List ℕ) × IsRead input before left × AreOrdered sessions (all_lines input) orders.items

@@ -38,7 +38,7 @@ abbrev pub is_packet : Line → Bool
 is_packet (line.Step (step.Take w h)) = true
 is_packet other = false
 
--- why a run has no use for a line, if it has none: it takes commands, and packets for one of so many workers
+-- why a run has no use for a line, if it has none: it takes commands, and packets for one of `workers` workers
 abbrev pub unfit_for : ℕ → Line → Option Unfit
 unfit_for workers (line.Step (step.Command c)) = None
 unfit_for workers (line.Step (step.Take w h)) = if nat_lt w workers then None else Some (unfit.NoWorker workers)

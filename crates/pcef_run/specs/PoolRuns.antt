@@ -14,12 +14,12 @@ use Rattle.pcef_run.specs.declared.pool_end.PoolEnd.TheVariants as end
 use Rattle.pcef_run.specs.declared.order.Order.{Order}
 
 -- ---- one order
--- the line that tells an answer of the session of a number, with the reports that its journal has for it
+-- the line for an answer of the session of a number, with the reports that its journal has for it
 abbrev pub IsAnswerLine : ℕ → PooledModel → Result Accepted Refusal → List ℕ → Type 0
 IsAnswerLine n after answer text = IfSome (slice_get after.sessions n) (λ s. text ≡ command_text s.journal answer ++ 10 ∷ [])
 
--- A session answers an order in the room that the others leave it, which stay as they were, and this line tells the
--- answer. What the pool has granted is then again what the sessions have. Out of memory is no answer.
+-- A session answers an order in the room that the others leave it, and this is the line for the answer. The others
+-- stay as they were. What the pool has granted is then again what the sessions have. Out of memory is no answer.
 pub record AnswersOrder (before : PooledModel) (o : Order) (text : List ℕ) (after : PooledModel) : Type 0 where
   pub answer : Result Accepted Refusal
   pub answers : AnswersAt o.session before o.command answer after
@@ -30,7 +30,7 @@ pub record AnswersOrder (before : PooledModel) (o : Order) (text : List ℕ) (af
   pub granted : after.pool.books.granted ≡ granted_to after.sessions
 
 -- ---- orders
--- the lines that tell the answers to orders which are given one after the other
+-- the lines for the answers to orders that are given one after the other
 abbrev pub Answers : PooledModel → List Order → List ℕ → PooledModel → Type 0
 Answers before [] text after = (text ≡ []) × (after ≡ before)
 Answers before (o ∷ orders) text after =
@@ -74,7 +74,7 @@ RunsPool capacity asked orders (Err end.NoMemory) old new =
 RunsPool capacity asked orders result old new =
     (start : PooledModel) × OpenedOn capacity asked start × EndsOrders start orders result old new
 
--- each order is for one of so many sessions
+-- each order is for one of `sessions` sessions
 abbrev pub AreFor : ℕ → List Order → Type 0
 AreFor sessions orders = All (λ (o : Order). o.session < sessions) orders
 

@@ -23,7 +23,7 @@ unfit_name unfit.NotOfPool = codes "NotOfPool"
 abbrev pub NamesReason : Unfit → List ℕ → Type 0
 NamesReason why text = (words : List ℕ) × IsPlain words × (text ≡ unfit_name why ++ (codes ": " ++ (words ++ 10 ∷ [])))
 
--- what is told of a line that doesn't fit: that line, or nothing where there was no memory for it
+-- the message for a line that doesn't fit, or nothing where there was no memory for it
 abbrev pub SaysReason : Unfit → List ℕ → Type 0
 SaysReason why text = (text ≡ []) ⊎ NamesReason why text
 

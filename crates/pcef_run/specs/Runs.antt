@@ -43,8 +43,8 @@ RunsPlan p plan workers ran =
     (between : Journal) × Obeyed p [] plan.first.items ran.answers.items between × All FoundMemory ran.answers.items
     × RunsTo p between plan.arrivals.items plan.later.items workers ran.ended
 
--- A fault of a run with so many workers: there are none or more than 16, or a packet arrives for one that there isn't,
--- or what the run stands on failed. Out of memory has an end of its own.
+-- A fault of a run with `workers` workers: there are none or more than 16, or a packet arrives for one that there
+-- isn't, or what the run stands on failed. Out of memory has an end of its own.
 abbrev pub FailsRun : Plan → ℕ → RunFault → Type 0
 FailsRun plan workers fault.Workers = (workers ≡ 0) ⊎ (16 < workers)
 FailsRun plan workers fault.StrangeWorker = All (λ a. a.worker < workers) plan.arrivals.items → ⊥
@@ -63,7 +63,7 @@ OpensNot p (run.Open opening) = first_of (open_faults p) ≡ Some opening
 OpensNot p (run.Run fault) = ⊥
 OpensNot p run.NoMemory = Unit {0}
 
--- the end that is told of a fault: out of memory is told as such
+-- the end for a fault: out of memory has its own
 abbrev pub end_of : RunFault → RunEnd
 end_of fault.NoMemory = run.NoMemory
 end_of other = run.Run other

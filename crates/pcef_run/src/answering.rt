@@ -15,8 +15,8 @@ use pcef_share::Pooling;
 use std::alloc::{AllocError, Global};
 use std::io::Write;
 
-/// Gives an order to its session, and gives the line that tells the answer. Fails when out of memory, which the command
-/// may meet too.
+/// Gives an order to its session, and returns the line for the answer. Fails when out of memory, which the command may
+/// meet too.
 fn answer_line<P: Pooling>(
     alloc: Global,
     pooled: &mut Pooled<P>,
@@ -38,7 +38,7 @@ fn answer_line<P: Pooling>(
     Ok(text)
 }
 
-/// Gives an order to its session, and writes the line that tells the answer.
+/// Gives an order to its session, and writes the line for the answer.
 fn do_order<P: Pooling, W: Write>(
     alloc: Global,
     pooled: &mut Pooled<P>,

@@ -9,7 +9,7 @@ use pcef_explain::{Explanation, explain, explain_field, plain_text};
 use pcef_line::Field;
 use std::alloc::{AllocError, Global};
 
-/// What is expected of a number that counts so many from 0.
+/// What is expected of a number below `count`.
 fn expected_text(alloc: Global, count: usize) -> Result<String, AllocError> {
     if count <= 1 {
         return format!(in alloc; "0 is expected");
@@ -18,7 +18,7 @@ fn expected_text(alloc: Global, count: usize) -> Result<String, AllocError> {
     format!(in alloc; "0 to {last} is expected")
 }
 
-/// What is told of a line without a column.
+/// The explanation of a line, without a column.
 fn of_line(alloc: Global, text: &str) -> Result<Explanation, AllocError> {
     Ok(Explanation {
         column: None,
@@ -26,7 +26,7 @@ fn of_line(alloc: Global, text: &str) -> Result<Explanation, AllocError> {
     })
 }
 
-/// What is told of a session that there isn't, whose number and a space stand at the front of a line.
+/// The explanation for a session that there isn't. Its number and a space stand at the front of the line.
 fn of_session(alloc: Global, front: &[u8], sessions: usize) -> Result<Explanation, AllocError> {
     let number = String::from_utf8_lossy(alloc, front)?;
     let number = number.trim_end();
@@ -37,7 +37,7 @@ fn of_session(alloc: Global, front: &[u8], sessions: usize) -> Result<Explanatio
     })
 }
 
-/// What is told of a line, at whose front a session's number may stand.
+/// The explanation of a line that doesn't fit. A session's number may stand at its front.
 fn explanation(
     alloc: Global,
     front: &[u8],
@@ -76,9 +76,9 @@ fn placed_text(alloc: Global, line: &[u8], front: usize, why: Unfit) -> Result<S
     plain_text(alloc, text.as_str())
 }
 
-/// What is told of a line that doesn't fit, where a line of a script stands behind so many octets: the name of the reason,
-/// the column, from 1 and in octets, where that is known, what is found there and what is expected; in one line, with its
-/// line feed. Takes memory for it.
+/// Explains why a line doesn't fit, in one line with its line feed: the name of the reason, the column where it is
+/// known, in octets from 1, what is found there and what is expected. The line of a script stands behind `front`
+/// octets. Takes memory for the text.
 pub(crate) fn explain_unfit(
     alloc: Global,
     line: &[u8],

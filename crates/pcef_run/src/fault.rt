@@ -26,8 +26,8 @@ pub enum PlanFault {
 }
 
 impl PlanFault {
-    /// That of a line of this number that isn't taken. So many octets stand at its front before what is a line of a script.
-    /// Takes memory to tell the reason in words, and does without them where there is none.
+    /// The fault of the line `number`, which isn't taken. Its line of a script stands behind `front` octets. Takes
+    /// memory to put the reason in words, and does without them where there is none.
     pub fn at(alloc: Global, number: u64, line: &[u8], front: usize, untaken: Untaken) -> PlanFault
         ensures { IsFaultAt number untaken result }
     {

@@ -11,8 +11,8 @@ use std::io::Read;
 /// The most bytes of an input.
 const MAX_INPUT: usize = 1_073_741_824;
 
-/// All bytes up to the end of an input, of which there may be 1,073,741,824; reads at most a byte more. Takes memory for
-/// them.
+/// All bytes up to the end of an input, of which there may be 1,073,741,824; reads at most a byte more. Takes memory
+/// for them.
 ///
 /// Answers the first [`PlanFault`] that it meets: that of the reader, an input that is too long, or out of memory.
 pub(crate) fn read_all<R: Read>(alloc: Global, reader: &mut R) -> Result<Vec<u8>, PlanFault>

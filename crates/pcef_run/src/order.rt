@@ -33,7 +33,7 @@ fn session_in(bytes: &[u8]) -> Option<(u8, &[u8])>
     }
 }
 
-/// The order that a line is, if it is one for one of so many sessions.
+/// The order that a line is, if it is one for a session below `sessions`.
 fn order_of(
     alloc: Global,
     reader: &mut LineReader,
@@ -86,8 +86,8 @@ pub(crate) fn take_line(
     }
 }
 
-/// How many octets of a line stand before what is a line of a script: the number of a session and a space, where they are
-/// there.
+/// How many octets of a line stand before what is a line of a script: the number of a session and a space, where they
+/// are there.
 pub(crate) fn front_of(bytes: &[u8]) -> usize {
     match session_in(bytes) {
         Some((_, rest)) => bytes.len().saturating_sub(rest.len()),

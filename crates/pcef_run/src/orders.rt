@@ -37,14 +37,14 @@ fn orders_of(alloc: Global, input: &[u8], sessions: usize) -> Result<Vec<Order>,
     }
 }
 
-/// Reads an input to its end, and gives the orders that its lines are for so many sessions, which are numbered from 0:
-/// the number of a session in decimal digits without zeros before it, one space, and a line of a script that is a
+/// Reads an input to its end, and returns the orders that its lines are for `sessions` sessions, numbered from 0. A
+/// line is the number of a session in decimal digits without leading zeros, one space, and a line of a script that is a
 /// command. Blank lines are passed over. Keeps the whole input, at most 1,073,741,824 bytes, until all lines are read.
 /// Takes memory for it and for the orders.
 ///
 /// Answers the first [`PlanFault`] that it meets: that of the reader, an input that is too long, out of memory, or,
 /// once all is read, the first line that isn't of this form, names a session that there isn't, is at fault, or is no
-/// command, with the reason. Takes memory to tell that in words.
+/// command, with the reason. Takes memory to put the reason in words.
 pub fn read_orders<R: Read>(
     alloc: Global,
     reader: &mut R,

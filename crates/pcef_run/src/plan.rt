@@ -52,7 +52,7 @@ impl Plan {
         Ok(())
     }
 
-    /// Adds what a line asks for, if it is a command or a packet for one of so many workers.
+    /// Adds what a line asks for, if it is a command or a packet for one of `workers` workers.
     pub(crate) fn add(&mut self, line: Line, workers: u8) -> Result<(), Untaken>
         ensures fits { OnOk result (unfit_for workers line ≡ None) }
         ensures plan { AddsLine line self.old result self.new }

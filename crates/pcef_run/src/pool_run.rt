@@ -44,8 +44,8 @@ fn run_named<P: Pooling, W: Write>(
 /// to its session, one after the other, and writes a line for each answer; then a line that says what the pool has
 /// granted. That each order is for one of these sessions is the caller's condition. It doesn't flush. Takes memory.
 ///
-/// Answers why the sessions can't be opened, the writer's fault (an interruption too, and a write that takes no byte), or
-/// that memory ran out, also at a command.
+/// Answers why the sessions can't be opened, the writer's fault (an interruption too, and a write that takes no byte),
+/// or that memory ran out, also at a command.
 pub fn run_pool<W: Write>(
     alloc: Global,
     capacity: Sums,

@@ -57,13 +57,13 @@ fn plan_of(alloc: Global, input: &[u8], workers: u8) -> Result<Plan, PlanFault>
     }
 }
 
-/// Reads an input to its end, and gives what its lines ask of a run with so many workers: commands, and packets for
+/// Reads an input to its end, and returns what its lines ask of a run with `workers` workers: commands, and packets for
 /// these workers. Lines are those of a script, and blank ones are passed over. Keeps the whole input, at most
 /// 1,073,741,824 bytes, until all lines are read. Takes memory for it and for the plan.
 ///
 /// Answers the first [`PlanFault`] that it meets: that of the reader, an input that is too long, out of memory, or,
 /// once all is read, the first line that is at fault, is neither a command nor a packet, or names another worker, with
-/// the reason. Takes memory to tell that in words.
+/// the reason. Takes memory to put the reason in words.
 pub fn read_plan<R: Read>(alloc: Global, reader: &mut R, workers: u8) -> Result<Plan, PlanFault>
     ensures { Plans workers result (R.remaining reader.old) (R.remaining reader.new) }
 {

@@ -21,12 +21,12 @@ use std::alloc::Global;
 use std::sync::{Arc, Wait};
 use std::thread::Threads;
 
-/// What a run of a plan comes to.
+/// The outcome of a run of a plan.
 #[derive(Drop)]
 pub struct Ran {
     /// The answer to each command before the first packet, in order.
     pub answers: Vec<CommandAnswer>,
-    /// What the session came to, with the answers to the other commands.
+    /// The end of the session, with the answers to the other commands.
     pub ended: Ended,
 }
 
@@ -72,8 +72,8 @@ fn run_fault(fault: RunFault) -> RunEnd
     }
 }
 
-/// Opens a session of a profile, gives it the commands that stand before the first packet, and then runs it with so
-/// many workers, each in a thread of its own, to which the packets go, while the other commands are given
+/// Opens a session of a profile and gives it the commands before the first packet. Then runs it with `workers` workers,
+/// each in a thread of its own: these take the packets while the other commands are given
 /// ([`pcef_gateway::run_session`]). Answers the first fault of the profile, a fault of the run, or out of memory; the
 /// session is then given up. Takes memory. Waits for the workers.
 pub fn run_plan<C: Detects + Drop + Send + Sync, R: Threads + Wait + Sync>(

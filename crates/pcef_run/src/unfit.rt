@@ -14,11 +14,11 @@ pub enum Unfit {
     AtFault(LineFault),
     /// It is neither a command nor a packet, and a run takes no other line.
     NotOfRun,
-    /// It is a packet for a worker that there isn't; so many there are.
+    /// It is a packet for a worker that there isn't. The value is how many there are.
     NoWorker(u8),
     /// The number of a session and a space don't stand at its front, as a pool wants them.
     NoNumber,
-    /// It is for a session that there isn't; so many there are.
+    /// It is for a session that there isn't. The value is how many there are.
     NoSession(usize),
     /// It is no command, and a pool takes no other line.
     NotOfPool,
@@ -66,14 +66,14 @@ pub struct FirstUnfit {
     pub number: u64,
     /// Why it doesn't fit.
     pub why: Unfit,
-    /// The same in words, for people: a line of printable ASCII, which begins with the name of the reason and ends with a
-    /// line feed. Empty where there was no memory for it.
+    /// The same in words, for people: a line of printable ASCII, which begins with the name of the reason and ends with
+    /// a line feed. Empty where there was no memory for it.
     pub told: String,
 }
 
 impl FirstUnfit {
-    /// A line of this number that doesn't fit. So many octets stand at its front before what is a line of a script. Takes
-    /// memory for the words, and does without them where there is none.
+    /// The line `number`, which doesn't fit. Its line of a script stands behind `front` octets. Takes memory for the
+    /// words, and does without them where there is none.
     pub fn new(alloc: Global, number: u64, line: &[u8], front: usize, why: Unfit) -> FirstUnfit
         ensures number { result.number ≡ number }
         ensures why { result.why ≡ why }

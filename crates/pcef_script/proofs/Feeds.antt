@@ -24,7 +24,7 @@ pub without_feed : (bytes near : List ℕ) (most : ℕ) → near ≡ take most b
 without_feed bytes near most is found long =
     ap (λ n. has_feed (take n bytes)) long ∙ ap has_feed (sym is ∙ sym (take_all (length near) near (omega arith))) ∙ no_feed near (length near) (omega arith) found
 
--- a search tells whether there is one
+-- a search finds one where there is one
 pub feed_found : (bytes : List ℕ) (r : Option ℕ) → IsFirstByte (is_byte 10) bytes r → is_some r ≡ has_feed bytes
 feed_found bytes None none = sym (no_feed bytes (length bytes) (omega arith) none) ∙ ap has_feed (take_all (length bytes) bytes (omega arith))
 feed_found bytes (Some place) found = sym (list_any_at (λ b. b == 10) bytes place 0 found.0.high found.1)

@@ -33,7 +33,7 @@ one_more bytes line flag b kept lt =
       kept.1 ∙ below line_most (length line) (omega (arith, lt, ap length same)) ∙ sym (below line_most (length (line ++ b ∷ [])) short),
     )
 
--- so many more bytes as there is room for
+-- as many more bytes as there is room for
 pub some_more : (bytes line run : List ℕ) (flag : Bool) → IsKept bytes flag line → length run ≤ line_most - length bytes → IsKept (bytes ++ run) flag (line ++ run)
 some_more bytes line [] flag kept le = (append-nil bytes ∙ kept.0 ∙ ap (take line_most) (sym (append-nil line)), kept.1 ∙ ap is_too_long (sym (append-nil line)))
 some_more bytes line (b ∷ run) flag kept le =

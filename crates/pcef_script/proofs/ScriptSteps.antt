@@ -271,7 +271,7 @@ pub stopped_later : (p : Setting) (e : ScriptFault) (start now : Option (List �
 stopped_later p e start now input front rest block is h =
     (front ++ h.0, h.1, h.2, is ∙ ap (λ t. front ++ t) h.3 ∙ sym (append_assoc front h.0 (h.1 ∷ h.2)), subst (Stopped p e h.1 start now) (append_assoc input front h.0) h.4)
 
--- so many bytes of a block, among which is no line feed
+-- `n` bytes of a block, among which is no line feed
 pub ran_on : (p : Setting) (start now : Option (List ℕ)) (old new : Kept) (faults : ℕ) (w : World) (input block : List ℕ) (n : ℕ) → IsAfter p start now old faults w input → n ≤ length block → has_feed (take n block) ≡ false
     → (old.read ≤ script_most → old.read + n ≤ script_most) → new ≡ kept_of (last_line input ++ take n block) (old.read + n) → IsAfter p start now new faults w (input ++ take n block)
 ran_on p start now old new faults w input block n h le none most is =

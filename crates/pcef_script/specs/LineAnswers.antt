@@ -16,16 +16,16 @@ use Rattle.pcef_script.specs.ScriptLines.{ForLine, Kept}
 abbrev pub answer_bytes : LineAnswer → List ℕ
 answer_bytes a = string_bytes a.text ++ 10 ∷ []
 
--- a world makes a step, and this text tells what is due to it
+-- a world makes a step, and this text is the answer that is due
 abbrev pub AnswersStep : World → Step → List ℕ → World → Type 0
 AnswersStep before step text after =
     IsDue (step_outcome before.session.setting (standing_of before) step) text (standing_of after)
 
--- a world does what a line asks for, and this text tells it
+-- a world does what a line asks for, and this text is the answer
 abbrev pub DoesWorldLine : World → Line → List ℕ → World → Type 0
 DoesWorldLine before line text after = DoesLine before.session.setting (standing_of before) line text (standing_of after)
 
--- a fault is answered, whatever world it is told to
+-- a fault has the same answer in every world
 abbrev pub AnswersFault : LineFault → Result LineAnswer AllocError → Type 0
 AnswersFault fault result =
     (p : Setting) (before : Standing) → IfOk result (λ a. AnswersAs p before (Err fault) (string_bytes a.text) a.is_fault before)

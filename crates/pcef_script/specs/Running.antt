@@ -69,7 +69,7 @@ ReadsAll result old before new after bytes =
     (p : Setting) (start : Option (List ℕ)) (input : List ℕ) → StandsAfter p start old before input →
     OnOk result (StandsAfter p start new after (input ++ bytes))
 
--- whatever it had read, it has read so many of these bytes too
+-- whatever it had read, it has read the first of these bytes too, as many as the result says
 abbrev pub ReadsSome : {E : Type 0} → Result ℕ E → Option (List ℕ) → Running → Option (List ℕ) → Running → List ℕ → Type 0
 ReadsSome result old before new after bytes =
     (p : Setting) (start : Option (List ℕ)) (input : List ℕ) → StandsAfter p start old before input →

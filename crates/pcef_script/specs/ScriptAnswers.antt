@@ -16,7 +16,7 @@ use Rattle.pcef_answer.specs.ShowAnswers.{ShowsJournal}
 use Rattle.pcef_answer.specs.StepAnswers.{step_text}
 
 -- ---- what a line asks for is done
--- a step is made, and its answer is told; out of memory is no answer, but ends the script
+-- a step is made, and this text is its answer; out of memory is no answer, but ends the script
 abbrev pub IsDue : Reply × Standing → List ℕ → Standing → Type 0
 IsDue due text after = (text ≡ step_text due.1.journal (gen due.1.journal) due.0) × (after ≡ due.1)
 

@@ -50,7 +50,7 @@ fn keep(bytes: &mut Vec<u8>, is_too_long: &mut bool, byte: u8) -> Result<(), Scr
     }
 }
 
-/// How many bytes stand before the first line feed, at most so many.
+/// How many bytes stand before the first line feed, at most `most`.
 fn plain_len(bytes: &[u8], most: usize) -> usize
     ensures within { result ≤ length bytes.now }
     ensures most { result ≤ most }
@@ -75,9 +75,9 @@ impl Pending {
         }
     }
 
-    /// Takes bytes up to the next line feed, fewer where they would pass a limit or find no memory, and gives how
-    /// many. Those of a line that is too long already are only counted. [`Pending::take`] takes the next one, or tells
-    /// why not.
+    /// Takes bytes up to the next line feed, fewer where they would pass a limit or find no memory, and returns how
+    /// many. The bytes of a line that is too long already are only counted. [`Pending::take`] takes the next byte, or
+    /// says why not.
     pub(crate) fn take_plain(&mut self, bytes: &[u8]) -> usize
         ensures within { result ≤ length bytes.now }
         ensures plain { has_feed (take result bytes.now) ≡ false }
@@ -102,7 +102,7 @@ impl Pending {
         }
     }
 
-    /// Takes one byte, and tells whether it ends the line.
+    /// Takes one byte, and returns whether it ends the line.
     pub(crate) fn take(&mut self, byte: u8) -> Result<bool, ScriptFault>
         ensures much { (result ≡ Err TooMuch) ↔ (script_most ≤ self.old.read) }
         ensures line { ForLine self.old (λ line. Takes byte line self.old result self.new) }
@@ -119,7 +119,7 @@ impl Pending {
         Ok(false)
     }
 
-    /// How many bytes may be read next: a byte more than the rest of a script tells that it is too long.
+    /// How many bytes may be read next: the rest of a script and one byte more, which shows that it is too long.
     pub(crate) fn room(&self) -> usize
         ensures { result ≡ script_most + 1 - self.now.read }
     {

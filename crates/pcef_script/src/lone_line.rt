@@ -45,10 +45,9 @@ fn answer_of<C: Detects>(
     }
 }
 
-/// Does what a line of a script asks for, and gives the answer that a script writes for it, without the line
-/// feed; none for a line of spaces, tabs and CR alone, which changes nothing. A line of more than 262,144 bytes
-/// is at fault. Takes memory for the answer and for what the session keeps. For want of it the line may be done
-/// or not.
+/// Does what a line of a script asks for, and returns the answer that a script writes for it, without the line feed;
+/// none for a line of spaces, tabs and CR alone, which changes nothing. A line of more than 262,144 bytes is at fault.
+/// Takes memory for the answer and for what the session keeps. When out of memory, the line may be done or not.
 pub fn answer_alone<C: Detects>(
     alloc: Global,
     catalog: &C,

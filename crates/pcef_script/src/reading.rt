@@ -6,9 +6,8 @@ ghost use Rattle.std.specs.Io.KnownBytes.{ReadConsumes};
 
 use std::io::{self, Read};
 
-/// Reads some bytes to the front of a block, at most so many, and gives how many: 0 at the end of the input, or where
-/// the block is empty. That at least one byte may be read is the caller's condition. Fails as the reader does. Takes no
-/// memory.
+/// Reads up to `most` bytes to the front of a block, and returns how many: 0 at the end of the input, or where the
+/// block is empty. The caller's condition: `most` isn't 0. Fails as the reader does. Takes no memory.
 pub fn read_some<R: Read>(reader: &mut R, block: &mut [u8], most: usize) -> io::Result<usize>
     requires { 0 < most }
     ensures most { IfOk result (λ n. n ≤ most) }

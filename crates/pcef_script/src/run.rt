@@ -73,14 +73,14 @@ fn run<C: Detects, R: Read, W: Write>(
     }
 }
 
-/// Answers each line of a script on a session of its own, and gives the number of lines at fault.
+/// Answers each line of a script on a session of its own, and returns the number of lines at fault.
 ///
-/// A line feed ends a line, and so does the end of input; there is no answer to a line of spaces, tabs and CR alone.
-/// A line has at most 262,144 bytes, of which no more are kept, and a script 1,073,741,824. Reads in blocks of at most
-/// 8,192 bytes, the last of which ends one byte after those that a script may have, and writes each answer when its
-/// line has ended. Flushes the writer after each block in which a line ended, so that whoever waits for an answer has
-/// it before more is read; the caller flushes at the end. Takes memory for the line, the answer and what the session
-/// keeps.
+/// A line feed ends a line, and so does the end of input; there is no answer to a line of spaces, tabs and CR alone. A
+/// line has at most 262,144 bytes, and no more are kept of it; a script has at most 1,073,741,824. Reads in blocks of
+/// at most 8,192 bytes; the last one ends at most one byte after those that a script may have. Writes each answer when
+/// its line has ended. Flushes the writer after each block in which a line ended, so that whoever waits for an answer
+/// has it before more is read; the caller flushes at the end. Takes memory for the line, the answer and what the
+/// session keeps.
 ///
 /// Ends early with the first [`ScriptFault`] that it meets: the reader's or the writer's (an interruption too, a write
 /// that takes no byte, and a flush that fails), a script that is too long, out of memory, or a profile that no session

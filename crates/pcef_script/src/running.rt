@@ -50,7 +50,7 @@ fn answer_of<C: Detects>(
     }
 }
 
-/// Writes an answer, and gives how many lines are at fault then.
+/// Writes an answer, and returns how many lines are at fault then.
 fn write_and_count<W: Write>(
     writer: &mut W,
     answer: &LineAnswer,
@@ -71,8 +71,8 @@ fn write_and_count<W: Write>(
     }
 }
 
-/// Answers a line that has ended, and gives how many lines are at fault then. The reports of the lines before it were
-/// told, and are forgotten.
+/// Answers a line that has ended, and returns how many lines are at fault then. The reports of the lines before it were
+/// written, and are forgotten.
 pub(crate) fn end_line<C: Detects, W: Write>(
     alloc: Global,
     catalog: &C,
@@ -130,8 +130,8 @@ fn take_byte<C: Detects, W: Write>(
     Ok(())
 }
 
-/// Takes the bytes up to the next line feed at once, then the next byte, if there is one, and gives how many
-/// these are.
+/// Takes the bytes up to the next line feed at once, then the next byte, if there is one, and returns how many these
+/// are.
 fn take_some<C: Detects, W: Write>(
     alloc: Global,
     catalog: &C,

@@ -30,7 +30,7 @@ use Rattle.pcef_session.proofs.Refused.{slotless_is}
 use Rattle.pcef_model.proofs.Acceptance.{can_become, install_accepted, activate_accepted, activate_named, monitor_accepted, report_accepted, stop_accepted, activation_accepted}
 use Rattle.pcef_model.specs.Generations.{Generation}
 
--- an accepted command that makes no rule active tells of no bearer
+-- an accepted command that makes no rule active names no bearer
 pub names_none : (p : Setting) (j : Journal) (c : Command) (g : Generation) → first_of (refusals p j c) ≡ None → activated p c ≡ None → bearer_named g c ≡ None
 names_none p j (Install rule) g accepted none = absurd cc
 names_none p j (Activate name) g accepted none = absurd (from (offer_named p name) none (activate_named p j name accepted))

@@ -107,7 +107,7 @@ find_put new (r ∷ rules) =
       | inr isnt ↦ rw (isnt, isnt) (find_put new rules)
     ]
 
--- the bearer that is told is that of the rule that was made active
+-- the bearer in the answer is that of the rule that was made active
 bearer_data_of : (p : Setting) (g : Generation) (c : Command) (r : Active) → activated p c ≡ Some r → (after : Generation) → after.rules ≡ put r g.rules →
     bearer_named after c ≡ Some (record { 0 = after.id_of r.properties.qos })
 bearer_data_of p g (Install d) r is after rules =
@@ -208,7 +208,7 @@ journal_commanded p j c x parts after agrees accepted brings is =
     is ∙ ap (λ (states : List KeyState). told_by (subscribed_by c parts.triggers).usage_report (plan p j c) states (entry.Command c ∷ j)) (entering p c x parts.keys brings)
     ∙ (ended_command p j c parts agrees (asks_known p j c accepted)).journal_is
 
--- the bearers after it, and the one that is told
+-- the bearers after it, and the one in the answer
 rebound_now : (p : Setting) (j : Journal) (c : Command) (x : Option Activation) (old new : Parts) (bearer : Option BearerId) → Agrees p j old → IsCommanded p j c x old new bearer →
     (new.binding ≡ binding_of p (now p (entry.Command c ∷ j))) × (bearer ≡ bearer_named (now p (entry.Command c ∷ j)) c)
 rebound_now p j c x old new bearer agrees is =

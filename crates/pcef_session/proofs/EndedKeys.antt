@@ -140,7 +140,7 @@ comes_or_stays p g c (Some r) (Some x) k is prepared once =
     (λ s. ap (λ b. not b) (ap (λ b. same_name s.properties.name r.properties.name || b) (takes_none p c r s.properties.name (g.id_of s.properties.qos) is) ∙ or_no_more (same_name s.properties.name r.properties.name))))
     ∙ sym (has_key_put k r g.rules once) ∙ ap (has_key k) (sym (rules_put p g c r is))
 
--- the entries of a table that shows the generation tell of the same rules
+-- the entries of a table that shows the generation are of the same rules
 stays_alike : (p : Setting) (j : Journal) (c : Command) (x : Option Activation) (k : List ℕ) (e : TableEntry) (r : Active) → StandsFor p j (gen j) e r →
     stays_with p.catalog c x k e ≡ (rule_stays (now p j) c x r && is_key k r.properties.key)
 stays_alike p j c x k e r stands =

@@ -1,4 +1,5 @@
--- A session that is opened agrees with the empty journal, and goes on agreeing as workers come and leave.
+-- A session that is opened agrees with the empty journal, and goes on agreeing as workers are attached
+-- and leave.
 use Rattle.std.proofs.Common.{◌≡◌, ℕ, Bool, List, [], refl, sym, ap, subst, arith, inl, Contains, None, true, false, map}
 use Rattle.std.specs.Prelude.{◌↔◌, Err, IsOk, Ok, Option, Result, Some}
 use Rattle.std.specs.List.{AllByRecursion}

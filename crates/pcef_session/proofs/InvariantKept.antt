@@ -60,7 +60,7 @@ one_fewer n (m ∷ ns) is =
       | inr differs ↦ let rest : list_any (λ v. v == n) ns ≡ true = rw differs at is in rw differs (omega (arith, one_fewer n ns rest))
     ]
 
--- a worker comes
+-- a worker is attached
 pub sound_attached : (s t : Inside) (n : ℕ) → IsSound s → n ≡ attach_count s.counted.journal → first_of (attach_faults s.counted.journal) ≡ None → t.profile ≡ s.profile → t.listing ≡ s.listing →
     t.counted.journal ≡ entry.Attach n ∷ s.counted.journal → t.counted.states ≡ s.counted.states → t.active ≡ s.active → t.bearers ≡ s.bearers → t.newest ≡ s.newest → t.subscribed ≡ s.subscribed →
     t.lanes ≡ s.lanes ++ at_start ∷ [] → t.closed ≡ s.closed → t.terminated ≡ s.terminated → suc (length (attached s.counted.journal)) ≤ t.counted.room → IsSound t

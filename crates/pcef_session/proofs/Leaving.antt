@@ -1,4 +1,4 @@
--- Workers that come and leave, and the room that each leaving has.
+-- Workers that are attached and leave, and the room that each leaving has.
 use Rattle.std.proofs.Common.{Bool}
 use Rattle.std.proofs.Common.{◌≡◌, ◌∙◌, ◌≤◌, ◌<◌, ◌+◌, ℕ, List, [], ◌∷◌, length, refl, sym, ap, arith, inl, inr, Ok, Err, Some, None, true, false}
 use Rattle.std.specs.Result.{is_err}
@@ -85,7 +85,7 @@ refused_full p j worker count is full = rw (is, full) refl
 pub refused_by_none : (p : Setting) (j : Journal) (worker count : ℕ) → is_attached j worker ≡ true → nat_lt p.rows (length (rows j) + count) ≡ false → None ≡ first_of (flush_refusals p j worker count)
 refused_by_none p j worker count is fits = rw (is, fits) refl
 
--- what is told of rows that were taken over
+-- the answer to rows that were taken over
 flushed_value : (p : Setting) (worker : ℕ) (rs : List Row) (j k : Journal) (v : FlushAnswer) → FlushStep p worker rs j (Ok v) k → v ≡ flush_answer rs j (after_flush p j rs)
 unfolding flush_outcome
 flushed_value p worker rs j k v (inr none) = absurd (let e = none.1.0 in cc)

@@ -1,4 +1,4 @@
--- What the refusals of commands come to in a journal that nothing ended.
+-- The refusals of commands in a journal that nothing ended.
 use Rattle.std.proofs.Common.{Bool}
 use Rattle.std.proofs.Common.{◌≡◌, ◌∙◌, ℕ, true, false, not, ◌&&◌, List, [], ◌∷◌, ◌++◌, length, refl, sym, ap, arith, Some, None, nat_le, true≢false, inl, inr}
 use Rattle.std.specs.Prelude.{Option, is_none, is_some, if◌then◌else◌}

@@ -49,7 +49,7 @@ AcceptsWithin s command room = first_of (refusals_within s.setting s.journal com
 abbrev pub KeepsPrepared : SessionModel → SessionModel → Type 0
 KeepsPrepared before after = (d : Prepared) → IsPreparedFor before d → IsPreparedFor after d
 
--- a command is accepted: what is told of it and the journal after it are as due
+-- a command is accepted: its answer and the journal after it are as due
 abbrev pub DoesCommand : SessionModel → Command → Accepted → SessionModel → Type 0
 DoesCommand before command told after =
     Gives (command_outcome before.setting before.journal command) (Ok told) after.journal
@@ -71,11 +71,11 @@ AnswersCommandWithin before command room result after = CommandStepWithin before
 abbrev pub MayFollow : SessionModel → ℕ → List Item → Type 0
 MayFollow s worker items = BatchFollows s.setting s.journal worker (map row_of items)
 
--- what a flush is told, with the verdicts as a list
+-- the answer to a flush, with the verdicts as a list
 abbrev pub flushed_of : Result Verdicts FlushRefusal → Result FlushAnswer FlushRefusal
 flushed_of result = result_map_both flush_answer_of (λ e. e) result
 
--- what a last flush is told, with the verdicts as a list
+-- the answer to a last flush, with the verdicts as a list
 abbrev pub finished_of : Result (Verdicts × ℕ) FlushRefusal → Result (FlushAnswer × ℕ) FlushRefusal
 finished_of result = result_map_both finish_answer_of (λ e. e) result
 
@@ -90,7 +90,7 @@ AnswersFinish before worker items result after =
     FinishStep before.setting worker (map row_of items) before.journal (finished_of result) after.journal
 
 -- ---- what is shown
--- the end of the lane of a worker that ever came, and none of another
+-- the end of the lane of a worker that was ever attached, and none of another
 abbrev pub IsLaneEnd : Journal → ℕ → Option LaneEnd → Type 0
 IsLaneEnd j worker end =
     MatchOption end (attach_count j ≤ worker) (λ e. (worker < attach_count j) × (e ≡ lane_end j worker))

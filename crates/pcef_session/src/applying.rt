@@ -96,7 +96,7 @@ pub(crate) fn enter(
     counted.enter(Entry::Command(command));
 }
 
-/// Tells what a command reports by itself, and then the thresholds.
+/// Adds the command's own reports, and then those of the thresholds.
 pub(crate) fn report_all(
     counted: &mut CountedJournal,
     all_pending: &[PendingReport],
@@ -160,7 +160,7 @@ pub(crate) fn share_index_of(held: &mut Arc<Indexed>, shelf: &mut IndexShelf)
 }
 
 /// Lets the rules go that a command takes away, once they aren't bound any more.
-fn let_go(active: &mut ActiveRules, bearers: &Bearers, command: &Command)
+fn drop_active(active: &mut ActiveRules, bearers: &Bearers, command: &Command)
     ensures { active.new.rules ≡ still_active command.now bearers.now active.old.rules }
 {
     match command {
@@ -178,7 +178,7 @@ fn take_away(active: &mut ActiveRules, bearers: &mut Bearers, command: &Command)
         ≡ binding.with_rules bearers.old (binding.kept_by command.now bearers.old.bound) }
 {
     bearers.take_away(command);
-    let_go(active, bearers, command);
+    drop_active(active, bearers, command);
 }
 
 /// Binds a rule to the bearer that was found for it, and puts it among the active ones.

@@ -52,7 +52,7 @@ pub struct Batch {
     items: Vec<Item>,
 }
 
-// Written out, so that an owner proves one call at each way out.
+// Written out, so that an owner proves one call on each return path.
 impl Drop for Batch {
     fn drop(self) {
         let Batch { items: _ } = self;
@@ -74,7 +74,7 @@ impl Model for Batch {
 }
 
 impl Batch {
-    /// No rows, and memory for 32, or want of it.
+    /// No rows, with memory for 32, or out of memory.
     pub fn new(alloc: Global) -> Result<Batch, AllocError>
         ensures { IfOk result (λ b. b ≡ []) }
     {

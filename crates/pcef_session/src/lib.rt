@@ -4,8 +4,8 @@
 //! Its contracts say: what each command and each step of a worker answers, and the journal after it; each getter says
 //! what the journal says.
 //!
-//! In the order of reading: `batch`, `waiting`, `laws`, `prepared`, `inactive`, `keys`, `next_tables`, `pending_reports`,
-//! `applying`, `ended_keys`, `rows`, `entries`, `state`.
+//! In the order of reading: `batch`, `waiting`, `laws`, `prepared`, `inactive`, `keys`, `next_tables`,
+//! `pending_reports`, `applying`, `ended_keys`, `rows`, `entries`, `state`.
 #![tactic(auto)]
 
 mod applying;

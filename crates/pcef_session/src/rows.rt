@@ -54,8 +54,7 @@ pub(crate) fn lengthen(lanes: &mut Lanes, worker: u8, items: &[Item])
     }
 }
 
-/// Adds rows to the journal, counts their octets and tells the thresholds. No rows change nothing. Takes
-/// no memory.
+/// Adds rows to the journal, counts their octets and reports the thresholds. No rows change nothing. Takes no memory.
 pub(crate) fn take_all(counted: &mut CountedJournal, items: &[Item], subscribed: bool)
     requires room { length items.now + 8 ≤ counted.old.room }
     requires few { length counted.old.states ≤ 8 }

@@ -55,7 +55,7 @@ pub struct SessionState {
     terminated: bool,
 }
 
-// Written out, so that an owner proves one call at each way out.
+// Written out, so that an owner proves one call on each return path.
 impl Drop for SessionState {
     fn drop(self) {
         let SessionState {
@@ -156,7 +156,7 @@ impl SessionState {
         self.closed || self.terminated
     }
 
-    /// Why no worker can come, out of memory aside: the first reason in the order of [`AttachFault`].
+    /// Why no worker can be attached, out of memory aside: the first reason in the order of [`AttachFault`].
     pub fn attach_fault(&self) -> Option<AttachFault>
         ensures { result ≡ first_of (attach_faults self.now.journal) }
     {
@@ -169,9 +169,9 @@ impl SessionState {
         None
     }
 
-    /// Attaches a worker and gives its number. Numbers go up from 0 and are never used again. Takes
-    /// memory for what the journal says of the worker, its leaving included. Refused, in this order, where sixteen
-    /// workers came, where the session was closed or terminated, and when out of memory; a refusal leaves no less room.
+    /// Attaches a worker and returns its number. Numbers go up from 0 and are never used again. Takes memory for what
+    /// the journal says of the worker, its leaving included. Refused, in this order, where sixteen workers were
+    /// attached, where the session was closed or terminated, and when out of memory; a refusal leaves no less room.
     pub fn attach(&mut self) -> Result<u8, AttachFault>
         ensures answer { AttachStep self.old.journal result self.new.journal }
         ensures lane { IfOk result (λ worker. lane self.old.journal worker ≡ []) }

@@ -15,7 +15,7 @@ pub struct WaitingRows {
     items: Vec<Item>,
 }
 
-// Written out, so that an owner proves one call at each way out.
+// Written out, so that an owner proves one call on each return path.
 impl Drop for WaitingRows {
     fn drop(self) {
         let WaitingRows { items: _ } = self;

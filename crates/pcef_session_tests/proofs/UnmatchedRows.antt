@@ -23,7 +23,7 @@ attached = entry.Attach 0 ∷ []
 abbrev two : List Item
 two = unmatched_item 0 ∷ unmatched_item 1 ∷ []
 
--- what stands after the first worker came
+-- what stands after the first worker was attached
 pub first_attached : (j k : Journal) (w : ℕ) → j ≡ [] → AttachStep j (Ok w) k → k ≡ attached
 unfolding attach_outcome attach_count
 first_attached j k w empty step = elim (subst (λ x. AttachStep x (Ok w) k) empty step) [

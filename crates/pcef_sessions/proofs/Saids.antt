@@ -1,4 +1,4 @@
--- What is told to one line more.
+-- The answer to one line more.
 use Rattle.std.proofs.Common.{◌≡◌, ◌≢◌, ◌∙◌, ℕ, Bool, true, false, List, [], ◌∷◌, ◌++◌, map, Option, Some, None, refl, sym, ap, subst, append_assoc, append-nil}
 use Rattle.std.specs.Prelude.{◌||◌, All, option_map, if◌then◌else◌}
 use Rattle.std.specs.Str.{bytes_eq}

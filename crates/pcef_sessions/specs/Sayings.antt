@@ -1,4 +1,4 @@
--- What is told to a line, whatever session it is for (own choice).
+-- The answer to a line, whatever session it is for (own choice).
 use Rattle.std.specs.Prelude.{ℕ, ◌≡◌, ◌≢◌, List, [], ◌∷◌, ◌++◌, Bool, true, Option, Some, None, string_bytes}
 use Rattle.pcef_model.specs.Setting.{Setting}
 use Rattle.pcef_sessions.specs.declared.saying.NamedAnswer.{NamedAnswer}
@@ -7,7 +7,7 @@ use Rattle.pcef_sessions.specs.Addressed.{addressed}
 use Rattle.pcef_sessions.specs.Standing.{fixed, held}
 use Rattle.pcef_sessions.specs.Under.{Session, UnderName, bad_name_text}
 
--- what is told, under a name or under none, and whether the line is at fault
+-- an answer, under a name or under none, and whether the line is at fault
 pub record Said : Type 0 where
   pub name : Option (List ℕ)
   pub text : List ℕ
@@ -16,11 +16,11 @@ pub record Said : Type 0 where
 abbrev pub said_of : NamedAnswer → Said
 said_of t = record { name = t.name; text = string_bytes t.answer.text; at_fault = t.answer.is_fault }
 
--- what is told to a line without name, space or rest
+-- the answer to a line without name, space or rest
 abbrev pub bad_name : Said
 bad_name = record { name = None; text = bad_name_text; at_fault = true }
 
--- what is told to a line of the sessions that stand so, and how they stand then: a line changes nothing but the session
+-- the answer to a line of the sessions that stand so, and how they stand then: a line changes nothing but the session
 -- of its name
 abbrev pub SaysTo : Setting → (List ℕ → Option Session) → Option (List ℕ × List ℕ) → Said → (List ℕ → Option Session) → Type 0
 SaysTo p old None said new = (said ≡ bad_name) × ((any : List ℕ) → new any ≡ old any)

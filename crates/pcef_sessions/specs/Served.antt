@@ -14,7 +14,7 @@ use Rattle.pcef_sessions.specs.Sayings.{Said, bad_name}
 use Rattle.pcef_sessions.specs.Under.{Session, UnderName}
 
 -- ---- one name
--- what is told under a name, in order
+-- the answers under a name, in order
 abbrev pub if_under : List ℕ → Option (List ℕ) → Said → List Said
 if_under name None said = []
 if_under name (Some other) said = if bytes_eq other name then said ∷ [] else []
@@ -63,10 +63,10 @@ abbrev pub WroteFront : Setting → List (List ℕ) → Option (List ℕ) → Op
 WroteFront p lines old new =
     (saids : List Said) × (after : List ℕ → Option Session) × AreSaid p lines saids after × AppendsFront old new (all_bytes saids)
 
--- What was written for the input that was read. At its end the answers to all lines are, and whether one is at fault is
--- told. Where the reader fails, the answers to the whole lines before are; where memory runs out, those to the lines
--- before that one; where the writer fails, some of the bytes of the answers up to a line that ended. Where no session of
--- the profile can be opened nothing is read or written.
+-- What was written for the input that was read. At its end it is the answers to all lines, and the result says whether
+-- one is at fault. Where the reader fails, it is the answers to the whole lines before; where memory runs out, those to
+-- the lines before that one; where the writer fails, some of the bytes of the answers up to a line that ended. Where no
+-- session of the profile can be opened, nothing is read or written.
 abbrev pub Served : Setting → Result Bool ScriptFault → Option (List ℕ) → Option (List ℕ) → Option (List ℕ) → List ℕ → Type 0
 Served p (Ok any) old new left input = IsAtEnd left × Wrote p (answered (all_lines input)) any old new
 Served p (Err fault.Read) old new left input = (any : Bool) × Wrote p (answered (ended_lines input)) any old new

@@ -46,7 +46,7 @@ asking_fault_text fault.UnknownField = fault_text line.UnknownField
 asking_fault_text fault.BadUe = bad_ue_text
 
 -- ---- one line
--- what is told, whether the line is at fault, and what stands under the name then
+-- the answer, whether the line is at fault, and what stands under the name then
 abbrev pub Says : List ℕ → Bool → Option Session → List ℕ → Bool → Option Session → Type 0
 Says due is_fault next text at_fault after = (text ≡ due) × (at_fault ≡ is_fault) × (after ≡ next)
 

@@ -21,7 +21,7 @@ pub struct Held {
     world: WorldState,
 }
 
-// Written out, so that an owner proves one call at each way out.
+// Written out, so that an owner proves one call on each return path.
 impl Drop for Held {
     fn drop(self) {
         let Held {
@@ -59,7 +59,7 @@ impl Held {
     }
 
     /// Does what a line of a script asks for, and answers as the script does. The reports of the lines before it were
-    /// told, and are forgotten.
+    /// written, and are forgotten.
     pub(crate) fn answer(
         &mut self,
         alloc: Global,

@@ -1,5 +1,5 @@
-//! Many sessions in one process: `Sessions` holds them by name and answers a line of any of them, and `serve` reads lines
-//! and writes their answers.
+//! Many sessions in one process: `Sessions` holds them by name and answers a line of any of them, and `serve` reads
+//! lines and writes their answers.
 //!
 //! Its contracts say: under each name stand exactly the answers that a script gives to that name's lines between its
 //! `open` and its `end`; a line of one session changes no other.

@@ -51,7 +51,7 @@ fn serve_all<R: Read, W: Write>(
     Err(ScriptFault::Read)
 }
 
-/// Answers each line of many sessions of a profile, and tells whether a line was at fault.
+/// Answers each line of many sessions of a profile, and returns whether a line was at fault.
 ///
 /// A line is a session's name, one space, and a line of a script, or one that opens the session or ends it. A line feed
 /// ends a line, and so does the end of input; there is no answer to a line of spaces, tabs and CR alone. Of a line no
@@ -59,8 +59,8 @@ fn serve_all<R: Read, W: Write>(
 /// ended. Flushes the writer after each block in which a line ended, so that whoever waits for an answer has it before
 /// more is read; the caller flushes at the end. Takes memory for a line, an answer, and what the sessions keep.
 ///
-/// Ends early with the first [`ScriptFault`] that it meets: the reader's, which 2^64 blocks are too, or the writer's, want
-/// of memory, or a profile that no session can have, before anything is read.
+/// Ends early with the first [`ScriptFault`] that it meets: that of the reader, also after 2^64 blocks, that of the
+/// writer, out of memory, or, before anything is read, a profile that no session can have.
 pub fn serve<R: Read, W: Write>(
     alloc: Global,
     reader: &mut R,

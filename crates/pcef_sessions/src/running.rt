@@ -15,7 +15,7 @@ use memchr::memchr;
 use pcef_script::{ScriptFault, put_all, write_answer};
 use std::io::Write;
 
-/// So many octets of a line are kept: a name of 64 octets, a space, and one octet more than a script's line may have.
+/// How many octets of a line are kept: a name of 64 octets, a space, and one octet more than a script's line may have.
 const MOST_KEPT: usize = 262_210;
 
 /// Lines that are served.

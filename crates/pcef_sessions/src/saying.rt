@@ -1,4 +1,4 @@
-//! What is told.
+//! Answers to lines.
 
 ghost use Rattle.std.specs.Prelude.{◌≡◌, IfOk, true, string_bytes};
 ghost use Rattle.pcef_sessions.specs.Under.{asking_fault_text};

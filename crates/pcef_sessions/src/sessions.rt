@@ -42,7 +42,7 @@ pub struct Sessions {
     table: HashMap<SessionName, Box<Held>, RandomState>,
 }
 
-// Written out, so that an owner proves one call at each way out.
+// Written out, so that an owner proves one call on each return path.
 impl Drop for Sessions {
     fn drop(self) {
         let Sessions {
@@ -137,7 +137,7 @@ impl Sessions {
         Ok(())
     }
 
-    /// Ends the session of a name, and tells whether there was one.
+    /// Ends the session of a name, and returns whether there was one.
     fn stop(&mut self, name: &SessionName) -> bool
         ensures found { result ≡ is_some (held self.old name.now) }
         ensures there { Becomes self.old self.new name.now None }
@@ -146,8 +146,8 @@ impl Sessions {
         self.table.remove(name).is_some()
     }
 
-    /// The answer of a script to a line for a name, if there is a session. Where the line changed its rules, it may share
-    /// an index then.
+    /// The answer of a script to a line for a name, if there is a session. Where the line changed its rules, it may
+    /// share an index then.
     fn run(&mut self, name: &SessionName, line: &[u8]) -> Result<Option<LineAnswer>, AllocError>
         requires { is_blank line.now ≡ false }
         ensures there { IfOk result (λ a. Runs (held self.old name.now) line.now a
@@ -256,8 +256,8 @@ impl Sessions {
     }
 
     /// Does what a line asks for: a session's name, one space, and a line of a script, or one that opens the session or
-    /// ends it. Nothing is done for a line without name, space or rest. Takes memory for the answer and for what a session
-    /// keeps; for want of it the line may be done or not.
+    /// ends it. Nothing is done for a line without name, space or rest. Takes memory for the answer and for what a
+    /// session keeps; when out of memory, the line may be done or not.
     pub fn answer(&mut self, line: &[u8]) -> Result<NamedAnswer, AllocError>
         ensures told { IfOk result (λ t. AnswersNamedLine self.old line.now t self.new) }
         ensures fixed { fixed self.new ≡ fixed self.old }

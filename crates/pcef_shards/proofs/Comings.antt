@@ -24,7 +24,7 @@ in_append (x ∷ xs) ys = ap (λ t. octets_of x.octets ++ t) (in_append xs ys) �
 pub in_more : (xs : List Parcel) (x : Parcel) → octets_in (xs ++ x ∷ []) ≡ octets_in xs ++ octets_of x.octets
 in_more xs x = in_append xs (x ∷ []) ∙ ap (λ t. octets_in xs ++ t) (append-nil (octets_of x.octets))
 
--- the next octets come to hand
+-- the next octets arrive
 pub octets_come : (part : Option (List ℕ)) (front : List ℕ) (octets : Vec ℕ Global) → IfKnown part (λ whole. FollowsIn whole front (Some octets))
     → to_come part (front ++ octets.items) octets.items ≡ to_come part front []
 octets_come None front octets h = refl

@@ -113,7 +113,7 @@ isnt_settled pick line h = unsettled_by pick line (is_settled line) refl h
 abbrev NamedAnswer : Type 0
 NamedAnswer = ℕ → List ℕ
 
--- what was taken may be told in other words
+-- what was taken may be stated in other words
 pub taken_same : (keys : RandomState) (threads : ℕ) (a b : NamedAnswer) (s : Sorting) (input : List ℕ) → ((t : ℕ) → t < threads → b t ≡ a t) → IsSorted keys threads a s input → IsSorted keys threads b s input
 taken_same keys threads a b s input same h = record {
   keys_are = h.keys_are;

@@ -10,7 +10,7 @@ abbrev pub before_space : List ℕ → List ℕ
 before_space [] = []
 before_space (b ∷ line) = if b == 32 then [] else b ∷ before_space line
 
--- a name has at most 64 octets, so the first 65 of a line tell it
+-- a name has at most 64 octets, so the first 65 of a line suffice
 abbrev pub front_of : List ℕ → List ℕ
 front_of line = before_space (take 65 line)
 
@@ -21,7 +21,7 @@ has_space octets = list_any (λ b. b == 32) octets
 abbrev pub is_settled : List ℕ → Bool
 is_settled octets = nat_le 65 (length octets) || has_space octets
 
--- the number of the thread, of so many, for a name
+-- the number of the thread for a name, below `threads`
 abbrev pub thread_of_name : RandomState → ℕ → List ℕ → ℕ
 thread_of_name keys threads name = finish (write (initial_hasher keys) name) % threads
 

@@ -1,4 +1,4 @@
-//! What the thread does that reads.
+//! What the reading thread does.
 
 ghost use Rattle.std.specs.Prelude.{◌≡◌, ◌≢◌, ◌++◌, ◌<◌, ℕ, [], OnOk, length};
 ghost use Rattle.pcef_shards.specs.Leading.{FollowsIn, IfKnown, part_known};
@@ -56,7 +56,7 @@ fn lead_parts<N: Leading, T: Wait>(
     Ok(())
 }
 
-/// Tells each thread that its part was led.
+/// Leads the end to each thread, behind its part.
 fn lead_ends<N: Leading, T: Wait>(
     rt: &T,
     signals: &Signals,

@@ -18,7 +18,7 @@ pub(crate) struct Led<N: Leading> {
     signals: Arc<Signals>,
     thread: usize,
     taker: Taker<N>,
-    /// The octets that came last, of which so many were given.
+    /// The octets that came last; the first `given` of them were given.
     block: Vec<u8>,
     given: usize,
 }
@@ -64,8 +64,8 @@ fn await_next<N: Leading, T: Wait>(
 }
 
 impl<N: Leading> Led<N> {
-    /// Takes the next parcel, and tells whether it has octets or is the end. None are at hand. Waits for it. Fails where
-    /// all are to stop, or none will come.
+    /// Takes the next parcel, and returns whether it has octets or is the end. None are at hand. Waits for it. Fails
+    /// where all are to stop, or none will come.
     fn receive<T: Wait>(&mut self, rt: &T) -> io::Result<bool>
         requires { vec_len self.old.block ≤ self.old.given }
         ensures same { left_of N.part self.new ≡ left_of N.part self.old }
@@ -83,7 +83,7 @@ impl<N: Leading> Led<N> {
         }
     }
 
-    /// Sees that octets are at hand, and tells whether there are any. Waits for them. Fails where all are to stop, or
+    /// Sees that octets are at hand, and returns whether there are any. Waits for them. Fails where all are to stop, or
     /// none will come.
     fn refill<T: Wait>(&mut self, rt: &T) -> io::Result<bool>
         ensures same { left_of N.part self.new ≡ left_of N.part self.old }
@@ -115,7 +115,7 @@ impl<N: Leading> Led<N> {
     }
 }
 
-/// Reads what is led to a thread. Waits for it; where all are to stop, or the lines come to no end, it fails.
+/// Reads what is led to a thread. Waits for it. Fails where all are to stop, or where the lines have no end.
 #[derive(Drop)]
 pub(crate) struct Intake<N: Leading, T: Wait + Drop> {
     rt: T,

@@ -1,4 +1,4 @@
-//! What the definitions come to.
+//! What follows from the definitions.
 
 ghost use Rattle.pcef_shards.specs.Sharing.{NamesHaveThreads, OthersHaveNone};
 

@@ -24,7 +24,7 @@ use std::marker::Brand;
 use std::sync::{Arc, Wait};
 use std::thread::{self, JoinHandle, Threads};
 
-/// What a run of threads comes to.
+/// The outcome of a run of threads.
 #[derive(Drop)]
 pub struct Ran<W: Write + Drop> {
     /// How each thread ended, in the order of their writers.
@@ -206,10 +206,10 @@ fn run_named<
 /// own writer. The keys are to be random, since strangers choose names. That there is a writer is the caller's
 /// condition.
 ///
-/// A thread that ends early, but for want of lines, stops all; then, and where memory, a ring or a thread is missing,
-/// the thread that reads is left behind: it ends after the block that it waits for. Fails with [`ScriptFault::NoMemory`]
-/// alone, where not all threads came to run or were joined. Takes memory for blocks and rings, and what the sessions
-/// keep. Waits for lines and for the threads.
+/// A thread that ends early, but for want of lines, stops all. Then, and where memory, a ring or a thread is missing,
+/// the thread that reads is left behind: it ends after the block that it waits for. Fails with
+/// [`ScriptFault::NoMemory`] alone, where not all threads could be started or joined. Takes memory for blocks and
+/// rings, and what the sessions keep. Waits for lines and for the threads.
 ///
 /// [`serve`]: pcef_sessions::serve
 pub fn serve_in_threads<

@@ -83,7 +83,7 @@ fn serve_shard<R: Read, W: Write>(
     }
 }
 
-/// Whether a thread that ends so stops all. One whose lines came to no end doesn't: the others have theirs still.
+/// Whether a thread that ends so stops all. One whose lines have no end doesn't: the others have theirs still.
 fn ends_all(end: &Result<bool, ScriptFault>) -> bool {
     match end {
         Ok(_) | Err(ScriptFault::Read) => false,
@@ -148,7 +148,7 @@ fn start_thread<
     }
 }
 
-/// Starts a thread of this number, and gives the way that leads to it.
+/// Starts a thread of this number, and returns the way that leads to it.
 pub(crate) fn start<
     N: Leading + Send + Sync + 'static,
     T: Threads + Wait + Drop + Send + Sync + Copy + 'static,

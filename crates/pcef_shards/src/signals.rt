@@ -19,7 +19,7 @@ pub(crate) struct Signals {
 }
 
 impl Signals {
-    /// Signals among so many threads and the one that reads. Takes memory.
+    /// Signals among `threads` threads and the one that reads. Takes memory.
     pub(crate) fn new(alloc: Global, threads: usize) -> Result<Signals, AllocError> {
         let mut lines = Vec::new(alloc);
         for _ in 0..threads {
@@ -45,7 +45,7 @@ impl Signals {
         self.lacks_memory.store(true, Ordering::SeqCst);
     }
 
-    /// Tells that a ring has room.
+    /// Signals that a ring has room.
     pub(crate) fn signal_room(&self) {
         self.room.unpark();
     }
@@ -55,7 +55,7 @@ impl Signals {
         self.room.park(rt);
     }
 
-    /// Tells a thread that lines came, or their end.
+    /// Signals to a thread that lines came, or their end.
     pub(crate) fn signal_lines(&self, thread: usize) {
         if let Some(parker) = self.lines.get(thread) {
             parker.unpark();

@@ -49,7 +49,7 @@ impl Part {
     }
 }
 
-/// So many parts, of which each is empty.
+/// `threads` parts, each of them empty.
 fn empty_parts(alloc: Global, threads: usize) -> Result<Vec<Part>, AllocError>
     ensures many { IfOk result (λ parts. length parts.items ≡ threads) }
     ensures none { IfOk result (λ parts. All (λ part. part ≡ []) parts.items) }
@@ -72,8 +72,8 @@ fn lead(parts: &mut Vec<Part>, thread: usize, octets: &[u8]) -> Result<(), Alloc
     }
 }
 
-/// Lines that are sorted by their threads. Of each line the octets before its first space pick the thread, of so many;
-/// what came for a thread waits there till it is taken. A line longer than a block is led on piece by piece.
+/// Lines that are sorted by their threads. The octets of a line before its first space pick its thread. What came for a
+/// thread waits there till it is taken. A line longer than a block is led on piece by piece.
 #[derive(Drop)]
 pub struct Sorting {
     alloc: Global,
@@ -148,7 +148,7 @@ impl Sorting {
         }
     }
 
-    /// Ends the last line, which no line feed ends. Takes memory; for want of it nothing is said of what waits.
+    /// Ends the last line, which no line feed ends. Takes memory; when out of memory, nothing is said of what waits.
     pub fn end(&mut self) -> Result<(), AllocError>
         ensures { OnOk result (SortsEnd self.old self.new) }
     {
@@ -166,7 +166,7 @@ impl Sorting {
         Ok(())
     }
 
-    /// Sorts more octets. Takes memory; for want of it nothing is said of what waits.
+    /// Sorts more octets. Takes memory; when out of memory, nothing is said of what waits.
     pub fn sort(&mut self, block: &[u8]) -> Result<(), AllocError>
         ensures { OnOk result (SortsOn self.old self.new block.now) }
     {

@@ -30,7 +30,7 @@ pub struct Blanks {
     pub(crate) commands: Blank,
 }
 
-// Written out, so that an owner proves one call at each way out.
+// Written out, so that an owner proves one call on each return path.
 impl Drop for Blanks {
     fn drop(self) {
         let Blanks {

@@ -24,7 +24,7 @@ pub struct Books<N: Naming> {
     issued: u8,
 }
 
-// Written out, so that an owner proves one call at each way out.
+// Written out, so that an owner proves one call on each return path.
 impl<N: Naming> Drop for Books<N> {
     fn drop(self) {
         let Books {

@@ -1,7 +1,7 @@
 //! What the rows and commands of a session add up to: `Books` and `Shares` of ten ledgers under one name, and
 //! `RateBooks` and `RateShares` of a pool's two.
 //!
-//! Its contracts say: a book is the exact sum of its shares, and gathering tells how many are missing.
+//! Its contracts say: a book is the exact sum of its shares, and gathering returns how many are missing.
 //!
 //! In the order of reading: `naming`, `pooling`, `tally`, `tallies`, `shares`, `books`, `blanks`, `rate_tallies`,
 //! `rate_books`.

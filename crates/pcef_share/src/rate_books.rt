@@ -21,7 +21,7 @@ pub struct RateBooks<P: Pooling> {
     issued: u8,
 }
 
-// Written out, so that an owner proves one call at each way out.
+// Written out, so that an owner proves one call on each return path.
 impl<P: Pooling> Drop for RateBooks<P> {
     fn drop(self) {
         let RateBooks {

@@ -21,7 +21,7 @@ pub struct RateBlanks {
     down: Blank,
 }
 
-// Written out, so that an owner proves one call at each way out.
+// Written out, so that an owner proves one call on each return path.
 impl Drop for RateBlanks {
     fn drop(self) {
         let RateBlanks { up: _, down: _ } = self;
@@ -62,14 +62,14 @@ impl RateBlanks {
     }
 }
 
-/// A share of the rates of a pool: what a session has of them. Contracts see its rates. A share that is let go is
-/// missing for good.
+/// A share of the rates of a pool: what a session has of them. Contracts see its rates. A dropped share is missing for
+/// good.
 pub struct RateShares<P: Pooling> {
     up: Portion<OfPool<P, 0>>,
     down: Portion<OfPool<P, 1>>,
 }
 
-// Written out, so that an owner proves one call at each way out.
+// Written out, so that an owner proves one call on each return path.
 impl<P: Pooling> Drop for RateShares<P> {
     fn drop(self) {
         let RateShares { up: _, down: _ } = self;

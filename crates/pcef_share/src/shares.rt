@@ -8,9 +8,8 @@ use crate::tallies::Tallies;
 use crate::tally::Part;
 use std::marker::Model;
 
-/// A share of each ledger of a session. Contracts see what was added to it, ten amounts: octets of
-/// slots 0 to 7, rows, commands. It takes no bytes, since the books keep the sums. A share that is let
-/// go is missing for good.
+/// A share of each ledger of a session. Contracts see what was added to it, ten amounts: octets of slots 0 to 7, rows,
+/// commands. It takes no bytes, since the books keep the sums. A dropped share is missing for good.
 pub struct Shares<N: Naming> {
     pub(crate) slot0: Part<Of<N, 0>>,
     pub(crate) slot1: Part<Of<N, 1>>,
@@ -24,7 +23,7 @@ pub struct Shares<N: Naming> {
     pub(crate) commands: Part<Of<N, 9>>,
 }
 
-// Written out, so that an owner proves one call at each way out.
+// Written out, so that an owner proves one call on each return path.
 impl<N: Naming> Drop for Shares<N> {
     fn drop(self) {
         let Shares {

@@ -38,7 +38,7 @@ enum Step {
     Deactivate(usize),
 }
 
-/// What is told of commands on two sessions.
+/// The answers to commands on two sessions.
 #[derive(Drop)]
 struct Told {
     /// What each was answered.
@@ -78,7 +78,8 @@ fn asked(alloc: Global, qci: u8) -> Option<(Profile, Listing)> {
     Some((profile_of(qci)?, Listing::new(alloc, offers).ok()?))
 }
 
-/// So many sessions, of which the last one's default bearer has this QCI, or nothing when out of memory.
+/// The profiles and listings of `sessions` sessions, the last one's default bearer of this QCI, or nothing when out of
+/// memory.
 fn all_asked(alloc: Global, sessions: u8, qci: u8) -> Option<Vec<(Profile, Listing)>>
     ensures { IfSome result (λ v. length v.items ≡ sessions) }
 {

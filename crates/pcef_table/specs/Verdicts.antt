@@ -47,7 +47,7 @@ counted_slot e = if e.counted then e.slot else None
 abbrev pub verdict_by : List Offer → Dir → TableEntry → Option Verdict
 verdict_by offers dir e = option_map (λ p. gate_verdict p e.bearer dir) (properties_of offers e.source)
 
--- the slot that a packet counts for of which this entry decided so
+-- the slot that a packet counts for, where this entry decided so
 abbrev pub slot_by : TableEntry → Verdict → Option Slot
 slot_by e (Passed rule bearer) = counted_slot e
 slot_by e _ = None

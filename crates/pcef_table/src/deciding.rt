@@ -62,7 +62,7 @@ fn counted_slot(entry: &TableEntry) -> Option<Slot>
     if entry.counted { entry.slot } else { None }
 }
 
-/// The slot that a packet counts for of which this entry decided so.
+/// The slot that a packet counts for, where this entry decided so.
 fn slot_by(entry: &TableEntry, verdict: &Verdict) -> Option<Slot>
     ensures { result ≡ slot_by entry.now verdict.now }
 {

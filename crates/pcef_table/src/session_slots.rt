@@ -31,8 +31,8 @@ fn with_slot(slot: Option<Slot>, flags: Flags) -> Flags
     }
 }
 
-/// Whether a flag is up. All eight are joined at once: every packet that passes comes here, and none is to branch at each
-/// flag.
+/// Whether a flag is up. All eight are joined at once: every packet that passes comes here, and none is to branch at
+/// each flag.
 fn any_up(flags: &Flags) -> bool
     ensures { result ≡ list_any (λ up. up) flags.now }
 {

@@ -31,7 +31,7 @@ pub struct Table {
     session: Flags,
 }
 
-// Written out, so that an owner proves one call at each way out.
+// Written out, so that an owner proves one call on each return path.
 impl Drop for Table {
     fn drop(self) {
         let Table {
@@ -290,8 +290,8 @@ impl Table {
         self.slots_beside(verdict, self.counts(catalog, verdict))
     }
 
-    /// The slots that a packet with this verdict counts for, where this one is that of the rule that let it
-    /// pass, in slot order. Takes no memory.
+    /// The slots that a packet with this verdict counts for, in slot order. The given slot is that of the rule that let
+    /// it pass. Takes no memory.
     pub fn slots_beside(&self, verdict: &Verdict, slot: Option<Slot>) -> ArrayVec<Slot, 8>
         ensures { result.items ≡ slots_beside slot self.now.session verdict.now }
     {

@@ -18,7 +18,7 @@ pub struct Outlet {
     inactive: Option<Box<dyn Reporter + Send>>,
 }
 
-// Written out, so that an owner proves one call at each way out.
+// Written out, so that an owner proves one call on each return path.
 impl Drop for Outlet {
     fn drop(self) {
         let Outlet {
@@ -72,9 +72,9 @@ impl Outlet {
         }
     }
 
-    /// Hands reports on in their order, each once to the reporter of its kind, up to the first that is refused. A report
-    /// whose kind has no reporter is passed over, and counts as sent. Who goes on from `sent` hands each report on
-    /// once ([`deliveries_join`](crate::deliveries_join)). Takes no memory beside that of the reporters.
+    /// Hands reports on in their order, each once to the reporter of its kind, up to the first that is refused. A
+    /// report whose kind has no reporter is passed over, and counts as sent. Who goes on from `sent` hands each report
+    /// on once ([`deliveries_join`](crate::deliveries_join)). Takes no memory beside that of the reporters.
     #[tactic(auto, using(crate::proofs::Joined::sent_next))]
     pub fn deliver(&mut self, reports: &[Report]) -> Delivered
         ensures sent { result.sent ≤ length reports.now }

@@ -22,8 +22,8 @@ pub trait Reporter: Drop {
 
     ghost taken: { Self → List Report };
 
-    /// Is asked for a report, and takes it, or refuses it: then the list of what it took stays as it was. A reporter that
-    /// finds no memory refuses.
+    /// Is asked for a report, and takes it, or refuses it: then the list of what it took stays as it was. A reporter
+    /// that finds no memory refuses.
     fn report(&mut self, report: &Report) -> Answer
         ensures asked { asked self.new ≡ asked self.old ++ report.now ∷ [] }
         ensures answer { Answers (taken self.old) report.now result (taken self.new) };

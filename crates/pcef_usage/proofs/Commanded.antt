@@ -29,7 +29,7 @@ use Rattle.pcef_usage.proofs.Settles.{all_stopped, stopped_if, stopped_is}
 use Rattle.pcef_usage.proofs.Slots.{distinct_slots, keys_with_slot}
 use Rattle.pcef_usage.proofs.Tells.{all_same, keys_at_place}
 
--- ---- the keys as a command comes
+-- ---- the keys when a command is given
 pub keys_entered : (p : Setting) (j : Journal) (c : Command) (states : List KeyState) → keys_of states ≡ slots p j → keys_of (entered p c states) ≡ slots p (entry.Command c ∷ j)
 unfolding slots_of
 keys_entered p j (Monitor l amount level) states keys =
@@ -149,7 +149,7 @@ on_stopped p j c states distinct keys all =
     subst (AllByRecursion (OnIs p (entry.Command c ∷ j))) (sym (stopped_is (plan p j c) states distinct))
     (all_on_after p j c states (on_after p j c) (λ k has. ap (is_among k) (sym keys) ∙ has) all)
 
--- ---- a command: its keys are entered, the grants that its reports end are taken, these are told, and
+-- ---- a command: its keys are entered, the grants that its reports end are taken, these are made, and
 -- then the thresholds
 pub command_ended : (p : Setting) (j : Journal) (c : Command) (states : List KeyState) (b : Bool) → keys_of states ≡ slots p j → AllCount p j [] states → AllOn p j states →
     Known (gen j) (rows j) → ((k : List ℕ) → reported j k ≤ counted p j k) → Asks p j c → b ≡ (subscribed (entry.Command c ∷ j)).usage_report →

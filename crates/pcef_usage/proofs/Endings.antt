@@ -20,7 +20,7 @@ use Rattle.pcef_model.proofs.Reports.{tell_now, tell_slots, tell_subscribed}
 use Rattle.pcef_usage.proofs.Tells.{keys_after, told_well}
 use Rattle.pcef_usage.proofs.Settles.{all_settled, keys_settled, knows_settled, thresholds_are}
 
--- a telling switches no key
+-- a report switches no key
 
 pub on_at : (g : List (List ℕ)) (f : KeyState → KeyState) (n : ℕ) (states : List KeyState) → ((s : KeyState) → ((f s).on ≡ s.on) × ((f s).key ≡ s.key)) →
     AllByRecursion (λ s. s.on ≡ is_among s.key g) states → AllByRecursion (λ s. s.on ≡ is_among s.key g) (at_place n f states)

@@ -90,7 +90,7 @@ pub agreement_ended : (p : Setting) (j : Journal) (states : List KeyState) (b : 
 unfolding appended after_reports KnowsAll
 agreement_ended p j states b agrees subscribes = ending p j [] states b (distinct_slots p (tables j)) agrees.keys_are tt agrees.counts agrees.on subscribes
 
--- rows are counted one by one, and then the thresholds are told
+-- rows are counted one by one, and then the thresholds are reported
 pub rows_ended : {I : Type 0} (row : I → Row) (own : I → List Slot) (p : Setting) (j : Journal) (items : List I) (states : List KeyState) (b : Bool) →
     keys_of states ≡ slots p j → AllCount p j [] states → AllOn p j states → AllByRecursion (λ i. CountsFor p j (row i) states (own i)) items →
     b ≡ (subscribed j).usage_report →

@@ -1,4 +1,4 @@
--- Loops that tell reports one after another.
+-- Loops that make reports one after another.
 use Rattle.std.proofs.Common.{◌≡◌, ◌≤◌, ◌<◌, ℕ, ◌+◌, true, false, List, [], ◌∷◌, length, refl, sym, ap, ◌∙◌, arith, inl, inr, zero, suc, subst, map, drop, get_or}
 use Rattle.std.specs.Prelude.{All}
 use Rattle.pcef_rule.specs.declared.quantity.Slot.{Slot}
@@ -24,7 +24,7 @@ place_known k states h = place_below k states (has_slot_is k states ∙ h)
 pub unknown_not : (k : List ℕ) (states : List KeyState) → is_among k (keys_of states) ≡ true → has_slot k states ≡ false → ⊥
 unknown_not k states h e = let f : has_slot k states ≡ true = has_slot_is k states ∙ h in cc
 
--- ---- the telling at a place
+-- ---- the report at a place
 knows_at : (keys : List (List ℕ)) (ts : List PendingReport) (i : ℕ) (d : PendingReport) → KnowsAll keys ts → i < length ts → Knows keys (get_or ts i d)
 unfolding KnowsAll
 knows_at keys [] i d k h = absurd (omega arith)
@@ -38,7 +38,7 @@ knows_here keys now ts i t within is same known =
 split_here : (ts : List PendingReport) (i : ℕ) (t : PendingReport) → i < length ts → t ≡ get_or ts i t → drop i ts ≡ t ∷ drop (i + 1) ts
 split_here ts i t within is = drop_more ts i t within ∙ ap (λ u. u ∷ drop (i + 1) ts) (sym is)
 
--- ---- telling
+-- ---- reporting
 pub told_step : (ts : List PendingReport) (i : ℕ) (t : PendingReport) (ss uu : List KeyState) (j k end : Journal) → i < length ts → t ≡ get_or ts i t → appended (drop i ts) ss j ≡ end →
     k ≡ entry.Report (record { number = report_count j; body = body_by ss t }) ∷ j → uu ≡ after_report t ss → appended (drop (i + 1) ts) uu k ≡ end
 unfolding appended
@@ -107,7 +107,7 @@ key_among (suc n) (s ∷ ss) h = or_more (same_name (state_at n ss).key s.key) (
 pub knows_slot : (n : ℕ) (ss : List KeyState) (key : List ℕ) → n < length ss → key ≡ (state_at n ss).key → Knows (keys_of ss) (threshold key)
 knows_slot n ss key h e = subst (λ k. is_among k (keys_of ss) ≡ true) (sym e) (key_among n ss h)
 
--- what is told of a slot
+-- the threshold report of a slot
 abbrev pub threshold_at : List KeyState → Slot → PendingReport
 threshold_at ss slot = threshold (state_at slot.0 ss).key
 

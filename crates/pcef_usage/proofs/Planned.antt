@@ -1,4 +1,4 @@
--- Each key that a command's own reports tell has a slot.
+-- Each key that a command's own reports name has a slot.
 use Rattle.std.proofs.Common.{◌≡◌, ℕ, Bool, true, false, List, [], ◌∷◌, ◌++◌, refl, map, inl, inr, nat_lt}
 use Rattle.std.specs.Prelude.{◌||◌, ◌==◌, filter}
 use Rattle.std.proofs.lemmas.Bool.{cases_Bool}

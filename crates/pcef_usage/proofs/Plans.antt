@@ -82,7 +82,7 @@ none_lost_by : (p : Setting) (j : Journal) (c : Command) (states : List KeyState
 none_lost_by p j c states differs same =
     ap (λ rules. usage_of RulesGone (loses_rules (now p j).rules rules) states) same ∙ none_lost (now p j).rules states ∙ sym (none_ended p j c differs same)
 
--- the keys that a command ends that isn't Terminate
+-- the keys that a command ends, Terminate apart
 pub lost_by_states : (p : Setting) (j : Journal) (c : Command) (states : List KeyState) → c ≢ Terminate → keys_of states ≡ slots p j → AllOn p j states → rules_gone p j c states ≡ keys_ended p j c
 lost_by_states p j (Monitor key amount level) states differs keys on = none_lost_by p j (Monitor key amount level) states differs (filter_all (now p j).rules)
 lost_by_states p j (Stop key) states differs keys on = none_lost_by p j (Stop key) states differs (filter_all (now p j).rules)

@@ -16,7 +16,7 @@ use Rattle.pcef_usage.proofs.Places.{or_more, or_no, or_rest}
 use Rattle.pcef_model.proofs.Reports.{tell_now, tell_slots, tell_subscribed}
 use Rattle.pcef_usage.proofs.Slots.{and_no}
 
--- ---- keys that are told lose their grants
+-- ---- keys that are reported lose their grants
 none_stays : (p : Setting) (keys : List (List ℕ)) (j : Journal) (k : List ℕ) → grant j k ≡ None → grant (tell p (map threshold keys) j) k ≡ None
 unfolding tell grant
 none_stays p [] j k none = none
@@ -33,7 +33,7 @@ taken p (l ∷ keys) j k is =
       | inr differs ↦ taken p keys (entry.Report (record { number = report_count j; body = body_of p j (threshold l) }) ∷ j) k (or_rest (same_name k l) (is_among k keys) differs is)
     ]
 
--- ---- a key that is not told stays as it was
+-- ---- a key that isn't reported stays as it was
 grant_stays : (p : Setting) (keys : List (List ℕ)) (j : Journal) (k : List ℕ) → is_among k keys ≡ false → grant (tell p (map threshold keys) j) k ≡ grant j k
 unfolding tell grant
 grant_stays p [] j k absent = refl

@@ -1,4 +1,4 @@
--- Keys that are switched off before they are told, and the reports at the end of an event.
+-- Keys that are switched off before they are reported, and the reports at the end of an event.
 use Rattle.std.proofs.Common.{◌≡◌, ◌≤◌, ◌<◌, ℕ, ◌+◌, Bool, true, false, List, [], ◌∷◌, length, refl, sym, ap, ◌∙◌, arith, if◌then◌else◌, inl, inr, zero, suc, subst, map}
 use Rattle.std.specs.Prelude.{◌&&◌, filter, All}
 use Rattle.std.specs.List.{AllByRecursion}
@@ -21,7 +21,7 @@ use Rattle.pcef_usage.proofs.Tells.{at_place_maps, all_mapped}
 use Rattle.pcef_usage.proofs.Loops.{keys_stopped, threshold_at}
 use Rattle.std.proofs.lemmas.List.{length-map}
 
--- a stop at each telling is one at each key that is ended
+-- a stop at each report is one at each key that is ended
 
 map_twice : (f g h : KeyState → KeyState) (xs : List KeyState) → ((x : KeyState) → f (g x) ≡ h x) → map f (map g xs) ≡ map h xs
 map_twice f g h [] e = refl

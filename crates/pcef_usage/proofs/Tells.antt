@@ -62,7 +62,7 @@ pub all_same : {X : Type 0} (P Q : X → Type 0) (xs : List X) → ((x : X) → 
 all_same P Q [] h a = tt
 all_same P Q (x ∷ xs) h a = (h x a.0, all_same P Q xs h a.1)
 
--- one telling
+-- one report
 
 either : (a b : Bool) (g o : Option ℕ) → g ≡ (if a || b then None else o) → g ≡ (if b then None else if a then None else o)
 either true true g o h = h

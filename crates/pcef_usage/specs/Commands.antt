@@ -22,7 +22,8 @@ abbrev pub started_by : Command → List KeyState → List KeyState
 started_by (Monitor key amount level) states = at_place (place_of key states) (started amount) states
 started_by _ states = states
 
--- the counters when a command comes: a key that it names has a slot, and the key of a Monitor is started
+-- the counters when a command is given: a key that it names has a slot, and the key of a Monitor is
+-- started
 abbrev pub entered : Setting → Command → List KeyState → List KeyState
 entered p c states = started_by c (with_slot (key_named p c) (level_named c) states)
 

@@ -96,11 +96,11 @@ with_octets (slot ∷ own) octets states = with_octets own octets (at_place slot
 abbrev pub AllFit : List KeyState → Type 0
 AllFit states = AllByRecursion (λ s. s.reported + s.unreported < 2 ^ 64) states
 
--- the key at a place can count so many octets more
+-- the key at a place can count `octets` octets more
 abbrev pub FitsMore : ℕ → ℕ → List KeyState → Type 0
 FitsMore n octets states = (state_at n states).reported + (state_at n states).unreported + octets < 2 ^ 64
 
--- slots that have keys, none of them twice, each of which can count so many octets more
+-- slots that have keys, none of them twice, each of which can count `octets` octets more
 abbrev pub CanCount : List Slot → ℕ → List KeyState → Type 0
 CanCount own octets states = AreSlotsBelow (length states) own × AllByRecursion (λ slot. FitsMore slot.0 octets states) own
 

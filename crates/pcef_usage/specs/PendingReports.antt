@@ -1,4 +1,4 @@
--- Reports that are told one after another, by what the counters say.
+-- Reports that are made one after another, by what the counters say.
 use Rattle.std.specs.Prelude.{◌≡◌, ℕ, ◌+◌, Bool, true, false, List, [], ◌∷◌, map, None, if◌then◌else◌, ◌&&◌, filter}
 use Rattle.std.specs.List.{list_any, AllByRecursion}
 use Rattle.pcef_rule.specs.declared.quantity.Slot.{Slot}
@@ -16,7 +16,7 @@ use Rattle.pcef_model.specs.Journals.{counted, ends_grant, grant, now, report_co
 use Rattle.pcef_usage.specs.declared.usage.KeyState.{KeyState}
 use Rattle.pcef_usage.specs.Keys.{at_place, is_reached, place_of, reported_on, state_at, stopped, ungranted_if_reached}
 
--- ---- telling by the counters
+-- ---- reporting by the counters
 abbrev pub body_by : List KeyState → PendingReport → Body
 body_by states (Inactive rule) = body.Inactive rule BearerLost
 body_by states (Usage key cause) = body.Usage key (state_at (place_of key states) states).unreported cause
@@ -26,7 +26,7 @@ abbrev pub after_report : PendingReport → List KeyState → List KeyState
 after_report (Usage key cause) states = at_place (place_of key states) reported_on states
 after_report _ states = states
 
--- the journal, and the counters, after these are told
+-- the journal, and the counters, after these reports
 unfoldable pub appended : List PendingReport → List KeyState → Journal → Journal
 appended [] states j = j
 appended (t ∷ ts) states j = appended ts (after_report t states) (entry.Report (record { number = report_count j; body = body_by states t }) ∷ j)
@@ -35,7 +35,7 @@ unfoldable pub after_reports : List PendingReport → List KeyState → List Key
 after_reports [] states = states
 after_reports (t ∷ ts) states = after_reports ts (after_report t states)
 
--- each key that is told has a slot
+-- each key that is reported has a slot
 abbrev pub Knows : List (List ℕ) → PendingReport → Type 0
 Knows keys (Usage key cause) = is_among key keys ≡ true
 Knows keys _ = Unit {0}
@@ -60,14 +60,15 @@ threshold key = Usage key Threshold
 abbrev pub reached_reports : List KeyState → List PendingReport
 reached_reports states = map (λ s. threshold s.key) (filter is_reached states)
 
--- what is told at the end of an event, and the states whose grants that takes, while there is a subscription
+-- the reports at the end of an event, and the states without the grants that these take, while there is a
+-- subscription
 abbrev pub threshold_reports : Bool → List KeyState → List PendingReport
 threshold_reports subscribed states = if subscribed then reached_reports states else []
 
 abbrev pub settled_states : Bool → List KeyState → List KeyState
 settled_states subscribed states = if subscribed then map ungranted_if_reached states else states
 
--- the journal, and the counters, after the thresholds that are reached are told
+-- the journal, and the counters, after the thresholds that are reached are reported
 abbrev pub with_thresholds : Bool → List KeyState → Journal → Journal
 with_thresholds subscribed states j = appended (threshold_reports subscribed states) (settled_states subscribed states) j
 
@@ -97,7 +98,7 @@ abbrev pub Distinct : List (List ℕ) → Type 0
 Distinct [] = Unit {0}
 Distinct (k ∷ keys) = (is_among k keys ≡ false) × Distinct keys
 
--- the counters of one key, while these are still to be told: their grants are gone already
+-- the counters of one key, while these are still to be reported: their grants are gone already
 pub record Counts (p : Setting) (j : Journal) (ts : List PendingReport) (s : KeyState) : Type 0 where
   pub grant_is : s.grant ≡ (if ended ts s.key then None else grant j s.key)
   pub reported_is : s.reported ≡ reported j s.key

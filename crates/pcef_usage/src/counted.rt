@@ -22,7 +22,7 @@ pub struct CountedJournal {
     usage: Usage,
 }
 
-// Written out, so that an owner proves one call at each way out.
+// Written out, so that an owner proves one call on each return path.
 impl Drop for CountedJournal {
     fn drop(self) {
         let CountedJournal {

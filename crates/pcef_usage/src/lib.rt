@@ -1,7 +1,7 @@
 //! `Usage`, the counters of monitoring keys, and `CountedJournal`, a journal with them.
 //!
-//! Its contracts say: what each call does to the counter of its slot and to no other; what is reported tells exactly
-//! what the counters hold.
+//! Its contracts say: what each call does to the counter of its slot and to no other; reports state exactly what the
+//! counters hold.
 //!
 //! In the order of reading: `usage`, `counted`.
 #![tactic(auto)]

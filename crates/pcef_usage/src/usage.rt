@@ -90,7 +90,7 @@ impl KeyState {
         }
     }
 
-    /// Takes the grant where it is reached, and tells whether it was.
+    /// Takes the grant where it is reached, and returns whether it was.
     fn settle(&mut self) -> bool
         ensures reached { result ≡ is_reached self.old }
         ensures state { self.new ≡ ungranted_if_reached self.old }
@@ -109,7 +109,7 @@ pub struct Usage {
     states: Vec<KeyState>,
 }
 
-// Written out, so that an owner proves one call at each way out.
+// Written out, so that an owner proves one call on each return path.
 impl Drop for Usage {
     fn drop(self) {
         let Usage {
@@ -220,7 +220,7 @@ impl Usage {
         places.take_in(&mut self.states, state);
     }
 
-    /// The slot of a key, which gets the next one and this level where it has none, or the first fault in the order of
+    /// The slot of a key; a key without one gets the next slot and this level. Or the first fault in the order of
     /// [`SlotFault`], which changes nothing. Takes memory for a new key.
     pub fn slot(&mut self, key: &KeyName, level: Level) -> Result<Slot, SlotFault>
         ensures clash { (result ≡ Err SlotFault.LevelClash)

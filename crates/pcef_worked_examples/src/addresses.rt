@@ -5,7 +5,7 @@ use std::alloc::AllocError;
 use std::fmt::Write;
 use std::net::{Ipv4Addr, Ipv6Addr};
 
-/// Tells an address as it is written.
+/// Writes an address in its usual form.
 pub fn write_address(text: &mut String, address: Addr) -> Result<(), AllocError> {
     match address {
         Addr::V4(number) => write!(text, "{}", Ipv4Addr::from_bits(number)),

@@ -20,7 +20,7 @@ use std::alloc::{AllocError, Global};
 use std::marker::Brand;
 use std::sync::{Arc, Wait};
 
-/// How many workers may come.
+/// How many workers may be attached.
 const PLACES: u8 = 16;
 
 /// A script, and the answers to its lines that were worked out by hand.
@@ -32,7 +32,7 @@ pub struct Worked {
     pub answers: String,
 }
 
-/// What the steps of a script came to behind a lock.
+/// The outcome of the steps of a script behind a lock.
 #[derive(Drop)]
 pub enum Played {
     /// Each step was answered as in the script.
@@ -155,8 +155,8 @@ fn play_to_the_end<C: Detects + Drop, N: Naming, W: Board<Cell<N>> + Drop, R: Wa
     }
 }
 
-/// The session behind its lock, under a name of its own. The texts come in a struct: rattle picks no name at a call that
-/// passes a `&str`.
+/// The session behind its lock, under a name of its own. The texts come in a struct: rattle picks no name at a call
+/// that passes a `&str`.
 fn behind_its_lock<C: Detects + Drop, N: Naming, R: Wait>(
     rt: &R,
     alloc: Global,
@@ -177,7 +177,8 @@ fn behind_its_lock<C: Detects + Drop, N: Naming, R: Wait>(
     }
 }
 
-/// What the steps of a script come to behind a lock, on a session of this profile, beside the answers that are due.
+/// Makes the steps of a script behind a lock, on a session of this profile, and compares the answers with those that
+/// are due.
 pub fn play<R: Wait>(
     rt: &R,
     alloc: Global,

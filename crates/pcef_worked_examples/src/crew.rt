@@ -14,7 +14,7 @@ use pcef_world::{Abandoned, StepAnswer};
 use std::alloc::{AllocError, Global};
 use std::sync::Wait;
 
-/// A desk, the workers that are attached, and what those handed in that left.
+/// A desk, the attached workers, and what the others handed in as they left.
 #[derive(Drop)]
 pub struct Crew<C: Offers + Drop, N: Naming> {
     desk: Desk<N>,
@@ -22,8 +22,8 @@ pub struct Crew<C: Offers + Drop, N: Naming> {
     left: Vec<Finished<N>>,
 }
 
-// Puts one more into a list; without memory it is lost, and its next step is answered as that of a worker that never
-// came.
+// Puts one more into a list; without memory it is lost, and its next step is answered as that of a worker that was
+// never attached.
 fn keep<T: Drop>(list: &mut Vec<T>, one: T) {
     let _ = list.push(one).ok();
 }
@@ -40,7 +40,7 @@ fn take_packet<C: Detects + Drop, N: Naming>(
 }
 
 impl<C: Detects + Drop, N: Naming> Crew<C, N> {
-    /// Nobody came yet.
+    /// Nobody is attached yet.
     pub fn new(alloc: Global, desk: Desk<N>) -> Crew<C, N> {
         Crew {
             desk,
@@ -49,7 +49,7 @@ impl<C: Detects + Drop, N: Naming> Crew<C, N> {
         }
     }
 
-    // Where the worker of this number is among those that are attached.
+    // The place of the worker of this number among those that are attached.
     fn place_of(&self, number: u8) -> Option<usize>
         ensures { IfSome result (λ place. place < vec_len self.now.attached) }
     {
@@ -64,7 +64,7 @@ impl<C: Detects + Drop, N: Naming> Crew<C, N> {
         self.attached.get_mut(place)
     }
 
-    // A worker comes: its number.
+    // Attaches a worker: its number.
     fn attach<W: Board<Cell<N>> + Drop, R: Wait>(
         &mut self,
         rt: &R,
@@ -168,7 +168,7 @@ impl<C: Detects + Drop, N: Naming> Crew<C, N> {
         }
     }
 
-    /// The generation that the last worker holds that came, or 0.
+    /// The generation that the worker attached last holds, or 0.
     pub fn generation(&self) -> u32 {
         match self.attached.last() {
             Some(worker) => worker.generation(),

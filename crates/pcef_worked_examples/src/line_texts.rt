@@ -72,7 +72,7 @@ fn write_fault(text: &mut String, fault: LineFault) -> Result<(), AllocError> {
     }
 }
 
-/// Tells what a line says, or its fault.
+/// Writes what a line says, or its fault.
 pub fn write_script_line(
     text: &mut String,
     line: &Result<Line, LineFault>,

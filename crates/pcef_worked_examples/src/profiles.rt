@@ -7,7 +7,8 @@ use pcef_rule::{Kind, Qci, QciTable};
 use std::alloc::{AllocError, Global};
 use std::fmt::Write;
 
-/// Tells the kinds of the QCIs from 0 to 255, a letter each: `G` with a guaranteed bit rate, `N` without, `-` for none.
+/// Writes the kinds of the QCIs from 0 to 255, a letter each: `G` with a guaranteed bit rate, `N` without, `-` for
+/// none.
 fn write_kinds(text: &mut String, qcis: &QciTable) -> Result<(), AllocError> {
     for qci in 0..=u8::MAX {
         text.push(match qcis.kind_of(Qci(qci)) {
@@ -30,12 +31,12 @@ fn write_values(text: &mut String, profile: &Profile) -> Result<(), AllocError> 
     write_kinds(text, &profile.qcis)
 }
 
-/// Tells the number, the name and the text of a fault.
+/// Writes the number, the name and the text of a fault.
 pub fn write_profile_fault(text: &mut String, fault: ReadProfileFault) -> Result<(), AllocError> {
     write!(text, "fault {} {}: {fault}", fault.number(), fault.name())
 }
 
-/// Tells what a profile is read as.
+/// Writes what a profile is read as.
 fn write_reading(alloc: Global, profile: &str, text: &mut String) -> Result<(), AllocError> {
     match read_profile(alloc, profile) {
         Ok(profile) => write_values(text, &profile),

@@ -51,7 +51,7 @@ fn first_stray(
     Ok(None)
 }
 
-/// Tells whether a line is read as the same with each stray octet at each place.
+/// Writes whether a line is read as the same with each stray octet at each place.
 fn write_strays(
     alloc: Global,
     lines: &mut LineReader,
@@ -65,7 +65,7 @@ fn write_strays(
     }
 }
 
-/// Tells what a line is read as alone, and among many where that is something else.
+/// Writes what a line is read as alone, and among many where that is something else.
 fn write_reading(
     alloc: Global,
     lines: &mut LineReader,
@@ -80,7 +80,7 @@ fn write_reading(
     text.push('\n')
 }
 
-/// Tells what a line is read as, or, where it stands behind `~ `, whether it is read as the same with stray octets.
+/// Writes what a line is read as, or, where it stands behind `~ `, whether it is read as the same with stray octets.
 pub fn write_line(
     alloc: Global,
     lines: &mut LineReader,

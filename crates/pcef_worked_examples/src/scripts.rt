@@ -62,8 +62,8 @@ fn worked_out(rt: &HostRuntime, name: &str) -> io::Result<String> {
     fs::read_to_string(rt, path.as_str())
 }
 
-/// Tells what a script came to for a writer, and gives whether each answer is as worked out. What is as it should be is
-/// told of a writer that takes all alone.
+/// Compares the answers that a script gives on a writer with those worked out, and returns whether all are the same.
+/// Prints the first difference; where there is none, the counts for the writer that takes all.
 fn compare_taken(
     rt: &HostRuntime,
     catalog: Arc<Catalog>,
@@ -88,7 +88,7 @@ fn compare_taken(
     }
 }
 
-/// Tells what the steps of a script come to behind a lock, and gives whether each answer is as worked out.
+/// Prints the outcome of the steps of a script behind a lock, and returns whether each answer is as worked out.
 fn compare_behind_a_lock<T: Wait>(
     threads: &T,
     rt: &HostRuntime,
@@ -121,7 +121,8 @@ fn compare_behind_a_lock<T: Wait>(
     }
 }
 
-/// Tells what a script came to, and gives whether each answer is as worked out, for both writers and behind a lock.
+/// Prints the outcome of a script, and returns whether each answer is as worked out, for both writers and behind a
+/// lock.
 pub fn compare<T: Wait>(
     threads: &T,
     rt: &HostRuntime,

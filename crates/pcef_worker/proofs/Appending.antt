@@ -1,4 +1,4 @@
--- What rows count that were handed over one list after the other.
+-- What rows count, where one list was handed over after the other.
 use Rattle.std.proofs.Common.{◌≡◌, ℕ, List, [], ◌∷◌, ◌++◌, refl}
 use Rattle.pcef_session.specs.declared.batch.Item.{Item}
 use Rattle.pcef_lock.specs.Counting.{with_item, with_items}

@@ -27,10 +27,10 @@ pub record Takes (p : Setting) (first : ℕ) (header : Header) (old new : Worker
 abbrev pub flushed : WorkerModel → WorkerModel
 flushed w = record w { waiting = []; rows = w.rows ++ w.waiting }
 
--- what a worker hands in that finished: its last rows were handed over as it left
+-- what a worker that finished hands in: its last rows were handed over as it left
 abbrev pub finished : WorkerModel → HandedIn
 finished w = record { worker = w.worker; items = w.rows ++ w.waiting; keeps = w.keeps; leaving = Finished (length w.waiting) }
 
--- what a worker hands in that left with rows waiting
+-- what a worker that left with rows waiting hands in
 abbrev pub abandoned : WorkerModel → HandedIn
 abandoned w = record { worker = w.worker; items = w.rows; keeps = w.keeps; leaving = Abandoned (length w.waiting) }

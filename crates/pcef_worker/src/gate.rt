@@ -1,6 +1,6 @@
 //! Points at which a worker may be held up.
 
-/// A point that a worker comes to. The number is the worker's.
+/// A point that a worker reaches. The number is the worker's.
 #[derive(Clone, Copy, Debug, PartialEq, Eq)]
 pub enum Point {
     /// A flush begins: its rows wait still.
@@ -9,7 +9,7 @@ pub enum Point {
     FlushAnswered(u8),
 }
 
-/// Is called where a worker comes to a point, with no lock held. By it tests hold a worker up, or count its flushes.
+/// Is called where a worker reaches a point, with no lock held. By it tests hold a worker up, or count its flushes.
 pub trait Gate {
     /// A worker is at this point, and goes on when the call ends.
     fn at(&self, point: Point);

@@ -75,9 +75,9 @@ impl<C: Detects + Drop, N: Naming, G: Gate + Drop> Worker<C, N, G> {
         Ok(last)
     }
 
-    /// Hands the waiting rows over, all or none, in one hold of the lock, and gives their verdicts; or answers the
+    /// Hands the waiting rows over, all or none, in one hold of the lock, and returns their verdicts; or answers the
     /// first refusal in the order of [`FlushRefusal`], which changes nothing. The gate is called before and after, with
-    /// no lock held. Takes memory, and may meet want of it before another refusal is seen. Waits for the lock.
+    /// no lock held. Takes memory, and may answer out of memory before another refusal is seen. Waits for the lock.
     pub fn flush<W: Board<Cell<N>> + Drop, P: Pooling, R: Wait>(
         &mut self,
         rt: &R,
@@ -96,8 +96,8 @@ impl<C: Detects + Drop, N: Naming, G: Gate + Drop> Worker<C, N, G> {
     }
 
     /// Hands the waiting rows over, as [`Worker::flush`] does, and leaves, both in one hold of the lock: what it hands
-    /// in, and the verdicts of its last rows. After a refusal, which changes nothing, the worker comes back and is
-    /// there as before. The gate is called before and after, with no lock held. Takes memory. Waits for the lock.
+    /// in, and the verdicts of its last rows. After a refusal, which changes nothing, the worker is given back as it
+    /// was. The gate is called before and after, with no lock held. Takes memory. Waits for the lock.
     pub fn finish<W: Board<Cell<N>> + Drop, P: Pooling, R: Wait>(
         self,
         rt: &R,

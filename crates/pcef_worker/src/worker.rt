@@ -27,7 +27,7 @@ pub struct Worker<C: Offers + Drop, N: Naming, G: Gate + Drop> {
     pub(crate) rows: OwnRows,
 }
 
-// Written out, so that an owner proves one call at each way out.
+// Written out, so that an owner proves one call on each return path.
 impl<C: Offers + Drop, N: Naming, G: Gate + Drop> Drop for Worker<C, N, G> {
     fn drop(self) {
         let Worker {
@@ -66,9 +66,9 @@ impl<C: Offers + Drop, N: Naming, G: Gate + Drop> Model for Worker<C, N, G> {
 
 impl<C: Detects + Drop, N: Naming, G: Gate + Drop> Worker<C, N, G> {
     /// Attaches a worker, in one hold of the lock: it then holds the newest table, and no row waits. Or answers the
-    /// first fault in the order of [`AttachFault`], which leaves the session as it was; there is no place too where as
-    /// many workers came as the lock was made for. The rows that it hands over are stored with it, so that they can be
-    /// compared at the end. Takes memory, which may be refused before another fault is seen.
+    /// first fault in the order of [`AttachFault`], which leaves the session as it was; there is no place, either, once
+    /// as many workers were attached as the lock has places. The rows that it hands over are stored with it, so that
+    /// they can be compared at the end. Takes memory, which may be refused before another fault is seen.
     pub fn attach<W: Board<Cell<N>> + Drop, P: Pooling, R: Wait>(
         rt: &R,
         alloc: Global,
@@ -82,8 +82,8 @@ impl<C: Detects + Drop, N: Naming, G: Gate + Drop> Worker<C, N, G> {
         Worker::attach_to(rt, alloc, shared, gate, OwnRows::new(alloc))
     }
 
-    /// The same, of a worker that stores none of the rows that it hands over: it takes no memory for packets. Its shares
-    /// hold what they count all the same.
+    /// The same, of a worker that stores none of the rows that it hands over: it takes no memory for packets. Its
+    /// shares hold what they count all the same.
     pub fn attach_without_rows<W: Board<Cell<N>> + Drop, P: Pooling, R: Wait>(
         rt: &R,
         alloc: Global,
@@ -207,7 +207,7 @@ impl<C: Detects + Drop, N: Naming, G: Gate + Drop> Worker<C, N, G> {
         shared.meet(rt, &mut self.seat)
     }
 
-    /// What it hands in that left so.
+    /// What the worker, which left so, hands in.
     pub(crate) fn into_finished(self, departure: Departure<N>) -> Finished<N>
         ensures { result ≡ record {
           worker = departure.worker;

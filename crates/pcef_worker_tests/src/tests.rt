@@ -1,5 +1,5 @@
-//! Workers of one session behind its lock, whose rows and octets were counted by hand. A story is a table: what happens
-//! step by step, and beside each step the four numbers that it tells, as [`Step`] says.
+//! Workers of one session behind its lock, whose rows and octets were counted by hand. A scenario is a table of steps,
+//! each with the four numbers that [`Step`] says.
 
 mod acting;
 mod asking;
@@ -31,20 +31,20 @@ use std::sync::Wait;
 use std::test::*;
 use std::thread::Threads;
 
-/// What a step tells.
+/// The numbers of a step.
 type Seen = [u64; 4];
 
-/// What is told by a step that wasn't possible, and by no other.
+/// The numbers of a step that wasn't possible, and of no other.
 const NOT_DONE: Seen = [u64::MAX; 4];
 
-/// What is told, first or alone, by a step that found no memory, and by no other.
+/// The number, first or alone, of a step that found no memory, and of no other.
 const NO_MEMORY: u64 = u64::MAX - 1;
 
-/// The first step that told other numbers than its row in the table, and what it told; and what the end of the story
-/// told, as [`gathering::ending`] says.
+/// The first step with other numbers than its row in the table has, and these numbers; and the numbers at the end of
+/// the scenario, as [`gathering::ending`] says.
 type Told = (Option<(usize, Seen)>, [u64; 7]);
 
-/// What happens next, and what it tells, zeros after it. Of the workers that are there one acts, the last that came. A
+/// What happens next, and its numbers, zeros after them. Of the attached workers one acts, the one attached last. A
 /// step whose name ends in `AtLast` is made once more where it finds no memory, if that left all as it was.
 #[derive(Clone, Copy)]
 enum Step {
@@ -69,11 +69,11 @@ enum Step {
     /// The same, once more where it finds no memory.
     CollectAtLast(Cause),
 
-    /// A worker comes, and acts: 1, its number, and the generation that it holds.
+    /// A worker is attached, and acts: 1, its number, and the generation that it holds.
     Come,
     /// The same, once more where it finds no memory.
     ComeAtLast,
-    /// No worker can come, for this reason: 1.
+    /// No worker can be attached, for this reason: 1.
     CanNotCome(AttachFault),
     /// The worker abandons: 1, its number, and how many rows it hands in and gave up.
     Abandon,
@@ -81,12 +81,12 @@ enum Step {
     Finish,
     /// The same, once more where it finds no memory.
     FinishAtLast,
-    /// Of the worker that left after so many others: how many rows it handed in in order, and the octets of the first
-    /// three.
+    /// Of the worker that was the next to leave after this many: how many rows it handed in in order, and the octets of
+    /// the first three.
     HandedIn(usize),
 
-    /// The worker takes a packet of so many octets. As each step of a worker that has no word on it below, it tells 1,
-    /// how many rows wait and how many were handed over, and the generation that the worker holds.
+    /// The worker takes a packet of this many octets. The numbers of a step of a worker are 1, how many rows wait and
+    /// how many were handed over, and the generation that the worker holds, if nothing else is said below.
     Take(u32),
     /// It flushes: how many verdicts it gets in place of the 1.
     Flush,
@@ -112,7 +112,7 @@ enum Step {
     Crowd,
 }
 
-/// What happens, and what is told of it.
+/// What happens, each with its numbers.
 type Table<'a> = &'a [(Step, Seen)];
 
 fn tell_to_the_end<
@@ -133,7 +133,7 @@ fn tell_to_the_end<
     (difference, gathering::ending(rt, shared, desk, left))
 }
 
-// The first step that told something else, and what the workers handed in.
+// The first step with other numbers, and what the workers handed in.
 fn tell_till_all_left<
     C: Detects + Drop + Send + Sync,
     N: Naming + Send + Sync,
@@ -246,7 +246,7 @@ fn kind_of(step: Step) -> Kind {
     }
 }
 
-// What a step tells that was refused.
+// The numbers of a step that was refused.
 fn refused(lacks_memory: bool) -> Seen {
     if lacks_memory {
         [NO_MEMORY; 4]
@@ -255,7 +255,7 @@ fn refused(lacks_memory: bool) -> Seen {
     }
 }
 
-// Takes a packet of so many octets, and says whether its row waits now.
+// Takes a packet of `octets` octets, and returns whether its row waits now.
 fn takes<C: Detects + Drop, N: Naming, G: Gate + Drop>(
     worker: &mut Worker<C, N, G>,
     octets: u32,

@@ -1,4 +1,4 @@
--- Replies tell of reports that the journal gets with the step, and of none before.
+-- Replies name reports that the journal gets with the step, and none from before.
 use Rattle.std.proofs.Common.{◌≤◌, ◌≡◌, ◌+◌, arith, refl, subst, sym, ℕ, Bool, true, false, Option, None, Some, Ok, Err, if◌then◌else◌}
 use Rattle.std.specs.Prelude.{Result, nat_le, length}
 use Rattle.pcef_packet.specs.declared.header.Header.{Header}
@@ -71,7 +71,7 @@ module _ (p : Setting) (s : Standing) (forgotten : ℕ) (kept : forgotten ≤ re
   told_of_abandon worker None = tt
   told_of_abandon worker (Some w) = tt
 
-  -- so a step tells of no report that was forgotten before it
+  -- so a step names no report that was forgotten before it
   pub names_kept : (step : Step) → NamesKept forgotten (step_outcome p s step).0
   unfolding step_outcome command_outcome attach_outcome
   names_kept (of.Command c) = told_of_command c (first_of (refusals p s.journal c))
@@ -89,7 +89,7 @@ made_same u v w step a setting standing made =
     subst (λ (p : Setting). Plays p (standing_of v) step a (standing_of w)) setting
     (subst (λ (s : Standing). Plays u.session.setting s step a (standing_of w)) standing made)
 
--- what a world answers tells of no report that is forgotten
+-- the answer of a world names no report that is forgotten
 pub answered_by_world : (v w : World) (step : Step) (a : StepAnswer) (forgotten : ℕ) → forgotten ≤ report_count v.session.journal →
     MakesStep v step a w → NamesKept forgotten (reply_of a)
 answered_by_world v w step a forgotten kept made =

@@ -20,7 +20,7 @@ use Rattle.pcef_model.specs.Refusals.{Conditions, attach_faults, becoming_active
 use Rattle.pcef_world.specs.Steps.{is_error}
 
 -- ---- outcomes
--- what is due was given, where memory was not wanting
+-- what is due was given, unless out of memory
 given : {A R : Type 0} (first : Option R) (want : R) (due : Outcome A R) (before after : Journal) (r : Result A R) →
     GivesOrLacks first want due before r after → (r ≡ Err want → ⊥) → due ≡ (r, after)
 given first want due before after r (inl done) other = rw (done.0, done.1) refl

@@ -62,7 +62,7 @@ waits_later p j k n w extends lane_is attached_is waits = record {
   not_older = subst (λ rs. newest_generation rs ≤ (held_by w).number) (sym (lane_with n (map row_of w.waiting) j k lane_is)) waits.not_older;
 }
 
--- ---- a worker that comes
+-- ---- a worker that is attached
 -- its lane is empty, and nothing waits
 pub waits_new : (p : Setting) (j k : Journal) (w : WorldWorker) → lane j (attach_count j) ≡ [] → k ≡ after_attach j → Shows p j (gen j) (held_by w) → w.number ≡ attach_count j →
     w.waiting ≡ [] → Waits p k (attach_count j) w

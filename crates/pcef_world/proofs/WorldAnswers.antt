@@ -107,7 +107,7 @@ pub command_answer : (p : Setting) (c : Command) (j k : Journal) (workers : List
 command_answer p c j k workers r (Ok a) does told lack = rw told.0 (command_plays p c j k workers r does told.1, tt)
 command_answer p c j k workers r (Err e) does told lack = (tt, command_lacks p c j k workers (subst (λ x. CommandStep p c j x k) lack does))
 
--- ---- a worker comes
+-- ---- a worker is attached
 come_plays : (p : Setting) (j k : Journal) (workers : List (Option Waiting)) (r : Result ℕ AttachFault) → AttachStep j r k → (r ≡ Err attach.NoMemory → ⊥) →
     Plays p (record { journal = j; workers = workers }) of.Attach (answer.Attach r) (record { journal = k; workers = after_coming j r workers })
 unfolding step_outcome

@@ -65,7 +65,7 @@ sound_forgotten s t workers setting journal sound = record {
   wait = rw (setting, journal) sound.wait;
 }
 
--- a worker comes
+-- a worker is attached
 all_push : (p : Setting) (k : Journal) (workers : List (Option WorldWorker)) (new : WorldWorker) → AllWait p k workers → Waits p k (length workers) new → AllWait p k (workers ++ Some new ∷ [])
 all_push p k workers new all here = λ m w there.
     elim (get_pushed workers (Some w) (Some new) m there) [
@@ -101,7 +101,7 @@ sound_command s t workers c result sound does setting =
           (λ i w there. waits_later p s.journal t.journal i w done.extends (ap (filter (λ (r : Row). r.worker == i)) done.rows_are) (ap (list_any (λ v. v == i)) done.attached_are) (sound.wait i w there));
     }
 
--- ---- a worker comes
+-- ---- a worker is attached
 -- it doesn't
 pub sound_attached_not : (s t : SessionModel) (workers : List (Option WorldWorker)) (fault : AttachFault) → IsSoundWith s workers → AttachStep s.journal (Err fault) t.journal →
     t.setting ≡ s.setting → IsSoundWith t workers

@@ -20,7 +20,8 @@ use Rattle.pcef_world.specs.declared.answer.StepAnswer.{StepAnswer}
 use Rattle.pcef_world.specs.declared.answer.StepAnswer.TheVariants as answer
 use Rattle.pcef_world.specs.Worlds.{Waiting, World, worker_at}
 
--- how a session and its workers stand: its journal, and a place for each worker that ever came
+-- how a session and its workers stand: its journal, and a place for each worker that was ever
+-- attached
 pub record Standing : Type 0 where
   pub journal : Journal
   pub workers : List (Option Waiting)
@@ -60,7 +61,7 @@ reply_of (answer.Finish r) = finish_reply (result_map_both finish_answer_of (λ 
 reply_of (answer.Abandon abandoned) = abandon_reply abandoned
 reply_of answer.NoWorker = no_worker
 
--- no report that a reply may tell of is among so many that are forgotten
+-- no report that a reply may name is among the first `forgotten` ones
 abbrev pub NamesKept : ℕ → Reply → Type 0
 NamesKept forgotten (command_reply r) = IfOk r (λ a. forgotten ≤ a.first_report)
 NamesKept forgotten (flush_reply r) = IfOk r (λ told. forgotten ≤ told.first_report)
@@ -85,7 +86,7 @@ is_refusal no_worker = true
 abbrev pub command_step : Standing → Outcome Accepted Refusal → Reply × Standing
 command_step s due = (command_reply due.0, with_journal due.1 s)
 
--- ---- a worker comes
+-- ---- attaching a worker
 -- it holds the newest generation, and no row waits
 abbrev pub new_worker : Journal → Waiting
 new_worker j = record { generation = gen j; rows = [] }
@@ -156,7 +157,7 @@ abbrev pub finish_step : Setting → Standing → ℕ → Option Waiting → Rep
 finish_step p s worker None = (no_worker, s)
 finish_step p s worker (Some w) = finished s worker (finish_outcome p s.journal worker w.rows)
 
--- without its waiting rows: it is told how many these are, and the length of the lane
+-- without its waiting rows: the answer has how many these are, and the length of the lane
 abbrev pub abandoned_of : Journal → ℕ → Waiting → Abandoned
 abandoned_of j worker w = record { waiting = length w.rows; rows = lane_len j worker }
 

@@ -14,7 +14,7 @@ pub record Waiting : Type 0 where
   pub generation : ℕ
   pub rows : List Row
 
--- a session, and a place for each worker that ever came: it holds the worker, or none where it left
+-- a session, and a place for each worker that was ever attached: it holds the worker, or none where it left
 pub record World : Type 0 where
   pub session : SessionModel
   pub workers : List (Option Waiting)
@@ -40,7 +40,7 @@ AreInTurn p j workers = (number : ℕ) (w : Waiting) → worker_at workers numbe
 abbrev pub HasWorkersInTurn : World → Type 0
 HasWorkersInTurn w = AreInTurn w.session.setting w.session.journal w.workers
 
--- a world that was just opened: this is fixed for its session, its journal is empty, no worker ever came, and nothing is
--- forgotten
+-- a world that was just opened: this is fixed for its session, its journal is empty, no worker was ever attached, and
+-- nothing is forgotten
 abbrev pub IsOpenedWorld : Setting → World → Type 0
 IsOpenedWorld p w = (w.session.setting ≡ p) × (w.session.journal ≡ []) × (w.workers ≡ []) × (w.session.forgotten ≡ 0)

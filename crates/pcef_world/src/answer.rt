@@ -9,7 +9,7 @@ use pcef_model::{Accepted, AttachFault, FlushRefusal, Refusal, Verdicts};
 use pcef_session::BatchFull;
 use std::alloc::AllocError;
 
-/// What is told of a worker that left without its waiting rows.
+/// The answer to a worker that left without its waiting rows.
 #[derive(Clone, Copy, Debug, PartialEq, Eq)]
 pub struct Abandoned {
     /// How many rows waited, 0 to 32, and get no verdict.
@@ -23,7 +23,7 @@ pub struct Abandoned {
 pub enum StepAnswer {
     /// A command is accepted or refused.
     Command(Result<Accepted, Refusal>),
-    /// A worker comes, with this number, or can't.
+    /// A worker is attached, with this number, or can't be.
     Attach(Result<u8, AttachFault>),
     /// The generation that the worker holds now.
     Refresh(u32),
@@ -33,13 +33,13 @@ pub enum StepAnswer {
     Flush(Result<Verdicts, FlushRefusal>),
     /// The verdicts on the last rows, and the length of the worker's lane, or why it stays.
     Finish(Result<(Verdicts, u64), FlushRefusal>),
-    /// What is told of a worker that left without its waiting rows.
+    /// The answer to a worker that left without its waiting rows.
     Abandon(Abandoned),
     /// The worker isn't attached.
     NoWorker,
 }
 
-/// What is told of a command: out of memory is no answer.
+/// The answer to a command. Out of memory is no answer.
 pub(crate) fn command_step_answer(
     answer: Result<Accepted, Refusal>,
 ) -> Result<StepAnswer, AllocError>
@@ -52,7 +52,7 @@ pub(crate) fn command_step_answer(
     }
 }
 
-/// What is told of a worker that comes: out of memory is no answer.
+/// The answer to an attach. Out of memory is no answer.
 pub(crate) fn attach_step_answer(answer: Result<u8, AttachFault>) -> Result<StepAnswer, AllocError>
     ensures { result ≡ attach_step_answer answer }
 {
@@ -62,7 +62,7 @@ pub(crate) fn attach_step_answer(answer: Result<u8, AttachFault>) -> Result<Step
     }
 }
 
-/// What is told of a flush: out of memory is no answer.
+/// The answer to a flush. Out of memory is no answer.
 pub(crate) fn flush_step_answer(
     answer: Result<Verdicts, FlushRefusal>,
 ) -> Result<StepAnswer, AllocError>
@@ -74,7 +74,7 @@ pub(crate) fn flush_step_answer(
     }
 }
 
-/// What is told of a finish: out of memory is no answer.
+/// The answer to a finish. Out of memory is no answer.
 pub(crate) fn finish_step_answer(
     answer: Result<(Verdicts, u64), FlushRefusal>,
 ) -> Result<StepAnswer, AllocError>

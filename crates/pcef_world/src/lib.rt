@@ -1,5 +1,5 @@
-//! A session and its workers, step by step: `WorldState`, a session and a place for each worker that ever came, and
-//! `StepAnswer`.
+//! A session and its workers, step by step: `WorldState`, a session and a place for each worker that was ever attached,
+//! and `StepAnswer`.
 //!
 //! Its contracts say: what each step answers and what stands after it, for one step and for a list; that waiting rows
 //! may come next.

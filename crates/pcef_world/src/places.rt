@@ -14,7 +14,7 @@ use pcef_session::SessionState;
 use std::alloc::AllocError;
 use std::sync::Arc;
 
-/// A worker takes a packet, after so many rows that it has handed over.
+/// A worker takes a packet, after `handed_over` rows that it has handed over.
 pub(crate) fn take_at<C: Detects>(
     place: &mut Option<WorldWorker>,
     catalog: &C,

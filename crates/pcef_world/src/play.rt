@@ -10,7 +10,7 @@ use pcef_model::Step;
 use std::alloc::{AllocError, Global};
 
 impl WorldState {
-    /// Makes steps one after the other, as [`WorldState::step`], and gives their answers in order. Takes memory for
+    /// Makes steps one after the other, as [`WorldState::step`], and returns their answers in order. Takes memory for
     /// these too. Out of memory ends it: some of the steps, from the first on, are made and stand, their answers are
     /// lost, and nothing else changes.
     pub fn play<C: Detects>(

@@ -26,7 +26,7 @@ pub struct WorldWorker {
 }
 
 impl WorldWorker {
-    /// Judges a packet by the table that the worker holds, after so many rows that it has handed over.
+    /// Judges a packet by the table that the worker holds, after `handed_over` rows that it has handed over.
     fn judge<C: Detects>(&self, catalog: &C, ue: Addr, handed_over: u64, header: &Header) -> Item
         requires table { IsTable (C.offers catalog.now) (held_by self.now).entries }
         requires few { handed_over ≤ 4294967295 }
@@ -45,7 +45,7 @@ impl WorldWorker {
         }
     }
 
-    /// Judges a packet, lets it wait, and gives how many wait then. Without memory for it, nothing changes.
+    /// Judges a packet, lets it wait, and returns how many wait then. Without memory for it, nothing changes.
     pub(crate) fn take<C: Detects>(
         &mut self,
         catalog: &C,

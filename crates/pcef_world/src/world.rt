@@ -25,14 +25,14 @@ use std::alloc::{AllocError, Global};
 use std::marker::Model;
 use std::sync::Arc;
 
-/// A session without the closures of its catalog, and a place for each worker that ever came.
+/// A session without the closures of its catalog, and a place for each worker that was ever attached.
 pub struct WorldState {
     alloc: Global,
     session: SessionState,
     workers: Vec<Option<WorldWorker>>,
 }
 
-// Written out, so that an owner proves one call at each way out.
+// Written out, so that an owner proves one call on each return path.
 impl Drop for WorldState {
     fn drop(self) {
         let WorldState {
@@ -77,8 +77,8 @@ impl WorldState {
         })
     }
 
-    /// The session. There is a place for each worker that ever came. The waiting rows of a worker that is there are
-    /// rows that the journal may have next.
+    /// The session. There is a place for each worker that was ever attached. The waiting rows of a worker that is there
+    /// are rows that the journal may have next.
     pub fn session(&self) -> &SessionState
         ensures session { result.now ≡ self.now.session }
         ensures places { attach_count self.now.session.journal ≡ length self.now.workers }
@@ -89,7 +89,7 @@ impl WorldState {
 
     /// Makes one step: a command of the session, or what a worker does.
     ///
-    /// A command and a worker that comes or leaves are answered as by [`SessionState`]. A worker judges a packet by the
+    /// A command, an attach and a leaving are answered as by [`SessionState`]. A worker judges a packet by the
     /// generation that it holds, and up to 32 rows wait. A flush hands them over; where it is refused they go on
     /// waiting. A worker finishes with a last flush, or is abandoned, and then its waiting rows get no verdict. The
     /// step of a worker that isn't attached answers [`StepAnswer::NoWorker`] and changes nothing. Takes memory, but not
@@ -137,7 +137,7 @@ impl WorldState {
         command_step_answer(self.session.command(command))
     }
 
-    // A worker that comes holds the newest generation, and no row waits.
+    // A worker that was just attached holds the newest generation, and no row waits.
     fn attach_worker(&mut self) -> Result<u8, AttachFault>
         ensures answer { AttachStep self.old.session.journal result self.new.session.journal }
         ensures workers { self.new.workers

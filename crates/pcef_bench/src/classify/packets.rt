@@ -18,7 +18,7 @@ pub enum Way {
     Scan,
 }
 
-/// How many packets went which way.
+/// The count of each kind of verdict, and the octets that were judged.
 #[derive(Clone, Copy, Debug, Default)]
 pub struct Tally {
     /// Packets that a rule let pass.

@@ -1,4 +1,4 @@
-//! What rounds of refreshes took.
+//! The times that rounds of refreshes took.
 
 use crate::laps::spread;
 use std::alloc::{AllocError, Global};
@@ -16,7 +16,7 @@ pub struct Times {
     pub clock: Vec<u64>,
 }
 
-/// Of the rounds of each kind the least, the median and the ninetieth of a hundred.
+/// Of the rounds of each kind: the least, the median and the 90th percentile, in nanoseconds.
 #[derive(Clone, Copy)]
 pub struct Spreads {
     /// Refreshes that find a newer table.
@@ -39,7 +39,7 @@ impl Times {
         }
     }
 
-    /// What the rounds of each kind spread over.
+    /// The spread of the rounds of each kind.
     pub fn spreads(self) -> Result<Spreads, AllocError> {
         let Times {
             newer,
@@ -56,7 +56,8 @@ impl Times {
     }
 }
 
-/// What one of so many took that took this together, a look at the clock left out, in hundredths of a nanosecond.
+/// The time of one of `each` operations that together took `passed` nanoseconds, less `look` for the look at the clock:
+/// in hundredths of a nanosecond.
 pub fn of_each(passed: u64, look: u64, each: u32) -> u64 {
     passed.saturating_sub(look).saturating_mul(100) / u64::from(each).max(1)
 }

@@ -14,7 +14,7 @@ use pcef_share::{Naming, Shares};
 use std::alloc::Global;
 use std::sync::Wait;
 
-/// Judges the packets of a batch, whose rows then wait.
+/// Judges the packets of a batch; their rows then wait.
 fn judge_each<C: Detects, N: Naming>(
     catalog: &C,
     seat: &Seat<N>,
@@ -32,15 +32,16 @@ fn judge_each<C: Detects, N: Naming>(
     }
 }
 
-/// How many rows wait, where the last one counts for a key.
-fn count_rows(batch: &Batch) -> u64 {
+/// The number of rows that wait if the last one counts for a key, else 0.
+fn rows_if_counted(batch: &Batch) -> u64 {
     match batch.items().last() {
         Some(item) if !item.slots.is_empty() => batch.len() as u64,
         _ => 0,
     }
 }
 
-/// Judges packets, so many times, each time by the newest table if it refreshes: how many rows were judged.
+/// Judges `batches` batches of packets, each by the newest table if it refreshes, and returns how many rows were
+/// judged.
 fn judge_batches<C: Detects, N: Naming>(
     catalog: &C,
     seat: &mut Seat<N>,
@@ -59,13 +60,13 @@ fn judge_batches<C: Detects, N: Naming>(
             seat.subscriber.refresh();
         }
         judge_each(catalog, seat, batch, packets_of(packets, number));
-        judged = judged.saturating_add(count_rows(batch));
+        judged = judged.saturating_add(rows_if_counted(batch));
         batch.clear();
     }
     judged
 }
 
-/// What a worker hands in that handed no row over.
+/// What a worker hands in without rows.
 fn without_rows<N: Naming>(alloc: Global, departure: Departure<N>, shares: Shares<N>) -> Finished<N>
     requires { shares ≡ zeros }
 {

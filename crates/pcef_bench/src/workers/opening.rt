@@ -67,7 +67,7 @@ fn port_of(rule: u8) -> u16 {
     FIRST_PORT + u16::from(rule)
 }
 
-/// A rule with the key `vid`: what comes from its port.
+/// A rule with the key `vid` for the packets from its port.
 fn rule(alloc: Global, number: u8) -> Option<Rule> {
     let name = format!(in alloc; "rule{number}").ok()?;
     let properties = Properties {

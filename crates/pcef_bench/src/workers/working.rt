@@ -15,18 +15,18 @@ use std::sync::Wait;
 use std::thread::{Threads, map_indices};
 use std::time::Clock;
 
-/// What a worker leaves.
+/// The outcome of one worker.
 #[derive(Drop)]
 pub struct Left<N: Naming> {
     /// What it hands in.
     pub finished: Finished<N>,
     /// How many rows it judged for itself alone.
     pub judged: u64,
-    /// What each of its flushes took, in nanoseconds, where they were timed.
+    /// The time of each of its flushes, in nanoseconds, where they were timed.
     pub flushes: Vec<u64>,
 }
 
-/// What all workers leave.
+/// The outcomes of all workers.
 #[derive(Drop)]
 struct AllLeft<N: Naming> {
     finished: Vec<Finished<N>>,
@@ -34,16 +34,16 @@ struct AllLeft<N: Naming> {
     flushes: Vec<u64>,
 }
 
-/// What the workers of a session reached.
+/// The outcome of the workers of a session.
 #[derive(Drop)]
 pub struct Reached {
     /// The rows of the journal, or those that were judged where none was handed over.
     pub rows: u64,
     /// The octets that were counted for the key.
     pub counted: u64,
-    /// What all workers together took, in nanoseconds.
+    /// The time of all workers together, in nanoseconds.
     pub nanoseconds: u64,
-    /// The least, the median and the ninetieth of a hundred timed flushes, in nanoseconds.
+    /// The least, the median and the 90th percentile of the timed flushes, in nanoseconds.
     pub flushes: [u64; 3],
 }
 
@@ -57,7 +57,7 @@ fn take_each<C: Detects + Drop, N: Naming>(
     }
 }
 
-/// Takes packets and flushes, so many times, or until a flush is refused.
+/// Takes packets and flushes, `batches` times, or until a flush is refused.
 fn flush_each<C: Detects + Drop, N: Naming, W: Board<Cell<N>> + Drop, R: Wait>(
     rt: &R,
     shared: &Shared<C, N, W>,
@@ -73,7 +73,7 @@ fn flush_each<C: Detects + Drop, N: Naming, W: Board<Cell<N>> + Drop, R: Wait>(
     }
 }
 
-/// Takes packets and flushes, so many times: what each flush took.
+/// Takes packets and flushes, `batches` times, and times each flush.
 fn time_each<C: Detects + Drop, N: Naming, W: Board<Cell<N>> + Drop, R: Wait, K: Clock>(
     rt: &R,
     clock: &K,
@@ -92,7 +92,7 @@ fn time_each<C: Detects + Drop, N: Naming, W: Board<Cell<N>> + Drop, R: Wait, K:
     Some(())
 }
 
-/// A worker attaches, takes packets, flushes and finishes. It stores the rows, or counts them.
+/// The outcome of a worker that attaches, takes packets, flushes and finishes. It stores the rows, or counts them.
 fn handed_over<C: Detects + Drop, N: Naming, W: Board<Cell<N>> + Drop, R: Wait>(
     rt: &R,
     alloc: Global,
@@ -111,7 +111,7 @@ fn handed_over<C: Detects + Drop, N: Naming, W: Board<Cell<N>> + Drop, R: Wait>(
     finish_worker(rt, shared, worker, Vec::new(alloc))
 }
 
-/// A worker attaches, takes packets, flushes, each flush timed, and finishes.
+/// The outcome of a worker that attaches, takes packets, times each flush and finishes.
 fn time_worker<C: Detects + Drop, N: Naming, W: Board<Cell<N>> + Drop, R: Wait, K: Clock>(
     rt: &R,
     clock: &K,
@@ -134,7 +134,7 @@ fn time_worker<C: Detects + Drop, N: Naming, W: Board<Cell<N>> + Drop, R: Wait, 
     finish_worker(rt, shared, worker, flushes)
 }
 
-/// What a worker leaves that finishes.
+/// Finishes a worker, and returns its outcome.
 fn finish_worker<C: Detects + Drop, N: Naming, W: Board<Cell<N>> + Drop, R: Wait>(
     rt: &R,
     shared: &Shared<C, N, W>,
@@ -149,7 +149,7 @@ fn finish_worker<C: Detects + Drop, N: Naming, W: Board<Cell<N>> + Drop, R: Wait
     })
 }
 
-/// What a worker does.
+/// The outcome of a worker that does as `load` asks.
 fn work_off<C: Detects + Drop, N: Naming, W: Board<Cell<N>> + Drop, R: Wait, K: Clock>(
     rt: &R,
     clock: &K,
@@ -167,7 +167,7 @@ fn work_off<C: Detects + Drop, N: Naming, W: Board<Cell<N>> + Drop, R: Wait, K: 
     }
 }
 
-/// Adds what one more worker leaves.
+/// Adds the outcome of one more worker.
 fn add<N: Naming>(all: &mut AllLeft<N>, one: Left<N>) -> Option<()> {
     let Left {
         finished,
@@ -182,7 +182,7 @@ fn add<N: Naming>(all: &mut AllLeft<N>, one: Left<N>) -> Option<()> {
     Some(())
 }
 
-/// What all workers leave, in one.
+/// The outcomes of all workers, if each has one.
 fn together<N: Naming>(alloc: Global, left: Vec<Option<Left<N>>>) -> Option<AllLeft<N>> {
     let mut all = AllLeft {
         finished: Vec::new(alloc),
@@ -195,7 +195,7 @@ fn together<N: Naming>(alloc: Global, left: Vec<Option<Left<N>>>) -> Option<AllL
     Some(all)
 }
 
-/// What all workers leave, and what they took together, in nanoseconds.
+/// The outcomes of all workers, and their time together, in nanoseconds.
 fn work_each<
     C: Detects + Drop + Send + Sync,
     N: Naming + Send + Sync,
@@ -218,7 +218,7 @@ fn work_each<
     Some((together(alloc, left)?, nanoseconds))
 }
 
-/// Gives the commands, and has the workers do their work.
+/// Gives the commands, and lets the workers do their work.
 fn worked_off<
     C: Detects + Drop + Send + Sync,
     N: Naming + Send + Sync,
@@ -238,7 +238,7 @@ fn worked_off<
     work_each(rt, clock, alloc, shared, packets, load)
 }
 
-/// What the workers of a session reach.
+/// The outcome of the workers of a session.
 pub fn outcome_of<
     C: Detects + Drop + Send + Sync,
     N: Naming + Send + Sync,
@@ -255,13 +255,13 @@ pub fn outcome_of<
     load: Load,
 ) -> Option<Reached> {
     match worked_off(rt, clock, alloc, &shared, &mut desk, packets, load) {
-        Some((left, nanoseconds)) => comes_to(rt, shared, desk, left, nanoseconds),
+        Some((left, nanoseconds)) => outcome_behind(rt, shared, desk, left, nanoseconds),
         None => None,
     }
 }
 
-/// What a session comes to whose workers left this after so many nanoseconds.
-fn comes_to<C: Detects + Drop, N: Naming, W: Board<Cell<N>> + Drop, R: Wait>(
+/// The outcome of a session whose workers left this after `nanoseconds`.
+fn outcome_behind<C: Detects + Drop, N: Naming, W: Board<Cell<N>> + Drop, R: Wait>(
     rt: &R,
     shared: Shared<C, N, W>,
     desk: Desk<N>,

@@ -30,6 +30,6 @@ left l = filled_from (l.before + 1) (lines_left l)
 abbrev pub size : Lines → ℕ
 size l = size_in (rest_of l)
 
--- the numbers of all lines are ones that there are
+-- the number of each line that is left is at most the greatest number
 abbrev pub HasRoom : Lines → Type 0
 HasRoom l = l.before + size l < 2 ^ 64

@@ -1,4 +1,4 @@
--- What a line with its answer adds to what is told: for private clauses.
+-- What a line with its answer adds to the figures: for private clauses.
 use Rattle.std.specs.Prelude.{ℕ, ◌≡◌, ◌+◌, ◌-◌, ◌^◌, ◌++◌, Option, true, codes, map, max, min}
 use Rattle.serde_json.specs.Data.{Data}
 use Rattle.serde_json.specs.Find.{get}
@@ -15,7 +15,7 @@ use Rattle.pcef_figures.specs.Usages.{number_in, refusal_of, refusals_in, usage_
 abbrev pub exchange_by : Filled → Filled → Exchange
 exchange_by line answer = exchange_of ((line.number, line.octets.now), (answer.number, answer.octets.now))
 
--- packets are told, and nothing else
+-- packets are added, and nothing else
 pub record TellsBeside (old new : Figures) : Type 0 where
   pub lines : new.lines ≡ old.lines
   pub last : new.last ≡ old.last
@@ -26,7 +26,7 @@ pub record TellsBeside (old new : Figures) : Type 0 where
   pub rates : new.rates ≡ old.rates
   pub refused : new.refused ≡ old.refused
 
--- what a line that was done asked for is told, and what its answer shows
+-- what a line that was done asked for is added, and what its answer shows
 pub record TakesDone (number : ℕ) (line answer : Data) (old new : Collected) : Type 0 where
   pub lines : new.figures.lines ≡ old.figures.lines
   pub last : new.figures.last ≡ old.figures.last
@@ -44,7 +44,7 @@ IsOtherOrMemory number (fault.OtherPackets n) = n ≡ number
 IsOtherOrMemory number fault.MoreAnswers = ⊥
 IsOtherOrMemory number fault.NoMemory = Unit {0}
 
--- a line is told with its answer, after it was counted and its answer's reports were told
+-- a line is added with its answer, after it was counted and its answer's reports were added
 pub record TakesLine (number : ℕ) (line : Option Data) (answer : Data) (old new : Collected) : Type 0 where
   pub lines : new.figures.lines ≡ old.figures.lines
   pub last : new.figures.last ≡ old.figures.last
@@ -57,7 +57,7 @@ pub record TakesLine (number : ℕ) (line : Option Data) (answer : Data) (old ne
   pub active : new.active ≡ rules_behind old.active number line answer
   pub answered : has_value number line answer ≡ true
 
--- a line with its answer is told
+-- a line with its answer is added
 pub record TellsNext (x : Exchange) (old new : Collected) : Type 0 where
   pub lines : new.figures.lines ≡ min (old.figures.lines + 1) (2 ^ 64 - 1)
   pub last : new.figures.last ≡ x.number

@@ -1,4 +1,4 @@
--- What a world answers to a line that it plays: for private clauses.
+-- The findings of a world that plays lines: for private clauses.
 use Rattle.std.specs.Prelude.{ℕ, ◌≡◌, ◌++◌, List, Option, Ok, string_bytes}
 use Rattle.pcef_model.specs.Journals.{gen}
 use Rattle.pcef_model.specs.declared.step.Step.{Step}
@@ -14,11 +14,11 @@ use Rattle.pcef_findings.specs.Findings.{Finds, FindsDue, FindsLine, IsFindingOf
 use Rattle.pcef_findings.specs.declared.finding.Finding.{Finding}
 use Rattle.pcef_findings.specs.declared.finding.Found.TheVariants as found
 
--- a fault is told
+-- the finding on a fault
 abbrev pub IsOfFault : ℕ → LineFault → Finding → Type 0
 IsOfFault number f x = (x.line ≡ number) × (x.found ≡ found.Fault f) × (string_bytes x.answer ≡ fault_text f)
 
--- an answer is told where it refuses
+-- the finding on an answer, where it refuses
 abbrev pub FindsAnswer : World → ℕ → StepAnswer → Option Finding → Type 0
 FindsAnswer w number a told =
     IsFindingOf number (found_in (reply_of a)) (step_text w.session.journal (gen w.session.journal) (reply_of a)) told
@@ -34,7 +34,7 @@ PlaysStep before number s told after = PlaysLine before number (line.Step s) tol
 abbrev pub PlaysBytes : World → ℕ → List ℕ → Option Finding → World → Type 0
 PlaysBytes before number bytes told after = FindsLine before.session.setting (standing_of before) number bytes told (standing_of after)
 
--- and what is found is told beside what was told before
+-- and its finding is appended to those before
 abbrev pub AddsLine : World → ℕ → List ℕ → List Finding → List Finding → World → Type 0
 AddsLine before number bytes old new after =
     (told : Option Finding) × PlaysBytes before number bytes told after × (new ≡ old ++ as_list told)

@@ -1,4 +1,4 @@
--- What rules look at behind the extension headers. It only serves the proof of the reader.
+-- The transport behind the extension headers. It only serves the proof of the reader.
 use Rattle.std.specs.Prelude.{ℕ, ◌/◌, ◌%◌, ◌==◌, ◌<◌, ◌≤◌, ◌++◌, List, length, drop, slice_index, nat_le, Bool, false, ◌&&◌, Option, Some, None, Result, Ok, Err, if◌then◌else◌, ◌≡◌}
 use Rattle.pcef_packet.specs.declared.header.Addr.TheVariants.{V4, V6}
 use Rattle.pcef_packet.specs.declared.header.Dir.{Dir}
@@ -22,7 +22,7 @@ abbrev pub transport_carried : Option Carried → Result Transport PacketFault
 transport_carried None = Err fault.BadHeaderLength
 transport_carried (Some c) = Ok (transport c.proto (if c.begins then ports_in c.proto c.payload else None))
 
--- behind the headers in front, of which the first has this kind
+-- the transport behind the headers in front; the first of them has this kind
 unfoldable pub transport_in : ℕ → List ℕ → Result Transport PacketFault
 transport_in kind octets = transport_carried (carried_in kind octets)
 
@@ -34,7 +34,7 @@ ports_read proto payload = Ok (ports_in proto payload)
 abbrev pub ports_at : List ℕ → Ports
 ports_at payload = record { src = number payload 0 2; dst = number payload 2 2 }
 
--- a payload of so many octets has them
+-- a payload of this many octets has them
 abbrev pub has_ports : ℕ → ℕ → Bool
 has_ports proto room = carries_ports proto && nat_le 4 room
 
@@ -59,7 +59,7 @@ ports_v4 octets = Ok (if fragment_offset_v4 octets == 0 then ports_in (slice_ind
 abbrev pub reading_v4 : Dir → List ℕ → Result Header PacketFault
 reading_v4 dir octets = header_unless (faults_v4 octets) (header_v4 dir octets)
 
--- whatever follows, the header in front is passed so
+-- whatever follows, the header in front is skipped so
 abbrev pub Passes : ℕ → List ℕ → ℕ → ℕ → ℕ → Type 0
 Passes kind left room next len =
     (8 ≤ len) × (len ≤ room)
@@ -70,14 +70,14 @@ abbrev pub ShowsLater : List ℕ → Option Bool → Type 0
 ShowsLater left None = (length left < 4) × (slice_index left 2 ≡ 0)
 ShowsLater left (Some later) = (rest : List ℕ) → is_later 44 (left ++ rest) ≡ later
 
--- what an extension header leads to
+-- what follows an extension header
 abbrev pub LeadsTo : ℕ → List ℕ → ℕ → Result Beyond FrontFault → Type 0
 LeadsTo kind left room (Ok (To next len)) = Passes kind left room next len
 LeadsTo kind left room (Ok (Portless proto)) = IsSettledBy (transport_in kind) left room (Ok (transport proto None))
 LeadsTo kind left room (Err e) = IsSettledBy (transport_in kind) left room (Err e)
 
 -- ---- version 6
--- the header of a packet that carries this
+-- the header of a packet with this transport
 abbrev pub header_with_v6 : Dir → List ℕ → Transport → Header
 header_with_v6 dir octets carried = record {
   dir = dir;

@@ -1,5 +1,5 @@
--- The cells that a filter lets pass, and those of a header: one cell for each octet of each field. Of a port the low field
--- may have one for each interval between steps instead.
+-- The cells that a filter lets pass, and those of a header: one cell for each octet of each field. The low field of a
+-- port may have one for each interval between steps instead.
 use Rattle.std.specs.Prelude.{ℕ, ◌+◌, ◌-◌, ◌*◌, ◌/◌, ◌%◌, ◌^◌, ◌==◌, nat_le, nat_lt, Bool, not, length, Option, Some, None, List, [], ◌∷◌, if◌then◌else◌, ◌&&◌, ◌||◌}
 use Rattle.std.specs.List.{list_any}
 use Rattle.pcef_packet.specs.declared.header.Addr.{Addr}
@@ -85,7 +85,7 @@ rest_of net = width_of net.addr - net.bits
 abbrev pub loose_of : ℕ → Net → ℕ
 loose_of shift net = rest_of net - shift_of shift net.addr
 
--- the octets that agree with one but for so many low bits
+-- the octets that agree with one but for its lowest bits, of this number
 abbrev pub block : ℕ → ℕ → ℕ → Cells
 block base octet loose = record { first = base + octet / 2 ^ loose * 2 ^ loose; last = base + octet / 2 ^ loose * 2 ^ loose + (2 ^ loose - 1) }
 
@@ -103,14 +103,14 @@ high_cells base r = record { first = base + r.first / 256; last = base + r.last 
 abbrev pub are_none : Steps → Bool
 are_none steps = length steps.starts.items == 0
 
--- of a port in a low field: how many steps it has reached or, where there are none, its low octet
+-- the cell of a port in a low field: how many steps are at or below it or, where there are none, its low octet
 abbrev pub low_cell : Steps → ℕ → ℕ
 low_cell steps port = if are_none steps then port % 256 else cell_of steps.starts.items steps.ports.items port
 
 abbrev pub spans : PortRange → Bool
 spans r = not ((r.first / 256) == (r.last / 256))
 
--- of the ports of a range in a low field: all where there are no steps and the high octets differ
+-- the cells of the ports of a range in a low field: all where there are no steps and the high octets differ
 abbrev pub low_cells : ℕ → Steps → PortRange → Cells
 low_cells base steps r =
     if are_none steps && spans r then whole base
@@ -123,8 +123,8 @@ half_cells Low base steps r = low_cells base steps r
 abbrev pub ranges_pass : Half → ℕ → Steps → List PortRange → ℕ → Bool
 ranges_pass half base steps ranges k = list_any (λ r. is_in k (half_cells half base steps r)) ranges
 
--- a port list lets all cells pass where it is empty, and all low ones where there are no steps and a range has several
--- high octets
+-- a port list lets all cells pass where it is empty, and in the low half also where there are no steps and a range has
+-- several high octets
 abbrev pub are_whole : Half → Steps → List PortRange → Bool
 are_whole High steps ranges = length ranges == 0
 are_whole Low steps ranges = (length ranges == 0) || (are_none steps && list_any spans ranges)

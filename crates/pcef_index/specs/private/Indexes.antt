@@ -1,4 +1,4 @@
--- What an index keeps of the rules that it stands for.
+-- What an index keeps of its rules.
 use Rattle.std.specs.Prelude.{◌≡◌, ◌≤◌, IfSome, List, Option, length}
 use Rattle.pcef_table.specs.declared.entry.Source.{Source}
 use Rattle.pcef_table.specs.Tables.{most_entries}
@@ -15,7 +15,7 @@ pub record IsSieveOf (sources : List Source) (sieve : Sieve) : Type 0 where
 abbrev pub Sieves : List Source → Option Sieve → Type 0
 Sieves sources sieve = IfSome sieve (IsSieveOf sources)
 
--- the rules are no more than a table has, and the sieve is theirs
+-- the rules are at most as many as a table has, and the sieve is theirs
 pub record IsIndexed (sources : List Source) (kept : Option Sieve) : Type 0 where
   pub few : length sources ≤ most_entries
   pub sieve : Sieves sources kept

@@ -1,4 +1,5 @@
--- What can fit a packet, one line each: a filter of a dynamic rule, or a predefined rule.
+-- The lines of rules. A line is what can fit a packet: a filter of a dynamic rule, or a predefined
+-- rule.
 use Rattle.std.specs.Prelude.{ℕ, ◌+◌, Bool, List, [], ◌∷◌, ◌++◌, map}
 use Rattle.pcef_packet.specs.declared.header.Addr.{Addr}
 use Rattle.pcef_packet.specs.declared.header.Header.{Header}

@@ -12,7 +12,7 @@ use Rattle.pcef_index.specs.private.Cells.{line_passes}
 abbrev pub Has : List ℕ → ℕ → ℕ → Type 0
 Has words k i = bit_at (slice_index_or words k 0) i ≡ 1
 
--- of the words of 64 lines, the first at place at, that of a cell has a bit, or that of the cell's field
+-- in the words of 64 lines, which begin at place at, the word of a cell or of its field has a bit
 abbrev pub Shows : List ℕ → ℕ → ℕ → ℕ → Type 0
 Shows words at k i = Has words (at + k) i ⊎ ((k ≤ 2305) × Has words (at + 2306 + k / 256) i)
 
@@ -53,8 +53,8 @@ IsFirstIn test lines from (Some place) =
 abbrev pub blocks : List Line → ℕ
 blocks lines = (length lines + 63) / 64
 
--- for each 64 lines a block of 2316 words, one for each cell and then one for each field: they show each line's bit at the
--- cells that it lets pass
+-- for each 64 lines a block of 2316 words, one for each cell and then one for each field: they show each line's bit at
+-- the cells that it lets pass
 pub record IsMarked (steps : PortSteps) (lines : List Line) (words : List ℕ) : Type 0 where
   pub long : length words ≡ blocks lines * 2316
   pub marked : (j k : ℕ) → passes_at steps lines j k ≡ true → Shows words (j / 64 * 2316) k (j % 64)

@@ -8,7 +8,7 @@ use Rattle.pcef_filter.specs.declared.filter.Place.TheVariants as place
 abbrev pub any_end : Endpoint
 any_end = record { place = place.Any; ports = record { items = [] } }
 
--- what stands for a filter past the last
+-- the filter past the last
 abbrev pub past_last : Filter
 past_last = record { direction = In; flow = None; proto = None; source = any_end; target = any_end }
 

@@ -1,4 +1,5 @@
--- Steps, ports at which intervals begin: how many a port has reached, where each high octet's stand together.
+-- Steps, the ports where intervals begin: how many are at or below a port, where those of each high octet
+-- stand together.
 use Rattle.std.specs.Prelude.{ℕ, ◌+◌, ◌-◌, ◌/◌, ◌≡◌, ◌≤◌, ◌<◌, List, drop, get_or, length, nat_le, take}
 use Rattle.std.specs.List.{count_by}
 

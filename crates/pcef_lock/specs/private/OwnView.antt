@@ -7,7 +7,7 @@ use Rattle.pcef_session.specs.declared.batch.Item.{Item}
 use Rattle.pcef_lock.specs.HandedIn.{OwnList}
 use Rattle.pcef_lock.specs.declared.own_rows.OwnRows.TheInside.{Inside}
 
--- how many more rows can be added, where a counter can count so many
+-- how many more rows can be added, where a counter can count `countable` more
 abbrev pub room_in : Option (Vec Item Global) → ℕ → ℕ
 room_in None countable = countable
 room_in (Some v) countable = min (vec_capacity v - vec_len v) countable

@@ -16,7 +16,7 @@ use pcef_publish::{Board, Cell};
 use pcef_session::SessionState;
 use pcef_share::{Naming, NoPool, Pooling, Shares};
 
-/// What is handed back where no totals were had: the reason, and all that was handed in.
+/// What is given back where there are no totals: the reason, and all that was handed in.
 #[derive(Drop)]
 pub struct StateUngathered<N: Naming, W: Board<Cell<N>> + Drop, P: Pooling = NoPool> {
     /// Why.
@@ -66,7 +66,7 @@ fn totals_of(session: &SessionState, amounts: &[u64; 10]) -> KeyTotals
 }
 
 impl<N: Naming, W: Board<Cell<N>> + Drop, P: Pooling> State<N, W, P> {
-    /// How many workers ever came.
+    /// How many workers were ever attached.
     fn workers(&self) -> u8
         ensures number { result ≡ attach_count self.now.session.journal }
         ensures most { result ≤ 16 }
@@ -77,9 +77,9 @@ impl<N: Naming, W: Board<Cell<N>> + Drop, P: Pooling> State<N, W, P> {
     /// The totals of the session when all its workers have left and were handed in. What is counted for a key is then
     /// what the own lists of the workers have for it, and it is reported or unreported. Where the session stores its
     /// rows, and each worker its own list, lists are compared: each worker was handed in with its lane, and the desk
-    /// with the journal's commands. Else all comes back with the first fault in the order of [`GatherFault`].
-    /// Takes no memory. The conditions of the caller: the desk and the workers are those of this lock, and no two of
-    /// them are of one worker.
+    /// with the journal's commands. Else gives all back with the first fault in the order of [`GatherFault`]. Takes no
+    /// memory. The conditions of the caller: the desk and the workers are those of this lock, and no two of them are of
+    /// one worker.
     // Apart, for inlined it takes LLVM a minute and a half: the value is large, and is moved three times.
     #[inline(never)]
     pub fn gather(

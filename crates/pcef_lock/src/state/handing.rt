@@ -28,8 +28,8 @@ impl<N: Naming, W: Board<Cell<N>> + Drop, P: Pooling> State<N, W, P> {
         continues(batch.items(), worker, end)
     }
 
-    /// Takes over the waiting rows of a worker, all or none, each with the verdict and the slots that the table gives
-    /// which the seat's subscriber saw of the row's generation, and counts them into the seat's shares; or answers the
+    /// Takes over the waiting rows of a worker, all or none, and counts them into the seat's shares. The verdict and
+    /// the slots of a row are those of the table of its generation, which the seat's subscriber saw. Or answers the
     /// first refusal in the order of [`FlushRefusal`], which changes nothing. A batch that doesn't continue the lane of
     /// the worker is refused as of one that isn't attached. Takes memory.
     pub fn flush(&mut self, seat: &mut Seat<N>, batch: &Batch) -> Result<Verdicts, FlushRefusal>
@@ -57,8 +57,8 @@ impl<N: Naming, W: Board<Cell<N>> + Drop, P: Pooling> State<N, W, P> {
         Ok(verdicts)
     }
 
-    /// Takes over the last rows of a worker, as [`State::flush`] does, and lets it leave. After a refusal, which changes
-    /// nothing, the worker is there as before.
+    /// Takes over the last rows of a worker, as [`State::flush`] does, and lets it leave. After a refusal, which
+    /// changes nothing, the worker is there as before.
     pub fn finish(
         &mut self,
         seat: &mut Seat<N>,

@@ -42,8 +42,8 @@ fn three(active: &mut ActiveRules) -> Option<()> {
     put(active, "mail", 7)
 }
 
-/// What stands there after each step, and how many rules are active: three came, the first one was removed, it came
-/// again, all but `mail` lost their bearers, and all are let go.
+/// What stands there after each step, and how many rules are active: three were made active, the first one was removed
+/// and then made active again, all but `mail` lost their bearers, and all were removed.
 fn steps(alloc: Global, bearers: &mut Bearers) -> Option<[([u8; 4], usize); 5]> {
     let mut active = ActiveRules::new(alloc);
     let name = RuleName::new("web").ok()?;

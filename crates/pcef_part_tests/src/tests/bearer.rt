@@ -43,7 +43,7 @@ pub(super) fn set(bearers: &mut Bearers, name: RuleName, qos: Qos, rates: Option
     None
 }
 
-/// Binds a rule to the bearer that was found for it, and tells whether there was memory.
+/// Binds a rule to the bearer that was found for it, and returns whether there was memory.
 fn bind_at(bearers: &mut Bearers, name: RuleName, qos: &Qos, bearer: BearerId) -> bool
     requires accepted { IsAccepted bearers.old name qos.now None }
     requires gets { GetsId bearers.old name qos.now bearer.0 }
@@ -56,7 +56,7 @@ fn bind_at(bearers: &mut Bearers, name: RuleName, qos: &Qos, bearer: BearerId) -
     true
 }
 
-/// Binds a rule to the bearer that is found for it, and tells whether there is one.
+/// Binds a rule to the bearer that is found for it, and returns whether there is one.
 fn bind_to_found(bearers: &mut Bearers, name: RuleName, qos: &Qos) -> bool {
     if bearers.bound().len() >= MAX_BOUND {
         return false;
@@ -139,8 +139,8 @@ fn answers_to_an_eleventh(
     )
 }
 
-/// The fourth rule leaves its bearer to its new pair, and a rule comes to it: their bearers and how many rules are on
-/// theirs. The old pair of the fourth rule finds no bearer then, and the rule stays where it is.
+/// The fourth rule moves its bearer to a new pair, and an eleventh rule joins it there: their bearers, and how many
+/// rules are on that bearer. The old pair of the fourth rule finds no bearer then, and the rule stays where it is.
 fn answers_to_a_new_pair(bearers: &mut Bearers) -> ([Answer; 3], u8, Option<BearerId>) {
     let fourth = set(bearers, RuleName::known("r4"), pair(8, 11), None);
     let eleventh = set(bearers, RuleName::known("r11"), pair(8, 11), None);

@@ -136,7 +136,7 @@ fn places_of_named(alloc: Global, names: &[&str]) -> Option<Result<[Place; 5], C
     places_of(alloc, rules.as_slice())
 }
 
-/// The places in a catalog of so many rules.
+/// The places in a catalog of `count` rules.
 fn places_of_numbered(alloc: Global, count: u8) -> Option<Result<[Place; 5], CatalogFault>> {
     let mut names = Vec::new(alloc);
     for number in 0..count {
@@ -274,7 +274,7 @@ fn a_listing_has_the_shape_and_no_closure(rt: HostRuntime) {
     );
 }
 
-/// What is told of a rule, and by a listing of it.
+/// What a rule says of itself, and what a listing says of it.
 fn told_of_a_rule(alloc: Global) -> Option<([bool; 4], [Option<[bool; 3]>; 2])> {
     let detect: Detect = Box::new(
         alloc,
@@ -297,7 +297,7 @@ fn told_by_rule(rule: &Predefined) -> [bool; 4] {
     ]
 }
 
-/// What a listing of a rule tells of it, and what a share of the listing tells.
+/// What a listing says of a rule, and what a share of the listing says of it.
 fn told_by_listing(alloc: Global, rule: &Predefined) -> Option<[Option<[bool; 3]>; 2]> {
     let listing = listing_of(alloc, rule)?;
     let shared = listing.share().ok()?;

@@ -39,8 +39,8 @@ fn directions_of_a_packet(rt: HostRuntime) {
 /// The place of an octet that is changed, the octet, and the DSCP that is read then.
 type Change = (usize, u8, u8);
 
-/// The traffic class stands behind the four bits of the version, and the DSCP is its upper six bits. Flow label and
-/// hop limit tell nothing.
+/// The traffic class stands behind the four bits of the version, and the DSCP is its upper six bits. Flow label and hop
+/// limit change nothing.
 const CHANGES: [Change; 9] = [
     (0, 0x60, 2),
     (0, 0x6f, 62),
@@ -62,7 +62,7 @@ fn changed(place: usize, octet: u8) -> [u8; 48] {
     packet
 }
 
-/// The first change with which another header is read than that with this DSCP.
+/// The first change after which the header isn't the one with this DSCP.
 fn first_wrong_change(changes: &[Change]) -> Option<(usize, u8)> {
     for (place, octet, dscp) in changes {
         let expected = Header {
@@ -81,7 +81,7 @@ fn changed_packets(rt: HostRuntime) {
     expect_equal(&rt, &first_wrong_change(&CHANGES), &None);
 }
 
-/// The first octet that alone has another fault than its version gives.
+/// The first octet that, read alone, has another fault than that of its version.
 fn first_wrong_version() -> Option<u8> {
     for first in 0..=u8::MAX {
         let fault = match first >> 4 {
@@ -223,7 +223,7 @@ const HEADERS: [Row; 8] = [
 /// Options of 8 octets before UDP.
 const OPTIONS: &[u8] = &[17, 0, 1, 4, 0, 0, 0, 0];
 
-/// The upper 13 bits of octets 2 and 3 of a fragment header are the offset. It doesn't tell its length.
+/// The upper 13 bits of octets 2 and 3 of a fragment header are the offset. It doesn't state its length.
 const FRAGMENTS: [Row; 10] = [
     (
         "a later one",
@@ -407,7 +407,7 @@ fn cuts_at_every_length(rt: HostRuntime) {
     expect_equal(&rt, &wrong, &[None; 2]);
 }
 
-/// What is due of a payload of so many octets, which begins with a header of eight octets.
+/// What is due of a payload of `len` octets, which begins with a header of eight octets.
 fn due_of_payload(len: u16) -> Read {
     match len {
         0..=7 => BEYOND,
@@ -425,8 +425,8 @@ fn read_alone(alloc: Global, next: u8, len: u16, headers: &[u8]) -> Option<Read>
     }
 }
 
-/// The first payload length of a packet with a header of this kind, with which something else is read where octets
-/// follow or not.
+/// The first payload length of a packet with a header of this kind with which something else is read than is due, with
+/// octets behind the payload or without.
 fn first_wrong_payload(alloc: Global, kind: u8, headers: &[u8]) -> Option<u16> {
     for len in 0..=16u16 {
         let due = Some(due_of_payload(len));

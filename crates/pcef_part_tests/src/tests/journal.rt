@@ -1,4 +1,5 @@
-//! A small journal of two workers, and an archive beside it: their lanes, commands and reports were written out by hand.
+//! A small journal of two workers, and an archive beside it: their lanes, commands and reports were written out by
+//! hand.
 
 ghost use Rattle.pcef_rule.specs.Name.{IsName};
 

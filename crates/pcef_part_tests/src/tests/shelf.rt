@@ -1,5 +1,5 @@
-//! Which indexes stand on a shelf. That a table took one from there is seen when the table that brought it is gone: what
-//! nobody else owns leaves the shelf with the next index that comes.
+//! Which indexes stand on a shelf. Whether a table took an index shows once the table that brought it is gone: the
+//! shelf drops an index that nobody else owns when the next one is put there.
 
 use crate::tests::expect_equal;
 use crate::tests::tables::{ALL, Step, empty_catalog, padded, table_of};

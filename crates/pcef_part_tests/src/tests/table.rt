@@ -312,8 +312,8 @@ fn has_session_slots(table: &Table, slots: &[Slot]) -> bool {
     table.session_slots().as_slice() == slots
 }
 
-/// Whether a table without rules has the slots of session level that are due: none; 0 and 2, where 2 was named first; 0,
-/// once 2 is off; and 0 again in the generation without rules after it.
+/// Whether a table without rules has the slots of session level that are due: none; 0 and 2, where 2 was named first;
+/// 0, once 2 is off; and 0 again in the generation without rules after it.
 fn session_slots_come_and_go(alloc: Global) -> Result<[bool; 4], AllocError> {
     let empty = Table::empty(alloc, 0)?;
     let both = empty

@@ -13,7 +13,7 @@ use std::alloc::{AllocError, Global};
 use std::process::Abort;
 use std::test::Fail;
 
-/// The row of an uplink packet of so many octets.
+/// The row of an uplink packet of `octets` octets.
 fn row_of(octets: u32) -> Row
     ensures { result.header.octets ≡ octets }
 {
@@ -407,7 +407,7 @@ fn eight_keys_have_slots(rt: HostRuntime) -> Result<(), Fail> {
     Ok(())
 }
 
-/// What a key is answered that is named at session level, at rule level and at session level again, and its level, where
+/// The answers to a key that is named at session level, at rule level and at session level again, and its level, where
 /// the text is a name.
 fn levels_of(usage: &mut Usage, name: &str) -> Option<([Result<Slot, SlotFault>; 3], Level)> {
     let key = KeyName::new(name).ok()?;

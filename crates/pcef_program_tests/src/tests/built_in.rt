@@ -302,7 +302,8 @@ fn scripts_on_the_built_in_rules(rt: HostRuntime) -> Result<(), Fail> {
 /// A filter for DNS answers.
 const DNS: &str = "{\"text\":\"permit out 17 from any 53 to assigned\"}";
 
-/// The line that installs a rule with this number in its name, for DNS answers. It has as many filters as a rule may have.
+/// The line that installs a rule with this number in its name, for DNS answers. It has as many filters as a rule may
+/// have.
 fn install(alloc: Global, number: u8) -> Result<String, Fail> {
     let mut filters = String::from_str(alloc, DNS)?;
     for _ in 1..16u8 {

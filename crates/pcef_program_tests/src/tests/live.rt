@@ -35,8 +35,8 @@ impl Write for Terminal {
     }
 }
 
-/// Who writes a line, and the next one only once the answer is there: without it, reading fails. The last of three lines
-/// fills all of the block that is read.
+/// Who writes a line, and the next one only once the answer is there: without it, reading fails. The last of three
+/// lines fills all of the block that is read.
 #[derive(Drop)]
 struct Asking {
     lines: u64,

@@ -119,7 +119,7 @@ fn each_reason_has_its_name(rt: HostRuntime) -> Result<(), Fail> {
     Ok(())
 }
 
-/// Gives so many bytes of a line, one at a time, and then fails.
+/// Gives `left` bytes of a line, one at a time, and then fails.
 #[derive(Drop)]
 struct Failing {
     left: usize,

@@ -26,7 +26,7 @@ fn removal(alloc: Global, session: u8) -> Result<String, Fail> {
     Ok(format!(in alloc; "{session} {command}")?)
 }
 
-/// So many times the common profile.
+/// The common profile, `sessions` times.
 fn profiles(alloc: Global, sessions: usize) -> Result<Vec<io::Result<String>>, Fail> {
     let mut profiles = Vec::new(alloc);
     for _ in 0..sessions {
@@ -35,7 +35,7 @@ fn profiles(alloc: Global, sessions: usize) -> Result<Vec<io::Result<String>>, F
     Ok(profiles)
 }
 
-/// The words for a pool of this capacity and so many profiles.
+/// The words for a pool of this capacity and `sessions` profiles.
 fn words(alloc: Global, up: &str, down: &str, sessions: usize) -> Result<Vec<Vec<u8>>, Fail> {
     let mut words = octets(alloc, &["pool", up, down])?;
     for _ in 0..sessions {
@@ -44,7 +44,7 @@ fn words(alloc: Global, up: &str, down: &str, sessions: usize) -> Result<Vec<Vec
     Ok(words)
 }
 
-/// The exit status on a pool with so many sessions and on these lines, what was written, and what was said.
+/// The exit status on a pool with `sessions` sessions and on these lines, what was written, and what was said.
 fn pool_of<T: Threads + Wait + Sync>(
     rt: &T,
     alloc: Global,
@@ -249,7 +249,7 @@ fn a_wrong_rate_of_eighty_bytes_is_shown(rt: HostRuntime) -> Result<(), Fail> {
 const NO_NUMBER: &str =
     "NoNumber: the number of a session, as 0 or 12, and one space are expected before a command";
 
-/// Lines that are no orders for two sessions, and what is told of them.
+/// Lines that are no orders for two sessions, and the message for each.
 static WRONG: [(&str, &str); 17] = [
     ("x", NO_NUMBER),
     ("0", NO_NUMBER),

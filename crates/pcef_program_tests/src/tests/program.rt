@@ -145,7 +145,7 @@ fn statuses_and_faults(rt: HostRuntime) -> Result<(), Fail> {
     Ok(())
 }
 
-/// Whether these words are told how the program is used, and by what it was proved.
+/// Whether these words are answered with how the program is used, and by what it was proved.
 fn is_usage<T: Threads + Wait + Sync>(rt: &T, alloc: Global, words: &[&str]) -> Result<bool, Fail> {
     let words = octets(alloc, words)?;
     let (status, answers, said) = run(rt, alloc, &words, Some(PROFILE), "x")?;
@@ -380,7 +380,7 @@ fn faults_of_the_default_qci_have_their_numbers(rt: HostRuntime) -> Result<(), F
     Ok(())
 }
 
-/// What a script came to, and the status and the text of the program's end.
+/// The outcome of a script, and the status and the text of the program's end.
 static SCRIPT_ENDS: [(Result<u64, ScriptFault>, u8, &str); 9] = [
     (Ok(0), 0, ""),
     (Ok(2), 1, ""),

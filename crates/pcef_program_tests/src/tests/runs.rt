@@ -43,7 +43,7 @@ const FIRST: &str =
 const SECOND: &str =
     "{\"do\":\"take\",\"worker\":1,\"dir\":\"down\",\"packet\":\"4500001c0000000040110000c63364070a0000020035138800080000\"}";
 
-/// The exit status of a run with so many workers on these lines, and what was written and said.
+/// The exit status of a run with `workers` workers on these lines, and what was written and said.
 fn run_lines<T: Threads + Wait + Sync>(
     rt: &T,
     alloc: Global,
@@ -55,7 +55,7 @@ fn run_lines<T: Threads + Wait + Sync>(
     run(rt, alloc, &words, Some(PROFILE), input.as_str())
 }
 
-/// Whether a run with so many workers on these lines ends so: its status, what it writes, and how what it says of
+/// Whether a run with `workers` workers on these lines ends so: its status, what it writes, and how what it says of
 /// faults begins, if it says anything.
 fn run_ends<T: Threads + Wait + Sync>(
     rt: &T,

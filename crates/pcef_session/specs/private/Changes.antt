@@ -34,7 +34,8 @@ abbrev pub key_of : Option (List ℕ) → Command → Option (List ℕ)
 key_of of_rule (Monitor key grant level) = Some key
 key_of of_rule _ = of_rule
 
--- the counters when a command comes: the key that it names has a slot, and that of a Monitor is started
+-- the counters when a command is given: the key that it names has a slot, and that of a Monitor is
+-- started
 abbrev pub entered_by : Option (List ℕ) → Command → List KeyState → List KeyState
 entered_by of_rule c states = started_by c (with_slot (key_of of_rule c) (level_named c) states)
 
@@ -78,7 +79,7 @@ abbrev pub inactive_by : List Bound → Command → List PendingReport
 inactive_by bound (LoseBearer id) = map Inactive (in_order (map (λ b. b.name) (rules_on id.0 bound)))
 inactive_by bound _ = []
 
--- ---- what is told of a command
+-- ---- the reports of a command
 -- the counters after what a command reports by itself
 abbrev pub states_reported : List PendingReport → List KeyState → List KeyState
 states_reported all_pending states = after_reports all_pending (states_stopped all_pending states)

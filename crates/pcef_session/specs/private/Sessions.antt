@@ -75,6 +75,6 @@ abbrev pub IsNextTable : SessionModel → Command → Option TableValue → Type
 IsNextTable s command t = IsTableAfter s.setting (after_command s.setting s.journal command) command t
 
 -- ---- rows
--- nothing refuses so many rows of a worker
+-- nothing refuses `count` rows of a worker
 abbrev pub AcceptsRows : SessionModel → ℕ → ℕ → Type 0
 AcceptsRows s worker count = first_of (flush_refusals s.setting s.journal worker count) ≡ None

@@ -20,7 +20,7 @@ CanCountAll [] states = Unit {0}
 CanCountAll (i ∷ items) states =
     CanCount i.slots.items i.row.header.octets states × CanCountAll items (with_octets i.slots.items i.row.header.octets states)
 
--- rows are taken over: their octets are counted, and then the thresholds are told
+-- rows are taken over: their octets are counted, and then the thresholds are reported
 pub record IsTakenAll (subscribed : Bool) (items : List Item) (old new : Counted) : Type 0 where
   pub journal : new.journal ≡ appended (threshold_reports subscribed (rows_counted row_of row_slots items old.states))
       (settled_states subscribed (rows_counted row_of row_slots items old.states)) (with_rows (map row_of items) old.journal)

@@ -45,8 +45,8 @@ impl SessionState {
         None
     }
 
-    /// Adds rows to the journal, counts their octets and tells the thresholds, or changes nothing that can
-    /// be seen but room where there is no memory for them.
+    /// Adds rows to the journal, counts their octets and reports the thresholds. Where there is no memory for them,
+    /// changes nothing that can be seen but room.
     fn take_over(&mut self, worker: u8, items: &[Item]) -> Result<Verdicts, AllocError>
         requires accepted { AcceptsRows self.old worker (length items.now) }
         requires follow { MayFollow self.old worker items.now }

@@ -1,4 +1,4 @@
-//! Reports that a session lets go of.
+//! Reports that a session forgets.
 
 ghost use Rattle.std.specs.Prelude.{◌≡◌, length};
 ghost use Rattle.pcef_model.specs.Entries.{reports};

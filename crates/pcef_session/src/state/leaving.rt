@@ -16,8 +16,8 @@ use pcef_lane::LaneEnd;
 use pcef_model::{Entry, FlushRefusal, Verdicts};
 
 impl SessionState {
-    /// Where a worker's lane ends, and whether the worker is attached; or `None` of a worker that never came, which has
-    /// no rows.
+    /// Where a worker's lane ends, and whether the worker is attached; or `None` of a worker that was never attached,
+    /// which has no rows.
     pub fn lane_end(&self, worker: u8) -> Option<LaneEnd>
         ensures end { IsLaneEnd self.now.journal worker result }
         ensures none { IfNone result (lane self.now.journal worker ≡ []) }
@@ -97,8 +97,8 @@ impl SessionState {
         }
     }
 
-    /// Lets a worker leave without its waiting rows, which get no verdict, and gives the length of its lane. One
-    /// that isn't attached stays away. Takes no memory.
+    /// Lets a worker leave without its waiting rows, which get no verdict, and returns the length of its lane. One that
+    /// isn't attached stays away. Takes no memory.
     pub fn abandon(&mut self, worker: u8) -> u64
         ensures rows { result ≡ (abandon_outcome self.old.journal worker).0 }
         ensures journal { self.new.journal ≡ (abandon_outcome self.old.journal worker).1 }

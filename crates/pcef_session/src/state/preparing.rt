@@ -71,7 +71,7 @@ impl SessionState {
         }
     }
 
-    /// The bearer that the rule gets which a command makes active.
+    /// The bearer of the rule that a command makes active.
     fn bearer_for_rule(&self, command: &Command, rule: Option<&Activation>) -> Option<BearerId>
         requires accepted { Accepts self.now command.now }
         requires changing { changes self.now.setting self.now.journal command.now ≡ true }
@@ -127,8 +127,8 @@ impl SessionState {
         Indexed::new(self.alloc, table, &self.listing)
     }
 
-    /// The table where the key that a command switches counts, or doesn't. Its rules are those of the newest table, so it
-    /// shares that one's index.
+    /// The table with the key that a command switches, on or off. Its rules are those of the newest table, so it shares
+    /// that one's index.
     fn table_after_switch(&self, command: &Command, key: &KeyName) -> Result<Indexed, AllocError>
         requires accepted { Accepts self.now command.now }
         requires switched { key_switched command.now ≡ Some key.now }
@@ -276,8 +276,8 @@ impl SessionState {
             .reserve(reports.len() + 9 + self.lanes.attached_count())
     }
 
-    /// The table that a command makes, with its index, what the command reports by itself, and memory to bind its rule, once
-    /// there is room.
+    /// The table that a command makes, with its index, what the command reports by itself, and memory to bind its rule,
+    /// once there is room.
     fn ready_with(
         &mut self,
         command: &Command,

@@ -274,7 +274,7 @@ fn is_flushed_so(alloc: Global, verdicts: Verdicts, text: &str) -> Result<bool, 
     Ok(told.as_str() == text)
 }
 
-/// What an answer to a flush tells of the three reports and of a row of each verdict.
+/// The answer to a flush with three reports and a row of each verdict.
 const EACH_VERDICT: &str =
     "{\"ok\":true,\"reports\":[{\"cause\":\"Threshold\",\"key\":\"vid\",\"number\":0,\"octets\":1200},{\"event\":\"RAT_CHANGE\",\"number\":1,\"value\":\"eutran\"},{\"cause\":\"BearerLost\",\"number\":2,\"rule\":\"voice\"}],\"verdicts\":[{\"bearer\":5,\"generation\":2,\"rule\":\"web\",\"verdict\":\"Passed\"},{\"generation\":2,\"rule\":\"a\\\"b\\\\c\",\"verdict\":\"Gated\"},{\"generation\":0,\"verdict\":\"Unmatched\"},{\"generation\":0,\"verdict\":\"Stray\"}]}";
 

@@ -62,8 +62,8 @@ fn a_prepared_command_of_a_session(rt: HostRuntime) -> Result<(), Fail> {
     Ok(())
 }
 
-/// Why a flush is refused before a worker came, the numbers of two workers that come, and how many verdicts a flush of
-/// the second one gives that hands nothing over.
+/// Why a flush is refused before a worker is attached, the numbers of two workers, and how many verdicts an empty flush
+/// of the second one gets.
 fn with_two_workers(
     alloc: Global,
     profile: Profile,

@@ -49,7 +49,7 @@ impl Read for FailsOnceReader {
     }
 }
 
-/// How a script ends whose reader fails at this call, what was written, and how often it was read.
+/// How a script ends where the reader fails at this call, what was written, and how often the reader was called.
 fn read_failing(
     alloc: Global,
     fails_at: usize,
@@ -68,7 +68,7 @@ fn read_failing(
     Ok((ended, String::from_utf8(written)?, reader.calls))
 }
 
-/// Whether a script ends so, with these answers and after so many calls, whose reader fails at this one.
+/// Whether a script whose reader fails at the call `fails_at` ends so, with these answers and after `calls` calls.
 fn reading_ends(
     alloc: Global,
     fails_at: usize,
@@ -138,7 +138,7 @@ impl Write for FailsOnceWriter {
     }
 }
 
-/// How a script ends whose writer fails at this call, what was taken, and how often it was written to.
+/// How a script ends where the writer fails at this call, what was taken, and how often the writer was called.
 fn write_failing(
     alloc: Global,
     fails_at: usize,
@@ -157,7 +157,8 @@ fn write_failing(
     Ok((ended, taken, calls))
 }
 
-/// Whether a script ends so, with so many octets taken and after so many calls, whose writer fails at this one.
+/// Whether a script whose writer fails at the call `fails_at` ends so, with `octets` octets taken and after `calls`
+/// calls.
 fn writing_ends(
     alloc: Global,
     fails_at: usize,
@@ -200,7 +201,7 @@ fn a_writer_that_fails_once_is_not_written_again(rt: HostRuntime) -> Result<(), 
     Ok(())
 }
 
-/// A line of so many blanks.
+/// A line of `blanks` blanks.
 fn blank_line(alloc: Global, blanks: u32) -> Result<String, Fail> {
     let mut line = String::new(alloc);
     for _ in 0..blanks {
@@ -210,7 +211,7 @@ fn blank_line(alloc: Global, blanks: u32) -> Result<String, Fail> {
     Ok(line)
 }
 
-/// Whether a script has these answers, of which so many tell a fault.
+/// Whether a script has these answers, `faults` of which are faults.
 fn is_answered(alloc: Global, script: &str, answers: &str, faults: u64) -> Result<bool, Fail> {
     let (text, told) = run(alloc, PROFILE, script)?;
     Ok(text.as_str() == answers && told == faults)

@@ -61,7 +61,7 @@ fn script_of(alloc: Global, lines: &[(&str, &str)]) -> Result<String, Fail> {
     Ok(script)
 }
 
-/// The answers to the lines that end within so many bytes of the script.
+/// The answers to the lines that end within the first `most` bytes of the script.
 fn answers_within(alloc: Global, lines: &[(&str, &str)], most: usize) -> Result<String, Fail> {
     let mut answers = String::new(alloc);
     let mut end = 0usize;
@@ -96,7 +96,7 @@ impl Read for FailingReader {
     }
 }
 
-/// How a script of these lines ends whose reader fails after so many bytes, and what was written.
+/// How a script of these lines ends where the reader fails after `room` bytes, and what was written.
 fn read(
     alloc: Global,
     lines: &[(&str, &str)],
@@ -114,7 +114,7 @@ fn read(
     Ok((ended, String::from_utf8(written)?))
 }
 
-/// Whether a reader that fails after so many bytes ends the script with the answers to the whole lines before.
+/// Whether a reader that fails after `room` bytes ends the script with the answers to the whole lines before.
 fn has_whole_lines(alloc: Global, lines: &[(&str, &str)], room: usize) -> Result<bool, Fail> {
     let (ended, text) = read(alloc, lines, room)?;
     let answers = answers_within(alloc, lines, room)?;
@@ -188,7 +188,8 @@ impl Write for FailingWriter {
     }
 }
 
-/// How the script ends with a writer of so much room that takes this portion of each call, and what the writer has then.
+/// How the script ends with a writer of `room` octets that takes this portion of each call, and what the writer has
+/// then.
 fn written(
     alloc: Global,
     lines: &[(&str, &str)],
@@ -221,7 +222,7 @@ fn is_written(
     Ok(end == ended && front.as_str() == text)
 }
 
-/// The first room of a writer that hasn't the front of the answers, if there is one. With room for all answers so many
+/// The first room of a writer that hasn't the front of the answers, if there is one. With room for all answers `faults`
 /// lines are at fault.
 fn first_wrong_front(
     alloc: Global,

@@ -17,7 +17,7 @@ use std::alloc::{AllocError, Global};
 use std::sync::Arc;
 use std::test::Fail;
 
-/// A profile of 10.0.0.2 that takes so many rows.
+/// A profile of 10.0.0.2 that takes `rows` rows.
 fn profile(alloc: Global, rows: u32) -> Result<Profile, Fail>
     requires { (1 ≤ rows) × (rows ≤ 1000) }
     ensures { IfOk result (λ p. p.ue ≡ ue) }
@@ -83,9 +83,9 @@ fn told(verdicts: &Verdicts) -> (usize, bool, u64, u64) {
     )
 }
 
-/// What comes of a worker that finishes with two rows: its number, the verdicts and the length of its lane; why it
-/// can't finish once more; how many rows there are; the numbers of the first three rows that are kept of it; whether the
-/// session can then be terminated, and whether this is then the one command that is kept.
+/// The outcome of a worker that finishes with two rows: its number, the verdicts and the length of its lane; why it
+/// can't finish once more; how many rows there are; the numbers of the first three rows that are kept of it; whether
+/// the session can then be terminated, and whether this is then the one command that is kept.
 #[derive(Debug, PartialEq, Eq, Drop)]
 struct Ending {
     worker: u8,
@@ -167,7 +167,7 @@ fn a_worker_finishes_with_as_many_rows_as_there_may_be(rt: HostRuntime) -> Resul
     Ok(())
 }
 
-/// What comes of a worker that can't finish with its rows: its number, why, and how many rows there are; why the
+/// The outcome of a worker that can't finish with its rows: its number, why, and how many rows there are; why the
 /// session can't be terminated; how many verdicts it is given when it finishes without them, and the length of its
 /// lane; and whether the session can then be terminated.
 #[derive(Debug, PartialEq, Eq, Drop)]

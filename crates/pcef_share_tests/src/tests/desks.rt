@@ -19,11 +19,11 @@ use std::thread::{Threads, join};
 pub enum Task<'a> {
     /// These steps, one after the other, each once more where it found no memory.
     InTurn(&'a [Step]),
-    /// So many times Install and Remove of `voice`, each desk in a thread of its own.
+    /// Install and Remove of `voice`, this many times, each desk in a thread of its own.
     AtOnce(u32),
 }
 
-/// What two desks were told.
+/// What two desks were answered.
 #[derive(Drop)]
 pub struct Seen {
     /// The answers to steps, in their order.
@@ -113,7 +113,7 @@ fn answer<
     }
 }
 
-/// How many of so many Installs and Removes are answered otherwise than they may be: an Install is accepted, or the
+/// How many of `times` Installs and Removes are answered otherwise than they may be: an Install is accepted, or the
 /// pool has no room for it, and a Remove is accepted, or there is nothing to remove.
 fn odd_answers<N: Naming, W: Board<Cell<N>> + Drop, P: Pooling, R: Wait>(
     rt: &R,
@@ -148,7 +148,7 @@ fn installed<N: Naming, W: Board<Cell<N>> + Drop, P: Pooling, R: Wait>(
     Some(desk.command(rt, shared, Command::Install(rule)))
 }
 
-/// What two desks are told.
+/// What two desks are answered.
 fn do_task<
     A: Naming + Send + Sync,
     B: Naming + Send + Sync,
@@ -214,7 +214,7 @@ fn end_of<N: Naming, W: Board<Cell<N>> + Drop, P: Pooling, R: Wait>(
     })
 }
 
-/// What two sessions behind their locks are told, and what they have at their end.
+/// What two sessions behind their locks answer, and what they have at their end.
 fn seen_and_left<
     A: Naming + Send + Sync,
     B: Naming + Send + Sync,
@@ -285,7 +285,7 @@ fn first_named<A: Naming + Send + Sync, P: Pooling + Send + Sync, R: Threads + W
     second_named::<A, Brand, _, P, R>(rt, alloc, task, pool, one, side, Blanks::new())
 }
 
-/// What two desks on a pool of this name are told, and what sessions and pool have at the end.
+/// What two desks on a pool of this name are answered, and what sessions and pool have at the end.
 fn pool_named<P: Pooling + Send + Sync, R: Threads + Wait + Sync>(
     rt: &R,
     alloc: Global,
@@ -314,8 +314,8 @@ fn pool_named<P: Pooling + Send + Sync, R: Threads + Wait + Sync>(
     Some((seen, generations, granted))
 }
 
-/// What two desks on a pool of this capacity are told, the number of each session's newest generation at the end, and
-/// what the pool has granted then; or nothing when out of memory.
+/// What two desks on a pool of this capacity are answered, the number of each session's newest generation at the end,
+/// and what the pool has granted then; or nothing when out of memory.
 pub fn tell_desks<R: Threads + Wait + Sync>(
     rt: &R,
     alloc: Global,

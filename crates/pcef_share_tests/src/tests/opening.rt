@@ -8,7 +8,7 @@ use crate::tests::expect_equal;
 use pcef_model::OpenFault;
 use pcef_pool::{PoolFault, PoolState};
 
-/// How so many sessions open on a pool of this capacity, where the last one's default bearer has this QCI.
+/// How `sessions` sessions open on a pool of this capacity, where the last one's default bearer has this QCI.
 fn fault_named<P: Pooling>(
     alloc: Global,
     capacity: Sums,

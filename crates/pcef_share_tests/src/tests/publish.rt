@@ -258,7 +258,7 @@ fn publish_two<N: Naming, W: Board<Cell<N>> + Drop>(
     Some((publisher.generation(), subscriber.current().0))
 }
 
-// Publishes the next table, where it is refused once more, and tells whether the subscriber finds it. A refused table
+// Publishes the next table, where it is refused once more, and returns whether the subscriber finds it. A refused table
 // leaves no trace.
 fn publish_next<N: Naming, W: Board<Cell<N>> + Drop>(
     alloc: Global,

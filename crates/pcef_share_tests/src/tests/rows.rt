@@ -7,7 +7,7 @@ use pcef_rule::BearerId;
 use std::sync::Wait;
 use std::thread::Threads;
 
-/// What is told of an accepted command without reports, which leads to this generation.
+/// The answer to an accepted command without reports, which leads to this generation.
 fn accepted(bearer: Option<u8>, generation: u32) -> Result<Accepted, Refusal> {
     Ok(Accepted {
         generation,
@@ -29,7 +29,7 @@ struct Due<'a> {
     granted: u64,
 }
 
-/// Whether what is due is what comes of these steps, in one thread and on two desks.
+/// Whether these steps have the due outcome, in one thread and on two desks.
 fn comes<R: Threads + Wait + Sync>(
     rt: &R,
     alloc: Global,

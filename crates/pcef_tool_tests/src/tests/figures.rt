@@ -1,4 +1,4 @@
-//! Scripts with answers, and what they tell, worked out by hand.
+//! Scripts with answers, and the figures that they have, worked out by hand.
 
 mod keys;
 mod memory;

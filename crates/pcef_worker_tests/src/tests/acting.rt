@@ -3,7 +3,7 @@
 use super::*;
 use pcef_model::{Judged, Verdict};
 
-// What a step of the worker that acts tells.
+// The numbers of a step of the worker that acts.
 pub fn seen<C: Detects + Drop, N: Naming, W: Board<Cell<N>> + Drop, R: Wait>(
     rt: &R,
     shared: &Shared<C, N, W>,
@@ -36,7 +36,7 @@ fn seen_of<C: Detects + Drop, N: Naming, W: Board<Cell<N>> + Drop, R: Wait>(
     }
 }
 
-// The number that a step tells first, before the rows and the generation.
+// The first number of a step, before the rows and the generation.
 fn done<C: Detects + Drop, N: Naming, W: Board<Cell<N>> + Drop, R: Wait>(
     rt: &R,
     shared: &Shared<C, N, W>,

@@ -7,7 +7,7 @@ use pcef_worker::Point;
 use std::sync::atomic::{AtomicBool, Ordering};
 use std::thread::join;
 
-/// Where a worker came, and where it may go on.
+/// Which points a worker reached, and where it may go on.
 #[derive(Drop)]
 struct Halts {
     begun: AtomicBool,
@@ -42,15 +42,15 @@ impl Gate for HoldsTwice<'_> {
     }
 }
 
-// A worker came here, and waits till it may go on.
+// A worker reached this point, and waits till it may go on.
 fn wait(here: &AtomicBool, goes_on: &AtomicBool) {
     here.store(true, Ordering::SeqCst);
     comes(goes_on);
 }
 
-/// A worker comes, hands over a row of 28 octets and abandons, in a thread of its own. The desk asks for a report where
-/// the flush begins, and for another where it was answered: of each, how many reports there are that it asked for, and
-/// the octets of the last.
+/// A worker attaches, hands over a row of 28 octets and abandons, in a thread of its own. The desk asks for a report
+/// where the flush begins, and for another where it was answered: of each, how many reports there are that it asked
+/// for, and the octets of the last.
 pub fn asked_around_a_flush<
     C: Detects + Drop + Send + Sync,
     N: Naming + Send + Sync,
@@ -88,7 +88,8 @@ fn asked_twice<C: Offers + Drop, N: Naming, W: Board<Cell<N>> + Drop, R: Wait>(
     [begun.0, begun.1, answered.0, answered.1]
 }
 
-// The desk asks for a report where the worker came here, and lets it go on: how many reports, and the octets of the last.
+// The desk asks for a report where the worker reached this point, and lets it go on: how many reports, and the octets
+// of the last.
 fn asked_at<C: Offers + Drop, N: Naming, W: Board<Cell<N>> + Drop, R: Wait>(
     rt: &R,
     shared: &Shared<C, N, W>,

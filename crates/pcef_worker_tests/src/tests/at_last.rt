@@ -17,7 +17,7 @@ pub fn plain(step: Step) -> Option<Step> {
     }
 }
 
-/// What a step tells, made once more where it finds no memory. Where that changed anything, it isn't made again.
+/// The numbers of a step, made once more where it finds no memory. Where that changed anything, it isn't made again.
 pub fn seen<
     C: Detects + Drop + Send + Sync,
     N: Naming + Send + Sync,
@@ -43,7 +43,7 @@ pub fn seen<
     seen_at_once(rt, alloc, shared, desk, workers, install, step)
 }
 
-// What is as it was after a step that found no memory: how many commands the desk has, and what is told of the workers.
+// What is as it was after a step that found no memory: how many commands the desk has, and the numbers of the workers.
 fn standing<C: Detects + Drop, N: Naming>(
     desk: &Desk<N>,
     workers: &Workers<C, N>,

@@ -1,9 +1,9 @@
-//! Workers that come and leave.
+//! Workers that attach and leave.
 
 use super::*;
 use pcef_session::Item;
 
-/// The workers that are there, the last of which acts, and what those handed in that left.
+/// The attached workers, the last of which acts, and what the others handed in as they left.
 #[derive(Drop)]
 pub struct Workers<C: Offers + Drop, N: Naming> {
     there: Vec<Worker<C, N, OpenGate>>,
@@ -11,7 +11,7 @@ pub struct Workers<C: Offers + Drop, N: Naming> {
 }
 
 impl<C: Detects + Drop, N: Naming> Workers<C, N> {
-    /// Nobody came.
+    /// Nobody is attached.
     pub fn new(alloc: Global) -> Workers<C, N> {
         Workers {
             there: Vec::new(alloc),
@@ -49,7 +49,7 @@ impl<C: Detects + Drop, N: Naming> Workers<C, N> {
         let _ = self.left.push(left).ok();
     }
 
-    /// Gives away what those handed in that left.
+    /// Takes out what the workers that left handed in.
     pub fn take_left(&mut self, alloc: Global) -> Vec<Finished<N>> {
         std::mem::replace(&mut self.left, Vec::new(alloc))
     }
@@ -62,7 +62,7 @@ fn make_room<T>(list: &mut Vec<T>) {
     }
 }
 
-// What a step tells by which workers come and leave.
+// The numbers of a step by which workers attach and leave.
 pub fn seen<C: Detects + Drop, N: Naming, W: Board<Cell<N>> + Drop, R: Wait>(
     rt: &R,
     alloc: Global,
@@ -120,7 +120,7 @@ fn leaves<C: Detects + Drop, N: Naming, W: Board<Cell<N>> + Drop, R: Wait>(
     }
 }
 
-// Keeps what a worker hands in, and tells of it after this number.
+// Keeps what a worker hands in, and returns its numbers after `before`.
 fn kept<C: Detects + Drop, N: Naming>(
     workers: &mut Workers<C, N>,
     before: u64,
@@ -132,7 +132,7 @@ fn kept<C: Detects + Drop, N: Naming>(
     [before, number, rows, given_up]
 }
 
-// A finish that is refused gives the worker back, which is there as before.
+// A finish that is refused gives the worker back as it was.
 fn finished<C: Detects + Drop, N: Naming, W: Board<Cell<N>> + Drop, R: Wait>(
     rt: &R,
     shared: &Shared<C, N, W>,

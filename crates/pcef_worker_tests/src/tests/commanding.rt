@@ -4,7 +4,7 @@ use super::*;
 use pcef_model::{Accepted, Body, Level, Refusal, Report};
 use pcef_rule::KeyName;
 
-// What a step of the desk tells.
+// The numbers of a step of the desk.
 pub fn seen<C: Offers + Drop, N: Naming, W: Board<Cell<N>> + Drop, R: Wait>(
     rt: &R,
     shared: &Shared<C, N, W>,
@@ -61,7 +61,7 @@ pub fn still_attached(answer: Result<Accepted, Refusal>) -> Option<u64> {
     }
 }
 
-/// Collects, asks for a report of the key and collects: what [`Step::AskForReport`] tells.
+/// Collects, asks for a report of the key and collects: the numbers of [`Step::AskForReport`].
 pub fn asked_for<C: Offers + Drop, N: Naming, W: Board<Cell<N>> + Drop, R: Wait>(
     rt: &R,
     shared: &Shared<C, N, W>,
@@ -90,7 +90,7 @@ fn collected<C: Offers + Drop, N: Naming, W: Board<Cell<N>> + Drop, R: Wait>(
     }
 }
 
-// How many of these reports tell the usage of the key for this cause, the number and the octets of the last of them,
+// How many of these reports are of the usage of the key for this cause, the number and the octets of the last of them,
 // and how many others there are.
 fn told_of(reports: &[Report], cause: Cause) -> Seen {
     let mut told = [0; 4];
@@ -111,7 +111,7 @@ fn add_to(told: &mut Seen, report: &Report, cause: Cause) {
     }
 }
 
-// The octets, if it tells the usage of the key for this cause.
+// The octets, if it reports the usage of the key for this cause.
 fn octets_of(report: &Report, wanted: Cause) -> Option<u64> {
     match &report.body {
         Body::Usage { key, octets, cause } if key.as_str() == "vid" && *cause == wanted => {

@@ -6,7 +6,7 @@ use super::*;
 use std::sync::atomic::{AtomicBool, AtomicU64, Ordering};
 use std::thread::{join, map_indices, yield_now};
 
-/// How many of the crowd have come, whether they may leave, and how many were told one verdict.
+/// How many of the crowd have attached, whether they may leave, and how many got one verdict.
 #[derive(Drop)]
 struct Crowd {
     come: AtomicU64,
@@ -15,13 +15,13 @@ struct Crowd {
 }
 
 impl Crowd {
-    // One more has come. Waits till they may leave, and gives up at some time.
+    // One more has attached. Waits till they may leave, and gives up at some time.
     fn come_in(&self) {
         self.come.fetch_add(1, Ordering::SeqCst);
         comes(&self.may_leave);
     }
 
-    // Waits till all sixteen have come, and gives up at some time.
+    // Waits till all sixteen have attached, and gives up at some time.
     fn wait_for_all(&self) {
         for _ in 0..10_000_000u32 {
             if self.come.load(Ordering::SeqCst) == 16 {
@@ -36,7 +36,7 @@ impl Crowd {
         self.may_leave.store(true, Ordering::SeqCst);
     }
 
-    // One of them was told so many verdicts.
+    // One of them got `verdicts` verdicts.
     fn count(&self, verdicts: usize) {
         if verdicts == 1 {
             self.told.fetch_add(1, Ordering::SeqCst);
@@ -44,9 +44,9 @@ impl Crowd {
     }
 }
 
-/// Sixteen workers come, each in a thread of its own, and the desk gives Terminate. Then each takes a packet of 28
-/// octets and finishes, while the desk gives Terminate again and again: how many are told the verdict of their row, how
-/// many the first Terminate found attached, and 1 where the session is terminated at last.
+/// Sixteen workers attach, each in a thread of its own, and the desk gives Terminate. Then each takes a packet of 28
+/// octets and finishes, while the desk gives Terminate again and again: how many get the verdict of their row, how many
+/// the first Terminate found attached, and 1 where the session is terminated at last.
 pub fn crowded<
     C: Detects + Drop + Send + Sync,
     N: Naming + Send + Sync,
@@ -67,7 +67,7 @@ pub fn crowded<
     [told, attached, u64::from(terminated), 0]
 }
 
-// Each of sixteen workers comes and finishes in a thread of its own.
+// Each of sixteen workers attaches and finishes in a thread of its own.
 fn all_finish<
     C: Detects + Drop + Send + Sync,
     N: Naming + Send + Sync,
@@ -83,7 +83,7 @@ fn all_finish<
     .ok();
 }
 
-// A worker comes, and finishes once all have come: whether it came.
+// A worker attaches, and finishes once all have attached: whether it was attached.
 fn comes_and_finishes<C: Detects + Drop, N: Naming, W: Board<Cell<N>> + Drop, R: Wait>(
     rt: &R,
     alloc: Global,
@@ -115,8 +115,8 @@ fn finishes<C: Detects + Drop, N: Naming, W: Board<Cell<N>> + Drop, R: Wait>(
     }
 }
 
-// Gives Terminate once all have come, and then till it is accepted: how many workers the first one finds attached, and
-// whether one is accepted.
+// Gives Terminate once all have attached, and then till it is accepted: how many workers the first one finds attached,
+// and whether one is accepted.
 fn terminates<C: Offers + Drop, N: Naming, W: Board<Cell<N>> + Drop, R: Wait>(
     rt: &R,
     shared: &Shared<C, N, W>,

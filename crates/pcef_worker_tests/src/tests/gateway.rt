@@ -22,7 +22,7 @@ use std::sync::{Arc, Wait};
 use std::test::Fail;
 use std::thread::Threads;
 
-/// What a run comes to, in numbers: packets, the commands of the journal, how many keys have a slot, and the octets of
+/// The outcome of a run in numbers: packets, the commands of the journal, how many keys have a slot, and the octets of
 /// the one key.
 #[derive(Clone, Copy, Debug, Default, PartialEq, Eq)]
 struct Figures {
@@ -36,7 +36,7 @@ struct Figures {
     unreported: u64,
 }
 
-/// The session after a command that it accepts. No worker comes by it.
+/// The session after a command that it accepts. It attaches no worker.
 fn accepted(session: JournaledState, command: Command) -> Result<JournaledState, Fail>
     requires { (attach_count session.session.journal ≡ 0) × (session.session.setting.catalog ≡ []) }
     ensures { IfOk result (λ s. (attach_count s.session.journal ≡ 0) × (s.session.setting.catalog ≡ [])) }
@@ -54,7 +54,7 @@ fn monitored(alloc: Global) -> Result<JournaledState, Fail>
     accepted(installed, monitor(1000)?)
 }
 
-/// So many packets for each worker up to this one, in turn.
+/// `each` packets for each of `workers` workers, in turn.
 fn packets(alloc: Global, each: u32, workers: u8) -> Result<Vec<Arrival>, Fail> {
     let mut arrivals = Vec::new(alloc);
     for _ in 0..each {
@@ -84,7 +84,7 @@ fn run<G: Gate + Sync, R: Threads + Wait + Sync>(
     ))
 }
 
-/// What a run came to, where it has the key `vid` or none.
+/// The outcome of a run, where it has the key `vid` or none.
 fn told(ended: &Ended) -> Option<Figures> {
     let totals = &ended.totals;
     let keys = totals.keys.as_slice();

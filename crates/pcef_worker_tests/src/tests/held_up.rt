@@ -43,8 +43,8 @@ pub fn comes(flag: &AtomicBool) -> bool {
     false
 }
 
-/// Two workers come, take a packet of 28 octets, hand its row over and abandon, each in a thread of its own: 1 where
-/// the first one came to its gate, 1 where it gave up there, and how many rows each hands in.
+/// Two workers attach, take a packet of 28 octets, hand its row over and abandon, each in a thread of its own: 1 where
+/// the first one reached its gate, 1 where it gave up there, and how many rows each hands in.
 pub fn held_up<
     C: Detects + Drop + Send + Sync,
     N: Naming + Send + Sync,
@@ -75,7 +75,7 @@ pub fn held_up<
     ]
 }
 
-/// Keeps what a worker handed in, if it came: how many rows.
+/// Keeps what a worker handed in, if it was attached: how many rows.
 pub fn rows_kept<C: Detects + Drop, N: Naming>(
     workers: &mut Workers<C, N>,
     left: Option<Finished<N>>,
@@ -90,7 +90,7 @@ pub fn rows_kept<C: Detects + Drop, N: Naming>(
     }
 }
 
-/// A worker comes, takes a packet of 28 octets, hands its row over and leaves.
+/// A worker attaches, takes a packet of 28 octets, hands its row over and leaves.
 pub fn left_after_a_row<
     C: Detects + Drop,
     N: Naming,

@@ -28,10 +28,10 @@ impl Gate for HoldsLast<'_> {
     }
 }
 
-/// A worker comes and finishes with rows of 28 and of 600 octets, in a thread of its own, and is held up where its
-/// flush was answered. There the desk terminates the session: 1 where the worker came to the point where a flush begins,
-/// how many workers the desk finds attached, and how many verdicts the worker is told, by generation 2 and passed by the
-/// rule.
+/// A worker attaches and finishes with rows of 28 and of 600 octets, in a thread of its own, and is held up where its
+/// flush was answered. There the desk terminates the session: 1 where the worker reached the point where a flush
+/// begins, how many workers the desk finds attached, and how many verdicts the worker gets, by generation 2 and passed
+/// by the rule.
 pub fn last_flush<
     C: Detects + Drop + Send + Sync,
     N: Naming + Send + Sync,
@@ -92,7 +92,7 @@ fn terminated<C: Offers + Drop, N: Naming, W: Board<Cell<N>> + Drop, R: Wait>(
     if answered { workers } else { None }
 }
 
-// A worker comes, takes two packets and finishes: what it hands in, and how many verdicts it is told.
+// A worker attaches, takes two packets and finishes: what it hands in, and how many verdicts it gets.
 fn finishes<C: Detects + Drop, N: Naming, W: Board<Cell<N>> + Drop, R: Wait>(
     rt: &R,
     alloc: Global,

@@ -50,8 +50,8 @@ fn rows_count_for_the_keys_of_their_tables(rt: HostRuntime) -> Result<(), Fail> 
     Ok(())
 }
 
-// The books after a rule and a key came, and after two workers handed over packets of 28, 600 and 40 octets, of which
-// the last has no rule.
+// The books after a rule is installed and its key monitored, and after two workers handed over packets of 28, 600 and
+// 40 octets, of which the last has no rule.
 fn judged_and_flushed<C: Detects, N: Naming, R: Wait + Drop>(
     rt: R,
     alloc: Global,
@@ -74,7 +74,7 @@ fn judged_and_flushed<C: Detects, N: Naming, R: Wait + Drop>(
     }
 }
 
-// One worker comes before the key, the other one after it.
+// One worker attaches before the key is monitored, the other one after it.
 fn books_around_rows<C: Detects, N: Naming, W: Board<Cell<N>> + Drop>(
     alloc: Global,
     commands: &[Command; 3],
@@ -91,7 +91,7 @@ fn books_around_rows<C: Detects, N: Naming, W: Board<Cell<N>> + Drop>(
     }
 }
 
-// The key comes, and the worker after it.
+// The key is monitored, and the other worker attaches after it.
 fn books_around_late<C: Detects, N: Naming, W: Board<Cell<N>> + Drop>(
     alloc: Global,
     commands: &[Command; 3],
@@ -231,7 +231,7 @@ fn give_commands<C: Offers + Drop, N: Naming, W: Board<Cell<N>> + Drop, R: Wait>
     Some(())
 }
 
-// Two workers come, and hand rows over.
+// Two workers attach, and hand rows over.
 fn handed_over_by_two<C: Detects + Drop, N: Naming, W: Board<Cell<N>> + Drop, R: Wait>(
     rt: &R,
     alloc: Global,
@@ -257,7 +257,7 @@ fn reported<C: Offers + Drop, N: Naming, W: Board<Cell<N>> + Drop, R: Wait>(
     Some((octets, later.len() as u64))
 }
 
-// The octets that the only report tells.
+// The octets of the only report.
 fn octets_of_one(reports: &[Report]) -> Option<u64> {
     match reports {
         [report] => match &report.body {
@@ -268,7 +268,7 @@ fn octets_of_one(reports: &[Report]) -> Option<u64> {
     }
 }
 
-// Hands rows over one by one, each in one hold of the lock, and gives how many were taken over.
+// Hands rows over one by one, each in one hold of the lock, and returns how many were taken over.
 fn handed_over<C: Detects + Drop, N: Naming, W: Board<Cell<N>> + Drop, R: Wait>(
     rt: &R,
     alloc: Global,

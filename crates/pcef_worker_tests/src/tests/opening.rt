@@ -1,4 +1,4 @@
-//! Sessions that come behind a lock, where a story begins.
+//! Sessions that come behind a lock, where a scenario begins.
 
 ghost use Rattle.std.specs.Prelude.{◌≡◌, [], IfErr, IfSome};
 ghost use Rattle.std.specs.Arc.{arc_value};
@@ -17,7 +17,7 @@ use pcef_share::Blanks;
 use std::marker::Brand;
 use std::sync::Arc;
 
-/// The lock of a story.
+/// The lock of a scenario.
 #[derive(Clone, Copy)]
 pub struct Lock {
     /// How many places there are for workers.
@@ -26,13 +26,13 @@ pub struct Lock {
     pub at_last: bool,
 }
 
-/// Why a story didn't begin: there was no memory for what comes before the lock.
+/// Why a scenario didn't begin: there was no memory for what comes before the lock.
 const NO_SESSION: &str = "the session comes behind its lock";
 
-/// Why a story didn't begin: the lock was refused.
+/// Why a scenario didn't begin: the lock was refused.
 const NO_LOCK: &str = "the lock of the session is opened";
 
-/// What is told of a session that takes so many rows, behind this lock.
+/// The outcome of the steps on a session that takes `rows` rows, behind this lock.
 pub fn tell<R: Threads + Wait + Sync>(
     rt: &R,
     alloc: Global,
@@ -133,7 +133,7 @@ fn tell_at_last<R: Threads + Wait + Sync>(
     }
 }
 
-// What is told behind a lock, or what came back; nothing where no history can be opened.
+// The outcome behind a lock, or what came back; nothing where no history can be opened.
 fn tell_once<R: Threads + Wait + Sync>(
     rt: &R,
     alloc: Global,

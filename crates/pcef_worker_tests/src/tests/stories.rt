@@ -1,12 +1,12 @@
-//! The stories. In each, what happens stands beside what it tells.
+//! The scenarios. In each, the numbers of a step stand beside it.
 
 use super::Step::*;
 use super::opening::{Lock, tell};
 use super::*;
 use crate::tests::expect_equal;
 
-/// What happens in a session that takes so many rows, behind a lock with so many places for workers, and what the end
-/// tells.
+/// The steps in a session that takes `rows` rows, behind a lock with `places` places for workers, and the numbers at
+/// the end.
 #[derive(Clone, Copy)]
 struct Story {
     name: &'static str,
@@ -29,7 +29,7 @@ static STORIES: [Story; 7] = [
         ],
         end: [1, 0, 0, 0, 0, 0, 0],
     },
-    // The rule and its key make generation 2 after the worker came.
+    // The rule and its key make generation 2 after the worker was attached.
     Story {
         name: "a worker meets the newest table",
         rows: 100,
@@ -50,7 +50,7 @@ static STORIES: [Story; 7] = [
         ],
         end: [1, 2, 0, 56, 28, 28, 1],
     },
-    // The octets come to the session between the beginning of the flush and its answer.
+    // The octets reach the session between the beginning of the flush and its answer.
     Story {
         name: "a report tells of a flush that was answered, and of none that begins",
         rows: 100,

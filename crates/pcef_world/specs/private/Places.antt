@@ -27,7 +27,7 @@ use Rattle.pcef_world.specs.Steps.{new_worker}
 use Rattle.pcef_world.specs.Worlds.{Waiting}
 use Rattle.pcef_world.specs.private.Workers.{LacksForItem, TakesItem, after_flushing, held_by}
 
--- ---- what is told
+-- ---- answers
 -- out of memory is no answer
 abbrev pub attach_step_answer : Result ℕ AttachFault → Result StepAnswer AllocError
 attach_step_answer (Ok number) = Ok (answer.Attach (Ok number))
@@ -45,7 +45,7 @@ finish_step_answer (Err NoMemory) = Err alloc_error
 finish_step_answer (Err r) = Ok (answer.Finish (Err r))
 
 -- ---- what is done
--- the workers, where one more comes or is refused
+-- the workers, where one more is attached or refused
 abbrev pub after_coming : Journal → Result ℕ AttachFault → List (Option Waiting) → List (Option Waiting)
 after_coming j (Ok number) workers = workers ++ Some (new_worker j) ∷ []
 after_coming j (Err fault) workers = workers
@@ -86,7 +86,7 @@ AbandonsAt j None out k new = (out ≡ answer.NoWorker) × (k ≡ j) × (new ≡
 AbandonsAt j (Some w) out k new =
     (out ≡ answer.Abandon (record { waiting = length w.waiting; rows = lane_len j w.number })) × (k ≡ after_leave w.number j) × (new ≡ None)
 
--- ---- what a session and a place come to
+-- ---- the outcome at a session and a place
 -- a worker hands its rows over at its place
 abbrev pub HandsOverAt : SessionModel → Option WorldWorker → Result StepAnswer AllocError → SessionModel → Option WorldWorker → Type 0
 HandsOverAt before place out after new = FlushesAt before.setting before.journal place out after.journal new

@@ -24,7 +24,7 @@ abbrev pub held_by : WorldWorker → TableValue
 held_by w = arc_value w.held
 
 -- ---- what a worker does
--- an item that a worker makes of a packet, where it has handed over so many rows
+-- an item that a worker makes of a packet, where it has handed over `handed_over` rows
 pub record IsJudged (offers : List Offer) (ue : Addr) (header : Header) (handed_over : ℕ) (w : WorldWorker) (i : Item) : Type 0 where
   pub worker_is : i.row.worker ≡ w.number
   pub seq_is : i.row.seq ≡ handed_over + length w.waiting

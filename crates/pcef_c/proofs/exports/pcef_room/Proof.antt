@@ -1,4 +1,4 @@
--- The empty tally is written into the room.
+-- An empty handle is written into the room.
 use Rattle.pcef_c.proofs.Steps.{◌≡◌, List, [], ◌∷◌, ◌++◌, refl, proved, full_share, id⊢, sep, ftrue, vunit, Val, WpFn, fact, tables, sem, ‵, raw, ◌⊛◌, some, later, prop, ◌$◌, ◌∵◌, !, qed, done, move, keep, use1, use2, split, split3, join, fjoin, feq_i, pick, await, regoal, show, suffices, frame, group, enter, of_opd, unit_lit, stop, init, assigns, no_more, and_then, returns, alloc_all, pass_all, free_all, look_at, get, through, sets, lands_as, yes, Is, shows, part_at, part_in, Ptr, RawPtr, block_ptr, in_a_block, rawptr_vals, rawptr_Tells, plain, nothing, heard, peeks, calls_at, Lasts, lasts, triple_of, Stays, walk_of, says, stay_dropped, Goes-dropped, ends_at, framed}
 use Rattle.pcef_c.specs.Handles.{room, lies}
 use Rattle.pcef_handle.specs.declared.held.Handle.{Handle}

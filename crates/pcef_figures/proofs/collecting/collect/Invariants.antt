@@ -6,7 +6,7 @@ use Rattle.pcef_figures.specs.Pairing.{Exchange, exchange_of, exchanges, filled}
 use Rattle.pcef_figures.specs.private.Lines.{HasRoom, left, size}
 use Rattle.pcef_figures.proofs.collecting.collect.Given as goal
 
--- the lines so far are told
+-- the figures are those of the lines so far
 abbrev pub invariant-loop-line : goal.invariant-loop-line
 invariant-loop-line l = record {
   told : List Exchange;

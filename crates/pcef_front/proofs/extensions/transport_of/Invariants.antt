@@ -5,7 +5,7 @@ use Rattle.pcef_front.specs.declared.extensions.Transport.{Transport}
 use Rattle.pcef_front.specs.declared.fault.FrontFault.{FrontFault}
 use Rattle.pcef_front.proofs.extensions.transport_of.Given as goal
 
--- what is told here is told of the whole front
+-- the answer here is the answer for the whole front
 pub record Leads (first kind : ℕ) (front left : List ℕ) (room left_room : ℕ) : Type 0 where
   pub within : length left ≤ left_room
   pub told : (r : Result Transport FrontFault) → IsSettledBy (transport_in kind) left left_room r → IsSettledBy (transport_in first) front room r

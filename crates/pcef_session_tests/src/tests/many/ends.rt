@@ -16,7 +16,7 @@ const LINES: &[u8] =
 const ANSWERS: &[u8] =
     b"a {\"ok\":true}\nb {\"name\":\"NoSession\",\"refused\":0}\na {\"generation\":0,\"ok\":true,\"worker\":0}\n- {\"fault\":1,\"name\":\"BadName\"}\na {\"ok\":true}\n";
 
-/// Gives so many octets of the lines, one at a time, and then fails or ends.
+/// Gives up to `most` octets of the lines, one at a time, and then fails or ends.
 #[derive(Drop)]
 struct Giving {
     given: usize,
@@ -45,7 +45,7 @@ impl Read for Giving {
     }
 }
 
-/// Takes so many octets, at most three at a time, and then fails.
+/// Takes up to `most` octets, at most three at a time, and then fails.
 #[derive(Drop)]
 struct Taking {
     taken: Vec<u8>,
@@ -68,7 +68,7 @@ impl Write for Taking {
     }
 }
 
-/// How it ends with a reader of so many octets and a writer of so many, and what is written.
+/// How it ends with a reader of `given` octets and a writer of `taken` octets, and what is written.
 fn ended(
     rt: &HostRuntime,
     given: usize,

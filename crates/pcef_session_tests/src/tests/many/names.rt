@@ -42,7 +42,7 @@ fn a_line_needs_name_space_and_rest(rt: HostRuntime) -> Result<(), Fail> {
     Ok(())
 }
 
-/// A line of a name of so many octets, and a rest of so many blanks before what opens a session.
+/// A line of a name of `name` octets and a space, and `blanks` blanks before what opens a session.
 fn long_line(rt: &HostRuntime, octet: u8, name: usize, blanks: usize) -> Result<Vec<u8>, Fail> {
     let mut line = Vec::new(rt.alloc());
     line.resize(name, octet)?;

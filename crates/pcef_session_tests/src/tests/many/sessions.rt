@@ -6,8 +6,8 @@ use pcef_test_scripts::{PROFILE, run, script_of};
 use std::alloc::Global;
 use std::test::Fail;
 
-/// A session's lines between its `open` and its `end`: a rule with a key, a packet that counts, one beyond the address, and
-/// two lines at fault.
+/// A session's lines between its `open` and its `end`: a rule with a key, a packet that counts, one beyond the address,
+/// and two lines at fault.
 static SCRIPT: [&str; 12] = [
     "{\"do\":\"install\",\"rule\":{\"name\":\"web\",\"precedence\":100,\"filters\":[{\"text\":\"permit out 17 from any 53 to assigned\"}],\"qci\":9,\"arp\":{\"level\":8,\"capability\":false,\"vulnerability\":true},\"gate\":\"ENABLED\",\"key\":\"vid\"}}",
     "{\"do\":\"triggers\",\"events\":[\"USAGE_REPORT\"]}",
@@ -25,8 +25,8 @@ static SCRIPT: [&str; 12] = [
 
 static NAMES: [&str; 3] = ["a", "~!subscriber-imsi-262011234567890", "b"];
 
-/// One line of a session for each turn: the first opens it, and the last ends it. A session that comes later has its first
-/// line that many turns later.
+/// One line of a session for each turn: the first opens it, and the last ends it. A session that comes later has its
+/// first line that many turns later.
 fn line_at(turn: usize, later: usize) -> Option<&'static str> {
     let place = turn.checked_sub(later)?;
     if place == 0 {

@@ -13,7 +13,7 @@ use std::sync::{Arc, Mutex, Wait};
 use std::test::Fail;
 use std::thread::Threads;
 
-/// Gives octets, so many at a time, and then ends or fails.
+/// Gives octets, up to `step` at a time, and then ends or fails.
 #[derive(Drop)]
 struct Giving {
     octets: Vec<u8>,
@@ -52,7 +52,7 @@ impl Read for Giving {
     }
 }
 
-/// Takes so many octets, and then fails.
+/// Takes up to `room` octets, and then fails.
 #[derive(Drop)]
 struct Taking {
     room: usize,
@@ -98,7 +98,7 @@ fn lines_of_every_form(alloc: Global) -> Result<String, Fail> {
     Ok(lines)
 }
 
-/// What so many threads write for lines, each on a list of its own, and whether a line is at fault.
+/// What `threads` threads write for lines, each on a list of its own, and whether a line is at fault.
 fn served_in<T: Threads + Wait + Drop + Send + Sync + Copy + 'static>(
     starting: T,
     rt: &HostRuntime,
@@ -164,7 +164,7 @@ fn under(alloc: Global, all: &[Vec<u8>], name: &[u8]) -> Result<(Vec<u8>, usize)
     Ok((own, places))
 }
 
-/// What differs between the answers of so many threads and of one, in a few words: nothing.
+/// What differs between the answers of `threads` threads and of one, in a few words: nothing.
 fn difference<T: Threads + Wait + Drop + Send + Sync + Copy + 'static>(
     starting: T,
     rt: &HostRuntime,

@@ -190,7 +190,7 @@ fn a_file_that_ends_anywhere(rt: HostRuntime) {
     }
 }
 
-/// What is to be told of the big-endian file that ends here.
+/// What is due of the big-endian file that ends here.
 fn due(end: usize) -> Told {
     match end {
         0..=3 => (0, Some(CaptureFault::NotACapture)),

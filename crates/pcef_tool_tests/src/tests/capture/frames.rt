@@ -21,7 +21,7 @@ fn inside(link: Link, endianness: Endianness, octets: &[u8]) -> Option<Inside> {
 
 const IPV4: [u8; 2] = [0x45, 0x01];
 
-/// What is told of [`IPV4`].
+/// What is found in [`IPV4`].
 const TOLD: Option<Inside> = Some((2, Some(0x45)));
 
 fn ethernet(octets: &[u8]) -> Option<Inside> {
@@ -112,7 +112,7 @@ fn linux_cooked(rt: HostRuntime) {
     expect_equal(&rt, &told, &[TOLD, TOLD, None, TOLD, None, None]);
 }
 
-/// What is told of two octets of version 6.
+/// What is found in two octets of version 6.
 const TOLD_6: Option<Inside> = Some((2, Some(0x60)));
 
 const PLAIN_6: [u8; 16] = [1, 2, 3, 4, 5, 6, 7, 8, 9, 10, 11, 12, 0x86, 0xdd, 0x60, 1];

@@ -142,7 +142,7 @@ fn fault_at(end: usize) -> Option<CaptureFault> {
     }
 }
 
-/// The place of another octet, the octet, and what is told of the little-endian file with it.
+/// The place of another octet, the octet, and what is read of the little-endian file with it.
 const CHANGES: [(usize, u8, Told); 15] = [
     (4, 29, (0, Some(CaptureFault::BlockLength))),
     (4, 8, (0, Some(CaptureFault::BlockLength))),
@@ -169,7 +169,7 @@ fn blocks_at_fault(rt: HostRuntime) {
     }
 }
 
-/// What is told of the little-endian file with another octet at a place.
+/// What is read of the little-endian file with another octet at a place.
 fn told_with(alloc: Global, place: usize, octet: u8) -> Told {
     let mut file = LITTLE;
     if let Some(at) = file.get_mut(place) {
@@ -198,7 +198,7 @@ fn no_section_header(rt: HostRuntime) {
     expect_equal(&rt, &fault, &Some(CaptureFault::NotACapture));
 }
 
-/// Adds a section with so many Ethernet interfaces, and a packet of the one with this number.
+/// Adds a section with `interfaces` Ethernet interfaces, and a packet of the one with this number.
 fn push_section(file: &mut Vec<u8>, interfaces: u32, number: u32) -> Result<(), AllocError> {
     file.extend_from_slice(&LITTLE[..28])?;
     for _ in 0..interfaces {

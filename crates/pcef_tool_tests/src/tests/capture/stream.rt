@@ -47,7 +47,7 @@ const OPTIONS: Options<'static> = Options {
 /// How many octets the lines for one of the packets have: 106 of `take` and 26 of `flush`.
 const LINES_LEN: u64 = 132;
 
-/// Gives some octets, at most so many at a time, and then fails or ends.
+/// Gives some octets, at most `most` at a time, and then fails or ends.
 #[derive(Drop)]
 struct Parts<'a> {
     rest: &'a [u8],
@@ -68,10 +68,10 @@ impl Read for Parts<'_> {
     }
 }
 
-/// How many frames are told, and the fault; the fault alone of a classic file's header.
+/// How many frames are read, and the fault; the fault alone of a classic file's header.
 type Told = (u64, Option<CaptureFault>);
 
-/// What is told of a capture that comes in parts of so many octets, and how many octets are written.
+/// What is read of a capture that comes in parts of `most` octets, and how many octets are written.
 fn told_in_parts(alloc: Global, octets: &[u8], most: usize, fails: bool) -> Option<(Told, usize)> {
     let mut reader = Parts {
         rest: octets,
@@ -89,7 +89,7 @@ fn told_in_parts(alloc: Global, octets: &[u8], most: usize, fails: bool) -> Opti
     }
 }
 
-/// What the reader of whole files tells.
+/// What the reader of whole files returns.
 fn told_whole(alloc: Global, octets: &[u8]) -> Told {
     match read_capture(alloc, octets) {
         Ok(capture) => (capture.packets.len() as u64, capture.fault),
@@ -125,7 +125,7 @@ fn lines_of_whole_packets_stand_where_the_reader_fails(rt: HostRuntime) {
     }
 }
 
-/// A classic header and the header of a record with a packet of so many octets, and one octet.
+/// A classic header and the header of a record with a packet of `recorded` octets, and one octet.
 fn of_length(recorded: u32) -> [u8; 41] {
     let [a, b, c, d] = recorded.to_be_bytes();
     [
@@ -134,7 +134,7 @@ fn of_length(recorded: u32) -> [u8; 41] {
     ]
 }
 
-/// A section header, and the front of a block of so many octets.
+/// A section header, and the front of a block of `total` octets.
 fn of_block_length(total: u32) -> [u8; 40] {
     let [a, b, c, d] = total.to_le_bytes();
     [
@@ -159,7 +159,7 @@ fn records_and_blocks_beyond_the_limits(rt: HostRuntime) {
         let came = told_in_parts(rt.alloc(), octets, 3, false);
         expect_equal(&rt, &came, &Some(((0, Some(fault)), 0)));
     }
-    // What is too long is told before more is read.
+    // What is too long is reported before more is read.
     let came = told_in_parts(rt.alloc(), &long_packet, 8192, true);
     expect_equal(&rt, &came, &Some(((0, Some(CaptureFault::TooLong)), 0)));
 }

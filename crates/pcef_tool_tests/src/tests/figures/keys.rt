@@ -3,8 +3,8 @@ use crate::tests::expect_equal;
 use pcef_figures::{CollectFault, Figures, Usage, collect, octets_by_key, sum_of};
 use std::alloc::{AllocError, Global};
 
-/// Two keys with grants, of which a third is refused; reports of both with one answer, an access event among them; and what
-/// is shown twice.
+/// Two keys with grants, of which a third is refused; reports of both with one answer, an access event among them; and
+/// what is shown twice.
 const LINES: &[u8] =
     b"{\"do\":\"monitor\",\"key\":\"vid\",\"grant\":100}\n{\"do\":\"monitor\",\"key\":\"web\",\"grant\":7}\n\
 {\"do\":\"monitor\",\"key\":\"full\",\"grant\":9}\n\n{\"do\":\"show\"}\n{\"do\":\"report\",\"key\":\"vid\"}\n\
@@ -112,7 +112,7 @@ fn seen(figures: &Figures) -> Seen {
     )
 }
 
-/// What is seen of what the lines and their answers tell.
+/// What is seen of the figures of the lines and their answers.
 fn collected_and_seen(alloc: Global) -> Result<Seen, CollectFault> {
     let figures = collect(alloc, LINES, ANSWERS)?;
     Ok(seen(&figures))
@@ -134,7 +134,7 @@ fn sums_of(alloc: Global, usage: &[Usage]) -> Result<[Option<u64>; 3], AllocErro
     ])
 }
 
-/// The same of what a script and its answers tell.
+/// The same of a script and its answers.
 fn sums_by(alloc: Global, lines: &[u8], answers: &[u8]) -> Result<[Option<u64>; 3], CollectFault> {
     let figures = collect(alloc, lines, answers)?;
     Ok(sums_of(alloc, figures.usage.as_slice())?)

@@ -1,4 +1,4 @@
-//! Out of memory is told, and what is collected once more is what is collected with memory for everything.
+//! Out of memory is reported, and what is collected once more is what is collected with memory for everything.
 //!
 //! `.ci/refused-memory` refuses each allocation in turn.
 use crate::tests::expect_equal;

@@ -3,8 +3,8 @@ use crate::tests::expect_equal;
 use pcef_figures::{CollectFault, Judged, Verdict, collect, octets_by_rule, sum_of};
 use std::alloc::{AllocError, Global};
 
-/// Two workers: the first takes a packet of 28 octets up, one of 60 down and one of 28 down, the second one of 48 octets of
-/// IPv6 up. The second is flushed first.
+/// Two workers: the first takes a packet of 28 octets up, one of 60 down and one of 28 down, the second one of 48
+/// octets of IPv6 up. The second is flushed first.
 const LINES: &[u8] = b"{\"do\":\"attach\"}\n{\"do\":\"attach\"}\n\
 {\"do\":\"take\",\"worker\":0,\"dir\":\"up\",\"packet\":\"4500001c00000000401100000a000002c63364071388003500080000\"}\n\
 {\"do\":\"take\",\"worker\":1,\"dir\":\"up\",\"packet\":\"600000000008114020010db800000000000000000000000220010db80001000000000000000000531388003500080000\"}\n\
@@ -21,7 +21,8 @@ const ANSWERS: &[u8] =
 {\"ok\":true,\"reports\":[],\"rows\":3,\"verdicts\":[{\"generation\":3,\"rule\":\"web\",\"verdict\":\"Gated\"},\
 {\"bearer\":5,\"generation\":3,\"rule\":\"web\",\"verdict\":\"Passed\"},{\"generation\":3,\"verdict\":\"Stray\"}]}\n";
 
-/// The lines of a packet and of its verdict, the worker, whether it goes up, the octets, and the verdict with its generation.
+/// The lines of a packet and of its verdict, the worker, whether it goes up, the octets, and the verdict with its
+/// generation.
 type Row = (u64, u64, u64, bool, u64, (Verdict, u64, Option<u64>));
 
 /// The row of a packet with its verdict, where one stands at this place.
@@ -49,7 +50,7 @@ fn rows(judged: &[Judged]) -> [Option<Row>; 5] {
     ]
 }
 
-/// The first five rows of what a script and its answers tell.
+/// The first five rows of a script and its answers.
 fn rows_by(alloc: Global, lines: &[u8], answers: &[u8]) -> Result<[Option<Row>; 5], CollectFault> {
     let figures = collect(alloc, lines, answers)?;
     Ok(rows(figures.judged.as_slice()))
@@ -66,7 +67,7 @@ fn sums_of(alloc: Global, judged: &[Judged]) -> Result<[Option<u64>; 4], AllocEr
     ])
 }
 
-/// The same of what a script and its answers tell.
+/// The same of a script and its answers.
 fn sums_by(alloc: Global, lines: &[u8], answers: &[u8]) -> Result<[Option<u64>; 4], CollectFault> {
     let figures = collect(alloc, lines, answers)?;
     Ok(sums_of(alloc, figures.judged.as_slice())?)
@@ -107,7 +108,7 @@ const TAKE_AND_FLUSH: &[u8] = b"{\"do\":\"take\",\"worker\":2,\"dir\":\"up\",\"p
 
 const TAKEN: &[u8] = b"{\"ok\":true,\"waiting\":1}\n";
 
-/// How many verdicts the lines tell where a packet and a flush follow them, and this is the answer to the flush.
+/// How many verdicts there are where a packet and a flush follow the lines, and this is the answer to the flush.
 fn with_flush(alloc: Global, answer: &[u8]) -> Result<usize, CollectFault> {
     let lines = [LINES, TAKE_AND_FLUSH].concat(alloc)?;
     let answers = [ANSWERS, TAKEN, answer].concat(alloc)?;

@@ -3,7 +3,7 @@ use crate::tests::expect_equal;
 use pcef_figures::{CollectFault, Collected, Figures, collect};
 use std::alloc::Global;
 
-/// What is told, or why nothing is: lines, the number of the last, and how many were refused or at fault.
+/// What is collected, or why nothing is: lines, the number of the last, and how many were refused or at fault.
 type Told = Result<(u64, u64, usize), CollectFault>;
 
 fn told(alloc: Global, lines: &[u8], answers: &[u8]) -> Told {
@@ -11,7 +11,7 @@ fn told(alloc: Global, lines: &[u8], answers: &[u8]) -> Told {
     Ok((figures.lines, figures.last, figures.refused.len()))
 }
 
-/// Whether nothing is told.
+/// Whether there are no figures.
 fn is_blank(figures: &Figures) -> bool {
     (figures.lines, figures.last, figures.generation) == (0, 0, 0)
         && figures.judged.is_empty()
@@ -22,13 +22,13 @@ fn is_blank(figures: &Figures) -> bool {
         && figures.refused.is_empty()
 }
 
-/// Whether nothing is told yet.
+/// Whether there are no figures at the start.
 fn is_new_blank(alloc: Global) -> bool {
     let collected = Collected::new(alloc);
     is_blank(&collected.figures)
 }
 
-/// Whether nothing is told of these.
+/// Whether these have no figures.
 fn is_told_blank(alloc: Global, lines: &[u8], answers: &[u8]) -> Result<bool, CollectFault> {
     let figures = collect(alloc, lines, answers)?;
     Ok(is_blank(&figures))
@@ -59,10 +59,10 @@ fn an_empty_script_tells_nothing(rt: HostRuntime) {
     );
 }
 
-/// Lines, answers, and what is told of them.
+/// Lines, answers, and what is collected of them.
 type Row = (&'static [u8], &'static [u8], Told);
 
-/// The place of the first row of which something else is told, with what is told.
+/// The place of the first row of which something else is collected, with what that is.
 fn first_wrong(alloc: Global, rows: &[Row]) -> Option<(usize, Told)> {
     for place in 0..rows.len() {
         let (lines, answers, due) = rows[place];
@@ -143,7 +143,7 @@ fn what_is_no_answer_is_told_with_its_line(rt: HostRuntime) {
     expect_equal(&rt, &first_wrong(rt.alloc(), &NO_ANSWERS_TO_LINES), &None);
 }
 
-/// What is told of a line that is no JSON, with a fault as its answer, and with another answer.
+/// What is collected of a line that is no JSON, with a fault as its answer, and with another answer.
 fn told_of_no_json(alloc: Global, line: &[u8]) -> [Told; 2] {
     [
         told(alloc, line, b"{\"fault\":3,\"name\":\"NotJson\"}"),

@@ -23,7 +23,7 @@ fn all(rates: &[Rates]) -> [Option<[u64; 4]>; 8] {
     ]
 }
 
-/// The same of what a script and its answers tell.
+/// The same of a script and its answers.
 fn all_by(
     alloc: Global,
     lines: &[u8],

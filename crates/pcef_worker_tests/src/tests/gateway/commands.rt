@@ -7,7 +7,7 @@ use pcef_rule::{BearerId, RuleName};
 use pcef_worker::OpenGate;
 use std::process::Abort;
 
-/// The octets that a report tells, if it is of this number, of the key `vid` and of this cause.
+/// The octets of a report, if it is of this number, of the key `vid` and of this cause.
 fn usage(report: &Report, number: u64, cause: Cause) -> Option<u64> {
     match &report.body {
         Body::Usage {
@@ -139,7 +139,7 @@ fn reports_from_before_the_run_are_told_too(rt: HostRuntime) -> Result<(), Fail>
     Ok(())
 }
 
-/// The octets of the second of two reports, where the first, from before the run, tells of none.
+/// The octets of the second of two reports, where the first, from before the run, has none.
 fn octets_meanwhile(ended: &Ended) -> Option<u64> {
     match (ended.answers.as_slice(), ended.reports.as_slice()) {
         ([Ok(_)], [before, meanwhile]) if usage(before, 0, Cause::Requested) == Some(0) => {

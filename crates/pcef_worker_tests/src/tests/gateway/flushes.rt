@@ -7,7 +7,7 @@ use pcef_worker::Point;
 use std::sync::atomic::{AtomicBool, AtomicU64, Ordering};
 use std::thread::yield_now;
 
-/// So many packets for the first worker, and behind them so many for the second.
+/// `first` packets for the first worker, and behind them `second` packets for the second.
 pub fn packets_of_two(alloc: Global, first: u8, second: u8) -> Result<Vec<Arrival>, Fail> {
     let mut arrivals = Vec::new(alloc);
     for _ in 0..first {
@@ -71,7 +71,7 @@ fn packets_that_came_meanwhile_are_handed_over_together(rt: HostRuntime) -> Resu
     Ok(())
 }
 
-/// So many packets for the first worker, and behind them as many for the second, which no rule fits.
+/// `each` packets for the first worker, and behind them as many for the second, which no rule fits.
 fn packets_and_strangers(alloc: Global, each: u8) -> Result<Vec<Arrival>, Fail> {
     let mut arrivals = packets_of_two(alloc, each, 0)?;
     for _ in 0..each {
@@ -81,8 +81,8 @@ fn packets_and_strangers(alloc: Global, each: u8) -> Result<Vec<Arrival>, Fail> 
     Ok(arrivals)
 }
 
-// The rule is installed between the packets of the two workers. So it is there where the first worker's first flush goes
-// on, which hands over 32 rows at most: all others are judged by it.
+// The rule is installed between the packets of the two workers. So it is there where the first worker's first flush
+// goes on, which hands over 32 rows at most: all others are judged by it.
 #[test]
 fn what_comes_during_a_flush_judges_the_packets_behind_it(rt: HostRuntime) -> Result<(), Fail> {
     let alloc = rt.alloc();
@@ -133,8 +133,8 @@ fn a_refused_flush_is_answered_too(rt: HostRuntime) -> Result<(), Fail> {
     Ok(())
 }
 
-/// Counts the flushes of the first worker, and holds the second one up where its flush begins, until the first has begun
-/// three or a while has gone by.
+/// Counts the flushes of the first worker, and holds the second one up where its flush begins, until the first has
+/// begun three or a while has gone by.
 #[derive(Drop)]
 struct CountsThree {
     flushes: AtomicU64,

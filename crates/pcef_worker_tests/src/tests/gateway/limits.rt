@@ -1,4 +1,4 @@
-//! Runs that come to nothing, and those at a limit.
+//! Runs without an outcome, and those at a limit.
 
 use super::*;
 use crate::tests::expect_equal;

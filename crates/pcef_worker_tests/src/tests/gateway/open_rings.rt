@@ -1,4 +1,4 @@
-//! A worker to whom no packet comes for a while.
+//! A worker that gets no packet for a while.
 
 use super::flushes::packets_of_two;
 use super::workers::TWO_COUNTED;

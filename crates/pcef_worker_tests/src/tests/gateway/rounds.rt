@@ -4,7 +4,7 @@ use super::*;
 use crate::tests::expect_equal;
 use pcef_worker::OpenGate;
 
-/// Runs of so many workers, each of which takes so many packets, behind so many commands.
+/// `runs` runs of `workers` workers, each of which takes `packets` packets, behind `commands` commands.
 #[derive(Clone, Copy)]
 struct Rounds {
     runs: u32,

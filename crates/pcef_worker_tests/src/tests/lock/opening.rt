@@ -20,7 +20,7 @@ fn a_lock_has_one_to_sixteen_places(rt: HostRuntime) -> Result<(), Fail> {
     Ok(())
 }
 
-// Tells of a lock with so many places.
+// 1 where a lock may not have `places` places, 0 where it is opened, and none where neither is so.
 fn tell_places<R: Threads + Wait + Sync>(
     rt: &R,
     alloc: Global,
@@ -31,7 +31,7 @@ fn tell_places<R: Threads + Wait + Sync>(
     Ok(refused_places::<Brand, _>(rt, alloc, session, opened, Blanks::new(), places))
 }
 
-// 1 where there may not be so many places, 0 where the session comes behind its lock, and none where neither is so.
+// 1 where a lock may not have `places` places, 0 where the session comes behind it, and none where neither is so.
 fn refused_places<N: Naming, R: Wait + Drop>(
     rt: R,
     alloc: Global,

@@ -12,7 +12,7 @@ use Rattle.pcef_lane.proofs.LaneEnds.{end_found}
 use Rattle.pcef_session.specs.SessionModel.{SessionModel}
 use Rattle.pcef_session.proofs.state.SessionState.lane_end.Goals as goal
 
--- a worker that never came has no rows
+-- a worker that was never attached has no rows
 none_past : (p : Setting) (j : Journal) (worker : ℕ) (o : Option LaneEnd) (lanes : List LaneEnd) → Lawful p j → end_of lanes worker ≡ o → LanesAgree j lanes → IfNone o (lane j worker ≡ [])
 none_past p j worker None lanes lawful is agree = past_lane p j worker lawful (subst (λ (o : Option LaneEnd). MatchOption o (attach_count j ≤ worker) (λ end. (worker < attach_count j) × (end ≡ lane_end j worker))) is (end_found j lanes worker agree))
 none_past p j worker (Some end) lanes lawful is agree = tt
