@@ -98,7 +98,7 @@ fn obsolete_in<'a>(interfaces: &[Interface], block: &Block<'a>) -> Result<Packet
 }
 
 /// The length that is recorded of a frame of `line` octets; a `snap_len` of 0 is no limit.
-#[tactic(auto, unfolding(crate::specs::BlockPackets::snap))]
+#[tactic(auto, unfolding(crate::specs::BlockPackets::snapped))]
 fn snap(snap_len: u32, line: u32) -> u32
     ensures { result ≡ snapped snap_len line }
 {

@@ -3,7 +3,7 @@
 //!
 //! Its contracts say: that what a session keeps is exact, in one statement (`session_is_exact`), and what a list of
 //! steps makes of a new session. `session_is_exact` speaks of every `SessionState`, so of those of all programs, and
-//! need not be called; `Session` and `World` are used by tests and by `pcef_worked_examples` alone.
+//! need not be called; `Session` and `World` are used by tests and by `tests_examples` alone.
 //!
 //! In the order of reading: `keeping`, `session`, `world`, `steps`.
 #![tactic(auto)]

@@ -1,4 +1,0 @@
-use Rattle.pcef_part_tests.proofs.tests.tables.with_variant.Goals as goal
-
-pub with_entry-requires-clause-known : goal.with_entry-requires-clause-known
-with_entry-requires-clause-known g c = c.in_ok-entry.ensures (g.C.Offers.offers c.args.catalog.now)

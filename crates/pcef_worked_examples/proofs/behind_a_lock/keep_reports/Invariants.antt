@@ -1,5 +1,0 @@
-use Rattle.std.proofs.Common.{◌≡◌}
-use Rattle.pcef_worked_examples.proofs.behind_a_lock.keep_reports.Given as goal
-
-abbrev pub invariant-loop-report : goal.invariant-loop-report
-invariant-loop-report l = l.line_text.forgotten ≡ 0

@@ -1,0 +1,9 @@
+use Rattle.pcef_world.specs.Steps.{reply_of}
+use Rattle.pcef_world.proofs.ToldReports.{all_kept}
+use Rattle.tests_examples.proofs.calls.text_of.Goals as goal
+
+pub step_answer-requires : goal.step_answer-requires
+step_answer-requires c = all_kept c.args.journal.now.forgotten (reply_of c.args.answer.now) c.requires
+
+pub step_answer-requires-in-Err : goal.step_answer-requires-in-Err
+step_answer-requires-in-Err c = all_kept c.args.journal.now.forgotten (reply_of c.args.answer.now) c.requires
