@@ -7,7 +7,7 @@ use Rattle.pcef_model.specs.declared.row.Row.{Row}
 use Rattle.pcef_model.specs.Entries.{Journal, reports}
 use Rattle.pcef_model.specs.Lawful.{Lawful, at_first, by_attach, by_command, by_flush, by_leave}
 use Rattle.pcef_model.specs.declared.pending_report.PendingReport.{PendingReport}
-use Rattle.pcef_model.specs.Reports.{after_command, plan, tell, thresholds, with_rows}
+use Rattle.pcef_model.specs.Reports.{after_command, plan, with_reports, thresholds, with_rows}
 use Rattle.pcef_model.specs.Setting.{Setting}
 use Rattle.pcef_lock.specs.Reports.{AreNumbered}
 
@@ -16,8 +16,8 @@ unfoldable Counted : List Report → Type 0
 Counted [] = Unit {0}
 Counted (r ∷ rs) = (r.number ≡ length rs) × Counted rs
 
-counted_told : (p : Setting) (ts : List PendingReport) (j : Journal) → Counted (reports j) → Counted (reports (tell p ts j))
-unfolding tell Counted
+counted_told : (p : Setting) (ts : List PendingReport) (j : Journal) → Counted (reports j) → Counted (reports (with_reports p ts j))
+unfolding with_reports Counted
 counted_told p [] j is = is
 counted_told p (t ∷ ts) j is = counted_told p ts _ (refl, is)
 
@@ -30,7 +30,7 @@ lawful_counted : (p : Setting) (j : Journal) → Lawful p j → Counted (reports
 unfolding after_command Counted
 lawful_counted p _ at_first = tt
 lawful_counted p _ (by_command j c l accepted changed) =
-    counted_told p (thresholds p (tell p (plan p j c) (entry.Command c ∷ j))) (tell p (plan p j c) (entry.Command c ∷ j)) (counted_told p (plan p j c) (entry.Command c ∷ j) (lawful_counted p j l))
+    counted_told p (thresholds p (with_reports p (plan p j c) (entry.Command c ∷ j))) (with_reports p (plan p j c) (entry.Command c ∷ j)) (counted_told p (plan p j c) (entry.Command c ∷ j) (lawful_counted p j l))
 lawful_counted p _ (by_attach j l accepted) = lawful_counted p j l
 lawful_counted p _ (by_leave j worker l there) = lawful_counted p j l
 lawful_counted p _ (by_flush j worker [] l accepted follows) = lawful_counted p j l

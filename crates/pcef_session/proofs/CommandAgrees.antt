@@ -19,7 +19,7 @@ use Rattle.pcef_model.specs.Commands.{key_named, is_table, activated, level_name
 use Rattle.pcef_model.specs.declared.trigger.TriggerSet.{TriggerSet}
 use Rattle.pcef_model.specs.Entries.{Journal, commands}
 use Rattle.pcef_model.specs.Journals.{gen, level_of, now, report_count, slots, tables}
-use Rattle.pcef_model.specs.Reports.{after_command, body_of, plan, tell, thresholds}
+use Rattle.pcef_model.specs.Reports.{after_command, body_of, plan, with_reports, thresholds}
 use Rattle.pcef_model.proofs.Growth.{now_after_table}
 use Rattle.pcef_model.proofs.Sameness.{same_name_of}
 use Rattle.pcef_usage.specs.declared.usage.KeyState.{KeyState}
@@ -250,15 +250,15 @@ bearer_commanded p j c x old new bearer agrees is =
     (rebound_now p j c x old new bearer agrees is).1 ∙ ap (λ (g : Generation). bearer_named g c) (sym (now_after p j c))
 
 -- ---- what stays
-pub commands_told : (p : Setting) (ts : List PendingReport) (j : Journal) → commands (tell p ts j) ≡ commands j
-unfolding tell
+pub commands_told : (p : Setting) (ts : List PendingReport) (j : Journal) → commands (with_reports p ts j) ≡ commands j
+unfolding with_reports
 commands_told p [] j = refl
 commands_told p (t ∷ ts) j = commands_told p ts (entry.Report (record { number = report_count j; body = body_of p j t }) ∷ j)
 
 pub commands_after : (p : Setting) (j : Journal) (c : Command) → commands (after_command p j c) ≡ c ∷ commands j
 unfolding after_command
 commands_after p j c =
-    commands_told p (thresholds p (tell p (plan p j c) (entry.Command c ∷ j))) (tell p (plan p j c) (entry.Command c ∷ j)) ∙ commands_told p (plan p j c) (entry.Command c ∷ j)
+    commands_told p (thresholds p (with_reports p (plan p j c) (entry.Command c ∷ j))) (with_reports p (plan p j c) (entry.Command c ∷ j)) ∙ commands_told p (plan p j c) (entry.Command c ∷ j)
 
 pub few_keys_after : (p : Setting) (j : Journal) (c : Command) (keys : List KeyState) (states : List KeyState) → keys_of states ≡ slots p j → keys_of keys ≡ slots p (after_command p j c) →
     finds_no_slot (key_named p c) states ≡ false → length states ≤ 8 → length keys ≤ 8

@@ -15,14 +15,14 @@ use Rattle.pcef_model.specs.Setting.{Setting}
 use Rattle.pcef_model.specs.Entries.{Journal, commands}
 use Rattle.pcef_model.specs.Journals.{report_count}
 use Rattle.pcef_model.specs.Refusals.{common_refusals, first_of, first_refusals, is_close, is_terminate, limited_count, own_refusals, refusals, was_closed, was_terminated}
-use Rattle.pcef_model.specs.Reports.{after_command, after_flush, body_of, plan, tell, thresholds, with_rows}
+use Rattle.pcef_model.specs.Reports.{after_command, after_flush, body_of, plan, with_reports, thresholds, with_rows}
 use Rattle.pcef_model.proofs.Acceptance.{condition_none, conditions_none}
 use Rattle.pcef_session.specs.private.Soundness.{EndsAgree, ends_met}
 use Rattle.pcef_session.proofs.Refused.{limited_plain}
 
 -- ---- entries of a kind, as reports and rows come
-any_told : (test : Entry → Bool) (p : Setting) (ts : List PendingReport) (j : Journal) → ((r : Report) → test (entry.Report r) ≡ false) → list_any test (tell p ts j) ≡ list_any test j
-unfolding tell
+any_told : (test : Entry → Bool) (p : Setting) (ts : List PendingReport) (j : Journal) → ((r : Report) → test (entry.Report r) ≡ false) → list_any test (with_reports p ts j) ≡ list_any test j
+unfolding with_reports
 any_told test p [] j other = refl
 any_told test p (t ∷ ts) j other =
     let r : Report = record { number = report_count j; body = body_of p j t } in
@@ -37,7 +37,7 @@ any_commanded : (test : Entry → Bool) (p : Setting) (j : Journal) (c : Command
     list_any test (after_command p j c) ≡ (test (entry.Command c) || list_any test j)
 unfolding after_command
 any_commanded test p j c other =
-    any_told test p (thresholds p (tell p (plan p j c) (entry.Command c ∷ j))) (tell p (plan p j c) (entry.Command c ∷ j)) other
+    any_told test p (thresholds p (with_reports p (plan p j c) (entry.Command c ∷ j))) (with_reports p (plan p j c) (entry.Command c ∷ j)) other
     ∙ any_told test p (plan p j c) (entry.Command c ∷ j) other
 
 any_flushed : (test : Entry → Bool) (p : Setting) (j : Journal) (rs : List Row) → ((r : Report) → test (entry.Report r) ≡ false) → ((r : Row) → test (entry.Row r) ≡ false) →

@@ -9,7 +9,7 @@ use Rattle.pcef_model.specs.Setting.{Setting, most_keys}
 use Rattle.pcef_model.specs.Commands.{key_named, level_named}
 use Rattle.pcef_model.specs.Entries.{Journal}
 use Rattle.pcef_model.specs.Journals.{report_count, subscribed}
-use Rattle.pcef_model.specs.Reports.{after_command, plan, tell}
+use Rattle.pcef_model.specs.Reports.{after_command, plan, with_reports}
 use Rattle.pcef_usage.specs.declared.usage.KeyState.{KeyState}
 use Rattle.pcef_usage.specs.Commands.{entered, subscribed_by}
 use Rattle.pcef_usage.specs.Keys.{finds_no_slot, place_of, started, with_slot}
@@ -43,7 +43,7 @@ subscribed_after j Terminate = refl
 pub subscribed_after_command : (p : Setting) (j : Journal) (c : Command) → subscribed (after_command p j c) ≡ subscribed_by c (subscribed j)
 unfolding after_command
 subscribed_after_command p j c =
-    subscribed_settled p (tell p (plan p j c) (entry.Command c ∷ j)) ∙ tell_subscribed p (plan p j c) (entry.Command c ∷ j) ∙ subscribed_after j c
+    subscribed_settled p (with_reports p (plan p j c) (entry.Command c ∷ j)) ∙ tell_subscribed p (plan p j c) (entry.Command c ∷ j) ∙ subscribed_after j c
 
 -- ---- keys
 pub length-entered : (p : Setting) (c : Command) (states : List KeyState) → length (entered p c states) ≡ length (with_slot (key_named p c) (level_named c) states)

@@ -11,7 +11,7 @@ use Rattle.pcef_model.specs.Generations.{Generation}
 use Rattle.pcef_model.specs.Commands.{is_among}
 use Rattle.pcef_model.specs.Entries.{Journal}
 use Rattle.pcef_model.specs.Journals.{now, slots, subscribed}
-use Rattle.pcef_model.specs.Reports.{with_thresholds, tell, thresholds}
+use Rattle.pcef_model.specs.Reports.{with_thresholds, with_reports, thresholds}
 use Rattle.pcef_usage.specs.declared.usage.KeyState.{KeyState}
 use Rattle.pcef_usage.specs.Keys.{at_place, is_reached, keys_of, place_of, reported_on, ungranted_if_reached}
 use Rattle.pcef_usage.specs.PendingReports.{AllCount, AllOn, Distinct, KnowsAll, after_stop, after_report, settled_states, threshold_reports, states_stopped, after_reports, appended}
@@ -48,9 +48,9 @@ unfolding AllOn
 to_on p j [] a = tt
 to_on p j (s ∷ states) a = (record { on_is = a.0 }, to_on p j states a.1)
 
-pub all_on_told : (p : Setting) (ts us : List PendingReport) (j : Journal) (states : List KeyState) → AllOn p j states → AllOn p (tell p us j) (after_reports ts states)
+pub all_on_told : (p : Setting) (ts us : List PendingReport) (j : Journal) (states : List KeyState) → AllOn p j states → AllOn p (with_reports p us j) (after_reports ts states)
 all_on_told p ts us j states a =
-    to_on p (tell p us j) (after_reports ts states)
+    to_on p (with_reports p us j) (after_reports ts states)
     (subst (λ (g : Generation). AllByRecursion (λ s. s.on ≡ is_among s.key g.on) (after_reports ts states)) (sym (tell_now p us j)) (on_told (now p j).on ts states (from_on p j states a)))
 
 on_ungranted : (g : List (List ℕ)) (states : List KeyState) → AllByRecursion (λ s. s.on ≡ is_among s.key g) states → AllByRecursion (λ s. s.on ≡ is_among s.key g) (map ungranted_if_reached states)
@@ -64,7 +64,7 @@ all_on_settled p j false states a = a
 -- the tail of an event: the command's own tellings, and then the thresholds
 
 pub record Ended (p : Setting) (j : Journal) (ts : List PendingReport) (states : List KeyState) (new : Journal) (left : List KeyState) : Type 0 where
-  pub journal_is : new ≡ with_thresholds p (tell p ts j)
+  pub journal_is : new ≡ with_thresholds p (with_reports p ts j)
   pub keys_are : keys_of left ≡ slots p new
   pub counts : AllCount p new [] left
   pub on : AllOn p new left
@@ -75,7 +75,7 @@ pub ending : (p : Setting) (j : Journal) (ts : List PendingReport) (states : Lis
     (after_reports (threshold_reports b (after_reports ts states)) (settled_states b (after_reports ts states)))
 ending p j ts states b d e k a o s =
     let r = told_well p ts j states (subst Distinct (sym e) d) (subst (λ (ks : List (List ℕ)). KnowsAll ks ts) (sym e) k) a in
-    let mid : Journal = tell p ts j in
+    let mid : Journal = with_reports p ts j in
     let left : List KeyState = after_reports ts states in
     let o2 : AllOn p mid left = all_on_told p ts ts j states o in
     let e2 : keys_of left ≡ slots p mid = r.keys_are ∙ e ∙ sym (tell_slots p ts j) in
@@ -85,9 +85,9 @@ ending p j ts states b d e k a o s =
     subst (λ (c : Bool). AllCount p mid (threshold_reports c left) (settled_states c left)) (sym s2) (all_settled p mid left e2 o2 r.counts) in
     let w = told_well p (threshold_reports b left) mid (settled_states b left) d2 (knows_settled b left) a2 in
     let t : threshold_reports b left ≡ thresholds p mid = ap (λ (c : Bool). threshold_reports c left) s2 ∙ thresholds_are p mid left e2 o2 r.counts in
-    let n : appended (threshold_reports b left) (settled_states b left) (appended ts states j) ≡ tell p (threshold_reports b left) mid =
+    let n : appended (threshold_reports b left) (settled_states b left) (appended ts states j) ≡ with_reports p (threshold_reports b left) mid =
     ap (appended (threshold_reports b left) (settled_states b left)) r.journal_is ∙ w.journal_is in record {
-      journal_is = n ∙ ap (λ us. tell p us mid) t;
+      journal_is = n ∙ ap (λ us. with_reports p us mid) t;
       keys_are = w.keys_are ∙ keys_settled b left ∙ e2 ∙ sym (ap (slots p) n ∙ tell_slots p (threshold_reports b left) mid);
       counts = subst (λ (i : Journal). AllCount p i [] (after_reports (threshold_reports b left) (settled_states b left))) (sym n) w.counts;
       on = subst (λ (i : Journal). AllOn p i (after_reports (threshold_reports b left) (settled_states b left))) (sym n)

