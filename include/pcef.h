@@ -62,13 +62,13 @@ size_t pcef_line(pcef_session *at, const uint8_t *line, size_t line_length, uint
 /* Gives how long the text of the session's reports is, from the one of this number on: a JSON array, the oldest first, each as
  * answers have it. Reports are numbered from 0. As much as fits is written to `answer`: where the text is longer, call
  * again with more room. Takes memory. PCEF_NO_SESSION, PCEF_NO_MEMORY, or PCEF_FORGOTTEN where one of these reports was
- * let go. */
+ * forgotten. */
 size_t pcef_reports(pcef_session *at, uint64_t first, uint8_t *answer, size_t answer_room);
 
-/* Lets go of the reports that the session made so far, and gives how many these are, which is the number of the next one.
+/* Forgets the reports that the session made so far, and gives how many these are, which is the number of the next one.
  * Until then a session keeps them all. A gateway calls pcef_reports from the number on that this gave last, hands the
- * text on, and then calls this, before the next line. Reports that went still count; they can't be written again, and their
- * memory serves for the next ones. Nothing else changes. Takes no memory. PCEF_NO_SESSION. */
+ * text on, and then calls this, before the next line. A forgotten report still counts; it can't be written again, and
+ * its memory serves for the next ones. Nothing else changes. Takes no memory. PCEF_NO_SESSION. */
 size_t pcef_forget(pcef_session *at);
 
 /* In place of a length or a count. */

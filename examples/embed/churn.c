@@ -17,13 +17,13 @@ static size_t in_use(void) {
     return heap.uordblks + heap.hblkhd;
 }
 
-/* Opens a session, answers the lines, tells the reports, lets them go and closes: whether all went well. */
+/* Opens a session, answers the lines, writes the reports, forgets them and closes: whether all went well. */
 static int play(pcef_session *session, size_t length, size_t count) {
     if (pcef_open(session, profile, length) != PCEF_OK) return 0;
     if (pcef_open(session, profile, length) != PCEF_ALREADY_OPEN) return 0;
     for (size_t i = 0; i < count; i++) {
-        size_t told = pcef_line(session, (const uint8_t *)lines[i], strcspn(lines[i], "\n"), answer, sizeof answer);
-        if (told > sizeof answer) return 0;
+        size_t needed = pcef_line(session, (const uint8_t *)lines[i], strcspn(lines[i], "\n"), answer, sizeof answer);
+        if (needed > sizeof answer) return 0;
     }
     if (pcef_reports(session, 0, answer, sizeof answer) > sizeof answer) return 0;
     size_t next = pcef_forget(session);
@@ -34,23 +34,23 @@ static int play(pcef_session *session, size_t length, size_t count) {
 
 /* Does a line: whether it is accepted. */
 static int accepted(pcef_session *session, const char *text) {
-    size_t told = pcef_line(session, (const uint8_t *)text, strlen(text), answer, sizeof answer - 1);
-    if (told >= sizeof answer) return 0;
-    answer[told] = 0;
+    size_t needed = pcef_line(session, (const uint8_t *)text, strlen(text), answer, sizeof answer - 1);
+    if (needed >= sizeof answer) return 0;
+    answer[needed] = 0;
     return strstr((const char *)answer, "\"ok\":true") != NULL;
 }
 
-/* Makes REPORTS reports in a session, one a line, and lets each go, or none: by how many octets the heap grows from the
+/* Makes REPORTS reports in a session, one a line, and forgets each, or none: by how many octets the heap grows from the
  * tenth one on; -1 where a line is refused. */
 enum { REPORTS = 900 };
 
-static long growth(pcef_session *session, size_t length, int lets_go) {
+static long growth(pcef_session *session, size_t length, int forgets) {
     size_t early = 0;
     if (pcef_open(session, profile, length) != PCEF_OK) return -1;
     if (!accepted(session, "{\"do\":\"triggers\",\"events\":[\"RAT_CHANGE\"]}")) return -1;
     for (size_t made = 1; made <= REPORTS; made++) {
         if (!accepted(session, "{\"do\":\"notice\",\"event\":\"RAT_CHANGE\",\"value\":\"eutran\"}")) return -1;
-        if (lets_go && pcef_forget(session) != made) return -1;
+        if (forgets && pcef_forget(session) != made) return -1;
         if (made == 10) early = in_use();
     }
     size_t late = in_use();

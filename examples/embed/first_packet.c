@@ -34,8 +34,8 @@ int main(int argc, char **argv) {
         return 1;
     }
 
-    size_t told = pcef_line(session, (const uint8_t *)RULE, strlen(RULE), answer, sizeof answer);
-    printf("%.*s\n", (int)told, (const char *)answer);
+    size_t needed = pcef_line(session, (const uint8_t *)RULE, strlen(RULE), answer, sizeof answer);
+    printf("%.*s\n", (int)needed, (const char *)answer);
 
     pcef_verdict verdict = pcef_judge_one(session, 0, PACKET, sizeof PACKET);
     printf("status %u, bearer %u, place %u, generation %u\n", verdict.status, verdict.bearer, verdict.place,

@@ -1,4 +1,4 @@
-/* Judges packets of which the first octets alone are at hand: each cut at each octet, as standard output tells.
+/* Judges packets of which the first octets alone are at hand: each cut at each octet, as standard output says.
  *     fronts PROFILE.toml */
 #include "pcef.h"
 #include <stdio.h>
@@ -17,8 +17,8 @@ static const uint8_t ANSWER[] = {0x45, 0, 0x05, 0x78, 0, 0,   0, 0, 64,   17,   
 /* The same where it is a later fragment, which has no ports. */
 static uint8_t later[sizeof ANSWER];
 
-/* Tells where the verdict on a packet of 1,400 octets changes with the number of octets at hand. */
-static void tell(pcef_session *session, const char *name, const uint8_t *octets, size_t length) {
+/* Says where the verdict on a packet of 1,400 octets changes with the number of octets at hand. */
+static void show_changes(pcef_session *session, const char *name, const uint8_t *octets, size_t length) {
     int last = -1;
     for (size_t at_hand = 0; at_hand <= length; at_hand++) {
         pcef_verdict verdict = pcef_judge_front(session, 0, octets, at_hand, 1400);
@@ -45,9 +45,9 @@ int main(int argc, char **argv) {
 
     memcpy(later, ANSWER, sizeof ANSWER);
     later[7] = 1;
-    tell(session, "an answer", ANSWER, sizeof ANSWER);
-    tell(session, "a later fragment", later, sizeof later);
-    /* All 28 octets are at hand, and the total length tells more. */
+    show_changes(session, "an answer", ANSWER, sizeof ANSWER);
+    show_changes(session, "a later fragment", later, sizeof later);
+    /* All 28 octets are at hand, and the total length says more. */
     printf("as a whole packet: status %u\n", pcef_judge_one(session, 0, ANSWER, sizeof ANSWER).status);
 
     pcef_close(session);

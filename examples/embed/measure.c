@@ -34,9 +34,9 @@ static pcef_session *open_session(size_t length, int rules) {
                  "\"filters\":[{\"text\":\"permit out 17 from any %d to assigned\"}],\"qci\":9,"
                  "\"arp\":{\"level\":8,\"capability\":false,\"vulnerability\":true},\"gate\":\"ENABLED\"}}",
                  rule, rule + 1, 1000 + rule);
-        size_t told = pcef_line(session, (const uint8_t *)line, strlen(line), answer, sizeof answer);
-        if (told > sizeof answer || !strstr((const char *)answer, "\"ok\":true")) exit(1);
-        memset(answer, 0, told);
+        size_t needed = pcef_line(session, (const uint8_t *)line, strlen(line), answer, sizeof answer);
+        if (needed > sizeof answer || !strstr((const char *)answer, "\"ok\":true")) exit(1);
+        memset(answer, 0, needed);
     }
     return session;
 }

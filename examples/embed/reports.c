@@ -1,5 +1,5 @@
-/* A gateway's loop: does the lines of standard input, and after each tells its reports, once, and lets them go. What is
- * written has a line for each line that made reports: a JSON array, the oldest first.
+/* A gateway's loop: does the lines of standard input, and after each writes its reports, once, and forgets them. What
+ * is written has a line for each line that made reports: a JSON array, the oldest first.
  *     reports PROFILE.toml < LINES.jsonl */
 #include "pcef.h"
 #include <stdio.h>
@@ -9,12 +9,12 @@
 static uint8_t profile[65536], answer[1 << 20], reports[1 << 20];
 static char line[1 << 19];
 
-/* Tells the reports from `*next` on, and lets them go: whether there was memory and room for them. */
-static int tell(pcef_session *session, uint64_t *next) {
-    size_t told = pcef_reports(session, *next, reports, sizeof reports);
-    if (told > sizeof reports) return 0;
-    /* Here they go to the PCRF. Only then does the session let them go. */
-    if (told > strlen("[]")) printf("%.*s\n", (int)told, (const char *)reports);
+/* Writes the reports from `*next` on, and forgets them: whether there was memory and room for them. */
+static int hand_on(pcef_session *session, uint64_t *next) {
+    size_t needed = pcef_reports(session, *next, reports, sizeof reports);
+    if (needed > sizeof reports) return 0;
+    /* Here they go to the PCRF. Only then does the session forget them. */
+    if (needed > strlen("[]")) printf("%.*s\n", (int)needed, (const char *)reports);
     *next = pcef_forget(session);
     return *next == 0 || pcef_reports(session, *next - 1, reports, sizeof reports) == PCEF_FORGOTTEN;
 }
@@ -36,8 +36,8 @@ int main(int argc, char **argv) {
     uint64_t next = 0;
     int status = 0;
     while (status == 0 && fgets(line, sizeof line, stdin)) {
-        size_t told = pcef_line(session, (const uint8_t *)line, strcspn(line, "\n"), answer, sizeof answer);
-        if (told > sizeof answer || !tell(session, &next)) status = 4; /* no memory, or more than a buffer holds */
+        size_t needed = pcef_line(session, (const uint8_t *)line, strcspn(line, "\n"), answer, sizeof answer);
+        if (needed > sizeof answer || !hand_on(session, &next)) status = 4; /* no memory, or more than a buffer holds */
     }
     pcef_close(session);
     free(session);

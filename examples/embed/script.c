@@ -28,11 +28,11 @@ int main(int argc, char **argv) {
     }
     int status = 0;
     while (status == 0 && fgets(line, sizeof line, stdin)) {
-        size_t told = pcef_line(session, (const uint8_t *)line, strcspn(line, "\n"), answer, sizeof answer);
-        if (told > sizeof answer)
+        size_t needed = pcef_line(session, (const uint8_t *)line, strcspn(line, "\n"), answer, sizeof answer);
+        if (needed > sizeof answer)
             status = 4; /* no memory, or more than the buffer holds */
-        else if (told > 0)
-            printf("%.*s\n", (int)told, (const char *)answer);
+        else if (needed > 0)
+            printf("%.*s\n", (int)needed, (const char *)answer);
     }
     pcef_close(session);
     free(session);

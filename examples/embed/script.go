@@ -1,5 +1,5 @@
 // Answers the lines of standard input, as `pcef script PROFILE.toml` does, over the library for C; then judges a vector
-// of packets. It tells the reports of each line, which it then lets go, and the verdicts on standard error.
+// of packets. The reports of each line, which it then forgets, and the verdicts go to standard error.
 //
 //	script PROFILE.toml < LINES.jsonl
 package main
@@ -61,7 +61,7 @@ func Open(profile []byte) (*Session, error) {
 	return &Session{at}, nil
 }
 
-// Close lets the session and its handle go.
+// Close closes the session and frees its handle.
 func (s *Session) Close() {
 	C.pcef_close(s.at)
 	C.free(unsafe.Pointer(s.at))
@@ -70,24 +70,24 @@ func (s *Session) Close() {
 
 // Line does what a line asks for. The answer stands in `room`, and is empty where none is due.
 func (s *Session) Line(line, room []byte) ([]byte, error) {
-	told := C.pcef_line(s.at, octets(line), C.size_t(len(line)), octets(room), C.size_t(len(room)))
-	if told > C.size_t(len(room)) {
+	needed := C.pcef_line(s.at, octets(line), C.size_t(len(line)), octets(room), C.size_t(len(room)))
+	if needed > C.size_t(len(room)) {
 		return nil, errors.New("no memory, or more than the buffer holds")
 	}
-	return room[:told], nil
+	return room[:needed], nil
 }
 
-// Reports gives the reports from a number on, as a JSON array that stands in `room`. Reports that were let go can't be
-// told any more.
+// Reports gives the reports from a number on, as a JSON array that stands in `room`. Reports that were
+// forgotten can't be written again.
 func (s *Session) Reports(first uint64, room []byte) ([]byte, error) {
-	told := C.pcef_reports(s.at, C.uint64_t(first), octets(room), C.size_t(len(room)))
-	if told > C.size_t(len(room)) {
+	needed := C.pcef_reports(s.at, C.uint64_t(first), octets(room), C.size_t(len(room)))
+	if needed > C.size_t(len(room)) {
 		return nil, errors.New("no such reports, no memory, or more than the buffer holds")
 	}
-	return room[:told], nil
+	return room[:needed], nil
 }
 
-// Forget lets the reports so far go, once they were told, and gives the number of the next one.
+// Forget forgets the reports so far, once they were handed on, and gives the number of the next one.
 func (s *Session) Forget() uint64 {
 	return uint64(C.pcef_forget(s.at))
 }
@@ -114,23 +114,23 @@ func (s *Session) Judge(packets []Packet) []Verdict {
 		}
 		left = left[len(packet.Octets):]
 	}
-	told := make([]C.pcef_verdict, count+1)
-	judged := C.pcef_judge(s.at, (*C.pcef_packet)(rows), C.size_t(count), &told[0], C.size_t(count))
+	written := make([]C.pcef_verdict, count+1)
+	judged := C.pcef_judge(s.at, (*C.pcef_packet)(rows), C.size_t(count), &written[0], C.size_t(count))
 	verdicts := make([]Verdict, judged)
 	for i := range verdicts {
-		verdicts[i] = Verdict{uint32(told[i].generation), uint8(told[i].status), uint8(told[i].bearer),
-			uint8(told[i].place), uint8(told[i].slots)}
+		verdicts[i] = Verdict{uint32(written[i].generation), uint8(written[i].status), uint8(written[i].bearer),
+			uint8(written[i].place), uint8(written[i].slots)}
 	}
 	return verdicts
 }
 
-// tell tells the reports from a number on, lets them go, and gives the number of the next one.
-func tell(session *Session, next uint64, room []byte) (uint64, error) {
+// handOn writes the reports from a number on, forgets them, and gives the number of the next one.
+func handOn(session *Session, next uint64, room []byte) (uint64, error) {
 	reports, err := session.Reports(next, room)
 	if err != nil {
 		return next, err
 	}
-	// A gateway hands them to the PCRF, and only then lets them go.
+	// A gateway hands them to the PCRF, and only then forgets them.
 	if _, err := os.Stderr.Write(reports); err != nil {
 		return next, err
 	}
@@ -154,7 +154,7 @@ func play(session *Session, lines *bufio.Reader, answers *bufio.Writer) error {
 			answers.Write(answer)
 			answers.WriteByte('\n')
 		}
-		if next, err = tell(session, next, room); err != nil {
+		if next, err = handOn(session, next, room); err != nil {
 			return err
 		}
 		if end == io.EOF {

@@ -31,7 +31,7 @@ pub struct Packet {
     up: u8,
 }
 
-/// A verdict, as the library tells it.
+/// A verdict, as the library gives it.
 #[repr(C)]
 #[derive(Clone, Copy, Debug, Default)]
 pub struct Verdict {
@@ -68,9 +68,9 @@ impl Session {
 
     /// The answer to a line, which is empty where none is due; `None` for want of memory or room.
     pub fn line<'a>(&mut self, line: &[u8], room: &'a mut [u8]) -> Option<&'a [u8]> {
-        let told =
+        let needed =
             unsafe { sys::pcef_line(self.at, line.as_ptr(), line.len(), room.as_mut_ptr(), room.len()) };
-        room.get(..told)
+        room.get(..needed)
     }
 
     /// What the newest generation decides of a packet of `whole` octets that begins with these: status 10 where
@@ -82,14 +82,14 @@ impl Session {
         verdict
     }
 
-    /// The reports from this number on, as a JSON array; `None` where some of them were let go, or for want of memory
-    /// or room.
+    /// The reports from this number on, as a JSON array; `None` where some of them were forgotten, or for want of
+    /// memory or room.
     pub fn reports<'a>(&mut self, first: u64, room: &'a mut [u8]) -> Option<&'a [u8]> {
-        let told = unsafe { sys::pcef_reports(self.at, first, room.as_mut_ptr(), room.len()) };
-        room.get(..told)
+        let needed = unsafe { sys::pcef_reports(self.at, first, room.as_mut_ptr(), room.len()) };
+        room.get(..needed)
     }
 
-    /// Lets the reports so far go, once they were told. Gives the number of the next one.
+    /// Forgets the reports so far, once they were handed on. Gives the number of the next one.
     pub fn forget(&mut self) -> u64 {
         // The session is open, so this is a count.
         unsafe { sys::pcef_forget(self.at) as u64 }
@@ -117,7 +117,7 @@ fn main() -> io::Result<()> {
             out.write_all(answer)?;
             out.write_all(b"\n")?;
         }
-        // A gateway hands these to the PCRF, and only then lets them go.
+        // A gateway hands these to the PCRF, and only then forgets them.
         let reports = session.reports(next, &mut room).expect("no memory, or more than the buffer holds");
         io::stderr().write_all(reports)?;
         next = session.forget();

@@ -80,7 +80,7 @@ fn run_one<T: Threads + Wait + Sync, W: Write>(
     environment: Environment<'_>,
     writer: &mut W,
 ) -> End
-    ensures { RanOne (setting_of profile (offers_of (arc_value environment.catalog))) workers plan result
+    ensures { RanOne (setting_of profile (offers_of (arc_value environment.entry.catalog))) workers plan result
         (W.contents writer.old) (W.contents writer.new) }
 {
     let Environment {
@@ -104,7 +104,7 @@ pub(crate) fn run_input<T: Threads + Wait + Sync, R: Read, W: Write>(
     reader: &mut R,
     writer: &mut W,
 ) -> End
-    ensures { RanPlan (setting_of profile (offers_of (arc_value environment.catalog))) workers result
+    ensures { RanPlan (setting_of profile (offers_of (arc_value environment.entry.catalog))) workers result
         (R.remaining reader.old) (R.remaining reader.new)
         (W.contents writer.old) (W.contents writer.new) }
 {

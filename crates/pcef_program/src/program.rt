@@ -54,7 +54,7 @@ fn run_as_asked<T: Threads + Wait + Sync, R: Read, W: Write>(
     reader: &mut R,
     writer: &mut W,
 ) -> End
-    ensures { Ran workers (setting_of profile (offers_of (arc_value environment.catalog))) result
+    ensures { Ran workers (setting_of profile (offers_of (arc_value environment.entry.catalog))) result
         (R.remaining reader.old) (R.remaining reader.new)
         (W.contents writer.old) (W.contents writer.new) }
 {
@@ -80,7 +80,7 @@ fn with_profile<T: Threads + Wait + Sync, R: Read, W: Write>(
     reader: &mut R,
     writer: &mut W,
 ) -> End
-    ensures { EndsOne (offers_of (arc_value environment.catalog)) workers (Some profile.now) result
+    ensures { EndsOne (offers_of (arc_value environment.entry.catalog)) workers (Some profile.now) result
         (R.remaining reader.old) (R.remaining reader.new)
         (W.contents writer.old) (W.contents writer.new) }
 {
@@ -117,7 +117,7 @@ fn one_end<T: Threads + Wait + Sync, R: Read, W: Write>(
     reader: &mut R,
     writer: &mut W,
 ) -> End
-    ensures { EndsOne (offers_of (arc_value environment.catalog)) workers
+    ensures { EndsOne (offers_of (arc_value environment.entry.catalog)) workers
         (option_map (λ p. p.now) asked.entry) result
         (R.remaining reader.old) (R.remaining reader.new)
         (W.contents writer.old) (W.contents writer.new) }
@@ -147,7 +147,8 @@ fn end_of<T: Threads + Wait + Sync, R: Read, W: Write>(
     reader: &mut R,
     writer: &mut W,
 ) -> End
-    ensures { Ends (offers_of (arc_value environment.catalog)) arguments.words.now arguments.profiles.now result
+    ensures { Ends (offers_of (arc_value environment.entry.catalog))
+        arguments.entry.words.now arguments.entry.profiles.now result
         (R.remaining reader.old) (R.remaining reader.new)
         (W.contents writer.old) (W.contents writer.new) }
 {
@@ -200,13 +201,15 @@ pub fn run_program<T: Threads + Wait + Sync, R: Read, W: Write, E: Write>(
     // The status and what is said are those of the end to which the words, the profile and the input lead.
     ensures ends { (end : End) × (result ≡ end_status end)
         × WritesEnd end (E.contents faults.old) (E.contents faults.new)
-        × Ends (offers_of (arc_value environment.catalog)) arguments.words.now arguments.profiles.now end
+        × Ends (offers_of (arc_value environment.entry.catalog))
+        arguments.entry.words.now arguments.entry.profiles.now end
         (R.remaining reader.old) (R.remaining reader.new)
         (W.contents writer.old) (W.contents writer.new) }
     ensures most { result ≤ 4 }
     // Status 0 comes only where the whole input was read and all that is due is written.
     ensures whole { result ≡ 0 →
-        IsWhole (offers_of (arc_value environment.catalog)) arguments.words.now arguments.profiles.now
+        IsWhole (offers_of (arc_value environment.entry.catalog))
+        arguments.entry.words.now arguments.entry.profiles.now
         (R.remaining reader.old) (R.remaining reader.new)
         (W.contents writer.old) (W.contents writer.new) }
 {

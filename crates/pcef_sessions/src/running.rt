@@ -12,7 +12,7 @@ use crate::name::SessionName;
 use crate::saying::NamedAnswer;
 use crate::sessions::Sessions;
 use memchr::memchr;
-use pcef_script::{ScriptFault, put_all, write_answer};
+use pcef_script::{ScriptFault, is_blank, put_all, write_answer};
 use std::io::Write;
 
 /// How many octets of a line are kept: a name of 64 octets, a space, and one octet more than a script's line may have.

@@ -63,13 +63,13 @@ fn session(alloc: Global, profile: Profile, catalog: &Catalog) -> Option<Journal
 }
 
 /// Keeps reports, so that answers find them.
-fn keep_reports(told: &mut Journal, reports: Vec<Report>) -> Result<(), AllocError>
-    requires { told.old.forgotten ≡ 0 }
-    ensures { told.new.forgotten ≡ 0 }
+fn keep_reports(journal: &mut Journal, reports: Vec<Report>) -> Result<(), AllocError>
+    requires { journal.old.forgotten ≡ 0 }
+    ensures { journal.new.forgotten ≡ 0 }
 {
     for report in &reports {
-        told.reserve(1)?;
-        told.append(Entry::Report(report.copy()));
+        journal.reserve(1)?;
+        journal.append(Entry::Report(report.copy()));
     }
     Ok(())
 }
@@ -80,15 +80,15 @@ fn answer<C: Detects + Drop, N: Naming, W: Board<Cell<N>> + Drop, R: Wait>(
     alloc: Global,
     shared: &Shared<C, N, W>,
     crew: &mut Crew<C, N>,
-    told: &mut Journal,
+    journal: &mut Journal,
     step: Step,
 ) -> Result<String, AllocError>
-    requires { told.old.forgotten ≡ 0 }
-    ensures { told.new.forgotten ≡ 0 }
+    requires { journal.old.forgotten ≡ 0 }
+    ensures { journal.new.forgotten ≡ 0 }
 {
     let answer = crew.step(rt, alloc, shared, step);
-    keep_reports(told, crew.collect(rt, shared)?)?;
-    text_of(alloc, told, crew.generation(), &answer)
+    keep_reports(journal, crew.collect(rt, shared)?)?;
+    text_of(alloc, journal, crew.generation(), &answer)
 }
 
 /// The step of a line, if it is one: not a line at fault, and not one that shows what a session holds.
@@ -108,7 +108,7 @@ fn play_steps<C: Detects + Drop, N: Naming, W: Board<Cell<N>> + Drop, R: Wait>(
     crew: &mut Crew<C, N>,
     worked: &Worked,
 ) -> Result<Played, AllocError> {
-    let mut told = Journal::new(alloc);
+    let mut journal = Journal::new(alloc);
     let mut answers = worked.answers.as_str().lines();
     let mut steps: u64 = 0;
     let mut number: u64 = 0;
@@ -119,7 +119,7 @@ fn play_steps<C: Detects + Drop, N: Naming, W: Board<Cell<N>> + Drop, R: Wait>(
         let wanted = answers.next().unwrap_or("");
         number = number.saturating_add(1);
         if let Some(step) = step_of(alloc, line) {
-            let text = answer(rt, alloc, shared, crew, &mut told, step)?;
+            let text = answer(rt, alloc, shared, crew, &mut journal, step)?;
             if text.as_str() != wanted {
                 return Ok(Played::Differs {
                     answer: number,

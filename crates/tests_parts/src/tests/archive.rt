@@ -3,7 +3,7 @@
 ghost use Rattle.pcef_rule.specs.Name.{IsName};
 
 use super::copies::is_same;
-use super::journal::{entry, passed, row, web};
+use super::journal::{entry, passed, row, web, web_row};
 use crate::tests::expect_equal;
 use pcef_journaled::{Archive, Commands, Lane};
 use pcef_model::{Command, Entry, Row, Verdict};

@@ -24,6 +24,6 @@ returns-in-None g c =
     let one = subst (λ w. EndsOne offers w (asked c.args.arguments.words.now c.args.arguments.profiles.now) c.one_end.result (remaining c.args.reader.now) (remaining c.one_end.new.reader)
     (contents c.args.writer.now) (contents c.one_end.new.writer)) c.workers_of.ensures
     (subst (λ a. EndsOne offers c.workers_of.result a c.one_end.result (remaining c.args.reader.now) (remaining c.one_end.new.reader) (contents c.args.writer.now) (contents c.one_end.new.writer))
-    c.request_of.ensures c.one_end.ensures) in
+    c.request_of-asked.ensures c.one_end.ensures) in
     subst (λ p. EndsAsked offers p c.args.arguments.words.now c.args.arguments.profiles.now c.one_end.result (remaining c.args.reader.now) (remaining c.one_end.new.reader)
     (contents c.args.writer.now) (contents c.one_end.new.writer)) c.in-None.ensures one

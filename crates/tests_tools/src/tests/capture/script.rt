@@ -1,7 +1,7 @@
 //! Lines for frames that were worked out by hand.
 use crate::tests::expect_equal;
 use pcef_capture_file::{Endianness, Link, Packet};
-use pcef_capture_script::{Counts, Options, Request, asked, write_capture};
+use pcef_capture_script::{Counts, Options, Request, parse_options, write_capture};
 use pcef_packet::Addr;
 use std::alloc::{AllocError, Global};
 use std::process::Abort;
@@ -170,8 +170,8 @@ fn workers_in_turn(rt: HostRuntime) {
 
 /// What some words ask for: the address, the number of workers, that of packets in a batch, whether packets are padded,
 /// and the file.
-fn asked_by<'a>(alloc: Global, words: &'a [String]) -> Option<(Addr, u8, u8, bool, &'a str)> {
-    match asked(alloc, words) {
+fn options_of<'a>(alloc: Global, words: &'a [String]) -> Option<(Addr, u8, u8, bool, &'a str)> {
+    match parse_options(alloc, words) {
         Ok(Some(Request::Options(options))) => {
             Some((
                 options.ue,
@@ -187,7 +187,7 @@ fn asked_by<'a>(alloc: Global, words: &'a [String]) -> Option<(Addr, u8, u8, boo
 
 /// The text of some words that is given as the session's address and writes none.
 fn no_address_in<'a>(alloc: Global, words: &'a [String]) -> Option<&'a str> {
-    match asked(alloc, words) {
+    match parse_options(alloc, words) {
         Ok(Some(Request::NoAddress(text))) => Some(text),
         _ => None,
     }
@@ -227,7 +227,7 @@ fn what_words_ask_for(rt: HostRuntime) -> Result<(), Fail> {
     ];
     for (line, due) in whole.iter().zip(due) {
         let words = line_of(rt.alloc(), *line)?;
-        assert!(rt; asked_by(rt.alloc(), &words) == Some(due));
+        assert!(rt; options_of(rt.alloc(), &words) == Some(due));
     }
     let wrong: [&[&str]; 8] = [
         &[],
@@ -241,7 +241,7 @@ fn what_words_ask_for(rt: HostRuntime) -> Result<(), Fail> {
     ];
     for line in wrong {
         let words = line_of(rt.alloc(), line)?;
-        assert!(rt; asked_by(rt.alloc(), &words).is_none());
+        assert!(rt; options_of(rt.alloc(), &words).is_none());
     }
     Ok(())
 }
