@@ -8,7 +8,7 @@
  * THREADS. A handle is in one call at a time, and stays on its thread. Handles on different threads may be in calls at the same
  * time: they share nothing but malloc. Call nothing from a signal handler, nor in the forked child of a process with threads.
  *
- * ERRORS. A call says by its number what came of it. No call sets errno, ends the process, writes anywhere but to the
+ * ERRORS. A call returns a number that says what came of it. No call sets errno, ends the process, writes anywhere but to the
  * handle, to the buffers that it is given and to the heap, or runs on without end. On a handle without a session each
  * call says so, and does nothing.
  *
@@ -52,22 +52,22 @@ uint8_t pcef_open(pcef_session *at, const uint8_t *profile, size_t profile_lengt
 #define PCEF_NOT_UTF8 8
 #define PCEF_ALREADY_OPEN 9
 
-/* Does what a line of a script asks for (docs/FORMATS.md), and gives how long the answer is: the text that `pcef script` writes
- * for the line, without its line feed. As much of it as fits is written to `answer`. A line of spaces, tabs and CR alone
- * has no answer: 0. The line is done even where its answer doesn't fit. An answer to `show` grows with rules and keys,
+/* Does what a line of a script asks for (docs/FORMATS.md), and returns the length of the answer: the text that
+ * `pcef script` writes for the line, without its line feed. As much of it as fits is written to `answer`. A line of
+ * spaces, tabs and CR alone has no answer: 0. The line is done even where its answer doesn't fit. An answer to `show` grows with rules and keys,
  * one to `flush` with the rows that waited; 65,536 octets are ample for both. Takes memory.
  * PCEF_NO_SESSION, or PCEF_NO_MEMORY, and then the line may be done or not: close the session. */
 size_t pcef_line(pcef_session *at, const uint8_t *line, size_t line_length, uint8_t *answer, size_t answer_room);
 
-/* Gives how long the text of the session's reports is, from the one of this number on: a JSON array, the oldest first, each as
- * answers have it. Reports are numbered from 0. As much as fits is written to `answer`: where the text is longer, call
- * again with more room. Takes memory. PCEF_NO_SESSION, PCEF_NO_MEMORY, or PCEF_FORGOTTEN where one of these reports was
+/* Writes the session's reports from this number on, and returns the length of their text: a JSON array, the oldest
+ * first, each as answers have it. Reports are numbered from 0. As much as fits is written to `answer`: where the text is
+ * longer, call again with more room. Takes memory. PCEF_NO_SESSION, PCEF_NO_MEMORY, or PCEF_FORGOTTEN where one of these reports was
  * forgotten. */
 size_t pcef_reports(pcef_session *at, uint64_t first, uint8_t *answer, size_t answer_room);
 
-/* Forgets the reports that the session made so far, and gives how many these are, which is the number of the next one.
- * Until then a session keeps them all. A gateway calls pcef_reports from the number on that this gave last, hands the
- * text on, and then calls this, before the next line. A forgotten report still counts; it can't be written again, and
+/* Forgets the reports that the session made so far, and returns their count, which is the number of the next one. Until
+ * then a session keeps them all. A gateway calls pcef_reports from the number that pcef_forget returned last (0 at
+ * first), hands the text on, and then calls pcef_forget, before the next line. A forgotten report still counts; it can't be written again, and
  * its memory serves for the next ones. Nothing else changes. Takes no memory. PCEF_NO_SESSION. */
 size_t pcef_forget(pcef_session *at);
 
@@ -80,7 +80,7 @@ size_t pcef_forget(pcef_session *at);
 typedef struct {
     const uint8_t *octets;
     size_t length; /* how many octets are at hand */
-    size_t whole;  /* how many the packet has: `length` where it is at hand whole; where less, only so many are read */
+    size_t whole;  /* how many the packet has: `length` where it is at hand whole; where less, the packet ends there */
     uint8_t up;    /* 1 from the user equipment, 0 to it */
 } pcef_packet;
 
@@ -106,8 +106,8 @@ typedef struct {
 #define PCEF_TOO_FEW 10         /* the octets that aren't at hand decide: hand over more of the packet */
 #define PCEF_NO_PLACE 255
 
-/* Judges the first `packet_count` packets by the newest generation, at most as many as there is room for verdicts, and gives how
- * many. A verdict on first octets is that on each packet of `whole` octets that begins with them; PCEF_TOO_FEW says that
+/* Judges the first `packet_count` packets by the newest generation, at most as many as there is room for verdicts, and
+ * returns their number. A verdict on first octets is that on each packet of `whole` octets that begins with them; PCEF_TOO_FEW says that
  * two such packets are read differently. 64 octets are enough of version 4; of version 6, all headers and four octets
  * behind them. Nothing is counted, and no row is kept: `take` and `flush` do that. Takes no memory. */
 size_t pcef_judge(pcef_session *at, const pcef_packet *packets, size_t packet_count, pcef_verdict *verdicts,
@@ -127,7 +127,8 @@ static inline pcef_verdict pcef_judge_one(pcef_session *at, uint8_t up, const ui
     return pcef_judge_front(at, up, octets, length, length);
 }
 
-/* Lets the session go, if there is one, and all its memory but the handle's own: 1, or 0 where there was none. */
+/* Closes the session, if there is one, and frees all its memory but the handle's own. Returns 1, or 0 where there was
+ * none. */
 uint8_t pcef_close(pcef_session *at);
 
 #ifdef __cplusplus

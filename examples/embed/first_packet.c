@@ -35,6 +35,7 @@ int main(int argc, char **argv) {
     }
 
     size_t needed = pcef_line(session, (const uint8_t *)RULE, strlen(RULE), answer, sizeof answer);
+    if (needed > sizeof answer) return 4; /* no memory, or more than the buffer holds */
     printf("%.*s\n", (int)needed, (const char *)answer);
 
     pcef_verdict verdict = pcef_judge_one(session, 0, PACKET, sizeof PACKET);

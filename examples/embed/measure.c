@@ -1,4 +1,4 @@
-/* Measures pcef_judge: so many rules in each of so many sessions, which judge packets in turn, so many packets a call.
+/* Measures pcef_judge: RULES rules in each of SESSIONS sessions, which judge packets in turn, PACKETS_A_CALL in a call.
  *     measure PROFILE.toml RULES SESSIONS PACKETS_A_CALL CALLS */
 #define _POSIX_C_SOURCE 200809L
 #include "pcef.h"
@@ -21,7 +21,7 @@ static double now(void) {
     return (double)time.tv_sec * 1e9 + (double)time.tv_nsec;
 }
 
-/* A session with a rule for each of so many ports of servers, from 1,000 on. */
+/* A session with this number of rules, each for one port of servers, from 1,000 on. */
 static pcef_session *open_session(size_t length, int rules) {
     pcef_session *session = aligned_alloc(16, (pcef_size() + 15) / 16 * 16);
     if (!session) exit(3);

@@ -16,6 +16,7 @@ static int hand_on(pcef_session *session, uint64_t *next) {
     /* Here they go to the PCRF. Only then does the session forget them. */
     if (needed > strlen("[]")) printf("%.*s\n", (int)needed, (const char *)reports);
     *next = pcef_forget(session);
+    /* A test of this example, which a gateway leaves out: a forgotten report is refused. */
     return *next == 0 || pcef_reports(session, *next - 1, reports, sizeof reports) == PCEF_FORGOTTEN;
 }
 
@@ -31,6 +32,7 @@ int main(int argc, char **argv) {
     pcef_session *session = aligned_alloc(16, (pcef_size() + 15) / 16 * 16);
     if (!session) return 3;
     pcef_room(session);
+    /* The same: a handle without a session says so. */
     if (pcef_forget(session) != PCEF_NO_SESSION) return 1;
     if (pcef_open(session, profile, length) != PCEF_OK) return 1;
     uint64_t next = 0;

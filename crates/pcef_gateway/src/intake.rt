@@ -95,7 +95,7 @@ fn start_worker<
     WorkerRing::start(rt, scope, alloc, shared, worker)
 }
 
-/// Starts the worker of this number, and appends its line.
+/// Starts the worker of this number, and appends its ring.
 fn start_next<
     's,
     E,

@@ -66,7 +66,7 @@ impl Lanes {
         self.ends.as_slice().get(usize::from(worker))
     }
 
-    /// How many rows the lane of a worker has: none, if it never came.
+    /// How many rows the lane of a worker has: none, if it was never attached.
     pub fn rows(&self, worker: u8) -> u64
         ensures { result ≡ option_map_or (λ end. end.rows) (end_of self.now worker) 0 }
     {

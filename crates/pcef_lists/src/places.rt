@@ -47,8 +47,8 @@ impl<T: Drop> Places<T> {
         })
     }
 
-    /// Moves all elements of a list here, adds one behind them, and makes this the list. Returns the memory that the list
-    /// had before. Takes none.
+    /// Moves all elements of a list to this memory, adds one behind them, and makes the result the list. Frees the
+    /// memory that the list had before. Takes none.
     pub fn take_in(self, list: &mut Vec<T>, new: T)
         requires { length list.old.items < self }
         ensures { list.new.items ≡ list.old.items ++ new ∷ [] }

@@ -48,7 +48,7 @@ impl<N: Naming> Model for Finished<N> {
 }
 
 impl<N: Naming> Finished<N> {
-    /// What a worker that left so hands in. Its shares count these rows.
+    /// What a worker hands in that left in this way. Its shares count these rows.
     pub fn new(departure: Departure<N>, rows: OwnRows, shares: Shares<N>) -> Finished<N>
         requires { shares ≡ with_items zeros rows.items }
         ensures { result ≡ record {

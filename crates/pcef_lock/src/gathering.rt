@@ -20,7 +20,7 @@ use thiserror::Error;
 /// Why there are no totals. The reasons are looked for in this order.
 #[derive(Clone, Copy, Debug, PartialEq, Eq, Error)]
 pub enum GatherFault {
-    /// Workers that were attached, 1 to 16 of them, weren't handed in.
+    /// This many workers that were attached, 1 to 16, have handed nothing in.
     #[error("workers that were not handed in: {0}")]
     WorkersOut(u8),
     /// The own list of this worker isn't its lane.
@@ -101,7 +101,7 @@ fn handed_in<N: Naming>(finished: &[Finished<N>], worker: u8) -> Option<&Finishe
     finished.iter().find(|f| f.worker() == worker)
 }
 
-/// Whether a worker is handed in, and its own list is its lane.
+/// Whether a worker has handed in, and its own list is its lane.
 fn has_lane<N: Naming>(session: &JournaledState, finished: &[Finished<N>], worker: u8) -> bool
     requires session { session.now.keeps ≡ true }
     requires lists { All (λ h. h.keeps ≡ true) finished.now }

@@ -42,7 +42,7 @@ impl<N: Naming> Model for Departure<N> {
 }
 
 impl<N: Naming> Departure<N> {
-    /// This worker left so.
+    /// That this worker left, in this way.
     pub(crate) fn new(worker: u8, leaving: Leaving) -> Departure<N>
         ensures { result ≡ record { worker = worker; leaving = leaving } }
     {

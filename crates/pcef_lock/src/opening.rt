@@ -30,7 +30,7 @@ use thiserror::Error;
 /// Why a session wasn't put behind a lock. `Places` is looked for first.
 #[derive(Clone, Copy, Debug, PartialEq, Eq, Error)]
 pub enum SharedFault {
-    /// The number of workers is not 1 to 16.
+    /// The number of places for workers is not 1 to 16.
     #[error("there are one to sixteen places for workers")]
     Places,
     /// The publication gave no reader.

@@ -30,7 +30,7 @@ use std::marker::Model;
 use std::sync::{Arc, Mutex, Wait};
 
 /// A session that threads share: its catalog, and the lock of all else. Each call takes the lock once and makes one
-/// call of the [`State`] behind it, as which it answers. Contracts see what the catalog offers.
+/// call of the [`State`] behind it, and returns what that call returns. Contracts see what the catalog offers.
 pub struct Shared<'p, C: Offers + Drop, N: Naming, W: Board<Cell<N>> + Drop, P: Pooling = NoPool> {
     catalog: Arc<C>,
     state: Mutex<State<N, W, P>>,

@@ -169,8 +169,8 @@ impl<N: Naming, W: Board<Cell<N>> + Drop, P: Pooling> State<N, W, P> {
         self.books.totals()
     }
 
-    /// Does a command, publishes the table that it makes, if it makes one, and counts it into the shares of its giver,
-    /// unless it changed nothing. Or answers the first refusal in the order of [`Refusal`], which changes nothing.
+    /// Does a command, publishes the table that it makes, if it makes one, and counts it into the shares of the
+    /// desk that gives it, unless it changed nothing. Or answers the first refusal in the order of [`Refusal`], which changes nothing.
     /// Takes memory. May wait for readers of the publication.
     pub fn command(&mut self, shares: &mut Shares<N>, command: Command) -> Result<Accepted, Refusal>
         requires { P.is_there ≡ false }
@@ -272,7 +272,7 @@ impl<N: Naming, W: Board<Cell<N>> + Drop, P: Pooling> State<N, W, P> {
         })
     }
 
-    /// The worker of a seat takes the newest table, and its generation is answered. Where a further owner of the table
+    /// The worker of a seat takes the newest table, and its generation is returned. Where a further owner of the table
     /// is refused, the table held stays.
     pub fn meet(&mut self, seat: &mut Seat<N>) -> Result<u32, AllocError>
         ensures same { self.new ≡ self.old }

@@ -1,5 +1,5 @@
-//! The program `pcef` without the process that it runs in: `run_program`; `words`, what its arguments ask for; `end`, how
-//! it ends.
+//! The program `pcef` without the process that it runs in: `run_program`; `words`, what its arguments ask for; `end`,
+//! how it ends.
 //!
 //! Its contracts say: what the words of a call ask for, its outcome, and the table of its ends.
 //!

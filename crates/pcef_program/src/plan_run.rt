@@ -94,7 +94,7 @@ fn run_one<T: Threads + Wait + Sync, W: Write>(
     }
 }
 
-/// Runs the plan that an input is on the session of a profile, and writes the summary.
+/// Reads the plan of an input, runs it on the session of a profile, and writes the summary.
 pub(crate) fn run_input<T: Threads + Wait + Sync, R: Read, W: Write>(
     rt: &T,
     alloc: Global,

@@ -80,7 +80,7 @@ fn run_orders<W: Write>(
     }
 }
 
-/// Gives the orders that an input is to sessions on a pool.
+/// Reads the orders of an input, and gives them to sessions on a pool.
 fn run_input<R: Read, W: Write>(
     alloc: Global,
     capacity: Sums,
@@ -98,7 +98,7 @@ fn run_input<R: Read, W: Write>(
     }
 }
 
-/// Opens a session for each profile on a pool of this capacity, and gives them the orders that an input is.
+/// Opens a session for each profile on a pool of this capacity, and gives them the orders of an input.
 pub(crate) fn run_on_pool<R: Read, W: Write>(
     alloc: Global,
     capacity: Sums,

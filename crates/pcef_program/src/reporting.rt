@@ -66,14 +66,14 @@ fn words_line(alloc: Global, end: &End, words: &[Vec<u8>]) -> Result<String, All
     }
 }
 
-/// Says a text. Whether the writer took all of it.
+/// Writes a text, and returns whether the writer took all of it.
 fn put_text<E: Write>(text: &str, faults: &mut E) -> bool
     ensures { AppendsSome (E.contents faults.old) (E.contents faults.new) }
 {
     put_all(faults, text.as_bytes()).is_ok()
 }
 
-/// Says a line, where there was memory for it. Whether the writer took all that was said.
+/// Writes a line, where there was memory for it, and returns whether the writer took all of it.
 fn put_line<E: Write>(line: Result<String, AllocError>, faults: &mut E) -> bool
     ensures { AppendsSome (E.contents faults.old) (E.contents faults.new) }
 {
@@ -83,7 +83,7 @@ fn put_line<E: Write>(line: Result<String, AllocError>, faults: &mut E) -> bool
     }
 }
 
-/// Says what else a person needs to know of an end. Of what takes memory nothing is said where none is left.
+/// Writes what else a person needs to know of an end. What takes memory is left out where none is left.
 fn put_details<E: Write>(
     alloc: Global,
     end: &End,
@@ -102,7 +102,7 @@ fn put_details<E: Write>(
     put_line(profiles_line(alloc, end, words, profiles), faults);
 }
 
-/// Says what is wrong with the line that doesn't fit, if one doesn't, and then what else a person needs to know.
+/// Writes what is wrong with the line that doesn't fit, if one doesn't, and then what else a person needs to know.
 fn put_reason<E: Write>(
     alloc: Global,
     end: &End,
@@ -118,8 +118,8 @@ fn put_reason<E: Write>(
     }
 }
 
-/// Says why the program ends early: the end's own line, and below it what a person needs to know. Says nothing of an
-/// end without a line. That it can't be said changes nothing.
+/// Writes why the program ends early: the end's own line, and below it what a person needs to know. Writes nothing for
+/// an end without a line. Where it can't be written, nothing else changes.
 pub(crate) fn report_end<E: Write>(
     alloc: Global,
     end: &End,

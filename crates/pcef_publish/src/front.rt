@@ -38,7 +38,7 @@ fn draw(word: &Word<Note, u64, Law>, seen: &Seen<Note, u64, Law>, item: &Indexed
 }
 
 /// A history with no table in it, the table that it is to begin with, and the right to add it. No
-/// session goes by it yet. Contracts see its book, the key of its first pen and that table.
+/// session is named by it yet. Contracts see its book, the key of its first pen and that table.
 pub struct Opened {
     word: Word<Note, u64, Law>,
     seen: Seen<Note, u64, Law>,

@@ -71,6 +71,7 @@ impl<N: Naming, W: Board<Cell<N>> + Drop> Model for Publisher<N, W> {
     ghost invariant = { λ p. p.author ≡ p.newest };
 }
 
+/// A subscriber that holds the newest table.
 fn seat<N: Naming, R: Wait + Drop>(
     writer: &Writer<N, R>,
     newest: &Publication<N>,
@@ -84,6 +85,7 @@ fn seat<N: Naming, R: Wait + Drop>(
     Ok(Subscriber::new(reader, held))
 }
 
+/// One such subscriber for each place.
 fn seat_all<N: Naming, R: Wait + Drop>(
     alloc: Global,
     writer: &Writer<N, R>,
@@ -103,7 +105,7 @@ fn seat_all<N: Naming, R: Wait + Drop>(
     Ok(subscribers)
 }
 
-// A place with the first entry, twice.
+// Two values that share one slot, which holds the first publication.
 fn first_slots<N: Naming>(
     alloc: Global,
     newest: &Publication<N>,

@@ -8,7 +8,7 @@ use pcef_share::Naming;
 use std::alloc::AllocError;
 use std::sync::{Arc, OnceLock, Wait};
 
-/// A place for an entry. It is empty until the entry stands in the history.
+/// A slot for a publication. It is empty until the publication's table stands in the history.
 pub type Cell<N> = Arc<OnceLock<Publication<N>>>;
 
 /// What readers take: the newest place.

@@ -72,7 +72,7 @@ impl<N: Naming> Subscriber<N> {
         self.held.current()
     }
 
-    /// Reads once, with no lock, and answers the generation that is then held, which is never older than
+    /// Reads once, with no lock, and returns the generation that is then held, which is never older than
     /// before. Where the board gives no reading or no copy, the table held stays.
     pub fn refresh(&mut self) -> u32
         ensures grows { IsPrefix self.old self.new }

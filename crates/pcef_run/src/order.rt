@@ -33,7 +33,7 @@ fn session_in(bytes: &[u8]) -> Option<(u8, &[u8])>
     }
 }
 
-/// The order that a line is, if it is one for a session below `sessions`.
+/// The order on a line, if there is one for a session below `sessions`.
 fn order_of(
     alloc: Global,
     reader: &mut LineReader,
@@ -66,7 +66,7 @@ fn push_order(orders: &mut Vec<Order>, order: Order) -> Result<(), Untaken>
     }
 }
 
-/// Adds the order that a line is to those of the lines before it. A blank line is passed over.
+/// Adds the order on a line to those of the lines before it. A blank line is passed over.
 pub(crate) fn take_line(
     alloc: Global,
     reader: &mut LineReader,

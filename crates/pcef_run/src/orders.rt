@@ -12,7 +12,7 @@ use pcef_script::first_line;
 use std::alloc::Global;
 use std::io::Read;
 
-/// The orders that the lines of an input are.
+/// The orders on the lines of an input.
 fn orders_of(alloc: Global, input: &[u8], sessions: usize) -> Result<Vec<Order>, PlanFault>
     ensures orders { IfOk result (λ v. AreOrdered sessions (all_lines input.now) v.items) }
     ensures fault { IfErr result (λ e. FailsIn sessions (all_lines input.now) e) }

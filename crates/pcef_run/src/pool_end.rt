@@ -1,9 +1,9 @@
-//! Why sessions on a pool don't answer to all orders.
+//! Why sessions on a pool don't answer all orders.
 
 use pcef_pooled::PooledFault;
 use thiserror::Error;
 
-/// Why sessions on a pool don't answer to all orders.
+/// Why sessions on a pool don't answer all orders.
 #[derive(Clone, Copy, Debug, PartialEq, Eq, Error)]
 pub enum PoolEnd {
     /// The sessions can't be opened on the pool. Nothing is written.

@@ -16,7 +16,7 @@ use std::alloc::Global;
 use std::io::Write;
 use std::marker::Brand;
 
-/// The same on a pool that goes by this name.
+/// As [`run_pool`], on a pool that has this name.
 fn run_named<P: Pooling, W: Write>(
     alloc: Global,
     capacity: Sums,

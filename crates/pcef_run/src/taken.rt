@@ -20,7 +20,7 @@ pub struct Counts {
     pub inactive: u64,
 }
 
-/// How many reports of each kind the stored reporters took so far.
+/// How many reports of each kind the reporters [`Storing`] took so far.
 #[derive(Drop)]
 pub struct Taken {
     /// Of usage.

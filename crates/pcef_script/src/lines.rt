@@ -26,7 +26,8 @@ pub(crate) fn is_space(bytes: &[u8]) -> bool
         .all(|byte| *byte == b' ' || *byte == b'\t' || *byte == b'\r')
 }
 
-/// Whether a script leaves a line without an answer: it has at most [`MAX_LINE`] bytes, all of them spaces, tabs and CR.
+/// Whether a script leaves a line without an answer: it has at most [`MAX_LINE`] bytes, all of them spaces, tabs and
+/// CR.
 pub fn is_blank(line: &[u8]) -> bool
     ensures { result ≡ is_blank line.now }
 {

@@ -182,7 +182,7 @@ impl<C: Detects + Drop, N: Naming, G: Gate + Drop> Worker<C, N, G> {
         Ok(())
     }
 
-    /// Reads the published table once, with no lock, and answers the generation that is then held, which is never older
+    /// Reads the published table once, with no lock, and returns the generation that is then held, which is never older
     /// than before. Where there is no reading or no copy, the table held stays. Takes no memory.
     pub fn refresh(&mut self) -> u32
         ensures grows { IsPrefix self.old.seen self.new.seen }
@@ -192,7 +192,7 @@ impl<C: Detects + Drop, N: Naming, G: Gate + Drop> Worker<C, N, G> {
         self.seat.subscriber.refresh()
     }
 
-    /// Takes the newest table in one hold of the lock, and answers its generation. Where a further owner of the table
+    /// Takes the newest table in one hold of the lock, and returns its generation. Where a further owner of the table
     /// is refused, nothing changes. Waits for the lock.
     pub fn meet<W: Board<Cell<N>> + Drop, P: Pooling, R: Wait>(
         &mut self,

@@ -1,9 +1,9 @@
 //! A program that goes through the worked examples that its words name: scripts, and files of steps, of lines and of
 //! profiles.
 //!
-//! Its contracts say: nothing of its answers: the gate wants a line for each script, and what was worked out by hand
-//! for each line and profile; it shows that a refused call leaves a world and a session as they were, with each
-//! allocation refused in turn.
+//! Its contracts say: nothing of its answers. The gate compares its output with `stdout`: a line for each script, and
+//! what was worked out by hand for each line and profile. `.ci/refused-memory` refuses each allocation in turn, and
+//! shows that a refused call leaves a world and a session as they were.
 //!
 //! A word that ends in `.steps`, `.lines` or `.profiles` names a file. Any other names a script: `NAME.jsonl` has its
 //! lines, and `NAME.answers.jsonl` their answers, which were worked out by hand. The session's profile is `NAME.toml`

@@ -1,5 +1,6 @@
 //! Workers of one session behind its lock, whose rows and octets were counted by hand. A scenario is a table of steps,
-//! each with the four numbers that [`Step`] says.
+//! each with the four numbers that [`Step`] says. `lock` has what one hold of the lock does, `gateway` runs over threads,
+//! `sharing` pools, shares and tables.
 
 mod acting;
 mod asking;

@@ -74,11 +74,11 @@ impl<N: Naming, W: Board<Cell<N>> + Drop, P: Pooling> State<N, W, P> {
         self.books.issued() - 1
     }
 
-    /// The totals of the session when all its workers have left and were handed in. What is counted for a key is then
-    /// what the own lists of the workers have for it, and it is reported or unreported. Where the session stores its
-    /// rows, and each worker its own list, lists are compared: each worker was handed in with its lane, and the desk
-    /// with the journal's commands. Else gives all back with the first fault in the order of [`GatherFault`]. Takes no
-    /// memory. The conditions of the caller: the desk and the workers are those of this lock, and no two of them are of
+    /// The totals of the session when all its workers have left and what each has was handed in. What is counted for a
+    /// key is then what the own lists of the workers have for it, and it is reported or unreported. Where the session
+    /// stores its rows, and each worker its own list, lists are compared: each worker's list is its lane, and the desk's
+    /// list is the journal's commands. Where there is a fault, gives all back with the first in the order of
+    /// [`GatherFault`]. Takes no memory. The conditions of the caller: the desk and the workers are those of this lock, and no two of them are of
     /// one worker.
     // Apart, for inlined it takes LLVM a minute and a half: the value is large, and is moved three times.
     #[inline(never)]

@@ -30,8 +30,8 @@ impl<N: Naming, W: Board<Cell<N>> + Drop, P: Pooling> State<N, W, P> {
 
     /// Takes over the waiting rows of a worker, all or none, and counts them into the seat's shares. The verdict and
     /// the slots of a row are those of the table of its generation, which the seat's subscriber saw. Or answers the
-    /// first refusal in the order of [`FlushRefusal`], which changes nothing. A batch that doesn't continue the lane of
-    /// the worker is refused as of one that isn't attached. Takes memory.
+    /// first refusal in the order of [`FlushRefusal`], which changes nothing. A batch that doesn't continue the
+    /// worker's lane is refused as that of a worker that isn't attached. Takes memory.
     pub fn flush(&mut self, seat: &mut Seat<N>, batch: &Batch) -> Result<Verdicts, FlushRefusal>
         requires { AllJudged N.setting N.first seat.old.subscriber batch.now }
         ensures told { IfOk result (λ v. v.rows.items ≡ judged_rows batch.now) }

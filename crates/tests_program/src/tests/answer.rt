@@ -62,7 +62,7 @@ fn has_text(alloc: Global, answer: &StepAnswer, text: &str) -> Result<bool, Allo
     Ok(told.as_str() == text)
 }
 
-// A script answers NoWorker before.
+// No script reaches this: it answers NoWorker before it asks the session.
 #[test]
 fn answers_to_flushes_of_nobody(rt: HostRuntime) -> Result<(), AllocError> {
     let refusal = FlushRefusal::NotAttached;

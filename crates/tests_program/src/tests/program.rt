@@ -40,7 +40,7 @@ pub(crate) fn storing_outlet(alloc: Global, taken: &Arc<Taken>) -> Result<Outlet
     }
 }
 
-/// The exit status of the program without rules in its catalog, and with stored reporters.
+/// The exit status of the program without rules in its catalog, and with reporters that store.
 pub(crate) fn program_on<T: Threads + Wait + Sync, R: Read, W: Write, E: Write>(
     rt: &T,
     alloc: Global,

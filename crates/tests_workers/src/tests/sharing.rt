@@ -26,13 +26,13 @@ use std::test::Fail;
 /// A command of one of two sessions.
 #[derive(Clone, Copy)]
 enum Step {
-    /// Session so-and-so installs `voice` with these uplink and downlink rates.
+    /// The session of this number installs `voice` with these uplink and downlink rates.
     Install(usize, u32, u32),
-    /// Session so-and-so removes `voice`.
+    /// The session of this number removes `voice`.
     Remove(usize),
-    /// Session so-and-so activates `radio`, of 70,000 bit/s in each direction.
+    /// The session of this number activates `radio`, of 70,000 bit/s in each direction.
     Activate(usize),
-    /// Session so-and-so removes `radio`.
+    /// The session of this number removes `radio`.
     Deactivate(usize),
 }
 

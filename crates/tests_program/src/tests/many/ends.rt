@@ -1,4 +1,4 @@
-//! Readers and writers that fail.
+//! Many sessions whose reader or writer fails.
 
 use crate::tests::expect_equal;
 use crate::tests::scripts::PROFILE;

@@ -8,7 +8,7 @@ use crate::tests::expect_equal;
 use pcef_model::OpenFault;
 use pcef_pool::{PoolFault, PoolState};
 
-/// How `sessions` sessions open on a pool of this capacity, where the last one's default bearer has this QCI.
+/// The fault of sessions with these profiles that open on a pool of this capacity, if there is one.
 fn fault_named<P: Pooling>(
     alloc: Global,
     capacity: Sums,
@@ -20,6 +20,7 @@ fn fault_named<P: Pooling>(
     Pooled::<P>::open(alloc, capacity, profiles, blanks).err()
 }
 
+/// The same of `sessions` sessions, of which the last one's default bearer has this QCI.
 fn fault(alloc: Global, up: u64, sessions: u8, qci: u8) -> Result<Option<PooledFault>, Fail> {
     let Some(profiles) = all_asked(alloc, sessions, qci) else {
         return Err("there is no memory for profiles")?;
