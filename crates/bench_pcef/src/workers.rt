@@ -11,9 +11,9 @@
 //! - `times`: each flush is timed, and the least, the median and the 90th percentile stand on standard error.
 //! - `own`: each judges 32 packets by the table that it holds and drops their rows. Nothing is shared.
 //! - `read`: as `own`, and each refreshes before it judges 32 packets.
+//!
 //! With the last two no row reaches the session, and the count of judged rows is written. The time of all workers
 //! together, in nanoseconds, stands on standard error.
-//! took, in nanoseconds, stands on standard error.
 
 mod alone;
 mod opening;

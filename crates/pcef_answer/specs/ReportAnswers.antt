@@ -49,7 +49,7 @@ abbrev pub reports_between : Journal → ℕ → ℕ → List Report
 reports_between journal first past_last = if nat_lt first past_last then drop first (reverse (reports journal)) else []
 
 abbrev pub reports_data : List Report → Data
-reports_data told = array (items_of (map report_data told))
+reports_data report_list = array (items_of (map report_data report_list))
 
 -- ---- for private clauses
 -- the text of the reports from one number to another

@@ -33,11 +33,11 @@ unchanged_last true = member (codes "unchanged") (boolean true) no_members
 unchanged_last false = no_members
 
 abbrev pub members_of : Data → Option BearerId → ℕ → Bool → Members
-members_of told bearer generation unchanged =
+members_of report_list bearer generation unchanged =
     bearer_before bearer
     (member (codes "generation") (count generation)
     (member (codes "ok") (boolean true)
-    (member (codes "reports") told (unchanged_last unchanged))))
+    (member (codes "reports") report_list (unchanged_last unchanged))))
 
 abbrev pub accepted_data : Journal → Accepted → Data
 accepted_data journal accepted =
@@ -98,22 +98,22 @@ abbrev pub verdicts_data : List Judged → Data
 verdicts_data rows = array (items_of (map judged_data rows))
 
 abbrev pub flushed_data : Journal → FlushAnswer → Data
-flushed_data journal told =
+flushed_data journal flushed =
     object (member (codes "ok") (boolean true)
-    (member (codes "reports") (reports_data (reports_between journal told.first_report told.past_last_report))
-    (member (codes "verdicts") (verdicts_data told.rows) no_members)))
+    (member (codes "reports") (reports_data (reports_between journal flushed.first_report flushed.past_last_report))
+    (member (codes "verdicts") (verdicts_data flushed.rows) no_members)))
 
 unfoldable pub flushed_text : Journal → Result FlushAnswer FlushRefusal → List ℕ
-flushed_text journal (Ok told) = compact_text (flushed_data journal told)
+flushed_text journal (Ok flushed) = compact_text (flushed_data journal flushed)
 flushed_text journal (Err refusal) = flush_refusal_text refusal
 
 -- ---- workers that leave
 abbrev pub finished_data : Journal → FlushAnswer → ℕ → Data
-finished_data journal told rows =
+finished_data journal flushed rows =
     object (member (codes "ok") (boolean true)
-    (member (codes "reports") (reports_data (reports_between journal told.first_report told.past_last_report))
+    (member (codes "reports") (reports_data (reports_between journal flushed.first_report flushed.past_last_report))
     (member (codes "rows") (count rows)
-    (member (codes "verdicts") (verdicts_data told.rows) no_members))))
+    (member (codes "verdicts") (verdicts_data flushed.rows) no_members))))
 
 unfoldable pub finished_text : Journal → Result (FlushAnswer × ℕ) FlushRefusal → List ℕ
 finished_text journal (Ok finished) = compact_text (finished_data journal finished.0 finished.1)

@@ -84,7 +84,7 @@ fn flushed_answer(
     journal: &Journal,
     answer: &Result<Verdicts, FlushRefusal>,
 ) -> Result<String, AllocError>
-    requires { IfOk (flushed_of answer.now) (λ told. journal.now.forgotten ≤ told.first_report) }
+    requires { IfOk (flushed_of answer.now) (λ flushed. journal.now.forgotten ≤ flushed.first_report) }
     ensures { IfOk result (λ text. string_bytes text
         ≡ flushed_text journal.now.entries (flushed_of answer.now)) }
 {
@@ -100,8 +100,8 @@ fn finished_answer(
     journal: &Journal,
     answer: &Result<(Verdicts, u64), FlushRefusal>,
 ) -> Result<String, AllocError>
-    requires { IfOk (finished_of answer.now) (λ told.
-        journal.now.forgotten ≤ told.0.first_report) }
+    requires { IfOk (finished_of answer.now) (λ finished.
+        journal.now.forgotten ≤ finished.0.first_report) }
     ensures { IfOk result (λ text. string_bytes text
         ≡ finished_text journal.now.entries (finished_of answer.now)) }
 {

@@ -10,22 +10,22 @@ use Rattle.pcef_c.specs.Numbers.{length_number, number_of, open_number}
 
 -- the session is what the text says, or there is a reason why it isn't opened
 abbrev pub OpenReturns : Handle → List ℕ → Handle → ℕ → Type 0
-OpenReturns old text new told = (r : Result (Unit {0}) OpenRefusal) × OpensHandle text old r new × (told ≡ open_number r)
+OpenReturns old text new number = (r : Result (Unit {0}) OpenRefusal) × OpensHandle text old r new × (number ≡ open_number r)
 
 -- the line is answered as in a script, or there is a reason why it isn't
 abbrev pub LineReturns : Handle → List ℕ → List ℕ → Handle → List ℕ → ℕ → Type 0
-LineReturns old line before new after told =
-    (r : Result ℕ CallRefusal) × AnswersHandle old line before r new after × (told ≡ length_number r)
+LineReturns old line before new after number =
+    (r : Result ℕ CallRefusal) × AnswersHandle old line before r new after × (number ≡ length_number r)
 
 -- the reports from a number on are written, or there is a reason why they aren't; the handle stays
 abbrev pub ReportsReturn : Handle → ℕ → List ℕ → Handle → List ℕ → ℕ → Type 0
-ReportsReturn old first before new after told =
-    (new ≡ old) × (r : Result ℕ CallRefusal) × ReportsHandle old first before r after × (told ≡ length_number r)
+ReportsReturn old first before new after number =
+    (new ≡ old) × (r : Result ℕ CallRefusal) × ReportsHandle old first before r after × (number ≡ length_number r)
 
 -- the reports so far are forgotten, or there is no session
 abbrev pub ForgetReturns : Handle → Handle → ℕ → Type 0
-ForgetReturns old new told = (r : Result ℕ CallRefusal) × ForgetsHandle old r new × (told ≡ length_number r)
+ForgetReturns old new number = (r : Result ℕ CallRefusal) × ForgetsHandle old r new × (number ≡ length_number r)
 
 -- there is no session any more, and the number says whether there was one
 abbrev pub Closes : Handle → Handle → ℕ → Type 0
-Closes old new told = (new.session ≡ None) × (told ≡ number_of (is_some old.session))
+Closes old new number = (new.session ≡ None) × (number ≡ number_of (is_some old.session))

@@ -63,11 +63,11 @@ IsVerdictOn h packet v =
 
 -- as many packets are judged as there are verdicts, and their number is returned; no other verdict
 -- is written, and the handle stays
-pub record AreJudged (h : Handle) (packets : List CPacket) (before after : List CVerdict) (told : ℕ) : Type 0 where
-  pub told_is : told ≡ min (length packets) (length before)
+pub record AreJudged (h : Handle) (packets : List CPacket) (before after : List CVerdict) (number : ℕ) : Type 0 where
+  pub number_is : number ≡ min (length packets) (length before)
   pub length_is : length after ≡ length before
-  pub each : (n : ℕ) (packet : CPacket) (v : CVerdict) → n < told → IsVerdictOn h (get_or packets n packet) (get_or after n v)
-  pub others : (n : ℕ) (v : CVerdict) → told ≤ n → get_or after n v ≡ get_or before n v
+  pub each : (n : ℕ) (packet : CPacket) (v : CVerdict) → n < number → IsVerdictOn h (get_or packets n packet) (get_or after n v)
+  pub others : (n : ℕ) (v : CVerdict) → number ≤ n → get_or after n v ≡ get_or before n v
 
 abbrev pub JudgesAll : Handle → List CPacket → List CVerdict → Handle → List CVerdict → ℕ → Type 0
-JudgesAll old packets before new after told = (new ≡ old) × AreJudged old packets before after told
+JudgesAll old packets before new after number = (new ≡ old) × AreJudged old packets before after number

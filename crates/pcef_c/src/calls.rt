@@ -28,8 +28,8 @@ pub(crate) fn open(handle: &mut Handle, profile: &[u8]) -> u8
 pub(crate) fn line(handle: &mut Handle, line: &[u8], answer: &mut [u8]) -> usize
     ensures { LineReturns handle.old line.now answer.old handle.new answer.new result }
 {
-    let told = handle.line(line, answer);
-    length_number(told)
+    let outcome = handle.line(line, answer);
+    length_number(outcome)
 }
 
 /// Judges packets, and returns their number. The handle stands last, so that the lifetimes before it have the same
@@ -48,16 +48,16 @@ pub(crate) fn judge(
 pub(crate) fn reports(handle: &mut Handle, first: u64, answer: &mut [u8]) -> usize
     ensures { ReportsReturn handle.old first answer.old handle.new answer.new result }
 {
-    let told = handle.reports(first, answer);
-    length_number(told)
+    let outcome = handle.reports(first, answer);
+    length_number(outcome)
 }
 
 /// Forgets the reports so far. Returns their number, or why there are none.
 pub(crate) fn forget(handle: &mut Handle) -> usize
     ensures { ForgetReturns handle.old handle.new result }
 {
-    let told = handle.forget();
-    count_number(told)
+    let outcome = handle.forget();
+    count_number(outcome)
 }
 
 /// Closes the session. Returns 1, or 0 where there was none.

@@ -42,10 +42,10 @@ pub(crate) fn open_number(opened: Result<(), OpenRefusal>) -> u8
 }
 
 /// The length of a text, or why there is none.
-pub(crate) fn length_number(told: Result<usize, CallRefusal>) -> usize
-    ensures { result ≡ length_number told }
+pub(crate) fn length_number(outcome: Result<usize, CallRefusal>) -> usize
+    ensures { result ≡ length_number outcome }
 {
-    match told {
+    match outcome {
         Ok(length) => length,
         Err(CallRefusal::NoSession) => NO_SESSION,
         Err(CallRefusal::NoMemory) => NO_MEMORY,
@@ -54,10 +54,10 @@ pub(crate) fn length_number(told: Result<usize, CallRefusal>) -> usize
 }
 
 /// A count, or why there is none.
-pub(crate) fn count_number(told: Result<u64, CallRefusal>) -> usize
-    ensures { result ≡ length_number told }
+pub(crate) fn count_number(outcome: Result<u64, CallRefusal>) -> usize
+    ensures { result ≡ length_number outcome }
 {
-    match told {
+    match outcome {
         Ok(count) => count as usize,
         Err(refusal) => length_number(Err(refusal)),
     }

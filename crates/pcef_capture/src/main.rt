@@ -60,11 +60,11 @@ fn write_to<R: Read, W: Write>(
 ) -> End
     requires { waiting.old.items ≡ [] }
 {
-    let told = write_capture(rt.alloc(), options, waiting, reader, writer);
+    let ended = write_capture(rt.alloc(), options, waiting, reader, writer);
     if let Err(error) = writer.flush() {
         return end_of(error, End::Write(error));
     }
-    match told {
+    match ended {
         Ok((counts, fault)) => end_of_lines(rt, &counts, fault),
         Err(end) => end,
     }

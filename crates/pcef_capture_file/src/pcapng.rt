@@ -67,7 +67,7 @@ fn capture_until<'a>(
     fault: CaptureFault,
 ) -> Result<Capture<'a>, CaptureFault>
     ensures packets { IfOk result (λ capture. capture.packets.items ≡ packets.entry.items) }
-    ensures told { IfOk result (λ capture. capture.fault ≡ Some fault) }
+    ensures stop { IfOk result (λ capture. capture.fault ≡ Some fault) }
     ensures other { OnOk result (fault ≢ NoMemory) }
     ensures fault { IfErr result (λ e. e ≡ NoMemory) }
 {

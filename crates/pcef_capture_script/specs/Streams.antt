@@ -35,8 +35,8 @@ WroteFrontOf ue pads rota input old new =
 -- frames so far are written; it may fail at any time, so they always are written before more is read. Where the writer
 -- fails or memory runs out, a front of the script is written.
 abbrev pub Wrote : Addr → Bool → Rota → Result (Counts × Option CaptureFault) End → Option (List ℕ) → List ℕ → Option (List ℕ) → Option (List ℕ) → Type 0
-Wrote ue pads rota (Ok told) left input old new =
-    (frames : List Captured) × Lasts left (λ octets. ReadsCapture octets frames told.1) input × WritesTakes ue pads rota frames old new told.0
+Wrote ue pads rota (Ok ended) left input old new =
+    (frames : List Captured) × Lasts left (λ octets. ReadsCapture octets frames ended.1) input × WritesTakes ue pads rota frames old new ended.0
 Wrote ue pads rota (Err («end».Capture fault)) left input old new =
     Lasts left (λ octets. IsRefused octets fault) input × Appends old new []
 Wrote ue pads rota (Err («end».Read error)) left input old new = WroteSoMuch ue pads rota input old new

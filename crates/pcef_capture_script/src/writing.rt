@@ -202,7 +202,7 @@ fn finish<W: Write>(
     fault: Option<CaptureFault>,
     writer: &mut W,
 ) -> Result<(Counts, Option<CaptureFault>), End>
-    ensures lines { IfOk result (λ told. (told ≡ (written.now.counts, fault)) × Appends
+    ensures lines { IfOk result (λ ended. (ended ≡ (written.now.counts, fault)) × Appends
         (W.contents writer.old) (W.contents writer.new) (rest_flush written.now.turn)) }
     ensures front { IfErr result (λ end. IsWriteEnd end × AppendsFront
         (W.contents writer.old) (W.contents writer.new) (rest_flush written.now.turn)) }

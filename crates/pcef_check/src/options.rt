@@ -31,7 +31,7 @@ pub(crate) fn parse_options<'a>(
         );
     let command = Command::new(alloc, "pcef_check")
         .about(
-            "Tells each line of a script of pcef that is answered by a fault or a refusal, and why",
+            "Reports each line of a script of pcef that is answered by a fault or a refusal, and why",
         )
         .arg(profile)?
         .arg(lines)?;

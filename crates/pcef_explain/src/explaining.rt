@@ -274,7 +274,7 @@ pub fn explain(alloc: Global, line: &[u8], fault: LineFault) -> Result<Explanati
 #[derive(Clone, Copy)]
 enum Expected<'a> {
     /// What this text says.
-    Told(&'a str),
+    Text(&'a str),
     /// The name of a rule: in an `activate` one of these, which are predefined; in other lines that of an active rule.
     Rule(&'a [&'a str]),
 }
@@ -305,7 +305,7 @@ fn write_expected(
     expected: Expected<'_>,
 ) {
     match expected {
-        Expected::Told(text) => message.text(text),
+        Expected::Text(text) => message.text(text),
         Expected::Rule(names) if word_of(line) == "activate" => {
             write_predefined(alloc, message, found, names);
         }
@@ -365,18 +365,18 @@ fn write_field_of(
 }
 
 /// Explains what stands at a field of a line that has no fault and still isn't taken: the column, the field, what was
-/// found there, and `told`, the text of what is expected. The text is for people, as that of [`explain`]. Takes memory
-/// for it, and for the line as JSON.
+/// found there, and `expected`, the text of what is expected. The text is for people, as that of [`explain`]. Takes
+/// memory for it, and for the line as JSON.
 pub fn explain_field(
     alloc: Global,
     line: &[u8],
     field: Field,
-    told: &str,
+    expected: &str,
 ) -> Result<Explanation, AllocError>
     ensures { IfOk result (λ e. IsPlain (string_bytes e.text)) }
 {
     let mut message = Message::new(alloc);
-    let column = write_field_of(alloc, &mut message, line, field, Expected::Told(told))?;
+    let column = write_field_of(alloc, &mut message, line, field, Expected::Text(expected))?;
     in_plain(alloc, column, message)
 }
 

@@ -62,7 +62,7 @@ pub fn text_in(alloc: Global, octets: Vec<u8>) -> io::Result<String>
         Err(error) => {
             let place = error.utf8_error().valid_up_to();
             match not_utf8(alloc, error.as_bytes(), place) {
-                Ok(told) => Err(io::Error::new(ErrorKind::InvalidData, told.as_str())),
+                Ok(message) => Err(io::Error::new(ErrorKind::InvalidData, message.as_str())),
                 Err(_) => Err(io::Error::from(ErrorKind::OutOfMemory)),
             }
         }

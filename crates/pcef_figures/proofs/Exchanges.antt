@@ -15,7 +15,7 @@ use Rattle.pcef_figures.specs.Grants.{KeyFigure, generation_behind, grants_in, k
 use Rattle.pcef_figures.specs.Guarantees.{RuleFigure, rates_in, rules_behind}
 use Rattle.pcef_figures.specs.Pairing.{Exchange, data_of, exchange_of, is_answered}
 use Rattle.pcef_figures.specs.Usages.{refusals_in, usage_in}
-use Rattle.pcef_figures.specs.private.Steps.{TellsNext}
+use Rattle.pcef_figures.specs.private.Steps.{AddsExchange}
 
 -- ---- JSON
 pub data_read : (octets : List ℕ) → IsUtf8 octets → data_of octets ≡ read octets
@@ -60,7 +60,7 @@ next_rates xs x told new active before rules is =
     is ∙ ap (λ t. t ++ rates_in active x.number x.line x.answer) before ∙ ap (λ r. rates_from [] xs ++ rates_in r x.number x.line x.answer) rules ∙ sym (rates_more [] xs x)
 
 pub tells_more : (xs : List Exchange) (x : Exchange) (old new : Collected)
-    → length xs + 1 < 2 ^ 64 → AreFiguresOf xs old.figures → old.active ≡ rules_from [] xs → TellsNext x old new → AreFiguresOf (xs ++ x ∷ []) new.figures
+    → length xs + 1 < 2 ^ 64 → AreFiguresOf xs old.figures → old.active ≡ rules_from [] xs → AddsExchange x old new → AreFiguresOf (xs ++ x ∷ []) new.figures
 tells_more xs x old new room tells active next =
     record {
       lines = omega (arith, next.lines, tells.lines, room, length-append xs (x ∷ []));

@@ -131,18 +131,18 @@ fn judged_packet(
     alloc: Global,
     packet: Handed,
     answered: u64,
-    told: &Value,
+    entry: &Value,
 ) -> Result<Option<Judged>, AllocError> {
-    let Some(verdict) = text_at(told, "verdict").and_then(Verdict::from_text) else {
+    let Some(verdict) = text_at(entry, "verdict").and_then(Verdict::from_text) else {
         return Ok(None);
     };
     Ok(Some(Judged {
         packet,
         answered,
-        generation: number_at(told, "generation").unwrap_or(0),
+        generation: number_at(entry, "generation").unwrap_or(0),
         verdict,
-        rule: copy_of(alloc, text_at(told, "rule"))?,
-        bearer: number_at(told, "bearer"),
+        rule: copy_of(alloc, text_at(entry, "rule"))?,
+        bearer: number_at(entry, "bearer"),
     }))
 }
 
@@ -155,11 +155,11 @@ pub(crate) fn push_judged(
     line: u64,
     answer: &Value,
 ) -> Result<bool, AllocError> {
-    for told in list_at(answer, "verdicts") {
+    for entry in list_at(answer, "verdicts") {
         let Some(packet) = take_waiting(waiting, worker) else {
             return Ok(false);
         };
-        match judged_packet(alloc, packet, line, told)? {
+        match judged_packet(alloc, packet, line, entry)? {
             Some(judged) => all.push(judged)?,
             None => return Ok(false),
         }

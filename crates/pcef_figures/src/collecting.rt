@@ -7,7 +7,7 @@ ghost use Rattle.pcef_figures.specs.Grants.{generation_behind, grant_of, grants_
 ghost use Rattle.pcef_figures.specs.Guarantees.{rates_commanded, rates_in, rules_behind, rules_commanded};
 ghost use Rattle.pcef_figures.specs.Pairing.{data_of, exchanges, filled, is_answer, has_value};
 ghost use Rattle.pcef_figures.specs.Usages.{number_in, refusal_of, refusals_in, usage_figure_of, usage_in};
-ghost use Rattle.pcef_figures.specs.private.Steps.{IsOtherOrMemory, TellsBeside, TakesDone, TakesLine, TellsNext, exchange_by};
+ghost use Rattle.pcef_figures.specs.private.Steps.{IsOtherOrMemory, AddsPackets, TakesDone, TakesLine, AddsExchange, exchange_by};
 
 use crate::answers::{keys_in, push_grant, push_judged, push_usage, refused_in};
 use crate::figures::{Figures, Handed};
@@ -134,7 +134,7 @@ impl Collected {
         line: &Value,
         answer: &Value,
     ) -> Result<bool, AllocError>
-        ensures figures { OnOk result (TellsBeside self.old.figures self.new.figures) }
+        ensures figures { OnOk result (AddsPackets self.old.figures self.new.figures) }
         ensures active { OnOk result (self.new.active ≡ self.old.active) }
     {
         match text_at(line, "do") {
@@ -168,7 +168,7 @@ impl Collected {
         line: &Value,
         answer: &Value,
     ) -> Result<(), CollectFault>
-        ensures told { OnOk result (TakesDone number (view line.now) (view answer.now) self.old self.new) }
+        ensures figures { OnOk result (TakesDone number (view line.now) (view answer.now) self.old self.new) }
         ensures fault { IfErr result (IsOtherOrMemory number) }
     {
         self.take_answered(alloc, number, line, answer)?;
@@ -190,7 +190,7 @@ impl Collected {
         line: Option<&Value>,
         answer: &Value,
     ) -> Result<(), CollectFault>
-        ensures told { OnOk result (TakesLine number (option_map (λ l. view l.now) line.entry) (view answer.now) self.old self.new) }
+        ensures figures { OnOk result (TakesLine number (option_map (λ l. view l.now) line.entry) (view answer.now) self.old self.new) }
         ensures fault { IfErr result (IsMismatch number (option_map (λ l. view l.now) line.entry) (view answer.now)) }
     {
         if let Some(refused) = refused_in(alloc, number, answer)? {
@@ -255,15 +255,15 @@ fn take_octets(
     line: Filled<'_>,
     answer: Filled<'_>,
 ) -> Result<(), CollectFault>
-    ensures told { OnOk result (TellsNext (exchange_by line.entry answer.entry) collected.old collected.new) }
+    ensures figures { OnOk result (AddsExchange (exchange_by line.entry answer.entry) collected.old collected.new) }
     ensures fault { IfErr result (λ fault. IsAtFault fault (exchange_by line.entry answer.entry)) }
 {
     let answer = match value_of(alloc, answer.octets)? {
         Some(answer) if is_answer(&answer) => answer,
         _ => return Err(CollectFault::NoAnswer(line.number)),
     };
-    let told = value_of(alloc, line.octets)?;
-    collected.take(alloc, line.number, told.as_ref(), &answer)
+    let value = value_of(alloc, line.octets)?;
+    collected.take(alloc, line.number, value.as_ref(), &answer)
 }
 
 /// Collects the figures of a script's lines and its answers: the nth line that isn't blank has the nth answer. There
@@ -271,7 +271,7 @@ fn take_octets(
 ///
 /// An `Err` is the first fault in the order of the lines, or out of memory.
 pub fn collect(alloc: Global, lines: &[u8], answers: &[u8]) -> Result<Figures, CollectFault>
-    ensures told { IfOk result (AreFiguresOf (exchanges lines.now answers.now)) }
+    ensures figures { IfOk result (AreFiguresOf (exchanges lines.now answers.now)) }
     ensures all { IsOk result → length (filled answers.now) ≤ length (filled lines.now) }
     ensures fault { IfErr result (λ fault. Fails fault lines.now answers.now) }
 {

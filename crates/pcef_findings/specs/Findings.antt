@@ -25,35 +25,35 @@ found_in (attach_reply (Err fault)) = Some (found.Attach fault)
 found_in (refresh_reply generation) = None
 found_in (take_reply (Ok waiting)) = None
 found_in (take_reply (Err full)) = Some (found.Take full)
-found_in (flush_reply (Ok told)) = None
+found_in (flush_reply (Ok answered)) = None
 found_in (flush_reply (Err refusal)) = Some (found.Flush refusal)
-found_in (finish_reply (Ok told)) = None
+found_in (finish_reply (Ok answered)) = None
 found_in (finish_reply (Err refusal)) = Some (found.Flush refusal)
 found_in (abandon_reply abandoned) = None
 found_in no_worker = Some found.NoWorker
 
 -- the finding on the line of a number, with the script's answer, or none where nothing is found
 abbrev pub IsFindingOf : ℕ → Option Found → List ℕ → Option Finding → Type 0
-IsFindingOf number None text told = told ≡ None
-IsFindingOf number (Some f) text told =
-    (x : Finding) × (told ≡ Some x) × (x.line ≡ number) × (x.found ≡ f) × (string_bytes x.answer ≡ text)
+IsFindingOf number None text finding = finding ≡ None
+IsFindingOf number (Some f) text finding =
+    (x : Finding) × (finding ≡ Some x) × (x.line ≡ number) × (x.found ≡ f) × (string_bytes x.answer ≡ text)
 
 -- a line to which this is due: its step is made as the script makes it, and `show` and a fault change nothing
 abbrev pub FindsDue : Setting → Standing → ℕ → Result Line LineFault → Option Finding → Standing → Type 0
-FindsDue p before number (Ok (line.Step s)) told after =
-    (text : List ℕ) × IsDue (step_outcome p before s) text after × IsFindingOf number (found_in (step_outcome p before s).0) text told
-FindsDue p before number (Ok Show) told after = (told ≡ None) × (after ≡ before)
-FindsDue p before number (Err f) told after = IsFindingOf number (Some (found.Fault f)) (fault_text f) told × (after ≡ before)
+FindsDue p before number (Ok (line.Step s)) finding after =
+    (text : List ℕ) × IsDue (step_outcome p before s) text after × IsFindingOf number (found_in (step_outcome p before s).0) text finding
+FindsDue p before number (Ok Show) finding after = (finding ≡ None) × (after ≡ before)
+FindsDue p before number (Err f) finding after = IsFindingOf number (Some (found.Fault f)) (fault_text f) finding × (after ≡ before)
 
 abbrev pub FindsFilled : Setting → Standing → ℕ → List ℕ → Option Finding → Standing → Type 0
-FindsFilled p before number bytes told after =
-    (due : Result Line LineFault) × LineDue bytes due × FindsDue p before number due told after
+FindsFilled p before number bytes finding after =
+    (due : Result Line LineFault) × LineDue bytes due × FindsDue p before number due finding after
 
 -- a line that is blank gets no answer
 abbrev pub FindsLine : Setting → Standing → ℕ → List ℕ → Option Finding → Standing → Type 0
-FindsLine p before number bytes told after =
-    ((is_blank bytes ≡ true) × (told ≡ None) × (after ≡ before))
-    ⊎ ((is_blank bytes ≡ false) × FindsFilled p before number bytes told after)
+FindsLine p before number bytes finding after =
+    ((is_blank bytes ≡ true) × (finding ≡ None) × (after ≡ before))
+    ⊎ ((is_blank bytes ≡ false) × FindsFilled p before number bytes finding after)
 
 abbrev pub as_list : Option Finding → List Finding
 as_list None = []
@@ -61,14 +61,14 @@ as_list (Some x) = x ∷ []
 
 -- lines one after the other, numbered from here on
 abbrev pub Finds : Setting → Standing → ℕ → List (List ℕ) → List Finding → Standing → Type 0
-Finds p before number [] told after = (told ≡ []) × (after ≡ before)
-Finds p before number (bytes ∷ lines) told after =
+Finds p before number [] findings after = (findings ≡ []) × (after ≡ before)
+Finds p before number (bytes ∷ lines) findings after =
     (first : Option Finding) × (rest : List Finding) × (between : Standing)
-    × FindsLine p before number bytes first between × Finds p between (number + 1) lines rest after × (told ≡ as_list first ++ rest)
+    × FindsLine p before number bytes first between × Finds p between (number + 1) lines rest after × (findings ≡ as_list first ++ rest)
 
 -- all lines, from the start of a session on
 abbrev pub FindsAll : Setting → List (List ℕ) → List Finding → Type 0
-FindsAll p lines told = (after : Standing) × Finds p at_start 1 lines told after
+FindsAll p lines findings = (after : Standing) × Finds p at_start 1 lines findings after
 
 -- the session can't be opened
 abbrev pub CantOpen : Setting → FindFault → Type 0

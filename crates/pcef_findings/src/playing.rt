@@ -65,7 +65,7 @@ fn step<C: Detects>(
     step: Step,
 ) -> Result<Option<Finding>, AllocError>
     requires { C.offers catalog.now ≡ world.old.session.setting.catalog }
-    ensures found { IfOk result (λ told. PlaysStep world.old number step told world.new) }
+    ensures found { IfOk result (λ finding. PlaysStep world.old number step finding world.new) }
     ensures setting { world.new.session.setting ≡ world.old.session.setting }
 {
     world.forget();
@@ -82,7 +82,7 @@ fn line_found<C: Detects>(
     line: Line,
 ) -> Result<Option<Finding>, AllocError>
     requires { C.offers catalog.now ≡ world.old.session.setting.catalog }
-    ensures found { IfOk result (λ told. PlaysLine world.old number line told world.new) }
+    ensures found { IfOk result (λ finding. PlaysLine world.old number line finding world.new) }
     ensures setting { world.new.session.setting ≡ world.old.session.setting }
 {
     match line {
@@ -101,7 +101,7 @@ pub(crate) fn play<C: Detects>(
     bytes: &[u8],
 ) -> Result<Option<Finding>, AllocError>
     requires { C.offers catalog.now ≡ world.old.session.setting.catalog }
-    ensures found { IfOk result (λ told. PlaysBytes world.old number bytes.now told world.new) }
+    ensures found { IfOk result (λ finding. PlaysBytes world.old number bytes.now finding world.new) }
     ensures setting { world.new.session.setting ≡ world.old.session.setting }
 {
     if is_blank(bytes) {

@@ -10,14 +10,14 @@ use Rattle.pcef_handle.specs.declared.line.CallRefusal.TheVariants.{NoMemory, No
 -- as much of a text as fits stands at the front of a buffer, whose length stays, and the length of the text is
 -- returned
 abbrev pub CopiesFront : List ℕ → List ℕ → List ℕ → ℕ → Type 0
-CopiesFront text before after told =
-    (told ≡ length text) × (length after ≡ length before)
+CopiesFront text before after octets =
+    (octets ≡ length text) × (length after ≡ length before)
     × (take (min (length text) (length before)) after ≡ take (min (length text) (length before)) text)
 
 -- the same of an answer; where there is none, nothing is written, and 0 is returned
 abbrev pub IsPut : Option LineAnswer → List ℕ → List ℕ → ℕ → Type 0
-IsPut None before after told = (told ≡ 0) × (after ≡ before)
-IsPut (Some a) before after told = CopiesFront (string_bytes a.text) before after told
+IsPut None before after octets = (octets ≡ 0) × (after ≡ before)
+IsPut (Some a) before after octets = CopiesFront (string_bytes a.text) before after octets
 
 -- what is fixed for a session stays, and no more of its reports are forgotten
 abbrev pub StaysOpen : OpenSession → OpenSession → Type 0
@@ -27,8 +27,8 @@ StaysOpen old new =
 
 -- a line is answered as in a script, into a buffer; when out of memory nothing is written
 abbrev pub AnswersInto : OpenSession → List ℕ → List ℕ → Result ℕ CallRefusal → OpenSession → List ℕ → Type 0
-AnswersInto old line before (Ok told) new after =
-    StaysOpen old new × ((a : Option LineAnswer) × AnswersAlone line old.world a new.world × IsPut a before after told)
+AnswersInto old line before (Ok octets) new after =
+    StaysOpen old new × ((a : Option LineAnswer) × AnswersAlone line old.world a new.world × IsPut a before after octets)
 AnswersInto old line before (Err NoMemory) new after = StaysOpen old new × (after ≡ before)
 AnswersInto old line before (Err other) new after = ⊥
 

@@ -45,14 +45,14 @@ pub record IsJudged (s : SessionModel) (header : Header) (d : Judgement) : Type 
 
 -- the header that is read is judged, or why there is none
 abbrev pub JudgesRead : OpenSession → (Result Header FrontFault → Type 0) → Result Judgement JudgeRefusal → Type 0
-JudgesRead s Told (Ok d) = (header : Header) × Told (Ok header) × IsJudged s.world.session header d
-JudgesRead s Told (Err (NoPacket fault)) = Told (Err (front.Packet fault))
-JudgesRead s Told (Err TooFew) = Told (Err front.TooFew)
-JudgesRead s Told (Err NoSession) = ⊥
+JudgesRead s Reads (Ok d) = (header : Header) × Reads (Ok header) × IsJudged s.world.session header d
+JudgesRead s Reads (Err (NoPacket fault)) = Reads (Err (front.Packet fault))
+JudgesRead s Reads (Err TooFew) = Reads (Err front.TooFew)
+JudgesRead s Reads (Err NoSession) = ⊥
 
 abbrev pub JudgesIn : Option OpenSession → (Result Header FrontFault → Type 0) → Result Judgement JudgeRefusal → Type 0
-JudgesIn None Told result = result ≡ Err NoSession
-JudgesIn (Some s) Told result = JudgesRead s Told result
+JudgesIn None Reads result = result ≡ Err NoSession
+JudgesIn (Some s) Reads result = JudgesRead s Reads result
 
 -- a packet of `whole` octets that begins with these is judged, where the handle has a session: as all such packets are
 -- read, unless two of them are read differently

@@ -17,8 +17,8 @@ text_from first journal = compact_text (reports_data (drop first (reverse (repor
 
 -- they are written unless one of them is forgotten; where they aren't, nothing is written
 abbrev pub ReportsInto : OpenSession → ℕ → List ℕ → Result ℕ CallRefusal → List ℕ → Type 0
-ReportsInto s first before (Ok told) after =
-    (s.world.session.forgotten ≤ first) × CopiesFront (text_from first s.world.session.journal) before after told
+ReportsInto s first before (Ok octets) after =
+    (s.world.session.forgotten ≤ first) × CopiesFront (text_from first s.world.session.journal) before after octets
 ReportsInto s first before (Err Forgotten) after = (first < s.world.session.forgotten) × (after ≡ before)
 ReportsInto s first before (Err NoMemory) after = (s.world.session.forgotten ≤ first) × (after ≡ before)
 ReportsInto s first before (Err NoSession) after = ⊥
@@ -31,13 +31,13 @@ abbrev pub ReportsHandle : Handle → ℕ → List ℕ → Result ℕ CallRefusa
 ReportsHandle h first before result after = ReportsOf h.session first before result after
 
 -- the reports so far are forgotten, and their number is returned: that of the next one; nothing else changes
-pub record ForgetsReports (old : OpenSession) (told : ℕ) (new : OpenSession) : Type 0 where
-  pub told_is : told ≡ report_count old.world.session.journal
-  pub forgotten_is : new.world.session.forgotten ≡ told
+pub record ForgetsReports (old : OpenSession) (number : ℕ) (new : OpenSession) : Type 0 where
+  pub number_is : number ≡ report_count old.world.session.journal
+  pub forgotten_is : new.world.session.forgotten ≡ number
   pub setting_stays : new.world.session.setting ≡ old.world.session.setting
   pub standing_stays : standing_of new.world ≡ standing_of old.world
 
 abbrev pub ForgetsHandle : Handle → Result ℕ CallRefusal → Handle → Type 0
-ForgetsHandle old (Ok told) new = InSession old.session new.session (λ s t. ForgetsReports s told t) ⊥
+ForgetsHandle old (Ok number) new = InSession old.session new.session (λ s t. ForgetsReports s number t) ⊥
 ForgetsHandle old (Err NoSession) new = (old.session ≡ None) × (new.session ≡ None)
 ForgetsHandle old (Err other) new = ⊥

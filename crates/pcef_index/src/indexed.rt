@@ -140,7 +140,7 @@ impl Indexed {
     }
 
     /// The generation's verdict on a packet, for a session with this address (TS 23.203, clause 6.2.2), found by the
-    /// index. Takes no memory.
+    /// index. Takes no memory. For callers that want no slots; sessions and workers ask [`Indexed::judged`].
     pub fn classify<C: Detects>(&self, catalog: &C, ue: Addr, header: &Header) -> Verdict
         requires { IsTable (C.offers catalog.now) self.now.entries }
         ensures { IsVerdict (C.offers catalog.now) self.now.entries ue header.now result }

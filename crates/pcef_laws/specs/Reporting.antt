@@ -22,7 +22,8 @@ use Rattle.pcef_model.specs.Reports.{after_attach, after_command, after_flush, a
 use Rattle.pcef_model.specs.Setting.{Setting, same_name}
 
 -- ---- grants
--- while usage reports are subscribed, each key that is on has fewer unreported octets than its grant between two events
+-- while usage reports are subscribed, each key that is on and has a grant has fewer unreported octets than it between two
+-- events
 abbrev pub GrantsAreReported : Type 0
 GrantsAreReported = (p : Setting) (j : Journal) → Lawful p j → (subscribed j).usage_report ≡ true →
     (key : List ℕ) → is_among key (slots p j) ≡ true → is_reached p j key ≡ false
@@ -56,7 +57,7 @@ names_on g id = map (λ r. r.properties.name) (filter (λ r. g.id_of r.propertie
 -- the rules of a lost bearer are reported in ascending order of their names, each once
 abbrev pub LostRulesAreReportedInOrder : Type 0
 LostRulesAreReportedInOrder = (g : Generation) (id : BearerId) →
-    (told : List (List ℕ)) × (inactive g (LoseBearer id) ≡ map Inactive told) × IsPermutation (names_on g id) told × Ascends told
+    (names : List (List ℕ)) × (inactive g (LoseBearer id) ≡ map Inactive names) × IsPermutation (names_on g id) names × Ascends names
 
 -- ---- the end
 -- the journals that may come after one, event by event

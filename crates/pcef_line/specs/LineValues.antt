@@ -21,24 +21,24 @@ abbrev pub Gives : {X Y : Type 0} → (X → Y) → Result X LineFault → Resul
 Gives = GivesUnless NoMemory
 
 unfoldable pub member_at : Field → Field → Data → Result Data LineFault
-member_at name told d = or_fault (MissingField told) (get (field_text name) d)
+member_at name reported d = or_fault (MissingField reported) (get (field_text name) d)
 
 unfoldable pub text_at : Field → Field → Data → Result (List ℕ) LineFault
-text_at name told d = do
-  value ← member_at name told d
-  or_fault (BadField told) (as_str value)
+text_at name reported d = do
+  value ← member_at name reported d
+  or_fault (BadField reported) (as_str value)
 
 unfoldable pub flag_at : Field → Field → Data → Result Bool LineFault
-flag_at name told d = do
-  value ← member_at name told d
-  or_fault (BadField told) (as_bool value)
+flag_at name reported d = do
+  value ← member_at name reported d
+  or_fault (BadField reported) (as_bool value)
 
 -- a JSON number without fraction and exponent, not negative and below 2^64
 unfoldable pub number_at : Field → Field → ℕ → ℕ → Data → Result ℕ LineFault
-number_at name told least most d = do
-  value ← member_at name told d
-  number ← or_fault (BadField told) (option_and_then as_u64 (as_number value))
-  passing (is_from_to least most) (BadField told) number
+number_at name reported least most d = do
+  value ← member_at name reported d
+  number ← or_fault (BadField reported) (option_and_then as_u64 (as_number value))
+  passing (is_from_to least most) (BadField reported) number
 
 unfoldable pub object_at : Field → Data → Result Data LineFault
 object_at name d = do

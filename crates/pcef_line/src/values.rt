@@ -18,12 +18,12 @@ use std::alloc::Global;
 
 /// The value of a field. A fault names the field itself, or the one whose object it stands in.
 #[tactic(auto, unfolding(crate::specs::LineValues::member_at))]
-pub(crate) fn member(object: &Value, field: Field, told: Field) -> Result<&Value, LineFault>
-    ensures { Gives (λ v. view v.now) result (member_at field told (view object.now)) }
+pub(crate) fn member(object: &Value, field: Field, reported: Field) -> Result<&Value, LineFault>
+    ensures { Gives (λ v. view v.now) result (member_at field reported (view object.now)) }
 {
     match object.get(field.text()) {
         Some(value) => Ok(value),
-        None => Err(LineFault::MissingField(told)),
+        None => Err(LineFault::MissingField(reported)),
     }
 }
 
@@ -52,12 +52,12 @@ pub(crate) fn list_field(object: &Value, field: Field) -> Result<&[Value], LineF
 
 /// A field's text.
 #[tactic(auto, unfolding(crate::specs::LineValues::text_at))]
-pub(crate) fn text_field(object: &Value, field: Field, told: Field) -> Result<&str, LineFault>
-    ensures { Gives (λ t. t.now) result (text_at field told (view object.now)) }
+pub(crate) fn text_field(object: &Value, field: Field, reported: Field) -> Result<&str, LineFault>
+    ensures { Gives (λ t. t.now) result (text_at field reported (view object.now)) }
 {
-    match member(object, field, told)?.as_str() {
+    match member(object, field, reported)?.as_str() {
         Some(text) => Ok(text),
-        None => Err(LineFault::BadField(told)),
+        None => Err(LineFault::BadField(reported)),
     }
 }
 
@@ -66,28 +66,28 @@ pub(crate) fn text_field(object: &Value, field: Field, told: Field) -> Result<&s
 pub(crate) fn number_field(
     object: &Value,
     field: Field,
-    told: Field,
+    reported: Field,
     least: u64,
     most: u64,
 ) -> Result<u64, LineFault>
-    ensures exact { Gives (λ n. n) result (number_at field told least most (view object.now)) }
+    ensures exact { Gives (λ n. n) result (number_at field reported least most (view object.now)) }
     ensures least { IfOk result (λ n. least ≤ n) }
     ensures most { IfOk result (λ n. n ≤ most) }
 {
-    match member(object, field, told)?.as_u64() {
+    match member(object, field, reported)?.as_u64() {
         Some(number) if least <= number && number <= most => Ok(number),
-        _ => Err(LineFault::BadField(told)),
+        _ => Err(LineFault::BadField(reported)),
     }
 }
 
 /// A field's truth value.
 #[tactic(auto, unfolding(crate::specs::LineValues::flag_at))]
-pub(crate) fn flag_field(object: &Value, field: Field, told: Field) -> Result<bool, LineFault>
-    ensures { Gives (λ b. b) result (flag_at field told (view object.now)) }
+pub(crate) fn flag_field(object: &Value, field: Field, reported: Field) -> Result<bool, LineFault>
+    ensures { Gives (λ b. b) result (flag_at field reported (view object.now)) }
 {
-    match member(object, field, told)?.as_bool() {
+    match member(object, field, reported)?.as_bool() {
         Some(flag) => Ok(flag),
-        None => Err(LineFault::BadField(told)),
+        None => Err(LineFault::BadField(reported)),
     }
 }
 

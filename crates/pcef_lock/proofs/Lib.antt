@@ -3,6 +3,7 @@ pub mod Compared
 pub mod Continued
 pub mod Counted
 pub mod FirstState
+pub mod FlushAnswers
 pub mod Gathered
 pub mod Handing
 pub mod Judged
@@ -13,5 +14,4 @@ pub mod Numbers
 pub mod PoolShares
 pub mod Publications
 pub mod Seats
-pub mod Told
 pub mod TotalsOfKeys

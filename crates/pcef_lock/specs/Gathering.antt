@@ -73,7 +73,7 @@ AgreeWith j listed handed = HaveLanes j handed × (listed ≡ reverse (commands 
 
 -- What the desk and the workers handed in adds up to this, with the session's journal (a pool is there or not): all
 -- workers that were attached are there; where lists are compared, they agree; and for each key three sums of octets are
--- the same: those that the journal's rows passed for it, those of all own lists, and the reported with the unreported
+-- the same: those of the journal's rows that count for it, those of all own lists, and the reported with the unreported
 -- ones.
 pub record AddUpTo {l : Type 0} (p : Setting) (is_there : Bool) (listed : List Command) (handed : List HandedIn) (t : Totals l) : Type 0 where
   pub setting_is : t.session.setting ≡ p

@@ -100,7 +100,8 @@ impl<N: Naming> Desk<N> {
 
     /// Gives a command, and answers as [`crate::State::command`] does, or, for a session on a pool, as
     /// [`crate::State::command_within`]. A command that is accepted and changes something is added to the desk's list
-    /// and to its share. Takes memory, and may answer out of memory before another refusal is seen.
+    /// and to its share. Takes memory, and may answer out of memory before another refusal is seen. Waits for the lock,
+    /// for the pool's where there is one, and may wait for readers of the publication.
     pub fn command<C: Offers + Drop, W: Board<Cell<N>> + Drop, P: Pooling, R: Wait>(
         &mut self,
         rt: &R,
@@ -129,7 +130,7 @@ impl<N: Naming> Desk<N> {
     }
 
     /// The reports since those that were collected before, in order, without a gap. Takes memory for them; where there
-    /// is none, they can be collected again.
+    /// is none, they can be collected again. Waits for the lock.
     pub fn collect<C: Offers + Drop, W: Board<Cell<N>> + Drop, P: Pooling, R: Wait>(
         &mut self,
         rt: &R,

@@ -46,7 +46,7 @@ pub struct Totals<P: Pooling = NoPool> {
     pub abandoned: u64,
     /// The keys that have a slot, in slot order.
     pub keys: KeyTotals,
-    /// The session's share of a pool, where there is one.
+    /// The session's share of a pool in bit/s, where there is one.
     pub rates: Option<RateShares<P>>,
 }
 

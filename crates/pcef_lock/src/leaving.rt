@@ -15,7 +15,7 @@ pub enum Leaving {
     Abandoned(u8),
 }
 
-/// That a worker left, and how. Only a hold of the lock in which a worker leaves makes one.
+/// That a worker left, and how. Only a hold of the lock in which a worker leaves, or is found to have left, makes one.
 pub struct Departure<N: Naming> {
     worker: u8,
     leaving: Leaving,

@@ -190,7 +190,7 @@ pub struct Unopened<C: Drop> {
     pub session: JournaledState,
 }
 
-/// The fault where there is no memory: `Places` goes before it.
+/// The fault where there is no memory. That of the number of places comes before it.
 fn lacks_memory(places: u8) -> SharedFault
     ensures { (result ≡ Places) ↔ ((places ≡ 0) ⊎ (16 < places)) }
 {

@@ -8,7 +8,7 @@ use pcef_pool::PoolState;
 use pcef_rule::Sums;
 use pcef_share::{Pooling, RateShares};
 
-/// The rates of a share, if there is one.
+/// The rates of a share in bit/s, if there is one.
 pub(crate) fn held_in<P: Pooling>(shares: &Option<RateShares<P>>) -> Option<Sums>
     ensures { result ≡ shares.now }
 {
@@ -18,7 +18,7 @@ pub(crate) fn held_in<P: Pooling>(shares: &Option<RateShares<P>>) -> Option<Sums
     }
 }
 
-/// The room that a pool leaves for a share that is there.
+/// The room in bit/s that a pool leaves for a share that is there.
 pub(crate) fn room_in<P: Pooling>(
     shares: &mut Option<RateShares<P>>,
     pool: &mut PoolState<P>,

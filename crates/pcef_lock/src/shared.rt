@@ -124,6 +124,7 @@ impl<'p, C: Offers + Drop, N: Naming, W: Board<Cell<N>> + Drop, P: Pooling> Shar
         ensures due { IsDue N.setting P.is_there command result }
     {
         let mut state = self.state.lock(rt);
+        // For what it says of the journal, here and below: that it is lawful.
         let _lawful = state.session();
         match self.pool {
             Some(pool) => state.command_within(shares, command, &mut pool.state.lock(rt)),
@@ -159,7 +160,7 @@ impl<'p, C: Offers + Drop, N: Naming, W: Board<Cell<N>> + Drop, P: Pooling> Shar
         batch: &Batch,
     ) -> Result<Verdicts, FlushRefusal>
         requires { AllJudged N.setting N.first seat.old.subscriber batch.now }
-        ensures told { IfOk result (λ v. v.rows.items ≡ judged_rows batch.now) }
+        ensures verdicts { IfOk result (λ v. v.rows.items ≡ judged_rows batch.now) }
         ensures due { IsDueToRows N.setting seat.old.worker batch.now result }
         ensures shares { seat.new.shares ≡ with_taken result seat.old.shares batch.now }
         ensures seat { ChangesOnlyShares seat.old seat.new }
@@ -177,7 +178,7 @@ impl<'p, C: Offers + Drop, N: Naming, W: Board<Cell<N>> + Drop, P: Pooling> Shar
         batch: &Batch,
     ) -> Result<LastFlush<N>, FlushRefusal>
         requires { AllJudged N.setting N.first seat.old.subscriber batch.now }
-        ensures told { IfOk result (λ l. l.verdicts.rows.items ≡ judged_rows batch.now) }
+        ensures verdicts { IfOk result (λ l. l.verdicts.rows.items ≡ judged_rows batch.now) }
         ensures departure { IfOk result (λ l. l.departure ≡ finished_with seat.old.worker batch.now) }
         ensures due { IsDueToLeaver N.setting seat.old.worker batch.now result }
         ensures shares { seat.new.shares ≡ with_taken result seat.old.shares batch.now }
@@ -204,7 +205,7 @@ impl<'p, C: Offers + Drop, N: Naming, W: Board<Cell<N>> + Drop, P: Pooling> Shar
     }
 
     /// As [`State::gather`], of the value behind the lock, which ends with it. For each monitoring key three sums of
-    /// octets are the same: those that the journal's rows passed for it, those of all workers' lists, and the reported
+    /// octets are the same: those of the journal's rows that count for it, those of all workers' lists, and the reported
     /// with the unreported ones. Where lists are compared, each row stands in one worker's list, once.
     pub fn gather<R: Wait>(
         self,

@@ -155,7 +155,8 @@ impl<N: Naming, W: Board<Cell<N>> + Drop, P: Pooling> State<N, W, P> {
         &self.session
     }
 
-    /// What the session's share of a pool has, where there is a pool: what its own rules' guaranteed rates sum up to.
+    /// What the session's share of a pool has, in bit/s, where there is a pool: what its own rules' guaranteed rates sum up
+    /// to.
     pub fn rates(&self) -> Option<Sums>
         ensures { result ≡ rates_due P.is_there N.setting self.now.session.journal }
     {
@@ -169,9 +170,9 @@ impl<N: Naming, W: Board<Cell<N>> + Drop, P: Pooling> State<N, W, P> {
         self.books.totals()
     }
 
-    /// Does a command, publishes the table that it makes, if it makes one, and counts it into the shares of the
-    /// desk that gives it, unless it changed nothing. Or answers the first refusal in the order of [`Refusal`], which changes nothing.
-    /// Takes memory. May wait for readers of the publication.
+    /// Does a command, publishes the table that it makes, if it makes one, and counts it into the shares of the desk
+    /// that gives it, unless it changed nothing. Or answers the first refusal in the order of [`Refusal`], which changes
+    /// nothing. Takes memory. May wait for readers of the publication.
     pub fn command(&mut self, shares: &mut Shares<N>, command: Command) -> Result<Accepted, Refusal>
         requires { P.is_there ≡ false }
         ensures answer { CommandStep N.setting command

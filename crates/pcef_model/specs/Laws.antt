@@ -129,8 +129,8 @@ abbrev pub NothingFollowsTheEnd : Type 0
 NothingFollowsTheEnd = (p : Setting) (j : Journal) → first_of (refusals p j Terminate) ≡ None → IsOver p (after_command p j Terminate)
 
 -- ---- rows
--- each row has the verdict of its own generation, which is one of the journal's; that it was made before the row came is a
--- condition of `RowFollows`
+-- each row has the verdict of its own generation, which is one of the journal's; `RowFollows` says that it was there when
+-- the row came
 pub record HasItsVerdict (p : Setting) (j : Journal) (r : Row) : Type 0 where
   pub known : r.generation ≤ gen j
   pub verdict_is : r.verdict ≡ verdict_at p (at p j r.generation) r.header

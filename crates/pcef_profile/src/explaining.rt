@@ -142,8 +142,8 @@ fn entry_at_fault(alloc: Global, values: &[Value]) -> Result<Option<String>, All
 }
 
 fn bad_value(alloc: Global, table: &Table) -> Result<Option<String>, AllocError> {
-    if let Some(told) = value_out_of_range(alloc, table)? {
-        return Ok(Some(told));
+    if let Some(message) = value_out_of_range(alloc, table)? {
+        return Ok(Some(message));
     }
     match entry(table, Key::Declared).and_then(|value| value.as_array()) {
         Some(values) => entry_at_fault(alloc, values.as_slice()),
@@ -183,13 +183,13 @@ fn of_table(
 
 /// What is found and expected at the place of a fault.
 fn details(alloc: Global, text: &str, fault: ReadProfileFault) -> Result<String, AllocError> {
-    let told = match toml::table_from_str(alloc, text) {
+    let message = match toml::table_from_str(alloc, text) {
         Ok(table) => of_table(alloc, &table, fault)?,
         Err(error) if error.is_memory() => return Err(AllocError),
         Err(error) => Some(not_toml(alloc, text, &error)?),
     };
-    match told {
-        Some(told) => Ok(told),
+    match message {
+        Some(message) => Ok(message),
         None => format!(in alloc; "{fault}"),
     }
 }

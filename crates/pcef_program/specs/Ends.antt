@@ -52,7 +52,7 @@ end_text (end.Run fault) = codes "run fault " ++ (48 + number_of fault) ∷ 10 �
 
 -- what is wrong with the line that doesn't fit
 abbrev pub end_reason : End → List ℕ
-end_reason (end.Line first text) = string_bytes first.told
+end_reason (end.Line first text) = string_bytes first.explanation
 end_reason other = []
 
 -- a profile that can't be read

@@ -20,17 +20,17 @@ const USAGE: &str =
 const USAGE_NOTE: &str = "
   script PROFILE       opens a session by the file PROFILE, and answers each line of standard input with a
                        line on standard output, as soon as it can
-  run PROFILE WORKERS  reads all commands and packets from standard input, runs them through so many workers, 1 to
-                       16, each in a thread of its own, and prints what it came to
+  run PROFILE WORKERS  reads all commands and packets from standard input, spreads the packets over WORKERS threads,
+                       1 to 16, and prints the totals
   pool UP DOWN PROFILE...
                        reads all lines of standard input, each the number of a session, from 0, a space and a
-                       command; opens a session for each of 1 to 64 profiles on a pool of so many guaranteed bit/s,
-                       answers each command with a line, and prints what the pool has granted
+                       command; opens a session for each of 1 to 64 profiles on a pool of UP and DOWN guaranteed
+                       bit/s, answers each command with a line, and prints what the pool has granted
 
 Example: pcef script examples/profile.toml < examples/tutorial.jsonl
 Exit status: 0, 1 a profile or a line at fault, 2 usage, 3 want of memory, 4 a read, write or run fault
 Documents: README.md, docs/TUTORIAL.md, docs/FORMATS.md
-Version: 0.1, proved with rattle-kit-13f logic dac8208d650f15bf
+Version: 0.1; a build by `rt try` is not proved, one by `rt run` is, with rattle-kit-13f logic dac8208d650f15bf
 ";
 
 const TOO_MUCH_NOTE: &str =
@@ -98,7 +98,7 @@ impl End {
         ensures { result.now ≡ end_reason self.now }
     {
         match self {
-            End::Line(first, _) => first.told.as_str(),
+            End::Line(first, _) => first.explanation.as_str(),
             _ => "",
         }
     }
@@ -138,7 +138,7 @@ fn run_note(fault: RunFault) -> &'static str {
     match fault {
         RunFault::Workers => "There are one to sixteen workers.\n",
         RunFault::StrangeWorker => "A packet names a worker that does not exist.\n",
-        RunFault::Shared => "The session didn't come behind its lock.\n",
+        RunFault::Shared => "The session could not be shared by the workers.\n",
         RunFault::Ring => "There is no ring to a worker, or one failed.\n",
         RunFault::Attach =>
             "A worker wasn't attached: the session was closed before the first packet.\n",

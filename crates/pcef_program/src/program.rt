@@ -180,13 +180,13 @@ fn end_of<T: Threads + Wait + Sync, R: Read, W: Write>(
 }
 
 /// Runs the program and returns its exit status: 0; 1 for a profile fault or a line at fault; 2 for wrong arguments; 3
-/// when out of memory; 4 for a failing stream or a run that failed.
+/// when out of memory; 4 for a failing stream or a run that failed, also for want of a reader, a ring or a thread.
 ///
-/// Where there are more or fewer profiles than the words name, the arguments are wrong. `faults` gets the reason why
-/// the program ends early: a line, and below it what a person needs to know. Where `faults` fails, nothing else changes.
+/// Where there are more or fewer profiles than the words name, the arguments are wrong. `faults` gets the reason why the
+/// program ends early: a line, and below it what a person needs to know. Where `faults` fails, nothing else changes.
 ///
-/// A script is run as `run_script` does, and the writer is flushed at its end. A run reads the whole input first, starts
-/// a thread for each worker and waits for them; its reports go to the outlet, whose reporters count them, and one that
+/// A script is run as `run_script` does, and the writer is flushed at its end. A run reads the whole input first, starts a
+/// thread for each worker and waits for them; its reports go to the outlet, whose reporters count them, and one that
 /// refuses ends the program as `want of memory`. Sessions on a pool read the whole input first, too, and are run as
 /// `run_pool` does; the writer is flushed at its end.
 pub fn run_program<T: Threads + Wait + Sync, R: Read, W: Write, E: Write>(

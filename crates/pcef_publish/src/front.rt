@@ -202,7 +202,7 @@ impl<N: Naming> Author<N> {
     }
 
     /// Shows that a front is a beginning of the whole. It can't fail.
-    pub fn knows(&mut self, front: &Front<N>, table: &Indexed)
+    pub fn compare(&mut self, front: &Front<N>, table: &Indexed)
         ensures same { self.new ≡ self.old }
         ensures begins { IsPrefix front.now self.old }
     {
@@ -279,6 +279,7 @@ impl<N: Naming> Front<N> {
     pub fn begins(&self, other: &Front<N>) -> bool
         ensures { MatchBool result (IsPrefix self.now other.now) (IsLonger other.now self.now) }
     {
+        // For proofs alone: what both have seen, seen together, says which begins the other.
         let mut both = self.seen.again();
         both.learn(&other.seen);
         self.len <= other.len

@@ -40,6 +40,7 @@ impl<N: Naming> Model for Publication<N> {
 }
 
 impl<N: Naming> Publication<N> {
+    /// A table, with the beginning of the history that ends with it.
     pub fn new(table: Arc<Indexed>, front: Front<N>) -> Publication<N>
         requires { Ends front (arc_value table) }
         ensures { result ≡ front }

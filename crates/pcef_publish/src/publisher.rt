@@ -18,7 +18,7 @@ use std::marker::Model;
 use std::sync::{Arc, OnceLock, Wait};
 use thiserror::Error;
 
-/// Why a publication did not begin.
+/// Why tables could not be published.
 #[derive(Clone, Copy, Debug, PartialEq, Eq, Error)]
 pub enum PublishFault {
     /// The board gave no reader.
@@ -72,7 +72,7 @@ impl<N: Naming, W: Board<Cell<N>> + Drop> Model for Publisher<N, W> {
 }
 
 /// A subscriber that holds the newest table.
-fn seat<N: Naming, R: Wait + Drop>(
+fn subscribe<N: Naming, R: Wait + Drop>(
     writer: &Writer<N, R>,
     newest: &Publication<N>,
 ) -> Result<Subscriber<N>, PublishFault>
@@ -86,7 +86,7 @@ fn seat<N: Naming, R: Wait + Drop>(
 }
 
 /// One such subscriber for each place.
-fn seat_all<N: Naming, R: Wait + Drop>(
+fn subscribe_all<N: Naming, R: Wait + Drop>(
     alloc: Global,
     writer: &Writer<N, R>,
     newest: &Publication<N>,
@@ -97,7 +97,7 @@ fn seat_all<N: Naming, R: Wait + Drop>(
 {
     let mut subscribers = Vec::new(alloc);
     for place in 0..places {
-        let subscriber = seat(writer, newest)?;
+        let subscriber = subscribe(writer, newest)?;
         if subscribers.push(subscriber).is_err() {
             return Err(PublishFault::NoMemory);
         }
@@ -140,7 +140,7 @@ impl<N: Naming, R: Wait + Drop> Publisher<N, Writer<N, R>> {
         let (author, newest) = opened.into_named::<N>();
         let (first, second) = first_slots(alloc, &newest)?;
         let writer = WriteHandle::new(alloc, rt, first, second, places)?;
-        let subscribers = seat_all(alloc, &writer, &newest, places)?;
+        let subscribers = subscribe_all(alloc, &writer, &newest, places)?;
         let publisher = Publisher {
             alloc,
             author,
@@ -167,12 +167,12 @@ impl<N: Naming, W: Board<Cell<N>> + Drop> Publisher<N, W> {
     }
 
     /// Shows that a front is a beginning of what is published.
-    pub(crate) fn knows(&mut self, front: &Front<N>)
+    pub(crate) fn compare(&mut self, front: &Front<N>)
         ensures same { self.new ≡ self.old }
         ensures begins { IsPrefix front.now self.old }
     {
         let (_generation, table) = self.newest.current();
-        self.author.knows(front, table);
+        self.author.compare(front, table);
     }
 
     // Shows readers an empty place. All that can be refused is done then.

@@ -13,6 +13,7 @@ pub struct Note {
     pub item: Indexed,
 }
 
+/// The rule of the history: chains are kept.
 pub struct Law;
 
 impl Rule<Note, u64> for Law {
@@ -33,6 +34,7 @@ impl Rule<Note, u64> for Law {
     ghost moves = { λ ask before after answer. Unit {0} };
 }
 
+/// A step that gives its caller nothing.
 pub struct Nothing;
 
 impl Gain<Note, u64> for Nothing {

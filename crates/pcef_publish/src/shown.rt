@@ -41,7 +41,8 @@ pub trait Board<O: Drop> {
     /// What may wait for readers.
     type Rt: Wait;
 
-    /// Readers find this from now on, or what they found before.
+    /// Readers find this from now on. On an error, which is out of memory, they find what they found before. May wait
+    /// for readers.
     fn show(&mut self, newest: O) -> Result<(), AllocError>;
 }
 

@@ -90,7 +90,7 @@ impl<N: Naming> Subscriber<N> {
         ensures begins { IsPrefix self.now publisher.old }
         ensures publisher { publisher.new ≡ publisher.old }
     {
-        publisher.knows(&self.held.front);
+        publisher.compare(&self.held.front);
     }
 
     /// Takes the newest table: what was seen is then all that is published. Where a further owner of the

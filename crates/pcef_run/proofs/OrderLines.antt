@@ -84,7 +84,7 @@ order_added (Err e) sessions bytes old new o filled is pushed = tt
 pub fails_at : (sessions : ℕ) (lines front : List (List ℕ)) (bytes : List ℕ) (rest : List (List ℕ)) (before : List Order) (number : ℕ) (u : Untaken) (f : PlanFault) → lines ≡ front ++ bytes ∷ rest
     → number ≡ length front + 1 → AreOrdered sessions front before → IsFor (IsWrongLine sessions bytes) u → IsFaultAt number u f → FailsIn sessions lines f
 fails_at sessions lines front bytes rest before number (untaken.Unfit why) (fault.Line first) whole at ordered wrong (numbered, is, told) =
-    (front, bytes, rest, before, whole, numbered ∙ at, ordered, subst (IsWrongLine sessions bytes) (sym is) wrong, subst (λ w. SaysReason w (string_bytes first.told)) (sym is) told)
+    (front, bytes, rest, before, whole, numbered ∙ at, ordered, subst (IsWrongLine sessions bytes) (sym is) wrong, subst (λ w. SaysReason w (string_bytes first.explanation)) (sym is) told)
 fails_at sessions lines front bytes rest before number (untaken.Unfit why) fault.Read whole at ordered wrong none = absurd none
 fails_at sessions lines front bytes rest before number (untaken.Unfit why) fault.TooMuch whole at ordered wrong none = absurd none
 fails_at sessions lines front bytes rest before number (untaken.Unfit why) fault.NoMemory whole at ordered wrong none = tt

@@ -25,7 +25,7 @@ input_planned workers (Err fault.TooMuch) input before left read planned fails =
 pub fails_at : (workers : ℕ) (lines front : List (List ℕ)) (bytes : List ℕ) (rest : List (List ℕ)) (before : List Line) (number : ℕ) (u : Untaken) (f : PlanFault) → lines ≡ front ++ bytes ∷ rest
     → number ≡ length front + 1 → AskFor workers (answered front) before → IsFor (IsUnfit workers bytes) u → IsFaultAt number u f → FailsIn workers lines f
 fails_at workers lines front bytes rest before number (untaken.Unfit why) (fault.Line first) whole at asked unfit (numbered, is, told) =
-    (front, bytes, rest, before, whole, numbered ∙ at, asked, subst (IsUnfit workers bytes) (sym is) unfit, subst (λ w. SaysReason w (string_bytes first.told)) (sym is) told)
+    (front, bytes, rest, before, whole, numbered ∙ at, asked, subst (IsUnfit workers bytes) (sym is) unfit, subst (λ w. SaysReason w (string_bytes first.explanation)) (sym is) told)
 fails_at workers lines front bytes rest before number (untaken.Unfit why) fault.Read whole at asked unfit none = absurd none
 fails_at workers lines front bytes rest before number (untaken.Unfit why) fault.TooMuch whole at asked unfit none = absurd none
 fails_at workers lines front bytes rest before number (untaken.Unfit why) fault.NoMemory whole at asked unfit none = tt

@@ -76,7 +76,7 @@ abbrev pub IsFirstWrong : ℕ → List (List ℕ) → FirstUnfit → Type 0
 IsFirstWrong sessions lines first =
     (front : List (List ℕ)) × (bytes : List ℕ) × (rest : List (List ℕ)) × (before : List Order)
     × (lines ≡ front ++ bytes ∷ rest) × (first.number ≡ length front + 1) × AreOrdered sessions front before
-    × IsWrongLine sessions bytes first.why × SaysReason first.why (string_bytes first.told)
+    × IsWrongLine sessions bytes first.why × SaysReason first.why (string_bytes first.explanation)
 
 -- The orders of an input that was read to its end, or its first line that is none; and else why it wasn't read. Out of
 -- memory may come in either.

@@ -95,7 +95,7 @@ abbrev pub IsFirstUnfit : ℕ → List (List ℕ) → FirstUnfit → Type 0
 IsFirstUnfit workers lines first =
     (front : List (List ℕ)) × (bytes : List ℕ) × (rest : List (List ℕ)) × (before : List Line)
     × (lines ≡ front ++ bytes ∷ rest) × (first.number ≡ length front + 1) × AskFor workers (answered front) before
-    × IsUnfit workers bytes first.why × SaysReason first.why (string_bytes first.told)
+    × IsUnfit workers bytes first.why × SaysReason first.why (string_bytes first.explanation)
 
 -- The plan of an input that was read to its end, or its first line that is unfit; and else why it wasn't read. Either
 -- may run out of memory.

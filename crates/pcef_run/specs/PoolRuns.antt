@@ -24,7 +24,7 @@ pub record AnswersOrder (before : PooledModel) (o : Order) (text : List ℕ) (af
   pub answer : Result Accepted Refusal
   pub answers : AnswersAt o.session before o.command answer after
   pub memory : answer ≢ Err NoMemory
-  pub told : IsAnswerLine o.session after answer text
+  pub line : IsAnswerLine o.session after answer text
   pub others : KeepsOthers o.session before after
   pub capacity : after.pool.capacity ≡ before.pool.capacity
   pub granted : after.pool.books.granted ≡ granted_to after.sessions
@@ -48,7 +48,7 @@ granted_text s = codes "granted up " ++ (decimal s.up ++ (codes " down " ++ (dec
 -- the lines to all orders, and the last line
 abbrev pub AnswersAll : PooledModel → List Order → List ℕ → Type 0
 AnswersAll before orders text =
-    (told : List ℕ) × (after : PooledModel) × Answers before orders told after × (text ≡ told ++ granted_text (granted_to after.sessions))
+    (lines : List ℕ) × (after : PooledModel) × Answers before orders lines after × (text ≡ lines ++ granted_text (granted_to after.sessions))
 
 -- What is written: all that; where the writer fails, a front of it, up to the line that failed; and where memory runs
 -- out, the lines before that.

@@ -39,6 +39,6 @@ IsFor Is untaken.NoMemory = Unit {0}
 
 -- the fault of an input with a line of this number that isn't taken
 abbrev pub IsFaultAt : ℕ → Untaken → PlanFault → Type 0
-IsFaultAt number (untaken.Unfit why) (plan.Line first) = (first.number ≡ number) × (first.why ≡ why) × SaysReason why (string_bytes first.told)
+IsFaultAt number (untaken.Unfit why) (plan.Line first) = (first.number ≡ number) × (first.why ≡ why) × SaysReason why (string_bytes first.explanation)
 IsFaultAt number untaken.NoMemory plan.NoMemory = Unit {0}
 IsFaultAt number other fault = ⊥

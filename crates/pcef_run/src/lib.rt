@@ -1,5 +1,6 @@
 //! Runs a session over workers in threads, or sessions on a pool in one thread, on lines that are all read beforehand:
-//! `read_plan`, `run_plan`, `summary_text` and `Storing`, a reporter that stores what it takes; `read_orders`, `run_pool`.
+//! `read_plan`, `run_plan`, `summary_text` and `Storing`, a reporter that stores what it takes; `read_orders`,
+//! `run_pool`.
 //!
 //! Its contracts say: the plan that an input asks for, the outcome of its run, and the text of the summary; the orders
 //! of an input for sessions on a pool, and what is written for their answers.

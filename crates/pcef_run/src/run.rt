@@ -62,7 +62,7 @@ fn open<C: Offers>(alloc: Global, profile: Profile, catalog: &C) -> Result<Journ
 }
 
 fn run_fault(fault: RunFault) -> RunEnd
-    ensures told { result ≡ end_of fault }
+    ensures exact { result ≡ end_of fault }
     ensures ends { (p : Setting) (plan : Plan) (n : ℕ) → (fault ≢ WantOfMemory → FailsRun plan n fault)
         → EndsPlan p plan n result }
 {

@@ -59,7 +59,8 @@ impl Taken {
     }
 }
 
-/// Keeps the reports of a kind that it takes, and counts them. It refuses one for which it finds no memory.
+/// Keeps the reports of a kind that it takes, and counts them. It refuses one for which it finds no memory. Contracts
+/// alone read the list; `pcef` prints the counts.
 #[derive(Drop)]
 pub struct Storing {
     asked: History<Report>,

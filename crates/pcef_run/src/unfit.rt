@@ -68,7 +68,7 @@ pub struct FirstUnfit {
     pub why: Unfit,
     /// The same in words, for people: a line of printable ASCII, which begins with the name of the reason and ends with
     /// a line feed. Empty where there was no memory for it.
-    pub told: String,
+    pub explanation: String,
 }
 
 impl FirstUnfit {
@@ -77,12 +77,16 @@ impl FirstUnfit {
     pub fn new(alloc: Global, number: u64, line: &[u8], front: usize, why: Unfit) -> FirstUnfit
         ensures number { result.number ≡ number }
         ensures why { result.why ≡ why }
-        ensures told { SaysReason why (string_bytes result.told) }
+        ensures explanation { SaysReason why (string_bytes result.explanation) }
     {
-        let told = match explain_unfit(alloc, line, front, why) {
-            Ok(told) => told,
+        let explanation = match explain_unfit(alloc, line, front, why) {
+            Ok(explanation) => explanation,
             Err(_) => String::new(alloc),
         };
-        FirstUnfit { number, why, told }
+        FirstUnfit {
+            number,
+            why,
+            explanation,
+        }
     }
 }

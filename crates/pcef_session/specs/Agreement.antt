@@ -21,8 +21,8 @@ AreKept offers (e ∷ kept) [] = ⊥
 AreKept offers (e ∷ kept) (r ∷ rules) = (e.0 ≡ r.properties.name) × (rule_of offers e.1 ≡ Some r) × AreKept offers kept rules
 
 -- ---- keys (TS 29.212, clauses 4.5.16 and 4.5.17)
--- what is kept of a key: its level, whether it is on, its grant, and its octets, which are those that the journal's
--- rows passed for it
+-- what is kept of a key: its level, whether it is on, its grant, and its octets, which are those of the journal's rows
+-- that count for it
 pub record KeyAgrees (p : Setting) (j : Journal) (s : KeyState) : Type 0 where
   pub level_is : s.level ≡ level_of (now p j) s.key
   pub on_is : s.on ≡ is_among s.key (now p j).on

@@ -51,12 +51,12 @@ KeepsPrepared before after = (d : Prepared) → IsPreparedFor before d → IsPre
 
 -- a command is accepted: its answer and the journal after it are as due
 abbrev pub DoesCommand : SessionModel → Command → Accepted → SessionModel → Type 0
-DoesCommand before command told after =
-    Gives (command_outcome before.setting before.journal command) (Ok told) after.journal
+DoesCommand before command answer after =
+    Gives (command_outcome before.setting before.journal command) (Ok answer) after.journal
 
 -- so is a command that was prepared
 abbrev pub Settles : SessionModel → Prepared → Accepted → SessionModel → Type 0
-Settles before prepared told after = DoesCommand before (command_of prepared) told after
+Settles before prepared answer after = DoesCommand before (command_of prepared) answer after
 
 -- a command is answered as due, or refused when out of memory
 abbrev pub AnswersCommand : SessionModel → Command → Result Accepted Refusal → SessionModel → Type 0

@@ -63,9 +63,10 @@ pub record IsTableAfter (p : Setting) (after : Journal) (c : Command) (made : Op
   pub makes : is_some made ≡ is_table c
   pub shows : IfSome made (λ t. Shows p after (gen after) t)
 
--- a command that the session accepts next and that changes something, with the table of the journal after it, the
--- rule that it makes active, the bearer of this rule and memory to bind it, memory for the key that it names, what it reports by
--- itself, room in the journal for that, for the thresholds of eight keys and for the leaving of each worker, and a place for a rule
+-- A command that the session accepts next and that changes something. With it stand the table of the journal after it;
+-- the rule that it makes active, the bearer of this rule and memory to bind it; memory for the key that it names; and what
+-- it reports by itself. There is room in the journal for that, for the thresholds of eight keys and for the leaving of each
+-- worker, and a place for a rule.
 pub record IsReady (s : SessionModel) (d : PreparedChange) : Type 0 where
   pub accepted : first_of (refusals s.setting s.journal d.command) ≡ None
   pub changing : changes s.setting s.journal d.command ≡ true

@@ -217,8 +217,8 @@ impl SessionState {
         self.bearers.total()
     }
 
-    /// The keys that have a slot, with their usage: reported and unreported octets are together those that
-    /// the journal's rows passed for the key (TS 29.212, clause 4.5.16).
+    /// The keys that have a slot, with their usage in octets: reported and unreported ones are together those of the
+    /// journal's rows that count for the key (TS 29.212, clause 4.5.16).
     pub fn usage(&self) -> &Usage
         ensures { KeysAgree self.now.setting self.now.journal result.now }
     {

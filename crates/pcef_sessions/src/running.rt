@@ -49,14 +49,14 @@ fn write_name<W: Write>(writer: &mut W, name: &Option<SessionName>) -> Result<()
     put_all(writer, b" ")
 }
 
-fn write_named<W: Write>(writer: &mut W, told: &NamedAnswer) -> Result<(), ScriptFault>
+fn write_named<W: Write>(writer: &mut W, named: &NamedAnswer) -> Result<(), ScriptFault>
     ensures all { OnOk result (Appends (W.contents writer.old) (W.contents writer.new)
-        (said_bytes (said_of told.now))) }
+        (said_bytes (said_of named.now))) }
     ensures front { IfErr result (WritesFront (W.contents writer.old) (W.contents writer.new)
-        (said_bytes (said_of told.now))) }
+        (said_bytes (said_of named.now))) }
 {
-    write_name(writer, &told.name)?;
-    write_answer(writer, &told.answer)
+    write_name(writer, &named.name)?;
+    write_answer(writer, &named.answer)
 }
 
 /// Keeps more octets of a line, as far as there is room.
@@ -90,9 +90,9 @@ pub(crate) fn end_line<W: Write>(serving: &mut Serving, writer: &mut W) -> Resul
     }
     match serving.sessions.answer(&serving.line) {
         Err(_) => Err(ScriptFault::NoMemory),
-        Ok(told) => {
-            write_named(writer, &told)?;
-            serving.any_fault = either(serving.any_fault, told.answer.is_fault);
+        Ok(named) => {
+            write_named(writer, &named)?;
+            serving.any_fault = either(serving.any_fault, named.answer.is_fault);
             Ok(())
         }
     }

@@ -173,7 +173,7 @@ impl Sessions {
         name: &SessionName,
         ue: Option<Addr>,
     ) -> Result<LineAnswer, AllocError>
-        ensures told { IfOk result (λ a. Asks self.old name.now (asking.Open ue) a self.new) }
+        ensures answer { IfOk result (λ a. Asks self.old name.now (asking.Open ue) a self.new) }
         ensures fixed { fixed self.new ≡ fixed self.old }
     {
         if self.table.contains_key(name) {
@@ -189,7 +189,7 @@ impl Sessions {
 
     /// The answer to a line that ends a session.
     fn asked_end(&mut self, name: &SessionName) -> Result<LineAnswer, AllocError>
-        ensures told { IfOk result (λ a. Asks self.old name.now asking.End a self.new) }
+        ensures answer { IfOk result (λ a. Asks self.old name.now asking.End a self.new) }
         ensures fixed { fixed self.new ≡ fixed self.old }
     {
         if self.stop(name) {
@@ -201,7 +201,7 @@ impl Sessions {
 
     /// The answer to a line that asks this of the sessions, or of a session that isn't open.
     fn ask(&mut self, name: &SessionName, asking: Asking) -> Result<LineAnswer, AllocError>
-        ensures told { IfOk result (λ a. Asks self.old name.now asking a self.new) }
+        ensures answer { IfOk result (λ a. Asks self.old name.now asking a self.new) }
         ensures fixed { fixed self.new ≡ fixed self.old }
     {
         match asking {
@@ -214,7 +214,7 @@ impl Sessions {
 
     /// The answer to a line of a session that isn't open.
     fn ask_first(&mut self, name: &SessionName, line: &[u8]) -> Result<LineAnswer, AllocError>
-        ensures told { IfOk result (λ a. Asks self.old name.now (asked_of line.now) a self.new) }
+        ensures answer { IfOk result (λ a. Asks self.old name.now (asked_of line.now) a self.new) }
         ensures fixed { fixed self.new ≡ fixed self.old }
     {
         let asking = asked_of(self.alloc, line)?;
@@ -228,7 +228,7 @@ impl Sessions {
         line: &[u8],
         answer: LineAnswer,
     ) -> Result<LineAnswer, AllocError>
-        ensures told { IfOk result (λ a. AsksInstead self.old name.now line.now answer a self.new) }
+        ensures answer { IfOk result (λ a. AsksInstead self.old name.now line.now answer a self.new) }
         ensures fixed { fixed self.new ≡ fixed self.old }
     {
         match asked_of(self.alloc, line)? {
@@ -240,7 +240,7 @@ impl Sessions {
     /// The answer to a line for a name.
     fn answer_to(&mut self, name: &SessionName, line: &[u8]) -> Result<LineAnswer, AllocError>
         requires { is_blank line.now ≡ false }
-        ensures told { IfOk result (λ a. AnswersIn self.old name.now line.now a self.new) }
+        ensures answer { IfOk result (λ a. AnswersIn self.old name.now line.now a self.new) }
         ensures fixed { fixed self.new ≡ fixed self.old }
     {
         match self.run(name, line)? {
@@ -259,7 +259,7 @@ impl Sessions {
     /// ends it. Nothing is done for a line without name, space or rest. Takes memory for the answer and for what a
     /// session keeps; when out of memory, the line may be done or not.
     pub fn answer(&mut self, line: &[u8]) -> Result<NamedAnswer, AllocError>
-        ensures told { IfOk result (λ t. AnswersNamedLine self.old line.now t self.new) }
+        ensures answer { IfOk result (λ t. AnswersNamedLine self.old line.now t self.new) }
         ensures fixed { fixed self.new ≡ fixed self.old }
     {
         match split_name(line) {

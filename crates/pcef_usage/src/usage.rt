@@ -72,7 +72,7 @@ impl KeyState {
 
     fn report(&mut self) -> u64
         requires { self.old.reported + self.old.unreported < 2 ^ 64 }
-        ensures told { result ≡ self.old.unreported }
+        ensures octets { result ≡ self.old.unreported }
         ensures state { self.new ≡ reported_on self.old }
     {
         let octets = self.unreported;
@@ -307,7 +307,7 @@ impl Usage {
     /// they were.
     pub fn take_report(&mut self, slot: Slot) -> u64
         requires { slot.0 < length self.old }
-        ensures told { result ≡ (state_at slot.0 self.old).unreported }
+        ensures octets { result ≡ (state_at slot.0 self.old).unreported }
         ensures states { self.new ≡ at_place slot.0 reported_on self.old }
     {
         self.states[slot.0 as usize].report()

@@ -34,7 +34,7 @@ impl<C: Detects + Drop, N: Naming, G: Gate + Drop> Worker<C, N, G> {
         rt: &R,
         shared: &Shared<C, N, W, P>,
     ) -> Result<Verdicts, FlushRefusal>
-        ensures told { IfOk result (λ v. v.rows.items ≡ judged_rows self.old.waiting) }
+        ensures verdicts { IfOk result (λ v. v.rows.items ≡ judged_rows self.old.waiting) }
         ensures due { (result ≡ Err NoMemory)
             ⊎ IsDueToRows N.setting self.old.worker self.old.waiting result }
         ensures flushed { OnOk result (self.new ≡ flushed self.old) }
@@ -58,7 +58,7 @@ impl<C: Detects + Drop, N: Naming, G: Gate + Drop> Worker<C, N, G> {
         rt: &R,
         shared: &Shared<C, N, W, P>,
     ) -> Result<LastFlush<N>, FlushRefusal>
-        ensures told { IfOk result (λ l. l.verdicts.rows.items ≡ judged_rows self.old.waiting) }
+        ensures verdicts { IfOk result (λ l. l.verdicts.rows.items ≡ judged_rows self.old.waiting) }
         ensures departure { IfOk result (λ l. l.departure ≡ finished_with self.old.worker self.old.waiting) }
         ensures flushed { OnOk result (self.new ≡ flushed self.old) }
         ensures refused { OnErr result (self.new ≡ self.old) }
@@ -83,7 +83,7 @@ impl<C: Detects + Drop, N: Naming, G: Gate + Drop> Worker<C, N, G> {
         rt: &R,
         shared: &Shared<C, N, W, P>,
     ) -> Result<Verdicts, FlushRefusal>
-        ensures told { IfOk result (λ v. v.rows.items ≡ judged_rows self.old.waiting) }
+        ensures verdicts { IfOk result (λ v. v.rows.items ≡ judged_rows self.old.waiting) }
         ensures due { (result ≡ Err NoMemory)
             ⊎ IsDueToRows N.setting self.old.worker self.old.waiting result }
         ensures flushed { OnOk result (self.new ≡ flushed self.old) }
@@ -104,7 +104,7 @@ impl<C: Detects + Drop, N: Naming, G: Gate + Drop> Worker<C, N, G> {
         shared: &Shared<C, N, W, P>,
     ) -> Result<(Finished<N>, Verdicts), (Worker<C, N, G>, FlushRefusal)>
         ensures left { IfOk result (λ r. r.0 ≡ finished self) }
-        ensures told { IfOk result (λ r. r.1.rows.items ≡ judged_rows self.waiting) }
+        ensures verdicts { IfOk result (λ r. r.1.rows.items ≡ judged_rows self.waiting) }
         ensures back { IfErr result (λ e. e.0 ≡ self) }
     {
         let mut worker = self;

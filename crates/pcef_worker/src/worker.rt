@@ -68,7 +68,8 @@ impl<C: Detects + Drop, N: Naming, G: Gate + Drop> Worker<C, N, G> {
     /// Attaches a worker, in one hold of the lock: it then holds the newest table, and no row waits. Or answers the
     /// first fault in the order of [`AttachFault`], which leaves the session as it was; there is no place, either, once
     /// as many workers were attached as the lock has places. The rows that it hands over are stored with it, so that
-    /// they can be compared at the end. Takes memory, which may be refused before another fault is seen.
+    /// they can be compared at the end. Takes memory, which may be refused before another fault is seen. Waits for the
+    /// lock.
     pub fn attach<W: Board<Cell<N>> + Drop, P: Pooling, R: Wait>(
         rt: &R,
         alloc: Global,
@@ -207,7 +208,7 @@ impl<C: Detects + Drop, N: Naming, G: Gate + Drop> Worker<C, N, G> {
         shared.meet(rt, &mut self.seat)
     }
 
-    /// What the worker, which left so, hands in.
+    /// What the worker hands in, which left in this way.
     pub(crate) fn into_finished(self, departure: Departure<N>) -> Finished<N>
         ensures { result ≡ record {
           worker = departure.worker;

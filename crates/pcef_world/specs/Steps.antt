@@ -64,8 +64,8 @@ reply_of answer.NoWorker = no_worker
 -- no report that a reply may name is among the first `forgotten` ones
 abbrev pub NamesKept : ℕ → Reply → Type 0
 NamesKept forgotten (command_reply r) = IfOk r (λ a. forgotten ≤ a.first_report)
-NamesKept forgotten (flush_reply r) = IfOk r (λ told. forgotten ≤ told.first_report)
-NamesKept forgotten (finish_reply r) = IfOk r (λ told. forgotten ≤ told.0.first_report)
+NamesKept forgotten (flush_reply r) = IfOk r (λ a. forgotten ≤ a.first_report)
+NamesKept forgotten (finish_reply r) = IfOk r (λ a. forgotten ≤ a.0.first_report)
 NamesKept forgotten other = Unit {0}
 
 abbrev pub is_error : {A E : Type 0} → Result A E → Bool
@@ -139,8 +139,8 @@ with_none w = record w { rows = [] }
 
 -- they wait no longer, or they are refused and all stays as it is
 abbrev pub handed_over : Standing → ℕ → Waiting → Outcome FlushAnswer FlushRefusal → Reply × Standing
-handed_over s worker w (Ok told, after) =
-    (flush_reply (Ok told), with_place worker (Some (with_none w)) (with_journal after s))
+handed_over s worker w (Ok answered, after) =
+    (flush_reply (Ok answered), with_place worker (Some (with_none w)) (with_journal after s))
 handed_over s worker w (Err r, after) = (flush_reply (Err r), s)
 
 abbrev pub flush_step : Setting → Standing → ℕ → Option Waiting → Reply × Standing
@@ -150,7 +150,7 @@ flush_step p s worker (Some w) = handed_over s worker w (flush_outcome p s.journ
 -- ---- a worker leaves
 -- with its last rows: its place is empty from then on, or they are refused and all stays as it is
 abbrev pub finished : Standing → ℕ → Outcome (FlushAnswer × ℕ) FlushRefusal → Reply × Standing
-finished s worker (Ok told, after) = (finish_reply (Ok told), with_place worker None (with_journal after s))
+finished s worker (Ok answered, after) = (finish_reply (Ok answered), with_place worker None (with_journal after s))
 finished s worker (Err r, after) = (finish_reply (Err r), s)
 
 abbrev pub finish_step : Setting → Standing → ℕ → Option Waiting → Reply × Standing

@@ -43,7 +43,7 @@ pub enum StepAnswer {
 pub(crate) fn command_step_answer(
     answer: Result<Accepted, Refusal>,
 ) -> Result<StepAnswer, AllocError>
-    ensures told { IfOk result (λ a. (a ≡ step.Command answer) × (answer ≢ Err NoMemory)) }
+    ensures answer { IfOk result (λ a. (a ≡ step.Command answer) × (answer ≢ Err NoMemory)) }
     ensures lack { IfErr result (λ _. answer ≡ Err NoMemory) }
 {
     match answer {

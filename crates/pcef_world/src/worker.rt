@@ -55,8 +55,8 @@ impl WorldWorker {
     ) -> Result<Result<u8, BatchFull>, AllocError>
         requires table { IsTable (C.offers catalog.now) (held_by self.old).entries }
         requires few { handed_over ≤ 4294967295 }
-        ensures taken { IfOk result (λ told. TakesItem (C.offers catalog.now) ue header.now handed_over
-            self.old told self.new) }
+        ensures taken { IfOk result (λ answer. TakesItem (C.offers catalog.now) ue header.now handed_over
+            self.old answer self.new) }
         ensures lacks { OnErr result (LacksForItem self.old self.new) }
     {
         if self.waiting.len() >= MAX_WAITING {

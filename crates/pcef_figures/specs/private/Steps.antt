@@ -16,7 +16,7 @@ abbrev pub exchange_by : Filled → Filled → Exchange
 exchange_by line answer = exchange_of ((line.number, line.octets.now), (answer.number, answer.octets.now))
 
 -- packets are added, and nothing else
-pub record TellsBeside (old new : Figures) : Type 0 where
+pub record AddsPackets (old new : Figures) : Type 0 where
   pub lines : new.lines ≡ old.lines
   pub last : new.last ≡ old.last
   pub generation : new.generation ≡ old.generation
@@ -58,7 +58,7 @@ pub record TakesLine (number : ℕ) (line : Option Data) (answer : Data) (old ne
   pub answered : has_value number line answer ≡ true
 
 -- a line with its answer is added
-pub record TellsNext (x : Exchange) (old new : Collected) : Type 0 where
+pub record AddsExchange (x : Exchange) (old new : Collected) : Type 0 where
   pub lines : new.figures.lines ≡ min (old.figures.lines + 1) (2 ^ 64 - 1)
   pub last : new.figures.last ≡ x.number
   pub generation : new.figures.generation ≡ generation_behind old.figures.generation x.number x.answer

@@ -20,25 +20,25 @@ IsOfFault number f x = (x.line ≡ number) × (x.found ≡ found.Fault f) × (st
 
 -- the finding on an answer, where it refuses
 abbrev pub FindsAnswer : World → ℕ → StepAnswer → Option Finding → Type 0
-FindsAnswer w number a told =
-    IsFindingOf number (found_in (reply_of a)) (step_text w.session.journal (gen w.session.journal) (reply_of a)) told
+FindsAnswer w number a finding =
+    IsFindingOf number (found_in (reply_of a)) (step_text w.session.journal (gen w.session.journal) (reply_of a)) finding
 
 -- a world does what a line asks for
 abbrev pub PlaysLine : World → ℕ → Line → Option Finding → World → Type 0
-PlaysLine before number l told after = FindsDue before.session.setting (standing_of before) number (Ok l) told (standing_of after)
+PlaysLine before number l finding after = FindsDue before.session.setting (standing_of before) number (Ok l) finding (standing_of after)
 
 abbrev pub PlaysStep : World → ℕ → Step → Option Finding → World → Type 0
-PlaysStep before number s told after = PlaysLine before number (line.Step s) told after
+PlaysStep before number s finding after = PlaysLine before number (line.Step s) finding after
 
 -- a world does what the bytes of a line ask for
 abbrev pub PlaysBytes : World → ℕ → List ℕ → Option Finding → World → Type 0
-PlaysBytes before number bytes told after = FindsLine before.session.setting (standing_of before) number bytes told (standing_of after)
+PlaysBytes before number bytes finding after = FindsLine before.session.setting (standing_of before) number bytes finding (standing_of after)
 
 -- and its finding is appended to those before
 abbrev pub AddsLine : World → ℕ → List ℕ → List Finding → List Finding → World → Type 0
 AddsLine before number bytes old new after =
-    (told : Option Finding) × PlaysBytes before number bytes told after × (new ≡ old ++ as_list told)
+    (finding : Option Finding) × PlaysBytes before number bytes finding after × (new ≡ old ++ as_list finding)
 
 -- lines one after the other
 abbrev pub PlaysLines : World → List (List ℕ) → List Finding → Type 0
-PlaysLines before lines told = (after : Standing) × Finds before.session.setting (standing_of before) 1 lines told after
+PlaysLines before lines findings = (after : Standing) × Finds before.session.setting (standing_of before) 1 lines findings after

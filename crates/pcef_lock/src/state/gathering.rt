@@ -78,8 +78,8 @@ impl<N: Naming, W: Board<Cell<N>> + Drop, P: Pooling> State<N, W, P> {
     /// key is then what the own lists of the workers have for it, and it is reported or unreported. Where the session
     /// stores its rows, and each worker its own list, lists are compared: each worker's list is its lane, and the desk's
     /// list is the journal's commands. Where there is a fault, gives all back with the first in the order of
-    /// [`GatherFault`]. Takes no memory. The conditions of the caller: the desk and the workers are those of this lock, and no two of them are of
-    /// one worker.
+    /// [`GatherFault`]. Takes no memory. The conditions of the caller: the desk and the workers are those of this lock,
+    /// and no two of them are of one worker.
     // Apart, for inlined it takes LLVM a minute and a half: the value is large, and is moved three times.
     #[inline(never)]
     pub fn gather(

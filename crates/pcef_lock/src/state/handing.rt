@@ -34,7 +34,7 @@ impl<N: Naming, W: Board<Cell<N>> + Drop, P: Pooling> State<N, W, P> {
     /// worker's lane is refused as that of a worker that isn't attached. Takes memory.
     pub fn flush(&mut self, seat: &mut Seat<N>, batch: &Batch) -> Result<Verdicts, FlushRefusal>
         requires { AllJudged N.setting N.first seat.old.subscriber batch.now }
-        ensures told { IfOk result (λ v. v.rows.items ≡ judged_rows batch.now) }
+        ensures verdicts { IfOk result (λ v. v.rows.items ≡ judged_rows batch.now) }
         ensures answer { AnswersHandOver N.setting seat.old.worker batch.now
             self.old result self.new }
         ensures rest { self.new ≡ record self.old {
@@ -65,7 +65,7 @@ impl<N: Naming, W: Board<Cell<N>> + Drop, P: Pooling> State<N, W, P> {
         batch: &Batch,
     ) -> Result<LastFlush<N>, FlushRefusal>
         requires { AllJudged N.setting N.first seat.old.subscriber batch.now }
-        ensures told { IfOk result (λ l. l.verdicts.rows.items ≡ judged_rows batch.now) }
+        ensures verdicts { IfOk result (λ l. l.verdicts.rows.items ≡ judged_rows batch.now) }
         ensures departure { IfOk result (λ l. l.departure ≡ finished_with seat.old.worker batch.now) }
         ensures answer { AnswersLeave N.setting seat.old.worker batch.now
             self.old result self.new }

@@ -11,7 +11,7 @@ pub returns : goal.returns
 returns c =
     let h = c.loop-place.invariant in let past = c.loop-place-test.false in
     record {
-      told_is = c.min-count.ensures;
+      number_is = c.min-count.ensures;
       length_is = h.0;
       each = λ n packet v less. h.1 n packet v (omega (arith, less, past));
       others = λ n v above. h.2 n v (omega (arith, above, c.loop-place.auto.place-end));

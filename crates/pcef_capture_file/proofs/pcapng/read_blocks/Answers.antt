@@ -32,7 +32,7 @@ pub returns-in-Err-clause-packets : goal.returns-in-Err-clause-packets
 returns-in-Err-clause-packets c =
     let some : 0 < length c.loop-rest.rest.now = some_length c.loop-rest.rest.now (sym c.is_empty.ensures ∙ c.loop-rest-test.true) in
     ends_there c.capture_until.result c.args.octets.now c.loop-rest.packets.items (standing c.loop-rest.section) c.loop-rest.rest.now c.in-Err.fault c.loop-rest.invariant some
-    c.in-Err.ensures.fault c.capture_until.ensures.packets c.capture_until.ensures.told c.capture_until.ensures.other
+    c.in-Err.ensures.fault c.capture_until.ensures.packets c.capture_until.ensures.stop c.capture_until.ensures.other
 
 pub returns-clause-packets : goal.returns-clause-packets
 returns-clause-packets c =

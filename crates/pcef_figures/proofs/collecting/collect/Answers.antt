@@ -52,8 +52,8 @@ loop-line-preserved c =
           (exchanges_next (left c.loop-line.script) (left c.loop-line.answers) (left c.next.new.self) (left c.next-in-Some.new.self)
           (line.number, line.octets.now) (answer.number, answer.octets.now) first second)
           ∙ sym (append_assoc i.told (x ∷ []) later);
-      tells = tells_more i.told x c.loop-line.collected c.take_octets.new.collected (omega (arith, i.room, c.in-Some.ensures.shorter)) i.tells i.active c.in_ok-take_octets.ensures.told;
-      active = c.in_ok-take_octets.ensures.told.active ∙ ap (λ r. rules_behind r x.number x.line x.answer) i.active ∙ sym (rules_more [] i.told x);
+      tells = tells_more i.told x c.loop-line.collected c.take_octets.new.collected (omega (arith, i.room, c.in-Some.ensures.shorter)) i.tells i.active c.in_ok-take_octets.ensures.figures;
+      active = c.in_ok-take_octets.ensures.figures.active ∙ ap (λ r. rules_behind r x.number x.line x.answer) i.active ∙ sym (rules_more [] i.told x);
       lines = omega (arith, i.lines, ap length first, longer);
       answers = omega (arith, i.answers, ap length second, longer);
       room = omega (arith, i.room, c.in-Some.ensures.shorter, longer);

@@ -26,10 +26,10 @@ returns-in_err-write_named-in-Ok-clause-err g c = λ p start input h.
     let contents = g.W.Write.contents in
     let s = c.args.serving.now in
     let new = c.answer.new.self in
-    let told = c.in-Ok.told in
+    let told = c.in-Ok.named in
     let f = c.in_err-write_named-in-Ok.ensures.front in
     let filled : is_blank s.line.items ≡ false = ap is_blank (sym c.deref.ensures.value) ∙ sym c.is_blank.ensures ∙ c.if-is_blank.false in
-    let says = subst (λ (l : List ℕ). SaysTo (fixed s.sessions) (held s.sessions) (addressed l) (said_of told) (held new)) c.deref-2.ensures.value c.in-Ok.ensures.told in
+    let says = subst (λ (l : List ℕ). SaysTo (fixed s.sessions) (held s.sessions) (addressed l) (said_of told) (held new)) c.deref-2.ensures.value c.in-Ok.ensures.answer in
     rw (q.1, q.2, f.0) (told_fails p start (contents c.args.writer.now) (contents c.write_named.new.writer) s.line.items s.sessions new s.any_fault input (said_of told) h filled says f.1)
 
 pub returns-in_ok-write_named-in-Ok-clause-ok : goal.returns-in_ok-write_named-in-Ok-clause-ok
@@ -37,8 +37,8 @@ returns-in_ok-write_named-in-Ok-clause-ok g c = λ p start input h.
     let contents = g.W.Write.contents in
     let s = c.args.serving.now in
     let new = c.answer.new.self in
-    let told = c.in-Ok.told in
+    let told = c.in-Ok.named in
     let filled : is_blank s.line.items ≡ false = ap is_blank (sym c.deref.ensures.value) ∙ sym c.is_blank.ensures ∙ c.if-is_blank.false in
-    let says = subst (λ (l : List ℕ). SaysTo (fixed s.sessions) (held s.sessions) (addressed l) (said_of told) (held new)) c.deref-2.ensures.value c.in-Ok.ensures.told in
+    let says = subst (λ (l : List ℕ). SaysTo (fixed s.sessions) (held s.sessions) (addressed l) (said_of told) (held new)) c.deref-2.ensures.value c.in-Ok.ensures.answer in
     told_ends p start (contents c.args.writer.now) (contents c.write_named.new.writer) s.line.items s.sessions new s.any_fault c.either-serving.result input (said_of told) h filled says c.in-Ok.ensures.fixed c.either-serving.ensures
     c.in_ok-write_named-in-Ok.ensures.all

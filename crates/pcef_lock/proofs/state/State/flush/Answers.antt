@@ -9,7 +9,7 @@ use Rattle.pcef_lock.specs.Counting.{with_items}
 use Rattle.pcef_lock.specs.Lanes.{continues_lane}
 use Rattle.pcef_lock.proofs.Handing.{all_low, handed_well, octets_fit, sound_taken}
 use Rattle.pcef_lock.proofs.Keeps.{sound_same}
-use Rattle.pcef_lock.proofs.Told.{flush_answered}
+use Rattle.pcef_lock.proofs.FlushAnswers.{flush_answered}
 use Rattle.pcef_lock.proofs.PoolShares.{due_kept, due_same}
 use Rattle.pcef_lock.proofs.state.State.flush.Goals as goal
 
@@ -69,7 +69,7 @@ invariant_of-self-2 g c =
           (ap tables once.1 ∙ tables_after_flush c.self.inside.session.session.setting c.self.inside.session.session.journal (map row_of c.args.batch.now)) c.self.invariant.1,
     )
 
-pub returns-clause-told : goal.returns-clause-told
-returns-clause-told g c =
+pub returns-clause-verdicts : goal.returns-clause-verdicts
+returns-clause-verdicts g c =
     flush_answered c.self.inside.session.session.setting c.args.seat.now.worker (map row_of c.args.batch.now) c.self.inside.session.session.journal c.flush.new.self.session.journal
     (flush_answer_of c.in-Ok.verdicts) c.in-Ok.ensures.answer

@@ -5,8 +5,8 @@ use Rattle.pcef_sessions.specs.private.Steps.{Runs}
 use Rattle.pcef_sessions.proofs.Unders.{script_told}
 use Rattle.pcef_sessions.proofs.sessions.Sessions.answer_to.Goals as goal
 
-pub returns-else-answer-clause-told : goal.returns-else-answer-clause-told
-returns-else-answer-clause-told c =
+pub returns-else-answer-clause-answer : goal.returns-else-answer-clause-answer
+returns-else-answer-clause-answer c =
     let old = c.args.self.now in
     let new = c.run.new.self in
     let name = c.args.name.now in

@@ -13,10 +13,10 @@ pub returns-clause-answer : goal.returns-clause-answer
 returns-clause-answer c =
     rw (← c.self.view_is)
     (command_answer c.self.inside.session.setting c.args.command c.self.inside.session.journal c.command.new.self.journal (map (option_map seen) c.self.inside.workers.items) c.command.result c.command_step_answer.result
-    c.command.ensures.answer c.command_step_answer.ensures.told c.command_step_answer.ensures.lack).0
+    c.command.ensures.answer c.command_step_answer.ensures.answer c.command_step_answer.ensures.lack).0
 
 pub returns-clause-lacks : goal.returns-clause-lacks
 returns-clause-lacks c =
     rw (← c.self.view_is)
     (command_answer c.self.inside.session.setting c.args.command c.self.inside.session.journal c.command.new.self.journal (map (option_map seen) c.self.inside.workers.items) c.command.result c.command_step_answer.result
-    c.command.ensures.answer c.command_step_answer.ensures.told c.command_step_answer.ensures.lack).1
+    c.command.ensures.answer c.command_step_answer.ensures.answer c.command_step_answer.ensures.lack).1

@@ -7,14 +7,14 @@ use Rattle.pcef_model.specs.Refusals.{first_of, flush_refusals}
 use Rattle.pcef_model.specs.declared.answer.FlushRefusal.{FlushRefusal}
 use Rattle.pcef_model.specs.declared.row.Row.{Row}
 
-rows_told : (p : Setting) (j : Journal) (rows : List Row) (refusal : Option FlushRefusal) (answer : FlushAnswer) →
+rows_judged : (p : Setting) (j : Journal) (rows : List Row) (refusal : Option FlushRefusal) (answer : FlushAnswer) →
     Ok answer ≡ (flush_outcome_by p j rows refusal).0 → answer.rows ≡ map judged_of rows
-rows_told p j rows None answer told = cc
-rows_told p j rows (Some r) answer told = absurd cc
+rows_judged p j rows None answer is = cc
+rows_judged p j rows (Some r) answer is = absurd cc
 
 -- a flush answers with each row that it takes over
 pub flush_answered : (p : Setting) (worker : ℕ) (rows : List Row) (j k : Journal) (answer : FlushAnswer) →
     FlushStep p worker rows j (Ok answer) k → answer.rows ≡ map judged_of rows
 unfolding flush_outcome
-flush_answered p worker rows j k answer (inl given) = rows_told p j rows (first_of (flush_refusals p j worker (length rows))) answer given.0
+flush_answered p worker rows j k answer (inl given) = rows_judged p j rows (first_of (flush_refusals p j worker (length rows))) answer given.0
 flush_answered p worker rows j k answer (inr lacks) = absurd (let e = lacks.1.0 in cc)

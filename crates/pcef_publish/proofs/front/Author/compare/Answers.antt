@@ -5,7 +5,7 @@ use Rattle.pcef_table.specs.Tables.{TableValue}
 use Rattle.pcef_publish.specs.private.Chains.{head_of, items_of}
 use Rattle.pcef_publish.proofs.Runs.{prefix_trans}
 use Rattle.pcef_publish.proofs.Steps.{checks_moves, items_begin}
-use Rattle.pcef_publish.proofs.front.Author.knows.Goals as goal
+use Rattle.pcef_publish.proofs.front.Author.compare.Goals as goal
 
 pub compare_exchange-requires : goal.compare_exchange-requires
 compare_exchange-requires g c =
