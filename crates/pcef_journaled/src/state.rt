@@ -143,10 +143,11 @@ impl JournaledState {
         ensures keeps { self.new.keeps ≡ self.old.keeps }
         ensures room { OnErr result (HasAtLeast self.old.session.room self.new.session.room) }
     {
-        if let Some(refusal) = self.state.flush_refusal(worker, batch.len()) {
-            return Err(refusal);
-        }
         if self.archive.reserve(batch.len()).is_err() {
+            // Out of memory comes last of the refusals.
+            if let Some(refusal) = self.state.flush_refusal(worker, batch.len()) {
+                return Err(refusal);
+            }
             return Err(FlushRefusal::NoMemory);
         }
         match self.state.flush(worker, batch) {
@@ -169,10 +170,11 @@ impl JournaledState {
         ensures keeps { self.new.keeps ≡ self.old.keeps }
         ensures room { OnErr result (HasAtLeast self.old.session.room self.new.session.room) }
     {
-        if let Some(refusal) = self.state.flush_refusal(worker, batch.len()) {
-            return Err(refusal);
-        }
         if self.archive.reserve(batch.len()).is_err() {
+            // Out of memory comes last of the refusals.
+            if let Some(refusal) = self.state.flush_refusal(worker, batch.len()) {
+                return Err(refusal);
+            }
             return Err(FlushRefusal::NoMemory);
         }
         match self.state.finish(worker, batch) {

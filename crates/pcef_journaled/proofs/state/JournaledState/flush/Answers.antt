@@ -13,7 +13,7 @@ pub returns-in-Some-clause-answer : goal.returns-in-Some-clause-answer
 returns-in-Some-clause-answer c =
     rw (← c.self.view_is)
     (flush_refused c.self.inside.state.setting c.self.inside.state.journal c.args.worker (map row_of c.args.batch.now) c.in-Some.refusal
-    (c.in-Some.ensures ∙ ap (λ n. first_of (flush_refusals c.self.inside.state.setting c.self.inside.state.journal c.args.worker n)) (c.len.ensures.len ∙ sym (length-map c.args.batch.now row_of))))
+    (c.in-Some.ensures ∙ ap (λ n. first_of (flush_refusals c.self.inside.state.setting c.self.inside.state.journal c.args.worker n)) (c.len-then-is_err.ensures.len ∙ sym (length-map c.args.batch.now row_of))))
 
 pub invariant_of-self-in-Ok : goal.invariant_of-self-in-Ok
 invariant_of-self-in-Ok c =
