@@ -17,7 +17,8 @@ pub enum RunFault {
     StrangeWorker,
     /// The session couldn't be put behind its lock.
     Shared,
-    /// There is no ring to a worker, or a packet was left in a ring at the end.
+    /// There is no memory for the ring to a worker; or a ring ended too early, a packet was left in it at the end, or
+    /// more packets were dropped than 64 bits count.
     Ring,
     /// A worker wasn't attached.
     Attach,
@@ -35,7 +36,7 @@ impl RunFault {
         match self {
             RunFault::Workers => "there are one to sixteen workers",
             RunFault::StrangeWorker => "a packet arrives for a worker that there isn't",
-            RunFault::Shared => "the session didn't come behind its lock",
+            RunFault::Shared => "the session could not be shared by the workers",
             RunFault::Ring => "a ring to a worker failed",
             RunFault::Attach => "a worker was not attached",
             RunFault::Thread => "there is no thread for a worker",
@@ -71,7 +72,7 @@ impl RunFault {
     }
 }
 
-/// Why a run failed that had its workers, and no packets for others.
+/// Why a run failed after the first two checks: it has one to sixteen workers, and packets for no others.
 #[derive(Clone, Copy, Debug)]
 pub(crate) enum Failure {
     Shared,

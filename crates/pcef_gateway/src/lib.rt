@@ -3,14 +3,16 @@
 //!
 //! Its contracts say: which packets of a session's run became rows, and the totals.
 //!
-//! In the order of reading: `arrivals`, `ended`, `fault`, `lent`, `serving`, `worker_ring`, `intake`, `run`.
+//! In the order of reading: `arrivals`, `ended`, `fault`, `gate_ref`, `serving`, `worker_ring`, `intake`,
+//! `context`, `run`.
 #![tactic(auto)]
 
 mod arrivals;
+mod context;
 mod ended;
 mod fault;
+mod gate_ref;
 mod intake;
-mod lent;
 mod run;
 mod serving;
 mod worker_ring;

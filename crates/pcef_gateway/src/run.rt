@@ -7,17 +7,15 @@ ghost use Rattle.pcef_model.specs.Journals.{attach_count};
 ghost use Rattle.pcef_model.specs.Lawful.{Lawful};
 ghost use Rattle.pcef_lock.specs.Opening.{GoesBy};
 ghost use Rattle.pcef_lock.specs.Gathering.{AddUpTo};
-ghost use Rattle.pcef_gateway.specs.Commanding.{HaveAnswers};
 ghost use Rattle.pcef_gateway.specs.Ending.{FailsBy, RunsTo};
 ghost use Rattle.pcef_gateway.specs.InOrder.{commands_of, reports_of};
-ghost use Rattle.pcef_gateway.specs.Sending.{HandInArrivals};
 ghost use Rattle.pcef_gateway.specs.declared.fault.RunFault.TheVariants.{StrangeWorker, Workers};
 
 use crate::arrivals::{Arrival, are_known};
-use crate::ended::{CommandAnswer, Ended, all_reports};
+use crate::context::{RunContext, RunHandIns, Workload};
+use crate::ended::{Ended, all_reports};
 use crate::fault::{Failure, RunFault};
-use crate::intake::{Handed, close_all, start_all, take_in};
-use crate::worker_ring::WorkerRing;
+use crate::intake::HandIns;
 use pcef_catalog::{Detects, Offers};
 use pcef_journaled::JournaledState;
 use pcef_lane::MAX_WORKERS;
@@ -29,10 +27,9 @@ use pcef_worker::Gate;
 use std::alloc::Global;
 use std::marker::Brand;
 use std::sync::{Arc, Wait};
-use std::thread;
 use std::thread::Threads;
 
-/// Runs a session with `workers` workers, each in a thread of its own, till all packets were sent to their workers and
+/// Runs a session with `workers` workers, each in a thread of its own, until all packets were sent to their workers and
 /// all commands were given. Each worker is attached before the first packet and the first command, and borrows the
 /// gate. The commands are given in order, spread evenly among the packets. A worker hands its rows over where 32 wait
 /// or its ring is empty, and then takes the newest table. A worker whose rows are refused leaves; the packets that
@@ -41,8 +38,9 @@ use std::thread::Threads;
 /// The caller ensures that the catalog is the session's, and that no worker was ever attached to it. The first two
 /// [`RunFault`]s are returned before anything is done. A fault discards the session. Out of memory ends the run with
 /// [`RunFault::NoMemory`], also where a command or a worker meets it; it is [`RunFault::Shared`] where the publication
-/// gives no reader. Takes memory for rings, answers and reports. Waits for the lock, for places in the rings, and for
-/// the workers' threads.
+/// gives no reader, [`RunFault::Ring`] where there is none for a ring, and [`RunFault::Thread`] where the system gives
+/// no thread. Takes memory for rings, answers and reports. Waits for the lock, for places in the rings, and for the
+/// workers' threads.
 pub fn run_session<C: Detects + Drop + Send + Sync, G: Gate + Sync, R: Threads + Wait + Sync>(
     rt: &R,
     alloc: Global,
@@ -67,12 +65,23 @@ pub fn run_session<C: Detects + Drop + Send + Sync, G: Gate + Sync, R: Threads +
     if !are_known(&arrivals, workers) {
         return Err(RunFault::StrangeWorker);
     }
-    match run_known(
-        rt, alloc, catalog, session, &arrivals, commands, workers, gate,
-    ) {
+    let load = Workload {
+        arrivals,
+        commands,
+        workers,
+    };
+    match run_known(rt, alloc, catalog, session, load, gate) {
         Ok(ended) => Ok(ended),
         Err(failure) => Err(failure.fault()),
     }
+}
+
+/// A session that is to be shared, with its catalog, its history and ledgers without a name.
+struct Unshared<C> {
+    catalog: Arc<C>,
+    session: JournaledState,
+    opened: Opened,
+    blanks: Blanks,
 }
 
 /// Runs a session, where each packet is for one of its workers.
@@ -81,33 +90,26 @@ fn run_known<C: Detects + Drop + Send + Sync, G: Gate + Sync, R: Threads + Wait 
     alloc: Global,
     catalog: Arc<C>,
     session: JournaledState,
-    arrivals: &[Arrival],
-    commands: Vec<Command>,
-    workers: u8,
+    load: Workload,
     gate: &G,
 ) -> Result<Ended, Failure>
-    requires few { workers ≤ 16 }
-    requires known { All (λ a. a.worker < workers) arrivals.now }
+    requires few { load.workers ≤ 16 }
+    requires known { All (λ a. a.worker < load.workers) load.arrivals.items }
     requires fresh { attach_count session.session.journal ≡ 0 }
     requires offers { C.offers (arc_value catalog) ≡ session.session.setting.catalog }
-    ensures { IfOk result (λ e.
-        RunsTo session.session.setting session.session.journal arrivals.now commands.items workers e) }
+    ensures { IfOk result (RunsTo session.session.setting session.session.journal
+        load.arrivals.items load.commands.items load.workers) }
 {
     let Ok(opened) = open_history(&session) else {
         return Err(Failure::NoMemory);
     };
-    run_named::<C, Brand, G, R>(
-        rt,
-        alloc,
+    let unshared = Unshared {
         catalog,
         session,
         opened,
-        Blanks::new(),
-        arrivals,
-        commands,
-        workers,
-        gate,
-    )
+        blanks: Blanks::new(),
+    };
+    run_named::<C, Brand, G, R>(rt, alloc, unshared, load, gate)
 }
 
 /// Runs a session that has a name.
@@ -116,31 +118,25 @@ fn run_named<
     N: Naming + Send + Sync,
     G: Gate + Sync,
     R: Threads + Wait + Sync,
->(
-    rt: &R,
-    alloc: Global,
-    catalog: Arc<C>,
-    session: JournaledState,
-    opened: Opened,
-    blanks: Blanks,
-    arrivals: &[Arrival],
-    commands: Vec<Command>,
-    workers: u8,
-    gate: &G,
-) -> Result<Ended, Failure>
-    requires few { workers ≤ 16 }
-    requires known { All (λ a. a.worker < workers) arrivals.now }
+>(rt: &R, alloc: Global, unshared: Unshared<C>, load: Workload, gate: &G) -> Result<Ended, Failure>
+    requires few { load.workers ≤ 16 }
+    requires known { All (λ a. a.worker < load.workers) load.arrivals.items }
     requires named { GoesBy N.ledger N.setting N.first N.book N.root
-        session.session opened blanks }
-    requires fresh { attach_count session.session.journal ≡ 0 }
-    requires offers { C.offers (arc_value catalog) ≡ session.session.setting.catalog }
-    ensures { IfOk result (λ e.
-        RunsTo session.session.setting session.session.journal arrivals.now commands.items workers e) }
+        unshared.session.session unshared.opened unshared.blanks }
+    requires fresh { attach_count unshared.session.session.journal ≡ 0 }
+    requires offers { C.offers (arc_value unshared.catalog)
+        ≡ unshared.session.session.setting.catalog }
+    ensures { IfOk result (RunsTo unshared.session.session.setting unshared.session.session.journal
+        load.arrivals.items load.commands.items load.workers) }
 {
-    match Shared::<C, N, _>::open(rt, alloc, catalog, session, opened, blanks, workers) {
-        Ok((shared, desk)) => {
-            run_shared(rt, alloc, shared, desk, gate, workers, arrivals, commands)
-        }
+    let Unshared {
+        catalog,
+        session,
+        opened,
+        blanks,
+    } = unshared;
+    match Shared::<C, N, _>::open(rt, alloc, catalog, session, opened, blanks, load.workers) {
+        Ok((shared, desk)) => run_shared(rt, alloc, shared, desk, load, gate),
         Err(unopened) => Err(unopened.fault.into()),
     }
 }
@@ -157,98 +153,24 @@ fn run_shared<
     alloc: Global,
     shared: Shared<C, N, W>,
     desk: Desk<N>,
+    load: Workload,
     gate: &G,
-    workers: u8,
-    arrivals: &[Arrival],
-    commands: Vec<Command>,
 ) -> Result<Ended, Failure>
-    requires few { workers ≤ 16 }
-    requires known { All (λ a. a.worker < workers) arrivals.now }
-    ensures { (before : Journal) → desk.commands ≡ commands_of before → IfOk result (λ e.
-        RunsTo N.setting before arrivals.now commands.items workers e) }
+    requires few { load.workers ≤ 16 }
+    requires known { All (λ a. a.worker < load.workers) load.arrivals.items }
+    ensures { (before : Journal) → desk.commands ≡ commands_of before → IfOk result
+        (RunsTo N.setting before load.arrivals.items load.commands.items load.workers) }
 {
-    match work_all(rt, alloc, &shared, desk, gate, workers, arrivals, commands) {
+    let context = RunContext {
+        rt,
+        alloc,
+        shared: &shared,
+        gate,
+    };
+    match context.work(desk, load) {
         Ok(worked) => end(rt, alloc, shared, worked),
         Err(failure) => Err(failure),
     }
-}
-
-/// What the desk and the workers hand in.
-#[derive(Drop)]
-struct Worked<N: Naming> {
-    desk: Desk<N>,
-    answers: Vec<CommandAnswer>,
-    handed: Handed<N>,
-}
-
-/// Runs `workers` workers in threads, with the calling thread as the intake.
-fn work_all<
-    C: Detects + Drop + Send + Sync,
-    N: Naming + Send + Sync,
-    W: Board<Cell<N>> + Drop + Send,
-    G: Gate + Sync,
-    R: Threads + Wait + Sync,
->(
-    rt: &R,
-    alloc: Global,
-    shared: &Shared<C, N, W>,
-    desk: Desk<N>,
-    gate: &G,
-    workers: u8,
-    arrivals: &[Arrival],
-    commands: Vec<Command>,
-) -> Result<Worked<N>, Failure>
-    requires few { workers ≤ 16 }
-    requires known { All (λ a. a.worker < workers) arrivals.now }
-    ensures answers { IfOk result (λ w.
-        HaveAnswers desk.commands commands.items w.desk.commands w.answers.items) }
-    ensures handed { IfOk result (λ w.
-        HandInArrivals workers arrivals.now w.handed.dropped w.handed.finished.items) }
-{
-    thread::scope(
-        thread::scope_env(),
-        rt,
-        move |scope| -> Result<Worked<N>, Failure>
-            requires few { workers ≤ 16 }
-            requires known { All (λ a. a.worker < workers) arrivals.now }
-            ensures answers { IfOk result (λ w.
-                HaveAnswers desk.commands commands.items w.desk.commands w.answers.items) }
-            ensures handed { IfOk result (λ w. HandInArrivals workers arrivals.entry.now
-                w.handed.dropped w.handed.finished.items) }
-        {
-            let lines = start_all(rt, scope, alloc, shared, gate, workers)?;
-            lead(rt, alloc, shared, desk, lines, arrivals, commands)
-        },
-    )
-}
-
-/// Sends packets to workers, gives commands, and waits for the workers.
-fn lead<C: Offers + Drop, N: Naming + Send + Sync, W: Board<Cell<N>> + Drop, R: Threads + Wait>(
-    rt: &R,
-    alloc: Global,
-    shared: &Shared<C, N, W>,
-    desk: Desk<N>,
-    lines: Vec<WorkerRing<N>>,
-    arrivals: &[Arrival],
-    commands: Vec<Command>,
-) -> Result<Worked<N>, Failure>
-    requires few { vec_len lines ≤ 16 }
-    requires empty { All (λ line. line ≡ []) lines.items }
-    requires known { All (λ a. a.worker < vec_len lines) arrivals.now }
-    ensures answers { IfOk result (λ w.
-        HaveAnswers desk.commands commands.items w.desk.commands w.answers.items) }
-    ensures handed { IfOk result (λ w.
-        HandInArrivals (vec_len lines) arrivals.now w.handed.dropped w.handed.finished.items) }
-{
-    let mut desk = desk;
-    let mut lines = lines;
-    let answers = take_in(rt, alloc, shared, &mut desk, &mut lines, arrivals, commands)?;
-    let handed = close_all(rt, alloc, lines)?;
-    Ok(Worked {
-        desk,
-        answers,
-        handed,
-    })
 }
 
 /// Gathers what was handed in, which must also be compared with the journal: session and workers of a run store their
@@ -280,7 +202,7 @@ fn end<C: Offers + Drop, N: Naming, W: Board<Cell<N>> + Drop, R: Wait>(
     rt: &R,
     alloc: Global,
     shared: Shared<C, N, W>,
-    worked: Worked<N>,
+    worked: RunHandIns<N>,
 ) -> Result<Ended, Failure>
     requires { length worked.handed.finished.items ≤ 16 }
     ensures add_up { IfOk result (λ e.
@@ -291,12 +213,12 @@ fn end<C: Offers + Drop, N: Naming, W: Board<Cell<N>> + Drop, R: Wait>(
     ensures reports { IfOk result (λ e. e.reports.items ≡ reports_of e.totals.session.journal) }
     ensures lawful { IfOk result (λ e. Lawful e.totals.session.setting e.totals.session.journal) }
 {
-    let Worked {
+    let RunHandIns {
         desk,
         answers,
         handed,
     } = worked;
-    let Handed { finished, dropped } = handed;
+    let HandIns { finished, dropped } = handed;
     let totals = gather_all(rt, shared, desk, finished)?;
     let Ok(reports) = all_reports(alloc, &totals.session) else {
         return Err(Failure::NoMemory);

@@ -20,7 +20,7 @@ use std::thread;
 
 /// What a worker that left returns: what it hands in, its end of the ring, and how many packets it dropped.
 #[derive(Drop)]
-pub(crate) struct Left<N: Naming> {
+pub(crate) struct WorkerEnd<N: Naming> {
     pub(crate) finished: Finished<N>,
     pub(crate) consumer: Consumer<Header>,
     pub(crate) dropped: u64,
@@ -28,17 +28,17 @@ pub(crate) struct Left<N: Naming> {
     ghost handed: { HandsIn (received consumer) dropped finished },
 }
 
-impl<N: Naming> Left<N> {
+impl<N: Naming> WorkerEnd<N> {
     fn new(
         finished: Finished<N>,
         consumer: Consumer<Header>,
         dropped: u64,
         lacked_memory: bool,
-    ) -> Left<N>
+    ) -> WorkerEnd<N>
         requires { HandsIn (received consumer) dropped finished }
         ensures { result.consumer ≡ consumer }
     {
-        Left {
+        WorkerEnd {
             finished,
             consumer,
             dropped,
@@ -48,11 +48,13 @@ impl<N: Naming> Left<N> {
 }
 
 /// Hands the waiting rows over, and takes the newest table.
-fn hand_over<C: Detects + Drop, N: Naming, W: Board<Cell<N>> + Drop, G: Gate + Drop, R: Wait>(
-    rt: &R,
-    shared: &Shared<C, N, W>,
-    worker: &mut Worker<C, N, G>,
-) -> Result<(), FlushRefusal>
+fn flush_and_refresh<
+    C: Detects + Drop,
+    N: Naming,
+    W: Board<Cell<N>> + Drop,
+    G: Gate + Drop,
+    R: Wait,
+>(rt: &R, shared: &Shared<C, N, W>, worker: &mut Worker<C, N, G>) -> Result<(), FlushRefusal>
     ensures taken { taken worker.new ≡ taken worker.old }
     ensures waiting { OnOk result (worker.new.waiting ≡ []) }
 {
@@ -76,7 +78,7 @@ fn make_room<C: Detects + Drop, N: Naming, W: Board<Cell<N>> + Drop, G: Gate + D
     if worker.waiting().len() < MAX_WAITING {
         return Ok(());
     }
-    hand_over(rt, shared, worker)
+    flush_and_refresh(rt, shared, worker)
 }
 
 /// Takes a packet, for which there is room.
@@ -91,7 +93,7 @@ fn take<C: Detects + Drop, N: Naming, G: Gate + Drop>(worker: &mut Worker<C, N, 
 }
 
 /// Hands the waiting rows over while the ring is empty, or yields where none wait.
-fn rest<C: Detects + Drop, N: Naming, W: Board<Cell<N>> + Drop, G: Gate + Drop, R: Wait>(
+fn flush_or_yield<C: Detects + Drop, N: Naming, W: Board<Cell<N>> + Drop, G: Gate + Drop, R: Wait>(
     rt: &R,
     shared: &Shared<C, N, W>,
     worker: &mut Worker<C, N, G>,
@@ -102,7 +104,7 @@ fn rest<C: Detects + Drop, N: Naming, W: Board<Cell<N>> + Drop, G: Gate + Drop, 
         thread::yield_now();
         return Ok(());
     }
-    hand_over(rt, shared, worker)
+    flush_and_refresh(rt, shared, worker)
 }
 
 /// Takes the next packet of the ring, and hands rows over where 32 wait or the ring is empty. Returns whether the ring
@@ -125,7 +127,7 @@ fn serve_next<C: Detects + Drop, N: Naming, W: Board<Cell<N>> + Drop, G: Gate + 
             if gone {
                 return Ok(false);
             }
-            rest(rt, shared, worker)?;
+            flush_or_yield(rt, shared, worker)?;
         }
     }
     Ok(true)
@@ -203,13 +205,13 @@ fn drain_and_depart<N: Naming, R: Wait>(
     finished: Finished<N>,
     consumer: Consumer<Header>,
     lacked_memory: bool,
-) -> Left<N>
+) -> WorkerEnd<N>
     requires { HandsIn (received consumer) 0 finished }
     ensures { SameConsumer consumer result.consumer }
 {
     let mut consumer = consumer;
     let dropped = drain(rt, &mut consumer);
-    Left::new(finished, consumer, dropped, lacked_memory)
+    WorkerEnd::new(finished, consumer, dropped, lacked_memory)
 }
 
 /// A worker's work: it takes the packets of its ring till that ends, and leaves. After a refused flush it leaves at
@@ -219,7 +221,7 @@ pub(crate) fn work<C: Detects + Drop, N: Naming, W: Board<Cell<N>> + Drop, G: Ga
     shared: &Shared<C, N, W>,
     worker: Worker<C, N, G>,
     consumer: Consumer<Header>,
-) -> Left<N>
+) -> WorkerEnd<N>
     requires new { taken worker ≡ [] }
     requires first { received consumer ≡ [] }
     ensures { SameConsumer consumer result.consumer }

@@ -6,8 +6,8 @@ ghost use Rattle.pcef_gateway.specs.Serving.{HandsIn};
 ghost use Rattle.pcef_gateway.specs.Taking.{taken};
 
 use crate::fault::Failure;
-use crate::lent::Lent;
-use crate::serving::{Left, work};
+use crate::gate_ref::GateRef;
+use crate::serving::{WorkerEnd, work};
 use pcef_catalog::Detects;
 use pcef_lock::{Finished, Shared};
 use pcef_packet::Header;
@@ -31,7 +31,7 @@ pub(crate) struct SameRing {
     end: Snapshot<Consumer<Header>>,
 }
 
-impl<N: Naming> Promise<Left<N>> for SameRing {
+impl<N: Naming> Promise<WorkerEnd<N>> for SameRing {
     ghost kept_by = { λ p r. SameConsumer p.end.value r.consumer };
 }
 
@@ -39,7 +39,7 @@ impl<N: Naming> Promise<Left<N>> for SameRing {
 #[derive(Drop)]
 pub(crate) struct WorkerRing<N: Naming> {
     producer: Producer<Header>,
-    handle: PromisedHandle<Left<N>, SameRing>,
+    handle: PromisedHandle<WorkerEnd<N>, SameRing>,
 }
 
 impl<N: Naming> Model for WorkerRing<N> {
@@ -56,7 +56,7 @@ impl<N: Naming> Model for WorkerRing<N> {
 
 /// What a worker that left has handed in, and how many packets it dropped.
 #[derive(Drop)]
-pub(crate) struct Closed<N: Naming> {
+pub(crate) struct ClosedRing<N: Naming> {
     pub(crate) finished: Finished<N>,
     pub(crate) dropped: u64,
     pub(crate) lacked_memory: bool,
@@ -75,9 +75,9 @@ fn thread_of<
     rt: &'s R,
     scope: &Scope<'s, E>,
     shared: &'s Shared<C, N, W>,
-    worker: Worker<C, N, Lent<'s, G>>,
+    worker: Worker<C, N, GateRef<'s, G>>,
     consumer: Consumer<Header>,
-) -> Result<PromisedHandle<Left<N>, SameRing>, Failure>
+) -> Result<PromisedHandle<WorkerEnd<N>, SameRing>, Failure>
     requires new { taken worker ≡ [] }
     requires first { received consumer ≡ [] }
     ensures { IfOk result (λ handle. handle.promise.end.value ≡ consumer) }
@@ -85,7 +85,7 @@ fn thread_of<
     let promise = SameRing {
         end: Snapshot::of(&consumer),
     };
-    let job = move || -> Left<N>
+    let job = move || -> WorkerEnd<N>
         requires new { taken worker ≡ [] }
         requires first { received consumer ≡ [] }
         ensures { SameConsumer consumer result.consumer }
@@ -110,10 +110,10 @@ impl<N: Naming + Send + Sync> WorkerRing<N> {
         scope: &Scope<'s, E>,
         alloc: Global,
         shared: &'s Shared<C, N, W>,
-        worker: Worker<C, N, Lent<'s, G>>,
+        worker: Worker<C, N, GateRef<'s, G>>,
     ) -> Result<WorkerRing<N>, Failure>
         requires { taken worker ≡ [] }
-        ensures { IfOk result (λ line. line ≡ []) }
+        ensures { IfOk result (λ ring. ring ≡ []) }
     {
         match RingBuffer::new(alloc, PLACES) {
             Ok((producer, consumer)) => match thread_of(rt, scope, shared, worker, consumer) {
@@ -141,14 +141,14 @@ impl<N: Naming + Send + Sync> WorkerRing<N> {
     }
 
     /// Ends the ring, and waits for the worker to leave.
-    pub(crate) fn close<R: Threads>(self, rt: &R) -> Result<Closed<N>, Failure>
+    pub(crate) fn close<R: Threads>(self, rt: &R) -> Result<ClosedRing<N>, Failure>
         ensures { IfOk result (λ c. HandsIn self c.dropped c.finished) }
     {
         let WorkerRing { producer, handle } = self;
         let Some(mut ended) = producer.finish() else {
             return Err(Failure::Ring);
         };
-        let Left {
+        let WorkerEnd {
             finished,
             mut consumer,
             dropped,
@@ -157,7 +157,7 @@ impl<N: Naming + Send + Sync> WorkerRing<N> {
         if consumer.slots_after(&mut ended) > 0 {
             return Err(Failure::Ring);
         }
-        Ok(Closed {
+        Ok(ClosedRing {
             finished,
             dropped,
             lacked_memory,

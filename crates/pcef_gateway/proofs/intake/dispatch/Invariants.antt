@@ -1,7 +1,7 @@
 use Rattle.std.specs.Prelude.{◌≡◌, ◌++◌, ◌<◌, ℕ, [], take, length, slice_index_or}
 use Rattle.pcef_gateway.specs.Arriving.{headers_for}
-use Rattle.pcef_gateway.proofs.intake.feed.Given as goal
+use Rattle.pcef_gateway.proofs.intake.dispatch.Given as goal
 
 abbrev pub invariant-loop-arrival : goal.invariant-loop-arrival
 invariant-loop-arrival g l =
-    (w : ℕ) → w < length l.lines → slice_index_or l.lines w [] ≡ slice_index_or l.initial.lines w [] ++ headers_for w (take l.arrival-index l.arrivals)
+    (w : ℕ) → w < length l.rings → slice_index_or l.rings w [] ≡ slice_index_or l.initial.rings w [] ++ headers_for w (take l.arrival-index l.arrivals)
