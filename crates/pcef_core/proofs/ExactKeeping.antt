@@ -1,9 +1,12 @@
 -- What a session keeps is exact where its parts are as its calls say.
-use Rattle.std.proofs.Common.{◌≡◌, ◌+◌, ℕ, List, [], ◌∷◌, subst, sym}
+use Rattle.std.proofs.Common.{◌≡◌, ◌+◌, ℕ, List, [], ◌∷◌, ap, map, refl, subst, sym}
 use Rattle.std.specs.List.{AllByRecursion}
 use Rattle.pcef_bearer.specs.Bindings.{Binding, IsBinding}
-use Rattle.pcef_bearer.specs.Standing.{binding_of}
+use Rattle.pcef_bearer.specs.Standing.{binding_of, bound_of}
+use Rattle.pcef_bearer.specs.declared.bearers.Bound.{Bound}
+use Rattle.pcef_model.specs.ActiveRules.{Active}
 use Rattle.pcef_model.specs.Entries.{Journal}
+use Rattle.pcef_model.specs.Generations.{Generation}
 use Rattle.pcef_model.specs.Journals.{counted, gen, now, reported}
 use Rattle.pcef_model.specs.Lawful.{Lawful}
 use Rattle.pcef_model.specs.Setting.{Setting}
@@ -16,9 +19,14 @@ use Rattle.pcef_table.specs.Tables.{TableValue}
 use Rattle.pcef_usage.specs.declared.usage.KeyState.{KeyState}
 use Rattle.pcef_core.specs.Keeping.{SessionIsExact}
 
-told_of : (p : Setting) (j : Journal) (keys : List KeyState) → AllByRecursion (KeyAgrees p j) keys → AllByRecursion (λ (k : KeyState). k.reported ≡ reported j k.key) keys
-told_of p j [] agree = tt
-told_of p j (k ∷ keys) agree = (agree.0.reported_is, told_of p j keys agree.1)
+-- the bound rules are those of the generation
+names_bound : (g : Generation) (rules : List Active) → map (λ (b : Bound). b.name) (bound_of g rules) ≡ map (λ (r : Active). r.properties.name) rules
+names_bound g [] = refl
+names_bound g (r ∷ rules) = ap (λ names. r.properties.name ∷ names) (names_bound g rules)
+
+reported_of : (p : Setting) (j : Journal) (keys : List KeyState) → AllByRecursion (KeyAgrees p j) keys → AllByRecursion (λ (k : KeyState). k.reported ≡ reported j k.key) keys
+reported_of p j [] agree = tt
+reported_of p j (k ∷ keys) agree = (agree.0.reported_is, reported_of p j keys agree.1)
 
 octets_of : (p : Setting) (j : Journal) (keys : List KeyState) → AllByRecursion (KeyAgrees p j) keys
     → AllByRecursion (λ (k : KeyState). k.reported + k.unreported ≡ counted p j k.key) keys
@@ -30,13 +38,14 @@ exact_binding : (p : Setting) (j : Journal) (rules : List (List ℕ × Source)) 
     → SessionIsExact p (record { journal = j; rules = rules; binding = binding_of p (now p j); keys = keys; table = t })
 exact_binding p j rules keys t lawful active is agree shows = record {
   rules_are = active;
+  bound_are = names_bound (now p j) (now p j).rules;
   bound = stands_on p j;
   shared = is.pairs;
   sums = sums_are p j lawful;
   within_up = is.within_up;
   within_down = is.within_down;
   keys_are = agree.keys_are;
-  reported_octets = told_of p j keys agree.usage_is;
+  reported_octets = reported_of p j keys agree.usage_is;
   octets = octets_of p j keys agree.usage_is;
   judged = rows_have_verdicts p j lawful;
   table_is = shows;
@@ -45,8 +54,8 @@ exact_binding p j rules keys t lawful active is agree shows = record {
 pub exact : (p : Setting) (j k : Journal) (rules : List (List ℕ × Source)) (v : Binding) (keys : List KeyState) (t : TableValue) → k ≡ j → Lawful p j → AreKept p.catalog rules (now p j).rules
     → v ≡ binding_of p (now p j) → IsBinding v → KeysAgree p j keys → Shows p j (gen j) t
     → SessionIsExact p (record { journal = k; rules = rules; binding = v; keys = keys; table = t })
-exact p j k rules v keys t reported_octets lawful active standing is agree shows =
+exact p j k rules v keys t same_journal lawful active standing is agree shows =
     let own : IsBinding (binding_of p (now p j)) = subst IsBinding standing is in
-    subst (λ (i : Journal). SessionIsExact p (record { journal = i; rules = rules; binding = v; keys = keys; table = t })) (sym reported_octets)
+    subst (λ (i : Journal). SessionIsExact p (record { journal = i; rules = rules; binding = v; keys = keys; table = t })) (sym same_journal)
     (subst (λ (b : Binding). SessionIsExact p (record { journal = j; rules = rules; binding = b; keys = keys; table = t })) (sym standing)
     (exact_binding p j rules keys t lawful active own agree shows))

@@ -1,4 +1,5 @@
--- What a session keeps, and when it is exact: the one statement that all others serve.
+-- What a session keeps, and when its rules, bearers and octets are exact: the one statement that all others serve. What
+-- a key's level and grant are, and whether it is on, `KeysAgree` says.
 use Rattle.std.specs.Prelude.{ℕ, ◌≡◌, ◌≤◌, ◌+◌, true, List, Some, AllPairs, Contains, map}
 use Rattle.std.specs.List.{AllByRecursion}
 use Rattle.pcef_rule.specs.declared.quantity.Qos.{Qos}
@@ -28,12 +29,14 @@ pub record KeptBySession : Type 0 where
 pub record SessionIsExact (p : Setting) (s : KeptBySession) : Type 0 where
   -- the active rules are those of the journal's newest generation
   pub rules_are : AreKept p.catalog s.rules (now p s.journal).rules
-  -- each of them is bound to one bearer, that of its QCI and ARP (TS 23.203, clause 6.1.1.4)
+  -- these are the bound rules, each once, and no other is bound
+  pub bound_are : map (λ b. b.name) s.binding.bound ≡ map (λ r. r.properties.name) (now p s.journal).rules
+  -- each is bound to one bearer, that of its QCI and ARP (TS 23.203, clause 6.1.1.4)
   pub bound : (r : Active) → Contains (now p s.journal).rules r →
       bearer_of r.properties.name s.binding.bound ≡ Some (record { 0 = (now p s.journal).id_of r.properties.qos })
   -- two rules are on one bearer exactly where they have the same QCI and ARP
   pub shared : AllPairs Agree s.binding.bound
-  -- a bearer guarantees the exact sums over the active rules with its QCI and ARP
+  -- a bearer guarantees the exact sums of the rates of the active rules with its QCI and ARP
   pub sums : (q : Qos) → has_bearer p (now p s.journal).rules q ≡ true →
       guaranteed ((now p s.journal).id_of q) s.binding.bound ≡ Some (rate_of (now p s.journal) q)
   -- all rates together are within the capacity
@@ -41,11 +44,11 @@ pub record SessionIsExact (p : Setting) (s : KeptBySession) : Type 0 where
   pub within_down : total_down s.binding.bound ≤ p.capacity.down
   -- the keys are those that were ever named, in the order of their first naming
   pub keys_are : map (λ k. k.key) s.keys ≡ slots p s.journal
-  -- the reported octets of each are those of the journal's reports; with the unreported ones they are those that its
-  -- packet rows passed for the key, each row by its own generation (TS 29.212, clause 4.5.16)
+  -- the reported octets of each are those of the journal's reports; with the unreported ones they are those of the packet
+  -- rows that count for the key, each row by its own generation (TS 29.212, clause 4.5.16)
   pub reported_octets : AllByRecursion (λ k. k.reported ≡ reported s.journal k.key) s.keys
   pub octets : AllByRecursion (λ k. k.reported + k.unreported ≡ counted p s.journal k.key) s.keys
   -- each row has the verdict of its own generation
   pub judged : AllByRecursion (HasItsVerdict p s.journal) (rows s.journal)
-  -- the table judges as the newest generation
+  -- the table shows the newest generation, and so judges and counts as that does
   pub table_is : Shows p s.journal (gen s.journal) s.table
