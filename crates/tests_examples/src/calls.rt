@@ -151,11 +151,11 @@ pub(crate) fn answer_list<W: Write>(
     writer: &mut W,
 ) -> io::Result<()> {
     let spare = Arc::try_clone(&catalog)?;
-    let told = match list_commands(alloc, catalog, profile, script) {
-        Ok(told) => told,
+    let figures = match list_commands(alloc, catalog, profile, script) {
+        Ok(figures) => figures,
         Err(_) => list_commands(alloc, spare, profile, script)?,
     };
-    let [steps, generation, rows, reports, reported, unreported] = told;
+    let [steps, generation, rows, reports, reported, unreported] = figures;
     writeln!(
         writer,
         "steps {steps} generation {generation} rows {rows} reports {reports} octets reported {reported} not {unreported}"

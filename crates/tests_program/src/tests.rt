@@ -8,6 +8,7 @@ mod closures;
 mod corners;
 mod declared_script;
 mod ends;
+mod failing;
 mod finishing;
 mod fronts;
 mod live;

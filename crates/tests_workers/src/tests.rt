@@ -44,7 +44,7 @@ const NO_MEMORY: u64 = u64::MAX - 1;
 
 /// The first step with other numbers than its row in the table has, and these numbers; and the numbers at the end of
 /// the scenario, as [`gathering::ending`] says.
-type Told = (Option<(usize, Seen)>, [u64; 7]);
+type Outcome = (Option<(usize, Seen)>, [u64; 7]);
 
 /// What happens next, and its numbers, zeros after them. Of the attached workers one acts, the one attached last. A
 /// step whose name ends in `AtLast` is made once more where it finds no memory, if that left all as it was.
@@ -108,7 +108,7 @@ enum Step {
 /// What happens, each with its numbers.
 type Table<'a> = &'a [(Step, Seen)];
 
-fn tell_to_the_end<
+fn play_to_the_end<
     C: Detects + Drop + Send + Sync,
     N: Naming + Send + Sync,
     W: Board<Cell<N>> + Drop + Send,
@@ -120,14 +120,14 @@ fn tell_to_the_end<
     desk: Desk<N>,
     install: &Command,
     table: Table<'_>,
-) -> Told {
+) -> Outcome {
     let mut desk = desk;
-    let (difference, left) = tell_till_all_left(rt, alloc, &shared, &mut desk, install, table);
+    let (difference, left) = play_till_all_left(rt, alloc, &shared, &mut desk, install, table);
     (difference, gathering::ending(rt, shared, desk, left))
 }
 
 // The first step with other numbers, and what the workers handed in.
-fn tell_till_all_left<
+fn play_till_all_left<
     C: Detects + Drop + Send + Sync,
     N: Naming + Send + Sync,
     W: Board<Cell<N>> + Drop + Send,

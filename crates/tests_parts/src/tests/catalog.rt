@@ -186,16 +186,16 @@ fn place_in(catalog: &Catalog, name: &RuleName) -> Place {
 
 #[test]
 fn no_rules(rt: HostRuntime) {
-    expect_equal(&rt, &told_of_no_rules(rt.alloc()), &Some((0, 0, None)));
+    expect_equal(&rt, &facts_of_no_rules(rt.alloc()), &Some((0, 0, None)));
 }
 
-fn told_of_no_rules(alloc: Global) -> Option<(usize, usize, Option<u8>)> {
+fn facts_of_no_rules(alloc: Global) -> Option<(usize, usize, Option<u8>)> {
     let catalog = Catalog::new(alloc, Vec::new(alloc)).ok()?;
-    told_of(&catalog)
+    facts_of(&catalog)
 }
 
 /// How many offers a catalog has, how many a share of its listing has, and the place of a name.
-fn told_of(catalog: &Catalog) -> Option<(usize, usize, Option<u8>)> {
+fn facts_of(catalog: &Catalog) -> Option<(usize, usize, Option<u8>)> {
     let shared = catalog.listing().share().ok()?;
     Some((
         catalog.listing().offers().len(),
@@ -269,13 +269,13 @@ fn asked(catalog: &Catalog, calls: &AtomicU64, index: u8, header: &Header) -> (b
 fn a_listing_has_the_shape_and_no_closure(rt: HostRuntime) {
     expect_equal(
         &rt,
-        &told_of_a_rule(rt.alloc()),
+        &facts_of_a_rule(rt.alloc()),
         &Some(([true, true, true, false], [Some([true, true, false]); 2])),
     );
 }
 
 /// What a rule says of itself, and what a listing says of it.
-fn told_of_a_rule(alloc: Global) -> Option<([bool; 4], [Option<[bool; 3]>; 2])> {
+fn facts_of_a_rule(alloc: Global) -> Option<([bool; 4], [Option<[bool; 3]>; 2])> {
     let detect: Detect = Box::new(
         alloc,
         |h: &Header| -> bool
@@ -284,11 +284,11 @@ fn told_of_a_rule(alloc: Global) -> Option<([bool; 4], [Option<[bool; 3]>; 2])> 
     )
     .ok()?;
     let rule = Predefined::new(named(RuleName::known("voice")), one(Test::Dscp(46)), detect);
-    Some((told_by_rule(&rule), told_by_listing(alloc, &rule)?))
+    Some((answers_of_rule(&rule), answers_of_listing(alloc, &rule)?))
 }
 
 /// Whether a rule has its name, whether its shape holds, and whether its closure detects two packets.
-fn told_by_rule(rule: &Predefined) -> [bool; 4] {
+fn answers_of_rule(rule: &Predefined) -> [bool; 4] {
     [
         rule.properties().name.as_str() == "voice",
         rule.shape().holds(&DNS_ANSWER),
@@ -298,7 +298,7 @@ fn told_by_rule(rule: &Predefined) -> [bool; 4] {
 }
 
 /// What a listing says of a rule, and what a share of the listing says of it.
-fn told_by_listing(alloc: Global, rule: &Predefined) -> Option<[Option<[bool; 3]>; 2]> {
+fn answers_of_listing(alloc: Global, rule: &Predefined) -> Option<[Option<[bool; 3]>; 2]> {
     let listing = listing_of(alloc, rule)?;
     let shared = listing.share().ok()?;
     Some([only(listing.offers()), only(shared.listing().offers())])

@@ -217,8 +217,8 @@ fn seen_around_the_grant(
     reach_the_grant(rt, counted)?;
     let after = seen(counted);
     let slot = counted.usage().find(&audio());
-    let is_told = is_first_report(counted, video(), 100, Cause::Threshold);
-    Ok((before, after, slot, is_told))
+    let is_reported = is_first_report(counted, video(), 100, Cause::Threshold);
+    Ok((before, after, slot, is_reported))
 }
 
 /// The same of a new journal.
@@ -260,9 +260,9 @@ fn seen_around_the_loss(
     let before = counted.journal().reports_len();
     lose_rules(rt, counted, &audio())?;
     let lost = seen(counted);
-    let is_told = is_first_report(counted, audio(), 28, Cause::RulesGone);
+    let is_reported = is_first_report(counted, audio(), 28, Cause::RulesGone);
     report_thresholds(counted, true)?;
-    Ok((before, lost, is_told, counted.journal().reports_len()))
+    Ok((before, lost, is_reported, counted.journal().reports_len()))
 }
 
 /// The same of a new journal.
@@ -443,13 +443,13 @@ fn switched_and_counted(
     count(rt, usage, Slot(1), 60);
     count(rt, usage, Slot(1), 7);
     let counted = figures(rt, usage, Slot(1));
-    let told = take_report(rt, usage, Slot(1));
+    let octets_taken = take_report(rt, usage, Slot(1));
     count(rt, usage, Slot(1), 3);
     let reported = figures(rt, usage, Slot(1));
     stop(rt, usage, Slot(1));
     let off = figures(rt, usage, Slot(1));
     let other = figures(rt, usage, Slot(0));
-    ([new, counted, reported, off], other, told)
+    ([new, counted, reported, off], other, octets_taken)
 }
 
 #[test]

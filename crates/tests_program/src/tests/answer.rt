@@ -14,7 +14,7 @@ use std::alloc::{AllocError, Global};
 use std::test::Fail;
 
 /// A journal with a report of each kind.
-fn told(alloc: Global) -> Result<Journal, Fail>
+fn journal_of_each_report(alloc: Global) -> Result<Journal, Fail>
     ensures { IfOk result (λ j. j.forgotten ≡ 0) }
 {
     let mut journal = Journal::new(alloc);
@@ -58,8 +58,8 @@ fn text_of(
 
 /// Whether what was answered to a step in the second generation, without a report, has this text.
 fn has_text(alloc: Global, answer: &StepAnswer, text: &str) -> Result<bool, AllocError> {
-    let told = step_answer(alloc, &Journal::new(alloc), 2, answer)?;
-    Ok(told.as_str() == text)
+    let outcome = step_answer(alloc, &Journal::new(alloc), 2, answer)?;
+    Ok(outcome.as_str() == text)
 }
 
 // No script reaches this: it answers NoWorker before it asks the session.
@@ -75,9 +75,9 @@ fn answers_to_flushes_of_nobody(rt: HostRuntime) -> Result<(), AllocError> {
 
 /// Whether a flush that was answered so, after three reports, has this text.
 fn is_flushed_so(alloc: Global, verdicts: Verdicts, text: &str) -> Result<bool, Fail> {
-    let journal = told(alloc)?;
-    let told = text_of(alloc, &journal, 2, &StepAnswer::Flush(Ok(verdicts)))?;
-    Ok(told.as_str() == text)
+    let journal = journal_of_each_report(alloc)?;
+    let outcome = text_of(alloc, &journal, 2, &StepAnswer::Flush(Ok(verdicts)))?;
+    Ok(outcome.as_str() == text)
 }
 
 /// The answer to a flush with three reports and a row of each verdict.

@@ -152,7 +152,7 @@ const REFRESH: &str = "{\"do\":\"refresh\",\"worker\":0}";
 const TAKE: &str =
     "{\"do\":\"take\",\"worker\":0,\"dir\":\"down\",\"packet\":\"4500001c0000000040110000c63364070a0000020035138800080000\"}";
 
-/// The same packet with the DSCP 46.
+/// The same packet from port 54, with the DSCP 46.
 const TAKE_EXPEDITED: &str =
     "{\"do\":\"take\",\"worker\":0,\"dir\":\"down\",\"packet\":\"45b8001c0000000040110000c63364070a0000020036138800080000\"}";
 

@@ -24,22 +24,22 @@ fn after_monitor(
 ) -> Option<([u64; 4], Option<Refusal>)> {
     let mut session = Session::open(alloc, profile, catalog).ok()?;
     let accepted = session.command(monitor()).ok()?;
-    let told = [
+    let outcome = [
         u64::from(accepted.generation),
         u64::from(session.generation()),
         session.usage().states().len() as u64,
         session.journal().commands_len(),
     ];
     let unknown = session.command(Command::Activate(RuleName::known("pre-dns")));
-    Some((told, unknown.err()))
+    Some((outcome, unknown.err()))
 }
 
 #[test]
 fn commands_of_a_session(rt: HostRuntime) -> Result<(), Fail> {
     let profile = read_profile(rt.alloc(), PROFILE)?;
     let catalog = Arc::new(rt.alloc(), Catalog::new(rt.alloc(), Vec::new(rt.alloc()))?)?;
-    let told = after_monitor(rt.alloc(), profile, catalog);
-    expect_equal(&rt, &told, &Some(([1; 4], Some(Refusal::UnknownRule))));
+    let outcome = after_monitor(rt.alloc(), profile, catalog);
+    expect_equal(&rt, &outcome, &Some(([1; 4], Some(Refusal::UnknownRule))));
     Ok(())
 }
 
@@ -85,10 +85,10 @@ fn workers_of_a_session(rt: HostRuntime) -> Result<(), Fail> {
     let none = Batch::new(rt.alloc())?;
     let profile = read_profile(rt.alloc(), PROFILE)?;
     let catalog = Arc::new(rt.alloc(), Catalog::new(rt.alloc(), Vec::new(rt.alloc()))?)?;
-    let told = with_two_workers(rt.alloc(), profile, catalog, &none);
+    let outcome = with_two_workers(rt.alloc(), profile, catalog, &none);
     expect_equal(
         &rt,
-        &told,
+        &outcome,
         &Some((Some(FlushRefusal::NotAttached), 0, 1, 0)),
     );
     Ok(())

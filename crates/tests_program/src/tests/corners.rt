@@ -213,8 +213,8 @@ fn blank_line(alloc: Global, blanks: u32) -> Result<String, Fail> {
 
 /// Whether a script has these answers, `faults` of which are faults.
 fn is_answered(alloc: Global, script: &str, answers: &str, faults: u64) -> Result<bool, Fail> {
-    let (text, told) = run(alloc, PROFILE, script)?;
-    Ok(text.as_str() == answers && told == faults)
+    let (text, any_faults) = run(alloc, PROFILE, script)?;
+    Ok(text.as_str() == answers && any_faults == faults)
 }
 
 #[test]

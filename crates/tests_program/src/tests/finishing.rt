@@ -69,7 +69,7 @@ fn two_rows(alloc: Global) -> Result<Batch, AllocError>
 
 /// How many verdicts were given, whether each is of an unmatched packet by the first table, and the numbers of the
 /// first report and of the one past the last.
-fn told(verdicts: &Verdicts) -> (usize, bool, u64, u64) {
+fn figures_of(verdicts: &Verdicts) -> (usize, bool, u64, u64) {
     let unmatched = Judged {
         generation: 0,
         verdict: Verdict::Unmatched,
@@ -133,7 +133,7 @@ fn finished(
     let again = session.finish(0, none).err();
     Ok(Ending {
         worker,
-        verdicts: told(&verdicts),
+        verdicts: figures_of(&verdicts),
         lane,
         again,
         rows: session.journal().rows_len(),

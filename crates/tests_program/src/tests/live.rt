@@ -17,7 +17,6 @@ use std::thread::Threads;
 struct Terminal {
     given: u64,
     flushed: Rc<Cell<u64>>,
-    can_flush: bool,
 }
 
 impl Write for Terminal {
@@ -27,9 +26,6 @@ impl Write for Terminal {
     }
 
     fn flush(&mut self) -> io::Result<()> {
-        if !self.can_flush {
-            return Err(io::Error::from(io::ErrorKind::Other));
-        }
         self.flushed.set(self.given);
         Ok(())
     }
@@ -64,11 +60,7 @@ impl Read for Asking {
 }
 
 /// The exit status for who asks, the number of lines that were read, and what was said of faults.
-fn ask<T: Threads + Wait + Sync>(
-    rt: &T,
-    alloc: Global,
-    can_flush: bool,
-) -> Result<(u8, u64, String), Fail> {
+fn ask<T: Threads + Wait + Sync>(rt: &T, alloc: Global) -> Result<(u8, u64, String), Fail> {
     let words = octets(alloc, &["script", "profile.toml"])?;
     let profiles = [Ok(String::from_str(alloc, PROFILE)?)];
     let flushed = Rc::new(alloc, Cell::new(0u64))?;
@@ -76,11 +68,7 @@ fn ask<T: Threads + Wait + Sync>(
         lines: 0,
         flushed: flushed.clone()?,
     };
-    let mut output = Terminal {
-        given: 0,
-        flushed,
-        can_flush,
-    };
+    let mut output = Terminal { given: 0, flushed };
     let mut faults = Vec::new(alloc);
     let status = program_on(
         rt,
@@ -96,16 +84,8 @@ fn ask<T: Threads + Wait + Sync>(
 
 #[test]
 fn who_waits_for_an_answer_gets_it(rt: HostRuntime) -> Result<(), Fail> {
-    let (status, lines, faults) = ask(&rt, rt.alloc(), true)?;
+    let (status, lines, faults) = ask(&rt, rt.alloc())?;
     expect_equal(&rt, &(status, lines), &(1, 3));
     expect_equal(&rt, &faults.as_str(), &"");
-    Ok(())
-}
-
-#[test]
-fn a_flush_that_fails_is_a_write_fault(rt: HostRuntime) -> Result<(), Fail> {
-    let (status, lines, faults) = ask(&rt, rt.alloc(), false)?;
-    expect_equal(&rt, &(status, lines), &(4, 1));
-    assert!(rt; faults.as_str().starts_with("write fault\n"));
     Ok(())
 }

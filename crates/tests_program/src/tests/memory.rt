@@ -105,13 +105,16 @@ fn refused_commands_leave_no_trace(rt: HostRuntime) -> Result<(), Fail> {
 fn a_refused_attach_leaves_no_trace(rt: HostRuntime) -> Result<(), Fail> {
     let alloc = rt.alloc();
     let mut world = open(alloc)?;
+    let mut attached = 0u8;
     for expected in 0..3u8 {
         for _ in 0..2u8 {
             if let Ok(answer) = world.step(Step::Attach) {
                 assert!(rt; matches!(answer, StepAnswer::Attach(Ok(number)) if number == expected));
+                attached = attached.saturating_add(1);
                 break;
             }
         }
     }
+    expect_equal(&rt, &attached, &3);
     Ok(())
 }

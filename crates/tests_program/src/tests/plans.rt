@@ -1,11 +1,11 @@
 //! Plans of inputs, whose lines were counted by hand.
 
+use super::failing::FailingInput;
 use crate::tests::expect_equal;
 use pcef_line::{Field, LineFault};
 use pcef_model::Command;
 use pcef_run::{FirstUnfit, Plan, PlanFault, Unfit, read_plan};
 use std::alloc::Global;
-use std::io::{self, ErrorKind, Read};
 use std::test::Fail;
 
 const MONITOR: &str = "{\"do\":\"monitor\",\"key\":\"vid\",\"grant\":1000}\n";
@@ -119,29 +119,9 @@ fn each_reason_has_its_name(rt: HostRuntime) -> Result<(), Fail> {
     Ok(())
 }
 
-/// Gives `left` bytes of a line, one at a time, and then fails.
-#[derive(Drop)]
-struct Failing {
-    left: usize,
-}
-
-impl Read for Failing {
-    fn read(&mut self, buf: &mut [u8]) -> io::Result<usize> {
-        if self.left == 0 {
-            return Err(io::Error::from(ErrorKind::Other));
-        }
-        if buf.is_empty() {
-            return Ok(0);
-        }
-        self.left -= 1;
-        buf[0] = b' ';
-        Ok(1)
-    }
-}
-
 #[test]
-fn a_reader_that_fails_is_told(rt: HostRuntime) -> Result<(), Fail> {
-    let mut reader = Failing { left: 3 };
+fn a_reader_that_fails_is_reported(rt: HostRuntime) -> Result<(), Fail> {
+    let mut reader = FailingInput { left: 3 };
     expect_equal(
         &rt,
         &read_plan(rt.alloc(), &mut reader, 1).err(),

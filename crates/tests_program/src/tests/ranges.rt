@@ -111,13 +111,13 @@ fn is_taken<T: Threads + Wait + Sync>(rt: &T, alloc: Global, profile: &str) -> R
 }
 
 /// Whether this profile is at fault, and this is said of it.
-fn is_told<T: Threads + Wait + Sync>(
+fn is_reported<T: Threads + Wait + Sync>(
     rt: &T,
     alloc: Global,
     profile: &str,
-    told: &str,
+    expected: &str,
 ) -> Result<bool, Fail> {
-    let said = format!(in alloc; "profile fault 4\nBadValue: {told} is expected\n")?;
+    let said = format!(in alloc; "profile fault 4\nBadValue: {expected} is expected\n")?;
     let due = (1, "", said.as_str());
     ends_so(rt, alloc, SCRIPT, Some(profile), "x", due)
 }
@@ -130,9 +130,12 @@ fn each_number_of_a_profile_has_its_range(rt: HostRuntime) -> Result<(), Fail> {
         let profile = with(alloc, text, other)?;
         assert!(rt; is_taken(&rt, alloc, profile.as_str())?, "{other}");
     }
-    for &(text, other, told) in &BEYOND {
+    for &(text, other, expected) in &BEYOND {
         let profile = with(alloc, text, other)?;
-        assert!(rt; is_told(&rt, alloc, profile.as_str(), told)?, "{told}");
+        assert!(rt;
+            is_reported(&rt, alloc, profile.as_str(), expected)?,
+            "{expected}"
+        );
     }
     Ok(())
 }

@@ -2,6 +2,7 @@
 
 ghost use Rattle.std.specs.Prelude.{[], reverse};
 
+use super::failing::{FailingInput, FullOutput};
 use super::program::{octets, program_on, run};
 use crate::tests::expect_equal;
 use crate::tests::scripts::{PROFILE, script_of};
@@ -12,7 +13,6 @@ use pcef_program::{Arguments, Environment, run_program};
 use pcef_run::Taken;
 use pcef_trigger::{Answer, Outlet, ReportKind, Reporter};
 use std::alloc::Global;
-use std::io;
 use std::io::{Read, Write};
 use std::sync::{Arc, Wait};
 use std::test::Fail;
@@ -212,7 +212,7 @@ static UNFIT: [(&str, &str, &str); 13] = [
 ];
 
 #[test]
-fn the_first_unfit_line_is_told(rt: HostRuntime) -> Result<(), Fail> {
+fn the_first_unfit_line_is_reported(rt: HostRuntime) -> Result<(), Fail> {
     for &(workers, line, said) in &UNFIT {
         let lines = [INSTALL, "", FIRST, line, "x"];
         let (status, wrote, got) = run_lines(&rt, rt.alloc(), workers, &lines)?;
@@ -259,37 +259,6 @@ fn a_session_that_was_closed_before_its_packets(rt: HostRuntime) -> Result<(), F
     Ok(())
 }
 
-/// Fails after a blank.
-#[derive(Drop)]
-struct Failing {
-    is_given: bool,
-}
-
-impl Read for Failing {
-    fn read(&mut self, buf: &mut [u8]) -> io::Result<usize> {
-        if self.is_given || buf.is_empty() {
-            return Err(io::Error::from(io::ErrorKind::Other));
-        }
-        self.is_given = true;
-        buf[0] = b' ';
-        Ok(1)
-    }
-}
-
-/// Takes nothing.
-#[derive(Drop)]
-struct Full;
-
-impl Write for Full {
-    fn write(&mut self, _bytes: &[u8]) -> io::Result<usize> {
-        Ok(0)
-    }
-
-    fn flush(&mut self) -> io::Result<()> {
-        Ok(())
-    }
-}
-
 /// The status of a run of one worker from this input to this output, and whether this is said first.
 fn run_between<T: Threads + Wait + Sync, R: Read, W: Write>(
     rt: &T,
@@ -309,10 +278,10 @@ fn run_between<T: Threads + Wait + Sync, R: Read, W: Write>(
 fn ends_of_a_run_that_fail(rt: HostRuntime) -> Result<(), Fail> {
     let alloc = rt.alloc();
     let mut written = Vec::new(alloc);
-    let mut failing = Failing { is_given: false };
+    let mut failing = FailingInput { left: 1 };
     let unread = run_between(&rt, alloc, &mut failing, &mut written, "read fault\n")?;
     let mut input = "".as_bytes();
-    let unwritten = run_between(&rt, alloc, &mut input, &mut Full, "write fault\n")?;
+    let unwritten = run_between(&rt, alloc, &mut input, &mut FullOutput, "write fault\n")?;
     expect_equal(
         &rt,
         &(written.len(), unread, unwritten),

@@ -21,9 +21,9 @@ fn seen_of<C: Detects + Drop, N: Naming, W: Board<Cell<N>> + Drop, R: Wait>(
     worker: &mut Worker<C, N, OpenGate>,
     step: Step,
 ) -> Seen {
-    let told = done(rt, shared, worker, step);
+    let outcome = done(rt, shared, worker, step);
     [
-        told,
+        outcome,
         worker.waiting().len() as u64,
         worker.handed_over(),
         u64::from(worker.generation()),

@@ -66,13 +66,13 @@ pub fn asked_around_a_flush<
 ) -> Seen {
     let halts = Halts::new();
     let gate = HoldsTwice { halts: &halts };
-    let (told, left) = join(
+    let (outcome, left) = join(
         rt,
         || asked_twice(rt, shared, desk, install, gate),
         || left_after_a_row(rt, alloc, shared, gate),
     );
     rows_kept(workers, left);
-    told
+    outcome
 }
 
 fn asked_twice<C: Offers + Drop, N: Naming, W: Board<Cell<N>> + Drop, R: Wait>(

@@ -136,15 +136,15 @@ fn handed_in<C: Detects + Drop, N: Naming>(workers: &Workers<C, N>, number: usiz
 
 // How many rows of a lane are in order, and the octets of the first three.
 fn octets_in_order(items: &[Item]) -> Seen {
-    let mut told = [0; 4];
+    let mut outcome = [0; 4];
     for (number, item) in items.iter().enumerate() {
         if item.row.seq != number as u64 {
-            return told;
+            return outcome;
         }
-        told[0] = told[0].saturating_add(1);
+        outcome[0] = outcome[0].saturating_add(1);
         if number < 3 {
-            told[number + 1] = u64::from(item.row.header.octets);
+            outcome[number + 1] = u64::from(item.row.header.octets);
         }
     }
-    told
+    outcome
 }

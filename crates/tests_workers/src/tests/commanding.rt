@@ -85,29 +85,29 @@ fn collected<C: Offers + Drop, N: Naming, W: Board<Cell<N>> + Drop, R: Wait>(
     cause: Cause,
 ) -> Seen {
     match desk.collect(rt, shared) {
-        Ok(reports) => told_of(reports.as_slice(), cause),
+        Ok(reports) => outcome_of(reports.as_slice(), cause),
         Err(_) => refused(true),
     }
 }
 
 // How many of these reports are of the usage of the key for this cause, the number and the octets of the last of them,
 // and how many others there are.
-fn told_of(reports: &[Report], cause: Cause) -> Seen {
-    let mut told = [0; 4];
+fn outcome_of(reports: &[Report], cause: Cause) -> Seen {
+    let mut outcome = [0; 4];
     for report in reports {
-        add_to(&mut told, report, cause);
+        add_to(&mut outcome, report, cause);
     }
-    told
+    outcome
 }
 
-fn add_to(told: &mut Seen, report: &Report, cause: Cause) {
+fn add_to(outcome: &mut Seen, report: &Report, cause: Cause) {
     match octets_of(report, cause) {
         Some(octets) => {
-            told[0] = told[0].saturating_add(1);
-            told[1] = report.number;
-            told[2] = octets;
+            outcome[0] = outcome[0].saturating_add(1);
+            outcome[1] = report.number;
+            outcome[2] = octets;
         }
-        None => told[3] = told[3].saturating_add(1),
+        None => outcome[3] = outcome[3].saturating_add(1),
     }
 }
 

@@ -11,7 +11,7 @@ use std::thread::{join, map_indices, yield_now};
 struct Crowd {
     come: AtomicU64,
     may_leave: AtomicBool,
-    told: AtomicU64,
+    outcome: AtomicU64,
 }
 
 impl Crowd {
@@ -39,7 +39,7 @@ impl Crowd {
     // One of them got `verdicts` verdicts.
     fn count(&self, verdicts: usize) {
         if verdicts == 1 {
-            self.told.fetch_add(1, Ordering::SeqCst);
+            self.outcome.fetch_add(1, Ordering::SeqCst);
         }
     }
 }
@@ -56,15 +56,15 @@ pub fn crowded<
     let crowd = Crowd {
         come: AtomicU64::new(0),
         may_leave: AtomicBool::new(false),
-        told: AtomicU64::new(0),
+        outcome: AtomicU64::new(0),
     };
     let ((attached, terminated), ()) = join(
         rt,
         || terminates(rt, shared, desk, &crowd),
         || all_finish(rt, alloc, shared, &crowd),
     );
-    let told = crowd.told.load(Ordering::SeqCst);
-    [told, attached, u64::from(terminated), 0]
+    let outcome = crowd.outcome.load(Ordering::SeqCst);
+    [outcome, attached, u64::from(terminated), 0]
 }
 
 // Each of sixteen workers attaches and finishes in a thread of its own.

@@ -85,10 +85,10 @@ fn run<G: Gate + Sync, R: Threads + Wait + Sync>(
 }
 
 /// The outcome of a run, where it has the key `vid` or none.
-fn told(ended: &Ended) -> Option<Figures> {
+fn outcome(ended: &Ended) -> Option<Figures> {
     let totals = &ended.totals;
     let keys = totals.keys.as_slice();
-    let mut told = Figures {
+    let mut outcome = Figures {
         rows: totals.rows,
         abandoned: totals.abandoned,
         dropped: ended.dropped,
@@ -100,14 +100,14 @@ fn told(ended: &Ended) -> Option<Figures> {
         if key.key.as_str() != "vid" {
             return None;
         }
-        told.counted = key.counted;
-        told.reported = key.reported;
-        told.unreported = key.unreported;
+        outcome.counted = key.counted;
+        outcome.reported = key.reported;
+        outcome.unreported = key.unreported;
     }
-    Some(told)
+    Some(outcome)
 }
 
 /// The same of a run that nothing else is asked of.
 fn figures_of(ended: Ended) -> Option<Figures> {
-    told(&ended)
+    outcome(&ended)
 }

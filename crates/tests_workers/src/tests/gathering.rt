@@ -43,7 +43,7 @@ fn ending_with<C: Detects + Drop, N: Naming, W: Board<Cell<N>> + Drop, R: Wait>(
     } = back;
     let shared = Shared::new(catalog, state, pool);
     match shared.gather(rt, desk, joined(finished, last)).ok() {
-        Some(totals) => told_of(out, &totals),
+        Some(totals) => outcome_of(out, &totals),
         None => [out; 7],
     }
 }
@@ -70,7 +70,7 @@ fn joined<N: Naming>(finished: Vec<Finished<N>>, last: Option<Finished<N>>) -> V
     all
 }
 
-fn told_of(out: u64, totals: &Totals) -> [u64; 7] {
+fn outcome_of(out: u64, totals: &Totals) -> [u64; 7] {
     let keys = totals.keys.as_slice();
     let (counted, reported, unreported) = match keys {
         [key, ..] => (key.counted, key.reported, key.unreported),

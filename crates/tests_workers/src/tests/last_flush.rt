@@ -58,10 +58,10 @@ pub fn last_flush<
         || finishes(rt, alloc, shared, gate),
     );
     let begun = u64::from(begun.load(Ordering::SeqCst));
-    told_of(workers, begun, attached, finished)
+    outcome_of(workers, begun, attached, finished)
 }
 
-fn told_of<C: Detects + Drop, N: Naming>(
+fn outcome_of<C: Detects + Drop, N: Naming>(
     workers: &mut Workers<C, N>,
     begun: u64,
     attached: Option<u64>,

@@ -35,7 +35,7 @@ fn rows_count_for_the_keys_of_their_tables(rt: HostRuntime) -> Result<(), Fail> 
     let opened = open_history(&session)?;
     let commands = commands(rt.alloc())?;
     let catalog = Catalog::new(rt.alloc(), Vec::new(rt.alloc()))?;
-    let told = judged_and_flushed::<Catalog, Brand, _>(
+    let outcome = judged_and_flushed::<Catalog, Brand, _>(
         &rt,
         rt.alloc(),
         &commands,
@@ -46,7 +46,7 @@ fn rows_count_for_the_keys_of_their_tables(rt: HostRuntime) -> Result<(), Fail> 
     );
     let before = [0, 0, 0, 0, 0, 0, 0, 0, 0, 2];
     let after = [628, 0, 0, 0, 0, 0, 0, 0, 3, 2];
-    expect_equal(&rt, &told, &Some((before, after)));
+    expect_equal(&rt, &outcome, &Some((before, after)));
     Ok(())
 }
 
@@ -166,12 +166,12 @@ fn leave<C: Detects, N: Naming, W: Board<Cell<N>> + Drop>(
 }
 
 #[test]
-fn two_workers_hand_over_and_the_desk_is_told(rt: HostRuntime) -> Result<(), Fail> {
+fn two_workers_hand_over_and_the_desk_collects(rt: HostRuntime) -> Result<(), Fail> {
     let session = session(rt.alloc(), 1000)?;
     let opened = open_history(&session)?;
     let catalog = Arc::new(rt.alloc(), Catalog::new(rt.alloc(), Vec::new(rt.alloc()))?)?;
     let commands = commands(rt.alloc())?;
-    let told = told_to_the_desk::<Catalog, Brand, _>(
+    let outcome = collect_by_the_desk::<Catalog, Brand, _>(
         &rt,
         rt.alloc(),
         &commands,
@@ -180,13 +180,13 @@ fn two_workers_hand_over_and_the_desk_is_told(rt: HostRuntime) -> Result<(), Fai
         opened,
         Blanks::new(),
     );
-    expect_equal(&rt, &told, &Some([200, 100, 65_600, 0, 3]));
+    expect_equal(&rt, &outcome, &Some([200, 100, 65_600, 0, 3]));
     Ok(())
 }
 
 // How many rows of 28 octets one worker hands over and how many of 600 the other, what a report that is then asked for
 // says of their key, how many reports come after it, and how many commands the desk has.
-fn told_to_the_desk<C: Detects + Drop, N: Naming, R: Wait + Drop>(
+fn collect_by_the_desk<C: Detects + Drop, N: Naming, R: Wait + Drop>(
     rt: &R,
     alloc: Global,
     commands: &[Command; 3],
@@ -201,12 +201,12 @@ fn told_to_the_desk<C: Detects + Drop, N: Naming, R: Wait + Drop>(
     requires offers { C.offers (arc_value catalog) ≡ session.session.setting.catalog }
 {
     match Shared::<C, N, _>::open(rt, alloc, catalog, session, opened, blanks, 2) {
-        Ok((shared, mut desk)) => told_by(rt, alloc, commands, &shared, &mut desk),
+        Ok((shared, mut desk)) => collect_all(rt, alloc, commands, &shared, &mut desk),
         Err(_) => None,
     }
 }
 
-fn told_by<C: Detects + Drop, N: Naming, W: Board<Cell<N>> + Drop, R: Wait>(
+fn collect_all<C: Detects + Drop, N: Naming, W: Board<Cell<N>> + Drop, R: Wait>(
     rt: &R,
     alloc: Global,
     commands: &[Command; 3],

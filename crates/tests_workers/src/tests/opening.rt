@@ -33,45 +33,45 @@ const NO_SESSION: &str = "the session comes behind its lock";
 const NO_LOCK: &str = "the lock of the session is opened";
 
 /// The outcome of the steps on a session that takes `rows` rows, behind this lock.
-pub fn tell<R: Threads + Wait + Sync>(
+pub fn play<R: Threads + Wait + Sync>(
     rt: &R,
     alloc: Global,
     rows: u32,
     lock: Lock,
     table: Table<'_>,
-) -> Result<Told, Fail> {
+) -> Result<Outcome, Fail> {
     let install = Command::Install(web(alloc)?);
-    tell_of_a_session(rt, alloc, rows, lock, &install, table)
+    play_session(rt, alloc, rows, lock, &install, table)
 }
 
-fn tell_of_a_session<R: Threads + Wait + Sync>(
+fn play_session<R: Threads + Wait + Sync>(
     rt: &R,
     alloc: Global,
     rows: u32,
     lock: Lock,
     install: &Command,
     table: Table<'_>,
-) -> Result<Told, Fail> {
+) -> Result<Outcome, Fail> {
     let session = session(alloc, rows)?;
-    match tell_at_once(rt, alloc, session, lock, install, table) {
-        Ok(told) => Ok(told),
+    match play_at_once(rt, alloc, session, lock, install, table) {
+        Ok(outcome) => Ok(outcome),
         Err(reason) => Err(reason)?,
     }
 }
 
-fn tell_at_once<R: Threads + Wait + Sync>(
+fn play_at_once<R: Threads + Wait + Sync>(
     rt: &R,
     alloc: Global,
     session: JournaledState,
     lock: Lock,
     install: &Command,
     table: Table<'_>,
-) -> Result<Told, &'static str>
+) -> Result<Outcome, &'static str>
     requires fresh { session.session.journal ≡ [] }
     requires catalog { session.session.setting.catalog ≡ [] }
 {
     match no_rules(alloc) {
-        Some(catalog) => tell_of_its_catalog(rt, alloc, catalog, session, lock, install, table),
+        Some(catalog) => play_with_catalog(rt, alloc, catalog, session, lock, install, table),
         None => Err(NO_SESSION),
     }
 }
@@ -86,7 +86,7 @@ fn no_rules(alloc: Global) -> Option<Arc<Catalog>>
     }
 }
 
-fn tell_of_its_catalog<R: Threads + Wait + Sync>(
+fn play_with_catalog<R: Threads + Wait + Sync>(
     rt: &R,
     alloc: Global,
     catalog: Arc<Catalog>,
@@ -94,27 +94,27 @@ fn tell_of_its_catalog<R: Threads + Wait + Sync>(
     lock: Lock,
     install: &Command,
     table: Table<'_>,
-) -> Result<Told, &'static str>
+) -> Result<Outcome, &'static str>
     requires fresh { session.session.journal ≡ [] }
     requires catalog { session.session.setting.catalog ≡ [] }
     requires offers { offers_of (arc_value catalog) ≡ [] }
 {
-    match tell_once(rt, alloc, catalog, session, lock.places, install, table) {
-        Some(Ok(told)) => Ok(told),
-        Some(Err(unopened)) => tell_at_last(rt, alloc, unopened, lock, install, table),
+    match play_once(rt, alloc, catalog, session, lock.places, install, table) {
+        Some(Ok(outcome)) => Ok(outcome),
+        Some(Err(unopened)) => play_at_last(rt, alloc, unopened, lock, install, table),
         None => Err(NO_SESSION),
     }
 }
 
 // The same, of the catalog and the session that came back.
-fn tell_at_last<R: Threads + Wait + Sync>(
+fn play_at_last<R: Threads + Wait + Sync>(
     rt: &R,
     alloc: Global,
     unopened: Unopened<Catalog>,
     lock: Lock,
     install: &Command,
     table: Table<'_>,
-) -> Result<Told, &'static str>
+) -> Result<Outcome, &'static str>
     requires fresh { unopened.session.session.journal ≡ [] }
     requires catalog { unopened.session.session.setting.catalog ≡ [] }
     requires offers { offers_of (arc_value unopened.catalog) ≡ [] }
@@ -127,14 +127,14 @@ fn tell_at_last<R: Threads + Wait + Sync>(
         catalog,
         session,
     } = unopened;
-    match tell_once(rt, alloc, catalog, session, lock.places, install, table) {
-        Some(Ok(told)) => Ok(told),
+    match play_once(rt, alloc, catalog, session, lock.places, install, table) {
+        Some(Ok(outcome)) => Ok(outcome),
         _ => Err(NO_LOCK),
     }
 }
 
 // The outcome behind a lock, or what came back; nothing where no history can be opened.
-fn tell_once<R: Threads + Wait + Sync>(
+fn play_once<R: Threads + Wait + Sync>(
     rt: &R,
     alloc: Global,
     catalog: Arc<Catalog>,
@@ -142,22 +142,22 @@ fn tell_once<R: Threads + Wait + Sync>(
     places: u8,
     install: &Command,
     table: Table<'_>,
-) -> Option<Result<Told, Unopened<Catalog>>>
+) -> Option<Result<Outcome, Unopened<Catalog>>>
     requires fresh { session.session.journal ≡ [] }
     requires catalog { session.session.setting.catalog ≡ [] }
     requires offers { offers_of (arc_value catalog) ≡ [] }
-    ensures back { IfSome result (λ told.
-        IfErr told (λ e. (e.catalog ≡ catalog) × (e.session ≡ session))) }
+    ensures back { IfSome result (λ outcome.
+        IfErr outcome (λ e. (e.catalog ≡ catalog) × (e.session ≡ session))) }
 {
     match open_history(&session).ok() {
-        Some(opened) => Some(tell_of_opened(
+        Some(opened) => Some(play_opened(
             rt, alloc, catalog, session, opened, places, install, table,
         )),
         None => None,
     }
 }
 
-fn tell_of_opened<R: Threads + Wait + Sync>(
+fn play_opened<R: Threads + Wait + Sync>(
     rt: &R,
     alloc: Global,
     catalog: Arc<Catalog>,
@@ -166,7 +166,7 @@ fn tell_of_opened<R: Threads + Wait + Sync>(
     places: u8,
     install: &Command,
     table: Table<'_>,
-) -> Result<Told, Unopened<Catalog>>
+) -> Result<Outcome, Unopened<Catalog>>
     requires fresh { session.session.journal ≡ [] }
     requires catalog { session.session.setting.catalog ≡ [] }
     requires offers { offers_of (arc_value catalog) ≡ [] }
@@ -174,12 +174,12 @@ fn tell_of_opened<R: Threads + Wait + Sync>(
     ensures back { IfErr result (λ e. (e.catalog ≡ catalog) × (e.session ≡ session)) }
 {
     let blanks = Blanks::new();
-    tell_behind_its_lock::<Catalog, Brand, _>(
+    play_behind_its_lock::<Catalog, Brand, _>(
         rt, alloc, catalog, session, opened, blanks, places, install, table,
     )
 }
 
-fn tell_behind_its_lock<
+fn play_behind_its_lock<
     C: Detects + Drop + Send + Sync,
     N: Naming + Send + Sync,
     R: Threads + Wait + Sync,
@@ -193,7 +193,7 @@ fn tell_behind_its_lock<
     places: u8,
     install: &Command,
     table: Table<'_>,
-) -> Result<Told, Unopened<C>>
+) -> Result<Outcome, Unopened<C>>
     requires named { GoesBy N.ledger N.setting N.first N.book N.root
         session.session opened blanks }
     requires fresh { session.session.journal ≡ [] }
@@ -201,7 +201,7 @@ fn tell_behind_its_lock<
     ensures back { IfErr result (λ e. (e.catalog ≡ catalog) × (e.session ≡ session)) }
 {
     match Shared::<C, N, _>::open(rt, alloc, catalog, session, opened, blanks, places) {
-        Ok((shared, desk)) => Ok(tell_to_the_end(rt, alloc, shared, desk, install, table)),
+        Ok((shared, desk)) => Ok(play_to_the_end(rt, alloc, shared, desk, install, table)),
         Err(unopened) => Err(unopened),
     }
 }

@@ -1,7 +1,7 @@
 //! The scenarios. In each, the numbers of a step stand beside it.
 
 use super::Step::*;
-use super::opening::{Lock, tell};
+use super::opening::{Lock, play};
 use super::*;
 use crate::tests::expect_equal;
 
@@ -69,14 +69,14 @@ static SCENARIOS: [Scenario; 4] = [
 ];
 
 #[test]
-fn each_step_tells_what_stands_beside_it(rt: HostRuntime) -> Result<(), Fail> {
+fn each_step_answers_what_stands_beside_it(rt: HostRuntime) -> Result<(), Fail> {
     for scenario in &SCENARIOS {
         let lock = Lock {
             places: scenario.places,
             at_last: false,
         };
-        let told = tell(&rt, rt.alloc(), scenario.rows, lock, scenario.steps)?;
-        assert_eq!(rt; told, (None, scenario.end), "{}", scenario.name);
+        let outcome = play(&rt, rt.alloc(), scenario.rows, lock, scenario.steps)?;
+        assert_eq!(rt; outcome, (None, scenario.end), "{}", scenario.name);
     }
     Ok(())
 }
@@ -107,7 +107,7 @@ fn a_worker_that_finds_no_memory_can_go_on(rt: HostRuntime) -> Result<(), Fail> 
         places: 2,
         at_last: true,
     };
-    let told = tell(&rt, rt.alloc(), 100, lock, WITHOUT_MEMORY)?;
-    expect_equal(&rt, &told, &(None, [1, 3, 0, 668, 628, 40, 1]));
+    let outcome = play(&rt, rt.alloc(), 100, lock, WITHOUT_MEMORY)?;
+    expect_equal(&rt, &outcome, &(None, [1, 3, 0, 668, 628, 40, 1]));
     Ok(())
 }

@@ -38,7 +38,7 @@ enum Step {
 
 /// The answers to commands on two sessions.
 #[derive(Drop)]
-struct Told {
+struct Outcome {
     /// What each was answered.
     answers: Vec<Result<Accepted, Refusal>>,
     /// The number of each session's newest generation then.
@@ -139,12 +139,12 @@ fn two_on<P: Pooling>(
 }
 
 /// Makes these steps on two sessions of a pool.
-fn tell_named<P: Pooling>(
+fn play_named<P: Pooling>(
     alloc: Global,
     capacity: Sums,
     blanks: RateBlanks,
     steps: &[Step],
-) -> Result<Told, Fail>
+) -> Result<Outcome, Fail>
     requires { P.ledger ≡ name_at blanks }
 {
     let mut pooled = two_on::<P>(alloc, capacity, blanks)?;
@@ -158,7 +158,7 @@ fn tell_named<P: Pooling>(
         }
         answers.push(pooled.command(session, command))?;
     }
-    Ok(Told {
+    Ok(Outcome {
         answers,
         generations: (
             pooled.session(0).generation(),
@@ -169,6 +169,6 @@ fn tell_named<P: Pooling>(
 }
 
 /// The same on a pool of this capacity.
-fn tell(alloc: Global, capacity: Sums, steps: &[Step]) -> Result<Told, Fail> {
-    tell_named::<Brand>(alloc, capacity, RateBlanks::new(), steps)
+fn play(alloc: Global, capacity: Sums, steps: &[Step]) -> Result<Outcome, Fail> {
+    play_named::<Brand>(alloc, capacity, RateBlanks::new(), steps)
 }

@@ -288,7 +288,7 @@ fn ended_on<T: Threads + Wait + Drop + Send + Sync + Copy + 'static>(
 }
 
 #[test]
-fn a_writer_that_fails_ends_all_threads(rt: HostRuntime) -> Result<(), Fail> {
+fn a_writer_that_fails_ends_a_thread(rt: HostRuntime) -> Result<(), Fail> {
     let lines = lines_of_every_form(rt.alloc())?;
     let (one, _) = served(&rt, lines.as_str())?;
     expect_equal(&rt, &ended_on(rt, &rt, lines.as_str(), one.len())?, &(0, 4));

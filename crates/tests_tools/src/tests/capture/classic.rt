@@ -144,7 +144,7 @@ fn packets_of_a_big_endian_file(rt: HostRuntime) {
     ];
     expect_equal(
         &rt,
-        &(told(rt.alloc(), &BIG), packets),
+        &(outcome(rt.alloc(), &BIG), packets),
         &((2, None), [Some(of_three_octets()), Some(empty)]),
     );
 }
@@ -174,9 +174,9 @@ fn packet_at(alloc: Global, file: &[u8], place: usize) -> Option<Packet<'_>> {
 }
 
 /// How many packets a file has before its end or its fault, and the fault.
-type Told = (usize, Option<CaptureFault>);
+type Outcome = (usize, Option<CaptureFault>);
 
-fn told(alloc: Global, file: &[u8]) -> Told {
+fn outcome(alloc: Global, file: &[u8]) -> Outcome {
     match read_classic(alloc, file) {
         Ok(capture) => (capture.packets.len(), capture.fault),
         Err(fault) => (0, Some(fault)),
@@ -186,12 +186,16 @@ fn told(alloc: Global, file: &[u8]) -> Told {
 #[test]
 fn a_file_that_ends_anywhere(rt: HostRuntime) {
     for end in 0..BIG.len() + 1 {
-        expect_equal(&rt, &(end, told(rt.alloc(), &BIG[..end])), &(end, due(end)));
+        expect_equal(
+            &rt,
+            &(end, outcome(rt.alloc(), &BIG[..end])),
+            &(end, due(end)),
+        );
     }
 }
 
 /// What is due of the big-endian file that ends here.
-fn due(end: usize) -> Told {
+fn due(end: usize) -> Outcome {
     match end {
         0..=3 => (0, Some(CaptureFault::NotACapture)),
         4..=23 => (0, Some(CaptureFault::CutHeader)),

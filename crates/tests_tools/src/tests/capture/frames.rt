@@ -22,7 +22,7 @@ fn inside(link: Link, endianness: Endianness, octets: &[u8]) -> Option<Inside> {
 const IPV4: [u8; 2] = [0x45, 0x01];
 
 /// What is found in [`IPV4`].
-const TOLD: Option<Inside> = Some((2, Some(0x45)));
+const INSIDE_4: Option<Inside> = Some((2, Some(0x45)));
 
 fn ethernet(octets: &[u8]) -> Option<Inside> {
     inside(Link::Ethernet, Endianness::Little, octets)
@@ -51,7 +51,7 @@ const OTHER_TYPE: [u8; 16] = [1, 2, 3, 4, 5, 6, 7, 8, 9, 10, 11, 12, 8, 6, 0x45,
 
 #[test]
 fn ethernet_with_and_without_tags(rt: HostRuntime) {
-    let told = [
+    let outcome = [
         ethernet(&PLAIN),
         ethernet(&ONE_TAG),
         ethernet(&TWO_TAGS),
@@ -59,24 +59,28 @@ fn ethernet_with_and_without_tags(rt: HostRuntime) {
         ethernet(&THREE_TAGS),
         ethernet(&OTHER_TYPE),
     ];
-    expect_equal(&rt, &told, &[TOLD, TOLD, TOLD, TOLD, None, None]);
+    expect_equal(
+        &rt,
+        &outcome,
+        &[INSIDE_4, INSIDE_4, INSIDE_4, INSIDE_4, None, None],
+    );
 }
 
 #[test]
 fn cut_ethernet_headers(rt: HostRuntime) {
-    let told = [
+    let outcome = [
         ethernet(&PLAIN[..13]),
         ethernet(&PLAIN[..14]),
         ethernet(&ONE_TAG[..17]),
     ];
-    expect_equal(&rt, &told, &[None, Some((0, None)), None]);
+    expect_equal(&rt, &outcome, &[None, Some((0, None)), None]);
 }
 
 #[test]
 fn raw_and_loopback(rt: HostRuntime) {
     let big = [0, 0, 0, 2, 0x45, 1];
     let little = [2, 0, 0, 0, 0x45, 1];
-    let told = [
+    let outcome = [
         inside(Link::Raw, Endianness::Big, &IPV4),
         inside(Link::Null, Endianness::Big, &big),
         inside(Link::Null, Endianness::Big, &little),
@@ -85,7 +89,11 @@ fn raw_and_loopback(rt: HostRuntime) {
         inside(Link::Loop, Endianness::Little, &little),
         inside(Link::Null, Endianness::Big, &big[..3]),
     ];
-    expect_equal(&rt, &told, &[TOLD, TOLD, None, TOLD, TOLD, None, None]);
+    expect_equal(
+        &rt,
+        &outcome,
+        &[INSIDE_4, INSIDE_4, None, INSIDE_4, INSIDE_4, None, None],
+    );
 }
 
 const COOKED: [u8; 18] = [0, 0, 0, 1, 0, 6, 1, 2, 3, 4, 5, 6, 0, 0, 8, 0, 0x45, 1];
@@ -101,7 +109,7 @@ const COOKED_2: [u8; 22] = [
 #[test]
 fn linux_cooked(rt: HostRuntime) {
     let order = Endianness::Little;
-    let told = [
+    let outcome = [
         inside(Link::LinuxCooked, order, &COOKED),
         inside(Link::LinuxCooked, order, &COOKED_AND_TAGGED),
         inside(Link::LinuxCooked, order, &COOKED_2),
@@ -109,11 +117,15 @@ fn linux_cooked(rt: HostRuntime) {
         inside(Link::LinuxCooked2, order, &COOKED_2[..19]),
         inside(Link::LinuxCooked2, order, &COOKED),
     ];
-    expect_equal(&rt, &told, &[TOLD, TOLD, None, TOLD, None, None]);
+    expect_equal(
+        &rt,
+        &outcome,
+        &[INSIDE_4, INSIDE_4, None, INSIDE_4, None, None],
+    );
 }
 
 /// What is found in two octets of version 6.
-const TOLD_6: Option<Inside> = Some((2, Some(0x60)));
+const INSIDE_6: Option<Inside> = Some((2, Some(0x60)));
 
 const PLAIN_6: [u8; 16] = [1, 2, 3, 4, 5, 6, 7, 8, 9, 10, 11, 12, 0x86, 0xdd, 0x60, 1];
 
@@ -139,7 +151,7 @@ const COOKED_2_6: [u8; 22] = [
 #[test]
 fn version_6_behind_its_type(rt: HostRuntime) {
     let order = Endianness::Little;
-    let told = [
+    let outcome = [
         ethernet(&PLAIN_6),
         ethernet(&TAGGED_6),
         ethernet(&NEXT_TYPE),
@@ -152,14 +164,16 @@ fn version_6_behind_its_type(rt: HostRuntime) {
     ];
     expect_equal(
         &rt,
-        &told,
-        &[TOLD_6, TOLD_6, None, TOLD_6, TOLD_6, TOLD_6, TOLD_6, TOLD],
+        &outcome,
+        &[
+            INSIDE_6, INSIDE_6, None, INSIDE_6, INSIDE_6, INSIDE_6, INSIDE_6, INSIDE_4,
+        ],
     );
 }
 
 #[test]
 fn version_6_behind_the_family_of_each_system(rt: HostRuntime) {
-    let told = [
+    let outcome = [
         inside(Link::Null, Endianness::Big, &[0, 0, 0, 24, 0x60, 1]),
         inside(Link::Null, Endianness::Little, &[28, 0, 0, 0, 0x60, 1]),
         inside(Link::Null, Endianness::Little, &[30, 0, 0, 0, 0x60, 1]),
@@ -170,7 +184,7 @@ fn version_6_behind_the_family_of_each_system(rt: HostRuntime) {
     ];
     expect_equal(
         &rt,
-        &told,
-        &[TOLD_6, TOLD_6, TOLD_6, TOLD_6, None, None, None],
+        &outcome,
+        &[INSIDE_6, INSIDE_6, INSIDE_6, INSIDE_6, None, None, None],
     );
 }

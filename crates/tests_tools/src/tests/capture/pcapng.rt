@@ -67,7 +67,7 @@ fn packets_of_all_kinds_of_blocks(rt: HostRuntime) {
     ];
     expect_equal(
         &rt,
-        &(told(rt.alloc(), &LITTLE), packets),
+        &(outcome(rt.alloc(), &LITTLE), packets),
         &((3, None), [Some(enhanced), Some(simple), Some(obsolete)]),
     );
 }
@@ -106,9 +106,9 @@ fn one_and_a_fault(alloc: Global, file: &[u8]) -> Option<(Packet<'_>, Option<Cap
 }
 
 /// How many packets a file has before its end or its fault, and the fault.
-type Told = (usize, Option<CaptureFault>);
+type Outcome = (usize, Option<CaptureFault>);
 
-fn told(alloc: Global, file: &[u8]) -> Told {
+fn outcome(alloc: Global, file: &[u8]) -> Outcome {
     match read_capture(alloc, file) {
         Ok(capture) => (capture.packets.len(), capture.fault),
         Err(fault) => (0, Some(fault)),
@@ -119,7 +119,11 @@ fn told(alloc: Global, file: &[u8]) -> Told {
 fn files_of_blocks_that_end_anywhere(rt: HostRuntime) {
     for end in 0..LITTLE.len() + 1 {
         let due = (packets_before(end), fault_at(end));
-        expect_equal(&rt, &(end, told(rt.alloc(), &LITTLE[..end])), &(end, due));
+        expect_equal(
+            &rt,
+            &(end, outcome(rt.alloc(), &LITTLE[..end])),
+            &(end, due),
+        );
     }
 }
 
@@ -143,7 +147,7 @@ fn fault_at(end: usize) -> Option<CaptureFault> {
 }
 
 /// The place of another octet, the octet, and what is read of the little-endian file with it.
-const CHANGES: [(usize, u8, Told); 15] = [
+const CHANGES: [(usize, u8, Outcome); 15] = [
     (4, 29, (0, Some(CaptureFault::BlockLength))),
     (4, 8, (0, Some(CaptureFault::BlockLength))),
     (8, 0x4c, (0, Some(CaptureFault::ByteOrder))),
@@ -164,28 +168,28 @@ const CHANGES: [(usize, u8, Told); 15] = [
 #[test]
 fn blocks_at_fault(rt: HostRuntime) {
     for (place, octet, due) in &CHANGES {
-        let told = told_with(rt.alloc(), *place, *octet);
-        expect_equal(&rt, &(*place, *octet, told), &(*place, *octet, *due));
+        let outcome = outcome_with(rt.alloc(), *place, *octet);
+        expect_equal(&rt, &(*place, *octet, outcome), &(*place, *octet, *due));
     }
 }
 
 /// What is read of the little-endian file with another octet at a place.
-fn told_with(alloc: Global, place: usize, octet: u8) -> Told {
+fn outcome_with(alloc: Global, place: usize, octet: u8) -> Outcome {
     let mut file = LITTLE;
     if let Some(at) = file.get_mut(place) {
         *at = octet;
     }
-    told(alloc, &file)
+    outcome(alloc, &file)
 }
 
 #[test]
 fn empty_blocks(rt: HostRuntime) {
     let answers = [
-        told(rt.alloc(), &with_empty_block(1)),
-        told(rt.alloc(), &with_empty_block(2)),
-        told(rt.alloc(), &with_empty_block(3)),
-        told(rt.alloc(), &with_empty_block(6)),
-        told(rt.alloc(), &with_empty_block(7)),
+        outcome(rt.alloc(), &with_empty_block(1)),
+        outcome(rt.alloc(), &with_empty_block(2)),
+        outcome(rt.alloc(), &with_empty_block(3)),
+        outcome(rt.alloc(), &with_empty_block(6)),
+        outcome(rt.alloc(), &with_empty_block(7)),
     ];
     let short = (0, Some(CaptureFault::BlockLength));
     // Blocks of a type that isn't read may be empty.
@@ -215,10 +219,10 @@ fn a_section_has_65536_interfaces_and_no_more(rt: HostRuntime) -> Result<(), Fai
     push_section(&mut file, 65_536, 65_535)?;
     // Another section has interfaces of its own.
     push_section(&mut file, 65_536, 0)?;
-    expect_equal(&rt, &told(rt.alloc(), &file), &(2, None));
+    expect_equal(&rt, &outcome(rt.alloc(), &file), &(2, None));
     push_section(&mut file, 65_537, 0)?;
     let fault = CaptureFault::TooManyInterfaces;
-    expect_equal(&rt, &told(rt.alloc(), &file), &(2, Some(fault)));
+    expect_equal(&rt, &outcome(rt.alloc(), &file), &(2, Some(fault)));
     expect_equal(&rt, &fault.number(), &12);
     Ok(())
 }

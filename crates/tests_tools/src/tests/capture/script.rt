@@ -138,7 +138,7 @@ fn frames_without_a_line(rt: HostRuntime) {
 }
 
 /// The octet behind the text `"worker":` in a line, and whether the line is a flush.
-fn told(line: &[u8]) -> (bool, Option<u8>) {
+fn outcome(line: &[u8]) -> (bool, Option<u8>) {
     if line.starts_with(b"{\"do\":\"flush\"") {
         (true, line.get(23).copied())
     } else {
@@ -162,7 +162,7 @@ fn workers_in_turn(rt: HostRuntime) {
             72 => (true, Some(b'0')),
             _ => (false, None),
         };
-        expect_equal(&rt, &told(line), &due);
+        expect_equal(&rt, &outcome(line), &due);
         place = place.saturating_add(1);
     }
     expect_equal(&rt, &place, &74);

@@ -69,10 +69,15 @@ impl Read for Parts<'_> {
 }
 
 /// How many frames are read, and the fault; the fault alone of a classic file's header.
-type Told = (u64, Option<CaptureFault>);
+type Outcome = (u64, Option<CaptureFault>);
 
 /// What is read of a capture that comes in parts of `most` octets, and how many octets are written.
-fn told_in_parts(alloc: Global, octets: &[u8], most: usize, fails: bool) -> Option<(Told, usize)> {
+fn outcome_in_parts(
+    alloc: Global,
+    octets: &[u8],
+    most: usize,
+    fails: bool,
+) -> Option<(Outcome, usize)> {
     let mut reader = Parts {
         rest: octets,
         most,
@@ -80,8 +85,8 @@ fn told_in_parts(alloc: Global, octets: &[u8], most: usize, fails: bool) -> Opti
     };
     let mut waiting = Vec::new(alloc);
     let mut lines = Vec::new(alloc);
-    let told = write_capture(alloc, &OPTIONS, &mut waiting, &mut reader, &mut lines);
-    match told {
+    let outcome = write_capture(alloc, &OPTIONS, &mut waiting, &mut reader, &mut lines);
+    match outcome {
         Ok((counts, fault)) => Some(((counts.read, fault), lines.len())),
         Err(End::Capture(fault)) => Some(((0, Some(fault)), lines.len())),
         Err(End::Read(_)) => Some(((0, None), lines.len())),
@@ -90,7 +95,7 @@ fn told_in_parts(alloc: Global, octets: &[u8], most: usize, fails: bool) -> Opti
 }
 
 /// What the reader of whole files returns.
-fn told_whole(alloc: Global, octets: &[u8]) -> Told {
+fn outcome_as_a_whole(alloc: Global, octets: &[u8]) -> Outcome {
     match read_capture(alloc, octets) {
         Ok(capture) => (capture.packets.len() as u64, capture.fault),
         Err(fault) => (0, Some(fault)),
@@ -98,13 +103,13 @@ fn told_whole(alloc: Global, octets: &[u8]) -> Told {
 }
 
 #[test]
-fn parts_of_any_length_are_told_as_a_whole(rt: HostRuntime) {
+fn parts_of_any_length_are_written_as_a_whole(rt: HostRuntime) {
     for octets in &[CLASSIC.as_slice(), BLOCKS.as_slice()] {
         for end in 0..octets.len() + 1 {
-            let whole = told_whole(rt.alloc(), &octets[..end]);
+            let whole = outcome_as_a_whole(rt.alloc(), &octets[..end]);
             for most in &[1usize, 7, 8192] {
-                match told_in_parts(rt.alloc(), &octets[..end], *most, false) {
-                    Some((told, _)) => expect_equal(&rt, &(end, told), &(end, whole)),
+                match outcome_in_parts(rt.alloc(), &octets[..end], *most, false) {
+                    Some((outcome, _)) => expect_equal(&rt, &(end, outcome), &(end, whole)),
                     None => expect_equal(&rt, &end, &0),
                 }
             }
@@ -120,7 +125,7 @@ fn lines_of_whole_packets_stand_where_the_reader_fails(rt: HostRuntime) {
             68..=111 => 132,
             _ => 264,
         };
-        let came = told_in_parts(rt.alloc(), &CLASSIC[..end], 5, true);
+        let came = outcome_in_parts(rt.alloc(), &CLASSIC[..end], 5, true);
         expect_equal(&rt, &(end, came), &(end, Some(((0, None), due))));
     }
 }
@@ -155,12 +160,16 @@ fn records_and_blocks_beyond_the_limits(rt: HostRuntime) {
         (long_block.as_slice(), CaptureFault::TooLong),
     ];
     for &(octets, fault) in &cases {
-        expect_equal(&rt, &told_whole(rt.alloc(), octets), &(0, Some(fault)));
-        let came = told_in_parts(rt.alloc(), octets, 3, false);
+        expect_equal(
+            &rt,
+            &outcome_as_a_whole(rt.alloc(), octets),
+            &(0, Some(fault)),
+        );
+        let came = outcome_in_parts(rt.alloc(), octets, 3, false);
         expect_equal(&rt, &came, &Some(((0, Some(fault)), 0)));
     }
     // What is too long is reported before more is read.
-    let came = told_in_parts(rt.alloc(), &long_packet, 8192, true);
+    let came = outcome_in_parts(rt.alloc(), &long_packet, 8192, true);
     expect_equal(&rt, &came, &Some(((0, Some(CaptureFault::TooLong)), 0)));
 }
 

@@ -4,9 +4,9 @@ use pcef_figures::{CollectFault, Collected, Figures, collect};
 use std::alloc::Global;
 
 /// What is collected, or why nothing is: lines, the number of the last, and how many were refused or at fault.
-type Told = Result<(u64, u64, usize), CollectFault>;
+type Outcome = Result<(u64, u64, usize), CollectFault>;
 
-fn told(alloc: Global, lines: &[u8], answers: &[u8]) -> Told {
+fn outcome(alloc: Global, lines: &[u8], answers: &[u8]) -> Outcome {
     let figures = collect(alloc, lines, answers)?;
     Ok((figures.lines, figures.last, figures.refused.len()))
 }
@@ -29,28 +29,28 @@ fn is_new_blank(alloc: Global) -> bool {
 }
 
 /// Whether these have no figures.
-fn is_told_blank(alloc: Global, lines: &[u8], answers: &[u8]) -> Result<bool, CollectFault> {
+fn has_no_figures(alloc: Global, lines: &[u8], answers: &[u8]) -> Result<bool, CollectFault> {
     let figures = collect(alloc, lines, answers)?;
     Ok(is_blank(&figures))
 }
 
 /// The same of these lines with three answers that are blank.
-fn are_told_blank(alloc: Global, lines: &[u8]) -> [Result<bool, CollectFault>; 3] {
+fn have_no_figures(alloc: Global, lines: &[u8]) -> [Result<bool, CollectFault>; 3] {
     [
-        is_told_blank(alloc, lines, b""),
-        is_told_blank(alloc, lines, b"\n\n"),
-        is_told_blank(alloc, lines, b" \r\n"),
+        has_no_figures(alloc, lines, b""),
+        has_no_figures(alloc, lines, b"\n\n"),
+        has_no_figures(alloc, lines, b" \r\n"),
     ]
 }
 
 #[test]
-fn an_empty_script_tells_nothing(rt: HostRuntime) {
+fn an_empty_script_has_no_figures(rt: HostRuntime) {
     let alloc = rt.alloc();
     let found = [
-        are_told_blank(alloc, b""),
-        are_told_blank(alloc, b"\n"),
-        are_told_blank(alloc, b" \t\r\n\n \n"),
-        are_told_blank(alloc, b"{\"do\":\"attach\"}\n{\"do\":\"show\"}"),
+        have_no_figures(alloc, b""),
+        have_no_figures(alloc, b"\n"),
+        have_no_figures(alloc, b" \t\r\n\n \n"),
+        have_no_figures(alloc, b"{\"do\":\"attach\"}\n{\"do\":\"show\"}"),
     ];
     expect_equal(
         &rt,
@@ -60,13 +60,13 @@ fn an_empty_script_tells_nothing(rt: HostRuntime) {
 }
 
 /// Lines, answers, and what is collected of them.
-type Row = (&'static [u8], &'static [u8], Told);
+type Row = (&'static [u8], &'static [u8], Outcome);
 
 /// The place of the first row of which something else is collected, with what that is.
-fn first_wrong(alloc: Global, rows: &[Row]) -> Option<(usize, Told)> {
+fn first_wrong(alloc: Global, rows: &[Row]) -> Option<(usize, Outcome)> {
     for place in 0..rows.len() {
         let (lines, answers, due) = rows[place];
-        let found = told(alloc, lines, answers);
+        let found = outcome(alloc, lines, answers);
         if found != due {
             return Some((place, found));
         }
@@ -93,9 +93,9 @@ fn blank_lines_have_numbers_and_no_answers(rt: HostRuntime) {
     expect_equal(&rt, &first_wrong(rt.alloc(), &BLANK_LINES), &None);
 }
 
-fn told_of_spaces(alloc: Global, count: usize, answer: &[u8]) -> Told {
+fn outcome_of_spaces(alloc: Global, count: usize, answer: &[u8]) -> Outcome {
     let lines = vec![in alloc; b' '; count]?;
-    told(alloc, &lines, answer)
+    outcome(alloc, &lines, answer)
 }
 
 #[test]
@@ -103,9 +103,9 @@ fn spaces_are_a_blank_line_up_to_262144(rt: HostRuntime) {
     let alloc = rt.alloc();
     let answer = b"{\"fault\":1,\"name\":\"LineTooLong\"}\n";
     let found = [
-        told_of_spaces(alloc, 262_144, b""),
-        told_of_spaces(alloc, 262_144, answer),
-        told_of_spaces(alloc, 262_145, answer),
+        outcome_of_spaces(alloc, 262_144, b""),
+        outcome_of_spaces(alloc, 262_144, answer),
+        outcome_of_spaces(alloc, 262_145, answer),
     ];
     expect_equal(
         &rt,
@@ -139,15 +139,15 @@ const NO_ANSWERS_TO_LINES: [Row; 10] = [
 ];
 
 #[test]
-fn what_is_no_answer_is_told_with_its_line(rt: HostRuntime) {
+fn what_is_no_answer_is_reported_with_its_line(rt: HostRuntime) {
     expect_equal(&rt, &first_wrong(rt.alloc(), &NO_ANSWERS_TO_LINES), &None);
 }
 
 /// What is collected of a line that is no JSON, with a fault as its answer, and with another answer.
-fn told_of_no_json(alloc: Global, line: &[u8]) -> [Told; 2] {
+fn outcome_of_no_json(alloc: Global, line: &[u8]) -> [Outcome; 2] {
     [
-        told(alloc, line, b"{\"fault\":3,\"name\":\"NotJson\"}"),
-        told(alloc, line, b"{\"ok\":true}"),
+        outcome(alloc, line, b"{\"fault\":3,\"name\":\"NotJson\"}"),
+        outcome(alloc, line, b"{\"ok\":true}"),
     ]
 }
 
@@ -155,10 +155,10 @@ fn told_of_no_json(alloc: Global, line: &[u8]) -> [Told; 2] {
 fn a_line_that_is_no_json_is_at_fault_or_has_no_answer(rt: HostRuntime) {
     let alloc = rt.alloc();
     let found = [
-        told_of_no_json(alloc, b"do"),
-        told_of_no_json(alloc, b"\xff"),
-        told_of_no_json(alloc, b"{\"do\":\0}"),
-        told_of_no_json(alloc, b"{}{}"),
+        outcome_of_no_json(alloc, b"do"),
+        outcome_of_no_json(alloc, b"\xff"),
+        outcome_of_no_json(alloc, b"{\"do\":\0}"),
+        outcome_of_no_json(alloc, b"{}{}"),
     ];
     let due = [Ok((1, 1, 1)), Err(CollectFault::NoAnswer(1))];
     expect_equal(&rt, &found, &[due; 4]);
@@ -192,7 +192,7 @@ fn wrong_refused(figures: &Figures) -> Option<usize> {
 }
 
 /// How many lines have answers, the last one of these, and which refusal or fault is otherwise.
-fn told_of_refused(
+fn outcome_of_refused(
     alloc: Global,
     lines: &[u8],
     answers: &[u8],
@@ -202,11 +202,11 @@ fn told_of_refused(
 }
 
 #[test]
-fn refusals_and_faults_are_told_apart(rt: HostRuntime) {
+fn refusals_and_faults_are_kept_apart(rt: HostRuntime) {
     let lines = b"{\"do\":\"remove\",\"name\":\"web\"}\n\n[1]\n{\"do\":\"attach\"}\nx\n{}";
     let answers =
         b"{\"name\":\"UnknownRule\",\"refused\":5}\n{\"fault\":4,\"name\":\"NotObject\"}\n\
         {\"generation\":0,\"ok\":true,\"worker\":0}\n{\"fault\":3,\"name\":\"NotJson\"}\n{\"refused\":0}\n";
-    let found = told_of_refused(rt.alloc(), lines, answers);
+    let found = outcome_of_refused(rt.alloc(), lines, answers);
     expect_equal(&rt, &found, &Ok((5, 6, None)));
 }

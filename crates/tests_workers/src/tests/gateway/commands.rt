@@ -13,8 +13,8 @@ fn usage(report: &Report, number: u64, cause: Cause) -> Option<u64> {
         Body::Usage {
             key,
             octets,
-            cause: told,
-        } if report.number == number && key.as_str() == "vid" && *told == cause => Some(*octets),
+            cause: outcome,
+        } if report.number == number && key.as_str() == "vid" && *outcome == cause => Some(*octets),
         _ => None,
     }
 }
@@ -33,7 +33,7 @@ fn a_report_is_asked_for_meanwhile(rt: HostRuntime) -> Result<(), Fail> {
         2,
         &OpenGate,
     )??;
-    report_is_told(&rt, &ended);
+    report_is_returned(&rt, &ended);
     Ok(())
 }
 
@@ -45,7 +45,7 @@ fn octets_asked_for(ended: &Ended) -> Option<u64> {
     }
 }
 
-fn report_is_told(rt: &impl Abort, ended: &Ended) {
+fn report_is_returned(rt: &impl Abort, ended: &Ended) {
     let octets = octets_asked_for(ended);
     assert!(rt;
         matches!(octets, Some(0 | 28 | 56)),
@@ -61,7 +61,7 @@ fn report_is_told(rt: &impl Abort, ended: &Ended) {
         unreported: 56u64.saturating_sub(octets),
         ..Figures::default()
     };
-    expect_equal(rt, &told(ended), &Some(expected));
+    expect_equal(rt, &outcome(ended), &Some(expected));
 }
 
 /// Commands of which only the last one is accepted.
@@ -97,11 +97,11 @@ fn each_command_has_its_answer(rt: HostRuntime) -> Result<(), Fail> {
         1,
         &OpenGate,
     )??;
-    answers_are_told(&rt, &ended);
+    answers_are_returned(&rt, &ended);
     Ok(())
 }
 
-fn answers_are_told(rt: &impl Abort, ended: &Ended) {
+fn answers_are_returned(rt: &impl Abort, ended: &Ended) {
     let unreported = Accepted {
         generation: 2,
         bearer: None,
@@ -123,19 +123,19 @@ fn answers_are_told(rt: &impl Abort, ended: &Ended) {
     };
     expect_equal(
         rt,
-        &(told(ended), ended.reports.len()),
+        &(outcome(ended), ended.reports.len()),
         &(Some(expected), 0),
     );
 }
 
 #[test]
-fn reports_from_before_the_run_are_told_too(rt: HostRuntime) -> Result<(), Fail> {
+fn reports_from_before_the_run_are_returned_too(rt: HostRuntime) -> Result<(), Fail> {
     let alloc = rt.alloc();
     let reported = accepted(monitored(alloc)?, Command::ReportNow(vid()?))?;
     let arrivals = packets(alloc, 1, 1)?;
     let commands = vec![in alloc; Command::Stop(vid()?)]?;
     let ended = run(&rt, alloc, reported, arrivals, commands, 1, &OpenGate)??;
-    both_reports_are_told(&rt, &ended);
+    both_reports_are_returned(&rt, &ended);
     Ok(())
 }
 
@@ -149,7 +149,7 @@ fn octets_meanwhile(ended: &Ended) -> Option<u64> {
     }
 }
 
-fn both_reports_are_told(rt: &impl Abort, ended: &Ended) {
+fn both_reports_are_returned(rt: &impl Abort, ended: &Ended) {
     let octets = octets_meanwhile(ended);
     assert!(rt; matches!(octets, Some(0 | 28)), "there are two reports");
     let octets = octets.unwrap_or(0);
@@ -162,7 +162,7 @@ fn both_reports_are_told(rt: &impl Abort, ended: &Ended) {
         unreported: 28u64.saturating_sub(octets),
         ..Figures::default()
     };
-    expect_equal(rt, &told(ended), &Some(expected));
+    expect_equal(rt, &outcome(ended), &Some(expected));
 }
 
 // The rule is installed once 100 packets were sent, of which 64 at most are in the ring still: 36 were judged before at
@@ -174,9 +174,9 @@ fn a_rule_reaches_the_workers_among_the_packets(rt: HostRuntime) -> Result<(), F
     let commands = vec![in alloc; Command::Install(web(alloc)?)]?;
     let session = accepted(session(alloc, 1000)?, monitor(1_000_000)?)?;
     let ended = run(&rt, alloc, session, arrivals, commands, 1, &OpenGate)??;
-    let told = figures_of(ended).unwrap_or_default();
-    let before = 200u64.saturating_sub(told.counted / 28);
-    assert!(rt; told.rows == 200 && matches!(before, 36..=132));
+    let outcome = figures_of(ended).unwrap_or_default();
+    let before = 200u64.saturating_sub(outcome.counted / 28);
+    assert!(rt; outcome.rows == 200 && matches!(before, 36..=132));
     Ok(())
 }
 
@@ -196,7 +196,7 @@ fn an_answer_among_the_packets_is_whole(rt: HostRuntime) -> Result<(), Fail> {
     let (arrivals, commands) = (packets(alloc, 50, 1)?, to_the_close(alloc)?);
     let session = session(alloc, 1000)?;
     let ended = run(&rt, alloc, session, arrivals, commands, 1, &OpenGate)??;
-    whole_answers_are_told(&rt, &ended);
+    whole_answers_are_returned(&rt, &ended);
     Ok(())
 }
 
@@ -211,7 +211,7 @@ fn answer(generation: u32, bearer: Option<BearerId>, reports: (u64, u64)) -> Acc
     }
 }
 
-fn whole_answers_are_told(rt: &impl Abort, ended: &Ended) {
+fn whole_answers_are_returned(rt: &impl Abort, ended: &Ended) {
     let answers = [
         Ok(answer(1, Some(BearerId(5)), (0, 0))),
         Ok(answer(1, None, (0, 1))),

@@ -39,7 +39,7 @@ fn is_of_memory(fault: RunFault) -> bool {
 fn a_run_without_memory_comes_to_nothing(rt: HostRuntime) -> Result<(), Fail> {
     let alloc = rt.alloc();
     match two_counted(&rt, alloc)? {
-        Ok(told) => expect_equal(&rt, &told, &Some(TWO_COUNTED)),
+        Ok(outcome) => expect_equal(&rt, &outcome, &Some(TWO_COUNTED)),
         Err(fault) => {
             assert!(rt; is_of_memory(fault));
             expect_equal(&rt, &two_counted(&rt, alloc)??, &Some(TWO_COUNTED));

@@ -36,9 +36,9 @@ fn rows_and_dropped<R: Threads + Wait + Sync>(
             rounds.workers,
             &OpenGate,
         )??;
-        let told = figures_of(ended).unwrap_or_default();
-        rows = rows.saturating_add(told.rows);
-        dropped = dropped.saturating_add(told.dropped);
+        let outcome = figures_of(ended).unwrap_or_default();
+        rows = rows.saturating_add(outcome.rows);
+        dropped = dropped.saturating_add(outcome.dropped);
     }
     Ok((rows, dropped))
 }
@@ -52,8 +52,8 @@ fn a_packet_is_taken_behind_which_the_ring_ends(rt: HostRuntime) -> Result<(), F
         packets: 1,
         commands: 20,
     };
-    let told = rows_and_dropped(&rt, rt.alloc(), rounds)?;
-    expect_equal(&rt, &told, &(500, 0));
+    let outcome = rows_and_dropped(&rt, rt.alloc(), rounds)?;
+    expect_equal(&rt, &outcome, &(500, 0));
     Ok(())
 }
 
@@ -65,7 +65,7 @@ fn sixteen_workers_drop_no_packet(rt: HostRuntime) -> Result<(), Fail> {
         packets: 40,
         commands: 0,
     };
-    let told = rows_and_dropped(&rt, rt.alloc(), rounds)?;
-    expect_equal(&rt, &told, &(6400, 0));
+    let outcome = rows_and_dropped(&rt, rt.alloc(), rounds)?;
+    expect_equal(&rt, &outcome, &(6400, 0));
     Ok(())
 }

@@ -10,18 +10,18 @@ use std::thread::Threads;
 
 #[test]
 fn a_lock_has_one_to_sixteen_places(rt: HostRuntime) -> Result<(), Fail> {
-    let told = [
-        tell_places(&rt, rt.alloc(), 0)?,
-        tell_places(&rt, rt.alloc(), 1)?,
-        tell_places(&rt, rt.alloc(), 16)?,
-        tell_places(&rt, rt.alloc(), 17)?,
+    let outcome = [
+        fault_of_places(&rt, rt.alloc(), 0)?,
+        fault_of_places(&rt, rt.alloc(), 1)?,
+        fault_of_places(&rt, rt.alloc(), 16)?,
+        fault_of_places(&rt, rt.alloc(), 17)?,
     ];
-    expect_equal(&rt, &told, &[Some(1), Some(0), Some(0), Some(1)]);
+    expect_equal(&rt, &outcome, &[Some(1), Some(0), Some(0), Some(1)]);
     Ok(())
 }
 
 // 1 where a lock may not have `places` places, 0 where it is opened, and none where neither is so.
-fn tell_places<R: Threads + Wait + Sync>(
+fn fault_of_places<R: Threads + Wait + Sync>(
     rt: &R,
     alloc: Global,
     places: u8,

@@ -170,13 +170,13 @@ fn do_task<
     match task {
         Task::InTurn(steps) => {
             for &step in steps {
-                let told = match answer(rt, alloc, step, one, first, other, second)? {
+                let outcome = match answer(rt, alloc, step, one, first, other, second)? {
                     Err(Refusal::NoMemory) => {
                         answer(rt, alloc, step, one, first, other, second)?
                     }
-                    told => told,
+                    outcome => outcome,
                 };
-                answers.push(told).ok()?;
+                answers.push(outcome).ok()?;
             }
         }
         Task::AtOnce(times) => {
@@ -316,7 +316,7 @@ fn pool_named<P: Pooling + Send + Sync, R: Threads + Wait + Sync>(
 
 /// What two desks on a pool of this capacity are answered, the number of each session's newest generation at the end,
 /// and what the pool has granted then; or nothing when out of memory.
-pub fn tell_desks<R: Threads + Wait + Sync>(
+pub fn play_desks<R: Threads + Wait + Sync>(
     rt: &R,
     alloc: Global,
     capacity: Sums,

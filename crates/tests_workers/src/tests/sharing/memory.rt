@@ -6,7 +6,7 @@
 ghost use Rattle.std.specs.Prelude.{◌≡◌, ◌<◌, length};
 ghost use Rattle.pcef_share.specs.Names.{name_at};
 
-use super::desks::{Task, tell_desks};
+use super::desks::{Task, play_desks};
 use super::*;
 use crate::tests::expect_equal;
 
@@ -88,18 +88,19 @@ fn done(alloc: Global) -> Result<Option<(Sums, u64)>, Fail> {
 #[test]
 fn commands_on_a_pool_that_find_no_memory_can_come_again(rt: HostRuntime) -> Result<(), Fail> {
     let alloc = rt.alloc();
-    let told = match done(alloc)? {
-        Some(told) => Some(told),
+    let outcome = match done(alloc)? {
+        Some(outcome) => Some(outcome),
         None => done(alloc)?,
     };
     assert!(rt;
-        told == Some((
-            Sums {
-                up: 100_000,
-                down: 100_000
-            },
-            5
-        ))
+        outcome
+            == Some((
+                Sums {
+                    up: 100_000,
+                    down: 100_000
+                },
+                5
+            ))
     );
     Ok(())
 }
@@ -112,11 +113,11 @@ fn desks_on_a_pool_that_find_no_memory_can_go_on(rt: HostRuntime) -> Result<(), 
         down: 100_000,
     };
     let task = Task::InTurn(STEPS.as_slice());
-    let told = match tell_desks(&rt, alloc, capacity, task) {
-        Some(told) => Some(told),
-        None => tell_desks(&rt, alloc, capacity, task),
+    let outcome = match play_desks(&rt, alloc, capacity, task) {
+        Some(outcome) => Some(outcome),
+        None => play_desks(&rt, alloc, capacity, task),
     };
-    let Some((seen, generations, granted)) = told else {
+    let Some((seen, generations, granted)) = outcome else {
         return Err("two desks found no memory twice")?;
     };
     assert!(rt; seen.answers.iter().all(|answer| answer.is_ok()));

@@ -49,7 +49,7 @@ fn a_pool_has_sixty_four_shares(rt: HostRuntime) -> Result<(), Fail> {
 }
 
 #[test]
-fn faults_are_told_in_their_order(rt: HostRuntime) -> Result<(), Fail> {
+fn faults_are_returned_in_their_order(rt: HostRuntime) -> Result<(), Fail> {
     let alloc = rt.alloc();
     let over = 1_099_511_627_776;
     assert!(rt; fault(alloc, over, 0, 1)? == Some(PooledFault::Sessions));

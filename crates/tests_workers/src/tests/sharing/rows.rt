@@ -1,6 +1,6 @@
 //! Sessions that compete for the rates of a pool: in one thread, and behind locks with a desk each.
 
-use super::desks::{Task, tell_desks};
+use super::desks::{Task, play_desks};
 use super::*;
 use crate::tests::expect_equal;
 use pcef_rule::BearerId;
@@ -37,8 +37,8 @@ fn comes<R: Threads + Wait + Sync>(
     steps: &[Step],
     due: &Due<'_>,
 ) -> Result<bool, Fail> {
-    let told = tell(alloc, capacity, steps)?;
-    let Some((seen, generations, granted)) = tell_desks(rt, alloc, capacity, Task::InTurn(steps))
+    let outcome = play(alloc, capacity, steps)?;
+    let Some((seen, generations, granted)) = play_desks(rt, alloc, capacity, Task::InTurn(steps))
     else {
         return Err("there is no memory for two desks")?;
     };
@@ -47,9 +47,9 @@ fn comes<R: Threads + Wait + Sync>(
         down: due.granted,
     };
     Ok(
-        told.answers.as_slice() == due.answers
-            && told.generations == due.generations
-            && told.granted == sums
+        outcome.answers.as_slice() == due.answers
+            && outcome.generations == due.generations
+            && outcome.granted == sums
             && seen.answers.as_slice() == due.answers
             && generations == due.generations
             && granted == sums,
@@ -81,22 +81,6 @@ fn a_removed_rule_leaves_its_rates_to_the_other_session(rt: HostRuntime) -> Resu
     let due = Due {
         answers: answers.as_slice(),
         generations: (2, 1),
-        granted: 64_000,
-    };
-    assert!(rt; comes(&rt, rt.alloc(), both(100_000), steps.as_slice(), &due)?);
-    Ok(())
-}
-
-#[test]
-fn a_refused_rule_leaves_generation_and_pool(rt: HostRuntime) -> Result<(), Fail> {
-    let steps = [
-        Step::Install(0, 64_000, 64_000),
-        Step::Install(1, 64_000, 64_000),
-    ];
-    let answers = [accepted(Some(6), 1), Err(Refusal::PoolUp)];
-    let due = Due {
-        answers: answers.as_slice(),
-        generations: (1, 0),
         granted: 64_000,
     };
     assert!(rt; comes(&rt, rt.alloc(), both(100_000), steps.as_slice(), &due)?);
@@ -203,7 +187,7 @@ fn downlink_rates_of_an_offered_rule_are_looked_at_too(rt: HostRuntime) -> Resul
 
 #[test]
 fn two_desks_in_threads_leave_nothing_granted(rt: HostRuntime) -> Result<(), Fail> {
-    let Some((seen, _, granted)) = tell_desks(&rt, rt.alloc(), both(64_000), Task::AtOnce(1000))
+    let Some((seen, _, granted)) = play_desks(&rt, rt.alloc(), both(64_000), Task::AtOnce(1000))
     else {
         return Err("there is no memory for two desks")?;
     };

@@ -16,7 +16,7 @@ use std::thread::{Threads, join};
 type Handed<N> = ArrayVec<Option<Shares<N>>, MAX_SHARES>;
 
 #[test]
-fn a_missing_share_is_told(rt: HostRuntime) {
+fn a_missing_share_is_reported(rt: HostRuntime) {
     let sums = [0, 0, 0, 628, 0, 0, 0, 40, 1, 5];
     expect_equal(
         &rt,
@@ -91,7 +91,7 @@ fn with_the_second<N: Naming>(
 }
 
 #[test]
-fn each_number_of_missing_shares_is_told(rt: HostRuntime) {
+fn each_number_of_missing_shares_is_reported(rt: HostRuntime) {
     // 17 are missing, then 16, and so on: 153 in all.
     expect_equal(
         &rt,
@@ -135,8 +135,8 @@ fn handed_in_one_by_one<N: Naming>(books: Books<N>, shares: Handed<N>) -> Option
     let mut handed = ArrayVec::new();
     let mut missing = 0u64;
     for share in shares {
-        let (same, front, told) = one_more(books, handed, share)?;
-        missing = missing.saturating_add(u64::from(told.0));
+        let (same, front, outcome) = one_more(books, handed, share)?;
+        missing = missing.saturating_add(u64::from(outcome.0));
         books = same;
         handed = front;
     }

@@ -1,5 +1,5 @@
 use Rattle.pcef_share.specs.Names.{name_at, no_book, no_setting}
-use Rattle.tests_workers.proofs.tests.sharing.share.a_missing_share_is_told.Given as goal
+use Rattle.tests_workers.proofs.tests.sharing.share.a_missing_share_is_reported.Given as goal
 
 -- the session of the new ledgers
 abbrev pub ghosts-one_of_two_is_missing : goal.ghosts-one_of_two_is_missing

@@ -1,6 +1,6 @@
 use Rattle.std.proofs.Common.{ap}
 use Rattle.pcef_model.specs.Journals.{attach_count}
-use Rattle.tests_workers.proofs.tests.lock.told_to_the_desk.Goals as goal
+use Rattle.tests_workers.proofs.tests.opening.play_behind_its_lock.Goals as goal
 
 pub open-requires-clause-fresh : goal.open-requires-clause-fresh
 unfolding attach_count

@@ -1,8 +1,8 @@
 use Rattle.pcef_model.specs.Journals.{gen}
 use Rattle.pcef_share.specs.Names.{name_at}
-use Rattle.tests_workers.proofs.tests.opening.tell_of_opened.Given as goal
+use Rattle.tests_workers.proofs.tests.opening.play_opened.Given as goal
 
 -- the name of the session, of the blanks and of the opened history
-abbrev pub ghosts-tell_behind_its_lock : goal.ghosts-tell_behind_its_lock
-ghosts-tell_behind_its_lock g a =
+abbrev pub ghosts-play_behind_its_lock : goal.ghosts-play_behind_its_lock
+ghosts-play_behind_its_lock g a =
     record { ledger = name_at a.blanks; setting = a.session.session.setting; book = a.opened.book; root = a.opened.root; first = gen a.session.session.journal }
