@@ -10,7 +10,7 @@
  *
  * ERRORS. A call returns a number that says what came of it. No call sets errno, ends the process, writes anywhere but to the
  * handle, to the buffers that it is given and to the heap, or runs on without end. On a handle without a session each
- * call says so, and does nothing.
+ * call but pcef_open says so (pcef_judge in each verdict), and changes no handle.
  *
  * WHAT YOU OWE, and no call can see: pointers to live memory of the length that you give, never null, also where the length
  * is 0; buffers that don't overlap one another or the handle; lengths below 2^63; and malloc, realloc and free of one
@@ -56,7 +56,7 @@ uint8_t pcef_open(pcef_session *at, const uint8_t *profile, size_t profile_lengt
  * `pcef script` writes for the line, without its line feed. As much of it as fits is written to `answer`. A line of
  * spaces, tabs and CR alone has no answer: 0. The line is done even where its answer doesn't fit. An answer to `show` grows with rules and keys,
  * one to `flush` with the rows that waited; 65,536 octets are ample for both. Takes memory.
- * PCEF_NO_SESSION, or PCEF_NO_MEMORY, and then the line may be done or not: close the session. */
+ * PCEF_NO_SESSION: nothing is done. PCEF_NO_MEMORY: the line may be done or not, so close the session. */
 size_t pcef_line(pcef_session *at, const uint8_t *line, size_t line_length, uint8_t *answer, size_t answer_room);
 
 /* Writes the session's reports from this number on, and returns the length of their text: a JSON array, the oldest
@@ -90,7 +90,7 @@ typedef struct {
     uint8_t status;      /* PCEF_PASSED to PCEF_TOO_FEW */
     uint8_t bearer;      /* where the packet passes: its bearer, 5 to 15; else 0 */
     uint8_t place;       /* where a rule decided: its place in precedence order, from 0; else PCEF_NO_PLACE */
-    uint8_t slots;       /* bit n: the packet counts for the n-th monitoring key, in the order in which keys were named */
+    uint8_t slots;       /* bit n, from 0: the packet counts for the key that was named n-th, from 0 */
 } pcef_verdict;
 
 #define PCEF_PASSED 0
@@ -106,9 +106,9 @@ typedef struct {
 #define PCEF_TOO_FEW 10         /* the octets that aren't at hand decide: hand over more of the packet */
 #define PCEF_NO_PLACE 255
 
-/* Judges the first `packet_count` packets by the newest generation, at most as many as there is room for verdicts, and
- * returns their number. A verdict on first octets is that on each packet of `whole` octets that begins with them; PCEF_TOO_FEW says that
- * two such packets are read differently. 64 octets are enough of version 4; of version 6, all headers and four octets
+/* Judges packets in their order by the newest generation, as many as the smaller of the two counts, and returns their
+ * number. A verdict on first octets is that on each packet of `whole` octets that begins with them; PCEF_TOO_FEW says
+ * that two such packets are read differently. 64 octets are enough of version 4; of version 6, all headers and four octets
  * behind them. Nothing is counted, and no row is kept: `take` and `flush` do that. Takes no memory. */
 size_t pcef_judge(pcef_session *at, const pcef_packet *packets, size_t packet_count, pcef_verdict *verdicts,
                   size_t verdict_count);
