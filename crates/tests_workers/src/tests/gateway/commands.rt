@@ -13,55 +13,10 @@ fn usage(report: &Report, number: u64, cause: Cause) -> Option<u64> {
         Body::Usage {
             key,
             octets,
-            cause: outcome,
-        } if report.number == number && key.as_str() == "vid" && *outcome == cause => Some(*octets),
+            cause: found,
+        } if report.number == number && key.as_str() == "vid" && *found == cause => Some(*octets),
         _ => None,
     }
-}
-
-#[test]
-fn a_report_is_asked_for_meanwhile(rt: HostRuntime) -> Result<(), Fail> {
-    let alloc = rt.alloc();
-    let arrivals = packets(alloc, 1, 2)?;
-    let commands = vec![in alloc; Command::ReportNow(vid()?)]?;
-    let ended = run(
-        &rt,
-        alloc,
-        monitored(alloc)?,
-        arrivals,
-        commands,
-        2,
-        &OpenGate,
-    )??;
-    report_is_returned(&rt, &ended);
-    Ok(())
-}
-
-/// The octets of the one report, which was asked for by the one command.
-fn octets_asked_for(ended: &Ended) -> Option<u64> {
-    match (ended.answers.as_slice(), ended.reports.as_slice()) {
-        ([Ok(_)], [report]) => usage(report, 0, Cause::Requested),
-        _ => None,
-    }
-}
-
-fn report_is_returned(rt: &impl Abort, ended: &Ended) {
-    let octets = octets_asked_for(ended);
-    assert!(rt;
-        matches!(octets, Some(0 | 28 | 56)),
-        "one report was asked for"
-    );
-    let octets = octets.unwrap_or(0);
-    let expected = Figures {
-        rows: 2,
-        commands: 3,
-        keys: 1,
-        counted: 56,
-        reported: octets,
-        unreported: 56u64.saturating_sub(octets),
-        ..Figures::default()
-    };
-    expect_equal(rt, &outcome(ended), &Some(expected));
 }
 
 /// Commands of which only the last one is accepted.

@@ -18,25 +18,6 @@ pub const TWO_COUNTED: Figures = Figures {
     unreported: 56,
 };
 
-#[test]
-fn each_worker_takes_its_packet(rt: HostRuntime) -> Result<(), Fail> {
-    let alloc = rt.alloc();
-    let arrivals = packets(alloc, 1, 2)?;
-    let commands = Vec::new(alloc);
-    let ended = run(
-        &rt,
-        alloc,
-        monitored(alloc)?,
-        arrivals,
-        commands,
-        2,
-        &OpenGate,
-    )??;
-    assert!(rt; ended.answers.is_empty() && ended.reports.is_empty());
-    expect_equal(&rt, &figures_of(ended), &Some(TWO_COUNTED));
-    Ok(())
-}
-
 /// Holds each of two workers up where its first flush begins, until the other one's does.
 #[derive(Drop)]
 struct Meeting {
