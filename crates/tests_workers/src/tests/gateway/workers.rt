@@ -2,7 +2,7 @@
 
 use super::*;
 use crate::tests::expect_equal;
-use pcef_worker::{OpenGate, Point};
+use pcef_worker::Point;
 use std::sync::atomic::{AtomicBool, Ordering};
 use std::thread::yield_now;
 
