@@ -1,6 +1,6 @@
 //! Tests of the parts of a session: packets, filters, rules and catalogs; tables, their indexes and outlets of
-//! reporters; journals, counters, bearers and active rules. They stand above the crates that they test, which are then
-//! proved once.
+//! reporters; and calls of counters and bearers that a session doesn't make. They stand above the crates that they test,
+//! which are then proved once.
 #![tactic(auto)]
 
 #[cfg(test)]

@@ -1,20 +1,14 @@
 //! Parts of a session, of which all was worked out by hand.
 
-mod active;
-mod archive;
 mod bearer;
 mod catalog;
-mod copies;
 mod filter;
 mod filter_v6;
 mod index;
 mod ipv6;
-mod journal;
-mod made_tables;
 mod packet;
 mod rule;
 mod shelf;
-mod table;
 mod tables;
 mod trigger;
 mod usage;

@@ -1,14 +1,11 @@
 //! Small catalogs and shapes, whose answers were worked out by hand.
 ghost use Rattle.std.specs.Prelude.{◌≡◌, [], ◌∷◌};
 ghost use Rattle.pcef_catalog.specs.Shapes.{test_holds};
-ghost use Rattle.pcef_catalog.specs.declared.shape.Test.TheVariants.{Dscp, Proto};
+ghost use Rattle.pcef_catalog.specs.declared.shape.Test.TheVariants.{Dscp};
 
 use super::expect_equal;
 use arrayvec::ArrayVec;
-use pcef_catalog::{
-    Alternative, Catalog, CatalogFault, Detect, Detects, Listing, Offer, Offers, Predefined, Shape,
-    Test,
-};
+use pcef_catalog::{Alternative, Catalog, Detect, Detects, Predefined, Shape, Test};
 use pcef_filter::Net;
 use pcef_packet::{Addr, Dir, Header, Ports};
 use pcef_rule::{Arp, Gate, Properties, Qci, Qos, RuleName};
@@ -88,122 +85,6 @@ fn named(name: RuleName) -> Properties {
     }
 }
 
-/// Two rules of one name, as many rules as may be, and one more.
-#[test]
-fn rules_that_make_a_catalog_or_none(rt: HostRuntime) {
-    let answers = [
-        places_of_named(rt.alloc(), &["web", "mail", "web"]),
-        places_of_numbered(rt.alloc(), 32),
-        places_of_numbered(rt.alloc(), 33),
-    ];
-    expect_equal(
-        &rt,
-        &answers,
-        &[
-            Some(Err(CatalogFault::SameName)),
-            Some(Ok([NOWHERE; 5])),
-            Some(Err(CatalogFault::TooMany)),
-        ],
-    );
-}
-
-#[test]
-fn places_of_names(rt: HostRuntime) {
-    expect_equal(
-        &rt,
-        &places_of_named(rt.alloc(), &["web", "mail", "webmail"]),
-        &Some(Ok([
-            (Some(0), Some(0)),
-            (Some(1), Some(1)),
-            (Some(2), Some(2)),
-            NOWHERE,
-            NOWHERE,
-        ])),
-    );
-}
-
-/// The place of a name in a catalog, and in the catalog's listing.
-type Place = (Option<u8>, Option<u8>);
-
-const NOWHERE: Place = (None, None);
-
-/// The places in a catalog of rules of these names.
-fn places_of_named(alloc: Global, names: &[&str]) -> Option<Result<[Place; 5], CatalogFault>> {
-    let mut rules = Vec::new(alloc);
-    for name in names {
-        rules.push(RuleName::new(name).ok()?).ok()?;
-    }
-    places_of(alloc, rules.as_slice())
-}
-
-/// The places in a catalog of `count` rules.
-fn places_of_numbered(alloc: Global, count: u8) -> Option<Result<[Place; 5], CatalogFault>> {
-    let mut names = Vec::new(alloc);
-    for number in 0..count {
-        names.push(numbered(alloc, number)?).ok()?;
-    }
-    places_of(alloc, names.as_slice())
-}
-
-fn numbered(alloc: Global, number: u8) -> Option<RuleName> {
-    let text = format!(in alloc; "web{number}").ok()?;
-    RuleName::new(&text).ok()
-}
-
-fn places_of(alloc: Global, names: &[RuleName]) -> Option<Result<[Place; 5], CatalogFault>> {
-    let mut rules = Vec::new(alloc);
-    for name in names {
-        let detect: Detect = Box::new(
-            alloc,
-            |h: &Header| -> bool
-                ensures { result ≡ test_holds h.now (Proto 6) }
-            { h.proto == 6 },
-        )
-        .ok()?;
-        rules
-            .push(Predefined::new(named(name.copy()), one(Test::Proto(6)), detect))
-            .ok()?;
-    }
-    match Catalog::new(alloc, rules) {
-        Ok(catalog) => Some(Ok(places_in(&catalog))),
-        Err(fault) => Some(Err(fault)),
-    }
-}
-
-fn places_in(catalog: &Catalog) -> [Place; 5] {
-    [
-        place_in(catalog, &RuleName::known("web")),
-        place_in(catalog, &RuleName::known("mail")),
-        place_in(catalog, &RuleName::known("webmail")),
-        place_in(catalog, &RuleName::known("we")),
-        place_in(catalog, &RuleName::known("news")),
-    ]
-}
-
-fn place_in(catalog: &Catalog, name: &RuleName) -> Place {
-    (catalog.index_of(name), catalog.listing().index_of(name))
-}
-
-#[test]
-fn no_rules(rt: HostRuntime) {
-    expect_equal(&rt, &facts_of_no_rules(rt.alloc()), &Some((0, 0, None)));
-}
-
-fn facts_of_no_rules(alloc: Global) -> Option<(usize, usize, Option<u8>)> {
-    let catalog = Catalog::new(alloc, Vec::new(alloc)).ok()?;
-    facts_of(&catalog)
-}
-
-/// How many offers a catalog has, how many a share of its listing has, and the place of a name.
-fn facts_of(catalog: &Catalog) -> Option<(usize, usize, Option<u8>)> {
-    let shared = catalog.listing().share().ok()?;
-    Some((
-        catalog.listing().offers().len(),
-        shared.offers().len(),
-        catalog.index_of(&RuleName::known("web")),
-    ))
-}
-
 #[test]
 fn the_closure_is_called(rt: HostRuntime) {
     expect_equal(
@@ -265,67 +146,6 @@ fn asked(catalog: &Catalog, calls: &AtomicU64, index: u8, header: &Header) -> (b
     (catalog.detects(index, header), calls.load(Ordering::SeqCst))
 }
 
-#[test]
-fn a_listing_has_the_shape_and_no_closure(rt: HostRuntime) {
-    expect_equal(
-        &rt,
-        &facts_of_a_rule(rt.alloc()),
-        &Some(([true, true, true, false], [Some([true, true, false]); 2])),
-    );
-}
-
-/// What a rule says of itself, and what a listing says of it.
-fn facts_of_a_rule(alloc: Global) -> Option<([bool; 4], [Option<[bool; 3]>; 2])> {
-    let detect: Detect = Box::new(
-        alloc,
-        |h: &Header| -> bool
-            ensures { result ≡ test_holds h.now (Dscp 46) }
-        { h.dscp == 46 },
-    )
-    .ok()?;
-    let rule = Predefined::new(named(RuleName::known("voice")), one(Test::Dscp(46)), detect);
-    Some((answers_of_rule(&rule), answers_of_listing(alloc, &rule)?))
-}
-
-/// Whether a rule has its name, whether its shape holds, and whether its closure detects two packets.
-fn answers_of_rule(rule: &Predefined) -> [bool; 4] {
-    [
-        rule.properties().name.as_str() == "voice",
-        rule.shape().holds(&DNS_ANSWER),
-        rule.detects(&DNS_ANSWER),
-        rule.detects(&PLAIN_ANSWER),
-    ]
-}
-
-/// What a listing says of a rule, and what a share of the listing says of it.
-fn answers_of_listing(alloc: Global, rule: &Predefined) -> Option<[Option<[bool; 3]>; 2]> {
-    let listing = listing_of(alloc, rule)?;
-    let shared = listing.share().ok()?;
-    Some([only(listing.offers()), only(shared.listing().offers())])
-}
-
-fn listing_of(alloc: Global, rule: &Predefined) -> Option<Listing> {
-    let mut offers = Vec::new(alloc);
-    let offer = Offer {
-        properties: rule.properties().copy(),
-        shape: rule.shape().copy(),
-    };
-    offers.push(offer).ok()?;
-    Listing::new(alloc, offers).ok()
-}
-
-/// Whether the only offer has its name, and whether its shape holds for two packets.
-fn only(offers: &[Offer]) -> Option<[bool; 3]> {
-    match offers {
-        [offer] => Some([
-            offer.properties.name.as_str() == "voice",
-            offer.shape.holds(&DNS_ANSWER),
-            offer.shape.holds(&PLAIN_ANSWER),
-        ]),
-        _ => None,
-    }
-}
-
 /// Tests, and whether each is true of the answer, of the query, and of the answer without ports.
 const TESTS: [(Test, [bool; 3]); 16] = [
     (Test::Proto(17), [true, true, true]),
@@ -349,7 +169,7 @@ const TESTS: [(Test, [bool; 3]); 16] = [
 #[test]
 fn tests_of_a_header(rt: HostRuntime) {
     for (test, wanted) in &TESTS {
-        expect_equal(&rt, &(test, answers(*test)), &(test, [*wanted; 3]));
+        expect_equal(&rt, &(test, answers(*test)), &(test, *wanted));
     }
 }
 
@@ -415,29 +235,12 @@ fn remote_networks_of_both_versions(rt: HostRuntime) {
     expect_equal(&rt, &first_wrong_remote(&REMOTES), &None);
 }
 
-#[test]
-fn the_default_test(rt: HostRuntime) {
-    expect_equal(&rt, &answers(Test::default()), &[[false; 3]; 3]);
-}
-
-/// The answers of a test, of a shape of it and of the shape's copy, each to the three packets.
-fn answers(test: Test) -> [[bool; 3]; 3] {
+/// The answers of a test to the three packets.
+fn answers(test: Test) -> [bool; 3] {
     [
-        [
-            test.holds(&DNS_ANSWER),
-            test.holds(&DNS_QUERY),
-            test.holds(&PORTLESS_ANSWER),
-        ],
-        answers_of(&one(test)),
-        answers_of(&one(test).copy()),
-    ]
-}
-
-fn answers_of(shape: &Shape) -> [bool; 3] {
-    [
-        shape.holds(&DNS_ANSWER),
-        shape.holds(&DNS_QUERY),
-        shape.holds(&PORTLESS_ANSWER),
+        test.holds(&DNS_ANSWER),
+        test.holds(&DNS_QUERY),
+        test.holds(&PORTLESS_ANSWER),
     ]
 }
 
