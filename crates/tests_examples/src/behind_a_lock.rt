@@ -172,7 +172,10 @@ fn behind_its_lock<C: Detects + Drop, N: Naming, R: Wait>(
     requires offers { C.offers (arc_value catalog) ≡ session.session.setting.catalog }
 {
     match Shared::<C, N, _>::open(rt, alloc, catalog, session, opened, blanks, PLACES) {
-        Ok((shared, desk)) => { play_to_the_end(rt, alloc, shared, Crew::new(alloc, desk), worked) }
+        Ok((shared, desk)) => {
+            let crew = Crew::new(alloc, desk)?;
+            play_to_the_end(rt, alloc, shared, crew, worked)
+        }
         Err(_) => Err(AllocError),
     }
 }

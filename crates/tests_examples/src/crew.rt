@@ -22,8 +22,7 @@ pub struct Crew<C: Offers + Drop, N: Naming> {
     left: Vec<Finished<N>>,
 }
 
-// Puts one more into a list; without memory it is lost, and its next step is answered as that of a worker that was
-// never attached.
+// Puts one more into a list that has room for all workers.
 fn keep<T: Drop>(list: &mut Vec<T>, one: T) {
     let _ = list.push(one).ok();
 }
@@ -40,13 +39,13 @@ fn take_packet<C: Detects + Drop, N: Naming>(
 }
 
 impl<C: Detects + Drop, N: Naming> Crew<C, N> {
-    /// Nobody is attached yet.
-    pub fn new(alloc: Global, desk: Desk<N>) -> Crew<C, N> {
-        Crew {
+    /// Nobody is attached yet. Takes memory for sixteen workers.
+    pub fn new(alloc: Global, desk: Desk<N>) -> Result<Crew<C, N>, AllocError> {
+        Ok(Crew {
             desk,
-            attached: Vec::new(alloc),
-            left: Vec::new(alloc),
-        }
+            attached: Vec::with_capacity(alloc, 16)?,
+            left: Vec::with_capacity(alloc, 16)?,
+        })
     }
 
     // The place of the worker of this number among those that are attached.

@@ -7,11 +7,10 @@
 //!
 //! A word that ends in `.steps`, `.lines` or `.profiles` names a file. Any other names a script: `NAME.jsonl` has its
 //! lines, and `NAME.answers.jsonl` their answers, which were worked out by hand. The session's profile is `NAME.toml`
-//! where there is such a file, else `profile.toml`. Each script runs twice: for a writer that takes all that it is
-//! offered, and for one that takes half. Then a desk and workers make its steps behind a lock, whose answers must be
-//! the same, and what they hand in is gathered. For each script a line is written: how many answers it has, how many of
-//! its lines are at fault, how many steps were made behind the lock and how many rows were gathered; or the first
-//! answer that isn't as worked out.
+//! where there is such a file, else `profile.toml`. A desk and workers make its steps behind a lock too, whose answers
+//! must be the same, and what they hand in is gathered. For each script a line is written: how many answers it has, how
+//! many of its lines are at fault, how many steps were made behind the lock and how many rows were gathered; or the
+//! first answer that isn't as worked out.
 //!
 //! A file of steps has the lines of a script, without faults and without `show`. They are answered through the calls of
 //! `pcef_core`, on the profile `profile.toml`: one by one on a world, all at once, and the commands alone on a session.
@@ -42,7 +41,6 @@ mod profiles;
 mod reading;
 mod scripts;
 mod steps;
-mod taker;
 
 use lines::{write_file, write_other_faults};
 use pcef_catalog::Catalog;

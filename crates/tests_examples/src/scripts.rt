@@ -2,7 +2,6 @@
 
 use crate::behind_a_lock::{Played, Worked, play};
 use crate::comparing::{Difference, first_difference};
-use crate::taker::{Taker, Taking};
 use pcef_catalog::Catalog;
 use pcef_model::Profile;
 use pcef_profile::read_profile;
@@ -36,21 +35,22 @@ fn script_of(rt: &HostRuntime, name: &str) -> io::Result<String> {
     fs::read_to_string(rt, path.as_str())
 }
 
-/// What a script answers a writer, and how many of its lines are at fault.
-fn answer_script(
-    rt: &HostRuntime,
-    catalog: Arc<Catalog>,
-    name: &str,
-    taking: Taking,
-) -> io::Result<(String, u64)> {
+/// What a script answers, and how many of its lines are at fault.
+fn answer_script(rt: &HostRuntime, catalog: Arc<Catalog>, name: &str) -> io::Result<(String, u64)> {
     let alloc = rt.alloc();
     let profile = profile_of(rt, name)?;
     let script = script_of(rt, name)?;
-    let mut writer = Taker::new(alloc, taking);
-    let Ok(faults) = run_script(alloc, &mut script.as_bytes(), &mut writer, profile, catalog) else {
+    let mut written = Vec::new(alloc);
+    let Ok(faults) = run_script(
+        alloc,
+        &mut script.as_bytes(),
+        &mut written,
+        profile,
+        catalog,
+    ) else {
         return Err(ErrorKind::InvalidData.into());
     };
-    match String::from_utf8(writer.into_taken()) {
+    match String::from_utf8(written) {
         Ok(answers) => Ok((answers, faults)),
         Err(_) => Err(ErrorKind::InvalidData.into()),
     }
@@ -62,23 +62,16 @@ fn worked_out(rt: &HostRuntime, name: &str) -> io::Result<String> {
     fs::read_to_string(rt, path.as_str())
 }
 
-/// Compares the answers that a script gives on a writer with those worked out, and returns whether all are the same.
-/// Prints the first difference; where there is none, the counts for the writer that takes all.
-fn compare_taken(
-    rt: &HostRuntime,
-    catalog: Arc<Catalog>,
-    name: &str,
-    taking: Taking,
-) -> io::Result<bool> {
-    let (answers, faults) = answer_script(rt, catalog, name, taking)?;
+/// Compares the answers that a script gives with those worked out, and returns whether all are the same. Prints the first
+/// difference, or the counts.
+fn compare_answers(rt: &HostRuntime, catalog: Arc<Catalog>, name: &str) -> io::Result<bool> {
+    let (answers, faults) = answer_script(rt, catalog, name)?;
     let wanted = worked_out(rt, name)?;
     let mut writer = io::writer(rt);
     match first_difference(answers.as_str(), wanted.as_str()) {
         None => {
-            if taking == Taking::All {
-                let count = answers.as_str().lines().count();
-                write!(writer, "{name}: {count} answers, {faults} lines at fault; ")?;
-            }
+            let count = answers.as_str().lines().count();
+            write!(writer, "{name}: {count} answers, {faults} lines at fault; ")?;
             Ok(true)
         }
         Some(Difference { line, is, due }) => {
@@ -121,18 +114,15 @@ fn compare_behind_a_lock<T: Wait>(
     }
 }
 
-/// Prints the outcome of a script, and returns whether each answer is as worked out, for both writers and behind a
-/// lock.
+/// Prints the outcome of a script, and returns whether each answer is as worked out, in one thread and behind a lock.
 pub fn compare<T: Wait>(
     threads: &T,
     rt: &HostRuntime,
     catalog: Arc<Catalog>,
     name: &str,
 ) -> io::Result<bool> {
-    let for_half = Arc::try_clone(&catalog)?;
     let for_lock = Arc::try_clone(&catalog)?;
-    let are_all = compare_taken(rt, catalog, name, Taking::All)?;
-    let are_halves = compare_taken(rt, for_half, name, Taking::Half)?;
+    let are_all = compare_answers(rt, catalog, name)?;
     let are_locked = compare_behind_a_lock(threads, rt, for_lock, name)?;
-    Ok(are_all && are_halves && are_locked)
+    Ok(are_all && are_locked)
 }
