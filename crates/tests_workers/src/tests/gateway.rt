@@ -2,12 +2,9 @@
 ghost use Rattle.std.specs.Prelude.{◌≡◌, [], IfOk};
 ghost use Rattle.pcef_model.specs.Journals.{attach_count};
 
-mod commands;
+mod answers;
 mod flushes;
-mod limits;
-mod memory;
 mod open_rings;
-mod rounds;
 mod workers;
 
 use crate::tests::sessions::{monitor, packet, session, vid, web};

@@ -1,8 +1,0 @@
-use Rattle.pcef_model.specs.Journals.{gen}
-use Rattle.pcef_share.specs.Names.{name_at}
-use Rattle.tests_workers.proofs.tests.sharing.desks.pool_named.Given as goal
-
--- the name of the session, of its blanks and of its opened history
-abbrev pub ghosts-first_named : goal.ghosts-first_named
-ghosts-first_named g a =
-    record { ledger = name_at a.blanks; setting = a.side.session.session.setting; book = a.side.opened.book; root = a.side.opened.root; first = gen a.side.session.session.journal }

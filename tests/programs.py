@@ -1,0 +1,71 @@
+"""What the tests of the built programs share: where the programs are, and how one is run."""
+import os
+import subprocess
+import tempfile
+import unittest
+from typing import NamedTuple
+
+TOP = os.path.dirname(os.path.dirname(os.path.abspath(__file__)))
+
+
+def built(name):
+    """The program of a crate, as the gate or `rt run` builds it."""
+    return os.path.join(TOP, "crates", name, "out", name)
+
+
+PCEF = built("pcef_cli")
+PCEF_MANY = built("pcef_many")
+PCEF_CAPTURE = built("pcef_capture")
+PCEF_CHECK = built("pcef_check")
+PCEF_REPORT = built("pcef_report")
+
+
+class Ended(NamedTuple):
+    """How a program ended: its exit status, and what it wrote on standard output and on standard error."""
+
+    status: int
+    wrote: bytes
+    said: bytes
+
+
+def octets(text):
+    return text if isinstance(text, bytes) else text.encode()
+
+
+class ProgramTest(unittest.TestCase):
+    """A test that runs programs in a folder of its own."""
+
+    maxDiff = None
+
+    def setUp(self):
+        room = tempfile.TemporaryDirectory()
+        self.addCleanup(room.cleanup)
+        self.room = room.name
+
+    def write(self, name, content):
+        """Makes a file in the folder."""
+        with open(os.path.join(self.room, name), "wb") as file:
+            file.write(octets(content))
+
+    def run_on(self, program, words, given="", environment=None):
+        """How the program ends on these words and on `given` as its standard input."""
+        ran = subprocess.run(
+            [program, *words],
+            input=octets(given),
+            stdout=subprocess.PIPE,
+            stderr=subprocess.PIPE,
+            cwd=self.room,
+            env=environment,
+            timeout=60,
+        )
+        return Ended(ran.returncode, ran.stdout, ran.stderr)
+
+    def ends(self, program, words, given="", status=0, wrote="", said=""):
+        """Expects that the program ends so."""
+        came = self.run_on(program, words, given)
+        self.assertEqual(came, Ended(status, octets(wrote), octets(said)))
+
+
+def lines(*texts):
+    """The texts as lines, each ended by a line feed."""
+    return "".join(f"{text}\n" for text in texts)

@@ -1,0 +1,196 @@
+"""Lines of many sessions for `pcef_many`, in one thread and in several."""
+from commands import ATTACH, DNS_ANSWER, FLUSH, SHOW, WEB, line, profile, take
+from programs import PCEF, PCEF_MANY, ProgramTest, lines
+
+OPEN = line(do="open")
+END = line(do="end")
+OK = '{"ok":true}'
+NO_SESSION = '{"name":"NoSession","refused":0}'
+SESSION_IS_OPEN = '{"name":"SessionIsOpen","refused":1}'
+UNKNOWN_FIELD = '{"fault":6,"name":"UnknownField"}'
+BAD_UE = '{"fault":8,"field":"ue","name":"BadField"}'
+BAD_NAME = '- {"fault":1,"name":"BadName"}\n'
+LINE_TOO_LONG = '{"fault":1,"name":"LineTooLong"}'
+
+# The longest rest of a line behind its name, in bytes, as of a line of a script.
+LONGEST = 262144
+
+# A session's lines between its `open` and its `end`: a rule with a key, a packet that counts, one beyond the address,
+# and two lines at fault.
+SCRIPT = [
+    WEB,
+    line(do="triggers", events=["USAGE_REPORT"]),
+    line(do="monitor", key="vid", grant=20),
+    ATTACH,
+    take(DNS_ANSWER),
+    line(do="opens"),
+    take("4500001c0000000040110000c63364070a0000030035138800080000"),
+    FLUSH,
+    line(do="finish", worker=0),
+    line(do="install"),
+    SHOW,
+    line(do="terminate"),
+]
+
+# Lines without a name, a space or a rest.
+NAMELESS = [
+    "{}",
+    f" {OPEN}",
+    "a",
+    "a ",
+    "a  \t\r",
+    f"\ta {OPEN}",
+    f"a\tb {OPEN}",
+    f"\x7f {OPEN}",
+    f"\u00e9 {OPEN}",
+]
+
+# Lines that open or end a session, or are at fault, and the answers where it is closed and where it is open.
+AT_FAULT = [
+    ('{"do":"open","no":1}', UNKNOWN_FIELD, UNKNOWN_FIELD),
+    ('{"do":"end","ue":"10.0.0.9"}', UNKNOWN_FIELD, UNKNOWN_FIELD),
+    ('{"do":"open","ue":7}', BAD_UE, BAD_UE),
+    ('{"do":"open","ue":"10.0.0"}', BAD_UE, BAD_UE),
+    ("[1]", NO_SESSION, '{"fault":4,"name":"NotObject"}'),
+    ('{"do":"opened"}', NO_SESSION, '{"fault":5,"name":"UnknownDo"}'),
+    ("open", NO_SESSION, '{"fault":3,"name":"NotJson"}'),
+]
+
+NAMES = ["a", "b", "c", "~", "!-~subscriber"]
+
+
+def of_every_form():
+    """Lines of every form: of several names, without a name, blank, and one that no line feed ends."""
+    given = ""
+    for rest in SHOW, OPEN, ATTACH, take(DNS_ANSWER), "[1]", FLUSH, END:
+        for name in NAMES + ["-"]:
+            given += f"{name} {rest}\n\n \t\r\n"
+        given += f"nameless\n {OPEN}\na \n\u00e9 {OPEN}\n"
+    return given + f"a {OPEN}"
+
+
+def under(name, answers):
+    """The answers under a name, without it, in their order."""
+    front = f"{name} "
+    return [answer[len(front) :] for answer in answers.splitlines() if answer.startswith(front)]
+
+
+class Many(ProgramTest):
+    def setUp(self):
+        super().setUp()
+        self.write("profile.toml", profile())
+
+    def serve(self, given, threads=1, status=None):
+        """The answers to lines."""
+        came = self.run_on(PCEF_MANY, ["--threads", str(threads), "profile.toml"], given)
+        self.assertEqual(came.said, b"")
+        if status is not None:
+            self.assertEqual(came.status, status)
+        return came.wrote.decode()
+
+    def test_a_session_comes_and_goes(self):
+        steps = [
+            (f"a {SHOW}", f"a {NO_SESSION}"),
+            (f"a {END}", f"a {NO_SESSION}"),
+            (f"a {OPEN}", f"a {OK}"),
+            (f"a {ATTACH}", 'a {"generation":0,"ok":true,"worker":0}'),
+            ('a {"do":"open","ue":"10.0.0.9"}', f"a {SESSION_IS_OPEN}"),
+            (f"b {ATTACH}", f"b {NO_SESSION}"),
+            ("", None),
+            (" \t\r", None),
+            (f"a {ATTACH}", 'a {"generation":0,"ok":true,"worker":1}'),
+            (f"a {END}", f"a {OK}"),
+            (f"a {ATTACH}", f"a {NO_SESSION}"),
+            ('a  { "do" : "\\u006fpen" } ', f"a {OK}"),
+            (f"a {ATTACH}", 'a {"generation":0,"ok":true,"worker":0}'),
+        ]
+        given = lines(*[given for given, _ in steps])
+        due = lines(*[answer for _, answer in steps if answer])
+        self.assertEqual(self.serve(given, status=0), due)
+        # No line feed need end the last line.
+        self.assertEqual(self.serve(given[:-1], status=0), due)
+
+    def test_sessions_that_take_turns_answer_as_scripts_of_their_own(self):
+        script = self.run_on(PCEF, ["script", "profile.toml"], lines(*SCRIPT))
+        self.assertEqual((script.status, script.said), (1, b""))
+        own = [OK, *script.wrote.decode().splitlines(), OK]
+        self.assertEqual(len(own), len(SCRIPT) + 2)
+        names = ["a", "~!subscriber-imsi-262011234567890", "b"]
+        whole = [OPEN, *SCRIPT, END]
+        # Each session begins two turns later than the one before it.
+        turns = [
+            f"{name} {whole[turn - 2 * place]}"
+            for turn in range(len(whole) + 4)
+            for place, name in enumerate(names)
+            if 0 <= turn - 2 * place < len(whole)
+        ]
+        for threads in 1, 2, 4:
+            answers = self.serve(lines(*turns), threads, status=1)
+            for name in names:
+                with self.subTest(threads=threads, name=name):
+                    self.assertEqual(under(name, answers), own)
+
+    def test_an_address_takes_the_place_of_the_profiles(self):
+        packet = take("4500001c0000000040110000c63364070a0000090035138800080000")
+        for opening, verdict in [
+            ('{"do":"open"}', "Stray"),
+            ('{"do":"open","ue":"10.0.0.9"}', "Unmatched"),
+            ('{"ue":"2001:db8::1","do":"open"}', "Stray"),
+        ]:
+            with self.subTest(opening=opening):
+                given = lines(*[f"a {rest}" for rest in (opening, ATTACH, packet, FLUSH)])
+                verdicts = f'[{{"generation":0,"verdict":"{verdict}"}}]'
+                due = f'a {{"ok":true,"reports":[],"verdicts":{verdicts}}}'
+                self.assertEqual(self.serve(given, status=0).splitlines()[-1], due)
+
+    def test_lines_at_fault_where_a_session_is_closed_and_where_it_is_open(self):
+        for rest, closed, opened in AT_FAULT:
+            with self.subTest(rest=rest):
+                given = lines(f"a {rest}", f"b {OPEN}", f"b {rest}", f"b {END}")
+                due = lines(f"a {closed}", f"b {OK}", f"b {opened}", f"b {OK}")
+                self.assertEqual(self.serve(given, status=1), due)
+
+    def test_a_line_needs_name_space_and_rest(self):
+        for nameless in NAMELESS:
+            with self.subTest(nameless=nameless):
+                self.assertEqual(self.serve(nameless, status=1), BAD_NAME)
+
+    def test_a_name_has_at_most_64_octets(self):
+        for letter in "!~-":
+            for length in 1, 64:
+                name = letter * length
+                self.assertEqual(self.serve(f"{name} {OPEN}", status=0), f"{name} {OK}\n")
+            self.assertEqual(self.serve(f"{letter * 65} {OPEN}", status=1), BAD_NAME)
+
+    def test_the_longest_rest_of_a_line(self):
+        for length in 1, 64:
+            name = "n" * length
+            for octets, status, due in [
+                (LONGEST, 0, SESSION_IS_OPEN),
+                (LONGEST + 1, 1, LINE_TOO_LONG),
+                (600000, 1, LINE_TOO_LONG),
+            ]:
+                with self.subTest(length=length, octets=octets):
+                    given = f"{name} {OPEN}\n{name} {OPEN.rjust(octets)}"
+                    self.assertEqual(self.serve(given, status=status), f"{name} {OK}\n{name} {due}\n")
+
+    def test_threads_answer_as_one_does(self):
+        given = of_every_form()
+        alone = self.serve(given, status=1)
+        for threads in 2, 4, 7, 64:
+            answers = self.serve(given, threads, status=1)
+            self.assertEqual(sorted(answers.splitlines()), sorted(alone.splitlines()))
+            for name in NAMES:
+                with self.subTest(threads=threads, name=name):
+                    self.assertEqual(under(name, answers), under(name, alone))
+
+    def test_a_line_may_be_longer_than_what_is_read_at_once(self):
+        given = lines(*[f"{name} {OPEN.rjust(150000)}" for name in NAMES])
+        given += lines(f"{'n' * 200000} {OPEN}", f"a {ATTACH}")
+        attached = 'a {"generation":0,"ok":true,"worker":0}'
+        due = [f"{name} {OK}" for name in NAMES] + [BAD_NAME.rstrip(), attached]
+        for threads in 1, 4:
+            with self.subTest(threads=threads):
+                answers = self.serve(given, threads, status=1).splitlines()
+                self.assertEqual(sorted(answers), sorted(due))
+                self.assertLess(answers.index(f"a {OK}"), answers.index(attached))

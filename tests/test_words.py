@@ -1,0 +1,85 @@
+"""The words of `pcef`: what is usage, and what stands below it."""
+from commands import profile
+from programs import PCEF, ProgramTest
+
+USAGE = "usage: pcef script PROFILE | pcef run PROFILE WORKERS | pcef pool UP DOWN PROFILE..."
+
+# Words that ask for nothing, and what stands below the usage.
+NAMED = [
+    ([], "A command is missing: script, run or pool."),
+    (["scripts", "a"], "There is no command 'scripts': there are script, run and pool."),
+    (["script"], "script takes PROFILE: 1 word, found 0."),
+    (["run", "a"], "run takes PROFILE and WORKERS: 2 words, found 1."),
+    (["run", "a", "17"], "WORKERS is 1 to 16, found '17'."),
+    (["run", "a", "\u00e4"], "WORKERS is 1 to 16, found other text."),
+    (["pool", "1", "2"], "pool takes UP, DOWN and 1 to 64 profiles: 3 to 66 words, found 2."),
+    (["pool", "01", "x", "a"], "UP is 0 to 1099511627775 bit/s, found '01'."),
+    (["pool", "1", "x", "a"], "DOWN is 0 to 1099511627775 bit/s, found 'x'."),
+    # As many profiles as there may be, and one more, which makes too many words.
+    (["pool", "1", "x"] + ["a"] * 64, "DOWN is 0 to 1099511627775 bit/s, found 'x'."),
+    (["pool", "1", "x"] + ["a"] * 65, "pool takes UP, DOWN and 1 to 64 profiles: 3 to 66 words, found 67."),
+    # A word is shown where it has 80 bytes at most.
+    (["pool", "1", "x" * 80, "a"], f"DOWN is 0 to 1099511627775 bit/s, found '{'x' * 80}'."),
+    (["pool", "1", "x" * 81, "a"], "DOWN is 0 to 1099511627775 bit/s, found other text."),
+]
+
+NO_WORKERS = ["0", "17", "01", "+1", "", "20", "1 ", "999999999999999999999"]
+
+NO_RATES = ["", "00", "01", "+1", "-1", "1 ", "1e3", "1099511627776", "99999999999999999999999"]
+
+
+class Words(ProgramTest):
+    def is_usage(self, words, given="x"):
+        """Expects usage, and returns what stands below its first line."""
+        came = self.run_on(PCEF, words, given)
+        first, *below = came.said.decode().splitlines()
+        self.assertEqual((came.status, came.wrote, first), (2, b"", USAGE))
+        return below
+
+    def test_words_that_ask_for_nothing_are_named(self):
+        for words, named in NAMED:
+            with self.subTest(words=words):
+                self.assertEqual(self.is_usage(words)[0], named)
+
+    def test_usage_tells_by_what_the_program_was_proved(self):
+        for words in ["--help"], ["--version", "profile.toml"]:
+            with self.subTest(words=words):
+                self.assertIn("with rattle-kit-13f logic dac8208d650f15bf", "\n".join(self.is_usage(words)))
+
+    def test_numbers_of_workers(self):
+        for workers in NO_WORKERS:
+            with self.subTest(workers=workers):
+                self.is_usage(["run", "profile.toml", workers])
+
+    def test_rates_of_a_pool(self):
+        for rate in NO_RATES:
+            with self.subTest(rate=rate):
+                self.is_usage(["pool", rate, "1", "profile.toml"])
+                self.is_usage(["pool", "1", rate, "profile.toml"])
+
+    def test_a_file_that_is_not_there(self):
+        said = "read fault\nprofile.toml: No such file or directory (os error 2)\n"
+        self.ends(PCEF, ["script", "profile.toml"], status=4, said=said)
+
+    def test_a_name_that_is_no_text(self):
+        said = "read fault\na\ufffd: the name isn't UTF-8\n"
+        self.ends(PCEF, ["script", b"a\xff"], status=4, said=said)
+        self.is_usage([b"scripts", b"a\xff"])
+
+    def test_profiles_are_looked_at_in_their_order(self):
+        self.write("cut.toml", "rows = 0\n")
+        missing = "b.toml: No such file or directory (os error 2)"
+        came = self.run_on(PCEF, ["pool", "9", "9", "cut.toml", "b.toml"], "x")
+        self.assertEqual((came.status, came.wrote), (1, b""))
+        self.assertEqual(came.said.decode().splitlines()[0], "profile fault 3")
+        self.assertTrue(came.said.decode().splitlines()[1].startswith("Missing: ue: "))
+        said = f"read fault\n{missing}\n"
+        self.ends(PCEF, ["pool", "9", "9", "b.toml", "cut.toml"], "x", status=4, said=said)
+
+    def test_each_command_with_as_much_as_it_takes(self):
+        self.write("profile.toml", profile())
+        self.ends(PCEF, ["script", "profile.toml"])
+        counts = "rows 0 abandoned 0 dropped 0\ncommands 0 refused 0\nreports usage 0 access 0 inactive 0\n"
+        self.ends(PCEF, ["run", "profile.toml", "16"], wrote=counts)
+        most = "1099511627775"
+        self.ends(PCEF, ["pool", most, most] + ["profile.toml"] * 64, wrote="granted up 0 down 0\n")
