@@ -11,7 +11,7 @@ use crate::crew::Crew;
 use pcef_catalog::{Catalog, Detects, Offers};
 use pcef_journal::Journal;
 use pcef_journaled::JournaledState;
-use pcef_line::{Line, read_line};
+use pcef_line::{Line, LineFault, read_line};
 use pcef_lock::{Shared, open_history};
 use pcef_model::{Entry, Profile, Report, Step};
 use pcef_publish::{Board, Cell, Opened};
@@ -92,10 +92,11 @@ fn answer<C: Detects + Drop, N: Naming, W: Board<Cell<N>> + Drop, R: Wait>(
 }
 
 /// The step of a line, if it is one: not a line at fault, and not one that shows what a session holds.
-fn step_of(alloc: Global, line: &str) -> Option<Step> {
+fn step_of(alloc: Global, line: &str) -> Result<Option<Step>, AllocError> {
     match read_line(alloc, line) {
-        Ok(Line::Step(step)) => Some(step),
-        _ => None,
+        Ok(Line::Step(step)) => Ok(Some(step)),
+        Err(LineFault::NoMemory) => Err(AllocError),
+        _ => Ok(None),
     }
 }
 
@@ -118,7 +119,7 @@ fn play_steps<C: Detects + Drop, N: Naming, W: Board<Cell<N>> + Drop, R: Wait>(
         }
         let wanted = answers.next().unwrap_or("");
         number = number.saturating_add(1);
-        if let Some(step) = step_of(alloc, line) {
+        if let Some(step) = step_of(alloc, line)? {
             let text = answer(rt, alloc, shared, crew, &mut journal, step)?;
             if text.as_str() != wanted {
                 return Ok(Played::Differs {

@@ -4,10 +4,10 @@ ghost use Rattle.std.specs.Prelude.{◌≡◌};
 
 use pcef_answer::step_answer;
 use pcef_catalog::Catalog;
-use pcef_core::{Session, World, run};
+use pcef_core::{World, run};
 use pcef_journal::Journal;
 use pcef_line::{Line, read_line};
-use pcef_model::{Command, Profile, Refusal, Step};
+use pcef_model::{Profile, Step};
 use pcef_profile::read_profile;
 use pcef_usage::Usage;
 use pcef_world::StepAnswer;
@@ -44,14 +44,6 @@ fn step_at_last(alloc: Global, line: &str) -> Result<Step, AllocError> {
     match step_of(alloc, line) {
         Ok(step) => Ok(step),
         Err(_) => step_of(alloc, line),
-    }
-}
-
-/// The command of a line that asks for one.
-fn command_of(alloc: Global, line: &str) -> Result<Command, AllocError> {
-    match step_of(alloc, line)? {
-        Step::Command(command) => Ok(command),
-        _ => Err(AllocError),
     }
 }
 
@@ -160,35 +152,4 @@ pub(crate) fn answer_list<W: Write>(
         writer,
         "steps {steps} generation {generation} rows {rows} reports {reports} octets reported {reported} not {unreported}"
     )
-}
-
-/// Gives the commands alone to a new session, and writes the answer to each.
-pub(crate) fn answer_commands<W: Write>(
-    alloc: Global,
-    catalog: Arc<Catalog>,
-    profile: &str,
-    script: &str,
-    writer: &mut W,
-) -> io::Result<()> {
-    let spare = Arc::try_clone(&catalog)?;
-    let opened = match Session::open(alloc, profile_at_last(alloc, profile)?, catalog) {
-        Ok(session) => Ok(session),
-        Err(_) => Session::open(alloc, profile_of(alloc, profile)?, spare),
-    };
-    let Ok(mut session) = opened else {
-        return Err(AllocError)?;
-    };
-    for line in script.lines() {
-        let Step::Command(command) = step_at_last(alloc, line)? else {
-            continue;
-        };
-        let answer = match session.command(command) {
-            Err(Refusal::NoMemory) => session.command(command_of(alloc, line)?),
-            answer => answer,
-        };
-        let answer = StepAnswer::Command(answer);
-        let text = text_of(alloc, session.journal(), session.generation(), &answer)?;
-        writeln!(writer, "{text}")?;
-    }
-    Ok(())
 }

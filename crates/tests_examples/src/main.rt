@@ -3,7 +3,7 @@
 //!
 //! Its contracts say: nothing of its answers. The gate compares its output with `stdout`: a line for each script, and
 //! what was worked out by hand for each line and profile. `.ci/refused-memory` refuses each allocation in turn, and
-//! shows that a refused call leaves a world and a session as they were.
+//! shows that a refused call leaves a world as it was.
 //!
 //! A word that ends in `.steps`, `.lines` or `.profiles` names a file. Any other names a script: `NAME.jsonl` has its
 //! lines, and `NAME.answers.jsonl` their answers, which were worked out by hand. The session's profile is `NAME.toml`
@@ -13,9 +13,8 @@
 //! first answer that isn't as worked out.
 //!
 //! A file of steps has the lines of a script, without faults and without `show`. They are answered through the calls of
-//! `pcef_core`, on the profile `profile.toml`: one by one on a world, all at once, and the commands alone on a session.
-//! The answers are written, and below those of the world what it has after all steps at once. A call that found no
-//! memory is made once more.
+//! `pcef_core`, on the profile `profile.toml`: one by one on a world, and all at once. The answers are written, and below
+//! them what a world has after all steps at once. A call that found no memory is made once more.
 //!
 //! A file of lines has a line of a script in each line, and what it is read as is written below it. Blank lines and
 //! lines that begin with `#` stand between them, and are written as they are. A control picture stands for its control

@@ -1,14 +1,13 @@
 //! Makes the steps of a file through the calls of `pcef_core`, each once more where it found no memory.
 //!
-//! A refusal leaves a world and a session as they were. So with one allocation refused the program writes what it
-//! writes with memory, or, where its files, its writer or its catalog found none, nothing and ends with 3
-//! (`.ci/refused-memory`).
+//! A refusal leaves a world as it was. So with one allocation refused the program writes what it writes with memory,
+//! or, where its files, its writer or its catalog found none, nothing and ends with 3 (`.ci/refused-memory`).
 
 ghost use Rattle.std.specs.Prelude.{◌≡◌, [], ◌∷◌};
 ghost use Rattle.pcef_catalog.specs.Shapes.{test_holds};
 ghost use Rattle.pcef_catalog.specs.declared.shape.Test.TheVariants.{Dscp};
 
-use crate::calls::{answer_commands, answer_list, answer_steps};
+use crate::calls::{answer_list, answer_steps};
 use arrayvec::ArrayVec;
 use pcef_catalog::{Alternative, Catalog, Detect, Predefined, Shape, Test};
 use pcef_packet::Header;
@@ -18,17 +17,15 @@ use std::fs;
 use std::io::{self, BufWriter, Write};
 use std::sync::Arc;
 
-/// Answers the steps of a file in three ways.
+/// Answers the steps of a file one by one, and all at once.
 fn answer_file(rt: &HostRuntime, catalog: Arc<Catalog>, path: &str) -> io::Result<()> {
     let alloc = rt.alloc();
     let profile = fs::read_to_string(rt, "profile.toml")?;
     let script = fs::read_to_string(rt, path)?;
     let mut writer = BufWriter::new(alloc, io::writer(rt))?;
     let for_list = Arc::try_clone(&catalog)?;
-    let for_commands = Arc::try_clone(&catalog)?;
     answer_steps(alloc, catalog, &profile, &script, &mut writer)?;
     answer_list(alloc, for_list, &profile, &script, &mut writer)?;
-    answer_commands(alloc, for_commands, &profile, &script, &mut writer)?;
     writer.flush()
 }
 
