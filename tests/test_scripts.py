@@ -89,3 +89,10 @@ class Scripts(ProgramTest):
             '{"active":["web"],"bearers":[{"down":0,"id":5,"rules":1,"up":0}],"generation":2,'
             '"keys":[{"key":"vid","on":true,"reported":0,"unreported":28}]}',
         )
+
+    def test_names_are_escaped_in_answers(self):
+        packet = "4500001c0000000040110000c63364070a0000020035138800080000"
+        self.ends_with(
+            [install('a"b\\c', gate="DISABLED"), ATTACH, take(packet), FLUSH],
+            '{"ok":true,"reports":[],"verdicts":[{"generation":1,"rule":"a\\"b\\\\c","verdict":"Gated"}]}',
+        )
