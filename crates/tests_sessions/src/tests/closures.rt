@@ -15,10 +15,17 @@ use std::sync::Arc;
 use std::sync::atomic::{AtomicU64, Ordering};
 use std::test::Fail;
 
-/// Beside an earlier rule for TCP a table is judged by its index. The same packet, one with the default DSCP, and one
-/// of TCP, which the earlier rule decides.
-const LINES: [&str; 7] = [
-    r#"{"do":"install","rule":{"name":"early","precedence":10,"filters":[{"text":"permit out 6 from any to assigned"}],"qci":9,"arp":{"level":8,"capability":false,"vulnerability":true},"gate":"ENABLED"}}"#,
+/// What stands before and after the filters of an earlier rule for TCP.
+const EARLY: (&str, &str) = (
+    r#"{"do":"install","rule":{"name":"early","precedence":10,"filters":["#,
+    r#"],"qci":9,"arp":{"level":8,"capability":false,"vulnerability":true},"gate":"ENABLED"}}"#,
+);
+
+const TCP: &str = r#"{"text":"permit out 6 from any to assigned"}"#;
+
+/// The lines behind the one that installs it: a packet with expedited forwarding, the same with the default DSCP, and
+/// one of TCP, which the earlier rule decides.
+const LINES: [&str; 6] = [
     r#"{"do":"activate","name":"expedited"}"#,
     r#"{"do":"attach"}"#,
     r#"{"do":"take","worker":0,"dir":"down","packet":"45b8001c0000000040110000c63364070a0000020035138800080000"}"#,
@@ -63,12 +70,32 @@ fn expedited() -> Result<Properties, Fail> {
     })
 }
 
-/// Whether the script has its answers with this catalog.
-fn is_answered(alloc: Global, catalog: Arc<Catalog>) -> Result<bool, Fail> {
-    let script = script_of(alloc, &LINES)?;
+/// The line that installs the earlier rule with so many filters.
+fn install(alloc: Global, filters: u8) -> Result<String, Fail> {
+    let mut texts = String::from_str(alloc, TCP)?;
+    for _ in 1..filters {
+        texts.push(',')?;
+        texts.push_str(TCP)?;
+    }
+    let (front, back) = EARLY;
+    Ok(format!(in alloc; "{front}{texts}{back}")?)
+}
+
+/// Whether the script has its answers with this catalog, where the earlier rule has so many filters.
+fn is_answered(alloc: Global, catalog: Arc<Catalog>, filters: u8) -> Result<bool, Fail> {
+    let install = install(alloc, filters)?;
+    let lines = script_of(alloc, &LINES)?;
+    let script = format!(in alloc; "{install}\n{lines}")?;
     let answers = script_of(alloc, &ANSWERS)?;
     let (text, faults) = run_on(alloc, catalog, PROFILE, script.as_str())?;
     Ok(text.as_str() == answers.as_str() && faults == 0)
+}
+
+/// Whether it has them with one filter, where the table is searched, and with sixteen, where it has an index.
+fn are_answered(alloc: Global, catalog: &Arc<Catalog>) -> Result<bool, Fail> {
+    let few = is_answered(alloc, Arc::try_clone(catalog)?, 1)?;
+    let many = is_answered(alloc, Arc::try_clone(catalog)?, 16)?;
+    Ok(few && many)
 }
 
 #[test]
@@ -90,7 +117,7 @@ fn a_script_calls_the_closure_for_each_packet_that_no_earlier_rule_decides(
     let mut rules = Vec::new(alloc);
     rules.push(Predefined::new(expedited()?, one(Test::Dscp(46)), detect))?;
     let catalog = Arc::new(alloc, Catalog::new(alloc, rules)?)?;
-    assert!(rt; is_answered(alloc, catalog)?);
-    expect_equal(&rt, &calls.load(Ordering::SeqCst), &2);
+    assert!(rt; are_answered(alloc, &catalog)?);
+    expect_equal(&rt, &calls.load(Ordering::SeqCst), &4);
     Ok(())
 }
