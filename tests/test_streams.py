@@ -1,5 +1,6 @@
 """Standard input and standard output that fail, after each octet in turn; and who waits for an answer gets it."""
 import errno
+import select
 import subprocess
 
 from commands import ATTACH, DNS_ANSWER, FLUSH, MONITOR, SHOW, WEB, line, profile, take
@@ -125,7 +126,7 @@ class Streams(StreamTest):
                 self.assertEqual((came.status, came.wrote, said[0], failed[0]), (4, b"", "write fault", "w"))
 
     def test_threads_between_streams_that_fail(self):
-        given = lines(*[line for name in "abcdef" for line in (f'{name} {{"do":"open"}}', f"{name} {ATTACH}")])
+        given = lines(*[asked for name in "abcdef" for asked in (f'{name} {{"do":"open"}}', f"{name} {ATTACH}")])
         alone, _ = self.run_failing(SESSIONS, given)
         self.assertEqual(alone.status, 0)
         program = [PCEF_MANY, "--threads", "4", "profile.toml"]
@@ -157,8 +158,12 @@ class Streams(StreamTest):
                 pipe = subprocess.PIPE
                 with subprocess.Popen(program, stdin=pipe, stdout=pipe, cwd=self.room, bufsize=0) as asking:
                     # The last line fills all that is read at once.
-                    for line in asked, asked, asked.rjust(BLOCK):
-                        asking.stdin.write(line)
-                        self.assertEqual(asking.stdout.readline(), answer)
+                    for given in asked, asked, asked.rjust(BLOCK):
+                        asking.stdin.write(given)
+                        self.assertEqual(self.waited_for(asking.stdout), answer)
                     asking.stdin.close()
                     self.assertEqual((asking.stdout.read(), asking.wait()), (b"", 1))
+
+    def waited_for(self, stream):
+        """The next line of a stream, or nothing where none comes in a minute."""
+        return stream.readline() if select.select([stream], [], [], 60)[0] else b""
