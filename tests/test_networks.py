@@ -1,4 +1,4 @@
-"""Rules of both versions of IP, of which the narrower networks come first, and packets at the bounds of each network."""
+"""Rules of both versions of IP, the narrower networks first, and packets at the bounds of each network."""
 from ipaddress import ip_address
 
 from commands import ATTACH, FLUSH, install, profile, take
