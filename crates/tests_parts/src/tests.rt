@@ -9,6 +9,7 @@ mod ipv6;
 mod packet;
 mod rule;
 mod shelf;
+mod table;
 mod tables;
 mod trigger;
 mod usage;
