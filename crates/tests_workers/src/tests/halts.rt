@@ -131,18 +131,22 @@ fn found<C: Offers + Drop, N: Naming, W: Board<Cell<N>> + Drop, R: Wait>(
     found
 }
 
-/// A worker attaches, flushes a row of 28 octets, and finishes with rows of 600 and of 40: what it hands in, and its last
-/// verdicts.
+/// What a worker leaves: what it hands in, its last verdicts, and the generation in which it met the session.
+type Left<N> = (Finished<N>, Verdicts, Option<u32>);
+
+/// A worker attaches, meets the session, flushes a row of 28 octets, and finishes with rows of 600 and of 40.
 fn works<C: Detects + Drop, N: Naming, W: Board<Cell<N>> + Drop, R: Wait>(
     rt: &R,
     alloc: Global,
     shared: &Shared<C, N, W>,
     halting: Halting<'_>,
-) -> Option<(Finished<N>, Verdicts)> {
+) -> Option<Left<N>> {
     match Worker::attach(rt, alloc, shared, halting) {
         Ok(mut worker) => {
+            let met = worker.meet(rt, shared).ok();
             flush_and_take(rt, shared, &mut worker);
-            worker.finish(rt, shared).ok()
+            let (finished, verdicts) = worker.finish(rt, shared).ok()?;
+            Some((finished, verdicts, met))
         }
         Err(_) => None,
     }
@@ -171,10 +175,11 @@ fn is_passed(row: &Judged) -> bool {
     }
 }
 
-/// What the desk finds, how many rows the worker's last flush lets pass, and what is gathered.
+/// What the desk finds, the generation that the worker met, how many rows its last flush lets pass, and what is gathered.
 #[derive(Clone, Copy, Debug, PartialEq, Eq)]
 struct Outcome {
     found: Found,
+    met: Option<u32>,
     passed: usize,
     rows: u64,
     octets: [u64; 3],
@@ -194,12 +199,7 @@ fn both<
     N: Naming + Send + Sync,
     W: Board<Cell<N>> + Drop + Send,
     R: Threads + Wait + Sync,
->(
-    rt: &R,
-    alloc: Global,
-    shared: &Shared<C, N, W>,
-    desk: &mut Desk<N>,
-) -> (Found, Option<(Finished<N>, Verdicts)>) {
+>(rt: &R, alloc: Global, shared: &Shared<C, N, W>, desk: &mut Desk<N>) -> (Found, Option<Left<N>>) {
     let halts = Halts {
         reached: AtomicU64::new(0),
         released: AtomicU64::new(0),
@@ -229,7 +229,7 @@ fn to_the_end<
         desk.command(rt, &shared, command).ok()?;
     }
     let (found, worked) = both(rt, alloc, &shared, &mut desk);
-    let (finished, verdicts) = worked?;
+    let (finished, verdicts, met) = worked?;
     let passed = passed(&verdicts);
     let mut handed = Vec::new(alloc);
     handed.push(finished).ok()?;
@@ -237,6 +237,7 @@ fn to_the_end<
     let (rows, octets) = gathered(&totals);
     Some(Outcome {
         found,
+        met,
         passed,
         rows,
         octets,
@@ -292,6 +293,7 @@ fn a_flush_is_done_where_it_was_answered_and_the_last_one_leaves(
 ) -> Result<(), Fail> {
     let due = Outcome {
         found: [Some(0), Some(28), Some(1), Some(0)],
+        met: Some(2),
         passed: 2,
         rows: 3,
         octets: [668, 668, 0],
