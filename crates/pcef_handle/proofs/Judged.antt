@@ -3,10 +3,9 @@ use Rattle.std.proofs.Common.{◌≡◌, ◌∙◌, List, subst}
 use Rattle.pcef_packet.specs.declared.header.Addr.{Addr}
 use Rattle.pcef_packet.specs.declared.header.Header.{Header}
 use Rattle.pcef_catalog.specs.declared.listing.Offer.{Offer}
-use Rattle.pcef_table.specs.declared.entry.TableEntry.{TableEntry}
 use Rattle.pcef_table.specs.SessionSlots.{slots_counted}
 use Rattle.pcef_table.specs.Tables.{TableValue}
-use Rattle.pcef_table.specs.Verdicts.{IsVerdict}
+use Rattle.pcef_table.specs.Verdicts.{IsPlaced, IsVerdict}
 use Rattle.pcef_model.specs.Generations.{oldest}
 use Rattle.pcef_model.specs.Journals.{gen, tables}
 use Rattle.pcef_model.proofs.Decisive.{made_once}
@@ -14,19 +13,19 @@ use Rattle.pcef_session.specs.Answers.{ShowsNewest}
 use Rattle.pcef_session.specs.SessionModel.{SessionModel}
 use Rattle.pcef_session.proofs.ShownSlots.{shown_counts}
 use Rattle.pcef_session.proofs.ShownVerdicts.{shown_judges}
-use Rattle.pcef_handle.specs.Judging.{IsJudged, IsPlaced}
+use Rattle.pcef_handle.specs.Judging.{IsJudged}
 use Rattle.pcef_handle.specs.declared.judging.Judgement.{Judgement}
 
-pub judged_newest : (s : SessionModel) (offers : List Offer) (ue : Addr) (header : Header) (newest : TableValue) (entries : List TableEntry) (d : Judgement) → ShowsNewest s newest
-    → offers ≡ s.setting.catalog → ue ≡ s.setting.ue → entries ≡ newest.entries → d.generation ≡ newest.number
-    → IsVerdict offers newest.entries ue header d.verdict → d.slots.items ≡ slots_counted offers newest d.verdict → IsPlaced offers entries d.verdict d.place → IsJudged s header d
-judged_newest s offers ue header newest entries d shows offered ue_is entries_are generation judged slots_are placed =
+pub judged_newest : (s : SessionModel) (offers : List Offer) (ue : Addr) (header : Header) (newest : TableValue) (d : Judgement) → ShowsNewest s newest
+    → offers ≡ s.setting.catalog → ue ≡ s.setting.ue → d.generation ≡ newest.number
+    → IsVerdict offers newest.entries ue header d.verdict → d.slots.items ≡ slots_counted offers newest d.verdict → IsPlaced offers newest.entries d.verdict d.place → IsJudged s header d
+judged_newest s offers ue header newest d shows offered ue_is generation judged slots_are placed =
     let g = gen s.journal in
     let once = made_once s.setting (oldest g (tables s.journal)) in
     let by_ue = subst (λ u. IsVerdict offers newest.entries u header d.verdict) ue_is judged in
     let is = shown_judges s.setting s.journal g newest header d.verdict shows once (subst (λ o. IsVerdict o newest.entries s.setting.ue header d.verdict) offered by_ue) in
     let slots_in = subst (λ o. d.slots.items ≡ slots_counted o newest d.verdict) offered slots_are in
-    let place_in = subst (λ o. IsPlaced o newest.entries d.verdict d.place) offered (subst (λ es. IsPlaced offers es d.verdict d.place) entries_are placed) in
+    let place_in = subst (λ o. IsPlaced o newest.entries d.verdict d.place) offered placed in
     record {
       generation_is = generation ∙ shows.number_is;
       verdict_is = is;

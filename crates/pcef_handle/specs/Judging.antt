@@ -1,18 +1,13 @@
 -- The decision of the newest generation of a session on a packet (TS 23.203, clause 6.2.2).
-use Rattle.std.specs.Prelude.{ℕ, ◌≡◌, List, find, slice_get, take, Option, Some, None, Result, Ok, Err}
-use Rattle.std.specs.Option.{option_and_then}
+use Rattle.std.specs.Prelude.{ℕ, ◌≡◌, List, take, Option, Some, None, Result, Ok, Err}
 use Rattle.pcef_packet.specs.HeaderOf.{header_of}
 use Rattle.pcef_packet.specs.declared.header.Dir.{Dir}
 use Rattle.pcef_packet.specs.declared.header.Header.{Header}
 use Rattle.pcef_front.specs.Fronts.{IsSettledBy}
 use Rattle.pcef_front.specs.declared.fault.FrontFault.{FrontFault}
 use Rattle.pcef_front.specs.declared.fault.FrontFault.TheVariants as front
-use Rattle.pcef_catalog.specs.declared.listing.Offer.{Offer}
-use Rattle.pcef_table.specs.declared.entry.TableEntry.{TableEntry}
-use Rattle.pcef_table.specs.Sources.{is_named}
 use Rattle.pcef_table.specs.Tables.{TableValue}
-use Rattle.pcef_model.specs.declared.verdict.Verdict.{Verdict}
-use Rattle.pcef_model.specs.declared.verdict.Verdict.TheVariants.{Gated, Passed}
+use Rattle.pcef_table.specs.Verdicts.{IsPlaced}
 use Rattle.pcef_model.specs.Journals.{at, counts_in, gen, slots, verdict_at}
 use Rattle.pcef_model.specs.Slots.{has_one_of}
 use Rattle.pcef_session.specs.Answers.{ShowsNewest}
@@ -22,17 +17,6 @@ use Rattle.pcef_handle.specs.declared.held.OpenSession.{OpenSession}
 use Rattle.pcef_handle.specs.declared.judging.JudgeRefusal.{JudgeRefusal}
 use Rattle.pcef_handle.specs.declared.judging.JudgeRefusal.TheVariants.{NoPacket, NoSession, TooFew}
 use Rattle.pcef_handle.specs.declared.judging.Judgement.{Judgement}
-
--- the place of the entry of a name; no two entries of a table have one name
-abbrev pub IsPlaceOf : List Offer → List TableEntry → List ℕ → Option ℕ → Type 0
-IsPlaceOf offers entries name place =
-    option_and_then (λ n. slice_get entries n) place ≡ find (λ e. is_named offers name e.source) entries
-
--- the place of the entry whose rule a verdict names
-abbrev pub IsPlaced : List Offer → List TableEntry → Verdict → Option ℕ → Type 0
-IsPlaced offers entries (Passed rule bearer) place = IsPlaceOf offers entries rule place
-IsPlaced offers entries (Gated rule) place = IsPlaceOf offers entries rule place
-IsPlaced offers entries other place = place ≡ None
 
 -- the decision of the newest generation on a header: its verdict, the place of the rule in its table, and exactly the
 -- slots of the keys that the packet counts for

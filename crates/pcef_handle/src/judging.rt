@@ -1,21 +1,17 @@
 //! Judges a packet by the newest generation.
 
-ghost use Rattle.std.specs.Prelude.{◌≡◌, ◌≢◌, ◌≤◌, All, Err, find, length, slice_get};
-ghost use Rattle.std.specs.Option.{option_and_then};
+ghost use Rattle.std.specs.Prelude.{◌≢◌, ◌≡◌, ◌≤◌, Err, length};
 ghost use Rattle.pcef_packet.specs.HeaderOf.{version};
-ghost use Rattle.pcef_table.specs.Sources.{IsKnown, is_named};
-ghost use Rattle.pcef_handle.specs.Judging.{IsJudged, IsPlaced, JudgesHandle};
+ghost use Rattle.pcef_handle.specs.Judging.{IsJudged, JudgesHandle};
 ghost use Rattle.pcef_handle.specs.declared.judging.JudgeRefusal.TheVariants.{TooFew};
 
 use crate::held::{Handle, OpenSession};
 use arrayvec::ArrayVec;
-use pcef_built_in::ShapedCatalog;
 use pcef_front::{FrontFault, read_front};
-use pcef_index::Indexed;
+use pcef_index::{Decision, Indexed};
 use pcef_model::Verdict;
 use pcef_packet::{Dir, Header, PacketFault};
-use pcef_rule::{RuleName, Slot};
-use pcef_table::TableEntry;
+use pcef_rule::Slot;
 
 /// The decision of the newest generation on a packet.
 #[derive(Debug, Drop)]
@@ -41,50 +37,17 @@ pub enum JudgeRefusal {
     TooFew,
 }
 
-/// Whether an entry's rule has this name.
-fn has_name(catalog: &ShapedCatalog, entry: &TableEntry, name: &RuleName) -> bool
-    requires { IsKnown catalog.now entry.now.source }
-    ensures { result ≡ is_named catalog.now name.now entry.now.source }
-{
-    entry.source.properties(catalog).name == *name
-}
-
-/// The first place of a rule's name among entries.
-fn place_of(catalog: &ShapedCatalog, entries: &[TableEntry], name: &RuleName) -> Option<u8>
-    requires known { All (λ e. IsKnown catalog.now e.source) entries.now }
-    requires few { length entries.now ≤ 64 }
-    ensures { option_and_then (λ place. slice_get entries.now place) result
-        ≡ find (λ e. is_named catalog.now name.now e.source) entries.now }
-{
-    for (place, entry) in entries.iter().enumerate() {
-        if has_name(catalog, entry, name) {
-            return Some(place as u8);
-        }
-    }
-    None
-}
-
-/// The place of the rule that a verdict names.
-fn place_by(catalog: &ShapedCatalog, entries: &[TableEntry], verdict: &Verdict) -> Option<u8>
-    requires known { All (λ e. IsKnown catalog.now e.source) entries.now }
-    requires few { length entries.now ≤ 64 }
-    ensures { IsPlaced catalog.now entries.now verdict.now result }
-{
-    match verdict {
-        Verdict::Passed { rule, .. } => place_of(catalog, entries, rule),
-        Verdict::Gated { rule } => place_of(catalog, entries, rule),
-        Verdict::Stray | Verdict::Unmatched => None,
-    }
-}
-
 /// Judges a packet by the newest generation of a session.
 fn judge_header(session: &OpenSession, header: &Header) -> Judgement
     ensures { IsJudged session.now.world.session header.now result }
 {
     let state = session.world.session();
     let newest: &Indexed = state.indexed();
-    let (verdict, slots) = newest.judged(&session.catalog, state.profile().ue, header);
-    let place = place_by(&session.catalog, newest.table().entries(), &verdict);
+    let Decision {
+        verdict,
+        place,
+        slots,
+    } = newest.judged(&session.catalog, state.profile().ue, header);
     Judgement {
         generation: newest.generation(),
         verdict,

@@ -96,6 +96,12 @@ entry_at offers ue h n es some =
     let same : n ≡ found.0 = omega (arith, found.2) in
     ap (slice_get es) same ∙ found.3 ∙ sym found.4
 
+-- the same of lines that are those of the entries
+pub entry_in : (offers : List Offer) (ue : Addr) (h : Header) (n : ℕ) (lines : List Line) (es : List TableEntry) → lines ≡ lines_from 0 (sources_of es) → place_of (find (line_fits offers ue h) lines) ≡ Some n
+    → slice_get es n ≡ find (entry_fits offers ue h) es
+entry_in offers ue h n lines es are some =
+    entry_at offers ue h n es (ap (λ (ls : List Line). place_of (find (line_fits offers ue h) ls)) (sym are) ∙ some)
+
 -- an entry of a table is known
 pub known_at : (offers : List Offer) (es : List TableEntry) (n : ℕ) (o : Option (Bor TableEntry)) → All (λ e. IsKnown offers e.source) es → option_copied o ≡ slice_get es n → IfSome o (λ e. IsKnown offers e.now.source)
 known_at offers es n None all is = tt

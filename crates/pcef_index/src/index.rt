@@ -1,7 +1,7 @@
 //! The index of a table.
 
-ghost use Rattle.std.specs.Prelude.{◌≡◌, ◌≤◌, ◌<◌, ◌++◌, ◌∷◌, [], map, length, IfOk, IfSome, find, if◌then◌else◌};
-ghost use Rattle.std.specs.Option.{option_copied};
+ghost use Rattle.std.specs.Prelude.{◌≡◌, ◌≤◌, ◌<◌, ◌++◌, ◌∷◌, [], map, length, slice_get, IfOk, IfSome, Some, find, if◌then◌else◌};
+ghost use Rattle.std.specs.Option.{option_map};
 ghost use Rattle.pcef_table.specs.Sources.{IsKnown, fits};
 ghost use Rattle.pcef_table.specs.Tables.{IsTable};
 ghost use Rattle.pcef_table.specs.Verdicts.{IsVerdict};
@@ -114,19 +114,20 @@ pub(crate) fn index_of(alloc: Global, sources: Vec<Source>) -> Result<Index, All
     Ok(Index { sources, sieve })
 }
 
-/// The first entry of a table that fits, by the sieve of its rules.
+/// The first entry of a table that fits, behind its place, by the sieve of its rules.
 fn first_sieved<'a, C: Detects>(
     sieve: &Sieve,
     table: &'a Table,
     catalog: &C,
     ue: &Addr,
     header: &Header,
-) -> Option<&'a TableEntry>
+) -> Option<(u8, &'a TableEntry)>
     requires table { IsTable (C.offers catalog.now) table.now.entries }
     requires sieve { IsSieveOf (map (λ e. e.source) table.now.entries) sieve.now }
-    ensures known { IfSome result (λ e. IsKnown (C.offers catalog.now) e.now.source) }
-    ensures first { option_copied result
+    ensures known { IfSome result (λ found. IsKnown (C.offers catalog.now) found.1.now.source) }
+    ensures first { option_map (λ found. found.1.now) result
         ≡ find (λ e. fits (C.offers catalog.now) ue.now header.now e.source) table.now.entries }
+    ensures place { IfSome result (λ found. slice_get table.now.entries found.0 ≡ Some found.1.now) }
 {
     let Some(place) = first_place(
         &sieve.lines,
@@ -138,7 +139,10 @@ fn first_sieved<'a, C: Detects>(
     ) else {
         return None;
     };
-    table.entry(usize::from(place))
+    let Some(entry) = table.entry(usize::from(place)) else {
+        return None;
+    };
+    Some((place, entry))
 }
 
 impl Index {
@@ -163,19 +167,20 @@ impl Index {
         self.sieve.is_some()
     }
 
-    /// The first entry of the table that fits.
+    /// The first entry of the table that fits, behind its place.
     pub(crate) fn first_fitting<'a, C: Detects>(
         &self,
         table: &'a Table,
         catalog: &C,
         ue: &Addr,
         header: &Header,
-    ) -> Option<&'a TableEntry>
+    ) -> Option<(u8, &'a TableEntry)>
         requires table { IsTable (C.offers catalog.now) table.now.entries }
         requires index { self.now ≡ map (λ e. e.source) table.now.entries }
-        ensures known { IfSome result (λ e. IsKnown (C.offers catalog.now) e.now.source) }
-        ensures first { option_copied result
+        ensures known { IfSome result (λ found. IsKnown (C.offers catalog.now) found.1.now.source) }
+        ensures first { option_map (λ found. found.1.now) result
             ≡ find (λ e. fits (C.offers catalog.now) ue.now header.now e.source) table.now.entries }
+        ensures place { IfSome result (λ found. slice_get table.now.entries found.0 ≡ Some found.1.now) }
     {
         match &self.sieve {
             None => table.first_fitting(catalog, ue, header),
@@ -201,7 +206,7 @@ impl Index {
         }
         match self.first_fitting(table, catalog, &ue, header) {
             None => Verdict::Unmatched,
-            Some(entry) => {
+            Some((_, entry)) => {
                 let properties = entry.source.properties(catalog);
                 gate_verdict(properties, entry.bearer, header.dir)
             }

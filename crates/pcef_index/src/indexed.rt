@@ -1,12 +1,12 @@
 //! A table with its index.
 
-ghost use Rattle.std.specs.Prelude.{◌≡◌, [], IfOk, IfSome, find, map};
+ghost use Rattle.std.specs.Prelude.{◌≡◌, [], IfOk, IfSome, None, Some, find, map, slice_get};
 ghost use Rattle.std.specs.Arc.{arc_value};
-ghost use Rattle.std.specs.Option.{option_copied};
+ghost use Rattle.std.specs.Option.{option_map};
 ghost use Rattle.pcef_table.specs.SessionSlots.{no_slots, slots_counted};
 ghost use Rattle.pcef_table.specs.Sources.{IsKnown, fits};
 ghost use Rattle.pcef_table.specs.Tables.{IsTable};
-ghost use Rattle.pcef_table.specs.Verdicts.{IsVerdict};
+ghost use Rattle.pcef_table.specs.Verdicts.{IsPlaced, IsVerdict};
 
 use crate::index::{Index, index_of};
 use arrayvec::ArrayVec;
@@ -18,6 +18,30 @@ use pcef_table::{Table, TableEntry, gate_verdict, is_own, judged_by};
 use std::alloc::{AllocError, Global};
 use std::marker::Model;
 use std::sync::Arc;
+
+/// What a generation decides of a packet.
+#[derive(Drop)]
+pub struct Decision {
+    /// The verdict.
+    pub verdict: Verdict,
+    /// The place of the rule that decided, where one did: the number of entries before it, 0 to 63.
+    pub place: Option<u8>,
+    /// The slots that the packet counts for, in slot order.
+    pub slots: ArrayVec<Slot, 8>,
+}
+
+/// The decision on a packet that no rule decides.
+fn undecided(verdict: Verdict) -> Decision
+    ensures verdict { result.verdict ≡ verdict }
+    ensures place { result.place ≡ None }
+    ensures slots { result.slots.items ≡ [] }
+{
+    Decision {
+        verdict,
+        place: None,
+        slots: ArrayVec::new(),
+    }
+}
 
 /// A table and the index of its rules, which never change. Tables with equal rules may share an index. Contracts see
 /// the table.
@@ -148,48 +172,50 @@ impl Indexed {
         if !is_own(header, ue) {
             return Verdict::Stray;
         }
-        let Some(entry) = self.first_fitting(catalog, &ue, header) else {
+        let Some((_, entry)) = self.first_fitting(catalog, &ue, header) else {
             return Verdict::Unmatched;
         };
         let properties = entry.source.properties(catalog);
         gate_verdict(properties, entry.bearer, header.dir)
     }
 
-    /// The first entry that fits.
+    /// The first entry that fits, behind its place.
     fn first_fitting<C: Detects>(
         &self,
         catalog: &C,
         ue: &Addr,
         header: &Header,
-    ) -> Option<&TableEntry>
+    ) -> Option<(u8, &TableEntry)>
         requires { IsTable (C.offers catalog.now) self.now.entries }
-        ensures known { IfSome result (λ e. IsKnown (C.offers catalog.now) e.now.source) }
-        ensures first { option_copied result
+        ensures known { IfSome result (λ found. IsKnown (C.offers catalog.now) found.1.now.source) }
+        ensures first { option_map (λ found. found.1.now) result
             ≡ find (λ e. fits (C.offers catalog.now) ue.now header.now e.source) self.now.entries }
+        ensures place { IfSome result (λ found. slice_get self.now.entries found.0 ≡ Some found.1.now) }
     {
         self.index.first_fitting(&self.table, catalog, ue, header)
     }
 
-    /// The generation's verdict on a packet, for a session with this address (TS 23.203, clause 6.2.2), and the slots
-    /// that the packet counts for, in slot order, by one look-up. Takes no memory.
-    pub fn judged<C: Detects>(
-        &self,
-        catalog: &C,
-        ue: Addr,
-        header: &Header,
-    ) -> (Verdict, ArrayVec<Slot, 8>)
+    /// What the generation decides of a packet, for a session with this address (TS 23.203, clause 6.2.2), by one
+    /// look-up: the verdict, the place of the rule that it names, and the slots that the packet counts for. Takes no
+    /// memory.
+    pub fn judged<C: Detects>(&self, catalog: &C, ue: Addr, header: &Header) -> Decision
         requires { IsTable (C.offers catalog.now) self.now.entries }
-        ensures verdict { IsVerdict (C.offers catalog.now) self.now.entries ue header.now result.0 }
-        ensures slots { result.1.items ≡ slots_counted (C.offers catalog.now) self.now result.0 }
+        ensures verdict { IsVerdict (C.offers catalog.now) self.now.entries ue header.now result.verdict }
+        ensures place { IsPlaced (C.offers catalog.now) self.now.entries result.verdict result.place }
+        ensures slots { result.slots.items ≡ slots_counted (C.offers catalog.now) self.now result.verdict }
     {
         if !is_own(header, ue) {
-            return (Verdict::Stray, ArrayVec::new());
+            return undecided(Verdict::Stray);
         }
-        let Some(entry) = self.first_fitting(catalog, &ue, header) else {
-            return (Verdict::Unmatched, ArrayVec::new());
+        let Some((place, entry)) = self.first_fitting(catalog, &ue, header) else {
+            return undecided(Verdict::Unmatched);
         };
         let (verdict, slot) = judged_by(catalog, entry, header.dir);
         let slots = self.table.slots_beside(&verdict, slot);
-        (verdict, slots)
+        Decision {
+            verdict,
+            place: Some(place),
+            slots,
+        }
     }
 }

@@ -1,8 +1,8 @@
 //! A compiled index of a table: `Index`, for fast look-ups, and `Indexed`, a table with its index. Tables of equal
 //! rules share an index by an `IndexShelf`.
 //!
-//! Its contracts say: the same verdict and slots as the table's, by one look-up, and which entries may match a header;
-//! that a shared index changes nothing.
+//! Its contracts say: the same verdict and slots as the table's, with the place of the rule that decided, by one look-up,
+//! and which entries may match a header; that a shared index changes nothing.
 //!
 //! In the order of reading: `candidates`, `rule_filter`, `lines`, `steps`, `cells`, `choosing`, `header_cells`,
 //! `marking`, `sieve`, `index`, `indexed`, `equal`, `fingerprint`, `shelf`.
@@ -24,5 +24,5 @@ mod sieve;
 mod steps;
 
 pub use index::Index;
-pub use indexed::Indexed;
+pub use indexed::{Decision, Indexed};
 pub use shelf::{IndexShelf, MAX_SHELVED};

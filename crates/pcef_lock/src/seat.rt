@@ -4,6 +4,7 @@ ghost use Rattle.std.specs.Prelude.{◌≡◌};
 ghost use Rattle.pcef_lock.specs.Judging.{IsTaken};
 
 use pcef_catalog::Detects;
+use pcef_index::Decision;
 use pcef_model::Row;
 use pcef_packet::{Addr, Header};
 use pcef_publish::Subscriber;
@@ -33,7 +34,7 @@ impl<N: Naming> Seat<N> {
             self.now.subscriber header.now result }
     {
         let (generation, held) = self.subscriber.current();
-        let (verdict, slots) = held.judged(catalog, self.ue, header);
+        let Decision { verdict, slots, .. } = held.judged(catalog, self.ue, header);
         Item {
             row: Row {
                 worker: self.worker,

@@ -1,6 +1,6 @@
 -- From the first entry that fits to the verdict.
 use Rattle.std.proofs.Common.{◌≡◌, ◌∙◌, ◌⊎◌, ℕ, List, [], Some, None, find, ap, inl, inr, refl, sym, subst, true, AllPairs, Contains}
-use Rattle.std.specs.Prelude.{Option}
+use Rattle.std.specs.Prelude.{Option, slice_get}
 use Rattle.std.specs.Option.{option_map, option_map_or}
 use Rattle.std.proofs.lemmas.Bool.{cond_both}
 use Rattle.std.proofs.lemmas.List.Elements.{All-contains}
@@ -18,7 +18,7 @@ use Rattle.pcef_model.specs.declared.verdict.Verdict.TheVariants.{Gated, Passed,
 use Rattle.pcef_table.specs.Sources.{fits, is_named, name_of, properties_of}
 use Rattle.pcef_table.specs.Tables.{AreNamedApart, GoesBefore, TableValue}
 use Rattle.pcef_table.specs.SessionSlots.{slots_beside, slots_counted}
-use Rattle.pcef_table.specs.Verdicts.{IsDecisive, IsVerdict, counted_slot, gate_verdict, slot_by, slot_for, verdict_by}
+use Rattle.pcef_table.specs.Verdicts.{IsDecisive, IsPlaced, IsVerdict, counted_slot, gate_verdict, slot_by, slot_for, verdict_by}
 use Rattle.pcef_lists.proofs.Foremost.{found_is_foremost}
 use Rattle.pcef_lists.proofs.Found.{find_some}
 
@@ -55,36 +55,45 @@ named_is_found offers entries e apart there =
       | inr differs ↦ absurd (differs ((bytes_eq-Decides (name_of offers some.0.source) (name_of offers e.source)).0 foremost.passes))
     ]
 
--- the slot of what an entry's gate decides is that of the entry
-pub entry_counts : (offers : List Offer) (entries : List TableEntry) (e : TableEntry) (dir : Dir) (verdict : Verdict) → AllPairs (AreNamedApart offers) entries → Contains entries e → verdict_by offers dir e ≡ Some verdict → slot_by e verdict ≡ slot_for offers entries verdict
-entry_counts offers entries e dir verdict apart there by = from (properties_of offers e.source) refl
+-- where no two entries have one name, the entry of the properties' name is the one that has them
+named_by : (offers : List Offer) (entries : List TableEntry) (e : TableEntry) (p : Properties) → AllPairs (AreNamedApart offers) entries → Contains entries e → properties_of offers e.source ≡ Some p → find (λ (f : TableEntry). is_named offers p.name f.source) entries ≡ Some e
+named_by offers entries e p apart there known =
+    subst (λ (n : List ℕ). find (λ (f : TableEntry). is_named offers n f.source) entries ≡ Some e) (ap (λ o. option_map_or (λ (q : Properties). q.name) o []) known) (named_is_found offers entries e apart there)
+
+-- what an entry's gate decides is one of two verdicts that name its rule
+decided_by : (offers : List Offer) (e : TableEntry) (dir : Dir) (verdict : Verdict) → verdict_by offers dir e ≡ Some verdict → (p : Properties) × (properties_of offers e.source ≡ Some p) × (gate_verdict p e.bearer dir ≡ verdict)
+decided_by offers e dir verdict by = from (properties_of offers e.source) refl
   where
-    passing : (p : Properties) → properties_of offers e.source ≡ Some p → find (λ (f : TableEntry). is_named offers p.name f.source) entries ≡ Some e
-    passing p known = subst (λ (n : List ℕ). find (λ (f : TableEntry). is_named offers n f.source) entries ≡ Some e) (ap (λ o. option_map_or (λ (q : Properties). q.name) o []) known) (named_is_found offers entries e apart there)
-
-    counts : (p : Properties) → properties_of offers e.source ≡ Some p → slot_by e (gate_verdict p e.bearer dir) ≡ slot_for offers entries (gate_verdict p e.bearer dir)
-    counts p known =
-        cond_both (opens p.gate dir) (Passed p.name e.bearer) (Gated p.name) (λ v. slot_by e v ≡ slot_for offers entries v)
-        (λ _. ap (λ o. option_map_or counted_slot o None) (sym (passing p known)))
-        (λ _. refl)
-
-    from : (o : Option Properties) → properties_of offers e.source ≡ o → slot_by e verdict ≡ slot_for offers entries verdict
+    from : (o : Option Properties) → properties_of offers e.source ≡ o → (p : Properties) × (properties_of offers e.source ≡ Some p) × (gate_verdict p e.bearer dir ≡ verdict)
     from None none = let e : None ≡ Some verdict = sym (ap (option_map (λ (p : Properties). gate_verdict p e.bearer dir)) none) ∙ by in absurd cc
     from (Some p) known =
         let is : Some (gate_verdict p e.bearer dir) ≡ Some verdict = sym (ap (option_map (λ (q : Properties). gate_verdict q e.bearer dir)) known) ∙ by in
-        let same : gate_verdict p e.bearer dir ≡ verdict = cc in
-        subst (λ v. slot_by e v ≡ slot_for offers entries v) same (counts p known)
+        (p, known, cc)
+
+-- the slot of what an entry's gate decides is that of the entry
+pub entry_counts : (offers : List Offer) (entries : List TableEntry) (e : TableEntry) (dir : Dir) (verdict : Verdict) → AllPairs (AreNamedApart offers) entries → Contains entries e → verdict_by offers dir e ≡ Some verdict → slot_by e verdict ≡ slot_for offers entries verdict
+entry_counts offers entries e dir verdict apart there by =
+    let decided = decided_by offers e dir verdict by in
+    let p : Properties = decided.0 in
+    subst (λ v. slot_by e v ≡ slot_for offers entries v) decided.2
+    (cond_both (opens p.gate dir) (Passed p.name e.bearer) (Gated p.name) (λ v. slot_by e v ≡ slot_for offers entries v)
+    (λ _. ap (λ o. option_map_or counted_slot o None) (sym (named_by offers entries e p apart there decided.1)))
+    (λ _. refl))
+
+-- the place of an entry is that of the rule that its gate's verdict names
+pub entry_is_placed : (offers : List Offer) (entries : List TableEntry) (e : TableEntry) (dir : Dir) (verdict : Verdict) (place : ℕ) → AllPairs (AreNamedApart offers) entries → Contains entries e → slice_get entries place ≡ Some e → verdict_by offers dir e ≡ Some verdict → IsPlaced offers entries verdict (Some place)
+entry_is_placed offers entries e dir verdict place apart there at by =
+    let decided = decided_by offers e dir verdict by in
+    let p : Properties = decided.0 in
+    let is : slice_get entries place ≡ find (λ (f : TableEntry). is_named offers p.name f.source) entries = at ∙ sym (named_by offers entries e p apart there decided.1) in
+    subst (λ v. IsPlaced offers entries v (Some place)) decided.2
+    (cond_both (opens p.gate dir) (Passed p.name e.bearer) (Gated p.name) (λ v. IsPlaced offers entries v (Some place)) (λ _. is) (λ _. is))
 
 -- where the first entry that fits is known, what its gate decides is the verdict
 pub entry_decides : (offers : List Offer) (entries : List TableEntry) (ue : Addr) (header : Header) (e : TableEntry) (verdict : Verdict) → is_assigned (ue_side header) ue ≡ true → AllPairs (GoesBefore offers) entries → find (λ (f : TableEntry). fits offers ue header f.source) entries ≡ Some e → verdict_by offers header.dir e ≡ Some verdict → IsVerdict offers entries ue header verdict
-entry_decides offers entries ue header e verdict own ordered found by = from (properties_of offers e.source) refl
-  where
-    from : (o : Option Properties) → properties_of offers e.source ≡ o → IsVerdict offers entries ue header verdict
-    from None none = let e : None ≡ Some verdict = sym (ap (option_map (λ (p : Properties). gate_verdict p e.bearer header.dir)) none) ∙ by in absurd cc
-    from (Some p) known =
-        let is : Some (gate_verdict p e.bearer header.dir) ≡ Some verdict = sym (ap (option_map (λ (q : Properties). gate_verdict q e.bearer header.dir)) known) ∙ by in
-        let same : verdict ≡ gate_verdict p e.bearer header.dir = cc in
-        gate_decides offers entries ue header e p verdict own ordered found known same
+entry_decides offers entries ue header e verdict own ordered found by =
+    let decided = decided_by offers e header.dir verdict by in
+    gate_decides offers entries ue header e decided.0 verdict own ordered found decided.1 (sym decided.2)
 
 -- what is found is there
 pub found_there : (offers : List Offer) (entries : List TableEntry) (ue : Addr) (header : Header) (e : TableEntry) → AllPairs (GoesBefore offers) entries → find (λ (f : TableEntry). fits offers ue header f.source) entries ≡ Some e → Contains entries e

@@ -1,6 +1,6 @@
 -- What a generation decides of a packet (TS 23.203, clause 6.2.2).
-use Rattle.std.specs.Prelude.{◌≡◌, ◌⊎◌, true, false, List, Option, Some, None, All, Contains, find, if◌then◌else◌}
-use Rattle.std.specs.Option.{option_map, option_map_or}
+use Rattle.std.specs.Prelude.{ℕ, ◌≡◌, ◌⊎◌, true, false, List, Option, Some, None, All, Contains, find, slice_get, if◌then◌else◌}
+use Rattle.std.specs.Option.{option_and_then, option_map, option_map_or}
 use Rattle.pcef_packet.specs.declared.header.Addr.{Addr}
 use Rattle.pcef_packet.specs.declared.header.Dir.{Dir}
 use Rattle.pcef_packet.specs.declared.header.Header.{Header}
@@ -39,6 +39,17 @@ IsVerdict offers entries ue header (Gated rule) =
 IsVerdict offers entries ue header (Passed rule bearer) =
     (is_assigned (ue_side header) ue ≡ true) × (e : TableEntry) × (p : Properties)
     × IsDecisive offers entries ue header e p × (opens p.gate header.dir ≡ true) × (rule ≡ p.name) × (bearer ≡ e.bearer)
+
+-- the place of the entry of a name; no two entries of a table have one name
+abbrev pub IsPlaceOf : List Offer → List TableEntry → List ℕ → Option ℕ → Type 0
+IsPlaceOf offers entries name place =
+    option_and_then (λ n. slice_get entries n) place ≡ find (λ e. is_named offers name e.source) entries
+
+-- the place of the entry whose rule a verdict names
+abbrev pub IsPlaced : List Offer → List TableEntry → Verdict → Option ℕ → Type 0
+IsPlaced offers entries (Passed rule bearer) place = IsPlaceOf offers entries rule place
+IsPlaced offers entries (Gated rule) place = IsPlaceOf offers entries rule place
+IsPlaced offers entries other place = place ≡ None
 
 abbrev pub counted_slot : TableEntry → Option Slot
 counted_slot e = if e.counted then e.slot else None

@@ -1,7 +1,7 @@
 //! What entries decide of a packet.
 
-ghost use Rattle.std.specs.Prelude.{◌≡◌, All, IfSome, find, Some, None};
-ghost use Rattle.std.specs.Option.{option_copied, option_map_or};
+ghost use Rattle.std.specs.Prelude.{◌≡◌, ◌≤◌, All, IfSome, find, length, slice_get, Some, None};
+ghost use Rattle.std.specs.Option.{option_map, option_map_or};
 ghost use Rattle.pcef_packet.specs.Addresses.{is_assigned, ue_side};
 ghost use Rattle.pcef_table.specs.Sources.{IsKnown, fits, is_named};
 ghost use Rattle.pcef_table.specs.Verdicts.{counted_slot, gate_verdict, slot_by, verdict_by};
@@ -19,22 +19,25 @@ pub fn is_own(header: &Header, ue: Addr) -> bool
     header.ue_side().is_assigned(ue)
 }
 
-/// The first entry that fits. Always inlined: of a table of one rule the call itself would be a good part.
+/// The first entry that fits, behind its place. Always inlined: of a table of one rule the call itself would be a good
+/// part.
 #[inline(always)]
 pub(crate) fn first_fitting<'a, C: Detects>(
     catalog: &C,
     entries: &'a [TableEntry],
     ue: &Addr,
     header: &Header,
-) -> Option<&'a TableEntry>
-    requires { All (λ e. IsKnown (C.offers catalog.now) e.source) entries.now }
-    ensures known { IfSome result (λ e. IsKnown (C.offers catalog.now) e.now.source) }
-    ensures first { option_copied result
+) -> Option<(u8, &'a TableEntry)>
+    requires known { All (λ e. IsKnown (C.offers catalog.now) e.source) entries.now }
+    requires few { length entries.now ≤ 64 }
+    ensures known { IfSome result (λ found. IsKnown (C.offers catalog.now) found.1.now.source) }
+    ensures first { option_map (λ found. found.1.now) result
         ≡ find (λ e. fits (C.offers catalog.now) ue.now header.now e.source) entries.now }
+    ensures place { IfSome result (λ found. slice_get entries.now found.0 ≡ Some found.1.now) }
 {
-    for entry in entries {
+    for (place, entry) in entries.iter().enumerate() {
         if entry.source.fits(catalog, ue, header) {
-            return Some(entry);
+            return Some((place as u8, entry));
         }
     }
     None

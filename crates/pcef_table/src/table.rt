@@ -1,7 +1,7 @@
 //! The table of a generation.
 
 ghost use Rattle.std.specs.Prelude.{◌≡◌, ◌≤◌, ◌<◌, ◌+◌, ◌^◌, [], IfOk, IfSome, find, length, map, set, slice_get};
-ghost use Rattle.std.specs.Option.{option_copied};
+ghost use Rattle.std.specs.Option.{option_copied, option_map};
 ghost use Rattle.pcef_table.specs.SessionSlots.{no_slots, slots_beside, slots_counted, slots_up};
 ghost use Rattle.pcef_table.specs.Sources.{IsKnown, fits};
 ghost use Rattle.pcef_table.specs.Tables.{IsTable, StaysTable, most_entries, placed, with_counting, without, without_bearer, without_taken};
@@ -237,17 +237,19 @@ impl Table {
         slots_up(&self.session)
     }
 
-    /// The first entry that fits a packet, for a session with this address.
+    /// The first entry that fits a packet, for a session with this address, behind its place: the number of entries
+    /// before it, 0 to 63.
     pub fn first_fitting<C: Detects>(
         &self,
         catalog: &C,
         ue: &Addr,
         header: &Header,
-    ) -> Option<&TableEntry>
+    ) -> Option<(u8, &TableEntry)>
         requires { IsTable (C.offers catalog.now) self.now.entries }
-        ensures known { IfSome result (λ e. IsKnown (C.offers catalog.now) e.now.source) }
-        ensures first { option_copied result
+        ensures known { IfSome result (λ found. IsKnown (C.offers catalog.now) found.1.now.source) }
+        ensures first { option_map (λ found. found.1.now) result
             ≡ find (λ e. fits (C.offers catalog.now) ue.now header.now e.source) self.now.entries }
+        ensures place { IfSome result (λ found. slice_get self.now.entries found.0 ≡ Some found.1.now) }
     {
         first_fitting(catalog, self.entries(), ue, header)
     }
@@ -263,7 +265,7 @@ impl Table {
         }
         match first_fitting(catalog, self.entries(), &ue, header) {
             None => Verdict::Unmatched,
-            Some(entry) => {
+            Some((_, entry)) => {
                 let properties = entry.source.properties(catalog);
                 gate_verdict(properties, entry.bearer, header.dir)
             }

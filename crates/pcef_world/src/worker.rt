@@ -7,7 +7,7 @@ ghost use Rattle.pcef_session.specs.Following.{HasItsSlots};
 ghost use Rattle.pcef_world.specs.private.Workers.{IsJudged, LacksForItem, TakesItem, after_flushing, held_by};
 
 use pcef_catalog::Detects;
-use pcef_index::Indexed;
+use pcef_index::{Decision, Indexed};
 use pcef_model::{FlushRefusal, Row, Verdicts};
 use pcef_packet::{Addr, Header};
 use pcef_session::{BatchFull, Item, MAX_WAITING, SessionState, WaitingRows};
@@ -32,7 +32,7 @@ impl WorldWorker {
         requires few { handed_over ≤ 4294967295 }
         ensures { IsJudged (C.offers catalog.now) ue header.now handed_over self.now result }
     {
-        let (verdict, slots) = self.held.judged(catalog, ue, header);
+        let Decision { verdict, slots, .. } = self.held.judged(catalog, ue, header);
         Item {
             row: Row {
                 worker: self.number,

@@ -11,5 +11,5 @@ returns c =
     let held = subst (λ t. ShowsNewest t (arc_value c.indexed.result.now)) c.session-state.ensures.session c.indexed.ensures in
     let shows = subst (λ t. ShowsNewest s t) (sym c.deref-newest.ensures) held in
     let ue_is = ap (λ p. p.ue) c.behind-state.view_is ∙ ap (λ p. p.ue) c.profile.ensures ∙ ap (λ t. t.setting.ue) c.session-state.ensures.session in
-    judged_newest s c.args.session.now.catalog c.behind-state.inside.ue c.args.header.now newest c.entries.result.now _ shows c.args.session.now.offered ue_is
-    (c.entries.ensures.entries ∙ ap (λ t. t.entries) c.table.ensures) c.generation.ensures c.judged-verdict.ensures.verdict c.judged-verdict.ensures.slots c.place_by-place.ensures
+    judged_newest s c.args.session.now.catalog c.behind-state.inside.ue c.args.header.now newest _ shows c.args.session.now.offered ue_is
+    c.generation.ensures c.judged-verdict.ensures.verdict c.judged-verdict.ensures.slots c.judged-verdict.ensures.place

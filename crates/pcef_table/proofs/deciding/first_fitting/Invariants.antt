@@ -3,7 +3,8 @@ use Rattle.pcef_table.specs.Sources.{fits}
 use Rattle.pcef_table.specs.declared.entry.TableEntry.{TableEntry}
 use Rattle.pcef_table.proofs.deciding.first_fitting.Given as goal
 
-abbrev pub invariant-loop-entry : goal.invariant-loop-entry
-invariant-loop-entry g l =
-    find (λ (e : TableEntry). fits (g.C.Offers.offers l.catalog) l.ue l.header e.source) (drop l.entry-index l.entries)
+-- what is found from here on is found at all
+abbrev pub invariant-loop-place : goal.invariant-loop-place
+invariant-loop-place g l =
+    find (λ (e : TableEntry). fits (g.C.Offers.offers l.catalog) l.ue l.header e.source) (drop l.place l.entries)
     ≡ find (λ (e : TableEntry). fits (g.C.Offers.offers l.catalog) l.ue l.header e.source) l.entries

@@ -1,4 +1,4 @@
-use Rattle.std.proofs.Common.{◌≡◌, ◌∙◌, ap}
+use Rattle.std.proofs.Common.{◌∙◌, ap}
 use Rattle.pcef_table.specs.SessionSlots.{slots_beside}
 use Rattle.pcef_table.proofs.Decided.{beside_counted}
 use Rattle.pcef_table.proofs.table.Table.slots_counted.Goals as goal
