@@ -1,3 +1,5 @@
+pub mod ApartBeside
+pub mod ApartWorkers
 pub mod StepsMore
 pub mod ToldReports
 pub mod WantOfMemory

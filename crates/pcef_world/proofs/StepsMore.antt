@@ -1,10 +1,10 @@
 -- Steps one after the other, and one more.
-use Rattle.std.proofs.Common.{◌≡◌, ◌∙◌, List, [], ◌∷◌, ◌++◌, ap, map, refl, sym}
+use Rattle.std.proofs.Common.{◌≡◌, ◌∙◌, List, [], ◌∷◌, ◌++◌, ap, refl, sym}
 use Rattle.std.proofs.lemmas.List.{map-append}
 use Rattle.pcef_model.specs.Setting.{Setting}
 use Rattle.pcef_model.specs.declared.step.Step.{Step}
 use Rattle.pcef_world.specs.declared.answer.StepAnswer.{StepAnswer}
-use Rattle.pcef_world.specs.Steps.{Played, Plays, PlaysFront, Reply, Standing, first_reply, play, reply_of, step_outcome}
+use Rattle.pcef_world.specs.Steps.{Played, Plays, PlaysFront, Standing, play, reply_of, step_outcome}
 
 -- the replies to some steps, and to one more
 replies_more : (p : Setting) (s : Standing) (steps : List Step) (step : Step) →

@@ -1,16 +1,14 @@
 -- Replies name reports that the journal gets with the step, and none from before.
-use Rattle.std.proofs.Common.{◌≤◌, ◌≡◌, ◌+◌, arith, refl, subst, sym, ℕ, Bool, true, false, Option, None, Some, Ok, Err, if◌then◌else◌}
-use Rattle.std.specs.Prelude.{Result, nat_le, length}
+use Rattle.std.proofs.Common.{◌≤◌, ◌≡◌, ◌+◌, arith, subst, sym, ℕ, Bool, true, false, Option, None, Some, Ok, Err, if◌then◌else◌}
+use Rattle.std.specs.Prelude.{nat_le, length}
 use Rattle.pcef_packet.specs.declared.header.Header.{Header}
 use Rattle.pcef_model.specs.declared.answer.AttachFault.{AttachFault}
 use Rattle.pcef_model.specs.declared.answer.FlushRefusal.{FlushRefusal}
 use Rattle.pcef_model.specs.declared.answer.Refusal.{Refusal}
 use Rattle.pcef_model.specs.declared.command.Command.{Command}
-use Rattle.pcef_model.specs.declared.row.Row.{Row}
 use Rattle.pcef_model.specs.declared.step.Step.{Step}
 use Rattle.pcef_model.specs.declared.step.Step.TheVariants as of
 use Rattle.pcef_model.specs.Setting.{Setting}
-use Rattle.pcef_model.specs.Entries.{Journal}
 use Rattle.pcef_model.specs.Journals.{report_count}
 use Rattle.pcef_model.specs.Outcomes.{accepted, attach_outcome, attach_outcome_by, changes, command_outcome, command_outcome_by, finish_outcome, finish_outcome_by, flush_outcome, flush_outcome_by}
 use Rattle.pcef_model.specs.Reports.{after_command}

@@ -1,5 +1,5 @@
 -- Out of memory is never due: it comes only where nothing refuses.
-use Rattle.std.proofs.Common.{◌≡◌, ◌∙◌, ℕ, Bool, true, false, not, List, [], ◌∷◌, length, refl, sym, ap, subst, inl, inr, Some, None, Ok, Err}
+use Rattle.std.proofs.Common.{◌≡◌, ◌∙◌, ℕ, Bool, true, false, not, List, [], ◌∷◌, length, refl, sym, ap, inl, inr, Some, None, Err}
 use Rattle.std.specs.Prelude.{Option, Result, ◌&&◌, if◌then◌else◌}
 use Rattle.std.specs.List.{list_all}
 use Rattle.pcef_catalog.specs.declared.listing.Offer.{Offer}
@@ -15,7 +15,7 @@ use Rattle.pcef_model.specs.declared.command.Command.TheVariants as command
 use Rattle.pcef_model.specs.declared.row.Row.{Row}
 use Rattle.pcef_model.specs.Setting.{Setting, offer_named}
 use Rattle.pcef_model.specs.Entries.{Journal}
-use Rattle.pcef_model.specs.Outcomes.{AttachStep, CommandStep, FinishStep, FlushStep, Gives, GivesOrLacks, Outcome, FlushAnswer, attach_outcome, attach_outcome_by, changes, command_outcome, command_outcome_by, finish_outcome, finish_outcome_by, flush_outcome, flush_outcome_by}
+use Rattle.pcef_model.specs.Outcomes.{AttachStep, CommandStep, FinishStep, FlushStep, GivesOrLacks, Outcome, FlushAnswer, attach_outcome, attach_outcome_by, changes, command_outcome, command_outcome_by, finish_outcome, finish_outcome_by, flush_outcome, flush_outcome_by}
 use Rattle.pcef_model.specs.Refusals.{Conditions, attach_faults, becoming_active_if, first_of, flush_refusals, is_active, refusals}
 use Rattle.pcef_world.specs.Steps.{is_error}
 

@@ -23,7 +23,7 @@ use Rattle.pcef_session.specs.Following.{HasItsSlots, row_of}
 use Rattle.pcef_model.specs.Lawful.{BatchFollows, RowFollows, RowsFollow, newest_generation}
 use Rattle.pcef_model.specs.Refusals.{first_of, flush_refusals, is_attached}
 use Rattle.pcef_session.specs.Shown.{Shows}
-use Rattle.pcef_world.specs.private.Workers.{IsJudged, Waits, held_by, with_item}
+use Rattle.pcef_world.specs.Workers.{IsJudged, Waits, held_by, with_item}
 use Rattle.pcef_model.proofs.Lanes.{lane_few, lane_len_with, lane_other, lane_with, with_rows_push}
 use Rattle.pcef_model.proofs.JournalExtends.{JournalExtends, attached_after_flush, flushed_fits, extends_same, rows_after_flush, tables_after_flush}
 use Rattle.pcef_model.proofs.RowsLater.{batch_empty, batch_later, batch_push}

@@ -3,7 +3,6 @@ use Rattle.std.proofs.Common.{◌≡◌, ◌∙◌, ◌≤◌, ◌<◌, ℕ, tru
 use Rattle.std.specs.Prelude.{◌≢◌, Option, Result, IfErr, IfOk, nat_le, slice_get, slice_set}
 use Rattle.std.specs.Option.{option_map}
 use Rattle.std.specs.Result.{result_map_both}
-use Rattle.std.specs.Allocator.{alloc_error}
 use Rattle.std.specs.declared.alloc.AllocError.{AllocError}
 use Rattle.std.proofs.lemmas.Bool.{cases_lt, false≢true, le-leb, lt-leb}
 use Rattle.std.proofs.lemmas.List.{length-map, map-append}
@@ -15,7 +14,7 @@ use Rattle.pcef_model.specs.Setting.{Setting}
 use Rattle.pcef_model.specs.Entries.{Journal}
 use Rattle.pcef_model.specs.Journals.{gen, lane_len}
 use Rattle.pcef_model.specs.Reports.{after_leave}
-use Rattle.pcef_model.specs.Outcomes.{AttachStep, CommandStep, FinishStep, FlushStep, Outcome, FlushAnswer, attach_outcome, command_outcome, finish_outcome, flush_outcome, finish_answer_of, flush_answer_of}
+use Rattle.pcef_model.specs.Outcomes.{AttachStep, CommandStep, FinishStep, FlushStep, Outcome, FlushAnswer, attach_outcome, finish_outcome, flush_outcome, finish_answer_of, flush_answer_of}
 use Rattle.pcef_model.specs.declared.answer.Accepted.{Accepted}
 use Rattle.pcef_model.specs.declared.answer.AttachFault.{AttachFault}
 use Rattle.pcef_model.specs.declared.answer.AttachFault.TheVariants as attach
@@ -27,7 +26,6 @@ use Rattle.pcef_model.specs.declared.answer.Verdicts.{Verdicts}
 use Rattle.pcef_model.specs.declared.command.Command.{Command}
 use Rattle.pcef_model.specs.declared.step.Step.{Step}
 use Rattle.pcef_model.specs.declared.step.Step.TheVariants as of
-use Rattle.pcef_session.specs.declared.batch.BatchFull.{BatchFull}
 use Rattle.pcef_session.specs.declared.batch.Item.{Item}
 use Rattle.pcef_session.specs.SessionModel.{SessionModel}
 use Rattle.pcef_session.specs.Following.{row_of}
@@ -36,8 +34,8 @@ use Rattle.pcef_world.specs.declared.answer.StepAnswer.TheVariants as answer
 use Rattle.pcef_world.specs.declared.worker.WorldWorker.{WorldWorker}
 use Rattle.pcef_world.specs.private.Places.{AbandonsAt, FinishesAt, FlushesAt, RefreshesAt, TakesAt, after_coming, after_finishing, attach_step_answer, finish_step_answer, flush_step_answer}
 use Rattle.pcef_world.specs.private.Soundness.{IsSoundWith, seen}
-use Rattle.pcef_world.specs.private.Workers.{IsJudged, Waits, after_flushing, held_by, with_item}
-use Rattle.pcef_world.specs.Steps.{Lacks, Plays, Reply, Standing, abandon_reply, attach_step, finished, handed_over, is_error, is_refusal, new_worker, reply_of, row_taken, standing_of, step_outcome, take_reply, take_step, with_generation, with_none, with_place, with_row}
+use Rattle.pcef_world.specs.Workers.{IsJudged, Waits, after_flushing, held_by, with_item}
+use Rattle.pcef_world.specs.Steps.{Lacks, Plays, Reply, Standing, abandon_reply, attach_step, finished, handed_over, is_error, is_refusal, reply_of, row_taken, standing_of, step_outcome, take_reply, take_step, with_generation, with_none, with_place, with_row}
 use Rattle.pcef_model.proofs.JournalExtends.{attached_not, flushed_not}
 use Rattle.pcef_session.proofs.Leaving.{finished_not}
 use Rattle.pcef_world.specs.Worlds.{Waiting, World, if_there, worker_at}

@@ -18,24 +18,20 @@ use Rattle.pcef_model.specs.Journals.{attach_count, attached, gen, lane_len, tab
 use Rattle.pcef_model.specs.Reports.{after_attach, after_flush, after_leave}
 use Rattle.pcef_model.specs.declared.answer.Accepted.{Accepted}
 use Rattle.pcef_model.specs.declared.answer.AttachFault.{AttachFault}
-use Rattle.pcef_model.specs.declared.answer.FlushRefusal.{FlushRefusal}
 use Rattle.pcef_model.specs.declared.answer.Refusal.{Refusal}
-use Rattle.pcef_model.specs.declared.answer.Verdicts.{Verdicts}
-use Rattle.pcef_session.specs.declared.batch.BatchFull.{BatchFull}
 use Rattle.pcef_world.specs.declared.worker.WorldWorker.{WorldWorker}
 use Rattle.pcef_model.specs.Outcomes.{AttachStep, CommandStep, FinishStep, FlushStep, finish_answer_of, flush_answer_of}
 use Rattle.pcef_session.specs.SessionModel.{SessionModel}
 use Rattle.pcef_session.specs.Following.{row_of}
 use Rattle.pcef_model.specs.Refusals.{first_of, flush_refusals, is_attached}
 use Rattle.pcef_world.specs.private.Places.{AbandonsAt, FinishesAt, FlushesAt, RefreshesAt, TakesAt}
-use Rattle.pcef_world.specs.private.Workers.{AllWait, MayHandOver, Waits, held_by}
+use Rattle.pcef_world.specs.Workers.{AllWait, MayHandOver, Waits, held_by}
 use Rattle.pcef_world.specs.private.Soundness.{IsSoundWith, seen}
 use Rattle.pcef_world.specs.Worlds.{AreInTurn, IsInTurn, if_there}
 use Rattle.pcef_world.specs.declared.answer.StepAnswer.{StepAnswer}
 use Rattle.std.specs.declared.alloc.AllocError.{AllocError}
 use Rattle.pcef_world.proofs.WrittenLists.{get_beside, get_mapped, get_pushed, get_written, set_same, set_twice}
 use Rattle.std.proofs.lemmas.Option.{slice_get_within}
-use Rattle.pcef_table.specs.Tables.{TableValue}
 use Rattle.pcef_model.specs.Lawful.{BatchFollows}
 use Rattle.pcef_session.proofs.Leaving.{finished_not, finished_once}
 use Rattle.pcef_world.specs.Worlds.{Waiting}

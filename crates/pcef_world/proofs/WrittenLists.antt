@@ -43,3 +43,9 @@ pub set_twice : {X : Type 0} (xs : List X) (k : ℕ) (y : X) → slice_set (slic
 set_twice [] k y = refl
 set_twice (z ∷ xs) zero y = refl
 set_twice (z ∷ xs) (suc k) y = ap (λ ys. z ∷ ys) (set_twice xs k y)
+
+-- a place stays as the list grows
+pub get_before : {X : Type 0} (xs : List X) (x y : X) (k : ℕ) → slice_get xs k ≡ Some x → slice_get (xs ++ y ∷ []) k ≡ Some x
+get_before [] x y k there = absurd cc
+get_before (z ∷ xs) x y zero there = there
+get_before (z ∷ xs) x y (suc k) there = get_before xs x y k there

@@ -1,3 +1,6 @@
+pub mod Apart
+pub mod ApartLaws
 pub mod private
 pub mod Steps
+pub mod Workers
 pub mod Worlds

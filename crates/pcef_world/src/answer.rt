@@ -3,8 +3,10 @@
 ghost use Rattle.std.specs.Prelude.{◌≡◌, ◌≢◌, Err, IfErr, IfOk};
 ghost use Rattle.pcef_model.specs.declared.answer.Refusal.TheVariants.{NoMemory};
 ghost use Rattle.pcef_world.specs.declared.answer.StepAnswer.TheVariants as step;
+ghost use Rattle.pcef_world.specs.Workers.{counted};
 ghost use Rattle.pcef_world.specs.private.Places.{attach_step_answer, finish_step_answer, flush_step_answer};
 
+use crate::worker::Taken;
 use pcef_model::{Accepted, AttachFault, FlushRefusal, Refusal, Verdicts};
 use pcef_session::BatchFull;
 use std::alloc::AllocError;
@@ -49,6 +51,16 @@ pub(crate) fn command_step_answer(
     match answer {
         Err(Refusal::NoMemory) => Err(AllocError),
         answer => Ok(StepAnswer::Command(answer)),
+    }
+}
+
+/// The answer to a packet: how many rows wait then.
+pub(crate) fn take_step_answer(answer: Result<Taken, BatchFull>) -> StepAnswer
+    ensures { result ≡ step.Take (counted answer) }
+{
+    match answer {
+        Ok(taken) => StepAnswer::Take(Ok(taken.waiting)),
+        Err(full) => StepAnswer::Take(Err(full)),
     }
 }
 

@@ -4,14 +4,17 @@
 //! Its contracts say: what each step answers and what stands after it, for one step and for a list; that waiting rows
 //! may come next.
 //!
-//! In the order of reading: `answer`, `worker`, `places`, `world`, `play`.
+//! In the order of reading: `worker`, `answer`, `places`, `world`, `play`, `apart`.
 #![tactic(auto)]
 
 mod answer;
+mod apart;
 mod places;
 mod play;
 mod worker;
 mod world;
 
 pub use answer::{Abandoned, StepAnswer};
+pub use apart::ApartWorker;
+pub use worker::{Taken, WorldWorker};
 pub use world::WorldState;

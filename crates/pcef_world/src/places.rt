@@ -4,9 +4,11 @@ ghost use Rattle.std.specs.Prelude.{◌≡◌, ◌≤◌, IfSome, true};
 ghost use Rattle.pcef_model.specs.Refusals.{is_attached};
 ghost use Rattle.pcef_table.specs.Tables.{IsTable};
 ghost use Rattle.pcef_world.specs.private.Places.{AbandonsAt, HandsOverAt, LeavesAt, RefreshesAt, TakesAt};
-ghost use Rattle.pcef_world.specs.private.Workers.{MayHandOver, held_by};
+ghost use Rattle.pcef_world.specs.Workers.{MayHandOver, held_by};
 
-use crate::answer::{Abandoned, StepAnswer, finish_step_answer, flush_step_answer};
+use crate::answer::{
+    Abandoned, StepAnswer, finish_step_answer, flush_step_answer, take_step_answer,
+};
 use crate::worker::WorldWorker;
 use pcef_catalog::Detects;
 use pcef_packet::{Addr, Header};
@@ -29,8 +31,8 @@ pub(crate) fn take_at<C: Detects>(
     match place {
         None => Ok(StepAnswer::NoWorker),
         Some(worker) => {
-            let taken = worker.take(catalog, ue, handed_over, header)?;
-            Ok(StepAnswer::Take(taken))
+            let answer = worker.take(catalog, ue, handed_over, header)?;
+            Ok(take_step_answer(answer))
         }
     }
 }

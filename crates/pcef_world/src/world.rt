@@ -27,9 +27,9 @@ use std::sync::Arc;
 
 /// A session without the closures of its catalog, and a place for each worker that was ever attached.
 pub struct WorldState {
-    alloc: Global,
-    session: SessionState,
-    workers: Vec<Option<WorldWorker>>,
+    pub(crate) alloc: Global,
+    pub(crate) session: SessionState,
+    pub(crate) workers: Vec<Option<WorldWorker>>,
 }
 
 // Written out, so that an owner proves one call on each return path.
@@ -57,7 +57,7 @@ impl Model for WorldState {
 }
 
 /// The table of a session's newest generation, with its index, for one more worker to hold.
-fn newest(session: &SessionState) -> Result<Arc<Indexed>, AllocError>
+pub(crate) fn newest(session: &SessionState) -> Result<Arc<Indexed>, AllocError>
     ensures { IfOk result (λ t. ShowsNewest session.now (arc_value t)) }
 {
     Arc::try_clone(session.indexed())

@@ -25,7 +25,7 @@ use Rattle.pcef_world.specs.declared.answer.StepAnswer.TheVariants as answer
 use Rattle.pcef_world.specs.declared.worker.WorldWorker.{WorldWorker}
 use Rattle.pcef_world.specs.Steps.{new_worker}
 use Rattle.pcef_world.specs.Worlds.{Waiting}
-use Rattle.pcef_world.specs.private.Workers.{LacksForItem, TakesItem, after_flushing, held_by}
+use Rattle.pcef_world.specs.Workers.{LacksForItem, TakesItem, after_flushing, held_by}
 
 -- ---- answers
 -- out of memory is no answer

@@ -6,7 +6,7 @@ use Rattle.pcef_world.specs.declared.world.WorldState.TheInside.{Inside}
 use Rattle.pcef_world.specs.declared.worker.WorldWorker.{WorldWorker}
 use Rattle.pcef_session.specs.SessionModel.{SessionModel}
 use Rattle.pcef_session.specs.Following.{row_of}
-use Rattle.pcef_world.specs.private.Workers.{AllWait, held_by}
+use Rattle.pcef_world.specs.Workers.{AllWait, held_by}
 use Rattle.pcef_world.specs.Worlds.{Waiting, World}
 
 -- what callers see of a worker

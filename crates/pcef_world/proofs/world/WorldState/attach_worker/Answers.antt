@@ -1,9 +1,6 @@
 use Rattle.pcef_session.proofs.Leaving.{attach_refused}
-use Rattle.std.specs.Option.{option_map}
-use Rattle.std.proofs.Common.{refl, sym, ◌∙◌}
-use Rattle.std.proofs.lemmas.List.{length-map}
-use Rattle.pcef_world.specs.private.Soundness.{seen}
-use Rattle.pcef_world.proofs.WorldSteps.{attached_number, sound_attached, sound_attached_not}
+use Rattle.std.proofs.Common.{refl, sym}
+use Rattle.pcef_world.proofs.WorldSteps.{sound_attached, sound_attached_not}
 use Rattle.pcef_world.proofs.world.WorldState.attach_worker.Goals as goal
 
 pub invariant_of-self-in_err-number : goal.invariant_of-self-in_err-number

@@ -6,7 +6,7 @@ use Rattle.pcef_packet.specs.declared.header.Header.{Header}
 use Rattle.pcef_catalog.specs.declared.listing.Offer.{Offer}
 use Rattle.pcef_table.specs.Tables.{TableValue}
 use Rattle.pcef_table.specs.SessionSlots.{slots_counted}
-use Rattle.pcef_table.specs.Verdicts.{IsVerdict}
+use Rattle.pcef_table.specs.Verdicts.{IsPlaced, IsVerdict}
 use Rattle.pcef_model.specs.Setting.{Setting}
 use Rattle.pcef_model.specs.Entries.{Journal, lane}
 use Rattle.pcef_model.specs.Journals.{gen, lane_len}
@@ -14,6 +14,7 @@ use Rattle.pcef_model.specs.Reports.{with_rows}
 use Rattle.pcef_session.specs.declared.batch.BatchFull.{BatchFull}
 use Rattle.pcef_session.specs.declared.batch.Item.{Item}
 use Rattle.pcef_model.specs.Refusals.{is_attached}
+use Rattle.pcef_world.specs.declared.worker.Taken.{Taken}
 use Rattle.pcef_world.specs.declared.worker.WorldWorker.{WorldWorker}
 use Rattle.pcef_session.specs.Following.{HasItsSlots, row_of}
 use Rattle.pcef_model.specs.Lawful.{BatchFollows, newest_generation}
@@ -41,6 +42,16 @@ abbrev pub TakesItem : List Offer → Addr → Header → ℕ → WorldWorker �
 TakesItem offers ue header handed_over old (Ok count) new =
     (length old.waiting < 32) × (count ≡ length old.waiting + 1) × (i : Item) × IsJudged offers ue header handed_over old i × (new ≡ with_item i old)
 TakesItem offers ue header handed_over old (Err full) new = (32 ≤ length old.waiting) × (new ≡ old)
+
+-- how many rows wait then
+abbrev pub counted : Result Taken BatchFull → Result ℕ BatchFull
+counted (Ok taken) = Ok taken.waiting
+counted (Err full) = Err full
+
+-- the place of the rule that the row names which waits last
+abbrev pub PlacesLast : List Offer → WorldWorker → Option ℕ → Type 0
+PlacesLast offers w place =
+    (before : List Item) × (i : Item) × (w.waiting ≡ before ++ i ∷ []) × IsPlaced offers (held_by w).entries i.row.verdict place
 
 -- there is no memory for a packet that may wait
 abbrev pub LacksForItem : WorldWorker → WorldWorker → Type 0
