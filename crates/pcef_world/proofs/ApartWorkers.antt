@@ -26,11 +26,11 @@ use Rattle.pcef_world.specs.declared.worker.WorldWorker.{WorldWorker}
 use Rattle.pcef_world.specs.Worlds.{Waiting, World, if_there, worker_at}
 use Rattle.pcef_packet.specs.declared.header.Header.{Header}
 use Rattle.pcef_session.specs.declared.batch.BatchFull.{BatchFull}
-use Rattle.pcef_world.specs.Apart.{FlushesApart, IsApart, IsNewApart, IsRefreshed, TakesApart}
+use Rattle.pcef_world.specs.Apart.{FlushesApart, IsApart, IsNewApart, IsRefreshed, TakesApart, LacksApart}
 use Rattle.pcef_world.specs.Steps.{standing_of}
 use Rattle.pcef_world.specs.private.Soundness.{IsSoundWith, seen}
 use Rattle.std.specs.Prelude.{OnErr}
-use Rattle.pcef_world.specs.Workers.{AllWait, IsJudged, MayHandOver, Waits, after_flushing, held_by, with_item}
+use Rattle.pcef_world.specs.Workers.{AllWait, IsJudged, MayHandOver, Waits, after_flushing, held_by, with_item, LacksForItem}
 use Rattle.pcef_world.proofs.WorkersWait.{waits_beside, waits_flushed, waits_later, waits_left, waits_new, waits_refresh, waits_take}
 use Rattle.pcef_world.proofs.WrittenLists.{get_mapped, get_pushed}
 
@@ -190,6 +190,10 @@ abandoned_apart j n is = rw is refl
 pub on_err : {A E : Type 0} (r : Result A E) (P : Type 0) → P → OnErr r P
 on_err (Ok a) P p = tt
 on_err (Err e) P p = p
+
+pub lacks_apart : {A E : Type 0} (r : Result A E) (a : ApartWorker) (v : WorldWorker) → OnErr r (LacksForItem a.worker v) → OnErr r (LacksApart a (record a { worker = v }))
+lacks_apart (Ok x) a v lacks = tt
+lacks_apart (Err e) a v (few, same) = (few, ap (λ (w : WorldWorker). record a { worker = w }) same)
 
 pub standing_same : (s t : SessionModel) (workers : List (Option WorldWorker)) → t.journal ≡ s.journal → standing_of (world_with t workers) ≡ standing_of (world_with s workers)
 standing_same s t workers same = rw same refl

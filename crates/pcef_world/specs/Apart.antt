@@ -1,9 +1,10 @@
 -- Workers that stand apart from their session (own choice).
-use Rattle.std.specs.Prelude.{ℕ, ◌≡◌, ◌≤◌, List, [], ◌∷◌, ◌++◌, Some, None, Result, Ok, Err, length, map, slice_get}
+use Rattle.std.specs.Prelude.{ℕ, ◌≡◌, ◌≤◌, ◌<◌, List, [], ◌∷◌, ◌++◌, Some, None, Result, Ok, Err, length, map, slice_get}
 use Rattle.std.specs.Result.{result_map_both}
 use Rattle.pcef_packet.specs.declared.header.Header.{Header}
 use Rattle.pcef_catalog.specs.declared.listing.Offer.{Offer}
 use Rattle.pcef_table.specs.Tables.{TableValue}
+use Rattle.pcef_model.specs.declared.answer.AttachFault.{AttachFault}
 use Rattle.pcef_model.specs.declared.answer.FlushRefusal.{FlushRefusal}
 use Rattle.pcef_model.specs.declared.answer.Verdicts.{Verdicts}
 use Rattle.pcef_model.specs.Journals.{attach_count, gen, lane_len}
@@ -36,6 +37,15 @@ pub record IsApart (w : World) (a : ApartWorker) : Type 0 where
 abbrev pub TakesApart : List Offer → Header → ApartWorker → Result ℕ BatchFull → ApartWorker → Type 0
 TakesApart offers header old answer new =
     TakesItem offers old.ue header old.handed_over old.worker answer new.worker × (new.ue ≡ old.ue) × (new.handed_over ≡ old.handed_over)
+
+-- there is no memory for a packet that may wait
+abbrev pub LacksApart : ApartWorker → ApartWorker → Type 0
+LacksApart old new = (length old.worker.waiting < 32) × (new ≡ old)
+
+-- the number of a worker that was attached
+abbrev pub number_of : Result ApartWorker AttachFault → Result ℕ AttachFault
+number_of (Ok a) = Ok a.worker.number
+number_of (Err fault) = Err fault
 
 -- a worker that was attached just now
 pub record IsNewApart (before after : World) (a : ApartWorker) : Type 0 where

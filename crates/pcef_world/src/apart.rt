@@ -4,7 +4,8 @@
 ghost use Rattle.std.specs.Prelude.{◌≡◌, ◌≤◌, IfOk, OnErr};
 ghost use Rattle.pcef_table.specs.Tables.{IsTable};
 ghost use Rattle.pcef_world.specs.Steps.{standing_of};
-ghost use Rattle.pcef_world.specs.Apart.{AbandonsApart, FinishesApart, FlushesApart, IsApart, IsNewApart, IsRefreshed, TakesApart, held_apart};
+ghost use Rattle.pcef_world.specs.Apart.{AbandonsApart, FinishesApart, FlushesApart, IsApart, IsNewApart, IsRefreshed, LacksApart, TakesApart, held_apart, number_of};
+ghost use Rattle.pcef_model.specs.Outcomes.{AttachStep};
 ghost use Rattle.pcef_world.specs.ApartLaws.{StaysBesideComing, StaysBesideFinishing, StaysBesideFlushes, StaysBesideLeaving, StaysBesideSteps, StaysBesideTheSame, StaysByRefreshing, StaysByTaking};
 ghost use Rattle.pcef_world.specs.Workers.{PlacesLast, counted};
 
@@ -66,7 +67,7 @@ impl ApartWorker {
             (counted answer) self.new) }
         ensures place { IfOk result (λ answer. IfOk answer (λ taken. PlacesLast (C.offers catalog.now)
             self.new.worker taken.place)) }
-        ensures lacks { OnErr result (self.new ≡ self.old) }
+        ensures lacks { OnErr result (LacksApart self.old self.new) }
     {
         self.worker.take(catalog, self.ue, self.handed_over, header)
     }
@@ -76,6 +77,7 @@ impl WorldState {
     /// Attaches a worker that stands apart: it holds the newest table, and no row waits. Its place among the session's
     /// own workers is empty, so that no step has its number.
     pub fn attach_apart(&mut self) -> Result<ApartWorker, AttachFault>
+        ensures answer { AttachStep self.old.session.journal (number_of result) self.new.session.journal }
         ensures apart { IfOk result (λ a. IsNewApart self.old self.new a) }
         ensures refused { OnErr result (standing_of self.new ≡ standing_of self.old) }
         ensures setting { self.new.session.setting ≡ self.old.session.setting }

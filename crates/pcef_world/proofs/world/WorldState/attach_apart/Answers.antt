@@ -1,4 +1,5 @@
-use Rattle.std.proofs.Common.{refl, ap, ◌∙◌}
+use Rattle.pcef_session.proofs.Leaving.{attach_refused}
+use Rattle.std.proofs.Common.{refl, sym, ap, ◌∙◌}
 use Rattle.pcef_model.specs.Setting.{Setting}
 use Rattle.pcef_model.proofs.JournalExtends.{attached_not}
 use Rattle.pcef_world.proofs.ApartWorkers.{new_apart, on_err, sound_attached_apart, standing_same}
@@ -26,3 +27,7 @@ returns-clause-apart c =
     rw (← c.self.view_is, c.push_reserved.ensures.items, c.reserve.ensures.items)
     (new_apart c.self.inside.session c.attach.new.self c.self.inside.workers.items c.in_ok-number.number _ c.self.invariant c.in_ok-number.ensures.answer c.attach.ensures.setting c.in_ok-number.ensures.lane
     c.in-Ok.ensures refl c.new.ensures (ap (λ t. t.ue) c.behind-self.view_is ∙ ap (λ (p : Setting). p.ue) c.profile.ensures) refl)
+
+pub returns-in-Some-clause-answer : goal.returns-in-Some-clause-answer
+returns-in-Some-clause-answer c =
+    rw (← c.self.view_is) (attach_refused c.self.inside.session.journal c.in-Some.fault (sym c.in-Some.ensures))
