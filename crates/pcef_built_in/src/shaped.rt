@@ -63,6 +63,15 @@ impl ShapedCatalog {
             listing: Listing::new(alloc, built_in_rules(alloc)?)?,
         })
     }
+
+    /// The same catalog for one more owner, which shares its rules. Fails when out of memory.
+    pub fn share(&self) -> Result<ShapedCatalog, AllocError>
+        ensures { IfOk result (λ c. c ≡ self.now) }
+    {
+        Ok(ShapedCatalog {
+            listing: self.listing.share()?,
+        })
+    }
 }
 
 impl Offers for ShapedCatalog {

@@ -19,10 +19,11 @@ abbrev pub IsPut : Option LineAnswer → List ℕ → List ℕ → ℕ → Type 
 IsPut None before after octets = (octets ≡ 0) × (after ≡ before)
 IsPut (Some a) before after octets = CopiesFront (string_bytes a.text) before after octets
 
--- what is fixed for a session stays, and no more of its reports are forgotten
+-- what is fixed for a session stays, its number too, and no more of its reports are forgotten
 abbrev pub StaysOpen : OpenSession → OpenSession → Type 0
 StaysOpen old new =
     (new.world.session.setting ≡ old.world.session.setting)
+    × (new.number ≡ old.number)
     × (new.world.session.forgotten ≡ old.world.session.forgotten)
 
 -- a line is answered as in a script, into a buffer; when out of memory nothing is written

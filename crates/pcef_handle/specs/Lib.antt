@@ -1,4 +1,6 @@
 pub mod Answering
+pub mod Attached
 pub mod Judging
 pub mod Opening
 pub mod Reporting
+pub mod Working

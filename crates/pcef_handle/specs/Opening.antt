@@ -1,5 +1,5 @@
 -- The outcome of opening a session by the text of a profile (own choice).
-use Rattle.std.specs.Prelude.{ℕ, ◌≡◌, true, List, Option, Some, None, Result, Ok, Err, is_some}
+use Rattle.std.specs.Prelude.{ℕ, ◌≡◌, ◌+◌, ◌%◌, ◌^◌, true, List, Option, Some, None, Result, Ok, Err, is_some}
 use Rattle.std.specs.Str.{IsUtf8}
 use Rattle.pcef_model.specs.Setting.{Setting}
 use Rattle.pcef_model.specs.Outcomes.{Opens}
@@ -42,8 +42,13 @@ abbrev pub IfThere : Option OpenSession → (OpenSession → Type 0) → Type 0
 IfThere (Some s) P = P s
 IfThere None P = ⊥
 
+-- the sessions of a handle are numbered one after the other
+abbrev pub number_after : ℕ → ℕ
+number_after number = (number + 1) % 2 ^ 64
+
 -- a handle that has a session keeps it; any refusal leaves the handle as it was
 abbrev pub OpensHandle : List ℕ → Handle → Result (Unit {0}) OpenRefusal → Handle → Type 0
-OpensHandle text old (Ok done) new = (old.session ≡ None) × IfThere new.session (λ s. OpensText text (Ok s))
+OpensHandle text old (Ok done) new =
+    (old.session ≡ None) × IfThere new.session (λ s. OpensText text (Ok s) × (s.number ≡ old.next_number)) × (new.next_number ≡ number_after old.next_number)
 OpensHandle text old (Err refusal.AlreadyOpen) new = (is_some old.session ≡ true) × (new ≡ old)
 OpensHandle text old (Err other) new = (old.session ≡ None) × OpensText text (Err other) × (new ≡ old)

@@ -36,6 +36,7 @@ pub record ForgetsReports (old : OpenSession) (number : ℕ) (new : OpenSession)
   pub forgotten_is : new.world.session.forgotten ≡ number
   pub setting_stays : new.world.session.setting ≡ old.world.session.setting
   pub standing_stays : standing_of new.world ≡ standing_of old.world
+  pub number_stays : new.number ≡ old.number
 
 abbrev pub ForgetsHandle : Handle → Result ℕ CallRefusal → Handle → Type 0
 ForgetsHandle old (Ok number) new = InSession old.session new.session (λ s t. ForgetsReports s number t) ⊥

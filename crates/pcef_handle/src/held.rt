@@ -15,6 +15,8 @@ pub struct OpenSession {
     pub world: WorldState,
     /// Reads the lines.
     pub lines: LineReader,
+    /// Its number among the sessions of its handle.
+    pub number: u64,
     pub ghost offered: { catalog ≡ world.session.setting.catalog },
 }
 
@@ -25,6 +27,7 @@ impl Drop for OpenSession {
             catalog: _,
             world: _,
             lines: _,
+            number: _,
         } = self;
     }
 }
@@ -36,22 +39,35 @@ pub struct Handle {
     pub alloc: Global,
     /// The session.
     pub session: Option<OpenSession>,
+    /// The number that the next session gets.
+    pub next_number: u64,
 }
 
 impl Handle {
-    /// A handle without a session. Takes no memory.
+    /// A handle without a session, whose first one gets number 0. Takes no memory.
     pub fn new(alloc: Global) -> Handle
-        ensures { result.session ≡ None }
+        ensures session { result.session ≡ None }
+        ensures number { result.next_number ≡ 0 }
     {
         Handle {
             alloc,
             session: None,
+            next_number: 0,
         }
+    }
+
+    /// The sessions to come get this number and those behind it. A session that is open keeps its own.
+    pub fn number_from(&mut self, number: u64)
+        ensures session { self.new.session ≡ self.old.session }
+        ensures number { self.new.next_number ≡ number }
+    {
+        self.next_number = number;
     }
 
     /// Drops the session, if there is one, and frees all its memory.
     pub fn close(&mut self)
-        ensures { self.new.session ≡ None }
+        ensures session { self.new.session ≡ None }
+        ensures number { self.new.next_number ≡ self.old.next_number }
     {
         self.session = None;
     }

@@ -1,19 +1,23 @@
-//! The state of a handle that another language holds: `Handle`, a session while one is open, and the calls on it. There
-//! is no pointer here.
+//! The state of the handles that another language holds: `Handle`, a session while one is open, `WorkerHandle`, one of
+//! its workers while it is attached, and the calls on them. There is no pointer here.
 //!
 //! Its contracts say: what each call does to the session, and what is written to a buffer.
 //!
-//! In the order of reading: `held`, `judging`, `opening`, `text`, `line`, `reporting`.
+//! In the order of reading: `held`, `judging`, `opening`, `text`, `line`, `reporting`, `attached`, `worker`.
 #![tactic(auto)]
 
+mod attached;
 mod held;
 mod judging;
 mod line;
 mod opening;
 mod reporting;
 mod text;
+mod worker;
 
+pub use attached::{AttachRefusal, AttachedWorker, MeetRefusal, TakeRefusal};
 pub use held::{Handle, OpenSession};
 pub use judging::{JudgeRefusal, Judgement};
 pub use line::CallRefusal;
 pub use opening::OpenRefusal;
+pub use worker::{WorkerHandle, handles_are_send};

@@ -67,7 +67,8 @@ impl Handle {
     /// buffer. A line of spaces, tabs and CR alone has no answer: 0 is returned. Takes memory for the answer and for
     /// what the session keeps; when out of memory, the line may be done or not.
     pub fn line(&mut self, line: &[u8], buffer: &mut [u8]) -> Result<usize, CallRefusal>
-        ensures { AnswersHandle self.old line.now buffer.old result self.new buffer.new }
+        ensures answer { AnswersHandle self.old line.now buffer.old result self.new buffer.new }
+        ensures number { self.new.next_number ≡ self.old.next_number }
     {
         let alloc = self.alloc;
         match &mut self.session {

@@ -1,6 +1,6 @@
 //! Opens a session by the text of a profile.
 
-ghost use Rattle.std.specs.Prelude.{◌≡◌};
+ghost use Rattle.std.specs.Prelude.{◌≡◌, IfOk};
 ghost use Rattle.pcef_model.specs.ProfileModel.{setting_of};
 ghost use Rattle.pcef_built_in.specs.BuiltIn.{built_in_offers};
 ghost use Rattle.pcef_handle.specs.Opening.{OpensHandle, OpensText, ReadsProfile, Starts, StartsSession};
@@ -61,8 +61,9 @@ fn world_of(
 }
 
 /// The session of a profile, over the built-in rules.
-fn session_of(alloc: Global, profile: Profile) -> Result<OpenSession, OpenRefusal>
-    ensures { StartsSession (setting_of profile built_in_offers) result }
+fn session_of(alloc: Global, number: u64, profile: Profile) -> Result<OpenSession, OpenRefusal>
+    ensures starts { StartsSession (setting_of profile built_in_offers) result }
+    ensures number { IfOk result (λ s. s.number ≡ number) }
 {
     let Ok(catalog) = ShapedCatalog::built_in(alloc) else {
         return Err(OpenRefusal::NoMemory);
@@ -72,25 +73,30 @@ fn session_of(alloc: Global, profile: Profile) -> Result<OpenSession, OpenRefusa
         catalog,
         world,
         lines: LineReader::new(alloc),
+        number,
     })
 }
 
-fn open_session(alloc: Global, text: &[u8]) -> Result<OpenSession, OpenRefusal>
-    ensures { OpensText text.now result }
+fn open_session(alloc: Global, number: u64, text: &[u8]) -> Result<OpenSession, OpenRefusal>
+    ensures opens { OpensText text.now result }
+    ensures number { IfOk result (λ s. s.number ≡ number) }
 {
-    session_of(alloc, profile_of(alloc, text)?)
+    session_of(alloc, number, profile_of(alloc, text)?)
 }
 
 impl Handle {
     /// Opens a session by the text of a profile, over the built-in predefined rules: its journal is empty, and no
-    /// worker is attached. A refusal leaves the handle as it was. Takes memory for the session.
+    /// worker is attached. It gets the handle's next number. A refusal leaves the handle as it was. Takes memory for the
+    /// session.
     pub fn open(&mut self, text: &[u8]) -> Result<(), OpenRefusal>
         ensures { OpensHandle text.now self.old result self.new }
     {
         if self.session.is_some() {
             return Err(OpenRefusal::AlreadyOpen);
         }
-        self.session = Some(open_session(self.alloc, text)?);
+        let session = open_session(self.alloc, self.next_number, text)?;
+        self.next_number = self.next_number.wrapping_add(1);
+        self.session = Some(session);
         Ok(())
     }
 }

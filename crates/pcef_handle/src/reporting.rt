@@ -53,7 +53,8 @@ impl Handle {
     /// They can't be read any more, and their memory serves for the next ones; they still count. Nothing else changes.
     /// Takes no memory.
     pub fn forget(&mut self) -> Result<u64, CallRefusal>
-        ensures { ForgetsHandle self.old result self.new }
+        ensures forgets { ForgetsHandle self.old result self.new }
+        ensures number { self.new.next_number ≡ self.old.next_number }
     {
         match &mut self.session {
             Some(session) => Ok(forget_reports(session)),
