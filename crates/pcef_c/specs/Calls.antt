@@ -15,7 +15,7 @@ OpenReturns old text new number = (r : Result (Unit {0}) OpenRefusal) × OpensHa
 -- the line is answered as in a script, or there is a reason why it isn't
 abbrev pub LineReturns : Handle → List ℕ → List ℕ → Handle → List ℕ → ℕ → Type 0
 LineReturns old line before new after number =
-    (r : Result ℕ CallRefusal) × AnswersHandle old line before r new after × (number ≡ length_number r)
+    (r : Result ℕ CallRefusal) × AnswersHandle old line before r new after × (new.next_number ≡ old.next_number) × (number ≡ length_number r)
 
 -- the reports from a number on are written, or there is a reason why they aren't; the handle stays
 abbrev pub ReportsReturn : Handle → ℕ → List ℕ → Handle → List ℕ → ℕ → Type 0
@@ -24,8 +24,13 @@ ReportsReturn old first before new after number =
 
 -- the reports so far are forgotten, or there is no session
 abbrev pub ForgetReturns : Handle → Handle → ℕ → Type 0
-ForgetReturns old new number = (r : Result ℕ CallRefusal) × ForgetsHandle old r new × (number ≡ length_number r)
+ForgetReturns old new number =
+    (r : Result ℕ CallRefusal) × ForgetsHandle old r new × (new.next_number ≡ old.next_number) × (number ≡ length_number r)
 
 -- there is no session any more, and the number says whether there was one
 abbrev pub Closes : Handle → Handle → ℕ → Type 0
-Closes old new number = (new.session ≡ None) × (number ≡ number_of (is_some old.session))
+Closes old new number = (new.session ≡ None) × (new.next_number ≡ old.next_number) × (number ≡ number_of (is_some old.session))
+
+-- the next session gets this number; the number that it would have had is returned
+abbrev pub NumberReturns : Handle → ℕ → Handle → ℕ → Type 0
+NumberReturns old number new before = (new.session ≡ old.session) × (new.next_number ≡ number) × (before ≡ old.next_number)

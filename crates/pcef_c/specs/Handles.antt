@@ -1,9 +1,12 @@
 -- What lies at the address of a handle.
+use Rattle.std.specs.Prelude.{◌≡◌, None}
 use base.Fml.{Fml}
 use base.Fraction.{full_share}
 use denote.RawPtr.{Ptr, lies_at, room_at}
 use Rattle.pcef_handle.specs.declared.held.Handle.{Handle}
+use Rattle.pcef_handle.specs.declared.worker.WorkerHandle.{WorkerHandle}
 use Rattle.pcef_handle.specs.contracts.held.Handle.{the_row}
+use Rattle.pcef_handle.specs.contracts.worker.WorkerHandle.{the_row as the_workers_row}
 
 -- room for a handle at p, whatever it holds
 abbrev pub room : Ptr → Fml
@@ -12,3 +15,14 @@ room p = room_at the_row p
 -- a handle h lies at p, and this is all of it
 abbrev pub lies : Ptr → Handle → Fml
 lies p h = lies_at the_row full_share p h
+
+-- the same of a worker's handle
+abbrev pub worker_room : Ptr → Fml
+worker_room p = room_at the_workers_row p
+
+abbrev pub worker_lies : Ptr → WorkerHandle → Fml
+worker_lies p w = lies_at the_workers_row full_share p w
+
+-- a handle without a session, whose first one gets number 0
+abbrev pub IsEmpty : Handle → Type 0
+IsEmpty h = (h.session ≡ None) × (h.next_number ≡ 0)

@@ -1,4 +1,7 @@
 pub mod Calls
 pub mod Handles
 pub mod Judging
+pub mod Meeting
 pub mod Numbers
+pub mod Taking
+pub mod Working

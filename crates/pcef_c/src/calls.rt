@@ -1,7 +1,7 @@
 //! The calls of C behind their pointers: each is a call on a handle, with its answer as a number.
 
-ghost use Rattle.std.specs.Prelude.{◌≡◌, None};
-ghost use Rattle.pcef_c.specs.Calls.{Closes, ForgetReturns, LineReturns, OpenReturns, ReportsReturn};
+ghost use Rattle.pcef_c.specs.Calls.{Closes, ForgetReturns, LineReturns, NumberReturns, OpenReturns, ReportsReturn};
+ghost use Rattle.pcef_c.specs.Handles.{IsEmpty};
 ghost use Rattle.pcef_c.specs.Judging.{JudgesAll};
 
 use crate::judging::{CPacket, CVerdict, judge_all};
@@ -9,9 +9,9 @@ use crate::numbers::{count_number, length_number, open_number};
 use pcef_handle::Handle;
 use std::alloc::Global;
 
-/// A handle without a session.
+/// A handle without a session, whose first one gets number 0.
 pub(crate) fn empty(alloc: Global) -> Handle
-    ensures { result.session ≡ None }
+    ensures { IsEmpty result }
 {
     Handle::new(alloc)
 }
@@ -22,6 +22,15 @@ pub(crate) fn open(handle: &mut Handle, profile: &[u8]) -> u8
 {
     let opened = handle.open(profile);
     open_number(opened)
+}
+
+/// Gives the sessions to come this number and those behind it. Returns the number that the next one would have had.
+pub(crate) fn number(handle: &mut Handle, number: u64) -> u64
+    ensures { NumberReturns handle.old number handle.new result }
+{
+    let before = handle.next_number;
+    handle.number_from(number);
+    before
 }
 
 /// Answers a line. Returns the answer's length, or why there is none.

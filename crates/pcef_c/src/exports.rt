@@ -1,14 +1,13 @@
 //! The functions that C calls: each makes one call of a safe function, by a pointer to a handle. `include/pcef.h` says
 //! what the caller owes.
 
-ghost use Rattle.std.specs.Prelude.{◌≡◌, None};
 ghost use Rattle.std.specs.Borrow.{sem};
 ghost use Rattle.pcef_handle.specs.declared.held.Handle.{Handle};
-ghost use Rattle.pcef_c.specs.Calls.{Closes, ForgetReturns, LineReturns, OpenReturns, ReportsReturn};
-ghost use Rattle.pcef_c.specs.Handles.{lies, room};
+ghost use Rattle.pcef_c.specs.Calls.{Closes, ForgetReturns, LineReturns, NumberReturns, OpenReturns, ReportsReturn};
+ghost use Rattle.pcef_c.specs.Handles.{IsEmpty, lies, room};
 ghost use Rattle.pcef_c.specs.Judging.{JudgesAll};
 
-use crate::calls::{close, empty, forget, judge, line, open, reports};
+use crate::calls::{close, empty, forget, judge, line, number, open, reports};
 use crate::judging::{CPacket, CVerdict};
 use pcef_handle::Handle;
 use std::alloc::Global;
@@ -24,7 +23,7 @@ pub extern "C" fn pcef_size() -> usize {
 #[unsafe(no_mangle)]
 pub unsafe extern "C" fn pcef_room(alloc: Global, at: *mut u8)
     requires* { sem 𝓛 (room at) }
-    ensures* { ∃ₛ (λ (new : Handle). sem 𝓛 (lies at new) ∗ ⌜ new.session ≡ None ⌝) }
+    ensures* { ∃ₛ (λ (new : Handle). sem 𝓛 (lies at new) ∗ ⌜ IsEmpty new ⌝) }
 {
     std::ptr::write(at as *mut Handle, empty(alloc));
 }
@@ -39,6 +38,17 @@ pub unsafe extern "C" fn pcef_open(at: *mut u8, profile: &[u8]) -> u8
         ∗ ⌜ OpenReturns old profile.now new result ⌝) }
 {
     open(&mut *(at as *mut Handle), profile)
+}
+
+/// Gives the sessions to come at a handle this number and those behind it. A session that is open keeps its own.
+/// Returns the number that the next one would have had. Takes no memory.
+#[unsafe(no_mangle)]
+pub unsafe extern "C" fn pcef_number(at: *mut u8, first: u64) -> u64
+    ghost old: { Handle }
+    requires* { sem 𝓛 (lies at old) }
+    ensures* { ∃ₛ (λ (new : Handle). sem 𝓛 (lies at new) ∗ ⌜ NumberReturns old first new result ⌝) }
+{
+    number(&mut *(at as *mut Handle), first)
 }
 
 /// Answers a line of a script as `pcef script` does. Returns the answer's length in octets, or why there is none. As

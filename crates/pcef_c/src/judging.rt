@@ -36,13 +36,13 @@ pub struct CVerdict {
     pub slots: u8,
 }
 
-fn dir_of(up: u8) -> Dir
+pub(crate) fn dir_of(up: u8) -> Dir
     ensures { result ≡ dir_of up }
 {
     if up == 0 { Dir::Down } else { Dir::Up }
 }
 
-fn status_of(verdict: &Verdict) -> u8
+pub(crate) fn status_of(verdict: &Verdict) -> u8
     ensures { result ≡ status_of verdict.now }
 {
     match verdict {
@@ -53,7 +53,7 @@ fn status_of(verdict: &Verdict) -> u8
     }
 }
 
-fn bearer_of(verdict: &Verdict) -> u8
+pub(crate) fn bearer_of(verdict: &Verdict) -> u8
     ensures { result ≡ bearer_of verdict.now }
 {
     match verdict {
@@ -62,7 +62,7 @@ fn bearer_of(verdict: &Verdict) -> u8
     }
 }
 
-fn place_of(place: Option<u8>) -> u8
+pub(crate) fn place_of(place: Option<u8>) -> u8
     ensures { result ≡ place_of place }
 {
     match place {
@@ -83,7 +83,7 @@ fn flag_of(slot: Slot) -> u8
     }
 }
 
-fn flags_of(slots: &[Slot]) -> u8
+pub(crate) fn flags_of(slots: &[Slot]) -> u8
     ensures { result ≡ flags_of slots.now 0 }
 {
     let mut flags = 0u8;
@@ -94,7 +94,7 @@ fn flags_of(slots: &[Slot]) -> u8
 }
 
 /// The verdict on a packet that wasn't judged.
-fn unjudged(status: u8) -> CVerdict
+pub(crate) fn unjudged(status: u8) -> CVerdict
     ensures { result ≡ record { generation = 0; status = status; bearer = 0; place = 255; slots = 0 } }
 {
     CVerdict {

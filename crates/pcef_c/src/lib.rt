@@ -1,12 +1,18 @@
-//! A session behind a handle, for C. The room at a handle is the caller's; what lies there is this library's.
+//! A session behind a handle, and its workers behind handles of their own, for C. The room at a handle is the caller's;
+//! what lies there is this library's.
 //! `include/pcef.h` declares these calls, and says what the caller owes.
 //!
 //! Its contracts say: those of `pcef_handle`, as C sees them, under the caller's obligations.
 //!
-//! In the order of reading: `numbers`, `judging`, `calls`, `exports`.
+//! In the order of reading: `numbers`, `judging`, `calls`, `taking`, `meeting`, `working`, `exports`,
+//! `worker_exports`.
 #![tactic(auto)]
 
 mod calls;
 mod exports;
 mod judging;
+mod meeting;
 mod numbers;
+mod taking;
+mod worker_exports;
+mod working;

@@ -1,8 +1,8 @@
 //! A session and its workers, step by step: `WorldState`, a session and a place for each worker that was ever attached,
-//! and `StepAnswer`.
+//! and `StepAnswer`; `ApartWorker`, a worker that stands apart from its session, for a thread of its own.
 //!
 //! Its contracts say: what each step answers and what stands after it, for one step and for a list; that waiting rows
-//! may come next.
+//! may come next; the same of a worker apart, and that it stays its session's.
 //!
 //! In the order of reading: `worker`, `answer`, `places`, `world`, `play`, `apart`.
 #![tactic(auto)]

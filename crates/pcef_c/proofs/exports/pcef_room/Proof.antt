@@ -1,10 +1,9 @@
 -- An empty handle is written into the room.
-use Rattle.pcef_c.proofs.Steps.{◌≡◌, List, [], ◌∷◌, ◌++◌, refl, proved, full_share, id⊢, sep, ftrue, vunit, Val, WpFn, fact, tables, sem, ‵, raw, ◌⊛◌, some, later, prop, ◌$◌, ◌∵◌, !, qed, done, move, keep, use1, use2, split, split3, join, fjoin, feq_i, pick, await, regoal, show, suffices, frame, group, enter, of_opd, unit_lit, stop, init, assigns, no_more, and_then, returns, alloc_all, pass_all, free_all, look_at, get, through, sets, lands_as, yes, Is, shows, part_at, part_in, Ptr, RawPtr, block_ptr, in_a_block, rawptr_vals, rawptr_Tells, plain, nothing, heard, peeks, calls_at, Lasts, lasts, triple_of, Stays, walk_of, says, stay_dropped, Goes-dropped, ends_at, framed}
-use Rattle.pcef_c.specs.Handles.{room, lies}
+use Rattle.pcef_c.proofs.Steps.{List, [], ◌∷◌, ◌++◌, refl, proved, full_share, id⊢, sep, ftrue, vunit, Val, WpFn, fact, tables, sem, ‵, raw, ◌⊛◌, some, later, prop, ◌$◌, ◌∵◌, !, qed, done, move, keep, use1, use2, split, split3, join, fjoin, feq_i, pick, await, regoal, show, suffices, frame, group, enter, of_opd, unit_lit, stop, init, assigns, no_more, and_then, returns, alloc_all, pass_all, free_all, look_at, get, through, sets, lands_as, yes, Is, shows, part_at, part_in, Ptr, RawPtr, block_ptr, in_a_block, rawptr_vals, rawptr_Tells, plain, nothing, heard, peeks, calls_at, Lasts, lasts, triple_of, Stays, walk_of, says, stay_dropped, Goes-dropped, ends_at, framed}
+use Rattle.pcef_c.specs.Handles.{IsEmpty, room, lies}
 use Rattle.pcef_handle.specs.declared.held.Handle.{Handle}
 use Rattle.pcef_handle.specs.contracts.held.Handle.{the_row as R}
 use Rattle.pcef_handle.proofs.held.Handle.TheLaws.{the_row_laws as R-laws}
-use Rattle.std.specs.Prelude.{None}
 use Rattle.std.specs.Global.{Global}
 use Rattle.std.specs.contracts.alloc.Global.{the_row as H}
 use Rattle.std.proofs.alloc.Global.TheLaws as heap
@@ -40,7 +39,7 @@ pcef_room_spec 𝓤 𝓛 𝓜 𝓡 wired =
     nothing ! $ move ! (1 ∷ 0 ∷ []) $ fjoin ! $ nothing ! $ join ! $ nothing ! $ move ! (1 ∷ 0 ∷ []) $ join ! $ use1 𝓛 (raw (G.pre z)) (id⊢ 𝓤 _) $
     calls_at ! (framed 𝓤 𝓛.H 𝓜 𝓣) G (met 𝓤 𝓛 𝓜 𝓡 (code.calls-pcef_c::calls::empty 𝓡.env wired)) z (and_then ! (get ! refl) (no_more !)) (λ v.
     use1 𝓛 (later (some (λ (u : Handle). (‵ ftrue ⊛ ‵ (R.own_val u (v ∷ []))) ⊛
-    some (λ (ws : Lasts g.ended z.0.0 z.0.3). ‵ (lasts g.ended z.0.0 z.0.3 ws) ⊛ raw (fact 𝓤 (u.session ≡ None)))))) (id⊢ 𝓤 _) $
+    some (λ (ws : Lasts g.ended z.0.0 z.0.3). ‵ (lasts g.ended z.0.0 z.0.3 ws) ⊛ raw (fact 𝓤 (IsEmpty u)))))) (id⊢ 𝓤 _) $
     await ! tt $ pick ! (λ u. split ! $ split ! $ move ! (2 ∷ []) $ pick ! (λ ws. split ! $ move ! (1 ∷ []) $ heard ! _ (λ told. move ! (2 ∷ []) $
     -- [what the handle owns; nothing; nothing; the room]
     peeks ! R (Is R) (shows 𝓛 R) u (v ∷ []) (λ is. let typed = ((R-laws.lawful 𝓛).typed u _ is).0 in lands_as ! refl refl typed $
@@ -49,4 +48,4 @@ pcef_room_spec 𝓤 𝓛 𝓜 𝓡 wired =
     returns ! (look_at ! 0 refl) $ free_all ! refl $ keep ! (3 ∷ 0 ∷ []) $ use2 𝓛 (‵ (part_at R full_share u b o)) (part_in 𝓛 R refl full_share u b o v) $
     suffices ! _ (ends_at 𝓛 f.ended stayed c (y (block_ptr b o)) vunit tt (tt, (tt, tt)) (tt, (tt, tt))) $
     feq_i ! _ (vunit ∷ []) _ refl $ nothing ! $ nothing ! $ join ! $ nothing ! $ join ! $ nothing ! $ group ! 3 $ frame ! $
-    show ! (λ (new : Handle). sep 𝓤 (sem 𝓛 (lies (block_ptr b o) new)) (fact 𝓤 (new.session ≡ None))) u $ says ! told $ done !))))))))
+    show ! (λ (new : Handle). sep 𝓤 (sem 𝓛 (lies (block_ptr b o) new)) (fact 𝓤 (IsEmpty new))) u $ says ! told $ done !))))))))
