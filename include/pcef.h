@@ -1,22 +1,31 @@
-/* pcef.h: a policy and charging enforcement function behind a handle: one session of a gateway.
+/* pcef.h: a policy and charging enforcement function behind handles: one session of a gateway, and its workers.
  *
- * OWNERSHIP. The memory of a handle is yours: pcef_size() octets, aligned to 16. Between pcef_room and the end of the last
- * call on it, nothing else reads, writes, moves or copies it. What a session holds besides lies on the heap of malloc
- * and free, and goes with pcef_close. Free the memory of a handle after pcef_close. In order, for one handle:
+ * OWNERSHIP. The memory of a handle is yours: pcef_size() octets, or pcef_worker_size(), aligned to 16. Between
+ * pcef_room or pcef_worker_room and the end of the last call on it, nothing else reads, writes, moves or copies it.
+ * What a session or a worker holds besides lies on the heap of malloc and free; it goes with pcef_close, and with
+ * pcef_finish, pcef_abandon or pcef_drop_worker. Free the memory of a handle after that. In order:
  *     pcef_room; any number of (pcef_open; any calls; pcef_close); free.
+ *     pcef_worker_room; any number of (pcef_attach; any calls; pcef_finish or pcef_abandon); free.
  *
- * THREADS. A handle is in one call at a time, and stays on its thread. Handles on different threads may be in calls at the same
- * time: they share nothing but malloc. Call nothing from a signal handler, nor in the forked child of a process with threads.
+ * THREADS. A handle, of a session or of a worker, is in one call at a time. It may go from thread to thread where a
+ * lock, a thread's start or join, or a sequentially consistent atomic orders the calls. The library has no lock: where
+ * threads share a session, hold one of yours round each call that names it, pcef_line too. pcef_take names the worker
+ * alone and needs none. Calls on different handles may be made at the same time. Call nothing from a signal handler,
+ * nor in the forked child of a process with threads.
  *
- * ERRORS. A call returns a number that says what came of it. No call sets errno, ends the process, writes anywhere but to the
- * handle, to the buffers that it is given and to the heap, or runs on without end. On a handle without a session each
- * call but pcef_open says so (pcef_judge in each verdict), and changes no handle.
+ * ERRORS. A call returns a number that says what came of it. No call sets errno, ends the process, writes anywhere but
+ * to the handles, to the buffers that it is given and to the heap, or runs on without end. On a handle without a
+ * session each call but pcef_open and pcef_number says so (pcef_judge in each verdict), and changes no handle.
  *
- * WHAT YOU OWE, and no call can see: pointers to live memory of the length that you give, never null, also where the length
- * is 0; buffers that don't overlap one another or the handle; lengths below 2^63; and malloc, realloc and free of one
- * allocator, which align a block to each power of two up to 16 that divides its size (glibc's do).
+ * WHAT YOU OWE, and no call can see: pointers to live memory of the length that you give, never null, also where the
+ * length is 0; handles that pcef_room or pcef_worker_room made; buffers that don't overlap one another or a handle;
+ * lengths below 2^63; malloc, realloc and free of one allocator that is safe for threads, and aligns a block to each
+ * power of two up to 16 that divides its size (glibc's does); the lock; and the order of THREADS. Last, a worker goes
+ * with the session that it was attached to until it leaves, and meets no other session of the same number
+ * (pcef_number).
  *
- * UNITS. Text is UTF-8, with a length and no zero at its end. Rates are bits per second. Volumes are octets of IP packets.
+ * UNITS. Text is UTF-8, with a length and no zero at its end. Rates are bits per second. Volumes are octets of IP
+ * packets.
  *
  * LINKING. libpcef_c.a, libos_c.a, liblibc_c.a, in this order. docs/EMBEDDING.md shows it. For 64-bit x86. */
 #ifndef PCEF_H
@@ -27,7 +36,7 @@
 extern "C" {
 #endif
 
-/* A handle. Only its address is known. */
+/* A session's handle. Only its address is known. */
 typedef struct pcef_session pcef_session;
 
 /* How many octets of memory a handle needs. */
@@ -37,8 +46,9 @@ size_t pcef_size(void);
  * memory. Takes no memory. */
 void pcef_room(pcef_session *at);
 
-/* Opens a session by the text of a profile (docs/FORMATS.md), over the predefined rules that the program pcef has. Its journal is
- * empty, and no worker is attached. PCEF_OK, or why none is opened, and then the handle is as it was. Takes memory. */
+/* Opens a session by the text of a profile (docs/FORMATS.md), over the predefined rules that the program pcef has. Its
+ * journal is empty, and no worker is attached. PCEF_OK, or why none is opened, and then the handle is as it was. Takes
+ * memory. */
 uint8_t pcef_open(pcef_session *at, const uint8_t *profile, size_t profile_length);
 
 #define PCEF_OK 0
@@ -52,23 +62,30 @@ uint8_t pcef_open(pcef_session *at, const uint8_t *profile, size_t profile_lengt
 #define PCEF_NOT_UTF8 8
 #define PCEF_ALREADY_OPEN 9
 
+/* Numbers the sessions to come at this handle: the next one gets `first`, those behind it first + 1 and so on; a new
+ * handle begins at 0, and an open session keeps its own. Returns the number that the next one would have had. A worker
+ * remembers its session's number, and a session of another number refuses it. So give each handle numbers of its own:
+ * pcef_number(handle[i], (uint64_t)i << 32). Takes no memory. */
+uint64_t pcef_number(pcef_session *at, uint64_t first);
+
 /* Does what a line of a script asks for (docs/FORMATS.md), and returns the length of the answer: the text that
  * `pcef script` writes for the line, without its line feed. As much of it as fits is written to `answer`. A line of
- * spaces, tabs and CR alone has no answer: 0. The line is done even where its answer doesn't fit. An answer to `show` grows with rules and keys,
- * one to `flush` with the rows that waited; 65,536 octets are ample for both. Takes memory.
+ * spaces, tabs and CR alone has no answer: 0. The line is done even where its answer doesn't fit. An answer to `show`
+ * grows with rules and keys, one to `flush` with the rows that waited; 65,536 octets are ample for both. Takes memory.
  * PCEF_NO_SESSION: nothing is done. PCEF_NO_MEMORY: the line may be done or not, so close the session. */
 size_t pcef_line(pcef_session *at, const uint8_t *line, size_t line_length, uint8_t *answer, size_t answer_room);
 
 /* Writes the session's reports from this number on, and returns the length of their text: a JSON array, the oldest
- * first, each as answers have it. Reports are numbered from 0. As much as fits is written to `answer`: where the text is
- * longer, call again with more room. Takes memory. PCEF_NO_SESSION, PCEF_NO_MEMORY, or PCEF_FORGOTTEN where one of these reports was
- * forgotten. */
+ * first, each as answers have it. Reports are numbered from 0. As much as fits is written to `answer`: where the text
+ * is longer, call again with more room. Takes memory. PCEF_NO_SESSION, PCEF_NO_MEMORY, or PCEF_FORGOTTEN where one of
+ * these reports was forgotten. */
 size_t pcef_reports(pcef_session *at, uint64_t first, uint8_t *answer, size_t answer_room);
 
-/* Forgets the reports that the session made so far, and returns their count, which is the number of the next one. Until
- * then a session keeps them all. A gateway calls pcef_reports from the number that pcef_forget returned last (0 at
- * first), hands the text on, and then calls pcef_forget, before the next line. A forgotten report still counts; it can't be written again, and
- * its memory serves for the next ones. Nothing else changes. Takes no memory. PCEF_NO_SESSION. */
+/* Forgets the reports that the session made so far, and returns their count, which is the number of the next one.
+ * Until then a session keeps them all. A gateway calls pcef_reports from the number that pcef_forget returned last (0
+ * at first), hands the text on, and then calls pcef_forget, before the next line or flush. A forgotten report still
+ * counts; it can't be written again, and its memory serves for the next ones. Nothing else changes. Takes no memory.
+ * PCEF_NO_SESSION. */
 size_t pcef_forget(pcef_session *at);
 
 /* In place of a length or a count. */
@@ -84,10 +101,10 @@ typedef struct {
     uint8_t up;    /* 1 from the user equipment, 0 to it */
 } pcef_packet;
 
-/* What the newest generation decides of a packet. */
+/* What a generation of rules decides of a packet. */
 typedef struct {
     uint32_t generation; /* the number of the generation */
-    uint8_t status;      /* PCEF_PASSED to PCEF_TOO_FEW */
+    uint8_t status;      /* PCEF_PASSED to PCEF_TOO_FEW; of pcef_take also PCEF_NO_WORKER to PCEF_TAKE_NO_MEMORY */
     uint8_t bearer;      /* where the packet passes: its bearer, 5 to 15; else 0 */
     uint8_t place;       /* where a rule decided: its place in precedence order, from 0; else PCEF_NO_PLACE */
     uint8_t slots;       /* bit n, from 0: the packet counts for the key that was named n-th, from 0 */
@@ -104,12 +121,15 @@ typedef struct {
 #define PCEF_BAD_HEADER_LENGTH 8
 #define PCEF_BAD_TOTAL_LENGTH 9
 #define PCEF_TOO_FEW 10         /* the octets that aren't at hand decide: hand over more of the packet */
+#define PCEF_NO_WORKER 11       /* from here to 13: pcef_take ended before this packet. The handle has no worker */
+#define PCEF_FULL 12            /* 32 rows wait: flush, and go on with this packet */
+#define PCEF_TAKE_NO_MEMORY 13
 #define PCEF_NO_PLACE 255
 
 /* Judges packets in their order by the newest generation, as many as the smaller of the two counts, and returns their
  * number. A verdict on first octets is that on each packet of `whole` octets that begins with them; PCEF_TOO_FEW says
- * that two such packets are read differently. 64 octets are enough of version 4; of version 6, all headers and four octets
- * behind them. Nothing is counted, and no row is kept: `take` and `flush` do that. Takes no memory. */
+ * that two such packets are read differently. 64 octets are enough of version 4; of version 6, all headers and four
+ * octets behind them. Nothing is counted, and no row is kept: pcef_take and pcef_flush do that. Takes no memory. */
 size_t pcef_judge(pcef_session *at, const pcef_packet *packets, size_t packet_count, pcef_verdict *verdicts,
                   size_t verdict_count);
 
@@ -128,8 +148,81 @@ static inline pcef_verdict pcef_judge_one(pcef_session *at, uint8_t up, const ui
 }
 
 /* Closes the session, if there is one, and frees all its memory but the handle's own. Returns 1, or 0 where there was
- * none. */
+ * none. A worker that is still attached then waits for pcef_drop_worker alone. */
 uint8_t pcef_close(pcef_session *at);
+
+/* ---- Workers: packets that count
+ *
+ * A worker judges packets by the generation that it holds, and lets up to 32 rows wait, one for each packet. A flush
+ * hands them over to the session, and then they count. The worker lies at a handle of its own, which a thread of its
+ * own may have. A session attaches 16 in its life. No line names such a worker: to `take`, `flush` and the others of
+ * its number the answer is NoWorker. */
+
+/* A worker's handle. Only its address is known. */
+typedef struct pcef_worker pcef_worker;
+
+/* How many octets of memory a worker's handle needs. */
+size_t pcef_worker_size(void);
+
+/* Makes memory a worker's handle without a worker. What the memory held is forgotten, and not freed. Takes no memory.
+ * */
+void pcef_worker_room(pcef_worker *worker);
+
+/* Attaches a worker to the session: it holds the newest generation, and no row waits. Returns its number, 0 to 15; or
+ * why there is none, and then nothing changes. Takes memory. */
+uint8_t pcef_attach(pcef_session *at, pcef_worker *worker);
+
+#define PCEF_AT_NO_SESSION 64
+#define PCEF_AT_WORKER 65   /* the handle has a worker, which stays */
+#define PCEF_AT_NO_PLACE 66 /* sixteen workers were attached to the session */
+#define PCEF_AT_CLOSED 67   /* a line closed or terminated the session */
+#define PCEF_AT_NO_MEMORY 68
+
+/* Judges packets in their order by the generation that the worker holds, and lets the row of each wait, as many as the
+ * smaller of the two counts, until one can't be taken for now. Returns the number of those before it; where that is
+ * less than both counts, the verdict behind them says why: PCEF_NO_WORKER, PCEF_FULL, PCEF_TAKE_NO_MEMORY. A packet of
+ * the statuses PCEF_EMPTY to PCEF_TOO_FEW makes no row, and doesn't end it. Reads and writes no session, so it needs
+ * no lock. Takes memory for the rows. */
+size_t pcef_take(pcef_worker *worker, const pcef_packet *packets, size_t packet_count, pcef_verdict *verdicts,
+                 size_t verdict_count);
+
+/* The number of the session's newest generation. A worker that holds another refreshes. Takes no memory.
+ * PCEF_NO_SESSION. */
+size_t pcef_generation(pcef_session *at);
+
+/* The worker takes the session's newest generation, whose number is returned. Its rows go on waiting, each with the
+ * verdict that it has. PCEF_MEET_NO_SESSION, _NO_WORKER, _OTHER_SESSION, _NO_MEMORY. */
+uint64_t pcef_refresh(pcef_session *at, pcef_worker *worker);
+
+/* Hands the worker's waiting rows over, all or none, and returns the number of the next report: the flush made those
+ * from the number that pcef_forget or the last flush returned up to before this one. Takes memory.
+ * PCEF_MEET_NO_SESSION to PCEF_MEET_ROWS_FULL. */
+uint64_t pcef_flush(pcef_session *at, pcef_worker *worker);
+
+/* The same with its last rows, and the worker leaves: its handle has none then. Where it is refused, the worker stays.
+ * */
+uint64_t pcef_finish(pcef_session *at, pcef_worker *worker);
+
+/* The worker leaves without its waiting rows, which never count, and their number is returned, 0 to 32. Takes no
+ * memory. PCEF_MEET_NO_SESSION, _NO_WORKER, _OTHER_SESSION. */
+uint64_t pcef_abandon(pcef_session *at, pcef_worker *worker);
+
+/* Why pcef_refresh, pcef_flush, pcef_finish or pcef_abandon is refused, which changes nothing: the first reason in
+ * this order. */
+#define PCEF_MEET_NO_SESSION UINT64_MAX
+#define PCEF_MEET_NO_WORKER (UINT64_MAX - 3)
+#define PCEF_MEET_OTHER_SESSION (UINT64_MAX - 4) /* the worker remembers another number than the session has */
+#define PCEF_MEET_NOT_ATTACHED (UINT64_MAX - 5)  /* the session doesn't know the worker */
+#define PCEF_MEET_ROWS_FULL (UINT64_MAX - 6) /* it would hold more rows than its profile allows: open the next session */
+#define PCEF_MEET_NO_MEMORY (UINT64_MAX - 1)
+
+/* Whether one of these four calls was refused. */
+static inline int pcef_is_refused(uint64_t returned) {
+    return returned >= PCEF_MEET_ROWS_FULL;
+}
+
+/* Drops a worker whose session is closed, and frees its memory. Returns 1, or 0 where there was none. */
+uint8_t pcef_drop_worker(pcef_worker *worker);
 
 #ifdef __cplusplus
 }
