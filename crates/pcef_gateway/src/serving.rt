@@ -47,22 +47,18 @@ impl<N: Naming> WorkerEnd<N> {
     }
 }
 
-/// Hands the waiting rows over, and takes the newest table.
-fn flush_and_refresh<
-    C: Detects + Drop,
-    N: Naming,
-    W: Board<Cell<N>> + Drop,
-    G: Gate + Drop,
-    R: Wait,
->(rt: &R, shared: &Shared<C, N, W>, worker: &mut Worker<C, N, G>) -> Result<(), FlushRefusal>
+/// Hands the waiting rows over.
+fn flush<C: Detects + Drop, N: Naming, W: Board<Cell<N>> + Drop, G: Gate + Drop, R: Wait>(
+    rt: &R,
+    shared: &Shared<C, N, W>,
+    worker: &mut Worker<C, N, G>,
+) -> Result<(), FlushRefusal>
     ensures taken { taken worker.new ≡ taken worker.old }
     ensures waiting { OnOk result (worker.new.waiting ≡ []) }
 {
-    let flushed = worker.flush(rt, shared).err();
-    worker.refresh();
-    match flushed {
-        Some(refusal) => Err(refusal),
-        None => Ok(()),
+    match worker.flush(rt, shared) {
+        Ok(_) => Ok(()),
+        Err(refusal) => Err(refusal),
     }
 }
 
@@ -78,14 +74,18 @@ fn make_room<C: Detects + Drop, N: Naming, W: Board<Cell<N>> + Drop, G: Gate + D
     if worker.waiting().len() < MAX_WAITING {
         return Ok(());
     }
-    flush_and_refresh(rt, shared, worker)
+    flush(rt, shared, worker)
 }
 
-/// Takes a packet, for which there is room.
+/// Takes a packet, for which there is room. Where none waits, it takes the newest table first: so a packet that was
+/// sent to an idle worker after a command was answered is judged by what that command made.
 fn take<C: Detects + Drop, N: Naming, G: Gate + Drop>(worker: &mut Worker<C, N, G>, header: Header)
     requires { length worker.old.waiting < 32 }
     ensures { taken worker.new ≡ taken worker.old ++ header ∷ [] }
 {
+    if worker.waiting().is_empty() {
+        worker.refresh();
+    }
     match worker.take(&header) {
         Ok(()) => {}
         Err(_) => unreachable!(),
@@ -104,7 +104,7 @@ fn flush_or_yield<C: Detects + Drop, N: Naming, W: Board<Cell<N>> + Drop, G: Gat
         thread::yield_now();
         return Ok(());
     }
-    flush_and_refresh(rt, shared, worker)
+    flush(rt, shared, worker)
 }
 
 /// Takes the next packet of the ring, and hands rows over where 32 wait or the ring is empty. Returns whether the ring

@@ -3,21 +3,25 @@
 use super::*;
 use crate::tests::expect_equal;
 use crate::tests::sessions::packet_from;
+use pcef_packet::Header;
 use pcef_worker::Point;
 use std::sync::atomic::{AtomicBool, AtomicU64, Ordering};
 use std::thread::yield_now;
 
+/// Adds so many packets of this header for a worker.
+pub fn add(arrivals: &mut Vec<Arrival>, many: u8, header: &Header, worker: u8) -> Result<(), Fail> {
+    for _ in 0..many {
+        let header = PackedHeader::new(header);
+        arrivals.push(Arrival { header, worker })?;
+    }
+    Ok(())
+}
+
 /// `first` packets for the first worker, and behind them `second` packets for the second.
 pub fn packets_of_two(alloc: Global, first: u8, second: u8) -> Result<Vec<Arrival>, Fail> {
     let mut arrivals = Vec::new(alloc);
-    for _ in 0..first {
-        let header = PackedHeader::new(&packet(28));
-        arrivals.push(Arrival { header, worker: 0 })?;
-    }
-    for _ in 0..second {
-        let header = PackedHeader::new(&packet(28));
-        arrivals.push(Arrival { header, worker: 1 })?;
-    }
+    add(&mut arrivals, first, &packet(28), 0)?;
+    add(&mut arrivals, second, &packet(28), 1)?;
     Ok(arrivals)
 }
 
@@ -74,10 +78,7 @@ fn packets_that_came_meanwhile_are_handed_over_together(rt: HostRuntime) -> Resu
 /// `each` packets for the first worker, and behind them as many for the second, which no rule fits.
 fn packets_and_strangers(alloc: Global, each: u8) -> Result<Vec<Arrival>, Fail> {
     let mut arrivals = packets_of_two(alloc, each, 0)?;
-    for _ in 0..each {
-        let header = PackedHeader::new(&packet_from(54, 28));
-        arrivals.push(Arrival { header, worker: 1 })?;
-    }
+    add(&mut arrivals, each, &packet_from(54, 28), 1)?;
     Ok(arrivals)
 }
 
