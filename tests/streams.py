@@ -6,16 +6,24 @@ import tempfile
 from programs import TOP, ProgramTest
 
 
-class StreamTest(ProgramTest):
+class PreloadTest(ProgramTest):
+    """A test that starts programs with a library before all others, whose source stands beside this file."""
+
+    source = ""
+
     @classmethod
     def setUpClass(cls):
         super().setUpClass()
         folder = tempfile.TemporaryDirectory()
         cls.addClassCleanup(folder.cleanup)
-        cls.library = os.path.join(folder.name, "streams.so")
-        source = os.path.join(TOP, "tests", "streams.c")
+        cls.library = os.path.join(folder.name, "preloaded.so")
+        source = os.path.join(TOP, "tests", cls.source)
         compiler = os.environ.get("CC", "cc")
         subprocess.run([compiler, "-O2", "-shared", "-fPIC", "-o", cls.library, source], check=True)
+
+
+class StreamTest(PreloadTest):
+    source = "streams.c"
 
     def run_failing(self, program, given, **limits):
         """How a program ends between streams with these limits, and the calls that failed."""

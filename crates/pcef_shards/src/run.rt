@@ -1,6 +1,6 @@
 //! Serves lines from a reader in threads.
 
-ghost use Rattle.std.specs.Prelude.{◌≡◌, ◌++◌, ◌∷◌, ◌<◌, All, IfOk, OnOk, [], length};
+ghost use Rattle.std.specs.Prelude.{◌≡◌, ◌++◌, ◌∷◌, ◌<◌, All, IfOk, OnOk, ◌≤◌, [], length, vec_capacity, vec_len};
 ghost use Rattle.pcef_built_in.specs.BuiltIn.{built_in_offers};
 ghost use Rattle.pcef_model.specs.ProfileModel.{setting_of};
 ghost use Rattle.pcef_shards.specs.Leading.{part_known};
@@ -79,7 +79,7 @@ impl<N: Leading, W: Write + Drop> Started<N, W> {
 }
 
 /// Starts a thread for each writer.
-fn start_all<
+fn start_each<
     N: Leading + Send + Sync + 'static,
     T: Threads + Wait + Drop + Send + Sync + Copy + 'static,
     W: Write + Drop + Send + 'static,
@@ -92,6 +92,7 @@ fn start_all<
     keys: RandomState,
 ) -> Result<Started<N, W>, ScriptFault>
     ensures many { IfOk result (λ s. length s.lanes.items ≡ length writers.items) }
+    ensures threads { IfOk result (λ s. vec_len s.handles ≡ vec_len writers) }
     ensures lanes { IfOk result (λ s. All (λ lane. lane ≡ []) s.lanes.items) }
     ensures handles { IfOk result (λ s. AreFor profile.now 0 writers.items s.handles.items) }
 {
@@ -107,19 +108,53 @@ fn start_all<
     Ok(started)
 }
 
-/// Waits for each thread.
+/// Starts a thread for each writer, and makes a list with room for how each ends. Where one can't be started, wakes
+/// those that were, whose lines have no end.
+fn start_all<
+    N: Leading + Send + Sync + 'static,
+    T: Threads + Wait + Drop + Send + Sync + Copy + 'static,
+    W: Write + Drop + Send + 'static,
+>(
+    rt: T,
+    alloc: Global,
+    signals: &Arc<Signals>,
+    writers: Vec<W>,
+    profile: &Profile,
+    keys: RandomState,
+) -> Result<(Started<N, W>, Vec<Ended<W>>), ScriptFault>
+    ensures many { IfOk result (λ r. length r.0.lanes.items ≡ length writers.items) }
+    ensures lanes { IfOk result (λ r. All (λ lane. lane ≡ []) r.0.lanes.items) }
+    ensures handles { IfOk result (λ r. AreFor profile.now 0 writers.items r.0.handles.items) }
+    ensures empty { IfOk result (λ r. r.1.items ≡ []) }
+    ensures room { IfOk result (λ r. vec_len r.0.handles ≤ vec_capacity r.1) }
+{
+    let Ok(room) = Vec::with_capacity(alloc, writers.len()) else {
+        return Err(ScriptFault::NoMemory);
+    };
+    match start_each::<N, T, W>(rt, alloc, signals, writers, profile, keys) {
+        Ok(started) => Ok((started, room)),
+        Err(fault) => {
+            signals.wake_all();
+            Err(fault)
+        }
+    }
+}
+
+/// Waits for each thread. How each ended goes into a list that has room for all, so that nothing ends the wait early.
 fn join_all<N: Leading, T: Threads, W: Write + Drop>(
     rt: &T,
-    alloc: Global,
     handles: Vec<Handle<N, W>>,
-) -> Result<Vec<Ended<W>>, ScriptFault>
-    ensures { IfOk result (λ all. HaveKept W.contents N.part handles.items all.items) }
+    room: Vec<Ended<W>>,
+) -> Vec<Ended<W>>
+    requires empty { room.items ≡ [] }
+    requires room { vec_len handles ≤ vec_capacity room }
+    ensures { HaveKept W.contents N.part handles.items result.items }
 {
-    let mut all = Vec::new(alloc);
+    let mut all = room;
     for handle in handles {
-        keep(&mut all, handle.join(rt))?;
+        all.push_reserved(handle.join(rt));
     }
-    Ok(all)
+    all
 }
 
 /// Whether no thread ended early.
@@ -180,7 +215,7 @@ fn run_named<
         (part_known sorting.picking.keys (length writers.items) (R.remaining reader)) 0
         writers.items ran.threads.items) }
 {
-    let started = start_all::<N, T, W>(rt, alloc, &signals, writers, profile, keys)?;
+    let (started, room) = start_all::<N, T, W>(rt, alloc, &signals, writers, profile, keys)?;
     let Started { lanes, handles } = started;
     let reading = match start_reading(rt, &signals, reader, sorting, lanes) {
         Ok(reading) => reading,
@@ -189,7 +224,7 @@ fn run_named<
             return Err(fault);
         }
     };
-    let threads = join_all(&rt, alloc, handles)?;
+    let threads = join_all(&rt, handles, room);
     if are_whole(&threads) {
         reading.join(&rt);
     }
@@ -208,8 +243,8 @@ fn run_named<
 ///
 /// A thread that ends early, but for want of lines, stops all. Then, and where memory, a ring or a thread is missing,
 /// the thread that reads is left behind: it ends after the block that it waits for. Fails with
-/// [`ScriptFault::NoMemory`] alone, where not all threads could be started or joined. Takes memory for blocks and
-/// rings, and what the sessions keep. Waits for lines and for the threads.
+/// [`ScriptFault::NoMemory`] alone, where not all threads could be started; those that were end. Takes memory for
+/// blocks and rings, and what the sessions keep. Waits for lines and for the threads.
 ///
 /// [`serve`]: pcef_sessions::serve
 pub fn serve_in_threads<

@@ -1,6 +1,6 @@
 use Rattle.std.specs.Prelude.{◌≡◌, [], All, length}
 use Rattle.pcef_shards.specs.private.Started.{AreFor}
-use Rattle.pcef_shards.proofs.run.start_all.Given as goal
+use Rattle.pcef_shards.proofs.run.start_each.Given as goal
 
 abbrev pub invariant-loop-writer : goal.invariant-loop-writer
 invariant-loop-writer g l =

@@ -3,7 +3,7 @@ use Rattle.std.specs.Prelude.{All}
 use Rattle.std.proofs.lemmas.List.Elements.{All-push}
 use Rattle.pcef_shards.specs.private.Started.{AreFor}
 use Rattle.pcef_shards.proofs.Starts.{length_more, started_more}
-use Rattle.pcef_shards.proofs.run.start_all.Goals as goal
+use Rattle.pcef_shards.proofs.run.start_each.Goals as goal
 
 pub loop-writer-preserved : goal.loop-writer-preserved
 loop-writer-preserved g c =
