@@ -102,18 +102,21 @@ class Streams(StreamTest):
                     with self.subTest(program=program[0], step=step, error=error, room=room):
                         limits = {"WRITE_ROOM": room, "WRITE_STEP": step, "WRITE_ERROR": error}
                         came, failed = self.run_failing(program, given, **limits)
-                        self.assertEqual(came, Ended(4, octets(answers[:room]), octets(UNWRITTEN)))
-                        # What a buffer holds is offered again as the program ends.
-                        self.assertEqual(set(failed), {"w"})
+                        # What a buffer still holds isn't offered again as the program ends.
+                        self.assertEqual((came, failed), (Ended(4, octets(answers[:room]), octets(UNWRITTEN)), "w"))
                 came, failed = self.run_failing(program, given, WRITE_ROOM=len(answers), WRITE_STEP=step)
                 self.assertEqual((came, failed), (Ended(status, answers.encode(), b""), ""))
 
-    def test_a_write_that_is_interrupted_is_made_again(self):
-        for program, played, status in PLAYED:
-            with self.subTest(program=program[0]):
-                limits = {"WRITE_ROOM": 20, "WRITE_ERROR": errno.EINTR, "FAILS_ONCE": 1}
-                came, failed = self.run_failing(program, given_by(played), **limits)
-                self.assertEqual((came, failed), (Ended(status, octets(answers_to(played)), b""), "w"))
+    def test_a_call_that_is_interrupted_is_not_made_again(self):
+        for program, played, _ in PLAYED:
+            given, answers = given_by(played), answers_to(played)
+            for once in {"FAILS_ONCE": 1}, {}:
+                with self.subTest(program=program[0], once=once):
+                    came, failed = self.run_failing(program, given, WRITE_ROOM=20, WRITE_ERROR=errno.EINTR, **once)
+                    self.assertEqual((came, failed), (Ended(4, octets(answers[:20]), octets(UNWRITTEN)), "w"))
+                    came, failed = self.run_failing(program, given, READ_ROOM=20, READ_ERROR=errno.EINTR, **once)
+                    due = Ended(4, octets(answers_within(played, 20)), octets(UNREAD[program[0]]))
+                    self.assertEqual((came, failed), (due, "r"))
 
     def test_a_run_or_a_pool_that_cannot_read_or_write(self):
         for words in ["run", "profile.toml", "1"], ["pool", "9", "9", "profile.toml"]:

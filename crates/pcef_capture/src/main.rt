@@ -13,6 +13,7 @@ use hint::hint_of;
 use pcef_capture_file::CaptureFault;
 use pcef_capture_script::{Counts, End, Options, Request, parse_options, write_capture};
 use pcef_command_line::{gather, refuse, report_no_memory};
+use pcef_output::Fused;
 use std::fs::File;
 use std::io::{self, BufWriter, ErrorKind, Read, Write};
 use std::process::ExitCode;
@@ -79,7 +80,7 @@ fn write<R: Read>(
 ) -> End
     requires { waiting.old.items ≡ [] }
 {
-    match BufWriter::new(rt.alloc(), io::writer(rt)) {
+    match BufWriter::new(rt.alloc(), Fused::new(io::writer(rt))) {
         Ok(writer) => {
             let mut writer = writer;
             write_to(rt, options, waiting, reader, &mut writer)

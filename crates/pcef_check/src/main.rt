@@ -18,6 +18,7 @@ use pcef_command_line::{gather, refuse, report_no_memory};
 use pcef_explain::read_text;
 use pcef_findings::{FindFault, Finding, find};
 use pcef_model::Profile;
+use pcef_output::Fused;
 use pcef_profile::{ReadProfileFault, explain, read_profile};
 use std::fs;
 use std::io::{self, BufWriter, ErrorKind, Read, Write};
@@ -53,7 +54,7 @@ fn write(
     input: &[u8],
     findings: &[Finding],
 ) -> io::Result<()> {
-    let mut writer = BufWriter::new(rt.alloc(), io::writer(rt))?;
+    let mut writer = BufWriter::new(rt.alloc(), Fused::new(io::writer(rt)))?;
     write_findings(rt.alloc(), &mut writer, catalog, file, input, findings)?;
     writer.flush()
 }

@@ -16,6 +16,7 @@ use pcef_built_in::{
     is_remaining, remaining_properties, remaining_shape,
 };
 use pcef_catalog::{Catalog, Detect, Predefined};
+use pcef_output::Fused;
 use pcef_packet::Header;
 use pcef_program::{Arguments, Environment, run_program};
 use pcef_run::{Storing, Taken};
@@ -38,7 +39,7 @@ fn run_on_streams<T: Threads + Wait + Sync>(
 {
     let alloc = rt.alloc();
     let mut reader = rt.stdin();
-    let mut writer = BufWriter::new(alloc, io::writer(rt))?;
+    let mut writer = BufWriter::new(alloc, Fused::new(io::writer(rt)))?;
     let mut faults = rt.stderr();
     Ok(run_program(
         threads,

@@ -3,6 +3,7 @@
 use crate::end::End;
 use pcef_built_in::ShapedCatalog;
 use pcef_model::Profile;
+use pcef_output::Fused;
 use pcef_script::ScriptFault;
 use pcef_sessions::serve;
 use pcef_shards::{Ended, Outlet, Ran, serve_in_threads};
@@ -55,7 +56,7 @@ pub(crate) fn serve_lines<'a>(
 ) -> End<'a> {
     let alloc = rt.alloc();
     let mut reader = rt.stdin();
-    let mut writer = match BufWriter::new(alloc, io::writer(rt)) {
+    let mut writer = match BufWriter::new(alloc, Fused::new(io::writer(rt))) {
         Ok(writer) => writer,
         Err(_) => return End::NoMemory,
     };
@@ -70,8 +71,8 @@ pub(crate) fn serve_lines<'a>(
     }
 }
 
-/// A way to standard output for each thread.
-type Way<T> = Outlet<T, Stdout>;
+/// A way to standard output for each thread. Where it fails for one of them, it takes nothing more from any.
+type Way<T> = Outlet<T, Fused<Stdout>>;
 
 fn ways<T: Wait + Drop + Copy>(
     waiting: T,
@@ -79,7 +80,7 @@ fn ways<T: Wait + Drop + Copy>(
     threads: u8,
 ) -> Result<Vec<Way<T>>, ScriptFault> {
     let alloc = rt.alloc();
-    let Ok(output) = Arc::new(alloc, Mutex::new(rt.stdout())) else {
+    let Ok(output) = Arc::new(alloc, Mutex::new(Fused::new(rt.stdout()))) else {
         return Err(ScriptFault::NoMemory);
     };
     let mut ways = Vec::new(alloc);

@@ -25,6 +25,7 @@ use options::{Format, Options, parse_options};
 use page::html_page;
 use pcef_command_line::{gather, refuse, report_no_memory};
 use pcef_figures::{CollectFault, Figures, collect};
+use pcef_output::Fused;
 use std::alloc::Global;
 use std::fs;
 use std::io::{self, BufWriter, ErrorKind, Write};
@@ -41,7 +42,7 @@ fn end_of<'a>(error: io::Error, other: End<'a>) -> End<'a> {
 
 /// Writes the table of verdicts.
 fn write_csv(rt: &HostRuntime, figures: &Figures) -> io::Result<()> {
-    let writer = BufWriter::new(rt.alloc(), io::writer(rt))?;
+    let writer = BufWriter::new(rt.alloc(), Fused::new(io::writer(rt)))?;
     match write_table(writer, figures) {
         Ok(()) => Ok(()),
         Err(error) => Err(match error.into_kind() {
@@ -53,7 +54,7 @@ fn write_csv(rt: &HostRuntime, figures: &Figures) -> io::Result<()> {
 
 /// Writes a text.
 fn write_text(rt: &HostRuntime, text: &str) -> io::Result<()> {
-    let mut writer = BufWriter::new(rt.alloc(), io::writer(rt))?;
+    let mut writer = BufWriter::new(rt.alloc(), Fused::new(io::writer(rt)))?;
     writer.write_all(text.as_bytes())?;
     writer.flush()
 }
