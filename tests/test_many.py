@@ -1,4 +1,9 @@
 """Lines of many sessions for `pcef_many`, in one thread and in several."""
+import os
+import select
+import subprocess
+import time
+
 from commands import ATTACH, DNS_ANSWER, FLUSH, SHOW, WEB, line, profile, take
 from programs import PCEF, PCEF_MANY, ProgramTest, lines
 
@@ -194,3 +199,81 @@ class Many(ProgramTest):
                 answers = self.serve(given, threads, status=1).splitlines()
                 self.assertEqual(sorted(answers), sorted(due))
                 self.assertLess(answers.index(f"a {OK}"), answers.index(attached))
+
+    def start(self, threads, output=subprocess.PIPE, given=subprocess.PIPE):
+        """The program in so many threads, between these streams."""
+        words = [PCEF_MANY, "--threads", str(threads), "profile.toml"]
+        pipe = subprocess.PIPE
+        process = subprocess.Popen(words, stdin=given, stdout=output, stderr=pipe, cwd=self.room, bufsize=0)
+        self.addCleanup(process.communicate)
+        self.addCleanup(process.kill)
+        return process
+
+    def start_with_full_output(self, threads):
+        with open("/dev/full", "wb") as full:
+            return self.start(threads, full)
+
+    def test_output_that_fails_in_one_thread_ends_those_that_wait_for_lines(self):
+        # Only one name has a line, so the other threads wait.
+        process = self.start_with_full_output(4)
+        process.stdin.write(f"a {OPEN}\n".encode())
+        self.assertEqual(process.wait(60), 4)
+
+    def test_output_that_fails_ends_the_program_before_its_lines_are_read(self):
+        # All lines are one thread's, and more than its ring holds: the thread that reads waits for room.
+        process = self.start_with_full_output(4)
+        process.communicate(f"a {OPEN}\n".encode() * 200000, 60)
+        self.assertEqual(process.returncode, 4)
+
+    def test_a_last_line_whose_answer_is_not_written(self):
+        # No line feed ends it, so its answer is written at the very end.
+        for threads in 1, 4:
+            with self.subTest(threads=threads):
+                process = self.start_with_full_output(threads)
+                _, said = process.communicate(f"a {OPEN}".encode(), 60)
+                self.assertEqual((process.returncode, said.splitlines()[:1]), (4, [b"write fault"]))
+
+    def test_each_line_wakes_its_thread(self):
+        process = self.start(4)
+        for turn in range(5000):
+            name = f"s{turn % 16}"
+            process.stdin.write(f"{name} {SHOW}\n".encode())
+            self.assertTrue(select.select([process.stdout], [], [], 60)[0], f"line {turn} has no answer")
+            self.assertEqual(os.read(process.stdout.fileno(), 1000), f"{name} {NO_SESSION}\n".encode())
+
+    def test_long_answers_of_threads_never_mix(self):
+        # A thread writes the answers to 8,192 octets of lines at once: some 36,000 octets.
+        names = [f"s{number}" for number in range(64)]
+        given = lines(*[f"{name} {OPEN}" for name in names], *[f"{name} {SHOW}" for _ in range(400) for name in names])
+        bearers = '[{"down":0,"id":5,"rules":0,"up":0}]'
+        shown = f'{{"active":[],"bearers":{bearers},"generation":0,"keys":[]}}'
+        due = [f"{name} {OK}" for name in names] + [f"{name} {shown}" for name in names] * 400
+        answers = self.serve(given, 8, status=0)
+        self.assertEqual(sorted(answers.splitlines()), sorted(due))
+
+    def seconds_of(self, process):
+        """The processor time that it took so far."""
+        with open(f"/proc/{process.pid}/stat", encoding="ascii") as file:
+            numbers = file.read().rsplit(")", 1)[1].split()
+        return (int(numbers[11]) + int(numbers[12])) / os.sysconf("SC_CLK_TCK")
+
+    def comes_to_rest(self, process):
+        """Whether it takes no processor time in one of many half seconds."""
+        for _ in range(20):
+            before = self.seconds_of(process)
+            time.sleep(0.5)
+            if self.seconds_of(process) - before < 0.05:
+                return True
+        return False
+
+    def test_threads_that_wait_take_no_processor_time(self):
+        self.write("given", f"a {OPEN}\n" + f"a {SHOW}\n" * 500000)
+        for threads in 1, 4:
+            with self.subTest("No line comes.", threads=threads):
+                process = self.start(threads)
+                process.stdin.write(f"a {OPEN}\n".encode())
+                self.assertTrue(self.comes_to_rest(process))
+            with self.subTest("Nobody reads.", threads=threads):
+                with open(os.path.join(self.room, "given"), "rb") as given:
+                    process = self.start(threads, given=given)
+                self.assertTrue(self.comes_to_rest(process))
