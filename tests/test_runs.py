@@ -110,10 +110,8 @@ class Runs(ProgramTest):
             "commands 11 refused 3",
             "reports usage 1 access 2 inactive 3",
         ]
-        *first, key = self.counts(1, given)
-        self.assertEqual(first, counts)
-        ends = ["reported 0 unreported 28", "reported 28 unreported 0"]
-        self.assertIn(key, [f"key vid counted 28 {end}" for end in ends])
+        # One packet isn't spread among two commands: it is sent behind both, and by then its key is off.
+        self.assertEqual(self.counts(1, given), [*counts, "key vid counted 0 reported 0 unreported 0"])
 
     def test_blank_lines_and_commands_behind_the_packets(self):
         wrote = lines(
