@@ -3,6 +3,7 @@ import os
 import select
 import subprocess
 import time
+from collections import Counter
 
 from commands import ATTACH, DNS_ANSWER, FLUSH, SHOW, WEB, line, profile, take
 from programs import PCEF, PCEF_MANY, ProgramTest, lines
@@ -248,8 +249,9 @@ class Many(ProgramTest):
         bearers = '[{"down":0,"id":5,"rules":0,"up":0}]'
         shown = f'{{"active":[],"bearers":{bearers},"generation":0,"keys":[]}}'
         due = [f"{name} {OK}" for name in names] + [f"{name} {shown}" for name in names] * 400
-        answers = self.serve(given, 8, status=0)
-        self.assertEqual(sorted(answers.splitlines()), sorted(due))
+        wrong = Counter(self.serve(given, 8, status=0).splitlines())
+        wrong.subtract(due)
+        self.assertEqual([answer for answer, many in wrong.items() if many][:4], [])
 
     def seconds_of(self, process):
         """The processor time that it took so far."""
