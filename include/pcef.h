@@ -147,6 +147,21 @@ static inline pcef_verdict pcef_judge_one(pcef_session *at, uint8_t up, const ui
     return pcef_judge_front(at, up, octets, length, length);
 }
 
+/* How many more rows the session takes: those that its profile allows, less those that were handed over. Open the next
+ * session before a flush is refused. UINT64_MAX: there is no session. Takes no memory. */
+uint64_t pcef_rows_left(pcef_session *at);
+
+/* How many more commands the session's journal takes. UINT64_MAX: there is no session. Takes no memory. */
+uint64_t pcef_commands_left(pcef_session *at);
+
+/* The octets that the session's rows counted for the key that was named n-th, from 0 (`slots` of a verdict has bit n):
+ * those that usage reports have, and the others. UINT64_MAX: there is no session. PCEF_NO_KEY: none was named n-th yet.
+ * Take no memory. */
+uint64_t pcef_reported(pcef_session *at, uint8_t slot);
+uint64_t pcef_unreported(pcef_session *at, uint8_t slot);
+
+#define PCEF_NO_KEY (UINT64_MAX - 7)
+
 /* Closes the session, if there is one, and frees all its memory but the handle's own. Returns 1, or 0 where there was
  * none. A worker that is still attached then waits for pcef_drop_worker alone. */
 uint8_t pcef_close(pcef_session *at);

@@ -1,4 +1,5 @@
 pub mod Calls
+pub mod Counts
 pub mod Handles
 pub mod Judging
 pub mod Meeting

@@ -4,11 +4,13 @@
 //!
 //! Its contracts say: those of `pcef_handle`, as C sees them, under the caller's obligations.
 //!
-//! In the order of reading: `numbers`, `judging`, `calls`, `taking`, `meeting`, `working`, `exports`,
-//! `worker_exports`.
+//! In the order of reading: `numbers`, `judging`, `calls`, `taking`, `meeting`, `working`, `counts`,
+//! `exports`, `worker_exports`, `count_exports`.
 #![tactic(auto)]
 
 mod calls;
+mod count_exports;
+mod counts;
 mod exports;
 mod judging;
 mod meeting;

@@ -3,10 +3,12 @@
 //!
 //! Its contracts say: what each call does to the session, and what is written to a buffer.
 //!
-//! In the order of reading: `held`, `judging`, `opening`, `text`, `line`, `reporting`, `attached`, `worker`.
+//! In the order of reading: `held`, `judging`, `opening`, `text`, `line`, `reporting`, `attached`, `worker`,
+//! `counts`.
 #![tactic(auto)]
 
 mod attached;
+mod counts;
 mod held;
 mod judging;
 mod line;
@@ -16,6 +18,7 @@ mod text;
 mod worker;
 
 pub use attached::{AttachRefusal, AttachedWorker, MeetRefusal, TakeRefusal};
+pub use counts::{KeyUsage, UsageRefusal};
 pub use held::{Handle, OpenSession};
 pub use judging::{JudgeRefusal, Judgement};
 pub use line::CallRefusal;

@@ -1,0 +1,52 @@
+//! The functions that C calls for what a session has counted, and for what is left of its limits: each makes one call of
+//! a safe function, by a pointer to a handle. `include/pcef.h` says what the caller owes.
+
+ghost use Rattle.std.specs.Borrow.{sem};
+ghost use Rattle.pcef_handle.specs.declared.held.Handle.{Handle};
+ghost use Rattle.pcef_c.specs.Counts.{CommandsLeftReturns, ReportedReturns, RowsLeftReturns, UnreportedReturns};
+ghost use Rattle.pcef_c.specs.Handles.{lies};
+
+use crate::counts::{commands_left, reported, rows_left, unreported};
+use pcef_handle::Handle;
+
+/// How many more rows the session takes: those that its profile allows, less those that were handed over; or that there
+/// is no session. Takes no memory.
+#[unsafe(no_mangle)]
+pub unsafe extern "C" fn pcef_rows_left(at: *mut u8) -> u64
+    ghost old: { Handle }
+    requires* { sem 𝓛 (lies at old) }
+    ensures* { ∃ₛ (λ (new : Handle). sem 𝓛 (lies at new) ∗ ⌜ RowsLeftReturns old new result ⌝) }
+{
+    rows_left(&mut *(at as *mut Handle))
+}
+
+/// How many more commands the session's journal takes, or that there is no session. Takes no memory.
+#[unsafe(no_mangle)]
+pub unsafe extern "C" fn pcef_commands_left(at: *mut u8) -> u64
+    ghost old: { Handle }
+    requires* { sem 𝓛 (lies at old) }
+    ensures* { ∃ₛ (λ (new : Handle). sem 𝓛 (lies at new) ∗ ⌜ CommandsLeftReturns old new result ⌝) }
+{
+    commands_left(&mut *(at as *mut Handle))
+}
+
+/// The octets that usage reports have for the key of a slot, or that there is no session or no such key. Takes no memory.
+#[unsafe(no_mangle)]
+pub unsafe extern "C" fn pcef_reported(at: *mut u8, slot: u8) -> u64
+    ghost old: { Handle }
+    requires* { sem 𝓛 (lies at old) }
+    ensures* { ∃ₛ (λ (new : Handle). sem 𝓛 (lies at new) ∗ ⌜ ReportedReturns old slot new result ⌝) }
+{
+    reported(&mut *(at as *mut Handle), slot)
+}
+
+/// The octets that rows counted for the key of a slot and no report has, or that there is no session or no such key. Takes
+/// no memory.
+#[unsafe(no_mangle)]
+pub unsafe extern "C" fn pcef_unreported(at: *mut u8, slot: u8) -> u64
+    ghost old: { Handle }
+    requires* { sem 𝓛 (lies at old) }
+    ensures* { ∃ₛ (λ (new : Handle). sem 𝓛 (lies at new) ∗ ⌜ UnreportedReturns old slot new result ⌝) }
+{
+    unreported(&mut *(at as *mut Handle), slot)
+}
