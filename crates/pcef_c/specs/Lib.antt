@@ -3,6 +3,7 @@ pub mod Counts
 pub mod Handles
 pub mod Judging
 pub mod Meeting
+pub mod Names
 pub mod Numbers
 pub mod Taking
 pub mod Working

@@ -1,13 +1,16 @@
-//! The functions that C calls for what a session has counted, and for what is left of its limits: each makes one call of
-//! a safe function, by a pointer to a handle. `include/pcef.h` says what the caller owes.
+//! The functions that C calls for what a session has counted, for what is left of its limits, and for the names of rules:
+//! each makes one call of a safe function, by a pointer to a handle. `include/pcef.h` says what the caller owes.
 
 ghost use Rattle.std.specs.Borrow.{sem};
 ghost use Rattle.pcef_handle.specs.declared.held.Handle.{Handle};
 ghost use Rattle.pcef_c.specs.Counts.{CommandsLeftReturns, ReportedReturns, RowsLeftReturns, UnreportedReturns};
-ghost use Rattle.pcef_c.specs.Handles.{lies};
+ghost use Rattle.pcef_handle.specs.declared.worker.WorkerHandle.{WorkerHandle};
+ghost use Rattle.pcef_c.specs.Handles.{lies, worker_lies};
+ghost use Rattle.pcef_c.specs.Names.{HeldRuleReturns, RuleReturns};
 
 use crate::counts::{commands_left, reported, rows_left, unreported};
-use pcef_handle::Handle;
+use crate::names::{rule, worker_rule};
+use pcef_handle::{Handle, WorkerHandle};
 
 /// How many more rows the session takes: those that its profile allows, less those that were handed over; or that there
 /// is no session. Takes no memory.
@@ -49,4 +52,28 @@ pub unsafe extern "C" fn pcef_unreported(at: *mut u8, slot: u8) -> u64
     ensures* { ∃ₛ (λ (new : Handle). sem 𝓛 (lies at new) ∗ ⌜ UnreportedReturns old slot new result ⌝) }
 {
     unreported(&mut *(at as *mut Handle), slot)
+}
+
+/// Writes the name of the rule at a place of the newest generation, as much of it as fits. Returns its length in octets,
+/// or that there is no session or no such rule. Takes no memory.
+#[unsafe(no_mangle)]
+pub unsafe extern "C" fn pcef_rule(at: *mut u8, place: u8, name: &mut [u8]) -> usize
+    ghost old: { Handle }
+    requires* { sem 𝓛 (lies at old) }
+    ensures* { ∃ₛ (λ (new : Handle). sem 𝓛 (lies at new)
+        ∗ ⌜ RuleReturns old place name.old new name.new result ⌝) }
+{
+    rule(&mut *(at as *mut Handle), place, name)
+}
+
+/// Writes the name of the rule at a place of the generation that a worker holds, as much of it as fits. Returns its
+/// length in octets, or that there is no worker or no such rule. Takes no memory.
+#[unsafe(no_mangle)]
+pub unsafe extern "C" fn pcef_worker_rule(worker: *mut u8, place: u8, name: &mut [u8]) -> usize
+    ghost old: { WorkerHandle }
+    requires* { sem 𝓛 (worker_lies worker old) }
+    ensures* { ∃ₛ (λ (new : WorkerHandle). sem 𝓛 (worker_lies worker new)
+        ∗ ⌜ HeldRuleReturns old place name.old new name.new result ⌝) }
+{
+    worker_rule(&mut *(worker as *mut WorkerHandle), place, name)
 }

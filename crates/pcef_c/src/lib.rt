@@ -4,7 +4,7 @@
 //!
 //! Its contracts say: those of `pcef_handle`, as C sees them, under the caller's obligations.
 //!
-//! In the order of reading: `numbers`, `judging`, `calls`, `taking`, `meeting`, `working`, `counts`,
+//! In the order of reading: `numbers`, `judging`, `calls`, `taking`, `meeting`, `working`, `counts`, `names`,
 //! `exports`, `worker_exports`, `count_exports`.
 #![tactic(auto)]
 
@@ -14,6 +14,7 @@ mod counts;
 mod exports;
 mod judging;
 mod meeting;
+mod names;
 mod numbers;
 mod taking;
 mod worker_exports;

@@ -2,10 +2,13 @@
 
 ghost use Rattle.std.specs.Prelude.{◌≡◌};
 ghost use Rattle.std.specs.Option.{option_copied};
+ghost use Rattle.pcef_world.specs.Apart.{held_apart};
 ghost use Rattle.pcef_handle.specs.Attached.{last_of};
+ghost use Rattle.pcef_handle.specs.Naming.{NamesAt};
 ghost use Rattle.pcef_handle.specs.Working.{Abandons, Attaches, Belongs, Finishes, Flushes, Refreshes, TakesHeader};
 
 use crate::held::OpenSession;
+use crate::naming::{NameRefusal, name_at};
 use pcef_built_in::ShapedCatalog;
 use pcef_model::{AttachFault, FlushRefusal, Verdicts};
 use pcef_packet::{Header, PacketFault};
@@ -125,6 +128,14 @@ impl AttachedWorker {
         ensures { option_copied result ≡ last_of self.now.apart.worker.waiting }
     {
         self.apart.waiting().last()
+    }
+
+    /// Writes the name of the rule at a place of the table that is held.
+    pub(crate) fn rule_name(&self, place: u8, buffer: &mut [u8]) -> Result<usize, NameRefusal>
+        ensures { NamesAt self.now.catalog (held_apart self.now.apart).entries place buffer.old
+            result buffer.new }
+    {
+        name_at(&self.catalog, self.apart.held(), place, buffer)
     }
 
     /// Judges a packet by the table that is held, and lets its row wait. The place of the rule that decided is returned.

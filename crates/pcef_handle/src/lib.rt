@@ -4,7 +4,7 @@
 //! Its contracts say: what each call does to the session, and what is written to a buffer.
 //!
 //! In the order of reading: `held`, `judging`, `opening`, `text`, `line`, `reporting`, `attached`, `worker`,
-//! `counts`.
+//! `counts`, `naming`.
 #![tactic(auto)]
 
 mod attached;
@@ -12,6 +12,7 @@ mod counts;
 mod held;
 mod judging;
 mod line;
+mod naming;
 mod opening;
 mod reporting;
 mod text;
@@ -22,5 +23,6 @@ pub use counts::{KeyUsage, UsageRefusal};
 pub use held::{Handle, OpenSession};
 pub use judging::{JudgeRefusal, Judgement};
 pub use line::CallRefusal;
+pub use naming::NameRefusal;
 pub use opening::OpenRefusal;
 pub use worker::{WorkerHandle, handles_are_send};
