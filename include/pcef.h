@@ -27,7 +27,8 @@
  * UNITS. Text is UTF-8, with a length and no zero at its end. Rates are bits per second. Volumes are octets of IP
  * packets.
  *
- * LINKING. libpcef_c.a, libos_c.a, liblibc_c.a, in this order. docs/EMBEDDING.md shows it. For 64-bit x86. */
+ * LINKING. libpcef.so or libpcef.a, as packaging/install makes them; or libpcef_c.a, libos_c.a, liblibc_c.a, in this
+ * order. docs/EMBEDDING.md shows both. For 64-bit x86. */
 #ifndef PCEF_H
 #define PCEF_H
 #include <stddef.h>
