@@ -229,7 +229,7 @@ uint64_t pcef_abandon(pcef_session *at, pcef_worker *worker);
 #define PCEF_MEET_NO_WORKER (UINT64_MAX - 3)
 #define PCEF_MEET_OTHER_SESSION (UINT64_MAX - 4) /* the worker remembers another number than the session has */
 #define PCEF_MEET_NOT_ATTACHED (UINT64_MAX - 5)  /* the session doesn't know the worker */
-#define PCEF_MEET_ROWS_FULL (UINT64_MAX - 6) /* it would hold more rows than its profile allows: open the next session */
+#define PCEF_MEET_ROWS_FULL (UINT64_MAX - 6)     /* it would hold more rows than its profile allows */
 #define PCEF_MEET_NO_MEMORY (UINT64_MAX - 1)
 
 /* Whether one of these four calls was refused. */
