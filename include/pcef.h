@@ -237,9 +237,9 @@ static inline int pcef_is_refused(uint64_t returned) {
     return returned >= PCEF_MEET_ROWS_FULL;
 }
 
-/* Writes the name of the rule at a place of the newest generation, or of the one that a worker holds, as a verdict has it:
- * as much as fits, without a zero behind it. Returns its length, 1 to 64. SIZE_MAX: there is no session, or no worker.
- * PCEF_NO_RULE: no rule has this place. Take no memory. */
+/* Writes the name of the rule at a place of the newest generation, or of the one that a worker holds, as a verdict has
+ * it: as much as fits, without a zero behind it. Returns its length, 1 to 64. SIZE_MAX: there is no session, or no
+ * worker. PCEF_NO_RULE: no rule has this place. Take no memory. */
 size_t pcef_rule(pcef_session *at, uint8_t place, uint8_t *name, size_t room);
 size_t pcef_worker_rule(pcef_worker *worker, uint8_t place, uint8_t *name, size_t room);
 

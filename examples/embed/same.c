@@ -76,6 +76,11 @@ static void command(const char *format, ...) {
     size_t generation = pcef_generation(calls);
     snprintf(due, sizeof due, "\"generation\":%zu,", generation);
     same(strstr(shown, due) != NULL, "the generation");
+    for (uint8_t slot = 0; pcef_reported(calls, slot) != PCEF_NO_KEY; slot++) {
+        snprintf(due, sizeof due, "\"reported\":%lu,\"unreported\":%lu}", (unsigned long)pcef_reported(calls, slot),
+                 (unsigned long)pcef_unreported(calls, slot));
+        same(strstr(shown, due) != NULL, "what a key counts");
+    }
     char *to = active[generation % MOST_GENERATIONS];
     for (const char *from = strchr(shown, '[') + 1; *from != ']'; from++)
         if (*from >= 'a') *to++ = *from;
@@ -85,10 +90,17 @@ static void command(const char *format, ...) {
 /* What a line has for a verdict. */
 static void write_verdict(char *to, size_t size, const pcef_verdict *verdict) {
     static const char *const WORDS[] = {"Passed", "Gated", "Unmatched", "Stray"};
+    const char *names = active[verdict->generation % MOST_GENERATIONS];
     char bearer[16] = "", rule[16] = "";
+    uint8_t name = 0;
+    size_t length = pcef_worker_rule(worker, verdict->place, &name, 1);
+    if (verdict->place == PCEF_NO_PLACE)
+        same(length == PCEF_NO_RULE, "that there is no rule");
+    else
+        same(length == 1 && name == names[verdict->place], "the name of a rule");
     if (verdict->status == PCEF_PASSED) snprintf(bearer, sizeof bearer, "\"bearer\":%u,", verdict->bearer);
     if (verdict->place != PCEF_NO_PLACE)
-        snprintf(rule, sizeof rule, "\"rule\":\"%c\",", active[verdict->generation % MOST_GENERATIONS][verdict->place]);
+        snprintf(rule, sizeof rule, "\"rule\":\"%c\",", names[verdict->place]);
     snprintf(to, size, "{%s\"generation\":%u,%s\"verdict\":\"%s\"}", bearer, verdict->generation, rule,
              WORDS[verdict->status]);
 }

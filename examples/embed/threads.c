@@ -127,17 +127,6 @@ static int command_all(int commands) {
     return refused;
 }
 
-/* What the session counts for its key. */
-static uint64_t usage(void) {
-    static uint8_t answer[65536];
-    unsigned long reported = 0, unreported = 0;
-    size_t length = pcef_line(session, (const uint8_t *)"{\"do\":\"show\"}", 13, answer, sizeof answer - 1);
-    answer[length < sizeof answer ? length : 0] = 0;
-    const char *key = strstr((char *)answer, "\"reported\":");
-    if (!key || sscanf(key, "\"reported\":%lu,\"unreported\":%lu", &reported, &unreported) != 2) return UINT64_MAX;
-    return reported + unreported;
-}
-
 static int open_session(const char *path) {
     static uint8_t profile[65536];
     FILE *file = fopen(path, "rb");
@@ -172,7 +161,7 @@ int main(int argc, char **argv) {
         sum.refreshes += all[i].refreshes, sum.faults += all[i].faults;
         free(all[i].worker);
     }
-    uint64_t counted = usage();
+    uint64_t counted = pcef_reported(session, 0) + pcef_unreported(session, 0);
     printf("%d threads, %s commands (%d refused), %lu refreshes: %lu packets pass, the session counts %lu octets, the "
            "verdicts %lu; faults: %lu\n",
            count, argv[4], refused, sum.refreshes, sum.passed, counted, sum.counted, sum.faults);

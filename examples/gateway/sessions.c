@@ -21,7 +21,6 @@ static struct {
     uint8_t profile[65536];
     size_t profile_length, lines;
     kept_line kept[MOST_LINES];
-    uint64_t most_rows;       /* of the profile */
     uint64_t margin;          /* rows that the workers may still hand over once the next session is open */
     void (*wake_all)(void);
 } shared = {.lock = PTHREAD_MUTEX_INITIALIZER, .closed = PTHREAD_COND_INITIALIZER};
@@ -143,11 +142,8 @@ void open_first(const char *profile, int workers, void (*wake_all)(void)) {
     if (!file) fail(profile, 0);
     shared.profile_length = fread(shared.profile, 1, sizeof shared.profile - 1, file);
     fclose(file);
-    const char *rows = strstr((char *)shared.profile, "rows = ");
-    if (!rows || sscanf(rows, "rows = %lu", &shared.most_rows) != 1) fail("a profile without rows", 0);
     /* Once the next session is open each worker has one hand-over left to make. */
     shared.margin = (uint64_t)BATCH * (uint64_t)workers;
-    if (shared.most_rows < 4 * shared.margin) fail("too few rows for so many workers", 0);
     shared.wake_all = wake_all;
     for (int i = 0; i < 2; i++) {
         shared.both[i].at = room(pcef_size());
@@ -155,6 +151,7 @@ void open_first(const char *profile, int workers, void (*wake_all)(void)) {
         pcef_number(shared.both[i].at, (uint64_t)i << 32); /* so that no worker meets the other one's session */
     }
     open_session(&shared.both[0]);
+    if (pcef_rows_left(shared.newest->at) < 4 * shared.margin) fail("too few rows for so many workers", 0);
 }
 
 /* Opens the next session where the rows of the newest one come to their end. */
@@ -223,7 +220,7 @@ void hand_over(gateway_worker *me) {
     pthread_mutex_lock(&shared.lock);
     if (me->session == shared.newest) {
         handed_over(me, pcef_flush(me->session->at, me->worker));
-        if (me->session->rows + shared.margin > shared.most_rows - BATCH) change();
+        if (pcef_rows_left(me->session->at) < shared.margin + BATCH) change();
     }
     move(me);
     pthread_mutex_unlock(&shared.lock);
