@@ -4,7 +4,7 @@ use std::alloc::{Layout, alloc, dealloc, handle_alloc_error};
 use std::io::{self, BufRead, Write};
 
 mod sys {
-    unsafe extern "C" {
+    extern "C" {
         pub fn pcef_size() -> usize;
         pub fn pcef_room(at: *mut u8);
         pub fn pcef_open(at: *mut u8, profile: *const u8, length: usize) -> u8;
@@ -42,12 +42,14 @@ pub struct Verdict {
     pub slots: u8,
 }
 
-/// A session, which is closed when it is dropped. It holds a raw pointer, so it is neither `Send` nor `Sync`: it
-/// stays on its thread.
+/// A session, which is closed when it is dropped. It may go to another thread, and is in one call at a time.
 pub struct Session {
     at: *mut u8,
     layout: Layout,
 }
+
+// Safe: a handle may go from thread to thread, and `&mut self` makes each call wait for the one before it.
+unsafe impl Send for Session {}
 
 impl Session {
     /// A session of this profile, or the number of the fault.
