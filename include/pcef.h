@@ -37,6 +37,12 @@
 extern "C" {
 #endif
 
+/* The version of this interface. It goes up where a declaration changes; calls that are added leave it. */
+#define PCEF_VERSION 1
+
+/* That of the library: where it isn't PCEF_VERSION, the program was compiled with the header of another one. */
+uint32_t pcef_version(void);
+
 /* A session's handle. Only its address is known. */
 typedef struct pcef_session pcef_session;
 

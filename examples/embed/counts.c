@@ -1,5 +1,6 @@
-/* What a gateway asks beside verdicts: the octets of a key, what is left of the limits, and the name of the rule at a
- * place, in the newest generation and in an older one that a worker still holds. Prints what it looked at.
+/* What a gateway asks beside verdicts: the library's version, the octets of a key, what is left of the limits, and the
+ * name of the rule at a place, in the newest generation and in an older one that a worker still holds. Prints what it
+ * looked at.
  *     counts PROFILE.toml */
 #include "pcef.h"
 #include <stdio.h>
@@ -48,6 +49,7 @@ static int is_named(size_t length, const char *name) {
 }
 
 static void without_a_session(pcef_session *session, pcef_worker *worker) {
+    check(pcef_version() == PCEF_VERSION, "the library has the version of its header");
     check(pcef_rows_left(session) == UINT64_MAX && pcef_commands_left(session) == UINT64_MAX &&
               pcef_reported(session, 0) == UINT64_MAX && pcef_unreported(session, 0) == UINT64_MAX &&
               pcef_rule(session, 0, text, sizeof text) == SIZE_MAX &&

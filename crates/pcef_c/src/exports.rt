@@ -1,6 +1,7 @@
 //! The functions that C calls: each makes one call of a safe function, by a pointer to a handle. `include/pcef.h` says
 //! what the caller owes.
 
+ghost use Rattle.std.specs.Prelude.{◌≡◌};
 ghost use Rattle.std.specs.Borrow.{sem};
 ghost use Rattle.pcef_handle.specs.declared.held.Handle.{Handle};
 ghost use Rattle.pcef_c.specs.Calls.{Closes, ForgetReturns, LineReturns, NumberReturns, OpenReturns, ReportsReturn};
@@ -12,6 +13,17 @@ use crate::judging::{CPacket, CVerdict};
 use pcef_handle::Handle;
 use std::alloc::Global;
 use std::mem::size_of;
+
+/// The version that `include/pcef.h` has.
+const VERSION: u32 = 1;
+
+/// The version of this interface, which is that of its header: `PCEF_VERSION`.
+#[unsafe(no_mangle)]
+pub extern "C" fn pcef_version() -> u32
+    ensures { result ≡ 1 }
+{
+    VERSION
+}
 
 /// The size of a handle, in octets. Its room must be aligned to 16.
 #[unsafe(no_mangle)]
