@@ -27,7 +27,7 @@ void *aligned_alloc(size_t alignment, size_t size);
 void free(void *at);
 """)
 FOLDER = subprocess.run(["pkg-config", "--variable=libdir", "pcef"], stdout=subprocess.PIPE, text=True, check=True)
-pcef = ffi.dlopen(f"{FOLDER.stdout.strip()}/libpcef.so.0")
+pcef = ffi.dlopen(f"{FOLDER.stdout.strip()}/libpcef.so.1")
 libc = ffi.dlopen(None)
 
 LINES = [
