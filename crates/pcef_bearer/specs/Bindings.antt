@@ -96,6 +96,14 @@ abbrev pub guaranteed : ℕ → List Bound → Option Sums
 guaranteed id bound =
     if is_present id bound then Some (record { up = total_up (rules_on id bound); down = total_down (rules_on id bound) }) else None
 
+-- the QCI and ARP of a bearer: those of the rules on it, which all have the same; the default bearer's without one, too
+abbrev pub qos_in : Option Bound → Option Qos
+qos_in None = None
+qos_in (Some b) = Some b.qos
+
+abbrev pub qos_on : ℕ → Binding → Option Qos
+qos_on id v = if id == default_id then Some v.default_qos else qos_in (find (λ b. b.bearer.0 == id) v.bound)
+
 -- what is left of a rule that is no longer bound: its bearer ends where the rules that stay aren't on it
 abbrev pub released : Option Bound → List Bound → Option Released
 released None others = None

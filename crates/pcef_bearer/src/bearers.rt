@@ -5,11 +5,11 @@ ghost use Rattle.std.specs.List.{list_any};
 ghost use Rattle.pcef_rule.specs.declared.qci.Kind.TheVariants as kind;
 ghost use Rattle.pcef_rule.specs.QciKinds.{kind_of};
 ghost use Rattle.pcef_model.specs.declared.answer.OpenFault.TheVariants as fault;
-ghost use Rattle.pcef_bearer.specs.Bindings.{bearer_of, bound_with, empty_binding, first_refusal, guaranteed, id_for, is_named, kept_by, left_by, number_of, refusal_in, rules_on, total, total_with, with_rules, without, GetsId, HasRoom, IsAccepted, IsBinding, IsRefusalBy};
+ghost use Rattle.pcef_bearer.specs.Bindings.{bearer_of, bound_with, empty_binding, first_refusal, guaranteed, id_for, is_named, kept_by, left_by, number_of, qos_on, refusal_in, rules_on, total, total_with, with_rules, without, GetsId, HasRoom, IsAccepted, IsBinding, IsRefusalBy};
 ghost use Rattle.pcef_model.specs.Bearers.{is_gbr, is_non_gbr};
 ghost use Rattle.pcef_model.specs.Refusals.{first_of, over_room};
 
-use crate::ids::{count_on, finds_no_bearer, id_excluding, is_present};
+use crate::ids::{DEFAULT_BEARER, count_on, finds_no_bearer, first_on, id_excluding, is_present};
 use crate::lookup::{bound_under, drop_named, drop_taken, has_name, put};
 use crate::rates::{is_over, is_over_room, sums_excluding, sums_of, sums_of_all, sums_on};
 use pcef_model::{Command, OpenFault, Refusal};
@@ -377,6 +377,20 @@ impl Bearers {
             Some(sums_on(id, &self.bound))
         } else {
             None
+        }
+    }
+
+    /// The QCI and ARP of a bearer, which all of its rules have (TS 23.203, clause 6.1.1.4), or `None` where there is no
+    /// bearer of this id.
+    pub fn qos_on(&self, id: BearerId) -> Option<Qos>
+        ensures { result ≡ qos_on id.0 self.now }
+    {
+        if id.0 == DEFAULT_BEARER.0 {
+            return Some(self.default_qos);
+        }
+        match first_on(id, &self.bound) {
+            Some(b) => Some(b.qos),
+            None => None,
         }
     }
 

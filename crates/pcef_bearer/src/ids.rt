@@ -1,7 +1,8 @@
 //! The ids of bearers.
 
-ghost use Rattle.std.specs.Prelude.{◌≡◌, ◌==◌, ◌≤◌, length};
+ghost use Rattle.std.specs.Prelude.{◌≡◌, ◌==◌, ◌≤◌, find, length};
 ghost use Rattle.std.specs.List.{list_any};
+ghost use Rattle.std.specs.Option.{option_copied};
 ghost use Rattle.pcef_bearer.specs.Bindings.{finds_no_bearer, first_unused, id_excluding, is_present, least_free, number_of, rules_on, without};
 
 use crate::bearers::Bound;
@@ -86,6 +87,18 @@ pub(crate) fn is_present(id: BearerId, bound: &[Bound]) -> bool
     ensures { result ≡ is_present id.0 bound.now }
 {
     id.0 == 5 || is_used(id, bound)
+}
+
+/// The first rule on the bearer of this id, if there is one.
+pub(crate) fn first_on(id: BearerId, bound: &[Bound]) -> Option<&Bound>
+    ensures { option_copied result ≡ find (λ b. b.bearer.0 == id.0) bound.now }
+{
+    for b in bound {
+        if b.bearer.0 == id.0 {
+            return Some(b);
+        }
+    }
+    None
 }
 
 /// How many rules are on the bearer of this id.

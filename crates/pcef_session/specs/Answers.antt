@@ -1,5 +1,5 @@
 -- What a session answers to an event, and the session after it, each in one fact.
-use Rattle.std.specs.Prelude.{ℕ, ◌≡◌, ◌≤◌, ◌<◌, List, [], Option, None, Result, Ok, MatchOption, map}
+use Rattle.std.specs.Prelude.{ℕ, ◌≡◌, ◌≤◌, ◌<◌, ◌-◌, List, [], Option, None, Result, Ok, MatchOption, map}
 use Rattle.std.specs.Result.{result_map_both}
 use Rattle.pcef_bearer.specs.Bindings.{Binding}
 use Rattle.pcef_bearer.specs.Standing.{binding_of}
@@ -15,7 +15,7 @@ use Rattle.pcef_model.specs.Entries.{Journal}
 use Rattle.pcef_model.specs.Journals.{attach_count, gen, now}
 use Rattle.pcef_model.specs.Lawful.{BatchFollows}
 use Rattle.pcef_model.specs.Outcomes.{CommandStep, CommandStepWithin, FinishStep, FlushAnswer, FlushStep, Gives, IsRefused, IsRefusedWithin, command_outcome, finish_answer_of, flush_answer_of}
-use Rattle.pcef_model.specs.Refusals.{first_of, refusals_within}
+use Rattle.pcef_model.specs.Refusals.{first_of, most_workers, refusals_within}
 use Rattle.pcef_model.specs.Setting.{Setting}
 use Rattle.pcef_table.specs.declared.entry.Source.{Source}
 use Rattle.pcef_table.specs.Tables.{TableValue}
@@ -94,6 +94,10 @@ AnswersFinish before worker items result after =
 abbrev pub IsLaneEnd : Journal → ℕ → Option LaneEnd → Type 0
 IsLaneEnd j worker end =
     MatchOption end (attach_count j ≤ worker) (λ e. (worker < attach_count j) × (e ≡ lane_end j worker))
+
+-- how many more workers may be attached
+abbrev pub workers_left : Journal → ℕ
+workers_left j = most_workers - attach_count j
 
 -- the table of the newest generation
 abbrev pub ShowsNewest : SessionModel → TableValue → Type 0

@@ -13,7 +13,7 @@ ghost use Rattle.pcef_model.specs.Refusals.{attach_faults, first_of, open_faults
 ghost use Rattle.pcef_model.specs.ProfileModel.{setting_of};
 ghost use Rattle.pcef_table.specs.SessionSlots.{no_slots};
 ghost use Rattle.pcef_session.specs.Agreement.{KeysAgree};
-ghost use Rattle.pcef_session.specs.Answers.{AreActive, IsOpened, ShowsNewest, binding_now};
+ghost use Rattle.pcef_session.specs.Answers.{AreActive, IsOpened, ShowsNewest, binding_now, workers_left};
 ghost use Rattle.pcef_session.specs.SessionModel.{HasAtLeast};
 
 use pcef_active::ActiveRules;
@@ -167,6 +167,13 @@ impl SessionState {
             return Some(AttachFault::Closed);
         }
         None
+    }
+
+    /// How many more workers may be attached: 16 in the session's life, less those that ever were.
+    pub fn workers_left(&self) -> usize
+        ensures { result ≡ workers_left self.now.journal }
+    {
+        MAX_WORKERS.saturating_sub(self.lanes.len())
     }
 
     /// Attaches a worker and returns its number. Numbers go up from 0 and are never used again. Takes memory for what
