@@ -1,3 +1,4 @@
+pub mod OneShow
 pub mod PlainWords
 pub mod Showing
 pub mod WrittenTexts

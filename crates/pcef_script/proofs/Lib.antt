@@ -5,5 +5,6 @@ pub mod FirstLines
 pub mod KeptLines
 pub mod LineDues
 pub mod LineReads
+pub mod OneScript
 pub mod ReadBlocks
 pub mod ScriptSteps

@@ -1,3 +1,4 @@
+pub mod Laws
 pub mod LineAnswers
 pub mod LoneLines
 pub mod Running

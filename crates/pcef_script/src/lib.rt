@@ -4,11 +4,13 @@
 //! Its contracts say: what was written for what was read, and how many lines are at fault; the answer that a script
 //! gives to one line.
 //!
-//! In the order of reading: `fault`, `lines`, `reading`, `step`, `writing`, `input`, `lone_line`, `running`, `run`.
+//! In the order of reading: `fault`, `lines`, `reading`, `step`, `writing`, `input`, `lone_line`, `running`, `run`,
+//! `laws`.
 #![tactic(auto)]
 
 mod fault;
 mod input;
+mod laws;
 mod lines;
 mod lone_line;
 mod reading;
@@ -18,6 +20,7 @@ mod step;
 mod writing;
 
 pub use fault::ScriptFault;
+pub use laws::one_script;
 pub use lines::{MAX_LINE, first_line, is_blank, line_of};
 pub use lone_line::answer_alone;
 pub use reading::read_some;

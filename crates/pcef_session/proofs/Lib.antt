@@ -10,6 +10,7 @@ pub mod Inserting
 pub mod KeptRules
 pub mod Leaving
 pub mod NextTables
+pub mod OneTable
 pub mod Refused
 pub mod RoomRates
 pub mod RowLoops

@@ -145,7 +145,7 @@ pub name_is : (p : Setting) (j : Journal) (g : ℕ) (e : TableEntry) (r : Active
 name_is p j g e r stands = ap (λ o. option_map_or (λ q. q.name) o []) (rule_is p.catalog e.source r stands.rule_is).properties_are
 
 -- ---- a rule that becomes active
-rank_name : (offers : List Offer) (e : TableEntry) → (rank_of offers e.source).name ≡ name_of offers e.source
+pub rank_name : (offers : List Offer) (e : TableEntry) → (rank_of offers e.source).name ≡ name_of offers e.source
 rank_name offers e = from (properties_of offers e.source)
   where
     from : (o : Option Properties) → (option_map_or (rank_by (origin_of e.source)) o no_rank).name ≡ option_map_or (λ q. q.name) o []
