@@ -161,6 +161,10 @@ uint64_t pcef_rows_left(pcef_session *at);
 /* How many more commands the session's journal takes. UINT64_MAX: there is no session. Takes no memory. */
 uint64_t pcef_commands_left(pcef_session *at);
 
+/* How many more workers may be attached: 16 in the session's life, less those that ever were. UINT64_MAX: there is no
+ * session. Takes no memory. */
+uint64_t pcef_workers_left(pcef_session *at);
+
 /* The octets that the session's rows counted for the key that was named n-th, from 0 (`slots` of a verdict has bit n):
  * those that usage reports have, and the others. UINT64_MAX: there is no session. PCEF_NO_KEY: none was named n-th yet.
  * Take no memory. */
@@ -168,6 +172,25 @@ uint64_t pcef_reported(pcef_session *at, uint8_t slot);
 uint64_t pcef_unreported(pcef_session *at, uint8_t slot);
 
 #define PCEF_NO_KEY (UINT64_MAX - 7)
+
+/* What a bearer has: what marking and shaping need. */
+typedef struct {
+    uint64_t up;                      /* its guaranteed uplink rate: the exact sum of its rules' */
+    uint64_t down;                    /* the same of the downlink */
+    uint8_t qci;                      /* its QCI and ARP, which all its rules have */
+    uint8_t priority_level;           /* 1, the highest, to 15 */
+    uint8_t preemption_capability;    /* 1: it may pre-empt others */
+    uint8_t preemption_vulnerability; /* 1: others may pre-empt it */
+    uint8_t rules;                    /* how many active rules are on it: 0 on the default bearer alone */
+} pcef_bearer_state;
+
+/* Writes what the bearer of an id, 5 to 15, has in the newest generation. PCEF_OK, or why there is none, and then
+ * nothing is written. A bearer ends with its last rule, and its id may go to another one: a verdict of an older
+ * generation names a bearer of that generation. Takes no memory. */
+uint8_t pcef_bearer(pcef_session *at, uint8_t id, pcef_bearer_state *bearer);
+
+#define PCEF_BEARER_NO_SESSION 72
+#define PCEF_NO_BEARER 73 /* the session has no bearer of this id now */
 
 /* Closes the session, if there is one, and frees all its memory but the handle's own. Returns 1, or 0 where there was
  * none. A worker that is still attached then waits for pcef_drop_worker alone. */

@@ -1,6 +1,6 @@
 -- The numbers that C gets of what a session has counted, and of what is left of its limits (own choice).
 use Rattle.std.specs.Prelude.{ℕ, ◌≡◌, Option, Some, None, Result, Ok, Err}
-use Rattle.pcef_handle.specs.Counts.{UsageIn, commands_left_in, rows_left_in}
+use Rattle.pcef_handle.specs.Counts.{UsageIn, commands_left_in, rows_left_in, workers_left_in}
 use Rattle.pcef_handle.specs.declared.counts.KeyUsage.{KeyUsage}
 use Rattle.pcef_handle.specs.declared.counts.UsageRefusal.{UsageRefusal}
 use Rattle.pcef_handle.specs.declared.counts.UsageRefusal.TheVariants.{NoKey, NoSession}
@@ -28,6 +28,9 @@ RowsLeftReturns old new number = (new ≡ old) × (number ≡ left_number (rows_
 
 abbrev pub CommandsLeftReturns : Handle → Handle → ℕ → Type 0
 CommandsLeftReturns old new number = (new ≡ old) × (number ≡ left_number (commands_left_in old.session))
+
+abbrev pub WorkersLeftReturns : Handle → Handle → ℕ → Type 0
+WorkersLeftReturns old new number = (new ≡ old) × (number ≡ left_number (workers_left_in old.session))
 
 abbrev pub ReportedReturns : Handle → ℕ → Handle → ℕ → Type 0
 ReportedReturns old slot new number = (new ≡ old) × (r : Result KeyUsage UsageRefusal) × UsageIn old.session slot r × (number ≡ reported_number r)

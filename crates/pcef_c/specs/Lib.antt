@@ -1,3 +1,4 @@
+pub mod Bearers
 pub mod Calls
 pub mod Counts
 pub mod Handles

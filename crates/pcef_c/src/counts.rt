@@ -1,7 +1,7 @@
 //! What a session has counted, and what is left of its limits, as numbers.
 
 ghost use Rattle.std.specs.Prelude.{◌≡◌};
-ghost use Rattle.pcef_c.specs.Counts.{CommandsLeftReturns, ReportedReturns, RowsLeftReturns, UnreportedReturns, left_number, usage_refusal};
+ghost use Rattle.pcef_c.specs.Counts.{CommandsLeftReturns, ReportedReturns, RowsLeftReturns, UnreportedReturns, WorkersLeftReturns, left_number, usage_refusal};
 
 use pcef_handle::{Handle, UsageRefusal};
 
@@ -43,6 +43,13 @@ pub(crate) fn commands_left(handle: &mut Handle) -> u64
     ensures { CommandsLeftReturns handle.old handle.new result }
 {
     left_number(handle.commands_left())
+}
+
+/// How many more workers the session attaches.
+pub(crate) fn workers_left(handle: &mut Handle) -> u64
+    ensures { WorkersLeftReturns handle.old handle.new result }
+{
+    left_number(handle.workers_left())
 }
 
 /// The reported octets of the key of a slot, or why there are none.

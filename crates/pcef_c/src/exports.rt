@@ -5,7 +5,7 @@ ghost use Rattle.std.specs.Prelude.{◌≡◌};
 ghost use Rattle.std.specs.Borrow.{sem};
 ghost use Rattle.pcef_handle.specs.declared.held.Handle.{Handle};
 ghost use Rattle.pcef_c.specs.Calls.{Closes, ForgetReturns, LineReturns, NumberReturns, OpenReturns, ReportsReturn};
-ghost use Rattle.pcef_c.specs.Handles.{IsEmpty, lies, room};
+ghost use Rattle.pcef_c.specs.Handles.{IsEmpty, handle_size, lies, room};
 ghost use Rattle.pcef_c.specs.Judging.{JudgesAll};
 
 use crate::calls::{close, empty, forget, judge, line, number, open, reports};
@@ -27,7 +27,9 @@ pub extern "C" fn pcef_version() -> u32
 
 /// The size of a handle, in octets. Its room must be aligned to 16.
 #[unsafe(no_mangle)]
-pub extern "C" fn pcef_size() -> usize {
+pub extern "C" fn pcef_size() -> usize
+    ensures { result ≡ handle_size }
+{
     size_of::<Handle>()
 }
 

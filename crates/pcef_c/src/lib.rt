@@ -4,10 +4,11 @@
 //!
 //! Its contracts say: those of `pcef_handle`, as C sees them, under the caller's obligations.
 //!
-//! In the order of reading: `numbers`, `judging`, `calls`, `taking`, `meeting`, `working`, `counts`, `names`,
+//! In the order of reading: `numbers`, `judging`, `calls`, `taking`, `meeting`, `working`, `counts`, `bearers`, `names`,
 //! `exports`, `worker_exports`, `count_exports`.
 #![tactic(auto)]
 
+mod bearers;
 mod calls;
 mod count_exports;
 mod counts;

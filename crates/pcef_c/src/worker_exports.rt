@@ -6,7 +6,7 @@ ghost use Rattle.std.specs.Borrow.{sem};
 ghost use Rattle.pcef_handle.specs.Working.{BelongsTo};
 ghost use Rattle.pcef_handle.specs.declared.held.Handle.{Handle};
 ghost use Rattle.pcef_handle.specs.declared.worker.WorkerHandle.{WorkerHandle};
-ghost use Rattle.pcef_c.specs.Handles.{lies, worker_lies, worker_room};
+ghost use Rattle.pcef_c.specs.Handles.{lies, worker_lies, worker_room, worker_size};
 ghost use Rattle.pcef_c.specs.Taking.{TakesAll};
 ghost use Rattle.pcef_c.specs.Working.{AbandonReturns, AttachReturns, DropReturns, FinishReturns, FlushReturns, GenerationReturns, RefreshReturns};
 
@@ -18,7 +18,9 @@ use std::mem::size_of;
 
 /// The size of a worker's handle, in octets. Its room must be aligned to 16.
 #[unsafe(no_mangle)]
-pub extern "C" fn pcef_worker_size() -> usize {
+pub extern "C" fn pcef_worker_size() -> usize
+    ensures { result ≡ worker_size }
+{
     size_of::<WorkerHandle>()
 }
 

@@ -1,5 +1,6 @@
 pub mod Answering
 pub mod Attached
+pub mod BearerStates
 pub mod Counts
 pub mod Judging
 pub mod Naming

@@ -1,7 +1,7 @@
 //! What a session has counted, and what is left of its limits.
 
 ghost use Rattle.std.specs.Prelude.{◌≡◌};
-ghost use Rattle.pcef_handle.specs.Counts.{UsageIn, commands_left, commands_left_in, rows_left, rows_left_in};
+ghost use Rattle.pcef_handle.specs.Counts.{UsageIn, commands_left, commands_left_in, rows_left, rows_left_in, workers_left, workers_left_in};
 
 use crate::held::{Handle, OpenSession};
 
@@ -37,6 +37,12 @@ fn commands_left(session: &OpenSession) -> u64
     u64::from(state.profile().commands).saturating_sub(state.journal().commands_len())
 }
 
+fn workers_left(session: &OpenSession) -> u64
+    ensures { result ≡ workers_left session.now }
+{
+    session.world.session().workers_left() as u64
+}
+
 impl Handle {
     /// How many more rows the session takes, if there is one: those that its profile allows, less those that were handed
     /// over. Takes no memory.
@@ -55,6 +61,17 @@ impl Handle {
     {
         match &self.session {
             Some(session) => Some(commands_left(session)),
+            None => None,
+        }
+    }
+
+    /// How many more workers the session attaches, if there is one: 16 in its life, less those that ever were. Takes no
+    /// memory.
+    pub fn workers_left(&self) -> Option<u64>
+        ensures { result ≡ workers_left_in self.now.session }
+    {
+        match &self.session {
+            Some(session) => Some(workers_left(session)),
             None => None,
         }
     }

@@ -4,10 +4,11 @@
 //! Its contracts say: what each call does to the session, and what is written to a buffer.
 //!
 //! In the order of reading: `held`, `judging`, `opening`, `text`, `line`, `reporting`, `attached`, `worker`,
-//! `counts`, `naming`.
+//! `counts`, `bearers`, `naming`.
 #![tactic(auto)]
 
 mod attached;
+mod bearers;
 mod counts;
 mod held;
 mod judging;
@@ -19,6 +20,7 @@ mod text;
 mod worker;
 
 pub use attached::{AttachRefusal, AttachedWorker, MeetRefusal, TakeRefusal};
+pub use bearers::{BearerRefusal, BearerState};
 pub use counts::{KeyUsage, UsageRefusal};
 pub use held::{Handle, OpenSession};
 pub use judging::{JudgeRefusal, Judgement};
