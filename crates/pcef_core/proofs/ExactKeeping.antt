@@ -1,12 +1,9 @@
 -- What a session keeps is exact where its parts are as its calls say.
-use Rattle.std.proofs.Common.{◌≡◌, ◌+◌, ℕ, List, [], ◌∷◌, ap, map, refl, subst, sym}
+use Rattle.std.proofs.Common.{◌≡◌, ◌+◌, ℕ, List, [], ◌∷◌, refl, subst, sym}
 use Rattle.std.specs.List.{AllByRecursion}
 use Rattle.pcef_bearer.specs.Bindings.{Binding, IsBinding}
-use Rattle.pcef_bearer.specs.Standing.{binding_of, bound_of}
-use Rattle.pcef_bearer.specs.declared.bearers.Bound.{Bound}
-use Rattle.pcef_model.specs.ActiveRules.{Active}
+use Rattle.pcef_bearer.specs.Standing.{binding_of}
 use Rattle.pcef_model.specs.Entries.{Journal}
-use Rattle.pcef_model.specs.Generations.{Generation}
 use Rattle.pcef_model.specs.Journals.{counted, gen, now, reported}
 use Rattle.pcef_model.specs.Lawful.{Lawful}
 use Rattle.pcef_model.specs.Setting.{Setting}
@@ -18,11 +15,6 @@ use Rattle.pcef_table.specs.declared.entry.Source.{Source}
 use Rattle.pcef_table.specs.Tables.{TableValue}
 use Rattle.pcef_usage.specs.declared.usage.KeyState.{KeyState}
 use Rattle.pcef_core.specs.Keeping.{SessionIsExact}
-
--- the bound rules are those of the generation
-names_bound : (g : Generation) (rules : List Active) → map (λ (b : Bound). b.name) (bound_of g rules) ≡ map (λ (r : Active). r.properties.name) rules
-names_bound g [] = refl
-names_bound g (r ∷ rules) = ap (λ names. r.properties.name ∷ names) (names_bound g rules)
 
 reported_of : (p : Setting) (j : Journal) (keys : List KeyState) → AllByRecursion (KeyAgrees p j) keys → AllByRecursion (λ (k : KeyState). k.reported ≡ reported j k.key) keys
 reported_of p j [] agree = tt
@@ -37,8 +29,10 @@ exact_binding : (p : Setting) (j : Journal) (rules : List (List ℕ × Source)) 
     → IsBinding (binding_of p (now p j)) → KeysAgree p j keys → Shows p j (gen j) t
     → SessionIsExact p (record { journal = j; rules = rules; binding = binding_of p (now p j); keys = keys; table = t })
 exact_binding p j rules keys t lawful active is agree shows = record {
+  lawful = lawful;
   rules_are = active;
-  bound_are = names_bound (now p j) (now p j).rules;
+  binding_is = refl;
+  names = is.names;
   bound = stands_on p j;
   shared = is.pairs;
   sums = sums_are p j lawful;

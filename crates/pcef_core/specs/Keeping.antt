@@ -3,11 +3,13 @@
 use Rattle.std.specs.Prelude.{ℕ, ◌≡◌, ◌≤◌, ◌+◌, true, List, Some, AllPairs, Contains, map}
 use Rattle.std.specs.List.{AllByRecursion}
 use Rattle.pcef_rule.specs.declared.quantity.Qos.{Qos}
-use Rattle.pcef_bearer.specs.Bindings.{Agree, Binding, bearer_of, guaranteed, total_down, total_up}
+use Rattle.pcef_bearer.specs.Bindings.{Agree, Binding, DifferInName, bearer_of, guaranteed, total_down, total_up}
+use Rattle.pcef_bearer.specs.Standing.{binding_of}
 use Rattle.pcef_model.specs.ActiveRules.{Active}
 use Rattle.pcef_model.specs.Entries.{Journal, rows}
 use Rattle.pcef_model.specs.Generations.{has_bearer}
 use Rattle.pcef_model.specs.Journals.{counted, gen, now, reported, slots}
+use Rattle.pcef_model.specs.Lawful.{Lawful}
 use Rattle.pcef_model.specs.Laws.{HasItsVerdict}
 use Rattle.pcef_model.specs.Refusals.{rate_of}
 use Rattle.pcef_model.specs.Setting.{Setting}
@@ -27,10 +29,14 @@ pub record KeptBySession : Type 0 where
   pub table : TableValue
 
 pub record SessionIsExact (p : Setting) (s : KeptBySession) : Type 0 where
+  -- each entry of the journal was due where it was made
+  pub lawful : Lawful p s.journal
   -- the active rules are those of the journal's newest generation
   pub rules_are : AreKept p.catalog s.rules (now p s.journal).rules
-  -- these are the bound rules, each once, and no other is bound
-  pub bound_are : map (λ b. b.name) s.binding.bound ≡ map (λ r. r.properties.name) (now p s.journal).rules
+  -- these are the bound rules, each with its own QCI, ARP and rates, and no other is bound
+  pub binding_is : s.binding ≡ binding_of p (now p s.journal)
+  -- each is bound once
+  pub names : AllPairs DifferInName s.binding.bound
   -- each is bound to one bearer, that of its QCI and ARP (TS 23.203, clause 6.1.1.4)
   pub bound : (r : Active) → Contains (now p s.journal).rules r →
       bearer_of r.properties.name s.binding.bound ≡ Some (record { 0 = (now p s.journal).id_of r.properties.qos })

@@ -39,11 +39,12 @@ impl<'s> Model for SessionParts<'s> {
     } };
 }
 
-/// What a session keeps, and that it is exact. Each active rule is bound to one bearer, which has its QCI and ARP, and
-/// no other rule is bound. Each bearer's guaranteed rates are its rules' exact sums, and all are within the capacity. The
-/// reported and unreported octets of each monitoring key are together those of the journal's packet rows that count for
-/// it. Each row has the verdict of its own generation. It takes any session: one that stands alone, the one behind a
-/// session's lock (`pcef_lock::State::session`), and the one that is left at the end (`pcef_lock::Totals`).
+/// What a session keeps, and that it is exact. Its journal is lawful. Each active rule is bound once, with its own QCI,
+/// ARP and rates, to one bearer, which has its QCI and ARP, and no other rule is bound. Each bearer's guaranteed rates
+/// are its rules' exact sums, and all are within the capacity. The reported and unreported octets of each monitoring
+/// key are together those of the journal's packet rows that count for it. Each row has the verdict of its own
+/// generation. It takes any session: one that stands alone, the one behind a session's lock
+/// (`pcef_lock::State::session`), and the one that is left at the end (`pcef_lock::Totals`).
 pub fn session_is_exact(session: &SessionState) -> SessionParts<'_>
     ensures journal { result.journal ≡ session.now.journal }
     ensures exact { SessionIsExact session.now.setting result }
