@@ -12,7 +12,7 @@ use Rattle.pcef_pool.specs.Pools.{IsPart, PoolModel, pool_faults, pool_with, roo
 use Rattle.pcef_pool.specs.declared.pool_state.PoolFull.{PoolFull}
 use Rattle.pcef_session.specs.SessionModel.{SessionModel}
 use Rattle.pcef_share.specs.Rates.{granted_with, no_rates}
-use Rattle.pcef_pooled.specs.Granting.{AnswersAt, PooledModel, granted_to, rates_of}
+use Rattle.pcef_pooled.specs.Granting.{AnswersAt, PooledModel, granted_to, rates_of, settings_of}
 
 -- one session more, at the end
 push_up : (ss : List SessionModel) (s : SessionModel) → (granted_to (ss ++ s ∷ [])).up ≡ (granted_to ss).up + (rates_of s).up
@@ -93,6 +93,12 @@ set_there (z ∷ xs) zero zero y other = absurd (other refl)
 set_there (z ∷ xs) zero (suc m) y other = refl
 set_there (z ∷ xs) (suc n) zero y other = refl
 set_there (z ∷ xs) (suc n) (suc m) y other = set_there xs n m y (λ same. other (ap suc same))
+
+-- what is fixed for each stays, where what is fixed for this one does
+pub settings_set : (ss : List SessionModel) (n : ℕ) (s t : SessionModel) → slice_get ss n ≡ Some s → t.setting ≡ s.setting → settings_of (slice_set ss n t) ≡ settings_of ss
+settings_set [] n s t at same = absurd cc
+settings_set (x ∷ ss) zero s t at same = let here : x ≡ s = cc in ap (λ (q : Setting). q ∷ settings_of ss) (same ∙ ap (λ (y : SessionModel). y.setting) (sym here))
+settings_set (x ∷ ss) (suc n) s t at same = ap (λ (qs : List Setting). x.setting ∷ qs) (settings_set ss n s t at same)
 
 -- ---- a command of one of them
 pub command_granted : (r : Result Accepted Refusal) (ss : List SessionModel) (n : ℕ) (s t : SessionModel) (v w : PoolModel) → slice_get ss n ≡ Some s → v.books.granted ≡ granted_to ss → IsPart (rates_of s) v →

@@ -1,10 +1,11 @@
 -- Sessions on one pool of guaranteed rates (own choice).
-use Rattle.std.specs.Prelude.{ℕ, ◌≡◌, ◌≢◌, ◌≤◌, List, [], ◌∷◌, Some, Result, IfSome, slice_get}
+use Rattle.std.specs.Prelude.{ℕ, ◌≡◌, ◌≢◌, ◌≤◌, List, [], ◌∷◌, Some, Result, IfSome, map, slice_get}
 use Rattle.pcef_rule.specs.declared.quantity.Sums.{Sums}
 use Rattle.pcef_model.specs.declared.answer.Accepted.{Accepted}
 use Rattle.pcef_model.specs.declared.answer.Refusal.{Refusal}
 use Rattle.pcef_model.specs.declared.command.Command.{Command}
 use Rattle.pcef_model.specs.Refusals.{total_now}
+use Rattle.pcef_model.specs.Setting.{Setting}
 use Rattle.pcef_session.specs.Answers.{AnswersCommandWithin}
 use Rattle.pcef_session.specs.SessionModel.{SessionModel}
 use Rattle.pcef_share.specs.Rates.{no_rates, with_rates}
@@ -37,6 +38,10 @@ AnswersAt n before command result after =
     IfSome (slice_get before.sessions n) (λ s.
     IfSome (slice_get after.sessions n) (λ t.
     AnswersCommandWithin s command (Some (room_beside before.pool (rates_of s))) result t))
+
+-- what is fixed for each session
+abbrev pub settings_of : List SessionModel → List Setting
+settings_of sessions = map (λ s. s.setting) sessions
 
 -- all sessions but this one are as before
 abbrev pub KeepsOthers : ℕ → PooledModel → PooledModel → Type 0

@@ -3,7 +3,7 @@
 ghost use Rattle.std.specs.Prelude.{◌≡◌, ◌<◌, IfOk, Some, length, slice_get};
 ghost use Rattle.std.specs.Result.{result_err};
 ghost use Rattle.pcef_share.specs.Names.{name_at};
-ghost use Rattle.pcef_pooled.specs.Granting.{AnswersAt, KeepsOthers, PoolIsExact, granted_to};
+ghost use Rattle.pcef_pooled.specs.Granting.{AnswersAt, KeepsOthers, PoolIsExact, granted_to, settings_of};
 ghost use Rattle.pcef_pooled.specs.Opening.{AreOpened, OpensOn};
 
 use crate::fault::PooledFault;
@@ -98,10 +98,11 @@ impl<P: Pooling> Pooled<P> {
 
     /// Does a command on the session of a number, which is below the number of sessions, in the room that the others
     /// leave it; or answers the first refusal in the order of [`Refusal`], which changes nothing. Every other session
-    /// stays as it was. Takes memory.
+    /// stays as it was, and so does what is fixed for this one. Takes memory.
     pub fn command(&mut self, n: usize, command: Command) -> Result<Accepted, Refusal>
         requires { n < length self.old.sessions }
         ensures answer { AnswersAt n self.old command result self.new }
+        ensures settings { settings_of self.new.sessions ≡ settings_of self.old.sessions }
         ensures others { KeepsOthers n self.old self.new }
         ensures many { length self.new.sessions ≡ length self.old.sessions }
         ensures capacity { self.new.pool.capacity ≡ self.old.pool.capacity }

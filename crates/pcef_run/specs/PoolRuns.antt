@@ -7,7 +7,7 @@ use Rattle.pcef_model.specs.declared.answer.Refusal.{Refusal}
 use Rattle.pcef_model.specs.declared.answer.Refusal.TheVariants.{NoMemory}
 use Rattle.pcef_answer.specs.StepAnswers.{command_text}
 use Rattle.pcef_script.specs.ScriptLines.{AppendsFront}
-use Rattle.pcef_pooled.specs.Granting.{AnswersAt, KeepsOthers, PooledModel, granted_to}
+use Rattle.pcef_pooled.specs.Granting.{AnswersAt, KeepsOthers, PooledModel, granted_to, settings_of}
 use Rattle.pcef_pooled.specs.Opening.{AreOpened, Asked, OpensOn}
 use Rattle.pcef_run.specs.declared.pool_end.PoolEnd.{PoolEnd}
 use Rattle.pcef_run.specs.declared.pool_end.PoolEnd.TheVariants as end
@@ -18,13 +18,15 @@ use Rattle.pcef_run.specs.declared.order.Order.{Order}
 abbrev pub IsAnswerLine : ℕ → PooledModel → Result Accepted Refusal → List ℕ → Type 0
 IsAnswerLine n after answer text = IfSome (slice_get after.sessions n) (λ s. text ≡ command_text s.journal answer ++ 10 ∷ [])
 
--- A session answers an order in the room that the others leave it, and this is the line for the answer. The others
--- stay as they were. What the pool has granted is then again what the sessions have. Out of memory is no answer.
+-- A session answers an order in the room that the others leave it, and this is the line for the answer. What is fixed
+-- for each session stays, and the others stay as they were. What the pool has granted is then again what the sessions
+-- have. Out of memory is no answer.
 pub record AnswersOrder (before : PooledModel) (o : Order) (text : List ℕ) (after : PooledModel) : Type 0 where
   pub answer : Result Accepted Refusal
   pub answers : AnswersAt o.session before o.command answer after
   pub memory : answer ≢ Err NoMemory
   pub line : IsAnswerLine o.session after answer text
+  pub settings : settings_of after.sessions ≡ settings_of before.sessions
   pub others : KeepsOthers o.session before after
   pub capacity : after.pool.capacity ≡ before.pool.capacity
   pub granted : after.pool.books.granted ≡ granted_to after.sessions

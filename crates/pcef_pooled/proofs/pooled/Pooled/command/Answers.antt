@@ -1,7 +1,7 @@
 use Rattle.std.proofs.Common.{◌≡◌, ◌∙◌, ap, arith, length, subst, Some}
 use Rattle.std.specs.Prelude.{slice_get, slice_set}
-use Rattle.pcef_pooled.specs.Granting.{AnswersAt, PooledModel}
-use Rattle.pcef_pooled.proofs.Granted.{answers_at, command_granted, set_here, set_there, stands}
+use Rattle.pcef_pooled.specs.Granting.{AnswersAt, PooledModel, settings_of}
+use Rattle.pcef_pooled.proofs.Granted.{answers_at, command_granted, set_here, set_there, settings_set, stands}
 use Rattle.pcef_pooled.proofs.pooled.Pooled.command.Goals as goal
 
 pub invariant_of-self : goal.invariant_of-self
@@ -19,6 +19,12 @@ returns-clause-answer g c =
     subst (λ (b : PooledModel). AnswersAt c.args.n b c.args.command c.command.result after) c.self.view_is
     (answers_at c.args.n (record { sessions = c.self.inside.members.items; pool = c.self.inside.pool }) after c.args.command c.command.result c.index_mut.result.now c.command.new.self at
     (set_here c.self.inside.members.items c.args.n c.index_mut.result.now c.command.new.self at) c.command.ensures.answer)
+
+pub returns-clause-settings : goal.returns-clause-settings
+returns-clause-settings g c =
+    let at : slice_get c.self.inside.members.items c.args.n ≡ Some c.index_mut.result.now =
+    stands c.self.inside.members.items c.args.n c.index_mut.result.now (omega (arith, c.requires, ap (λ (b : PooledModel). length b.sessions) c.self.view_is)) c.index_mut.ensures.value in
+    settings_set c.self.inside.members.items c.args.n c.index_mut.result.now c.command.new.self at c.command.ensures.setting ∙ ap (λ (b : PooledModel). settings_of b.sessions) c.self.view_is
 
 pub returns-clause-others : goal.returns-clause-others
 returns-clause-others g c = λ m other.
