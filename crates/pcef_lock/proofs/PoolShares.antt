@@ -57,6 +57,14 @@ room_wanted b p s now r v room exists due setting now_is of =
     let here : room ≡ room_beside v held = of_held (λ h. room ≡ room_beside v h) r held (due_some b s.setting s.journal r exists due) of in
     rw (← setting, ← now_is) here
 
+-- it is part of what the pool has granted
+pub part_wanted : (b : Bool) (p : Setting) (s : SessionModel) (now : Journal) (r : Option Sums) (v : PoolModel) → b ≡ true → r ≡ rates_due b s.setting s.journal → s.setting ≡ p → s.journal ≡ now →
+    IfSome r (λ held. IsPart held v) → IsPart (total_now p now) v
+part_wanted b p s now r v exists due setting now_is of =
+    let held : Sums = total_now s.setting s.journal in
+    let here : IsPart held v = of_held (λ h. IsPart h v) r held (due_some b s.setting s.journal r exists due) of in
+    rw (← setting, ← now_is) here
+
 -- what its rules sum up to afterwards fits into the pool
 pub fits_in : (b : Bool) (s m t : SessionModel) (c : Command) (d : Prepared) (a : Accepted) (r r2 : Option Sums) (v v2 : PoolModel) (room rates : Sums) → b ≡ true → r ≡ rates_due b s.setting s.journal → r2 ≡ r → v2 ≡ v → IsPool v →
     IfSome r (λ held. room ≡ room_beside v held) → IfSome r (λ held. IsPart held v) → first_of (refusals_within s.setting s.journal c (Some room)) ≡ None → m.setting ≡ s.setting → m.journal ≡ s.journal →

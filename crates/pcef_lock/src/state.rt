@@ -11,7 +11,7 @@ ghost use Rattle.pcef_lock.specs.Outcomes.{AnswersSeat, with_share};
 ghost use Rattle.pcef_lock.specs.Counting.{books_with_command, with_command};
 ghost use Rattle.pcef_lock.specs.Desks.{desk_shares, first_books};
 ghost use Rattle.pcef_lock.specs.Kept.{Kept};
-ghost use Rattle.pcef_pool.specs.Pools.{pool_with, rates_due, room_beside};
+ghost use Rattle.pcef_pool.specs.Pools.{IsPart, pool_with, rates_due, room_beside};
 ghost use Rattle.pcef_lock.specs.Published.{ArePublished};
 ghost use Rattle.pcef_lock.specs.Seats.{ChangesOnlySubscriber, HasSeenAll, IsNewSeat};
 ghost use mathlib.Core.List.{IsPrefix};
@@ -201,7 +201,8 @@ impl<N: Naming, W: Board<Cell<N>> + Drop, P: Pooling> State<N, W, P> {
     }
 
     /// The same for a session that has a share of a pool. A command that makes a rule active is refused where all
-    /// shares would then be over the pool's capacity. The share is given what the session's rules sum up to then.
+    /// shares would then be over the pool's capacity. The share is given what the session's rules sum up to then. What
+    /// it had was part of what the pool had granted, so both move by the same rates.
     pub fn command_within(
         &mut self,
         shares: &mut Shares<N>,
@@ -212,6 +213,7 @@ impl<N: Naming, W: Board<Cell<N>> + Drop, P: Pooling> State<N, W, P> {
         ensures answer { CommandStepWithin N.setting
             (Some (room_beside pool.old (total_now N.setting self.old.session.journal))) command
             self.old.session.journal result self.new.session.journal }
+        ensures part { IsPart (total_now N.setting self.old.session.journal) pool.old }
         ensures tables { IsPrefix self.old.tables self.new.tables }
         ensures refused { IfErr result (λ _. self.new.tables ≡ self.old.tables) }
         ensures rest { self.new ≡ record self.old {

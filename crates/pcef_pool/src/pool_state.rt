@@ -124,18 +124,22 @@ impl<P: Pooling> PoolState<P> {
     }
 
     /// Gives a share other rates, in bit/s. Where all shares would then be over the capacity, it answers the first
-    /// direction in the order of [`PoolFull`], and changes nothing. Takes no memory.
+    /// direction in the order of [`PoolFull`], and changes nothing. What the share had was part of what was granted, so
+    /// both move by the same rates. Takes no memory.
     pub fn change(&mut self, shares: &mut RateShares<P>, rates: Sums) -> Result<(), PoolFull>
         ensures answer { result_err result ≡ first_of (pool_faults self.old shares.old rates) }
+        ensures part { IsPart shares.old self.old }
         ensures shares { OnOk result (shares.new ≡ rates) }
         ensures granted { OnOk result (self.new ≡ pool_with self.old shares.old rates) }
         ensures refused { OnErr result ((shares.new ≡ shares.old) × (self.new ≡ self.old)) }
     {
         let room = self.room(shares);
         if room.up < rates.up {
+            self.compare(shares);
             return Err(PoolFull::Up);
         }
         if room.down < rates.down {
+            self.compare(shares);
             return Err(PoolFull::Down);
         }
         self.books.change(shares, rates);

@@ -8,7 +8,7 @@ use Rattle.pcef_pool.specs.Pools.{room_beside}
 use Rattle.pcef_lock.proofs.Commanded.{grown_by}
 use Rattle.pcef_share.specs.Amounts.{Account}
 use Rattle.pcef_lock.proofs.Keeps.{locked, next_published, settled_gains, sound_same, sound_settled}
-use Rattle.pcef_lock.proofs.PoolShares.{due_kept, due_set, fits_in, is_there, pool_gave, room_wanted}
+use Rattle.pcef_lock.proofs.PoolShares.{due_kept, due_set, fits_in, is_there, part_wanted, pool_gave, room_wanted}
 use Rattle.pcef_lock.proofs.state.State.command_within.Goals as goal
 
 pub room_in-room-requires : goal.room_in-room-requires
@@ -26,6 +26,10 @@ returns-in-Err-clause-answer g c =
     does_not_within g.N.Naming.setting c.self.inside.session.session c.prepare_within.new.self.session c.args.self.now.session.journal c.args.command c.room_in-room.result
     (room_beside c.args.pool.now (total_now g.N.Naming.setting c.args.self.now.session.journal)) c.in-Err.refusal c.self.invariant.0.kept.setting_is c.in-Err.ensures.refused c.prepare_within.ensures.journal
     (ap (λ v. v.session.journal) c.self.view_is) (room_wanted g.P.Pooling.is_there g.N.Naming.setting c.self.inside.session.session c.args.self.now.session.journal c.self.inside.rates c.args.pool.now c.room_in-room.result c.requires c.self.invariant.1 c.self.invariant.0.kept.setting_is (ap (λ v. v.session.journal) c.self.view_is) c.room_in-room.ensures.room)
+
+pub returns-in-Err-clause-part : goal.returns-in-Err-clause-part
+returns-in-Err-clause-part g c =
+    part_wanted g.P.Pooling.is_there g.N.Naming.setting c.self.inside.session.session c.args.self.now.session.journal c.self.inside.rates c.args.pool.now c.requires c.self.invariant.1 c.self.invariant.0.kept.setting_is (ap (λ v. v.session.journal) c.self.view_is) c.room_in-room.ensures.part
 
 pub invariant_of-self-then-is_err : goal.invariant_of-self-then-is_err
 invariant_of-self-then-is_err g c =
@@ -63,11 +67,19 @@ returns-then-is_err-clause-answer g c =
     (room_beside c.args.pool.now (total_now g.N.Naming.setting c.args.self.now.session.journal)) c.self.invariant.0.kept.setting_is c.in-Ok.ensures.accepted c.prepare_within.ensures.journal
     (ap (λ v. v.session.journal) c.self.view_is) (room_wanted g.P.Pooling.is_there g.N.Naming.setting c.self.inside.session.session c.args.self.now.session.journal c.self.inside.rates c.args.pool.now c.room_in-room.result c.requires c.self.invariant.1 c.self.invariant.0.kept.setting_is (ap (λ v. v.session.journal) c.self.view_is) c.room_in-room.ensures.room)
 
+pub returns-then-is_err-clause-part : goal.returns-then-is_err-clause-part
+returns-then-is_err-clause-part g c =
+    part_wanted g.P.Pooling.is_there g.N.Naming.setting c.self.inside.session.session c.args.self.now.session.journal c.self.inside.rates c.args.pool.now c.requires c.self.invariant.1 c.self.invariant.0.kept.setting_is (ap (λ v. v.session.journal) c.self.view_is) c.room_in-room.ensures.part
+
 pub returns-clause-answer : goal.returns-clause-answer
 returns-clause-answer g c =
     does_within g.N.Naming.setting c.self.inside.session.session c.prepare_within.new.self.session c.settle-accepted.new.self.session c.args.self.now.session.journal c.args.command c.in-Ok.prepared c.room_in-room.result
     (room_beside c.args.pool.now (total_now g.N.Naming.setting c.args.self.now.session.journal)) c.settle-accepted.result c.self.invariant.0.kept.setting_is c.in-Ok.ensures.accepted c.prepare_within.ensures.setting c.prepare_within.ensures.journal c.in-Ok.ensures.command
     c.settle-accepted.ensures.answer (ap (λ v. v.session.journal) c.self.view_is) (room_wanted g.P.Pooling.is_there g.N.Naming.setting c.self.inside.session.session c.args.self.now.session.journal c.self.inside.rates c.args.pool.now c.room_in-room.result c.requires c.self.invariant.1 c.self.invariant.0.kept.setting_is (ap (λ v. v.session.journal) c.self.view_is) c.room_in-room.ensures.room)
+
+pub returns-clause-part : goal.returns-clause-part
+returns-clause-part g c =
+    part_wanted g.P.Pooling.is_there g.N.Naming.setting c.self.inside.session.session c.args.self.now.session.journal c.self.inside.rates c.args.pool.now c.requires c.self.invariant.1 c.self.invariant.0.kept.setting_is (ap (λ v. v.session.journal) c.self.view_is) c.room_in-room.ensures.part
 
 pub returns-clause-rest : goal.returns-clause-rest
 returns-clause-rest g c =
