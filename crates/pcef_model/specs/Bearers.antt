@@ -9,7 +9,8 @@ use Rattle.pcef_rule.specs.declared.quantity.Rates.{Rates}
 use Rattle.pcef_model.specs.Setting.{same_qos}
 
 -- ---- bearers
--- the id of the default bearer, and those of the others (own choice)
+-- the id of the default bearer, and those of the others (own choice, of the ids 5 to 15 that TS 24.007,
+-- clause 11.2.3.1.5, has)
 abbrev pub default_id : ℕ
 default_id = 5
 

@@ -23,7 +23,7 @@ agrees_in bits (V6 a) (V4 b) = false
 agrees_in bits (V6 a) (V6 b) = same_front 128 bits a b
 
 -- an address is one of a session's: a session of version 4 has one address, and one of version 6 the
--- whole network of 64 bits that its address stands in (own choice)
+-- whole network of 64 bits that its address stands in (TS 23.401, clause 5.3.1.2.2)
 abbrev pub is_assigned : Addr → Addr → Bool
 is_assigned (V4 a) (V4 ue) = a == ue
 is_assigned (V4 a) (V6 ue) = false
