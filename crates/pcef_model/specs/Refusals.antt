@@ -212,7 +212,7 @@ abbrev pub flush_refusals : Setting → Journal → ℕ → ℕ → Conditions F
 flush_refusals p j worker count =
     (not (is_attached j worker), flush.NotAttached) ∷ (nat_lt p.rows (length (rows j) + count), flush.RowsFull) ∷ []
 
--- ---- opening: the default bearer is non-GBR (TS 23.203, clause 6.1.1.4)
+-- ---- opening: the default bearer is non-GBR (TS 23.401, clause 4.7.2.1)
 abbrev pub open_faults : Setting → Conditions OpenFault
 open_faults p =
     (is_none (kind_of p.qcis p.default_qos.qci.0), opening.UnknownQci) ∷

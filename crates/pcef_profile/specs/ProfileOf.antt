@@ -48,7 +48,7 @@ values_of declared ms = do
 abbrev pub kind_with : List (ℕ × Kind) → ℕ → Option Kind
 kind_with declared qci = option_or (kind_of [] qci) (declared_kind declared qci)
 
--- the default bearer has no guaranteed bit rate (TS 23.203, clause 6.1.7.2)
+-- the default bearer has no guaranteed bit rate (TS 23.401, clause 4.7.2.1)
 abbrev pub with_kind : Said → Option Kind → Result Said ReadProfileFault
 with_kind p None = Err UnknownQci
 with_kind p (Some Gbr) = Err DefaultIsGbr
