@@ -1,0 +1,7 @@
+use Rattle.std.proofs.Common.{◌≡◌, ◌++◌, take}
+use Rattle.std.specs.List.{flat_map}
+use Rattle.pcef_diameter.specs.Numbers.{octets_of}
+use Rattle.pcef_diameter.proofs.writing.put_words.Given as goal
+
+abbrev pub invariant-loop-word : goal.invariant-loop-word
+invariant-loop-word l = l.out.items ≡ l.fn.out.items ++ flat_map octets_of (take l.word-index l.words)

@@ -1,0 +1,5 @@
+pub mod Avps
+pub mod Headers
+pub mod Laws
+pub mod Numbers
+pub mod Spellings
