@@ -14,7 +14,13 @@ pub record Shown : Type 0 where
   pub octets : List ℕ
 
 abbrev pub shown : Avp → Shown
-shown a = record { code = a.code; vendor = a.vendor; mandatory = a.mandatory; protected = a.protected; octets = a.octets.now }
+shown a = record {
+  code = a.code;
+  vendor = a.vendor;
+  mandatory = a.mandatory;
+  protected = a.protected;
+  octets = a.octets.now;
+}
 
 -- The AVP Code stands in octets 0 to 3, the AVP Flags in octet 4, and the AVP Length in octets 5 to 7.
 abbrev pub flags_at : List ℕ → ℕ
@@ -47,7 +53,8 @@ header_at octets = header_len (has_vendor (flags_at octets))
 abbrev pub vendor_at : List ℕ → Option ℕ
 vendor_at octets = if has_vendor (flags_at octets) then Some (word_at octets 8) else None
 
--- The AVP Length counts the header and the data. Padding up to a multiple of four octets follows, which it doesn't count.
+-- The AVP Length counts the header and the data. Padding up to a multiple of four octets follows, which it doesn't
+-- count.
 abbrev pub padded : ℕ → ℕ
 padded len = (len + 3) / 4 * 4
 
@@ -82,4 +89,5 @@ behind_avp octets = drop (padded (len_at octets)) octets
 abbrev pub Reads : List ℕ → List Shown → List ℕ → Option AvpFault → Type 0
 Reads octets [] rest None = (octets ≡ []) × (rest ≡ [])
 Reads octets [] rest (Some fault) = (0 < length octets) × (avp_fault octets ≡ Some fault) × (rest ≡ octets)
-Reads octets (avp ∷ avps) rest fault = (avp_fault octets ≡ None) × (avp_at octets ≡ avp) × Reads (behind_avp octets) avps rest fault
+Reads octets (avp ∷ avps) rest fault =
+    (avp_fault octets ≡ None) × (avp_at octets ≡ avp) × Reads (behind_avp octets) avps rest fault

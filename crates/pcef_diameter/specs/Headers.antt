@@ -6,8 +6,8 @@ use Rattle.pcef_diameter.specs.declared.fault.MessageFault.{MessageFault}
 use Rattle.pcef_diameter.specs.declared.fault.MessageFault.TheVariants.{Bits, Length, Version}
 use Rattle.pcef_diameter.specs.declared.header.MessageHeader.{MessageHeader}
 
--- The Command Flags stand in octet 4: R, P, E and T from the highest bit on. The other four are reserved, and a receiver
--- ignores them.
+-- The Command Flags stand in octet 4: R, P, E and T from the highest bit on. The other four are reserved, and a
+-- receiver ignores them.
 abbrev pub command_flags_at : List ℕ → ℕ
 command_flags_at octets = first_octet (word_at octets 4)
 
@@ -45,7 +45,8 @@ command_word h = (bit h.request 128 + bit h.proxiable 64 + bit h.error 32 + bit 
 
 -- the octets of a header: its five words
 abbrev pub header_octets : MessageHeader → List ℕ
-header_octets h = flat_map octets_of ((h.version * 2 ^ 24 + h.len) ∷ command_word h ∷ h.application ∷ h.hop_by_hop ∷ h.end_to_end ∷ [])
+header_octets h =
+    flat_map octets_of ((h.version * 2 ^ 24 + h.len) ∷ command_word h ∷ h.application ∷ h.hop_by_hop ∷ h.end_to_end ∷ [])
 
 -- a header whose numbers have room in their octets
 pub record HeaderFits (h : MessageHeader) : Type 0 where

@@ -26,7 +26,8 @@ HeaderAgain = (h : MessageHeader) (rest : List ℕ) → HeaderFits h → header_
 abbrev pub AreOctets : List ℕ → Type 0
 AreOctets octets = All (λ octet. octet < 2 ^ 8) octets
 
--- Nothing else is read: up to the rest, the octets are those of the AVPs, with whatever padding; and the AVPs have room.
+-- Nothing else is read: up to the rest, the octets are those of the AVPs, with whatever padding; each of the AVPs can
+-- be written.
 abbrev pub NothingElse : Type 0
 NothingElse =
     (octets : List ℕ) (avps : List Shown) (rest : List ℕ) (fault : Option AvpFault)

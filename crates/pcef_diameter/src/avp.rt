@@ -1,6 +1,6 @@
 //! One AVP.
 
-ghost use Rattle.std.specs.Prelude.{◌≡◌, ◌<◌, ◌≤◌, ◌^◌, true, IfErr, IfOk, None as NoFault, Some as Fault, length, if◌then◌else◌};
+ghost use Rattle.std.specs.Prelude.{◌≡◌, ◌<◌, ◌≤◌, ◌^◌, true, IfErr, IfOk, None, Some, length, if◌then◌else◌};
 ghost use Rattle.pcef_diameter.specs.Avps.{avp_at, avp_fault, behind_avp, header_len, padded, shown};
 ghost use Rattle.pcef_diameter.specs.Numbers.{word_at};
 ghost use Rattle.pcef_diameter.specs.Spellings.{avp_len};
@@ -57,13 +57,25 @@ pub(crate) fn padded(len: usize) -> usize
     (len + 3) / 4 * 4
 }
 
+/// The Vendor-ID, where there is one.
+fn vendor_at(has_vendor: bool, octets: &[u8]) -> Option<u32>
+    requires { has_vendor ≡ true → 12 ≤ length octets.now }
+    ensures { result ≡ if has_vendor then Some (word_at octets.now 8) else None }
+{
+    if has_vendor {
+        Some(word_at(octets, 8))
+    } else {
+        None
+    }
+}
+
 /// The AVP at the front of the octets, and the octets behind its padding, whatever that holds. Of several faults the
 /// first is answered: `Cut` where there are fewer than 8 octets, `Bits`, `Cut` where the Vendor-ID isn't whole, or
 /// `Length`. The AVP borrows the octets. Takes no memory.
 #[tactic(auto, unfolding(crate::specs::Avps::avp_fault, crate::specs::Avps::avp_at, crate::specs::Avps::behind_avp))]
 pub fn read_avp(octets: &[u8]) -> Result<(Avp, &[u8]), AvpFault>
-    ensures fault { IfErr result (λ fault. avp_fault octets.now ≡ Fault fault) }
-    ensures no_fault { IfOk result (λ found. avp_fault octets.now ≡ NoFault) }
+    ensures fault { IfErr result (λ fault. avp_fault octets.now ≡ Some fault) }
+    ensures no_fault { IfOk result (λ found. avp_fault octets.now ≡ None) }
     ensures avp { IfOk result (λ found. shown found.0 ≡ avp_at octets.now) }
     ensures behind { IfOk result (λ found. found.1.now ≡ behind_avp octets.now) }
     ensures shorter { IfOk result (λ found. length found.1.now < length octets.now) }
@@ -93,16 +105,4 @@ pub fn read_avp(octets: &[u8]) -> Result<(Avp, &[u8]), AvpFault>
         octets: octets.split_at(header).1.split_at(len - header).0,
     };
     Ok((avp, octets.split_at(padded(len)).1))
-}
-
-/// The Vendor-ID, where there is one.
-fn vendor_at(has_vendor: bool, octets: &[u8]) -> Option<u32>
-    requires { has_vendor ≡ true → 12 ≤ length octets.now }
-    ensures { result ≡ if has_vendor then Fault (word_at octets.now 8) else NoFault }
-{
-    if has_vendor {
-        Some(word_at(octets, 8))
-    } else {
-        None
-    }
 }

@@ -1,4 +1,4 @@
-//! Diameter messages as octets (RFC 6733, clauses 3 and 4): reads and writes headers and AVPs, and knows no application.
+//! Diameter messages as octets (RFC 6733, clauses 3 and 4): reads and writes headers and AVPs; knows no application.
 //!
 //! Its contracts say: a header, exactly the AVPs of some octets, or the first fault; octets have one reading; what was
 //! written is read again, and nothing else is read.

@@ -75,8 +75,8 @@ fn put_data(out: &mut Vec<u8>, avp: &Avp) -> Result<(), AllocError>
     Ok(())
 }
 
-/// Writes an AVP behind some octets, with zeros as its padding (RFC 6733, clause 4). Its `len` is at most 16,777,215. An
-/// `Err` is want of memory, and leaves the octets as they were.
+/// Writes an AVP behind some octets, with zeros as its padding (RFC 6733, clause 4). Its `len` is at most 16,777,215.
+/// This takes memory; an `Err` is want of it, and leaves the octets as they were.
 pub fn put_avp(out: &mut Vec<u8>, avp: &Avp) -> Result<(), AllocError>
     requires { avp_len (shown avp.now) < 2 ^ 24 }
     ensures written { OnOk result (out.new.items ≡ out.old.items ++ avp_octets (shown avp.now)) }
@@ -104,8 +104,9 @@ fn command_word(header: &MessageHeader) -> u32
     flags * 0x100_0000 + header.command
 }
 
-/// Writes the header of a message behind some octets (RFC 6733, clause 3): 20 octets, the reserved bits unset. Its
-/// `len` is the caller's, and so are the AVPs behind it. An `Err` is want of memory, and leaves the octets as they were.
+/// Writes the header of a message behind some octets (RFC 6733, clause 3): 20 octets, the reserved bits unset. The
+/// caller counts the octets of the message for its `len`, and writes the AVPs behind it. This takes memory; an `Err` is
+/// want of it, and leaves the octets as they were.
 pub fn put_header(out: &mut Vec<u8>, header: &MessageHeader) -> Result<(), AllocError>
     requires len { header.now.len < 2 ^ 24 }
     requires command { header.now.command < 2 ^ 24 }
