@@ -15,8 +15,8 @@ const BITS: Option<AvpFault> = Some(AvpFault::Bits);
 
 const LENGTH: Option<AvpFault> = Some(AvpFault::Length);
 
-/// Where an AVP has the last octet of its length, and what is read with 4, 3, 2 and 1 less there, and with 1, 2, 3 and 4
-/// more.
+/// Where an AVP has the last octet of its length, and what is read with 4, 3, 2 and 1 less there, and with 1, 2, 3 and
+/// 4 more.
 const OFF: [(usize, [Read; 8]); 8] = [
     (
         27,
