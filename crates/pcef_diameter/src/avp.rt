@@ -1,7 +1,7 @@
 //! One AVP.
 
-ghost use Rattle.std.specs.Prelude.{◌≡◌, ◌<◌, ◌≤◌, ◌^◌, true, IfErr, IfOk, None, Some, length, if◌then◌else◌};
-ghost use Rattle.pcef_diameter.specs.Avps.{avp_at, avp_fault, behind_avp, header_len, padded, shown};
+ghost use Rattle.std.specs.Prelude.{◌≡◌, ◌<◌, ◌≤◌, ◌^◌, true, ◌-◌, IfErr, IfOk, None, Some, drop, length, take, if◌then◌else◌};
+ghost use Rattle.pcef_diameter.specs.Avps.{avp_at, avp_fault, behind_avp, header_at, header_len, len_at, padded, shown};
 ghost use Rattle.pcef_diameter.specs.Numbers.{word_at};
 ghost use Rattle.pcef_diameter.specs.Spellings.{avp_len};
 
@@ -31,7 +31,8 @@ const LONG_HEADER: usize = 12;
 
 /// The length of the header by the V bit, in octets.
 fn header_len(has_vendor: bool) -> usize
-    ensures { result ≡ header_len has_vendor }
+    ensures exact { result ≡ header_len has_vendor }
+    ensures least { 8 ≤ result }
 {
     if has_vendor {
         LONG_HEADER
@@ -69,10 +70,79 @@ fn vendor_at(has_vendor: bool, octets: &[u8]) -> Option<u32>
     }
 }
 
+/// The first fault of the AVP at the front of the octets.
+#[tactic(auto, unfolding(crate::specs::Avps::avp_fault))]
+fn first_fault(octets: &[u8]) -> Option<AvpFault>
+    ensures fault { result ≡ avp_fault octets.now }
+    ensures header { result ≡ None → header_at octets.now ≤ len_at octets.now }
+    ensures whole { result ≡ None → padded (len_at octets.now) ≤ length octets.now }
+{
+    if octets.len() < SHORT_HEADER {
+        return Some(AvpFault::Cut);
+    }
+    let word = word_at(octets, 4);
+    let flags = word >> 24;
+    if flags & 0x1f != 0 {
+        return Some(AvpFault::Bits);
+    }
+    let header = header_len(flags >> 7 == 1);
+    if octets.len() < header {
+        return Some(AvpFault::Cut);
+    }
+    let len = (word & 0xff_ffff) as usize;
+    if len < header || octets.len() < padded(len) {
+        return Some(AvpFault::Length);
+    }
+    None
+}
+
+/// The data behind a header, up to this length.
+fn data_at(octets: &[u8], header: usize, len: usize) -> &[u8]
+    requires front { header ≤ len }
+    requires whole { len ≤ length octets.now }
+    ensures { result.now ≡ take (len - header) (drop header octets.now) }
+{
+    octets.split_at(header).1.split_at(len - header).0
+}
+
+/// The octets behind an AVP of this length and its padding.
+fn behind_len(octets: &[u8], len: usize) -> &[u8]
+    requires header { 8 ≤ len }
+    requires limit { len < 2 ^ 24 }
+    requires whole { padded len ≤ length octets.now }
+    ensures behind { result.now ≡ drop (padded len) octets.now }
+    ensures shorter { length result.now < length octets.now }
+{
+    octets.split_at(padded(len)).1
+}
+
+/// The AVP at the front of the octets, which has no fault, and the octets behind it.
+#[tactic(auto, unfolding(crate::specs::Avps::avp_at, crate::specs::Avps::behind_avp))]
+fn whole_avp(octets: &[u8]) -> (Avp, &[u8])
+    requires header { header_at octets.now ≤ len_at octets.now }
+    requires whole { padded (len_at octets.now) ≤ length octets.now }
+    ensures avp { shown result.0 ≡ avp_at octets.now }
+    ensures behind { result.1.now ≡ behind_avp octets.now }
+    ensures shorter { length result.1.now < length octets.now }
+{
+    let word = word_at(octets, 4);
+    let flags = word >> 24;
+    let has_vendor = flags >> 7 == 1;
+    let header = header_len(has_vendor);
+    let len = (word & 0xff_ffff) as usize;
+    let avp = Avp {
+        code: word_at(octets, 0),
+        vendor: vendor_at(has_vendor, octets),
+        mandatory: (flags >> 6) & 1 == 1,
+        protected: (flags >> 5) & 1 == 1,
+        octets: data_at(octets, header, len),
+    };
+    (avp, behind_len(octets, len))
+}
+
 /// The AVP at the front of the octets, and the octets behind its padding, whatever that holds. Of several faults the
 /// first is answered: `Cut` where there are fewer than 8 octets, `Bits`, `Cut` where the Vendor-ID isn't whole, or
 /// `Length`. The AVP borrows the octets. Takes no memory.
-#[tactic(auto, unfolding(crate::specs::Avps::avp_fault, crate::specs::Avps::avp_at, crate::specs::Avps::behind_avp))]
 pub fn read_avp(octets: &[u8]) -> Result<(Avp, &[u8]), AvpFault>
     ensures fault { IfErr result (λ fault. avp_fault octets.now ≡ Some fault) }
     ensures no_fault { IfOk result (λ found. avp_fault octets.now ≡ None) }
@@ -80,29 +150,8 @@ pub fn read_avp(octets: &[u8]) -> Result<(Avp, &[u8]), AvpFault>
     ensures behind { IfOk result (λ found. found.1.now ≡ behind_avp octets.now) }
     ensures shorter { IfOk result (λ found. length found.1.now < length octets.now) }
 {
-    if octets.len() < SHORT_HEADER {
-        return Err(AvpFault::Cut);
+    match first_fault(octets) {
+        Some(fault) => Err(fault),
+        None => Ok(whole_avp(octets)),
     }
-    let word = word_at(octets, 4);
-    let flags = word >> 24;
-    if flags & 0x1f != 0 {
-        return Err(AvpFault::Bits);
-    }
-    let has_vendor = flags >> 7 == 1;
-    let header = header_len(has_vendor);
-    if octets.len() < header {
-        return Err(AvpFault::Cut);
-    }
-    let len = (word & 0xff_ffff) as usize;
-    if len < header || octets.len() < padded(len) {
-        return Err(AvpFault::Length);
-    }
-    let avp = Avp {
-        code: word_at(octets, 0),
-        vendor: vendor_at(has_vendor, octets),
-        mandatory: (flags >> 6) & 1 == 1,
-        protected: (flags >> 5) & 1 == 1,
-        octets: octets.split_at(header).1.split_at(len - header).0,
-    };
-    Ok((avp, octets.split_at(padded(len)).1))
 }
