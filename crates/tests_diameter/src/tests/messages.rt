@@ -1,4 +1,4 @@
-//! Messages as freeDiameter writes them, three of them changed then. Codes and lengths are as tshark dissects them.
+//! Messages as freeDiameter writes them, four of them changed then. Codes and lengths are as tshark dissects them.
 use pcef_diameter::{AvpFault, MessageHeader};
 
 /// A message, and what is read of it.
