@@ -1,4 +1,4 @@
-//! AVPs whose lengths are off by one to four, worked out by hand from RFC 6733, clause 4.1.
+//! AVPs whose lengths are off by one to four: what a reader in another language, by RFC 6733, clause 4.1, makes of them.
 use super::expect_equal;
 use super::messages::ONE_TRIGGER;
 use pcef_diameter::{AvpFault, HEADER_LEN, read_avps};
