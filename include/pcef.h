@@ -184,9 +184,9 @@ typedef struct {
     uint8_t rules;                    /* how many active rules are on it: 0 on the default bearer alone */
 } pcef_bearer_state;
 
-/* Writes what the bearer of an id, 5 to 15, has in the newest generation. PCEF_OK, or why there is none, and then
- * nothing is written. A bearer ends with its last rule, and its id may go to another one: a verdict of an older
- * generation names a bearer of that generation. Takes no memory. */
+/* Writes what the bearer of an id has in the newest generation. PCEF_OK, or why there is none, and then nothing is
+ * written. The default bearer, 5, stays. The others, 6 to 15, end with their last rule, and the id may go to another
+ * bearer: a verdict of an older generation names one of that generation. Takes no memory. */
 uint8_t pcef_bearer(pcef_session *at, uint8_t id, pcef_bearer_state *bearer);
 
 #define PCEF_BEARER_NO_SESSION 72
