@@ -12,6 +12,7 @@ use pcef_index::{Decision, Indexed};
 use pcef_model::Verdict;
 use pcef_packet::{Dir, Header, PacketFault};
 use pcef_rule::Slot;
+use thiserror::Error;
 
 /// The decision of the newest generation on a packet.
 #[derive(Debug, Drop)]
@@ -27,13 +28,16 @@ pub struct Judgement {
 }
 
 /// Why a packet isn't judged.
-#[derive(Clone, Copy, Debug, PartialEq, Eq)]
+#[derive(Clone, Copy, Debug, PartialEq, Eq, Error)]
 pub enum JudgeRefusal {
     /// The handle has no session.
+    #[error("the handle has no session")]
     NoSession,
     /// The octets are no packet, whatever follows them.
+    #[error("{0}")]
     NoPacket(PacketFault),
     /// The octets of the packet beyond those at hand decide what is read.
+    #[error("the octets at hand are too few to read the packet")]
     TooFew,
 }
 

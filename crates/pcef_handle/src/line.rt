@@ -9,15 +9,19 @@ use crate::text::copy_front;
 use pcef_script::{LineAnswer, answer_alone};
 use pcef_world::WorldState;
 use std::alloc::Global;
+use thiserror::Error;
 
 /// Why a call on a handle gives no text.
-#[derive(Clone, Copy, Debug, PartialEq, Eq)]
+#[derive(Clone, Copy, Debug, PartialEq, Eq, Error)]
 pub enum CallRefusal {
     /// The handle has no session.
+    #[error("the handle has no session")]
     NoSession,
     /// There is no memory left.
+    #[error("there is no memory left")]
     NoMemory,
     /// A report that is asked for is forgotten.
+    #[error("a report that is asked for is forgotten")]
     Forgotten,
 }
 

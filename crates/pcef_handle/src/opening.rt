@@ -14,19 +14,25 @@ use pcef_profile::{ReadProfileFault, read_profile};
 use pcef_world::WorldState;
 use std::alloc::Global;
 use std::str;
+use thiserror::Error;
 
 /// Why no session is opened: the first reason in this order. Out of memory may be returned in place of any other.
-#[derive(Clone, Copy, Debug, PartialEq, Eq)]
+#[derive(Clone, Copy, Debug, PartialEq, Eq, Error)]
 pub enum OpenRefusal {
     /// The handle has a session, which stays.
+    #[error("the handle has a session already")]
     AlreadyOpen,
     /// The text isn't UTF-8.
+    #[error("the profile isn't UTF-8")]
     NotUtf8,
     /// The text is no profile.
+    #[error("{0}")]
     Profile(ReadProfileFault),
     /// No session can have the profile.
+    #[error("{0}")]
     Session(OpenFault),
     /// There is no memory left.
+    #[error("there is no memory left")]
     NoMemory,
 }
 

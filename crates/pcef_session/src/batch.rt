@@ -8,12 +8,14 @@ use pcef_model::Row;
 use pcef_rule::Slot;
 use std::alloc::{AllocError, Global};
 use std::marker::Model;
+use thiserror::Error;
 
 /// The most rows that wait.
 pub const MAX_WAITING: usize = 32;
 
 /// As many rows wait as may.
-#[derive(Clone, Copy, Debug, PartialEq, Eq)]
+#[derive(Clone, Copy, Debug, PartialEq, Eq, Error)]
+#[error("32 rows wait already")]
 pub struct BatchFull;
 
 /// A row that waits, with the slots that it counts for.

@@ -10,13 +10,16 @@ use pcef_script::MAX_LINE;
 use serde_json::{Map, Value};
 use std::alloc::{AllocError, Global};
 use std::str;
+use thiserror::Error;
 
 /// Why a line that opens a session or ends one isn't right.
-#[derive(Clone, Copy, Debug, PartialEq, Eq)]
+#[derive(Clone, Copy, Debug, PartialEq, Eq, Error)]
 pub enum AskingFault {
     /// It has a field that the word doesn't have.
+    #[error("the line has a field that its word doesn't have")]
     UnknownField,
     /// Its `ue` is no address.
+    #[error("`ue` is no address")]
     BadUe,
 }
 
