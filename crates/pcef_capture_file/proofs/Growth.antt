@@ -7,7 +7,7 @@ use Rattle.byteorder.specs.Numbers.{big_from-append, little_from-append}
 use Rattle.pcef_lists.specs.Readings.{◌>>=◌, or_fault}
 use Rattle.pcef_capture_file.specs.Blocks.{Framed, begins_section, block_front, block_in, block_of, is_block_len, len_of, most_block, order_of, section_order, total_of}
 use Rattle.pcef_capture_file.specs.Captured.{Captured, packet_front}
-use Rattle.pcef_capture_file.specs.Classic.{line_len, most_packet, record_of, recorded_len}
+use Rattle.pcef_capture_file.specs.Classic.{most_packet, record_of, recorded_len, stated_in}
 use Rattle.pcef_capture_file.specs.Numbers.{number}
 use Rattle.pcef_capture_file.specs.declared.classic.FileHeader.{FileHeader}
 use Rattle.pcef_capture_file.specs.declared.endianness.Endianness.{Endianness}
@@ -15,6 +15,7 @@ use Rattle.pcef_capture_file.specs.declared.endianness.Endianness.TheVariants.{B
 use Rattle.pcef_capture_file.specs.declared.fault.CaptureFault.{CaptureFault}
 use Rattle.pcef_capture_file.specs.declared.fault.CaptureFault.TheVariants as fault
 use Rattle.pcef_capture_file.specs.declared.link.Link.{Link}
+use Rattle.pcef_capture_file.specs.declared.packet.Stated.{Stated}
 
 -- the same was read, and more stands behind it
 abbrev pub grown : {A : Type 0} → List ℕ → Result (A × List ℕ) CaptureFault → Result (A × List ℕ) CaptureFault
@@ -38,25 +39,25 @@ number_more Little o more place len le =
     ap (little_number len) (drop-append-le place o more (before_place o place len le)) ∙ little_from-append len (drop place o) more (behind_place o place len le)
 
 -- ---- records
-packet_more : (link : Link) (e : Endianness) (n line : ℕ) (o more : List ℕ) → n ≤ length o → packet_front link e n line (o ++ more) ≡ grown more (packet_front link e n line o)
+packet_more : (link : Link) (e : Endianness) (n : ℕ) (line : Stated) (o more : List ℕ) → n ≤ length o → packet_front link e n line (o ++ more) ≡ grown more (packet_front link e n line o)
 unfolding packet_front
 packet_more link e n line o more le =
     rw (le-ltb (length o) n le, le-ltb (length (o ++ more)) n (longer o more n le), take-append-le n o more le, drop-append-le n o more le) refl
 
-packet_whole : (link : Link) (e : Endianness) (n line : ℕ) (o : List ℕ) → n ≤ length o
-    → packet_front link e n line o ≡ Ok (record { link = link; endianness = e; original = line; octets = take n o }, drop n o)
+packet_whole : (link : Link) (e : Endianness) (n : ℕ) (line : Stated) (o : List ℕ) → n ≤ length o
+    → packet_front link e n line o ≡ Ok (record { link = link; endianness = e; original = line.original; time = line.time; octets = take n o }, drop n o)
 unfolding packet_front
 packet_whole link e n line o le = rw (le-ltb (length o) n le) refl
 
-packet_cut : (link : Link) (e : Endianness) (n line : ℕ) (o : List ℕ) → length o < n → packet_front link e n line o ≡ Err fault.CutPacket
+packet_cut : (link : Link) (e : Endianness) (n : ℕ) (line : Stated) (o : List ℕ) → length o < n → packet_front link e n line o ≡ Err fault.CutPacket
 unfolding packet_front
 packet_cut link e n line o lt = rw (lt-ltb (length o) n lt) refl
 
 -- a record whose header is at hand
-abbrev behind_header : FileHeader → ℕ → ℕ → List ℕ → Result (Captured × List ℕ) CaptureFault
+abbrev behind_header : FileHeader → ℕ → Stated → List ℕ → Result (Captured × List ℕ) CaptureFault
 behind_header h n line o = if nat_lt most_packet n then Err fault.TooLong else packet_front h.link h.endianness n line o
 
-record_whole : (h : FileHeader) (o : List ℕ) → 16 ≤ length o → record_of h o ≡ behind_header h (recorded_len h.endianness o) (line_len h.endianness o) (drop 16 o)
+record_whole : (h : FileHeader) (o : List ℕ) → 16 ≤ length o → record_of h o ≡ behind_header h (recorded_len h.endianness o) (stated_in h o) (drop 16 o)
 unfolding record_of
 record_whole h o le = rw (le-ltb (length o) 16 le) refl
 
@@ -68,19 +69,20 @@ recorded_more : (e : Endianness) (o more : List ℕ) → 16 ≤ length o → rec
 unfolding recorded_len
 recorded_more e o more le = number_more e o more 8 4 (omega (arith, le))
 
-line_more : (e : Endianness) (o more : List ℕ) → 16 ≤ length o → line_len e (o ++ more) ≡ line_len e o
-unfolding line_len
-line_more e o more le = number_more e o more 12 4 (omega (arith, le))
+stated_more : (h : FileHeader) (o more : List ℕ) → 16 ≤ length o → stated_in h (o ++ more) ≡ stated_in h o
+unfolding stated_in
+stated_more h o more le =
+    rw (number_more h.endianness o more 0 4 (omega (arith, le)), number_more h.endianness o more 4 4 (omega (arith, le)), number_more h.endianness o more 12 4 (omega (arith, le))) refl
 
-record_same : (h : FileHeader) (o more : List ℕ) → 16 ≤ length o → record_of h (o ++ more) ≡ behind_header h (recorded_len h.endianness o) (line_len h.endianness o) (drop 16 o ++ more)
+record_same : (h : FileHeader) (o more : List ℕ) → 16 ≤ length o → record_of h (o ++ more) ≡ behind_header h (recorded_len h.endianness o) (stated_in h o) (drop 16 o ++ more)
 record_same h o more le =
     record_whole h (o ++ more) (longer o more 16 le)
-    ∙ rw (recorded_more h.endianness o more le, line_more h.endianness o more le, drop-append-le 16 o more le) refl
+    ∙ rw (recorded_more h.endianness o more le, stated_more h o more le, drop-append-le 16 o more le) refl
 
-header_long : (h : FileHeader) (n line : ℕ) (o : List ℕ) → most_packet < n → behind_header h n line o ≡ Err fault.TooLong
+header_long : (h : FileHeader) (n : ℕ) (line : Stated) (o : List ℕ) → most_packet < n → behind_header h n line o ≡ Err fault.TooLong
 header_long h n line o lt = rw (lt-ltb most_packet n lt) refl
 
-header_fits : (h : FileHeader) (n line : ℕ) (o : List ℕ) → n ≤ most_packet → behind_header h n line o ≡ packet_front h.link h.endianness n line o
+header_fits : (h : FileHeader) (n : ℕ) (line : Stated) (o : List ℕ) → n ≤ most_packet → behind_header h n line o ≡ packet_front h.link h.endianness n line o
 header_fits h n line o le = rw (le-ltb most_packet n le) refl
 
 -- the octets end within the record, and are never many
@@ -108,7 +110,7 @@ none_wrong r found is f e =
 record_at_hand : (h : FileHeader) (o more : List ℕ) → 16 ≤ length o → CutsRecord h o ⊎ GrowsRecord h o more
 record_at_hand h o more le =
     let n = recorded_len h.endianness o in
-    let line = line_len h.endianness o in
+    let line = stated_in h o in
     let rest = drop 16 o in
     let now = record_whole h o le in
     let later = record_same h o more le in
@@ -145,7 +147,7 @@ rest_of r found p rest is e =
 pub record_behind : (h : FileHeader) (o rest : List ℕ) (p : Captured) → record_of h o ≡ Ok (p, rest) → (n : ℕ) × (0 < n) × (n ≤ length o) × (rest ≡ drop n o)
 record_behind h o rest p is =
     let n = recorded_len h.endianness o in
-    let line = line_len h.endianness o in
+    let line = stated_in h o in
     let behind = drop 16 o in
     elim (cases_lt (length o) 16) [
       | inl short ↦
@@ -163,7 +165,7 @@ record_behind h o rest p is =
                       let bad : Err fault.CutPacket ≡ Ok (p, rest) = sym (now ∙ header_fits h n line behind fits ∙ packet_cut h.link h.endianness n line behind cut) ∙ is in
                       absurd (cc bad)
                   | inr whole ↦
-                      let last : rest ≡ drop n behind = rest_of (record_of h o) (record { link = h.link; endianness = h.endianness; original = line; octets = take n behind }, drop n behind) p rest
+                      let last : rest ≡ drop n behind = rest_of (record_of h o) (record { link = h.link; endianness = h.endianness; original = line.original; time = line.time; octets = take n behind }, drop n behind) p rest
                       (now ∙ header_fits h n line behind fits ∙ packet_whole h.link h.endianness n line behind whole) is in
                       (16 + n, omega arith, omega (arith, whole, some, length-drop 16 o), last ∙ drop-drop n 16 o)
                 ]

@@ -4,6 +4,7 @@ use Rattle.pcef_lists.specs.Readings.{◌>>=◌, or_fault}
 use Rattle.pcef_capture_file.specs.Captured.{Captured, packet_front}
 use Rattle.pcef_capture_file.specs.Links.{link_of}
 use Rattle.pcef_capture_file.specs.Numbers.{number}
+use Rattle.pcef_capture_file.specs.Times.{classic_time}
 use Rattle.pcef_capture_file.specs.declared.classic.FileHeader.{FileHeader}
 use Rattle.pcef_capture_file.specs.declared.classic.TimeScale.{TimeScale}
 use Rattle.pcef_capture_file.specs.declared.classic.TimeScale.TheVariants.{Microseconds, Nanoseconds}
@@ -11,6 +12,7 @@ use Rattle.pcef_capture_file.specs.declared.endianness.Endianness.{Endianness}
 use Rattle.pcef_capture_file.specs.declared.endianness.Endianness.TheVariants.{Big, Little}
 use Rattle.pcef_capture_file.specs.declared.fault.CaptureFault.{CaptureFault}
 use Rattle.pcef_capture_file.specs.declared.fault.CaptureFault.TheVariants as fault
+use Rattle.pcef_capture_file.specs.declared.packet.Stated.{Stated}
 
 -- The first four octets are 0xA1B2C3D4 or 0xA1B23C4D, in the order of the file.
 unfoldable pub magic_of : List ℕ → Option (Endianness × TimeScale)
@@ -40,13 +42,17 @@ header_behind e scale octets =
 unfoldable pub file_header_of : List ℕ → Result FileHeader CaptureFault
 file_header_of octets = or_fault fault.NotACapture (magic_of octets) >>= (λ magic. header_behind magic.0 magic.1 octets)
 
--- octets 8 to 11 of a record's header are the length of the packet behind it, and octets 12 to 15 the length
--- that it had on the line
+-- octets 8 to 11 of a record's header are the length of the packet behind it
 unfoldable pub recorded_len : Endianness → List ℕ → ℕ
 recorded_len e octets = number e octets 8 4
 
-unfoldable pub line_len : Endianness → List ℕ → ℕ
-line_len e octets = number e octets 12 4
+-- octets 0 to 3 are the seconds of its time, octets 4 to 7 the fraction beside them, and octets 12 to 15 the length that
+-- the packet had on the line
+unfoldable pub stated_in : FileHeader → List ℕ → Stated
+stated_in header octets = record {
+  original = number header.endianness octets 12 4;
+  time = Some (classic_time header.scale (number header.endianness octets 0 4) (number header.endianness octets 4 4));
+}
 
 -- the most octets of a packet: as many as tcpdump ever records of one, and a longer one is no packet to it either
 abbrev pub most_packet : ℕ
@@ -57,4 +63,4 @@ unfoldable pub record_of : FileHeader → List ℕ → Result (Captured × List 
 record_of header octets =
     if nat_lt (length octets) 16 then Err fault.CutRecord
     else if nat_lt most_packet (recorded_len header.endianness octets) then Err fault.TooLong
-    else packet_front header.link header.endianness (recorded_len header.endianness octets) (line_len header.endianness octets) (drop 16 octets)
+    else packet_front header.link header.endianness (recorded_len header.endianness octets) (stated_in header octets) (drop 16 octets)

@@ -11,9 +11,11 @@ pub mod Frames
 pub mod Laws
 pub mod Links
 pub mod Numbers
+pub mod Options
 pub mod Padding
 pub mod Pauses
 pub mod PcapNg
 pub mod Places
 pub mod Sections
 pub mod Streams
+pub mod Times

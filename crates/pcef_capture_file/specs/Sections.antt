@@ -1,9 +1,10 @@
 -- Sections of a pcapng file and their interfaces (draft-ietf-opsawg-pcapng, clauses 4.1 and 4.2).
-use Rattle.std.specs.Prelude.{ℕ, ◌==◌, ◌&&◌, ◌||◌, nat_lt, Bool, List, [], ◌∷◌, ◌++◌, length, Result, Ok, Err, if◌then◌else◌}
+use Rattle.std.specs.Prelude.{ℕ, ◌==◌, ◌&&◌, ◌||◌, nat_lt, Bool, List, [], ◌∷◌, ◌++◌, drop, length, Result, Ok, Err, if◌then◌else◌}
 use Rattle.pcef_lists.specs.Readings.{◌>>=◌, or_fault}
 use Rattle.pcef_capture_file.specs.Blocks.{Framed}
 use Rattle.pcef_capture_file.specs.Links.{link_of}
 use Rattle.pcef_capture_file.specs.Numbers.{number}
+use Rattle.pcef_capture_file.specs.Times.{clock_of}
 use Rattle.pcef_capture_file.specs.declared.endianness.Endianness.{Endianness}
 use Rattle.pcef_capture_file.specs.declared.endianness.Endianness.TheVariants.{Big}
 use Rattle.pcef_capture_file.specs.declared.fault.CaptureFault.{CaptureFault}
@@ -37,12 +38,12 @@ section_in block =
     else Err fault.Version
 
 -- An interface description has 8 octets and options: the link type is octets 0 and 1, the most octets that
--- are recorded of a frame are octets 4 to 7.
+-- are recorded of a frame are octets 4 to 7. Of its options those on times are read.
 unfoldable pub interface_in : Framed → Result Interface CaptureFault
 interface_in block =
     if nat_lt (length block.body) 8 then Err fault.BlockLength
     else or_fault fault.LinkType (link_of (number block.endianness block.body 0 2))
-    >>= (λ link. Ok (record { link = link; snap_len = number block.endianness block.body 4 4 }))
+    >>= (λ link. Ok (record { link = link; snap_len = number block.endianness block.body 4 4; clock = clock_of block.endianness (drop 8 block.body) }))
 
 -- as many interfaces as an obsolete packet block can name; a limit on memory (own choice)
 abbrev pub most_interfaces : ℕ

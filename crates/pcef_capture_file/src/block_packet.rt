@@ -2,12 +2,12 @@
 
 ghost use Rattle.std.specs.Prelude.{◌≡◌, ◌+◌, ◌≤◌, IfErr, IfOk, Ok as DueOk, Err as DueErr, length, option_map};
 ghost use Rattle.pcef_capture_file.specs.Blocks.{framed};
-ghost use Rattle.pcef_capture_file.specs.BlockPackets.{behind_lengths, enhanced_in, interface_at, obsolete_in, packet_in, packet_of, simple_in, snapped};
+ghost use Rattle.pcef_capture_file.specs.BlockPackets.{behind_lengths, enhanced_in, interface_at, obsolete_in, packet_in, packet_of, simple_in, snapped, units_in};
 ghost use Rattle.pcef_capture_file.specs.Captured.{captured};
 
 use crate::blocks::Block;
 use crate::fault::CaptureFault;
-use crate::packet::{Packet, packet_at_front};
+use crate::packet::{Packet, Stated, packet_at_front};
 use crate::section::Interface;
 
 /// The types of blocks with packets.
@@ -34,21 +34,32 @@ fn packet_in<'a>(
     block: &Block<'a>,
     interface: Interface,
     recorded: u32,
-    line: u32,
+    stated: Stated,
     place: usize,
 ) -> Result<Packet<'a>, CaptureFault>
     requires { place ≤ length block.now.body.now }
     ensures packet { IfOk result (λ packet.
-        packet_in (framed block.now) interface recorded line place ≡ DueOk (captured packet)) }
+        packet_in (framed block.now) interface recorded stated place ≡ DueOk (captured packet)) }
     ensures fault { IfErr result (λ fault.
-        packet_in (framed block.now) interface recorded line place ≡ DueErr fault) }
+        packet_in (framed block.now) interface recorded stated place ≡ DueErr fault) }
 {
     let behind = block.body.split_at(place).1;
-    let (packet, _) = packet_at_front(interface.link, block.endianness, recorded, line, behind)?;
+    let (packet, _) = packet_at_front(interface.link, block.endianness, recorded, stated, behind)?;
     Ok(packet)
 }
 
-/// The packet behind the lengths in octets 12 to 19 of a block, of the interface of this number.
+/// The units of time in octets 4 to 11 of a block.
+#[tactic(auto, unfolding(crate::specs::BlockPackets::units_in))]
+fn units_in(block: &Block<'_>) -> u64
+    requires { 20 ≤ length block.now.body.now }
+    ensures { result ≡ units_in (framed block.now) }
+{
+    let high = block.endianness.number_in_4(block.body, 4);
+    let low = block.endianness.number_in_4(block.body, 8);
+    u64::from(high) * (1 << 32) + u64::from(low)
+}
+
+/// The packet behind the time and the lengths in octets 4 to 19 of a block, of the interface of this number.
 #[tactic(auto, unfolding(crate::specs::BlockPackets::behind_lengths))]
 fn behind_lengths<'a>(
     interfaces: &[Interface],
@@ -63,8 +74,11 @@ fn behind_lengths<'a>(
 {
     let interface = interface_at(interfaces, number)?;
     let recorded = block.endianness.number_in_4(block.body, 12);
-    let line = block.endianness.number_in_4(block.body, 16);
-    packet_in(block, interface, recorded, line, 20)
+    let stated = Stated {
+        original: block.endianness.number_in_4(block.body, 16),
+        time: interface.clock.time_of(units_in(block)),
+    };
+    packet_in(block, interface, recorded, stated, 20)
 }
 
 /// The packet of an enhanced packet block.
@@ -123,7 +137,11 @@ fn simple_in<'a>(interfaces: &[Interface], block: &Block<'a>) -> Result<Packet<'
     let interface = interface_at(interfaces, 0)?;
     let line = block.endianness.number_in_4(block.body, 0);
     let recorded = snap(interface.snap_len, line);
-    packet_in(block, interface, recorded, line, 4)
+    let stated = Stated {
+        original: line,
+        time: None,
+    };
+    packet_in(block, interface, recorded, stated, 4)
 }
 
 /// The packet of a block, if its type is one of those with packets; else `BlockLength`,

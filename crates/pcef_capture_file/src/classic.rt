@@ -4,12 +4,13 @@ ghost use Rattle.std.specs.Prelude.{◌≡◌, ◌<◌, ◌≤◌, ◌⊎◌, If
 ghost use Rattle.pcef_capture_file.specs.declared.fault.CaptureFault.TheVariants.{NoMemory};
 ghost use Rattle.pcef_capture_file.specs.Captured.{captured, Reads};
 ghost use Rattle.pcef_capture_file.specs.Captures.{ReadsClassic};
-ghost use Rattle.pcef_capture_file.specs.Classic.{file_header_of, header_behind, line_len, magic_of, record_of, recorded_len};
+ghost use Rattle.pcef_capture_file.specs.Classic.{file_header_of, header_behind, stated_in, magic_of, record_of, recorded_len};
 
 use crate::endianness::Endianness;
 use crate::fault::CaptureFault;
 use crate::link::Link;
-use crate::packet::{Capture, Packet, packet_at_front};
+use crate::packet::{Capture, Packet, Stated, packet_at_front};
+use crate::time::classic_time;
 use std::alloc::{AllocError, Global};
 
 /// The length of the header of a file, in octets.
@@ -110,16 +111,27 @@ pub fn read_file_header(octets: &[u8]) -> Result<FileHeader, CaptureFault>
     }
 }
 
-/// The lengths in the header of a record: of the packet as it was recorded, and on the line.
-#[tactic(auto, unfolding(crate::specs::Classic::recorded_len, crate::specs::Classic::line_len))]
-fn record_lengths(endianness: Endianness, octets: &[u8]) -> (u32, u32)
+/// How many octets of a packet were recorded, by the header of its record.
+#[tactic(auto, unfolding(crate::specs::Classic::recorded_len))]
+fn recorded_len(endianness: Endianness, octets: &[u8]) -> u32
     requires { 16 ≤ length octets.now }
-    ensures recorded { result.0 ≡ recorded_len endianness octets.now }
-    ensures line { result.1 ≡ line_len endianness octets.now }
+    ensures { result ≡ recorded_len endianness octets.now }
 {
-    let recorded = endianness.number_in_4(octets, 8);
-    let line = endianness.number_in_4(octets, 12);
-    (recorded, line)
+    endianness.number_in_4(octets, 8)
+}
+
+/// The time and the length on the line in the header of a record.
+#[tactic(auto, unfolding(crate::specs::Classic::stated_in))]
+fn stated_in(header: FileHeader, octets: &[u8]) -> Stated
+    requires { 16 ≤ length octets.now }
+    ensures { result ≡ stated_in header octets.now }
+{
+    let seconds = header.endianness.number_in_4(octets, 0);
+    let fraction = header.endianness.number_in_4(octets, 4);
+    Stated {
+        original: header.endianness.number_in_4(octets, 12),
+        time: Some(classic_time(header.scale, seconds, fraction)),
+    }
 }
 
 /// The packet of the record at the front of the octets, and the octets behind the record. An `Err` is `CutRecord` where
@@ -138,12 +150,13 @@ pub fn read_record<'a>(
     if octets.len() < RECORD_HEADER_LEN {
         return Err(CaptureFault::CutRecord);
     }
-    let (recorded, line) = record_lengths(header.endianness, octets);
+    let recorded = recorded_len(header.endianness, octets);
     if recorded > MAX_PACKET {
         return Err(CaptureFault::TooLong);
     }
     let behind = octets.split_at(RECORD_HEADER_LEN).1;
-    packet_at_front(header.link, header.endianness, recorded, line, behind)
+    let stated = stated_in(header, octets);
+    packet_at_front(header.link, header.endianness, recorded, stated, behind)
 }
 
 /// The packets of all records.

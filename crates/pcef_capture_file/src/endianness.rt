@@ -36,4 +36,15 @@ impl Endianness {
             Endianness::Little => LittleEndian::read_u32(&octets[place..]),
         }
     }
+
+    /// The number in eight octets from a place on.
+    pub(crate) fn number_in_8(self, octets: &[u8], place: usize) -> u64
+        requires { place + 8 ≤ length octets.now }
+        ensures { result ≡ number self octets.now place 8 }
+    {
+        match self {
+            Endianness::Big => BigEndian::read_u64(&octets[place..]),
+            Endianness::Little => LittleEndian::read_u64(&octets[place..]),
+        }
+    }
 }

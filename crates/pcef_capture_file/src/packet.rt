@@ -6,8 +6,9 @@ ghost use Rattle.pcef_capture_file.specs.Captured.{captured, packet_front};
 use crate::endianness::Endianness;
 use crate::fault::CaptureFault;
 use crate::link::Link;
+use crate::time::Time;
 
-/// A frame as it was recorded. Its time isn't read.
+/// A frame as it was recorded.
 #[derive(Clone, Copy, Debug, PartialEq, Eq)]
 pub struct Packet<'a> {
     /// The header that the frame begins with.
@@ -16,8 +17,20 @@ pub struct Packet<'a> {
     pub endianness: Endianness,
     /// How many octets the frame had on the line.
     pub original: u32,
+    /// When it was recorded. None in a simple packet block, which doesn't say so; where the time is before 1970 or beyond
+    /// 2 ^ 64 seconds after it; and where its unit is so small that a second has 2 ^ 64 of them or more.
+    pub time: Option<Time>,
     /// The octets that were recorded: fewer, where the recording was limited.
     pub octets: &'a [u8],
+}
+
+/// What stands before the octets of a frame, beside how many they are.
+#[derive(Clone, Copy)]
+pub(crate) struct Stated {
+    /// How many octets the frame had on the line.
+    pub original: u32,
+    /// When it was recorded.
+    pub time: Option<Time>,
 }
 
 /// The packets of a capture file, in order, up to its end or its first fault.
@@ -36,14 +49,14 @@ pub(crate) fn packet_at_front<'a>(
     link: Link,
     endianness: Endianness,
     recorded: u32,
-    line: u32,
+    stated: Stated,
     octets: &'a [u8],
 ) -> Result<(Packet<'a>, &'a [u8]), CaptureFault>
     ensures packet { IfOk result (λ found.
-        packet_front link endianness recorded line octets.now
+        packet_front link endianness recorded stated octets.now
         ≡ DueOk (captured found.0, found.1.now)) }
     ensures fault { IfErr result (λ fault.
-        packet_front link endianness recorded line octets.now ≡ DueErr fault) }
+        packet_front link endianness recorded stated octets.now ≡ DueErr fault) }
     ensures within { IfOk result (λ found. length found.1.now ≤ length octets.now) }
 {
     let len = recorded as usize;
@@ -54,7 +67,8 @@ pub(crate) fn packet_at_front<'a>(
     let packet = Packet {
         link,
         endianness,
-        original: line,
+        original: stated.original,
+        time: stated.time,
         octets: front,
     };
     Ok((packet, behind))

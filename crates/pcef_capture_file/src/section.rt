@@ -9,6 +9,8 @@ use crate::blocks::{Block, SECTION_HEADER};
 use crate::endianness::Endianness;
 use crate::fault::CaptureFault;
 use crate::link::Link;
+use crate::options::clock_of;
+use crate::time::Clock;
 
 /// The type of an interface description.
 const INTERFACE_DESCRIPTION: u32 = 1;
@@ -23,6 +25,8 @@ pub(crate) struct Interface {
     pub link: Link,
     /// How many octets of a frame are recorded at most; 0 is no limit.
     pub snap_len: u32,
+    /// How it counts time.
+    pub clock: Clock,
 }
 
 /// The state of a section.
@@ -58,6 +62,7 @@ fn interface_in(block: &Block<'_>) -> Result<Interface, CaptureFault>
         Some(link) => Ok(Interface {
             link,
             snap_len: block.endianness.number_in_4(block.body, 4),
+            clock: clock_of(block.endianness, block.body.split_at(8).1),
         }),
         None => Err(CaptureFault::LinkType),
     }
