@@ -40,21 +40,31 @@ FAULTS = [
     "a section describes more than 65536 interfaces",
 ]
 
+# What is said of frames that were recorded in part.
+CUT = "cut frames were recorded in part, as by a snap length: --pad fills their packets with zeros"
+
 # What is said below most faults.
 ANEW = "it is cut or damaged there: copy or capture it anew; the lines of the packets before that are written"
 
 
+def said(text):
+    """A line of the program, below the first one."""
+    return f"pcef_capture: {text}"
+
+
 def fault(number, hint=ANEW):
     """What is said of the fault of a capture."""
-    return lines(f"capture fault {number}", FAULTS[number - 1], hint)
+    return lines(f"capture fault {number}", said(f"Standard input: {FAULTS[number - 1]}"), said(hint))
 
 
-def counted(taken=0, not_ip=0, cut=0, neither=0):
+def counted(taken=0, not_ip=0, cut=0, neither=0, pads=False):
     """What is said of the frames that were read."""
     read = taken + not_ip + cut + neither
     counts = lines(f"read {read}, taken {taken}, not IP {not_ip}, cut {cut}, on neither side {neither}")
     if neither and not taken and not cut:
-        counts += lines("no packet has the session's address: is --ue right?")
+        counts += lines(said("no packet has the session's address: is --ue right?"))
+    if cut and not pads:
+        counts += lines(said(CUT))
     return counts
 
 
@@ -105,7 +115,7 @@ class CaptureTest(StreamTest):
     def reads(self, capture, wrote="", ended="", ue=UE, words=(), **counts):
         """Expects that a capture is read up to this fault or to its end, with these lines and counts."""
         came = self.run_on(PCEF_CAPTURE, ["--ue", ue, *words, "-"], capture)
-        self.assertEqual(came, read_to(ended, wrote, **counts))
+        self.assertEqual(came, read_to(ended, wrote, pads="--pad" in words, **counts))
 
     def refuses(self, capture, ended):
         """Expects this fault of a capture's first octets."""

@@ -1,8 +1,10 @@
 """The lines that `pcef_capture` writes: of packets, by workers in turn, by its words, and while packets come."""
+import os
+import pty
 import select
 import subprocess
 
-from captures import DOWN, DOWN_6, UE, UE_6, CaptureTest, counted, flushed, header, record, taken
+from captures import DOWN, DOWN_6, UE, UE_6, CaptureTest, counted, flushed, header, record, said, taken
 from programs import PCEF_CAPTURE, Ended, lines
 
 # A UDP packet of 28 octets from 10.0.0.1 port 53 to 10.0.0.2 port 5000.
@@ -13,15 +15,15 @@ RECORDED = header() + record(DOWN) + record(DOWN)
 LINES = taken(DOWN) + flushed()
 
 # What is said where standard input fails.
-UNREAD = lines("read fault", "Standard input: Input/output error (os error 5)")
+UNREAD = lines("read fault", said("Standard input: Input/output error (os error 5)"))
 
 # Texts that are no address.
 NO_ADDRESSES = ["2001:db8::2::", "2001:db8::2/64", "::10.0.0.2", "", "2001:db8::g"]
 
-# Words that ask for nothing, and what is missing.
+# Words without a capture, and how they might be right.
 MISSING = [
-    ([], ["--ue <ADDRESS>", "<FILE>"]),
-    (["--ue", "10.0.0.2"], ["<FILE>"]),
+    ([], "<FILE>"),
+    (["--ue", "10.0.0.2"], "--ue <ADDRESS> <FILE>"),
 ]
 
 
@@ -71,7 +73,8 @@ class Lines(CaptureTest):
 class Words(CaptureTest):
     def asks(self, words, wrote, given="", **counts):
         """Expects that the program takes the words, and these lines and counts."""
-        self.ends(PCEF_CAPTURE, words, given, wrote=wrote, said=counted(**counts))
+        pads = "--pad" in words and "--" not in words
+        self.ends(PCEF_CAPTURE, words, given, wrote=wrote, said=counted(pads=pads, **counts))
 
     def test_what_words_ask_for(self):
         # A packet more than 16 workers take in a turn, one that was cut, and packets of version 6.
@@ -95,17 +98,30 @@ class Words(CaptureTest):
                 self.ends(PCEF_CAPTURE, ["a.pcap", "--ue", text], status=2, said=said)
 
     def test_words_that_are_missing(self):
-        for words, missing in MISSING:
+        for words, right in MISSING:
             with self.subTest(words=words):
                 said = lines(
                     "error: the following required arguments were not provided:",
-                    *[f"  {word}" for word in missing],
+                    "  <FILE>",
                     "",
-                    "Usage: pcef_capture --ue <ADDRESS> <FILE>",
+                    f"Usage: pcef_capture {right}",
                     "",
                     "For more information, try '--help'.",
                 )
                 self.ends(PCEF_CAPTURE, words, status=2, said=said)
+
+
+    def test_words_without_a_session_or_with_two_ways_to_name_them(self):
+        said = lines("usage: --ue ADDRESS or --sessions MAP is expected")
+        self.ends(PCEF_CAPTURE, ["a.pcap"], status=2, said=said)
+        said = lines("usage: --ue and --sessions exclude each other")
+        self.ends(PCEF_CAPTURE, ["a.pcap", "--ue", UE, "--sessions", "map"], status=2, said=said)
+
+    def test_a_teid_of_more_than_32_bits(self):
+        for text in "4294967296", "-1", "0x1a", "":
+            with self.subTest(text=text):
+                came = self.run_on(PCEF_CAPTURE, ["--ue", UE, f"--teid={text}", "a.pcap"])
+                self.assertEqual((came.status, came.wrote), (2, b""))
 
 
 class Streams(CaptureTest):
@@ -116,6 +132,46 @@ class Streams(CaptureTest):
                 packets = (room >= 68) + (room >= 112)
                 self.assertEqual(came, Ended(4, (LINES * packets).encode(), UNREAD.encode()))
                 self.assertEqual(failed, "r")
+
+    def test_a_pipe_that_its_reader_closed_is_no_fault(self):
+        self.write("map", "a 10.0.0.2\n")
+        for words in ["--ue", UE], ["--sessions", "map"]:
+            reader, writer = os.pipe()
+            os.close(reader)
+            with self.subTest(words=words), open(writer, "wb") as closed:
+                ran = subprocess.run(
+                    [PCEF_CAPTURE, *words, "-"],
+                    input=RECORDED,
+                    stdout=closed,
+                    stderr=subprocess.PIPE,
+                    cwd=self.room,
+                    timeout=60,
+                )
+                self.assertEqual((ran.returncode, ran.stderr), (4, b""))
+
+    def test_progress_is_shown_on_a_terminal_and_nowhere_else(self):
+        self.write("a.pcap", capture_of(*[DOWN] * 2000))
+        for words, due in (["a.pcap"], [f"{part} %\r" for part in (9, 18, 27, 37, 46, 55, 65, 74, 83, 93, 100)]), (["-"], []):
+            with self.subTest(words=words):
+                master, terminal = pty.openpty()
+                with open(os.path.join(self.room, "a.pcap"), "rb") as given, open(terminal, "wb") as shown:
+                    subprocess.run(
+                        [PCEF_CAPTURE, "--ue", UE, *words],
+                        stdin=given,
+                        stdout=subprocess.DEVNULL,
+                        stderr=shown,
+                        cwd=self.room,
+                        timeout=60,
+                    )
+                came = os.read(master, 10000).decode()
+                os.close(master)
+                self.assertEqual(came, "".join(due) + counted(taken=2000).replace("\n", "\r\n"))
+
+    def test_a_full_disk_is_a_fault(self):
+        told = lines("write fault", said("Standard output: No space left on device (os error 28)"))
+        with open("/dev/full", "wb") as full:
+            ran = subprocess.run([PCEF_CAPTURE, "--ue", UE, "-"], input=RECORDED, stdout=full, stderr=subprocess.PIPE)
+        self.assertEqual((ran.returncode, ran.stderr), (4, told.encode()))
 
     def test_a_line_is_flushed_before_more_is_read(self):
         pipe = subprocess.PIPE

@@ -1,22 +1,43 @@
 //! The program `pcef_capture`, which writes the packets of a capture as lines of a script, while it reads it.
 //!
-//! `pcef_capture --ue ADDRESS [--workers N] [--batch N] [--pad] FILE` writes a `take` line for each packet from or to
-//! the session of the address, and a `flush` line after each batch and at the end. FILE `-` is standard input. The
-//! counts of frames are printed on standard error.
+//! `pcef_capture --ue ADDRESS [--workers N] [--batch N] [--pad] [--gtp] [--teid N] [--times FILE] FILE` writes a `take`
+//! line for each packet from or to the session of the address, and a `flush` line after each batch and at the end.
+//! With `--sessions MAP` in the place of `--ue` it does so for each session of a map, with the session's name before
+//! each line. FILE `-` is standard input. The counts of frames are printed on standard error.
 #![tactic(auto)]
 
+mod counts;
+mod following;
 mod hint;
+mod looking;
+mod map;
+mod progress;
+mod report;
+mod sessions;
+mod stopped;
+mod taking;
 
 ghost use Rattle.std.specs.Prelude.{◌≡◌, []};
 
-use hint::hint_of;
+use counts::Counts;
+use following::follow;
+use map::{MapFault, read_map};
 use pcef_capture_file::CaptureFault;
-use pcef_capture_script::{Counts, End, Options, Request, parse_options, write_capture};
+use pcef_capture_script::{
+    Counts as ScriptCounts, End, Options, Packets, Plan, Request, Turn, Users, parse_options,
+    write_capture,
+};
 use pcef_command_line::{gather, refuse, report_no_memory};
 use pcef_output::Fused;
-use std::fs::File;
+use pcef_packet::Addr;
+use progress::Watched;
+use report::{Asked, report_counts, report_end, report_map, report_read};
+use sessions::Sessions;
+use std::fs::{self, File};
 use std::io::{self, BufWriter, ErrorKind, Read, Write};
 use std::process::ExitCode;
+use stopped::Stopped;
+use taking::{Output, Taking};
 
 /// The end of the program at an error of the system: `NoMemory` or this other one.
 fn end_of(error: io::Error, other: End) -> End {
@@ -26,136 +47,241 @@ fn end_of(error: io::Error, other: End) -> End {
     }
 }
 
-/// Prints the counts on standard error. A failing write changes nothing.
-fn print_counts(rt: &HostRuntime, counts: &Counts) {
-    let _ = eprintln!(rt;
-        "read {}, taken {}, not IP {}, cut {}, on neither side {}",
-        counts.read, counts.taken, counts.not_ip, counts.cut, counts.neither
-    );
-}
-
-/// Warns where no packet has the session's address: it may be wrong.
-fn warn_of_strangers(rt: &HostRuntime, counts: &Counts) {
-    if counts.taken == 0 && counts.cut == 0 && counts.neither > 0 {
-        let _ = eprintln!(rt; "no packet has the session's address: is --ue right?");
-    }
-}
-
-/// Prints the counts up to the end or the fault.
-fn end_of_lines(rt: &HostRuntime, counts: &Counts, fault: Option<CaptureFault>) -> End {
-    print_counts(rt, counts);
-    warn_of_strangers(rt, counts);
+/// The end of the program up to the end of the capture, or its fault.
+fn end_at(fault: Option<CaptureFault>) -> Stopped {
     match fault {
-        Some(fault) => End::Capture(fault),
-        None => End::Done,
+        Some(fault) => Stopped::End(End::Capture(fault)),
+        None => Stopped::End(End::Done),
     }
 }
 
-/// Writes the lines of what is read to the writer, and flushes it.
-fn write_to<R: Read, W: Write>(
+/// The counts of frames without tunnels.
+fn plain_counts(counts: &ScriptCounts) -> Counts {
+    Counts {
+        read: counts.read,
+        taken: counts.taken,
+        not_ip: counts.not_ip,
+        cut: counts.cut,
+        neither: counts.neither,
+        ..Counts::default()
+    }
+}
+
+/// Writes the lines for one session to the writer, and flushes it.
+fn write_script<R: Read, W: Write>(
     rt: &HostRuntime,
-    options: &Options<'_>,
+    asked: &Asked<'_>,
+    plan: &Plan,
     waiting: &mut Vec<u8>,
     reader: &mut R,
     writer: &mut W,
-) -> End
+) -> Stopped
     requires { waiting.old.items ≡ [] }
 {
-    let ended = write_capture(rt.alloc(), options, waiting, reader, writer);
-    if let Err(error) = writer.flush() {
-        return end_of(error, End::Write(error));
+    let ended = write_capture(rt.alloc(), plan, waiting, reader, writer);
+    let flushed = writer.flush();
+    let (counts, fault) = match ended {
+        Ok(ended) => ended,
+        Err(end) => return Stopped::End(end),
+    };
+    if let Err(error) = flushed {
+        return Stopped::End(end_of(error, End::Write(error)));
     }
-    match ended {
-        Ok((counts, fault)) => end_of_lines(rt, &counts, fault),
-        Err(end) => end,
-    }
+    report_counts(rt, asked, &plain_counts(&counts));
+    end_at(fault)
 }
 
-/// Writes the lines of what is read, and leaves in `waiting` the octets that have none.
-fn write<R: Read>(
+/// Writes the lines for sessions, and the times that are wanted.
+fn write_sessions<R: Read, W: Write + Drop, T: Write + Drop>(
     rt: &HostRuntime,
-    options: &Options<'_>,
+    asked: &Asked<'_>,
+    taking: &mut Taking,
     waiting: &mut Vec<u8>,
     reader: &mut R,
-) -> End
+    output: &mut Output<W, T>,
+) -> Stopped
     requires { waiting.old.items ≡ [] }
 {
-    match BufWriter::new(rt.alloc(), Fused::new(io::writer(rt))) {
-        Ok(writer) => {
-            let mut writer = writer;
-            write_to(rt, options, waiting, reader, &mut writer)
+    match follow(rt.alloc(), taking, waiting, reader, output) {
+        Ok(fault) => {
+            report_counts(rt, asked, &taking.counts);
+            end_at(fault)
         }
-        Err(_) => End::NoMemory,
+        Err(stopped) => {
+            let _ = output.flush();
+            stopped
+        }
     }
 }
 
-/// Writes the lines of a file, or of standard input.
-fn run(rt: &HostRuntime, options: &Options<'_>, waiting: &mut Vec<u8>) -> End
+/// What is done with a capture.
+#[derive(Drop)]
+enum Work<'a> {
+    /// A script for one session.
+    Script(Plan),
+    /// Lines for sessions, and their times in the file of this path.
+    Sessions(Taking, Option<&'a str>),
+}
+
+/// The file for times, if they are wanted.
+fn times_of(rt: &HostRuntime, path: Option<&str>) -> io::Result<Option<BufWriter<Fused<File>>>> {
+    match path {
+        Some(path) => {
+            let file = File::create(rt, path)?;
+            Ok(Some(BufWriter::new(rt.alloc(), Fused::new(file))?))
+        }
+        None => Ok(None),
+    }
+}
+
+/// Does the work on what is read, and leaves in `waiting` the octets that have no lines.
+fn write<R: Read>(
+    rt: &HostRuntime,
+    asked: &Asked<'_>,
+    work: Work<'_>,
+    waiting: &mut Vec<u8>,
+    reader: &mut R,
+) -> Stopped
     requires { waiting.old.items ≡ [] }
 {
-    if options.file == "-" {
-        return write(rt, options, waiting, &mut rt.stdin());
-    }
-    match File::open(rt, options.file) {
-        Ok(file) => {
-            let mut file = file;
-            write(rt, options, waiting, &mut file)
-        }
-        Err(error) => end_of(error, End::Read(error)),
-    }
-}
-
-/// Reports why the program ends early, and what the octets at a fault are, and returns the exit status. A failing write
-/// changes nothing.
-fn report_end(rt: &HostRuntime, file: &str, end: &End, octets: &[u8]) -> u8 {
-    match end {
-        End::Done => {}
-        End::Capture(fault) => {
-            let number = fault.number();
-            let _ = eprintln!(rt; "capture fault {number}\n{fault}");
-            if let Ok(hint) = hint_of(rt.alloc(), *fault, octets) {
-                let _ = eprintln!(rt; "{hint}");
-            }
-        }
-        End::NoMemory => {
-            let _ = report_no_memory(rt);
-        }
-        End::Read(error) => {
-            let _ = eprintln!(rt; "read fault\n{file}: {error}");
-        }
-        End::Write(error) => {
-            let _ = eprintln!(rt; "write fault\nStandard output: {error}");
-        }
-    }
-    end.status()
-}
-
-/// Writes the lines that are asked for, and reports how that ended.
-fn follow(rt: &HostRuntime, options: &Options<'_>) -> u8 {
-    let mut waiting = Vec::new(rt.alloc());
-    let end = run(rt, options, &mut waiting);
-    let file = if options.file == "-" {
-        "Standard input"
-    } else {
-        options.file
+    let Ok(lines) = BufWriter::new(rt.alloc(), Fused::new(io::writer(rt))) else {
+        return Stopped::End(End::NoMemory);
     };
-    report_end(rt, file, &end, waiting.as_slice())
+    match work {
+        Work::Script(plan) => {
+            let mut lines = lines;
+            write_script(rt, asked, &plan, waiting, reader, &mut lines)
+        }
+        Work::Sessions(taking, path) => {
+            let times = match times_of(rt, path) {
+                Ok(times) => times,
+                Err(error) => return Stopped::Times(error),
+            };
+            let mut taking = taking;
+            let mut output = Output { lines, times };
+            write_sessions(rt, asked, &mut taking, waiting, reader, &mut output)
+        }
+    }
+}
+
+/// Does the work on a file, or on standard input.
+fn run(
+    rt: &HostRuntime,
+    asked: &Asked<'_>,
+    work: Work<'_>,
+    path: &str,
+    waiting: &mut Vec<u8>,
+) -> Stopped
+    requires { waiting.old.items ≡ [] }
+{
+    if path == "-" {
+        return write(rt, asked, work, waiting, &mut rt.stdin());
+    }
+    match File::open(rt, path) {
+        Ok(file) => {
+            let mut file = Watched::new(rt, file);
+            write(rt, asked, work, waiting, &mut file)
+        }
+        Err(error) => Stopped::End(end_of(error, End::Read(error))),
+    }
+}
+
+/// What is said of the options.
+fn asked_of<'a>(options: &Options<'a>) -> Asked<'a> {
+    Asked {
+        file: if options.file == "-" {
+            "Standard input"
+        } else {
+            options.file
+        },
+        times: options.times.unwrap_or("-"),
+        users: match options.users {
+            Users::One(_) => "--ue",
+            Users::Map(_) => "--sessions",
+        },
+        pads: options.pads,
+        is_gtp: !matches!(options.packets, Packets::OfFrames),
+    }
+}
+
+/// What is taken for sessions by the options.
+fn taking_of(options: &Options<'_>, sessions: Sessions) -> Taking {
+    Taking {
+        sessions,
+        packets: options.packets,
+        pads: options.pads,
+        counts: Counts::default(),
+    }
+}
+
+/// The work for one session, or the exit status where there is no memory.
+fn work_for_one<'a>(rt: &HostRuntime, options: &Options<'a>, ue: Addr) -> Result<Work<'a>, u8> {
+    if options.times.is_none() && matches!(options.packets, Packets::OfFrames) {
+        return Ok(Work::Script(Plan {
+            ue,
+            workers: options.workers,
+            batch: options.batch,
+            pads: options.pads,
+        }));
+    }
+    let turn = Turn::first(options.workers, options.batch);
+    match Sessions::one(rt.alloc(), ue, turn) {
+        Ok(sessions) => Ok(Work::Sessions(taking_of(options, sessions), options.times)),
+        Err(_) => Err(report_no_memory(rt)),
+    }
+}
+
+/// The work for the sessions of a map, or the exit status where the map is at fault.
+fn work_for_map<'a>(rt: &HostRuntime, options: &Options<'a>, path: &str) -> Result<Work<'a>, u8> {
+    let octets = match fs::read(rt, path) {
+        Ok(octets) => octets,
+        Err(error) => return Err(report_read(rt, path, &error)),
+    };
+    let turn = Turn::first(options.workers, options.batch);
+    match read_map(rt.alloc(), octets.as_slice(), turn) {
+        Ok(sessions) => Ok(Work::Sessions(taking_of(options, sessions), options.times)),
+        Err(faulty) if faulty.fault == MapFault::NoMemory => Err(report_no_memory(rt)),
+        Err(faulty) => Err(report_map(rt, path, faulty)),
+    }
+}
+
+/// Does what the options ask for, and returns the exit status.
+fn work_on(rt: &HostRuntime, options: &Options<'_>) -> u8 {
+    let work = match options.users {
+        Users::One(ue) => work_for_one(rt, options, ue),
+        Users::Map(path) => work_for_map(rt, options, path),
+    };
+    let work = match work {
+        Ok(work) => work,
+        Err(status) => return status,
+    };
+    let asked = asked_of(options);
+    let mut waiting = Vec::new(rt.alloc());
+    let stopped = run(rt, &asked, work, options.file, &mut waiting);
+    report_end(rt, &asked, &stopped, waiting.as_slice())
+}
+
+/// Reports what is wrong with the arguments, and returns the exit status.
+fn refuse_usage(rt: &HostRuntime, text: &str) -> u8 {
+    let _ = eprintln!(rt; "usage: {text}");
+    2
 }
 
 /// Does what the words ask for, and returns the exit status.
 fn answer(rt: &HostRuntime, words: &[String]) -> u8 {
     match parse_options(rt.alloc(), words) {
-        Ok(Some(Request::Options(options))) => follow(rt, &options),
+        Ok(Some(Request::Options(options))) => work_on(rt, &options),
         Ok(Some(Request::NoAddress(text))) => {
             let _ = eprintln!(rt;
                 "usage: --ue {text:?}: an address is expected, as 10.0.0.2 or 2001:db8::2"
             );
             2
         }
-        Ok(None) => {
-            let _ = eprintln!(rt; "usage: an option has no value");
-            2
+        Ok(Some(Request::NoUsers)) => {
+            refuse_usage(rt, "--ue ADDRESS or --sessions MAP is expected")
         }
+        Ok(Some(Request::TwoUsers)) => refuse_usage(rt, "--ue and --sessions exclude each other"),
+        Ok(None) => refuse_usage(rt, "an option has no value"),
         Err(error) => refuse(rt, &error),
     }
 }

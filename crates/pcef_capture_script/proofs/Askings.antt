@@ -1,6 +1,6 @@
 -- What clap finds in the words.
 use Rattle.std.proofs.Common.{◌≡◌, ◌∙◌, ℕ, List, refl, sym, ap}
-use Rattle.std.specs.Prelude.{Option, None, Some, is_some, Result, Ok}
+use Rattle.std.specs.Prelude.{Option, None, Some, false, is_some, option_map, true, Result, Ok}
 use Rattle.std.proofs.lemmas.Bool.{false≢true}
 use Rattle.clap.specs.Words.{ReadsOne}
 
@@ -15,3 +15,11 @@ text_of gives (Some t) result v none value is =
     let read = value t refl in
     let right = rw is at read in
     (t, refl, right)
+
+pub mapped_some : {T U : Type 0} (f : T → U) (o : Option T) → is_some o ≡ true → option_map f o ≡ None → ⊥
+mapped_some f None is e = absurd (cc is)
+mapped_some f (Some x) is e = absurd (cc e)
+
+pub mapped_none : {T U : Type 0} (f : T → U) (o : Option T) (u : U) → is_some o ≡ false → option_map f o ≡ Some u → ⊥
+mapped_none f None u is e = absurd (cc e)
+mapped_none f (Some x) u is e = absurd (cc is)

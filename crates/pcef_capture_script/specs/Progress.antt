@@ -13,7 +13,7 @@ use Rattle.pcef_capture_script.specs.Turns.{WroteSoFar}
 use Rattle.pcef_capture_script.specs.Writing.{WritesFront}
 use Rattle.pcef_capture_script.specs.declared.end.End.{End}
 use Rattle.pcef_capture_script.specs.declared.end.End.TheVariants as «end»
-use Rattle.pcef_capture_script.specs.declared.options.Options.{Options}
+use Rattle.pcef_capture_script.specs.declared.plan.Plan.{Plan}
 use Rattle.pcef_capture_script.specs.declared.writing.Written.{Written}
 
 -- these frames were read of the octets, and behind them the rest is read from this place on
@@ -69,6 +69,6 @@ FailsInFront («end».Read error) before left = (front : List ℕ) × Consumes b
 FailsInFront «end».NoMemory before left = (front : List ℕ) × Consumes before left front
 FailsInFront other before left = ⊥
 
--- who takes what, by the options
-abbrev pub rota_of : Options → Rota
-rota_of options = record { workers = options.workers; batch = options.batch }
+-- who takes what, by the plan
+abbrev pub rota_of : Plan → Rota
+rota_of plan = record { workers = plan.workers; batch = plan.batch }

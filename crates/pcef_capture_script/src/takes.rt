@@ -12,7 +12,7 @@ ghost use Rattle.pcef_capture_script.specs.Turns.{flush_if, lines_at, rest_flush
 ghost use Rattle.pcef_writing.specs.Writing.{AppendsFront};
 
 use crate::counts::Outcome;
-use crate::options::Options;
+use crate::plan::Plan;
 use crate::turn::Turn;
 use pcef_capture_file::{Content, Packet, content_of, direction_of, padded};
 use pcef_packet::{Addr, Dir};
@@ -30,9 +30,9 @@ fn word(dir: Dir) -> &'static str
     }
 }
 
-/// Writes the line of a flush.
+/// Writes the line of a flush of a worker. An `Err` is that of the writer.
 #[tactic(auto, unfolding(crate::specs::Lines::flush_line))]
-fn write_flush<W: Write>(writer: &mut W, worker: u8) -> io::Result<()>
+pub fn write_flush_line<W: Write>(writer: &mut W, worker: u8) -> io::Result<()>
     ensures { OnOk result (
         Appends (W.contents writer.old) (W.contents writer.new) (flush_line worker)) }
 {
@@ -45,14 +45,15 @@ fn write_full<W: Write>(writer: &mut W, full: Option<u8>) -> io::Result<()>
         Appends (W.contents writer.old) (W.contents writer.new) (flush_if full)) }
 {
     match full {
-        Some(worker) => write_flush(writer, worker),
+        Some(worker) => write_flush_line(writer, worker),
         None => Ok(()),
     }
 }
 
-/// Writes the line of a packet.
+/// Writes the line of a packet that a worker takes. Takes memory for the packet's text; an `Err` is that of the writer, or
+/// out of memory.
 #[tactic(auto, unfolding(crate::specs::Lines::take_line))]
-fn write_line<W: Write>(
+pub fn write_take_line<W: Write>(
     alloc: Global,
     writer: &mut W,
     worker: u8,
@@ -83,7 +84,7 @@ fn write_take<W: Write>(
     ensures turn { OnOk result (turn.new ≡ taken_after turn.old) }
     ensures outcome { IfOk result (λ outcome. outcome ≡ Taken) }
 {
-    write_line(alloc, writer, turn.worker, dir, octets)?;
+    write_take_line(alloc, writer, turn.worker, dir, octets)?;
     write_full(writer, turn.take())?;
     Ok(Outcome::Taken)
 }
@@ -113,18 +114,18 @@ fn write_packet<W: Write>(
     alloc: Global,
     writer: &mut W,
     turn: &mut Turn,
-    options: &Options<'_>,
+    plan: &Plan,
     packet: &Packet<'_>,
 ) -> io::Result<Outcome>
     ensures { IfOk result (λ outcome.
-        WroteFrame options.now.ue options.now.pads (captured packet.now) turn.old turn.new
+        WroteFrame plan.now.ue plan.now.pads (captured packet.now) turn.old turn.new
         (W.contents writer.old) (W.contents writer.new) outcome) }
 {
-    match content_of(options.ue, packet) {
+    match content_of(plan.ue, packet) {
         Content::Packet(dir, octets) => write_take(alloc, writer, turn, dir, octets),
         Content::Cut(octets) => {
-            if options.pads {
-                write_padded(alloc, writer, turn, options.ue, octets)
+            if plan.pads {
+                write_padded(alloc, writer, turn, plan.ue, octets)
             } else {
                 Ok(Outcome::Cut)
             }
@@ -142,7 +143,7 @@ fn write_rest<W: Write>(writer: &mut W, turn: &Turn) -> io::Result<()>
     if turn.waiting == 0 {
         Ok(())
     } else {
-        write_flush(writer, turn.worker)
+        write_flush_line(writer, turn.worker)
     }
 }
 
@@ -151,18 +152,18 @@ pub(crate) fn put_packet<W: Write>(
     alloc: Global,
     writer: &mut W,
     turn: &mut Turn,
-    options: &Options<'_>,
+    plan: &Plan,
     packet: &Packet<'_>,
 ) -> io::Result<Outcome>
     ensures lines { IfOk result (λ outcome.
-        WroteFrame options.now.ue options.now.pads (captured packet.now) turn.old turn.new
+        WroteFrame plan.now.ue plan.now.pads (captured packet.now) turn.old turn.new
         (W.contents writer.old) (W.contents writer.new) outcome) }
     ensures front { OnErr result (
-        WroteFrameFront options.now.ue options.now.pads (captured packet.now) turn.old
+        WroteFrameFront plan.now.ue plan.now.pads (captured packet.now) turn.old
         (W.contents writer.old) (W.contents writer.new)) }
 {
     let mut lines = Vec::new(alloc);
-    let outcome = write_packet(alloc, &mut lines, turn, options, packet)?;
+    let outcome = write_packet(alloc, &mut lines, turn, plan, packet)?;
     put_all(writer, lines.as_slice())?;
     Ok(outcome)
 }

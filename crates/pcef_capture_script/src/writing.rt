@@ -14,7 +14,7 @@ ghost use Rattle.pcef_capture_script.specs.Writing.{WritesFront};
 
 use crate::counts::Counts;
 use crate::end::End;
-use crate::options::Options;
+use crate::plan::Plan;
 use crate::takes::{put_packet, put_rest};
 use crate::turn::Turn;
 use pcef_capture_file::{CaptureFault, CaptureStream, Packet, Stop};
@@ -37,7 +37,7 @@ pub(crate) struct Written {
 }
 
 /// The end of the program where the writer fails, or memory runs out while lines are made.
-fn write_end(error: io::Error) -> End
+pub fn write_end(error: io::Error) -> End
     ensures { IsWriteEnd result }
 {
     match error.kind() {
@@ -49,27 +49,27 @@ fn write_end(error: io::Error) -> End
 /// Puts the lines for a frame, if there is one, and counts it.
 fn put_frame<W: Write>(
     alloc: Global,
-    options: &Options<'_>,
+    plan: &Plan,
     written: &mut Written,
     packet: Option<Packet<'_>>,
     writer: &mut W,
 ) -> io::Result<()>
     ensures lines { (frames : List Captured) (start : Option (List ℕ)) (rota : Rota)
-        → WroteSoFar options.now.ue options.now.pads rota frames start (W.contents writer.old)
+        → WroteSoFar plan.now.ue plan.now.pads rota frames start (W.contents writer.old)
         written.old.turn written.old.counts
-        → OnOk result (WroteSoFar options.now.ue options.now.pads rota
+        → OnOk result (WroteSoFar plan.now.ue plan.now.pads rota
         (frames ++ packets_among (option_map captured packet.entry ∷ [])) start
         (W.contents writer.new) written.new.turn written.new.counts) }
     ensures front { (frames rest : List Captured) (start : Option (List ℕ)) (rota : Rota)
-        → WroteSoFar options.now.ue options.now.pads rota frames start (W.contents writer.old)
+        → WroteSoFar plan.now.ue plan.now.pads rota frames start (W.contents writer.old)
         written.old.turn written.old.counts
-        → OnErr result (WritesFront options.now.ue options.now.pads rota
+        → OnErr result (WritesFront plan.now.ue plan.now.pads rota
         (frames ++ (packets_among (option_map captured packet.entry ∷ []) ++ rest)) start
         (W.contents writer.new)) }
 {
     match packet {
         Some(packet) => {
-            let outcome = put_packet(alloc, writer, &mut written.turn, options, &packet)?;
+            let outcome = put_packet(alloc, writer, &mut written.turn, plan, &packet)?;
             written.counts.count(outcome);
             Ok(())
         }
@@ -81,21 +81,21 @@ fn put_frame<W: Write>(
 /// and why nothing more is read of these.
 fn put_whole<'a, W: Write>(
     alloc: Global,
-    options: &Options<'_>,
+    plan: &Plan,
     stream: &mut CaptureStream,
     written: &mut Written,
     octets: &'a [u8],
     writer: &mut W,
 ) -> io::Result<(&'a [u8], Stop)>
     ensures lines { (start : Option (List ℕ)) (rota : Rota) (input : List ℕ)
-        → IsAfter options.now.ue options.now.pads rota start (W.contents writer.old) written.old
+        → IsAfter plan.now.ue plan.now.pads rota start (W.contents writer.old) written.old
         stream.old octets.entry.now input
-        → IfOk result (λ found. Paused options.now.ue options.now.pads rota start
+        → IfOk result (λ found. Paused plan.now.ue plan.now.pads rota start
         (W.contents writer.new) written.new stream.new found.1 found.0.now input) }
     ensures front { (start : Option (List ℕ)) (rota : Rota) (input : List ℕ)
-        → IsAfter options.now.ue options.now.pads rota start (W.contents writer.old) written.old
+        → IsAfter plan.now.ue plan.now.pads rota start (W.contents writer.old) written.old
         stream.old octets.entry.now input
-        → OnErr result (WroteFront options.now.ue options.now.pads rota start
+        → OnErr result (WroteFront plan.now.ue plan.now.pads rota start
         (W.contents writer.new) input) }
     ensures behind { IfOk result (λ found. StandsBehind octets.entry.now found.0.now) }
 {
@@ -103,7 +103,7 @@ fn put_whole<'a, W: Write>(
     loop {
         match stream.step(rest) {
             Ok((packet, others)) => {
-                put_frame(alloc, options, written, packet, writer)?;
+                put_frame(alloc, plan, written, packet, writer)?;
                 rest = others;
             }
             Err(stop) => return Ok((rest, stop)),
@@ -111,8 +111,8 @@ fn put_whole<'a, W: Write>(
     }
 }
 
-/// Drops `taken` octets at the front.
-fn forget(octets: &mut Vec<u8>, taken: usize) -> Result<(), AllocError>
+/// Drops `taken` octets at the front. Takes memory for the others.
+pub fn forget(octets: &mut Vec<u8>, taken: usize) -> Result<(), AllocError>
     requires { taken ≤ length octets.old.items }
     ensures { OnOk result (octets.new.items ≡ drop taken octets.old.items) }
 {
@@ -126,27 +126,27 @@ fn forget(octets: &mut Vec<u8>, taken: usize) -> Result<(), AllocError>
 /// returns why nothing more is read of these.
 fn put_waiting<W: Write>(
     alloc: Global,
-    options: &Options<'_>,
+    plan: &Plan,
     stream: &mut CaptureStream,
     written: &mut Written,
     waiting: &mut Vec<u8>,
     writer: &mut W,
 ) -> Result<Stop, End>
     ensures lines { (start : Option (List ℕ)) (rota : Rota) (input : List ℕ)
-        → IsAfter options.now.ue options.now.pads rota start (W.contents writer.old) written.old
+        → IsAfter plan.now.ue plan.now.pads rota start (W.contents writer.old) written.old
         stream.old waiting.old.items input
-        → IfOk result (λ stop. Paused options.now.ue options.now.pads rota start
+        → IfOk result (λ stop. Paused plan.now.ue plan.now.pads rota start
         (W.contents writer.new) written.new stream.new stop waiting.new.items input) }
     ensures front { (start : Option (List ℕ)) (rota : Rota) (input : List ℕ)
-        → IsAfter options.now.ue options.now.pads rota start (W.contents writer.old) written.old
+        → IsAfter plan.now.ue plan.now.pads rota start (W.contents writer.old) written.old
         stream.old waiting.old.items input
-        → OnErr result (WroteFront options.now.ue options.now.pads rota start
+        → OnErr result (WroteFront plan.now.ue plan.now.pads rota start
         (W.contents writer.new) input) }
     ensures end { IfErr result (λ end. IsWriteEnd end) }
 {
     let octets = waiting.as_slice();
     let len = octets.len();
-    let (kept, stop) = match put_whole(alloc, options, stream, written, octets, writer) {
+    let (kept, stop) = match put_whole(alloc, plan, stream, written, octets, writer) {
         Ok((rest, stop)) => (rest.len(), stop),
         Err(error) => return Err(write_end(error)),
     };
@@ -159,8 +159,8 @@ fn put_waiting<W: Write>(
     }
 }
 
-/// Reads some octets behind those that wait, and returns their number: 0 at the end of the input.
-fn read_more<R: Read>(reader: &mut R, waiting: &mut Vec<u8>) -> Result<usize, End>
+/// Reads some octets behind those that wait, and returns their number: 0 at the end of the input. Takes memory for them.
+pub fn read_more<R: Read>(reader: &mut R, waiting: &mut Vec<u8>) -> Result<usize, End>
     ensures more { ReadsMore result (R.remaining reader.old) (R.remaining reader.new)
         waiting.old.items waiting.new.items }
     ensures end { IfErr result (λ end.
@@ -179,8 +179,8 @@ fn read_more<R: Read>(reader: &mut R, waiting: &mut Vec<u8>) -> Result<usize, En
     }
 }
 
-/// Reads octets until enough wait to know the format and a header's fault, or the input ends.
-fn read_front<R: Read>(reader: &mut R, waiting: &mut Vec<u8>) -> Result<(), End>
+/// Reads octets until enough wait to know the format and a header's fault, or the input ends. Takes memory for them.
+pub fn read_front<R: Read>(reader: &mut R, waiting: &mut Vec<u8>) -> Result<(), End>
     requires { waiting.old.items ≡ [] }
     ensures front { OnOk result
         (ReadsFront (R.remaining reader.old) (R.remaining reader.new) waiting.new.items) }
@@ -216,7 +216,7 @@ fn finish<W: Write>(
 /// Writes the lines for a capture from these octets on, up to its end or its fault.
 fn write_rest<R: Read, W: Write>(
     alloc: Global,
-    options: &Options<'_>,
+    plan: &Plan,
     stream: &mut CaptureStream,
     waiting: &mut Vec<u8>,
     reader: &mut R,
@@ -225,15 +225,15 @@ fn write_rest<R: Read, W: Write>(
     ensures { (before : Option (List ℕ)) (input : List ℕ)
         → Consumes before (R.remaining reader.old) input
         → Reached input [] stream.old waiting.old.items
-        → WritesCapture options.now.ue options.now.pads (rota_of options.now) result before
+        → WritesCapture plan.now.ue plan.now.pads (rota_of plan.now) result before
         (R.remaining reader.new) (W.contents writer.old) (W.contents writer.new) }
 {
     let mut written = Written {
-        turn: Turn::first(options.workers, options.batch),
+        turn: Turn::first(plan.workers, plan.batch),
         counts: Counts::default(),
     };
     for _ in 0..u64::MAX {
-        match put_waiting(alloc, options, stream, &mut written, waiting, writer)? {
+        match put_waiting(alloc, plan, stream, &mut written, waiting, writer)? {
             Stop::Waits(fault) => {
                 if read_more(reader, waiting)? == 0 {
                     return finish(alloc, &written, fault, writer);
@@ -249,7 +249,7 @@ fn write_rest<R: Read, W: Write>(
 /// Drops the octets that were taken, and writes the lines for the capture from those behind them on.
 fn write_behind<R: Read, W: Write>(
     alloc: Global,
-    options: &Options<'_>,
+    plan: &Plan,
     stream: &mut CaptureStream,
     taken: usize,
     waiting: &mut Vec<u8>,
@@ -260,11 +260,11 @@ fn write_behind<R: Read, W: Write>(
     ensures { (before : Option (List ℕ)) (input : List ℕ)
         → Consumes before (R.remaining reader.old) input
         → Reached input [] stream.old (drop taken waiting.old.items)
-        → WritesCapture options.now.ue options.now.pads (rota_of options.now) result before
+        → WritesCapture plan.now.ue plan.now.pads (rota_of plan.now) result before
         (R.remaining reader.new) (W.contents writer.old) (W.contents writer.new) }
 {
     match forget(waiting, taken) {
-        Ok(()) => write_rest(alloc, options, stream, waiting, reader, writer),
+        Ok(()) => write_rest(alloc, plan, stream, waiting, reader, writer),
         Err(_) => Err(End::NoMemory),
     }
 }
@@ -283,13 +283,13 @@ fn write_behind<R: Read, W: Write>(
 /// interfaces of a pcapng section take memory, too.
 pub fn write_capture<R: Read, W: Write>(
     alloc: Global,
-    options: &Options<'_>,
+    plan: &Plan,
     waiting: &mut Vec<u8>,
     reader: &mut R,
     writer: &mut W,
 ) -> Result<(Counts, Option<CaptureFault>), End>
     requires { waiting.old.items ≡ [] }
-    ensures { WritesCapture options.now.ue options.now.pads (rota_of options.now) result
+    ensures { WritesCapture plan.now.ue plan.now.pads (rota_of plan.now) result
         (R.remaining reader.old) (R.remaining reader.new)
         (W.contents writer.old) (W.contents writer.new) }
 {
@@ -300,7 +300,7 @@ pub fn write_capture<R: Read, W: Write>(
         Ok((stream, rest)) => {
             let taken = len.saturating_sub(rest.len());
             let mut stream = stream;
-            write_behind(alloc, options, &mut stream, taken, waiting, reader, writer)
+            write_behind(alloc, plan, &mut stream, taken, waiting, reader, writer)
         }
         Err(fault) => Err(End::Capture(fault)),
     }

@@ -11,7 +11,7 @@ use Rattle.pcef_capture_script.proofs.takes.put_packet.Goals as goal
 pub returns-in_err-outcome-clause-front : goal.returns-in_err-outcome-clause-front
 returns-in_err-outcome-clause-front g c =
     let e = err_from_is_err_and c.from_residual.result c.from_residual.ensures.1 in
-    let fate = fate_there c.args.options.now.ue c.args.options.now.pads (captured c.args.packet.now) in
+    let fate = fate_there c.args.plan.now.ue c.args.plan.now.pads (captured c.args.packet.now) in
     rw e.1 (fate.0, fate.1, front_none (g.W.Write.contents c.args.writer.now) (lines_if c.args.turn.now fate.0.1))
 
 -- a front of the lines was put

@@ -13,23 +13,23 @@ known_of (Err e) x a b is all = tt
 
 pub returns-in-Packet : goal.returns-in-Packet
 returns-in-Packet g c =
-    let options = c.args.options.now in
-    let fate = fate_of options.ue options.pads in
+    let plan = c.args.plan.now in
+    let fate = fate_of plan.ue plan.pads in
     known_of c.write_take.result Taken c.write_take.ensures.lines c.write_take.ensures.turn c.write_take.ensures.outcome
     (λ o is lines turn. ((Taken, Some (c.in-Packet.dir, c.in-Packet.octets.now)), (c.content_of.result, c.content_of.ensures, sym (ap fate c.in-Packet.is)), (is, turn, lines)))
 
-pub returns-else-options : goal.returns-else-options
-returns-else-options g c =
-    let options = c.args.options.now in
-    let due = ap (λ pads. fate_of options.ue pads c.content_of.result) c.if-options.false ∙ ap (fate_of options.ue false) c.in-Cut.is in
+pub returns-else-plan : goal.returns-else-plan
+returns-else-plan g c =
+    let plan = c.args.plan.now in
+    let due = ap (λ pads. fate_of plan.ue pads c.content_of.result) c.if-plan.false ∙ ap (fate_of plan.ue false) c.in-Cut.is in
     ((Cut, None), (c.content_of.result, c.content_of.ensures, sym due), (refl, refl, Appends-nil _))
 
 pub returns-in-Neither : goal.returns-in-Neither
 returns-in-Neither g c =
-    let options = c.args.options.now in
-    ((Neither, None), (c.content_of.result, c.content_of.ensures, sym (ap (fate_of options.ue options.pads) c.in-Neither.is)), (refl, refl, Appends-nil _))
+    let plan = c.args.plan.now in
+    ((Neither, None), (c.content_of.result, c.content_of.ensures, sym (ap (fate_of plan.ue plan.pads) c.in-Neither.is)), (refl, refl, Appends-nil _))
 
 pub returns-in-NotIp : goal.returns-in-NotIp
 returns-in-NotIp g c =
-    let options = c.args.options.now in
-    ((NotIp, None), (c.content_of.result, c.content_of.ensures, sym (ap (fate_of options.ue options.pads) c.in-NotIp.is)), (refl, refl, Appends-nil _))
+    let plan = c.args.plan.now in
+    ((NotIp, None), (c.content_of.result, c.content_of.ensures, sym (ap (fate_of plan.ue plan.pads) c.in-NotIp.is)), (refl, refl, Appends-nil _))

@@ -1,5 +1,5 @@
 use Rattle.pcef_capture_script.specs.Lines.{take_line}
-use Rattle.pcef_capture_script.proofs.takes.write_line.Goals as goal
+use Rattle.pcef_capture_script.proofs.takes.write_take_line.Goals as goal
 
 pub returns : goal.returns
 unfolding take_line

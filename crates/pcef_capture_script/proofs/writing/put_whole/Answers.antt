@@ -9,9 +9,9 @@ use Rattle.pcef_capture_script.proofs.writing.put_whole.Goals as goal
 pub returns-in_err-put_frame-in-Ok-clause-front : goal.returns-in_err-put_frame-in-Ok-clause-front
 returns-in_err-put_frame-in-Ok-clause-front g c = λ start rota input after.
     let q = err_from_is_err_and c.from_residual.result c.from_residual.ensures.1 in
-    let options = c.args.options.now in
+    let plan = c.args.plan.now in
     let h = c.loop-packet.invariant.after start rota input after in
-    rw q.1 (front_further options.ue options.pads rota start (g.W.Write.contents c.put_frame.new.writer) input h.0 c.loop-packet.stream c.step.new.self c.loop-packet.rest.now c.in-Ok.others.now (option_map captured c.in-Ok.packet)
+    rw q.1 (front_further plan.ue plan.pads rota start (g.W.Write.contents c.put_frame.new.writer) input h.0 c.loop-packet.stream c.step.new.self c.loop-packet.rest.now c.in-Ok.others.now (option_map captured c.in-Ok.packet)
     h.1 c.in-Ok.ensures.goes_on (λ behind. c.in_err-put_frame-in-Ok.ensures.front h.0 behind start rota h.2))
 
 pub loop-packet-preserved : goal.loop-packet-preserved
@@ -31,6 +31,6 @@ loop-packet-preserved g c = record {
 
 pub returns-in-Err-clause-lines : goal.returns-in-Err-clause-lines
 returns-in-Err-clause-lines g c = λ start rota input after.
-    let options = c.args.options.now in
-    pauses options.ue options.pads rota start (g.W.Write.contents c.loop-packet.writer) c.loop-packet.written c.loop-packet.stream c.step.new.self c.in-Err.stop c.loop-packet.rest.now input
+    let plan = c.args.plan.now in
+    pauses plan.ue plan.pads rota start (g.W.Write.contents c.loop-packet.writer) c.loop-packet.written c.loop-packet.stream c.step.new.self c.in-Err.stop c.loop-packet.rest.now input
     (c.loop-packet.invariant.after start rota input after) c.in-Err.ensures.stops

@@ -8,8 +8,8 @@ use Rattle.pcef_capture_script.proofs.writing.put_whole.Given as goal
 abbrev pub invariant-loop-packet : goal.invariant-loop-packet
 invariant-loop-packet g l = record {
   after : (start : Option (List ℕ)) (rota : Rota) (input : List ℕ)
-      → IsAfter l.options.ue l.options.pads rota start (g.W.Write.contents l.fn.writer) l.fn.written l.fn.stream l.fn.octets input
-      → IsAfter l.options.ue l.options.pads rota start (g.W.Write.contents l.writer) l.written l.stream l.rest input;
+      → IsAfter l.plan.ue l.plan.pads rota start (g.W.Write.contents l.fn.writer) l.fn.written l.fn.stream l.fn.octets input
+      → IsAfter l.plan.ue l.plan.pads rota start (g.W.Write.contents l.writer) l.written l.stream l.rest input;
   behind : StandsBehind l.fn.octets l.rest;
 }
 

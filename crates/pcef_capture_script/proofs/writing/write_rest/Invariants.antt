@@ -10,4 +10,4 @@ invariant-loop g l =
     → Consumes before (g.R.Read.remaining l.fn.reader) first
     → Reached first [] l.fn.stream l.fn.waiting.items
     → (input : List ℕ) × Consumes before (g.R.Read.remaining l.reader) input
-    × IsAfter l.options.ue l.options.pads (rota_of l.options) (g.W.Write.contents l.fn.writer) (g.W.Write.contents l.writer) l.written l.stream l.waiting.items input
+    × IsAfter l.plan.ue l.plan.pads (rota_of l.plan) (g.W.Write.contents l.fn.writer) (g.W.Write.contents l.writer) l.written l.stream l.waiting.items input

@@ -1,0 +1,129 @@
+//! What the program says on standard error. A failing write changes nothing.
+
+use crate::counts::{Counts, TunnelCounts};
+use crate::hint::hint_of;
+use crate::map::FaultyLine;
+use crate::stopped::Stopped;
+use pcef_capture_file::CaptureFault;
+use pcef_capture_script::End;
+use pcef_command_line::report_no_memory;
+use std::io::{self, ErrorKind};
+
+/// What was asked for, as far as it is named in what is said.
+#[derive(Clone, Copy)]
+pub(crate) struct Asked<'a> {
+    /// The name of the capture.
+    pub file: &'a str,
+    /// The path of the file for times.
+    pub times: &'a str,
+    /// The option that names the sessions.
+    pub users: &'a str,
+    /// Whether packets that were recorded in part are padded.
+    pub pads: bool,
+    /// Whether the packets are those of tunnels.
+    pub is_gtp: bool,
+}
+
+/// Prints what became of the frames that have no packet of a tunnel.
+fn print_tunnels(rt: &HostRuntime, counts: &TunnelCounts) {
+    let _ = eprintln!(rt;
+        "not GTP-U {}, fragments {}, other messages {}, other tunnels {}, short headers {}, other versions {}, wrong lengths {}, wrong extension headers {}",
+        counts.not_gtp,
+        counts.fragments,
+        counts.not_gpdu,
+        counts.other_tunnel,
+        counts.short_header,
+        counts.version,
+        counts.length,
+        counts.extension
+    );
+}
+
+/// Warns where no packet has an address of a session, or packets were cut.
+fn warn(rt: &HostRuntime, asked: &Asked<'_>, counts: &Counts) {
+    if counts.taken == 0 && counts.cut == 0 && counts.neither > 0 {
+        let _ = eprintln!(rt;
+            "pcef_capture: no packet has the session's address: is {} right?",
+            asked.users
+        );
+    }
+    if counts.cut > 0 && !asked.pads {
+        let _ = eprintln!(rt;
+            "pcef_capture: cut frames were recorded in part, as by a snap length: --pad fills their packets with zeros"
+        );
+    }
+}
+
+/// Prints the counts of frames.
+pub(crate) fn report_counts(rt: &HostRuntime, asked: &Asked<'_>, counts: &Counts) {
+    let _ = eprintln!(rt;
+        "read {}, taken {}, not IP {}, cut {}, on neither side {}",
+        counts.read, counts.taken, counts.not_ip, counts.cut, counts.neither
+    );
+    if asked.is_gtp {
+        print_tunnels(rt, &counts.tunnels);
+    }
+    warn(rt, asked, counts);
+}
+
+/// Reports a line of a map that is at fault, and returns the exit status.
+pub(crate) fn report_map(rt: &HostRuntime, path: &str, faulty: FaultyLine) -> u8 {
+    let FaultyLine { number, fault } = faulty;
+    let name = fault.name();
+    let message = fault.message();
+    let _ = eprintln!(rt; "map fault {name}\npcef_capture: {path}:{number}: {message}");
+    1
+}
+
+/// Reports that a file can't be read, and returns the exit status.
+pub(crate) fn report_read(rt: &HostRuntime, path: &str, error: &io::Error) -> u8 {
+    if error.kind() == ErrorKind::OutOfMemory {
+        return report_no_memory(rt);
+    }
+    let _ = eprintln!(rt; "read fault\npcef_capture: {path}: {error}");
+    4
+}
+
+/// Reports the fault of a capture, and what its octets are.
+fn report_capture(rt: &HostRuntime, file: &str, fault: CaptureFault, octets: &[u8]) {
+    let number = fault.number();
+    let _ = eprintln!(rt; "capture fault {number}\npcef_capture: {file}: {fault}");
+    if let Ok(hint) = hint_of(rt.alloc(), fault, octets) {
+        let _ = eprintln!(rt; "pcef_capture: {hint}");
+    }
+}
+
+/// Reports that a file can't be written. A pipe that its reader closed is no fault.
+fn report_write(rt: &HostRuntime, name: &str, error: &io::Error) {
+    if error.kind() != ErrorKind::BrokenPipe {
+        let _ = eprintln!(rt; "write fault\npcef_capture: {name}: {error}");
+    }
+}
+
+/// Reports why the program ends early, and what the octets at a fault are, and returns the exit status.
+pub(crate) fn report_end(
+    rt: &HostRuntime,
+    asked: &Asked<'_>,
+    stopped: &Stopped,
+    octets: &[u8],
+) -> u8 {
+    match stopped {
+        Stopped::End(End::Done) => {}
+        Stopped::End(End::Capture(fault)) => report_capture(rt, asked.file, *fault, octets),
+        Stopped::End(End::NoMemory) => {
+            let _ = report_no_memory(rt);
+        }
+        Stopped::End(End::Read(error)) => {
+            let _ = report_read(rt, asked.file, error);
+        }
+        Stopped::End(End::Write(error)) => report_write(rt, "Standard output", error),
+        Stopped::Times(error) => report_write(rt, asked.times, error),
+        Stopped::NoTime(frame) => {
+            let _ = eprintln!(rt;
+                "time fault\npcef_capture: {}: frame {frame} has no time: leave --times out",
+                asked.file
+            );
+        }
+    }
+    stopped.status()
+}
