@@ -84,6 +84,11 @@ padding_len : (a : Shown) → length (zero_padding a) ≡ padded (avp_len a) - a
 unfolding zero_padding
 padding_len a = length-replicate (padded (avp_len a) - avp_len a) 0
 
+-- how many octets an AVP takes
+pub avp_octets_len : (a : Shown) → length (avp_octets a) ≡ padded (avp_len a)
+avp_octets_len a =
+    omega (arith, length-append (head a) (a.octets ++ zero_padding a), length-append a.octets (zero_padding a), head_len a.code (flags_word a) a.vendor, padding_len a)
+
 vendor_again : (code word : ℕ) (v : Option ℕ) (rest : List ℕ) → IfSome v (λ n. n < 2 ^ 32) → vendor_flag v ≡ has_vendor (flags_at (words (code ∷ word ∷ vendor_word v) rest)) → vendor_at (words (code ∷ word ∷ vendor_word v) rest) ≡ v
 vendor_again code word None rest fits flag = rw (← flag) refl
 vendor_again code word (Some n) rest fits flag = rw (← flag) (ap Some (at_8 code word n [] rest fits))

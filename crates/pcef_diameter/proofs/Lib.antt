@@ -1,3 +1,3 @@
-mod Again
-mod Readings
-mod Spelled
+pub mod Again
+pub mod Readings
+pub mod Spelled

@@ -15,7 +15,7 @@ none_or_some [] e some = omega (arith, some)
 none_or_some (octet ∷ octets) e some = absurd (cc e)
 
 -- no octets begin with no AVP
-empty_fault : (octets : List ℕ) → octets ≡ [] → avp_fault octets ≡ Some fault.Cut
+pub empty_fault : (octets : List ℕ) → octets ≡ [] → avp_fault octets ≡ Some fault.Cut
 unfolding avp_fault
 empty_fault octets e = rw e refl
 

@@ -96,6 +96,10 @@ not_false : (b : Bool) → not b ≡ false → b ≡ true
 not_false true e = refl
 not_false false e = absurd (cc e)
 
+least_header : (v : Bool) → 8 ≤ header_len v
+least_header true = omega arith
+least_header false = omega arith
+
 record Whole (octets : List ℕ) : Type 0 where
   reserved : reserved_of (flags_at octets) ≡ 0
   header : header_at octets ≤ length octets
@@ -112,6 +116,14 @@ whole octets e =
     let d = guard (ltb (len_at octets) (header_at octets)) _ _ c.1 in
     let f = guard (ltb (length octets) (padded (len_at octets))) _ _ d.1 in
     record { reserved = eqb-true _ _ (not_false _ b.0); header = ltb-false _ _ c.0; len = ltb-false _ _ d.0; enough = ltb-false _ _ f.0; long = ltb-false _ _ a.0 }
+
+-- fewer octets stand behind an AVP than with it
+pub behind_shorter : (octets : List ℕ) → avp_fault octets ≡ None → length (behind_avp octets) < length octets
+unfolding behind_avp
+behind_shorter octets e =
+    let w = whole octets e in
+    let least : 8 ≤ header_at octets = least_header (has_vendor (flags_at octets)) in
+    omega (arith, least, w.len, w.enough, w.long, length-drop (padded (len_at octets)) octets)
 
 vendor_flag_is : (v : Bool) (n : ℕ) → vendor_flag (cond v (Some n) None) ≡ v
 vendor_flag_is true n = refl

@@ -19,5 +19,5 @@ pub use avps::{Avps, read_avps};
 pub use fault::{AvpFault, MessageFault};
 pub use header::{HEADER_LEN, MessageHeader, read_message_header};
 pub use laws::{nothing_else_is_read, one_reading, what_is_written_is_read};
-pub use number::{read_unsigned32, read_unsigned64};
+pub use number::{read_unsigned32, read_unsigned64, word_at};
 pub use writing::{put_avp, put_header};

@@ -3,8 +3,8 @@
 ghost use Rattle.std.specs.Prelude.{◌≡◌, ◌+◌, ◌≤◌, length};
 ghost use Rattle.pcef_diameter.specs.Numbers.{unsigned32_of, unsigned64_of, word_at};
 
-/// The number in the four octets at a place.
-pub(crate) fn word_at(octets: &[u8], place: usize) -> u32
+/// The number in the four octets at a place. The caller sees that they are there. Takes no memory.
+pub fn word_at(octets: &[u8], place: usize) -> u32
     requires { place + 4 ≤ length octets.now }
     ensures { result ≡ word_at octets.now place }
 {
