@@ -1,0 +1,4 @@
+pub mod Groups
+pub mod Lengths
+pub mod Names
+pub mod Texts

@@ -1,0 +1,14 @@
+pub mod Codes
+pub mod Completing
+pub mod Definitions
+pub mod Failures
+pub mod Flows
+pub mod Installs
+pub mod Known
+pub mod Messages
+pub mod Monitors
+pub mod Names
+pub mod Qualities
+pub mod Readings
+pub mod Triggers
+pub mod Writing
