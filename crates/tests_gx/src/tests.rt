@@ -5,6 +5,7 @@ mod completing;
 mod messages;
 mod names;
 mod refused_messages;
+mod sending;
 mod writing;
 
 use std::fmt::Debug;

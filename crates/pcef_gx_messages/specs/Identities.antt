@@ -1,0 +1,19 @@
+-- Who speaks, and of which session.
+use Rattle.std.specs.Prelude.{ℕ, ◌≤◌, List, length}
+
+-- Session-Id, Origin-Host, Origin-Realm (RFC 6733, clauses 8.8, 6.3 and 6.4), and the realm of the PCRF, Destination-Realm
+-- (clause 6.6)
+pub record Speaker : Type 0 where
+  pub session_id : List ℕ
+  pub origin_host : List ℕ
+  pub origin_realm : List ℕ
+  pub destination_realm : List ℕ
+
+-- own choice
+abbrev pub most_octets : ℕ
+most_octets = 1024
+
+abbrev pub IsShort : Speaker → Type 0
+IsShort s =
+    (length s.session_id ≤ most_octets) × (length s.origin_host ≤ most_octets) × (length s.origin_realm ≤ most_octets)
+    × (length s.destination_realm ≤ most_octets)

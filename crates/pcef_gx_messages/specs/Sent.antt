@@ -1,0 +1,114 @@
+-- The messages of Gx that a PCEF sends (TS 29.212, clauses 5.6.2 and 5.6.5).
+use Rattle.std.specs.Prelude.{ℕ, ◌≤◌, ◌+◌, ◌++◌, Bool, true, false, List, [], ◌∷◌, length}
+use Rattle.pcef_diameter.specs.Avps.{Shown, shown}
+use Rattle.pcef_diameter.specs.Headers.{header_octets}
+use Rattle.pcef_diameter.specs.Spellings.{avp_len, avps_octets}
+use Rattle.pcef_diameter.specs.declared.header.MessageHeader.{MessageHeader}
+use Rattle.pcef_gx.specs.Codes.{auth_application_id, cc_request_number, cc_request_type, destination_realm, experimental_result, experimental_result_code, failed_avp, origin_host, origin_realm, result_code, session_id, vendor_id}
+use Rattle.pcef_gx.specs.Failures as failures
+use Rattle.pcef_gx.specs.Writing.{avp_of, group_avp, number_avp}
+use Rattle.pcef_gx.specs.declared.fault.Problem.{Problem}
+use Rattle.pcef_gx.specs.declared.fault.Problem.TheVariants as problem
+use Rattle.pcef_gx_messages.specs.Identities.{Speaker}
+use Rattle.pcef_gx_messages.specs.declared.answering.Outcome.{Outcome}
+use Rattle.pcef_gx_messages.specs.declared.answering.Outcome.TheVariants as outcome
+use Rattle.pcef_gx_messages.specs.declared.requesting.RequestKind.{RequestKind}
+use Rattle.pcef_gx_messages.specs.declared.requesting.RequestKind.TheVariants as kind
+use Rattle.pcef_gx_messages.specs.declared.requesting.RequestMark.{RequestMark}
+
+-- An AVP that is shown as the one at fault is one of a message that was read, which has at most 65,536 octets.
+abbrev pub IsShortFault : Outcome → Type 0
+IsShortFault (outcome.Fault f) = avp_len (shown f.failed) ≤ 65548
+IsShortFault _ = Unit {0}
+
+-- a header, AVPs, and the octets of others behind them; the length is that of all
+abbrev pub message_octets : (ℕ → MessageHeader) → List Shown → List ℕ → List ℕ
+message_octets header avps others =
+    header_octets (header (20 + length (avps_octets avps ++ others))) ++ (avps_octets avps ++ others)
+
+-- ---- answers
+abbrev pub is_bits : Problem → Bool
+is_bits problem.InvalidAvpBits = true
+is_bits _ = false
+
+-- A protocol error is answered with the E bit (RFC 6733, clause 7.1.3).
+abbrev pub is_protocol_error : Outcome → Bool
+is_protocol_error outcome.CommandUnsupported = true
+is_protocol_error outcome.ApplicationUnsupported = true
+is_protocol_error (outcome.Fault f) = is_bits f.problem
+is_protocol_error _ = false
+
+-- An answer has the command, the application and both identifiers of its request (RFC 6733, clause 3), and its P bit.
+abbrev pub answer_header : MessageHeader → Outcome → ℕ → MessageHeader
+answer_header request told len = record {
+  version = 1;
+  len = len;
+  request = false;
+  proxiable = request.proxiable;
+  error = is_protocol_error told;
+  retransmitted = false;
+  command = request.command;
+  application = request.application;
+  hop_by_hop = request.hop_by_hop;
+  end_to_end = request.end_to_end;
+}
+
+-- Result-Code (RFC 6733, clause 7.1); with rules that couldn't be had an Experimental-Result of 3GPP, DIAMETER_PCC_RULE_EVENT
+-- (TS 29.212, clause 5.5.3)
+abbrev pub result_avp : Outcome → Shown
+result_avp outcome.Success = number_avp result_code 2001
+result_avp outcome.CommandUnsupported = number_avp result_code 3001
+result_avp outcome.ApplicationUnsupported = number_avp result_code 3007
+result_avp outcome.UnknownSession = number_avp result_code 5002
+result_avp (outcome.Fault f) = number_avp result_code (failures.result_code f.problem)
+result_avp outcome.RulesFailed =
+    group_avp experimental_result (number_avp vendor_id 10415 ∷ number_avp experimental_result_code 5142 ∷ [])
+
+-- Failed-AVP (RFC 6733, clause 7.5)
+abbrev pub failed_avps : Outcome → List Shown
+failed_avps (outcome.Fault f) = group_avp failed_avp (shown f.failed ∷ []) ∷ []
+failed_avps _ = []
+
+abbrev pub answer_avps : Speaker → Outcome → List Shown
+answer_avps s told =
+    avp_of session_id s.session_id ∷ result_avp told ∷ avp_of origin_host s.origin_host
+    ∷ avp_of origin_realm s.origin_realm ∷ failed_avps told
+
+abbrev pub answer_octets : Speaker → MessageHeader → Outcome → List ℕ → List ℕ
+answer_octets s request told others = message_octets (answer_header request told) (answer_avps s told) others
+
+-- ---- requests
+-- CC-Request-Type (RFC 8506, clause 8.3)
+abbrev pub kind_number : RequestKind → ℕ
+kind_number kind.Initial = 1
+kind_number kind.Update = 2
+kind_number kind.Termination = 3
+
+-- a Credit-Control-Request, 272, of Gx, 16777238
+abbrev pub request_header : RequestMark → ℕ → MessageHeader
+request_header mark len = record {
+  version = 1;
+  len = len;
+  request = true;
+  proxiable = true;
+  error = false;
+  retransmitted = mark.retransmitted;
+  command = 272;
+  application = 16777238;
+  hop_by_hop = mark.hop_by_hop;
+  end_to_end = mark.end_to_end;
+}
+
+abbrev pub speaker_avps : Speaker → List Shown
+speaker_avps s =
+    avp_of session_id s.session_id ∷ number_avp auth_application_id 16777238 ∷ avp_of origin_host s.origin_host
+    ∷ avp_of origin_realm s.origin_realm ∷ avp_of destination_realm s.destination_realm ∷ []
+
+abbrev pub kind_avps : RequestKind → ℕ → List Shown
+kind_avps of number = number_avp cc_request_type (kind_number of) ∷ number_avp cc_request_number number ∷ []
+
+abbrev pub request_avps : Speaker → RequestKind → ℕ → List Shown
+request_avps s of number = speaker_avps s ++ kind_avps of number
+
+abbrev pub request_octets : Speaker → RequestMark → RequestKind → ℕ → List ℕ → List ℕ
+request_octets s mark of number others = message_octets (request_header mark) (request_avps s of number) others
