@@ -1,4 +1,5 @@
 pub mod Groups
 pub mod Lengths
 pub mod Names
+pub mod OneMessage
 pub mod Texts

@@ -83,3 +83,9 @@ RarOf avps due = (reads : FilterReading) × IsExact reads × (due ≡ message_of
 
 abbrev pub CcaOf : List Shown → Result Asked Fault → Type 0
 CcaOf avps due = (reads : FilterReading) × IsExact reads × (due ≡ message_of of_cca reads avps)
+
+-- One thing is due to the AVPs of a message, and no two things are.
+abbrev pub OneIsDue : (List Shown → Result Asked Fault → Type 0) → Type 0
+OneIsDue Due =
+    (avps : List Shown)
+    → ((due : Result Asked Fault) × Due avps due) × ((d e : Result Asked Fault) → Due avps d → Due avps e → d ≡ e)

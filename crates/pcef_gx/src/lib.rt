@@ -34,7 +34,7 @@ pub use failure::{RuleFailure, failure_of};
 pub use fault::{GxFault, Problem, Stop};
 pub use filters::FilterList;
 pub use known::is_known;
-pub use laws::names_go_back;
+pub use laws::{names_go_back, one_message};
 pub use looking::{group, only, required};
 pub use name::{name_of, octets_of};
 pub use order::{GivenName, NameOf, Order, Orders};
