@@ -5,7 +5,7 @@ ghost use Rattle.std.specs.Prelude.{◌≡◌, []};
 use crate::stopped::Stopped;
 use crate::taking::{Output, Taking, write_rest};
 use pcef_capture_file::{CaptureFault, CaptureStream, Stop};
-use pcef_capture_script::{End, forget, read_front, read_more, write_end};
+use pcef_capture_script::{End, forget, read_front, read_more};
 use std::alloc::Global;
 use std::io::{Read, Write};
 
@@ -57,7 +57,7 @@ fn finish<W: Write + Drop, T: Write + Drop>(
     output: &mut Output<W, T>,
 ) -> Result<Option<CaptureFault>, Stopped> {
     if let Err(error) = write_rest(&mut output.lines, &mut taking.sessions) {
-        return Err(Stopped::End(write_end(error)));
+        return Err(Stopped::at_write(error));
     }
     output.flush()?;
     Ok(fault)

@@ -34,18 +34,10 @@ use progress::Watched;
 use report::{Asked, report_counts, report_end, report_map, report_read};
 use sessions::Sessions;
 use std::fs::{self, File};
-use std::io::{self, BufWriter, ErrorKind, Read, Write};
+use std::io::{self, BufWriter, Read, Write};
 use std::process::ExitCode;
 use stopped::Stopped;
 use taking::{Output, Taking};
-
-/// The end of the program at an error of the system: `NoMemory` or this other one.
-fn end_of(error: io::Error, other: End) -> End {
-    match error.kind() {
-        ErrorKind::OutOfMemory => End::NoMemory,
-        _ => other,
-    }
-}
 
 /// The end of the program up to the end of the capture, or its fault.
 fn end_at(fault: Option<CaptureFault>) -> Stopped {
@@ -85,7 +77,7 @@ fn write_script<R: Read, W: Write>(
         Err(end) => return Stopped::End(end),
     };
     if let Err(error) = flushed {
-        return Stopped::End(end_of(error, End::Write(error)));
+        return Stopped::at_write(error);
     }
     report_counts(rt, asked, &plain_counts(&counts));
     end_at(fault)
@@ -155,7 +147,7 @@ fn write<R: Read>(
         Work::Sessions(taking, path) => {
             let times = match times_of(rt, path) {
                 Ok(times) => times,
-                Err(error) => return Stopped::Times(error),
+                Err(error) => return Stopped::at_times(error),
             };
             let mut taking = taking;
             let mut output = Output { lines, times };
@@ -182,7 +174,7 @@ fn run(
             let mut file = Watched::new(rt, file);
             write(rt, asked, work, waiting, &mut file)
         }
-        Err(error) => Stopped::End(end_of(error, End::Read(error))),
+        Err(error) => Stopped::at_read(error),
     }
 }
 

@@ -5,10 +5,10 @@ use crate::looking::{Look, Sides, look_into};
 use crate::sessions::Sessions;
 use crate::stopped::Stopped;
 use pcef_capture_file::{Packet, Time, ip_of, padded};
-use pcef_capture_script::{End, Packets, write_end, write_flush_line, write_take_line};
+use pcef_capture_script::{End, Packets, write_flush_line, write_take_line};
 use pcef_packet::Dir;
 use std::alloc::Global;
-use std::io::{self, ErrorKind, Write};
+use std::io::{self, Write};
 
 /// What is taken, and what was taken so far.
 #[derive(Drop)]
@@ -27,24 +27,16 @@ pub(crate) struct Output<W: Write + Drop, T: Write + Drop> {
     pub times: Option<T>,
 }
 
-/// Why the program stops where the file for times fails.
-fn times_end(error: io::Error) -> Stopped {
-    match error.kind() {
-        ErrorKind::OutOfMemory => Stopped::End(End::NoMemory),
-        _ => Stopped::Times(error),
-    }
-}
-
 impl<W: Write + Drop, T: Write + Drop> Output<W, T> {
     /// Writes out all lines and times so far.
     pub(crate) fn flush(&mut self) -> Result<(), Stopped> {
         if let Err(error) = self.lines.flush() {
-            return Err(Stopped::End(write_end(error)));
+            return Err(Stopped::at_write(error));
         }
         match &mut self.times {
             Some(times) => match times.flush() {
                 Ok(()) => Ok(()),
-                Err(error) => Err(times_end(error)),
+                Err(error) => Err(Stopped::at_times(error)),
             },
             None => Ok(()),
         }
@@ -121,7 +113,7 @@ fn put_time<T: Write>(
     };
     match write_time(times, time, frame) {
         Ok(()) => Ok(()),
-        Err(error) => Err(times_end(error)),
+        Err(error) => Err(Stopped::at_times(error)),
     }
 }
 
@@ -154,7 +146,7 @@ impl Taking {
             packet.octets,
         ) {
             Ok(()) => Ok(()),
-            Err(error) => Err(Stopped::End(write_end(error))),
+            Err(error) => Err(Stopped::at_write(error)),
         }
     }
 

@@ -20,4 +20,4 @@ pub use options::{Options, Packets, Request, Users, command, parse_options};
 pub use plan::Plan;
 pub use takes::{write_flush_line, write_take_line};
 pub use turn::Turn;
-pub use writing::{forget, read_front, read_more, write_capture, write_end};
+pub use writing::{forget, read_front, read_more, write_capture};

@@ -37,7 +37,7 @@ pub(crate) struct Written {
 }
 
 /// The end of the program where the writer fails, or memory runs out while lines are made.
-pub fn write_end(error: io::Error) -> End
+fn write_end(error: io::Error) -> End
     ensures { IsWriteEnd result }
 {
     match error.kind() {
