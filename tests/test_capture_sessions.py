@@ -5,7 +5,7 @@ import struct
 
 from captures import DOWN, DOWN_6, CaptureTest, counted, header, record, said, taken
 from commands import line
-from programs import PCEF_CAPTURE, Ended, lines
+from programs import PCEF_CAPTURE, PCEF_MANY, TOP, Ended, lines
 from tunnels import datagram, message, outer
 
 # A packet between two sessions of version 4, and one from a session to itself.
@@ -119,6 +119,21 @@ class Sessions(CaptureTest):
         came = self.run_on(PCEF_CAPTURE, ["--sessions", "map", "--gtp", "-"], capture)
         wrote = of("a", taken(BETWEEN, direction="up")) + of("b", taken(BETWEEN)) + flushes("b", "a")
         self.assertEqual((came.status, came.wrote), (0, wrote.encode()))
+
+    def test_pcef_many_answers_a_session_as_its_own_script(self):
+        examples = os.path.join(TOP, "examples")
+        with open(os.path.join(examples, "browsing.jsonl"), encoding="ascii") as file:
+            rules = file.read()
+        with open(os.path.join(examples, "browsing.answers.jsonl"), encoding="ascii") as file:
+            due = lines(line(ok=True)) + file.read()
+        self.write("map", "other 10.0.0.3\nuser 10.0.0.2\n")
+        words = ["--sessions", "map", os.path.join(examples, "browsing.pcap")]
+        packets = self.run_on(PCEF_CAPTURE, words).wrote.decode()
+        opened = of("user", lines(line(do="open", ue="10.0.0.2")) + rules) + of("other", lines(line(do="open")) + rules)
+        came = self.run_on(PCEF_MANY, [os.path.join(examples, "profile.toml")], opened + packets)
+        self.assertEqual((came.status, came.said), (0, b""))
+        behind = [one for one in came.wrote.decode().splitlines(True) if one.startswith("user ")]
+        self.assertEqual("".join(behind), of("user", due))
 
     def test_ten_thousand_sessions(self):
         users = [0x0A000000 + number for number in range(10000)]
