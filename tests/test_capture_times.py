@@ -151,6 +151,16 @@ class Times(CaptureTest):
         self.assertEqual(Ended(0, wrote.encode(), told.encode()), self.run_on(PCEF_CAPTURE, [*words, "-"], capture))
         self.assertEqual(times, lines(*[f"1.000002000 {number}" for number in range(1, 71)]))
 
+    def test_times_over_what_is_read(self):
+        capture = header() + record(DOWN)
+        self.write("a.pcap", capture)
+        self.write("map", "a 10.0.0.2\n")
+        told = lines("usage: --times names a file that is read")
+        self.ends(PCEF_CAPTURE, ["--ue", UE, "--times", "a.pcap", "a.pcap"], status=2, said=told)
+        self.ends(PCEF_CAPTURE, ["--sessions", "map", "--times", "map", "a.pcap"], status=2, said=told)
+        with open(os.path.join(self.room, "a.pcap"), "rb") as file:
+            self.assertEqual(file.read(), capture)
+
     def test_times_that_cannot_be_written(self):
         capture = header() + record(DOWN)
         came = self.run_on(PCEF_CAPTURE, ["--ue", UE, "--times", "no/times", "-"], capture)

@@ -237,8 +237,25 @@ fn work_for_map<'a>(rt: &HostRuntime, options: &Options<'a>, path: &str) -> Resu
     }
 }
 
+/// Reports what is wrong with the arguments, and returns the exit status.
+fn refuse_usage(rt: &HostRuntime, text: &str) -> u8 {
+    let _ = eprintln!(rt; "usage: {text}");
+    2
+}
+
+/// Whether the times would be written over what is read.
+fn overwrites(options: &Options<'_>) -> bool {
+    let Some(times) = options.times else {
+        return false;
+    };
+    times == options.file || matches!(options.users, Users::Map(path) if path == times)
+}
+
 /// Does what the options ask for, and returns the exit status.
 fn work_on(rt: &HostRuntime, options: &Options<'_>) -> u8 {
+    if overwrites(options) {
+        return refuse_usage(rt, "--times names a file that is read");
+    }
     let work = match options.users {
         Users::One(ue) => work_for_one(rt, options, ue),
         Users::Map(path) => work_for_map(rt, options, path),
@@ -251,12 +268,6 @@ fn work_on(rt: &HostRuntime, options: &Options<'_>) -> u8 {
     let mut waiting = Vec::new(rt.alloc());
     let stopped = run(rt, &asked, work, options.file, &mut waiting);
     report_end(rt, &asked, &stopped, waiting.as_slice())
-}
-
-/// Reports what is wrong with the arguments, and returns the exit status.
-fn refuse_usage(rt: &HostRuntime, text: &str) -> u8 {
-    let _ = eprintln!(rt; "usage: {text}");
-    2
 }
 
 /// Does what the words ask for, and returns the exit status.
