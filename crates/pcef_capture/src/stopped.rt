@@ -1,7 +1,5 @@
 //! Why the program stops.
 
-ghost use Rattle.std.specs.Prelude.{◌≤◌};
-
 use pcef_capture_script::End;
 use std::io::{self, ErrorKind};
 

@@ -1,6 +1,6 @@
 //! The options of the program.
 
-ghost use Rattle.std.specs.Prelude.{◌≡◌, ◌∷◌, [], ℕ, List, IfErr, IfOk, IfSome, Some, codes, false, map, option_map, string_bytes, true};
+ghost use Rattle.std.specs.Prelude.{◌≡◌, ◌∷◌, [], ℕ, List, IfErr, IfOk, IfSome, Some, false, map, option_map, string_bytes, true};
 ghost use Rattle.clap.specs.Words.{app_of, found_of, kind_of, matches_of, new_rule, rows_of, rule_of, takes};
 ghost use Rattle.clap.specs.declared.builder.action.ArgAction.TheVariants.{Set};
 ghost use Rattle.clap.specs.declared.error.kind.ErrorKind.TheVariants.{OutOfMemory};

@@ -1,9 +1,9 @@
 use Rattle.std.proofs.Common.{◌≡◌, ◌∙◌, ap, codes, refl, sym}
-use Rattle.std.specs.Prelude.{None, Some, option_map}
+use Rattle.std.specs.Prelude.{option_map}
 use Rattle.std.specs.Str.Parse.{ExplainsUnsignedError, HasUnsignedDigitsIfOk, ParsesUnsigned}
 use Rattle.std.proofs.lemmas.Bool.{false≢true}
 use Rattle.clap.proofs.WalkLemmas.{first_value-rows, one_text-rows}
-use Rattle.clap.specs.Words.{Text, first_of, found_of, one_of, one_text}
+use Rattle.clap.specs.Words.{first_of, found_of, one_of, one_text}
 use Rattle.pcef_capture_script.specs.CommandLine.{given, written}
 use Rattle.pcef_capture_script.specs.declared.options.Packets.TheVariants as packets
 use Rattle.pcef_capture_script.proofs.Askings.{mapped_none, mapped_some, text_of}

@@ -1,4 +1,4 @@
-use Rattle.std.proofs.Common.{◌≡◌, List, Result, Ok, Err, map, refl, string_bytes, subst, sym, true}
+use Rattle.std.proofs.Common.{◌≡◌, List, Result, Ok, Err, map, refl, string_bytes, subst, true}
 use Rattle.std.specs.Prelude.{IfErr, IfOk}
 use Rattle.clap.specs.Words.{App, HasMatchesOf, Text, found_of, is_simple, kind_of, matches_of, rows_of, takes}
 use Rattle.clap.specs.declared.error.kind.ErrorKind.TheVariants.{OutOfMemory}
