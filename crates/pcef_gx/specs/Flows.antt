@@ -16,8 +16,8 @@ use Rattle.pcef_gx.specs.Readings.{Fault, group_of, only_of, only_word_of, stand
 use Rattle.pcef_gx.specs.declared.failure.RuleFailure.{RuleFailure}
 use Rattle.pcef_gx.specs.declared.failure.RuleFailure.TheVariants.{FilterRestrictions, IncorrectFlowInformation}
 
--- Flow-Direction: UNSPECIFIED 0, DOWNLINK 1, UPLINK 2, BIDIRECTIONAL 3. A flow without a direction applies as a
--- bidirectional one does (TS 29.212, clause 5.3.65).
+-- Flow-Direction: UNSPECIFIED 0, DOWNLINK 1, UPLINK 2, BIDIRECTIONAL 3. UNSPECIFIED applies as BIDIRECTIONAL does (TS
+-- 29.212, clause 5.3.65). Without the AVP a filter has no flow word.
 abbrev pub flow_of : Option ℕ → Option Flow
 flow_of None = None
 flow_of (Some word) = if word == 1 then Some Downlink else if word == 2 then Some Uplink else Some Bidirectional
