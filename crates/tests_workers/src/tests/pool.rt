@@ -119,10 +119,10 @@ struct Row {
     steps: &'static [Step],
     answers: &'static [Answer],
     generations: (u32, u32),
-    granted: u64,
+    granted: (u64, u64),
 }
 
-static ROWS: [Row; 8] = [
+static ROWS: [Row; 9] = [
     // What a removed rule leaves is the other session's.
     Row {
         capacity: (100_000, 100_000),
@@ -139,7 +139,7 @@ static ROWS: [Row; 8] = [
             Ok((Some(6), 1)),
         ],
         generations: (2, 1),
-        granted: 64_000,
+        granted: (64_000, 64_000),
     },
     // Downlink rates are looked at after uplink rates.
     Row {
@@ -147,14 +147,14 @@ static ROWS: [Row; 8] = [
         steps: &[Step::Install(0, 64_000, 64_000)],
         answers: &[Err(Refusal::PoolDown)],
         generations: (0, 0),
-        granted: 0,
+        granted: (0, 0),
     },
     Row {
         capacity: (63_999, 63_999),
         steps: &[Step::Install(0, 64_000, 64_000)],
         answers: &[Err(Refusal::PoolUp)],
         generations: (0, 0),
-        granted: 0,
+        granted: (0, 0),
     },
     // A modified rule may take all that is there.
     Row {
@@ -166,7 +166,7 @@ static ROWS: [Row; 8] = [
         ],
         answers: &[Ok((Some(6), 1)), Ok((Some(6), 2)), Err(Refusal::PoolUp)],
         generations: (2, 0),
-        granted: 100_000,
+        granted: (100_000, 100_000),
     },
     // The session's own capacity is looked at first.
     Row {
@@ -174,7 +174,7 @@ static ROWS: [Row; 8] = [
         steps: &[Step::Install(0, 1_000_001, 1)],
         answers: &[Err(Refusal::OverCapacityUp)],
         generations: (0, 0),
-        granted: 0,
+        granted: (0, 0),
     },
     // An offered rule takes its rates from the pool.
     Row {
@@ -196,14 +196,32 @@ static ROWS: [Row; 8] = [
             Ok((Some(6), 1)),
         ],
         generations: (3, 1),
-        granted: 100_000,
+        granted: (100_000, 100_000),
     },
     Row {
         capacity: (70_000, 69_999),
         steps: &[Step::Activate(0)],
         answers: &[Err(Refusal::PoolDown)],
         generations: (0, 0),
-        granted: 0,
+        granted: (0, 0),
+    },
+    // Each direction has a capacity of its own.
+    Row {
+        capacity: (90_000, 300_000),
+        steps: &[
+            Step::Install(0, 50_000, 200_000),
+            Step::Install(1, 40_001, 1),
+            Step::Install(1, 1, 100_001),
+            Step::Install(1, 40_000, 100_000),
+        ],
+        answers: &[
+            Ok((Some(6), 1)),
+            Err(Refusal::PoolUp),
+            Err(Refusal::PoolDown),
+            Ok((Some(6), 1)),
+        ],
+        generations: (1, 1),
+        granted: (90_000, 300_000),
     },
     // Both sessions have a rule at last.
     Row {
@@ -221,7 +239,7 @@ static ROWS: [Row; 8] = [
             Ok((Some(6), 3)),
         ],
         generations: (3, 1),
-        granted: 100_000,
+        granted: (100_000, 100_000),
     },
 ];
 
@@ -234,10 +252,8 @@ fn comes<R: Threads + Wait + Sync>(rt: &R, alloc: Global, row: &Row) -> bool {
         Some(outcome) => Some(outcome),
         None => play_desks(rt, alloc, capacity, task),
     };
-    let granted = Sums {
-        up: row.granted,
-        down: row.granted,
-    };
+    let (up, down) = row.granted;
+    let granted = Sums { up, down };
     match outcome {
         Some((seen, generations, sums)) => {
             are_due(seen.answers.as_slice(), row.answers)
