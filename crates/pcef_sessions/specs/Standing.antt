@@ -15,7 +15,7 @@ fixed s = setting_of s.profile (arc_value s.catalog)
 
 -- the session of a name, if it is open
 abbrev pub held : Sessions → List ℕ → Option Session
-held s name = option_map (λ b. b.value) (get_by (bytes_eq name) s.table)
+held s name = option_map (λ b. b.value.session) (get_by (bytes_eq name) s.table)
 
 -- this stands under a name then, and nothing else changes
 pub record Becomes (old new : Sessions) (name : List ℕ) (there : Option Session) : Type 0 where

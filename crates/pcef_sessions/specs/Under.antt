@@ -17,6 +17,11 @@ pub record Session : Type 0 where
   pub setting : Setting
   pub standing : Standing
 
+-- a session as it is kept: beside it, how many of its reports are forgotten
+pub record KeptSession : Type 0 where
+  pub session : Session
+  pub forgotten : ℕ
+
 -- an address that is given takes the place of the profile's
 abbrev pub with_address : Option Addr → Setting → Setting
 with_address None p = p

@@ -2,6 +2,7 @@
 
 ghost use Rattle.std.specs.Prelude.{◌≡◌, IfOk, false, string_bytes};
 ghost use Rattle.std.specs.Arc.{arc_value};
+ghost use Rattle.pcef_model.specs.Journals.{report_count};
 ghost use Rattle.pcef_script.specs.ScriptAnswers.{AnswersLine};
 ghost use Rattle.pcef_script.specs.ScriptLines.{is_blank};
 ghost use Rattle.pcef_world.specs.Steps.{standing_of};
@@ -32,17 +33,17 @@ impl Drop for Held {
 }
 
 impl Model for Held {
-    ghost use Rattle.pcef_sessions.specs.Under.{Session};
+    ghost use Rattle.pcef_sessions.specs.Under.{KeptSession};
 
-    ghost Value = { Session };
+    ghost Value = { KeptSession };
 
     ghost use Rattle.std.specs.Prelude.{◌≡◌};
     ghost use Rattle.std.specs.Arc.{arc_value};
     ghost use Rattle.pcef_world.specs.Steps.{standing_of};
 
     ghost view = { λ s. record {
-      setting = s.world.session.setting;
-      standing = standing_of s.world;
+      session = record { setting = s.world.session.setting; standing = standing_of s.world };
+      forgotten = s.world.session.forgotten;
     } };
 
     ghost invariant = { λ s. arc_value s.catalog ≡ s.world.session.setting.catalog };
@@ -52,8 +53,8 @@ impl Held {
     /// A session that was just opened.
     pub(crate) fn new(catalog: Arc<ShapedCatalog>, world: WorldState) -> Held
         requires { arc_value catalog ≡ world.session.setting.catalog }
-        ensures setting { result.setting ≡ world.session.setting }
-        ensures standing { result.standing ≡ standing_of world }
+        ensures setting { result.session.setting ≡ world.session.setting }
+        ensures standing { result.session.standing ≡ standing_of world }
     {
         Held { catalog, world }
     }
@@ -67,9 +68,11 @@ impl Held {
         line: &[u8],
     ) -> Result<LineAnswer, AllocError>
         requires { is_blank line.now ≡ false }
-        ensures answer { IfOk result (λ a. AnswersLine self.old.setting self.old.standing line.now
-            (string_bytes a.text) a.is_fault self.new.standing) }
-        ensures setting { self.new.setting ≡ self.old.setting }
+        ensures answer { IfOk result (λ a.
+            AnswersLine self.old.session.setting self.old.session.standing line.now
+            (string_bytes a.text) a.is_fault self.new.session.standing) }
+        ensures setting { self.new.session.setting ≡ self.old.session.setting }
+        ensures forgotten { self.new.forgotten ≡ report_count self.old.session.standing.journal }
     {
         self.world.forget();
         match answer_alone(alloc, &*self.catalog, &mut self.world, lines, line)? {

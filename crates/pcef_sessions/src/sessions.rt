@@ -116,7 +116,7 @@ impl Sessions {
 
     /// A session that is just opened.
     fn open(&self, ue: Option<Addr>) -> Result<Box<Held>, AllocError>
-        ensures { IfOk result (λ b. b.value ≡ opened (with_address ue (fixed self.now))) }
+        ensures { IfOk result (λ b. b.value.session ≡ opened (with_address ue (fixed self.now))) }
     {
         let Ok(world) = world_of(self.alloc, &self.profile, &self.catalog, ue) else {
             return Err(AllocError);
