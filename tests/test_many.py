@@ -49,6 +49,8 @@ NAMELESS = [
     f"a\tb {OPEN}",
     f"\x7f {OPEN}",
     f"\u00e9 {OPEN}",
+    f"- {OPEN}",
+    f"- {SHOW}",
 ]
 
 # Lines that open or end a session, or are at fault, and the answers where it is closed and where it is open.
@@ -62,16 +64,16 @@ AT_FAULT = [
     ("open", NO_SESSION, '{"fault":3,"name":"NotJson"}'),
 ]
 
-NAMES = ["a", "b", "c", "~", "!-~subscriber"]
+NAMES = ["a", "b", "c", "~", "!-~subscriber", "--"]
 
 
 def of_every_form():
     """Lines of every form: of several names, without a name, blank, and one that no line feed ends."""
     given = ""
     for rest in SHOW, OPEN, ATTACH, take(DNS_ANSWER), "[1]", FLUSH, END:
-        for name in NAMES + ["-"]:
+        for name in NAMES:
             given += f"{name} {rest}\n\n \t\r\n"
-        given += f"nameless\n {OPEN}\na \n\u00e9 {OPEN}\n"
+        given += f"nameless\n {OPEN}\na \n\u00e9 {OPEN}\n- {rest}\n"
     return given + f"a {OPEN}"
 
 
@@ -163,10 +165,16 @@ class Many(ProgramTest):
 
     def test_a_name_has_at_most_64_octets(self):
         for letter in "!~-":
-            for length in 1, 64:
+            for length in 2 if letter == "-" else 1, 64:
                 name = letter * length
                 self.assertEqual(self.serve(f"{name} {OPEN}", status=0), f"{name} {OK}\n")
             self.assertEqual(self.serve(f"{letter * 65} {OPEN}", status=1), BAD_NAME)
+
+    def test_a_dash_is_no_name(self):
+        # So a dash before an answer always says that the line has no name.
+        given = lines(f"- {OPEN}", f"-- {OPEN}", f"-a {SHOW}", f"a- {SHOW}", f"- {END}", f"-- {END}", "nameless")
+        due = f"{BAD_NAME}-- {OK}\n-a {NO_SESSION}\na- {NO_SESSION}\n{BAD_NAME}-- {OK}\n{BAD_NAME}"
+        self.assertEqual(self.serve(given, status=1), due)
 
     def test_the_longest_rest_of_a_line(self):
         for length in 1, 64:

@@ -57,6 +57,7 @@ bool program_starts(struct program *it, const char *profile) {
 
 const char *why_no_line(const char *name, size_t name_length, const char *value, size_t value_length) {
     if (!name || name_length < 1 || name_length > 64) return "{\"fault\":1,\"name\":\"BadName\"}";
+    if (name_length == 1 && name[0] == '-') return "{\"fault\":1,\"name\":\"BadName\"}";
     for (size_t place = 0; place < name_length; place++)
         if (name[place] < 0x21 || name[place] > 0x7E) return "{\"fault\":1,\"name\":\"BadName\"}";
     if (value_length && memchr(value, '\n', value_length)) return "{\"name\":\"LineFeed\",\"refused\":2}";

@@ -4,17 +4,16 @@ use Rattle.std.specs.Prelude.{◌&&◌, not, option_and_then, option_map, if◌t
 use Rattle.std.proofs.lemmas.Bool.Decides.{nat_tests}
 use Rattle.std.proofs.lemmas.List.{length-take, take_all}
 use Rattle.pcef_model.specs.Setting.{Setting}
-use Rattle.pcef_line.specs.LineValues.{is_name}
 use Rattle.pcef_script.specs.ScriptAnswers.{AnswersDue, DueWithin}
 use Rattle.pcef_script.specs.ScriptLines.{is_blank, is_too_long, line_most, within_limit}
 use Rattle.pcef_sessions.specs.declared.asking.Asking.{Asking}
 use Rattle.pcef_sessions.specs.declared.asking.Asking.TheVariants as asking
-use Rattle.pcef_sessions.specs.Addressed.{addressed, at_space, for_session}
+use Rattle.pcef_sessions.specs.Addressed.{addressed, at_space, for_session, is_session_name}
 use Rattle.pcef_sessions.specs.Asked.{asked_of, asked_within}
 use Rattle.pcef_sessions.specs.Sayings.{Said, SaysTo}
 use Rattle.pcef_sessions.specs.Under.{Session, UnderBy, UnderName}
 use Rattle.pcef_sessions.specs.private.Running.{most_kept}
-use Rattle.pcef_sessions.proofs.NameTests.{decides_name}
+use Rattle.pcef_sessions.proofs.NameTests.{session_names}
 
 below : (most n : ℕ) → n ≤ most → nat_lt most n ≡ false
 below most n le = grind (arith, nat_tests)
@@ -135,11 +134,11 @@ under_same p there l m text at_fault after same h =
     (subst (λ k. UnderBy p there k l text at_fault after) (ap asked_within same) h)
 
 -- a line for a name, of which so much is kept
-no_name : (k : ℕ) (test : Bool) (p : Halves) → is_name p.0 ≡ false → option_and_then for_session (cut_if k test p) ≡ for_session p
-no_name k true p isnt = rw isnt refl
-no_name k false p isnt = rw isnt refl
+for_none : (k : ℕ) (test : Bool) (p : Halves) → is_session_name p.0 ≡ false → option_and_then for_session (cut_if k test p) ≡ for_session p
+for_none k true p isnt = rw isnt refl
+for_none k false p isnt = rw isnt refl
 
-for_name : (p : Setting) (old new : List ℕ → Option Session) (name kept rest : List ℕ) (said : Said) (blank : Bool) → is_name name ≡ true → is_blank kept ≡ blank → is_blank rest ≡ blank → within_limit kept ≡ within_limit rest
+for_name : (p : Setting) (old new : List ℕ → Option Session) (name kept rest : List ℕ) (said : Said) (blank : Bool) → is_session_name name ≡ true → is_blank kept ≡ blank → is_blank rest ≡ blank → within_limit kept ≡ within_limit rest
     → SaysTo p old (for_session (name, kept)) said new → SaysTo p old (for_session (name, rest)) said new
 for_name p old new name kept rest said true is blank also same h =
     let own = rw (is, blank) at h in
@@ -148,12 +147,12 @@ for_name p old new name kept rest said false is blank also same h =
     let own = rw (is, blank) at h in
     rw (is, also) (own.0, under_same p (old name) kept rest said.text said.at_fault (new name) same own.1, own.2)
 
-by_name : (p : Setting) (old new : List ℕ → Option Session) (halves : Halves) (said : Said) (named : Bool) → is_name halves.0 ≡ named
+by_name : (p : Setting) (old new : List ℕ → Option Session) (halves : Halves) (said : Said) (named : Bool) → is_session_name halves.0 ≡ named
     → SaysTo p old (option_and_then for_session (cut_at most_kept (Some halves))) said new → SaysTo p old (for_session halves) said new
 by_name p old new halves said false isnt h =
-    subst (λ o. SaysTo p old o said new) (no_name most_kept (nat_lt (length halves.0) most_kept) halves isnt) h
+    subst (λ o. SaysTo p old o said new) (for_none most_kept (nat_lt (length halves.0) most_kept) halves isnt) h
 by_name p old new halves said true is h =
-    let few = ((decides_name halves.0).0 is).1 in
+    let few = (session_names halves.0 is).1 in
     let fits : nat_lt (length halves.0) most_kept ≡ true = above (length halves.0) most_kept (omega (arith, few)) in
     let room : line_most < most_kept - suc (length halves.0) = omega (arith, few) in
     let kept = take (most_kept - suc (length halves.0)) halves.1 in
@@ -165,7 +164,7 @@ by_name p old new halves said true is h =
 by_space : (p : Setting) (old new : List ℕ → Option Session) (halves : Option Halves) (said : Said) → SaysTo p old (option_and_then for_session (cut_at most_kept halves)) said new
     → SaysTo p old (option_and_then for_session halves) said new
 by_space p old new None said h = h
-by_space p old new (Some halves) said h = by_name p old new halves said (is_name halves.0) refl h
+by_space p old new (Some halves) said h = by_name p old new halves said (is_session_name halves.0) refl h
 
 pub says_same : (p : Setting) (old new : List ℕ → Option Session) (kept line : List ℕ) (said : Said) → kept ≡ take most_kept line → SaysTo p old (addressed kept) said new → SaysTo p old (addressed line) said new
 says_same p old new kept line said is h =

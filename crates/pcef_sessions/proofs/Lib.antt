@@ -8,4 +8,5 @@ pub mod Saids
 pub mod Scripts
 pub mod Servings
 pub mod Spaces
+pub mod Told
 pub mod Unders

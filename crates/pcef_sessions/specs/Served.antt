@@ -9,7 +9,7 @@ use Rattle.pcef_script.specs.declared.fault.ScriptFault.TheVariants as fault
 use Rattle.pcef_script.specs.ScriptAnswers.{answered}
 use Rattle.pcef_script.specs.Scripts.{all_lines, ended_lines}
 use Rattle.pcef_writing.specs.Writing.{AppendsFront}
-use Rattle.pcef_sessions.specs.Addressed.{lines_of, name_of}
+use Rattle.pcef_sessions.specs.Addressed.{lines_of, name_of, no_name}
 use Rattle.pcef_sessions.specs.Sayings.{Said, bad_name}
 use Rattle.pcef_sessions.specs.Under.{Session, UnderName}
 
@@ -40,7 +40,7 @@ pub record AreSaid (p : Setting) (lines : List (List ℕ)) (saids : List Said) (
 
 -- a name, or a dash, a space, the text and a line feed
 abbrev pub name_bytes : Option (List ℕ) → List ℕ
-name_bytes None = 45 ∷ []
+name_bytes None = no_name
 name_bytes (Some name) = name
 
 abbrev pub said_bytes : Said → List ℕ
@@ -49,6 +49,11 @@ said_bytes said = (name_bytes said.name ++ 32 ∷ []) ++ (said.text ++ 10 ∷ []
 abbrev pub all_bytes : List Said → List ℕ
 all_bytes [] = []
 all_bytes (said ∷ more) = said_bytes said ++ all_bytes more
+
+-- What stands before an answer says which session's it is, or that it is none's: before the answers to two lines stands
+-- the same only where they are for one session, or both for none.
+abbrev pub NamesAreToldApart : Type 0
+NamesAreToldApart = (line other : List ℕ) → name_bytes (name_of line) ≡ name_bytes (name_of other) → name_of line ≡ name_of other
 
 abbrev pub any_fault : List Said → Bool
 any_fault saids = list_any (λ (said : Said). said.at_fault) saids

@@ -1,10 +1,17 @@
 //! What follows from the definitions.
 
 ghost use Rattle.pcef_sessions.specs.Between.{OpenSessionsAreScripts, WholeSessionsAreScripts};
+ghost use Rattle.pcef_sessions.specs.Served.{NamesAreToldApart};
 
 /// The answers under a name between its `open` and its `end` are those of a script of these lines on a session of its
 /// own.
 pub fn sessions_are_scripts()
     ensures opened { OpenSessionsAreScripts }
     ensures whole { WholeSessionsAreScripts }
+{}
+
+/// What stands before the space of an answer is the name of its session, or a dash, which is no session's name: who reads
+/// the answers can always tell whose they are.
+pub fn names_are_told_apart()
+    ensures { NamesAreToldApart }
 {}

@@ -16,7 +16,7 @@ mod running;
 mod saying;
 mod sessions;
 
-pub use laws::sessions_are_scripts;
+pub use laws::{names_are_told_apart, sessions_are_scripts};
 pub use name::{OfSession, SessionName};
 pub use run::serve;
 pub use saying::NamedAnswer;

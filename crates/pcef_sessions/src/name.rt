@@ -2,8 +2,7 @@
 
 ghost use Rattle.std.specs.Prelude.{◌≡◌, Some, None, if◌then◌else◌};
 ghost use Rattle.std.specs.Option.{option_map};
-ghost use Rattle.pcef_line.specs.LineValues.{is_name};
-ghost use Rattle.pcef_sessions.specs.Addressed.{addressed, at_space};
+ghost use Rattle.pcef_sessions.specs.Addressed.{addressed, at_space, is_session_name};
 
 use memchr::memchr;
 use pcef_rule::Name;
@@ -14,13 +13,19 @@ use std::str;
 #[derive(Clone, Copy, Debug, PartialEq, Eq)]
 pub struct OfSession;
 
-/// The name of a session: 1 to 64 octets from 0x21 to 0x7E.
+/// The name of a session: 1 to 64 octets from 0x21 to 0x7E. A session isn't named [`NO_NAME`].
 pub type SessionName = Name<OfSession>;
 
-/// The name that octets are.
+/// What stands before an answer that has no name.
+pub(crate) const NO_NAME: &str = "-";
+
+/// The session's name that octets are.
 fn name_of(octets: &[u8]) -> Option<SessionName>
-    ensures { result ≡ (if is_name octets.now then Some octets.now else None) }
+    ensures { result ≡ (if is_session_name octets.now then Some octets.now else None) }
 {
+    if octets == NO_NAME.as_bytes() {
+        return None;
+    }
     let Ok(text) = str::from_utf8(octets) else {
         return None;
     };

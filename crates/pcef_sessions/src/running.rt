@@ -8,7 +8,7 @@ ghost use Rattle.pcef_sessions.specs.Sayings.{said_of};
 ghost use Rattle.pcef_sessions.specs.Served.{name_bytes, said_bytes};
 ghost use Rattle.pcef_sessions.specs.private.Running.{EndsAll, FailsAtEnd, KeepsMore, ReadsAll, StopsIn};
 
-use crate::name::SessionName;
+use crate::name::{NO_NAME, SessionName};
 use crate::saying::NamedAnswer;
 use crate::sessions::Sessions;
 use memchr::memchr;
@@ -35,7 +35,7 @@ fn name_text(name: &Option<SessionName>) -> &str
 {
     match name {
         Some(name) => name.as_str(),
-        None => "-",
+        None => NO_NAME,
     }
 }
 

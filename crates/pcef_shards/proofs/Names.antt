@@ -3,16 +3,15 @@ use Rattle.std.proofs.Common.{◌≡◌, ◌≢◌, ◌∙◌, ◌==◌, ℕ, ze
 use Rattle.std.specs.Prelude.{◌&&◌, not, option_map, option_and_then, if◌then◌else◌}
 use Rattle.std.specs.Str.{bytes_eq}
 use Rattle.std.specs.declared.hash.RandomState.{RandomState}
-use Rattle.std.proofs.lemmas.Bool.{eqb-false, eqb-true, false_from_ne_true, or_parts}
+use Rattle.std.proofs.lemmas.Bool.{and_parts, eqb-false, eqb-true, false_from_ne_true, or_parts}
 use Rattle.std.proofs.lemmas.Slice.Eq.{bytes_eq-Decides}
-use Rattle.pcef_line.specs.LineValues.{is_name}
 use Rattle.pcef_script.specs.ScriptAnswers.{answered}
 use Rattle.pcef_script.specs.ScriptLines.{has_feed, is_blank}
 use Rattle.pcef_script.specs.Scripts.{all_lines, cut, ended_lines, joined, last_line}
 use Rattle.pcef_script.proofs.Answering.{answered_blank, answered_more, answered_one}
 use Rattle.pcef_script.proofs.Cuts.{cut_run}
-use Rattle.pcef_sessions.specs.Addressed.{addressed, at_space, for_session, lines_of, said_to}
-use Rattle.pcef_sessions.proofs.NameTests.{decides_name}
+use Rattle.pcef_sessions.specs.Addressed.{addressed, at_space, for_session, is_session_name, lines_of, said_to}
+use Rattle.pcef_sessions.proofs.NameTests.{session_names}
 use Rattle.pcef_shards.specs.Parts.{last_part, lines_part, part_of}
 use Rattle.pcef_shards.specs.Picks.{before_space, thread_of, thread_of_name}
 use Rattle.pcef_shards.specs.Sharing.{NamesHaveThreads, OthersHaveNone}
@@ -20,7 +19,7 @@ use Rattle.pcef_shards.specs.Sharing.{NamesHaveThreads, OthersHaveNone}
 abbrev Lines : Type 0
 Lines = List (List ℕ) × List ℕ
 
-abbrev Pick : Type 0
+abbrev pub Pick : Type 0
 Pick = List ℕ → ℕ
 
 abbrev Halves : Type 0
@@ -56,7 +55,7 @@ cut_line (b ∷ line) rest none =
     let parts = or_parts (b == 10) (has_feed line) none in
     rw (parts.0, cut_line line rest parts.1) refl
 
-abbrev chosen : Pick → ℕ → List (List ℕ) → List (List ℕ)
+abbrev pub chosen : Pick → ℕ → List (List ℕ) → List (List ℕ)
 chosen pick t [] = []
 chosen pick t (line ∷ lines) = if pick line == t then line ∷ chosen pick t lines else chosen pick t lines
 
@@ -75,7 +74,7 @@ plain_last : (line : List ℕ) (mine : Bool) → has_feed line ≡ false → has
 plain_last line true none = none
 plain_last line false none = refl
 
-part_lines : (pick : Pick) (t : ℕ) (input : List ℕ) → all_lines (part_of pick t input) ≡ chosen pick t (ended_lines input) ++ last_part pick t (last_line input) ∷ []
+pub part_lines : (pick : Pick) (t : ℕ) (input : List ℕ) → all_lines (part_of pick t input) ≡ chosen pick t (ended_lines input) ++ last_part pick t (last_line input) ∷ []
 part_lines pick t input =
     ap (λ (c : Lines). c.0 ++ c.1 ∷ [])
     (cut_part pick t (ended_lines input) (last_part pick t (last_line input)) (plain input).0 (plain_last (last_line input) (pick (last_line input) == t) (plain input).1))
@@ -102,15 +101,11 @@ near_front zero line p at lt = absurd (omega (arith, lt))
 near_front (suc k) [] p at lt = cc
 near_front (suc k) (b ∷ line) p at lt = near_by b k line p (b == 32) at lt (near_front k line)
 
-and_left : (a b : Bool) → (a && b) ≡ true → a ≡ true
-and_left true b h = refl
-and_left false b h = h
-
 said_nothing : (keys : RandomState) (threads : ℕ) (name line : List ℕ) (p : Halves) → at_space line ≡ Some p → thread_of keys threads line ≢ thread_of_name keys threads name
-    → (test : Bool) → (is_name p.0 && not (is_blank p.1)) ≡ test → said_to name (if test then Some p else None) ≡ []
+    → (test : Bool) → (is_session_name p.0 && not (is_blank p.1)) ≡ test → said_to name (if test then Some p else None) ≡ []
 said_nothing keys threads name line p at other false isnt = refl
 said_nothing keys threads name line p at other true is =
-    let few = ((decides_name p.0).0 (and_left (is_name p.0) (not (is_blank p.1)) is)).1 in
+    let few = (session_names p.0 (and_parts (is_session_name p.0) (not (is_blank p.1)) is).0).1 in
     let own : thread_of keys threads line ≡ thread_of_name keys threads p.0 = ap (thread_of_name keys threads) (near_front 65 line p at (omega (arith, few))) in
     let differs : bytes_eq p.0 name ≡ false = false_from_ne_true (bytes_eq p.0 name) (λ e. other (own ∙ ap (thread_of_name keys threads) ((bytes_eq-Decides p.0 name).0 e))) in
     rw differs refl
@@ -118,7 +113,7 @@ said_nothing keys threads name line p at other true is =
 silent_by : (keys : RandomState) (threads : ℕ) (name line : List ℕ) (o : Option Halves) → at_space line ≡ o → thread_of keys threads line ≢ thread_of_name keys threads name
     → said_to name (option_and_then for_session o) ≡ []
 silent_by keys threads name line None at other = refl
-silent_by keys threads name line (Some p) at other = said_nothing keys threads name line p at other (is_name p.0 && not (is_blank p.1)) refl
+silent_by keys threads name line (Some p) at other = said_nothing keys threads name line p at other (is_session_name p.0 && not (is_blank p.1)) refl
 
 -- ---- what a name hears of lines
 abbrev heard : List ℕ → List (List ℕ) → List (List ℕ)
