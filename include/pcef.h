@@ -79,7 +79,9 @@ uint64_t pcef_number(pcef_session *at, uint64_t first);
  * `pcef script` writes for the line, without its line feed. As much of it as fits is written to `answer`. A line of
  * spaces, tabs and CR alone has no answer: 0. The line is done even where its answer doesn't fit. An answer to `show`
  * grows with rules and keys, one to `flush` with the rows that waited; 65,536 octets are ample for both. Takes memory.
- * PCEF_NO_SESSION: nothing is done. PCEF_NO_MEMORY: the line may be done or not, so close the session. */
+ * PCEF_NO_SESSION: nothing is done. PCEF_NO_MEMORY: nothing is written, and the session and its workers are as before
+ * the line, or as after it, never in between. The answers to the next lines tell which: `show` where the line changes
+ * rules, bearers or keys. A caller that can't tell closes the session. */
 size_t pcef_line(pcef_session *at, const uint8_t *line, size_t line_length, uint8_t *answer, size_t answer_room);
 
 /* Writes the session's reports from this number on, and returns the length of their text: a JSON array, the oldest

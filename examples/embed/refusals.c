@@ -1,5 +1,6 @@
-/* What pcef_take answers to vectors of packets, and what is left of each call of a worker where memory is refused: each
- * allocation in turn, until the call is done. Built with -Wl,--wrap=malloc,--wrap=realloc. Prints what it looked at.
+/* What pcef_take answers to vectors of packets, and what is left of each call of a worker, and of lines of many kinds,
+ * where memory is refused: each allocation in turn, until the call is done. Built with
+ * -Wl,--wrap=malloc,--wrap=realloc. Prints what it looked at.
  *     refusals PROFILE.toml */
 #include "pcef.h"
 #include <stdio.h>
@@ -175,6 +176,86 @@ static void refuse_memory(void) {
     printf("so: %ld allocations were refused\n", refused);
 }
 
+/* ---- Lines */
+
+static const char ATTACH[] = "{\"do\":\"attach\"}";
+static const char CLOSE[] = "{\"do\":\"close\"}";
+static const char FLUSH[] = "{\"do\":\"flush\",\"worker\":0}";
+static const char FINISH[] = "{\"do\":\"finish\",\"worker\":0}";
+static const char NOTICE[] = "{\"do\":\"notice\",\"event\":\"RAT_CHANGE\",\"value\":\"eutran\"}";
+static const char OTHER_KEY[] = "{\"do\":\"monitor\",\"key\":\"other\",\"grant\":9}";
+static const char REMOVE[] = "{\"do\":\"remove\",\"name\":\"web\"}";
+static const char SHOW[] = "{\"do\":\"show\"}";
+static const char SUBSCRIBE[] = "{\"do\":\"triggers\",\"events\":[\"RAT_CHANGE\"]}";
+static const char TAKE[] = "{\"do\":\"take\",\"worker\":0,\"dir\":\"down\","
+                           "\"packet\":\"4500001c0000000040110000c63364070a0000020035138800080000\"}";
+static const char VOICE[] =
+    "{\"do\":\"install\",\"rule\":{\"name\":\"voice\",\"precedence\":10,"
+    "\"filters\":[{\"text\":\"permit out 6 from any to any\"}],\"qci\":1,"
+    "\"arp\":{\"level\":2,\"capability\":false,\"vulnerability\":false},"
+    "\"gbr\":{\"up\":64000,\"down\":64000},\"gate\":\"ENABLED\"}}";
+
+/* Lines before, the line that finds no memory, and one whose answer tells whether it was done. */
+static const struct {
+    const char *before[2], *line, *teller;
+} ASKED[] = {
+    {{NULL}, VOICE, SHOW},
+    {{NULL}, OTHER_KEY, SHOW},
+    {{NULL}, REMOVE, SHOW},
+    {{NULL}, ATTACH, ATTACH},
+    {{ATTACH}, TAKE, TAKE},
+    {{ATTACH, TAKE}, FLUSH, SHOW},
+    {{ATTACH, TAKE}, FINISH, FINISH},
+    {{SUBSCRIBE}, NOTICE, NOTICE},
+    {{NULL}, CLOSE, CLOSE},
+};
+
+static void begin_anew(size_t asked) {
+    char answer[ROOM];
+    pcef_close(session);
+    begin();
+    for (int i = 0; i < 2 && ASKED[asked].before[i]; i++) line(ASKED[asked].before[i], answer);
+}
+
+/* What the session answers next: where the line was done, with its answer, or where it wasn't. */
+static void tell(size_t asked, int is_done, char answer[ROOM], char told[ROOM]) {
+    begin_anew(asked);
+    if (is_done) line(ASKED[asked].line, answer);
+    line(ASKED[asked].teller, told);
+}
+
+/* Refuses each allocation of a line in turn, until none is left. Where the line has no answer for want of memory, the
+ * session stands as before it or as after it, which the next answer tells. Counts both. A line may be answered all the
+ * same where an allocation is refused that it can do without. */
+static void refuse_line(size_t asked, long counts[2]) {
+    char due[ROOM] = "", told[2][ROOM], after[ROOM];
+    const char *text = ASKED[asked].line;
+    tell(asked, 0, due, told[0]);
+    tell(asked, 1, due, told[1]);
+    int holds = strcmp(told[0], told[1]) != 0, was_refused = 1;
+    for (long granted = 0; was_refused; granted++) {
+        char written[ROOM] = {0};
+        begin_anew(asked);
+        left = granted;
+        size_t length = pcef_line(session, (const uint8_t *)text, strlen(text), (uint8_t *)written, ROOM - 1);
+        was_refused = left < 0;
+        left = -1;
+        int lacked = length == PCEF_NO_MEMORY;
+        line(ASKED[asked].teller, after);
+        int is_done = strcmp(after, told[1]) == 0;
+        holds &= strcmp(written, lacked ? "" : due) == 0 && (is_done || (lacked && strcmp(after, told[0]) == 0));
+        counts[is_done] += lacked;
+    }
+    check(holds, text);
+}
+
+static void refuse_lines(void) {
+    long counts[2] = {0, 0};
+    for (size_t asked = 0; asked < sizeof ASKED / sizeof *ASKED; asked++) refuse_line(asked, counts);
+    check(counts[0] > 50 && counts[1] > 5, "lines without memory were not done, or were done and had no answer");
+    printf("so: %ld were not done, and %ld were\n", counts[0], counts[1]);
+}
+
 int main(int argc, char **argv) {
     FILE *file = argc == 2 ? fopen(argv[1], "rb") : NULL;
     if (!file) return 2;
@@ -186,6 +267,7 @@ int main(int argc, char **argv) {
     take_vectors();
     keep_generation();
     refuse_memory();
+    refuse_lines();
     pcef_close(session);
     free(session);
     free(worker);

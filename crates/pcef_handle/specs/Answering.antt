@@ -1,6 +1,6 @@
 -- What is written to a caller's buffer (own choice).
 use Rattle.std.specs.Prelude.{ℕ, ◌≡◌, List, length, min, take, Option, Some, None, Result, Ok, Err, string_bytes}
-use Rattle.pcef_script.specs.LoneLines.{AnswersAlone}
+use Rattle.pcef_script.specs.LoneLines.{AnswersAlone, LacksAlone}
 use Rattle.pcef_script.specs.declared.step.LineAnswer.{LineAnswer}
 use Rattle.pcef_handle.specs.declared.held.Handle.{Handle}
 use Rattle.pcef_handle.specs.declared.held.OpenSession.{OpenSession}
@@ -26,11 +26,12 @@ StaysOpen old new =
     × (new.number ≡ old.number)
     × (new.world.session.forgotten ≡ old.world.session.forgotten)
 
--- a line is answered as in a script, into a buffer; when out of memory nothing is written
+-- A line is answered as in a script, into a buffer. When out of memory nothing is written, and the session and its
+-- workers are as before the line, or as after it.
 abbrev pub AnswersInto : OpenSession → List ℕ → List ℕ → Result ℕ CallRefusal → OpenSession → List ℕ → Type 0
 AnswersInto old line before (Ok octets) new after =
     StaysOpen old new × ((a : Option LineAnswer) × AnswersAlone line old.world a new.world × IsPut a before after octets)
-AnswersInto old line before (Err NoMemory) new after = StaysOpen old new × (after ≡ before)
+AnswersInto old line before (Err NoMemory) new after = StaysOpen old new × LacksAlone line old.world new.world × (after ≡ before)
 AnswersInto old line before (Err other) new after = ⊥
 
 -- in the session of a handle, which stays open; this refusal, where there is none

@@ -69,7 +69,8 @@ impl Handle {
     /// Does what a line of a script asks for, and returns the answer's length in octets. The answer is the text that
     /// `pcef script` writes for the line, without its line feed; as much of it as fits is written to the front of a
     /// buffer. A line of spaces, tabs and CR alone has no answer: 0 is returned. Takes memory for the answer and for
-    /// what the session keeps; when out of memory, the line may be done or not.
+    /// what the session keeps. When out of memory, nothing is written, and the session and its workers are as before
+    /// the line, or as after it: the answers to the next lines are those of one of both.
     pub fn line(&mut self, line: &[u8], buffer: &mut [u8]) -> Result<usize, CallRefusal>
         ensures answer { AnswersHandle self.old line.now buffer.old result self.new buffer.new }
         ensures number { self.new.next_number ≡ self.old.next_number }

@@ -1,23 +1,25 @@
 -- What is due to a line, by whether it is UTF-8, and the answer to what is due.
 use Rattle.std.proofs.Common.{◌≡◌, ◌∙◌, ap, ℕ, Bool, true, false, List, inl, inr, refl}
-use Rattle.std.proofs.lemmas.Result.{IfOk-weaker}
-use Rattle.std.specs.Prelude.{◌≢◌, Some, String, Result, Ok, Err, IfOk, string_bytes}
+use Rattle.std.proofs.lemmas.Result.{IfOk-weaker, on_err_weaker}
+use Rattle.std.specs.Prelude.{◌≢◌, Some, String, Result, Ok, Err, IfOk, OnErr, string_bytes}
 use Rattle.std.specs.declared.alloc.Global.{Global}
 use Rattle.std.specs.declared.alloc.AllocError.{AllocError}
 use Rattle.std.specs.Str.{IsUtf8, is_utf8}
 use Rattle.std.proofs.lemmas.Str.{IsUtf8-from_is_utf8, is_utf8-from_IsUtf8}
+use Rattle.pcef_model.specs.declared.step.Step.{Step}
 use Rattle.pcef_model.specs.Setting.{Setting}
 use Rattle.pcef_model.specs.Entries.{Journal}
 use Rattle.pcef_model.specs.Journals.{gen}
 use Rattle.pcef_line.specs.declared.line.Line.{Line}
+use Rattle.pcef_line.specs.declared.line.Line.TheVariants as line
 use Rattle.pcef_line.specs.declared.fault.LineFault.{LineFault}
 use Rattle.pcef_line.specs.declared.fault.LineFault.TheVariants.{NoMemory, NotUtf8}
 use Rattle.pcef_line.specs.LineOf.{LineOf}
 use Rattle.pcef_line.specs.LineValues.{Gives}
 use Rattle.pcef_script.specs.declared.step.LineAnswer.{LineAnswer}
-use Rattle.pcef_script.specs.ScriptAnswers.{AnswersAs, AnswersDue, DoesLine, DueWithin, IsDue}
+use Rattle.pcef_script.specs.ScriptAnswers.{AnswersAs, AnswersDue, DoesLine, DueWithin, IsDoneOrNot, IsDue}
 use Rattle.pcef_answer.specs.StepAnswers.{step_text}
-use Rattle.pcef_world.specs.Steps.{Reply, Standing, standing_of}
+use Rattle.pcef_world.specs.Steps.{Reply, Standing, standing_of, step_outcome}
 use Rattle.pcef_world.specs.Worlds.{World}
 
 pub text_due : (line : List ℕ) (due : Result Line LineFault) → IsUtf8 line → LineOf line due → DueWithin (Some line) due
@@ -60,3 +62,27 @@ step_told r w j generation reply due journal_is generation_is replied stands tol
           ∙ ap (step_text w.session.journal (gen w.session.journal)) replied ∙ ap (λ (s : Standing). step_text s.journal (gen s.journal) due.0) stands,
       stands,
     )) told
+
+-- ---- want of memory
+pub lacking : {A E P : Type 0} (r : Result A E) → P → OnErr r P
+lacking (Ok a) known = tt
+lacking (Err e) known = known
+
+pub done_more : (A B : List ℕ → Bool → Standing → Type 0) (s t : Standing) → ((text : List ℕ) (at_fault : Bool) → A text at_fault t → B text at_fault t) → IsDoneOrNot A s t → IsDoneOrNot B s t
+done_more A B s t more (inl same) = inl same
+done_more A B s t more (inr done) = inr (record { text = done.text; at_fault = done.at_fault; answer = more done.text done.at_fault done.answer })
+
+-- a step that was made
+pub step_done : (p : Setting) (s t : Standing) (step : Step) → t ≡ (step_outcome p s step).1 → IsDoneOrNot (AnswersAs p s (Ok (line.Step step))) s t
+step_done p s t step is =
+    let due = step_outcome p s step in
+    inr (record { text = step_text due.1.journal (gen due.1.journal) due.0; at_fault = false; answer = ((refl, is), refl) })
+
+-- a line that was read
+pub line_lacks : (p : Setting) (s t : Standing) (text : List ℕ) (l : Line) → (due : Result Line LineFault) × LineOf text due × Gives (λ l. l) (Ok l) due
+    → IsDoneOrNot (AnswersAs p s (Ok l)) s t → IsDoneOrNot (AnswersDue (LineOf text) p s) s t
+line_lacks p s t text l read known = done_more _ _ s t (λ text at_fault answer. (read.0, read.1, rw read.2 answer)) known
+
+-- what is due is due to more
+pub due_lacks : (Due More : Result Line LineFault → Type 0) (p : Setting) (s t : Standing) → ((due : Result Line LineFault) → Due due → More due) → IsDoneOrNot (AnswersDue Due p s) s t → IsDoneOrNot (AnswersDue More p s) s t
+due_lacks Due More p s t more known = done_more _ _ s t (λ text at_fault answer. (answer.0, more answer.0 answer.1, answer.2)) known

@@ -1,15 +1,16 @@
 -- The answer to a line, and the world after it: for private clauses.
-use Rattle.std.specs.Prelude.{ℕ, ◌≢◌, ◌∷◌, ◌++◌, [], List, Result, Err, IfOk, string_bytes}
+use Rattle.std.specs.Prelude.{ℕ, ◌≢◌, ◌∷◌, ◌++◌, [], List, Result, Ok, Err, IfOk, string_bytes}
 use Rattle.std.specs.declared.alloc.AllocError.{AllocError}
 use Rattle.pcef_model.specs.Setting.{Setting}
 use Rattle.pcef_model.specs.declared.step.Step.{Step}
 use Rattle.pcef_world.specs.Steps.{Standing, standing_of, step_outcome}
 use Rattle.pcef_world.specs.Worlds.{World}
 use Rattle.pcef_line.specs.declared.line.Line.{Line}
+use Rattle.pcef_line.specs.declared.line.Line.TheVariants as line
 use Rattle.pcef_line.specs.declared.fault.LineFault.{LineFault}
 use Rattle.pcef_line.specs.declared.fault.LineFault.TheVariants.{NoMemory}
 use Rattle.pcef_script.specs.declared.step.LineAnswer.{LineAnswer}
-use Rattle.pcef_script.specs.ScriptAnswers.{AnswersAs, AnswersDue, AnswersLine, DoesLine, IsDue}
+use Rattle.pcef_script.specs.ScriptAnswers.{AnswersAs, AnswersDue, AnswersLine, DoesLine, IsDoneOrNot, IsDue}
 use Rattle.pcef_script.specs.ScriptLines.{ForLine, Kept}
 
 -- the bytes that are written for an answer: its text and a line feed
@@ -24,6 +25,19 @@ AnswersStep before step text after =
 -- a world does what a line asks for, and this text is the answer
 abbrev pub DoesWorldLine : World → Line → List ℕ → World → Type 0
 DoesWorldLine before line text after = DoesLine before.session.setting (standing_of before) line text (standing_of after)
+
+-- memory is lacking where a line is done, or a step
+abbrev pub LineLacks : World → Line → World → Type 0
+LineLacks before line after =
+    IsDoneOrNot (AnswersAs before.session.setting (standing_of before) (Ok line)) (standing_of before) (standing_of after)
+
+abbrev pub StepLacks : World → Step → World → Type 0
+StepLacks before step after = LineLacks before (line.Step step) after
+
+-- and where this is due to a line
+abbrev pub LacksBy : (Result Line LineFault → Type 0) → World → World → Type 0
+LacksBy Due before after =
+    IsDoneOrNot (AnswersDue Due before.session.setting (standing_of before)) (standing_of before) (standing_of after)
 
 -- a fault has the same answer in every world
 abbrev pub AnswersFault : LineFault → Result LineAnswer AllocError → Type 0

@@ -1,5 +1,5 @@
 -- What is answered to the lines of a script (own choice).
-use Rattle.std.specs.Prelude.{ℕ, ◌≡◌, ◌+◌, Bool, true, false, not, List, [], ◌∷◌, ◌++◌, Option, Some, None, Result, Ok, Err, filter, if◌then◌else◌}
+use Rattle.std.specs.Prelude.{ℕ, ◌≡◌, ◌⊎◌, ◌+◌, Bool, true, false, not, List, [], ◌∷◌, ◌++◌, Option, Some, None, Result, Ok, Err, filter, if◌then◌else◌}
 use Rattle.std.specs.Str.{is_utf8}
 use Rattle.pcef_model.specs.Setting.{Setting}
 use Rattle.pcef_model.specs.Journals.{gen}
@@ -50,6 +50,22 @@ AnswersDue Due p before text at_fault after = (due : Result Line LineFault) × D
 abbrev pub AnswersLine : Setting → Standing → List ℕ → List ℕ → Bool → Standing → Type 0
 AnswersLine p before line text at_fault after = AnswersDue (LineDue line) p before text at_fault after
 
+-- ---- want of memory
+-- a line is done: it would have this answer, and all stands as after it
+pub record IsDone {S : Type 0} (Answer : List ℕ → Bool → S → Type 0) (after : S) : Type 0 where
+  pub text : List ℕ
+  pub at_fault : Bool
+  pub answer : Answer text at_fault after
+
+-- memory was lacking for a line: all stands as before, or the line is done, and its answer alone is lacking
+abbrev pub IsDoneOrNot : {S : Type 0} → (List ℕ → Bool → S → Type 0) → S → S → Type 0
+IsDoneOrNot Answer before after = (after ≡ before) ⊎ IsDone Answer after
+
+-- memory is never lacking for a blank line
+abbrev pub LacksForLine : Setting → Standing → List ℕ → Standing → Type 0
+LacksForLine p before line after = (is_blank line ≡ false) × IsDoneOrNot (AnswersLine p before line) before after
+
+-- ---- many lines
 -- the lines that get an answer
 abbrev pub answered : List (List ℕ) → List (List ℕ)
 answered lines = filter (λ line. not (is_blank line)) lines

@@ -1,10 +1,10 @@
 //! A line that comes without a script around it.
 
-ghost use Rattle.std.specs.Prelude.{◌≡◌, ◌≤◌, IfOk};
+ghost use Rattle.std.specs.Prelude.{◌≡◌, ◌≤◌, IfOk, OnErr};
 ghost use Rattle.std.specs.Option.{option_map};
 ghost use Rattle.pcef_model.specs.Journals.{report_count};
-ghost use Rattle.pcef_script.specs.LineAnswers.{AnswersBy};
-ghost use Rattle.pcef_script.specs.LoneLines.{AnswersAlone};
+ghost use Rattle.pcef_script.specs.LineAnswers.{AnswersBy, LacksBy};
+ghost use Rattle.pcef_script.specs.LoneLines.{AnswersAlone, LacksAlone};
 ghost use Rattle.pcef_script.specs.ScriptAnswers.{LineDue};
 ghost use Rattle.pcef_script.specs.ScriptLines.{within_limit};
 
@@ -36,6 +36,7 @@ fn answer_of<C: Detects>(
     requires offered { C.offers catalog.now ≡ world.old.session.setting.catalog }
     requires kept { world.old.session.forgotten ≤ report_count world.old.session.journal }
     ensures answer { IfOk result (λ a. AnswersBy (LineDue line.now) world.old a world.new) }
+    ensures lacks { OnErr result (LacksBy (LineDue line.now) world.old world.new) }
     ensures setting { world.new.session.setting ≡ world.old.session.setting }
     ensures forgotten { world.new.session.forgotten ≡ world.old.session.forgotten }
 {
@@ -47,7 +48,8 @@ fn answer_of<C: Detects>(
 
 /// Does what a line of a script asks for, and returns the answer that a script writes for it, without the line feed;
 /// none for a line of spaces, tabs and CR alone, which changes nothing. A line of more than 262,144 bytes is at fault.
-/// Takes memory for the answer and for what the session keeps. When out of memory, the line may be done or not.
+/// Takes memory for the answer and for what the session keeps. When out of memory, the session and its workers are as
+/// before the line, or as after it: the answers to the next lines are those of one of both.
 pub fn answer_alone<C: Detects>(
     alloc: Global,
     catalog: &C,
@@ -58,6 +60,7 @@ pub fn answer_alone<C: Detects>(
     requires offered { C.offers catalog.now ≡ world.old.session.setting.catalog }
     requires kept { world.old.session.forgotten ≤ report_count world.old.session.journal }
     ensures answer { IfOk result (λ a. AnswersAlone line.now world.old a world.new) }
+    ensures lacks { OnErr result (LacksAlone line.now world.old world.new) }
     ensures setting { world.new.session.setting ≡ world.old.session.setting }
     ensures forgotten { world.new.session.forgotten ≡ world.old.session.forgotten }
 {

@@ -1,11 +1,11 @@
 //! What a line does.
 
-ghost use Rattle.std.specs.Prelude.{◌≡◌, ◌≤◌, IfOk, Some, false, string_bytes};
+ghost use Rattle.std.specs.Prelude.{◌≡◌, ◌≤◌, IfOk, OnErr, Some, false, string_bytes};
 ghost use Rattle.pcef_line.specs.LineOf.{LineOf};
 ghost use Rattle.pcef_model.specs.Journals.{report_count};
 ghost use Rattle.pcef_line.specs.declared.fault.LineFault.TheVariants.{LineTooLong};
 ghost use Rattle.pcef_line.specs.declared.line.Line.TheVariants.{Show};
-ghost use Rattle.pcef_script.specs.LineAnswers.{AnswersBy, AnswersFault, AnswersReadFault, DoesWorldLine, AnswersStep};
+ghost use Rattle.pcef_script.specs.LineAnswers.{AnswersBy, AnswersFault, AnswersReadFault, DoesWorldLine, AnswersStep, LacksBy, LineLacks, StepLacks};
 ghost use Rattle.pcef_script.specs.ScriptAnswers.{DueWithin};
 
 use pcef_answer::{fault_text, show_answer, step_answer};
@@ -49,6 +49,7 @@ fn step<C: Detects>(
     requires offered { C.offers catalog.now ≡ world.old.session.setting.catalog }
     requires kept { world.old.session.forgotten ≤ report_count world.old.session.journal }
     ensures answer { IfOk result (λ text. AnswersStep world.old step (string_bytes text) world.new) }
+    ensures lacks { OnErr result (StepLacks world.old step world.new) }
     ensures setting { world.new.session.setting ≡ world.old.session.setting }
     ensures forgotten { world.new.session.forgotten ≡ world.old.session.forgotten }
 {
@@ -66,6 +67,7 @@ fn line_text<C: Detects>(
     requires offered { C.offers catalog.now ≡ world.old.session.setting.catalog }
     requires kept { world.old.session.forgotten ≤ report_count world.old.session.journal }
     ensures answer { IfOk result (λ text. DoesWorldLine world.old line (string_bytes text) world.new) }
+    ensures lacks { OnErr result (LineLacks world.old line world.new) }
     ensures setting { world.new.session.setting ≡ world.old.session.setting }
     ensures forgotten { world.new.session.forgotten ≡ world.old.session.forgotten }
 {
@@ -85,6 +87,7 @@ fn do_step<C: Detects>(
     requires kept { world.old.session.forgotten ≤ report_count world.old.session.journal }
     ensures text { IfOk result (λ a. DoesWorldLine world.old line (string_bytes a.text) world.new) }
     ensures counts { IfOk result (λ a. a.is_fault ≡ false) }
+    ensures lacks { OnErr result (LineLacks world.old line world.new) }
     ensures setting { world.new.session.setting ≡ world.old.session.setting }
     ensures forgotten { world.new.session.forgotten ≡ world.old.session.forgotten }
 {
@@ -114,6 +117,7 @@ fn answer_text<C: Detects>(
     requires offered { C.offers catalog.now ≡ world.old.session.setting.catalog }
     requires kept { world.old.session.forgotten ≤ report_count world.old.session.journal }
     ensures answer { IfOk result (λ a. AnswersBy (LineOf text.now) world.old a world.new) }
+    ensures lacks { OnErr result (LacksBy (LineOf text.now) world.old world.new) }
     ensures setting { world.new.session.setting ≡ world.old.session.setting }
     ensures forgotten { world.new.session.forgotten ≡ world.old.session.forgotten }
 {
@@ -135,6 +139,7 @@ pub(crate) fn answer_line<C: Detects>(
     requires kept { world.old.session.forgotten ≤ report_count world.old.session.journal }
     ensures answer { IfOk result (λ a.
         AnswersBy (DueWithin (Some line.now)) world.old a world.new) }
+    ensures lacks { OnErr result (LacksBy (DueWithin (Some line.now)) world.old world.new) }
     ensures setting { world.new.session.setting ≡ world.old.session.setting }
     ensures forgotten { world.new.session.forgotten ≡ world.old.session.forgotten }
 {
