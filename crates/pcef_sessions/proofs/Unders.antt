@@ -1,5 +1,5 @@
 -- From the steps to an answer to what stands under a name.
-use Rattle.std.proofs.Common.{◌≡◌, ◌≢◌, ◌∙◌, ℕ, Bool, true, false, List, Option, Some, None, refl, sym, ap, subst, string_bytes}
+use Rattle.std.proofs.Common.{◌≡◌, ◌≢◌, ◌∙◌, ℕ, Bool, true, false, List, Option, Some, None, inl, inr, refl, sym, ap, subst, string_bytes}
 use Rattle.pcef_model.specs.Setting.{Setting}
 use Rattle.pcef_world.specs.Steps.{Standing}
 use Rattle.pcef_script.specs.declared.step.LineAnswer.{LineAnswer}
@@ -7,8 +7,8 @@ use Rattle.pcef_script.specs.ScriptAnswers.{AnswersLine}
 use Rattle.pcef_sessions.specs.declared.asking.Asking.{Asking}
 use Rattle.pcef_sessions.specs.declared.asking.Asking.TheVariants as asking
 use Rattle.pcef_sessions.specs.Asked.{asked_of}
-use Rattle.pcef_sessions.specs.Under.{Session, InSession, UnderBy, UnderName, WithoutSession}
-use Rattle.pcef_sessions.specs.private.Steps.{AsksOf, InsteadOf, Runs}
+use Rattle.pcef_sessions.specs.Under.{Session, InSession, LacksUnder, UnderBy, UnderName, WithoutSession}
+use Rattle.pcef_sessions.specs.private.Steps.{AsksOf, InsteadOf, RunLacks, Runs}
 use Rattle.pcef_sessions.proofs.Asks.{fault_stays, is_of_script}
 
 -- no session is there
@@ -51,3 +51,17 @@ pub instead_told : (p : Setting) (there between after : Option Session) (line : 
     → InsteadOf p between (asked_of line) script a after → UnderName p there line (string_bytes a.text) a.is_fault after
 instead_told p None between after line script a runs wrong h = absurd runs
 instead_told p (Some s) between after line script a runs wrong h = instead_by p s (asked_of line) line script a between after runs wrong h
+
+-- memory was lacking for a session's answer: a line at fault changes nothing, and any other asks nothing of the sessions
+done_under : (p : Setting) (s : Session) (line : List ℕ) (standing : Standing) (after : Option Session) (text : List ℕ) (at_fault test : Bool) → at_fault ≡ test
+    → AnswersLine s.setting s.standing line text at_fault standing → after ≡ Some (record s { standing = standing }) → LacksUnder p (Some s) line after
+done_under p s line standing after text at_fault true wrong told is =
+    inl (is ∙ ap (λ (t : Standing). Some (record s { standing = t })) (fault_stays s.setting s.standing standing line text at_fault told wrong))
+done_under p s line standing after text at_fault false right told is =
+    let script = is_of_script s.setting s.standing standing line text at_fault told right in
+    inr (record { text = text; at_fault = at_fault; answer = subst (λ k. UnderBy p (Some s) k line text at_fault after) (sym script) (standing, told, is) })
+
+pub run_lacks : (p : Setting) (there after : Option Session) (line : List ℕ) → RunLacks there line after → LacksUnder p there line after
+run_lacks p None after line lacks = absurd lacks
+run_lacks p (Some s) after line (standing, (filled, inl same), is) = inl (is ∙ ap (λ (t : Standing). Some (record s { standing = t })) same)
+run_lacks p (Some s) after line (standing, (filled, inr done), is) = done_under p s line standing after done.text done.at_fault done.at_fault refl done.answer is

@@ -5,7 +5,7 @@ use Rattle.pcef_sessions.specs.declared.saying.NamedAnswer.{NamedAnswer}
 use Rattle.pcef_sessions.specs.declared.sessions.Sessions.{Sessions}
 use Rattle.pcef_sessions.specs.Addressed.{addressed}
 use Rattle.pcef_sessions.specs.Standing.{fixed, held}
-use Rattle.pcef_sessions.specs.Under.{Session, UnderName, bad_name_text}
+use Rattle.pcef_sessions.specs.Under.{LacksUnder, Session, UnderName, bad_name_text}
 
 -- an answer, under a name or under none, and whether the line is at fault
 pub record Said : Type 0 where
@@ -30,3 +30,12 @@ SaysTo p old (Some line) said new =
 
 abbrev pub AnswersNamedLine : Sessions → List ℕ → NamedAnswer → Sessions → Type 0
 AnswersNamedLine old line t new = SaysTo (fixed old) (held old) (addressed line) (said_of t) (held new)
+
+-- memory was lacking for a line: all names but its own keep what stands under them
+abbrev pub LacksTo : Setting → (List ℕ → Option Session) → Option (List ℕ × List ℕ) → (List ℕ → Option Session) → Type 0
+LacksTo p old None new = (any : List ℕ) → new any ≡ old any
+LacksTo p old (Some line) new =
+    LacksUnder p (old line.0) line.1 (new line.0) × ((other : List ℕ) → other ≢ line.0 → new other ≡ old other)
+
+abbrev pub LacksForNamedLine : Sessions → List ℕ → Sessions → Type 0
+LacksForNamedLine old line new = LacksTo (fixed old) (held old) (addressed line) (held new)

@@ -5,7 +5,7 @@ use Rattle.pcef_model.specs.Setting.{Setting}
 use Rattle.pcef_world.specs.Steps.{Standing, at_start}
 use Rattle.pcef_line.specs.declared.fault.LineFault.TheVariants as line
 use Rattle.pcef_answer.specs.FaultAnswers.{fault_text}
-use Rattle.pcef_script.specs.ScriptAnswers.{AnswersLine}
+use Rattle.pcef_script.specs.ScriptAnswers.{AnswersLine, IsDoneOrNot}
 use Rattle.pcef_sessions.specs.declared.asking.Asking.{Asking}
 use Rattle.pcef_sessions.specs.declared.asking.Asking.TheVariants as asking
 use Rattle.pcef_sessions.specs.declared.asking.AskingFault.{AskingFault}
@@ -77,3 +77,7 @@ UnderBy p (Some s) asks line text at_fault after = InSession s asks line text at
 -- the answer to a line for a name, whether the line is at fault, and what stands under the name then
 abbrev pub UnderName : Setting → Option Session → List ℕ → List ℕ → Bool → Option Session → Type 0
 UnderName p there line text at_fault after = UnderBy p there (asked_of line) line text at_fault after
+
+-- memory was lacking for the line: what stands under the name is as before, or as after the line
+abbrev pub LacksUnder : Setting → Option Session → List ℕ → Option Session → Type 0
+LacksUnder p there line after = IsDoneOrNot (UnderName p there line) there after

@@ -1,9 +1,9 @@
 //! A session that is open.
 
-ghost use Rattle.std.specs.Prelude.{◌≡◌, IfOk, false, string_bytes};
+ghost use Rattle.std.specs.Prelude.{◌≡◌, IfOk, OnErr, false, string_bytes};
 ghost use Rattle.std.specs.Arc.{arc_value};
 ghost use Rattle.pcef_model.specs.Journals.{report_count};
-ghost use Rattle.pcef_script.specs.ScriptAnswers.{AnswersLine};
+ghost use Rattle.pcef_script.specs.ScriptAnswers.{AnswersLine, LacksForLine};
 ghost use Rattle.pcef_script.specs.ScriptLines.{is_blank};
 ghost use Rattle.pcef_world.specs.Steps.{standing_of};
 
@@ -71,6 +71,8 @@ impl Held {
         ensures answer { IfOk result (λ a.
             AnswersLine self.old.session.setting self.old.session.standing line.now
             (string_bytes a.text) a.is_fault self.new.session.standing) }
+        ensures lacks { OnErr result (LacksForLine self.old.session.setting self.old.session.standing
+            line.now self.new.session.standing) }
         ensures setting { self.new.session.setting ≡ self.old.session.setting }
         ensures forgotten { self.new.forgotten ≡ report_count self.old.session.standing.journal }
     {

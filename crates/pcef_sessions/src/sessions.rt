@@ -1,6 +1,6 @@
 //! The sessions that are open, by their names.
 
-ghost use Rattle.std.specs.Prelude.{◌≡◌, ◌≢◌, ℕ, List, IfErr, IfOk, None, OnOk, Some, false, is_some};
+ghost use Rattle.std.specs.Prelude.{◌≡◌, ◌≢◌, ℕ, List, IfErr, IfOk, None, OnErr, OnOk, Some, false};
 ghost use Rattle.std.specs.Arc.{arc_value};
 ghost use Rattle.pcef_model.specs.ProfileModel.{setting_of};
 ghost use Rattle.pcef_script.specs.Running.{OpenFails};
@@ -8,11 +8,11 @@ ghost use Rattle.pcef_script.specs.ScriptLines.{is_blank};
 ghost use Rattle.pcef_script.specs.Scripts.{Opened};
 ghost use Rattle.pcef_world.specs.Worlds.{IsOpenedWorld};
 ghost use Rattle.pcef_sessions.specs.Asked.{asked_of};
-ghost use Rattle.pcef_sessions.specs.Sayings.{AnswersNamedLine};
+ghost use Rattle.pcef_sessions.specs.Sayings.{AnswersNamedLine, LacksForNamedLine};
 ghost use Rattle.pcef_sessions.specs.declared.asking.Asking.TheVariants as asking;
 ghost use Rattle.pcef_sessions.specs.Standing.{Becomes, fixed, held};
 ghost use Rattle.pcef_sessions.specs.Under.{opened, with_address};
-ghost use Rattle.pcef_sessions.specs.private.Steps.{Asks, AsksInstead, OthersStay, Runs, AnswersIn};
+ghost use Rattle.pcef_sessions.specs.private.Steps.{AllStay, AnswersIn, Asks, AsksInstead, LacksIn, OthersStay, RunLacks, Runs};
 
 use crate::asking::{Asking, asked_of};
 use crate::held::Held;
@@ -130,6 +130,7 @@ impl Sessions {
     fn start(&mut self, name: &SessionName, ue: Option<Addr>) -> Result<(), AllocError>
         ensures there { OnOk result (Becomes self.old self.new name.now
             (Some (opened (with_address ue (fixed self.old))))) }
+        ensures lacks { OnErr result (AllStay self.old self.new) }
         ensures fixed { fixed self.new ≡ fixed self.old }
     {
         let held = self.open(ue)?;
@@ -137,13 +138,12 @@ impl Sessions {
         Ok(())
     }
 
-    /// Ends the session of a name, and returns whether there was one.
-    fn stop(&mut self, name: &SessionName) -> bool
-        ensures found { result ≡ is_some (held self.old name.now) }
+    /// Ends the session of a name, if there is one.
+    fn stop(&mut self, name: &SessionName)
         ensures there { Becomes self.old self.new name.now None }
         ensures fixed { fixed self.new ≡ fixed self.old }
     {
-        self.table.remove(name).is_some()
+        let _ended = self.table.remove(name);
     }
 
     /// The answer of a script to a line for a name, if there is a session. Where the line changed its rules, it may
@@ -152,6 +152,7 @@ impl Sessions {
         requires { is_blank line.now ≡ false }
         ensures there { IfOk result (λ a. Runs (held self.old name.now) line.now a
             (held self.new name.now)) }
+        ensures lacks { OnErr result (RunLacks (held self.old name.now) line.now (held self.new name.now)) }
         ensures others { OthersStay self.old name.now self.new }
         ensures fixed { fixed self.new ≡ fixed self.old }
     {
@@ -167,13 +168,14 @@ impl Sessions {
         }
     }
 
-    /// The answer to a line that opens a session.
+    /// The answer to a line that opens a session. It comes first, so that nothing is done where memory is lacking.
     fn answer_open(
         &mut self,
         name: &SessionName,
         ue: Option<Addr>,
     ) -> Result<LineAnswer, AllocError>
         ensures answer { IfOk result (λ a. Asks self.old name.now (asking.Open ue) a self.new) }
+        ensures lacks { OnErr result (AllStay self.old self.new) }
         ensures fixed { fixed self.new ≡ fixed self.old }
     {
         if self.table.contains_key(name) {
@@ -183,25 +185,29 @@ impl Sessions {
                 false,
             );
         }
+        let answer = says(self.alloc, "{\"ok\":true}", false)?;
         self.start(name, ue)?;
-        says(self.alloc, "{\"ok\":true}", false)
+        Ok(answer)
     }
 
-    /// The answer to a line that ends a session.
+    /// The answer to a line that ends a session. It comes first, so that nothing is done where memory is lacking.
     fn asked_end(&mut self, name: &SessionName) -> Result<LineAnswer, AllocError>
         ensures answer { IfOk result (λ a. Asks self.old name.now asking.End a self.new) }
+        ensures lacks { OnErr result (AllStay self.old self.new) }
         ensures fixed { fixed self.new ≡ fixed self.old }
     {
-        if self.stop(name) {
-            says(self.alloc, "{\"ok\":true}", false)
-        } else {
-            says(self.alloc, "{\"name\":\"NoSession\",\"refused\":0}", false)
+        if !self.table.contains_key(name) {
+            return says(self.alloc, "{\"name\":\"NoSession\",\"refused\":0}", false);
         }
+        let answer = says(self.alloc, "{\"ok\":true}", false)?;
+        self.stop(name);
+        Ok(answer)
     }
 
     /// The answer to a line that asks this of the sessions, or of a session that isn't open.
     fn ask(&mut self, name: &SessionName, asking: Asking) -> Result<LineAnswer, AllocError>
         ensures answer { IfOk result (λ a. Asks self.old name.now asking a self.new) }
+        ensures lacks { OnErr result (AllStay self.old self.new) }
         ensures fixed { fixed self.new ≡ fixed self.old }
     {
         match asking {
@@ -215,6 +221,7 @@ impl Sessions {
     /// The answer to a line of a session that isn't open.
     fn ask_first(&mut self, name: &SessionName, line: &[u8]) -> Result<LineAnswer, AllocError>
         ensures answer { IfOk result (λ a. Asks self.old name.now (asked_of line.now) a self.new) }
+        ensures lacks { OnErr result (AllStay self.old self.new) }
         ensures fixed { fixed self.new ≡ fixed self.old }
     {
         let asking = asked_of(self.alloc, line)?;
@@ -229,6 +236,7 @@ impl Sessions {
         answer: LineAnswer,
     ) -> Result<LineAnswer, AllocError>
         ensures answer { IfOk result (λ a. AsksInstead self.old name.now line.now answer a self.new) }
+        ensures lacks { OnErr result (AllStay self.old self.new) }
         ensures fixed { fixed self.new ≡ fixed self.old }
     {
         match asked_of(self.alloc, line)? {
@@ -241,6 +249,7 @@ impl Sessions {
     fn answer_to(&mut self, name: &SessionName, line: &[u8]) -> Result<LineAnswer, AllocError>
         requires { is_blank line.now ≡ false }
         ensures answer { IfOk result (λ a. AnswersIn self.old name.now line.now a self.new) }
+        ensures lacks { OnErr result (LacksIn self.old name.now line.now self.new) }
         ensures fixed { fixed self.new ≡ fixed self.old }
     {
         match self.run(name, line)? {
@@ -257,9 +266,11 @@ impl Sessions {
 
     /// Does what a line asks for: a session's name, one space, and a line of a script, or one that opens the session or
     /// ends it. Nothing is done for a line without name, space or rest. Takes memory for the answer and for what a
-    /// session keeps; when out of memory, the line may be done or not.
+    /// session keeps. When out of memory, what stands under the name is as before, or as after the line; the other
+    /// names keep what they have.
     pub fn answer(&mut self, line: &[u8]) -> Result<NamedAnswer, AllocError>
         ensures answer { IfOk result (λ t. AnswersNamedLine self.old line.now t self.new) }
+        ensures lacks { OnErr result (LacksForNamedLine self.old line.now self.new) }
         ensures fixed { fixed self.new ≡ fixed self.old }
     {
         match split_name(line) {

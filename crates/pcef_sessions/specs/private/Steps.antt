@@ -3,17 +3,21 @@ use Rattle.std.specs.Prelude.{ℕ, ◌≡◌, ◌≢◌, List, true, false, Opti
 use Rattle.pcef_model.specs.Setting.{Setting}
 use Rattle.pcef_world.specs.Steps.{Standing}
 use Rattle.pcef_script.specs.declared.step.LineAnswer.{LineAnswer}
-use Rattle.pcef_script.specs.ScriptAnswers.{AnswersLine}
+use Rattle.pcef_script.specs.ScriptAnswers.{AnswersLine, LacksForLine}
 use Rattle.pcef_sessions.specs.declared.asking.Asking.{Asking}
 use Rattle.pcef_sessions.specs.declared.asking.Asking.TheVariants as asking
 use Rattle.pcef_sessions.specs.declared.sessions.Sessions.{Sessions}
 use Rattle.pcef_sessions.specs.Asked.{asked_of}
 use Rattle.pcef_sessions.specs.Standing.{fixed, held}
-use Rattle.pcef_sessions.specs.Under.{Session, Says, UnderName, asking_fault_text, done_text, is_open_text, no_session_text, opened, with_address}
+use Rattle.pcef_sessions.specs.Under.{LacksUnder, Session, Says, UnderName, asking_fault_text, done_text, is_open_text, no_session_text, opened, with_address}
 
 -- nothing changes under the other names
 abbrev pub OthersStay : Sessions → List ℕ → Sessions → Type 0
 OthersStay old name new = (other : List ℕ) → other ≢ name → held new other ≡ held old other
+
+-- nothing changes under any name
+abbrev pub AllStay : Sessions → Sessions → Type 0
+AllStay old new = (any : List ℕ) → held new any ≡ held old any
 
 -- a session that is there answers as a script does
 abbrev pub Runs : Option Session → List ℕ → Option LineAnswer → Option Session → Type 0
@@ -23,6 +27,12 @@ Runs (Some s) line None after = ⊥
 Runs (Some s) line (Some a) after =
     (standing : Standing) × AnswersLine s.setting s.standing line (string_bytes a.text) a.is_fault standing
     × (after ≡ Some (record s { standing = standing }))
+
+-- memory is lacking for the session's answer
+abbrev pub RunLacks : Option Session → List ℕ → Option Session → Type 0
+RunLacks None line after = ⊥
+RunLacks (Some s) line after =
+    (standing : Standing) × LacksForLine s.setting s.standing line standing × (after ≡ Some (record s { standing = standing }))
 
 -- what the sessions answer, whatever a script would
 abbrev pub AsksOf : Setting → Option Session → Asking → LineAnswer → Option Session → Type 0
@@ -50,3 +60,6 @@ AsksInstead old name line script a new =
 abbrev pub AnswersIn : Sessions → List ℕ → List ℕ → LineAnswer → Sessions → Type 0
 AnswersIn old name line a new =
     UnderName (fixed old) (held old name) line (string_bytes a.text) a.is_fault (held new name) × OthersStay old name new
+
+abbrev pub LacksIn : Sessions → List ℕ → List ℕ → Sessions → Type 0
+LacksIn old name line new = LacksUnder (fixed old) (held old name) line (held new name) × OthersStay old name new
