@@ -83,7 +83,7 @@ exchanges_next script answers script_later answers_later line answer first secon
 pub no_script : (told : List Exchange) (script answers : List (ℕ × List ℕ)) → script ≡ [] → told ++ map exchange_of (zip script answers) ≡ told
 no_script told script answers none = rw (none, append-nil told) refl
 
-zip_nothing : (script : List (ℕ × List ℕ)) → zip {X = ℕ × List ℕ} script [] ≡ []
+pub zip_nothing : (script : List (ℕ × List ℕ)) → zip {X = ℕ × List ℕ} script [] ≡ []
 zip_nothing [] = refl
 zip_nothing (line ∷ script) = refl
 

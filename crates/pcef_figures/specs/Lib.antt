@@ -3,6 +3,7 @@ pub mod Grants
 pub mod Guarantees
 pub mod Pairing
 pub mod Sums
+pub mod Times
 pub mod Usages
 pub mod Verdicts
 pub mod private

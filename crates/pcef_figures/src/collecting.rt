@@ -68,7 +68,7 @@ pub struct Collected {
 }
 
 /// The JSON value of a line, if it is one.
-fn value_of(alloc: Global, line: &[u8]) -> Result<Option<Value>, AllocError>
+pub(crate) fn value_of(alloc: Global, line: &[u8]) -> Result<Option<Value>, AllocError>
     ensures { IfOk result (λ value. option_map view value ≡ data_of line.now) }
 {
     let Ok(text) = str::from_utf8(line) else {

@@ -77,6 +77,17 @@ pub struct Judged {
     pub bearer: Option<u64>,
 }
 
+/// When the packet of a `take` line was recorded.
+#[derive(Clone, Copy, Debug, PartialEq, Eq)]
+pub struct Stamp {
+    /// The number of the line, from 1.
+    pub line: u64,
+    /// Nanoseconds since the start of 1970.
+    pub nanoseconds: u64,
+    /// The number of the frame in its capture, from 1.
+    pub frame: u64,
+}
+
 /// A report of usage.
 #[derive(Drop)]
 pub struct Usage {
