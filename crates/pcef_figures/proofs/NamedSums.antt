@@ -1,13 +1,11 @@
 -- The sum of a name with some octets more.
 use denote.Ref.{Bor}
 use Rattle.std.proofs.Common.{◌≡◌, ◌+◌, ℕ, Bool, true, false, cond, List, Option, Some, BTreeMap, refl, sym, ap, subst, add-zero, if◌then◌else◌}
-use Rattle.std.specs.Prelude.{is_some, string_bytes}
 use Rattle.std.specs.BTreeMap.{get_by}
 use Rattle.std.specs.Cmp.Lexicographic.{bytes_decides, slice_cmp}
 use Rattle.std.specs.Ordering.{nat_cmp}
 use Rattle.std.specs.Str.{bytes_eq}
-use Rattle.pcef_figures.specs.declared.figures.Judged.{Judged}
-use Rattle.pcef_figures.specs.Sums.{IsSum, octets_by, or_nought, sum_in}
+use Rattle.pcef_figures.specs.Sums.{IsSum, or_nought, sum_in}
 
 more_by : (new old : BTreeMap (Bor (List ℕ)) (Option ℕ)) (name key : List ℕ) (octets n : ℕ) (sum : Option ℕ) (same : Bool) → bytes_eq name key ≡ same
     → ((m : ℕ) → IsSum m (sum_in old name) → IsSum (m + octets) sum)
@@ -24,10 +22,3 @@ pub more_of : (new old : BTreeMap (Bor (List ℕ)) (Option ℕ)) (name key : Lis
     → get_by (λ k. slice_cmp nat_cmp key k.now) new ≡ cond (bytes_eq name key) (Some sum) (get_by (λ k. slice_cmp nat_cmp key k.now) old)
     → IsSum n (sum_in old key) → IsSum (n + (if bytes_eq name key then octets else 0)) (sum_in new key)
 more_of new old name key octets n sum more now was = more_by new old name key octets n sum (bytes_eq name key) refl more now was
-
--- ---- packets with and without a bearer
-pub passed : (rule : List ℕ) (j : Judged) → is_some j.bearer ≡ true → (if bytes_eq (string_bytes j.rule) rule then j.packet.octets else 0) ≡ octets_by rule j
-passed rule j is = rw is refl
-
-pub not_passed : (rule : List ℕ) (j : Judged) → is_some j.bearer ≡ false → 0 ≡ octets_by rule j
-not_passed rule j is = rw is refl

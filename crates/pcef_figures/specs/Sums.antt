@@ -1,6 +1,6 @@
 -- Sums of octets over the figures of a script (own choice).
 use denote.Ref.{Bor}
-use Rattle.std.specs.Prelude.{ℕ, ◌≡◌, ◌≤◌, ◌^◌, List, Option, Some, None, is_some, string_bytes, ◌&&◌, if◌then◌else◌}
+use Rattle.std.specs.Prelude.{ℕ, Bool, true, false, not, ◌≡◌, ◌≤◌, ◌^◌, List, Option, Some, None, is_some, string_bytes, ◌&&◌, if◌then◌else◌}
 use Rattle.std.specs.BTreeMap.{BTreeMap, get_by}
 use Rattle.std.specs.Cmp.Lexicographic.{slice_cmp}
 use Rattle.std.specs.Ordering.{nat_cmp}
@@ -8,6 +8,11 @@ use Rattle.std.specs.List.{sum_by}
 use Rattle.std.specs.Str.{bytes_eq}
 use Rattle.pcef_figures.specs.declared.figures.Judged.{Judged}
 use Rattle.pcef_figures.specs.declared.figures.Usage.{Usage}
+use Rattle.pcef_figures.specs.declared.figures.Verdict.{Verdict}
+use Rattle.pcef_figures.specs.declared.figures.Verdict.TheVariants.{Passed, Gated, Unmatched, Stray}
+use Rattle.pcef_figures.specs.declared.sums.Count.{Count}
+use Rattle.pcef_figures.specs.declared.sums.Count.TheVariants.{PacketsUp, PacketsDown, OctetsUp, OctetsDown, Octets}
+use Rattle.pcef_figures.specs.declared.sums.Count.TheVariants as count
 
 -- ---- sums by name
 -- a name that has no sum has 0
@@ -31,9 +36,35 @@ octets_for key u = if bytes_eq (string_bytes u.key) key then u.octets else 0
 abbrev pub usage_octets : List ℕ → List Usage → ℕ
 usage_octets key usage = sum_by (octets_for key) usage
 
--- the octets of the packets that passed by a rule: those with a bearer
-abbrev pub octets_by : List ℕ → Judged → ℕ
-octets_by rule j = if is_some j.bearer && bytes_eq (string_bytes j.rule) rule then j.packet.octets else 0
+-- ---- packets
+-- a packet that passed has a bearer
+abbrev pub passed : Judged → Bool
+passed j = is_some j.bearer
 
-abbrev pub judged_octets : List ℕ → List Judged → ℕ
-judged_octets rule judged = sum_by (octets_by rule) judged
+abbrev pub passed_up : Judged → Bool
+passed_up j = passed j && j.packet.is_up
+
+abbrev pub passed_down : Judged → Bool
+passed_down j = passed j && not j.packet.is_up
+
+abbrev pub is_gated : Verdict → Bool
+is_gated Passed = false
+is_gated Gated = true
+is_gated Unmatched = false
+is_gated Stray = false
+
+-- how much a packet adds to a count
+abbrev pub weight : Count → Judged → ℕ
+weight PacketsUp j = if passed_up j then 1 else 0
+weight PacketsDown j = if passed_down j then 1 else 0
+weight OctetsUp j = if passed_up j then j.packet.octets else 0
+weight OctetsDown j = if passed_down j then j.packet.octets else 0
+weight Octets j = if passed j then j.packet.octets else 0
+weight count.Gated j = if is_gated j.verdict then 1 else 0
+
+-- and to that of a rule
+abbrev pub weight_by : Count → List ℕ → Judged → ℕ
+weight_by count rule j = if bytes_eq (string_bytes j.rule) rule then weight count j else 0
+
+abbrev pub counted : Count → List ℕ → List Judged → ℕ
+counted count rule judged = sum_by (weight_by count rule) judged

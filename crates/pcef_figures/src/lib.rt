@@ -1,7 +1,7 @@
 //! The figures of a session from a script and its answers: verdicts, octets of keys, guaranteed rates, refusals.
 //!
 //! Its contracts say: which line has which answer; which reports of usage, grants, states of keys, guaranteed rates,
-//! refusals and faults come with it; exact sums of octets; and which packet has which time.
+//! refusals and faults come with it; exact sums of packets and octets; and which packet has which time.
 //!
 //! In the order of reading: `figures`, `sums`, `values`, `answers`, `lines`, `pairing`, `rates`, `collecting`,
 //! `times`.
@@ -22,5 +22,5 @@ pub use figures::{
     Figures, Grant, Handed, Judged, KeyState, Rates, Refused, Stamp, Usage, Verdict,
 };
 pub use rates::ActiveRules;
-pub use sums::{Sums, octets_by_key, octets_by_rule, sum_of};
+pub use sums::{Count, Sums, octets_by_key, sum_of, sums_by_rule};
 pub use times::{TimesFault, read_times};

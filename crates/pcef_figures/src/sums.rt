@@ -2,9 +2,9 @@
 
 ghost use Rattle.std.specs.Prelude.{◌≡◌, ℕ, List, ◌+◌, IfOk, OnOk, if◌then◌else◌};
 ghost use Rattle.std.specs.Str.{bytes_eq};
-ghost use Rattle.pcef_figures.specs.Sums.{IsSum, judged_octets, sum_in, usage_octets};
+ghost use Rattle.pcef_figures.specs.Sums.{IsSum, counted, sum_in, usage_octets, weight};
 
-use crate::figures::{Judged, Usage};
+use crate::figures::{Judged, Usage, Verdict};
 use std::alloc::{AllocError, Global};
 use std::collections::BTreeMap;
 
@@ -52,15 +52,49 @@ pub fn octets_by_key<'a>(alloc: Global, usage: &'a [Usage]) -> Result<Sums<'a>, 
     Ok(sums)
 }
 
-/// The octets of the packets that passed by each rule. Takes memory for the rules.
-pub fn octets_by_rule<'a>(alloc: Global, judged: &'a [Judged]) -> Result<Sums<'a>, AllocError>
-    ensures { IfOk result (λ sums. (rule : List ℕ) → IsSum (judged_octets rule judged.now) (sum_in sums rule)) }
+/// What is counted of the packets of a rule. A packet that passed has a bearer.
+#[derive(Clone, Copy, Debug, PartialEq, Eq)]
+pub enum Count {
+    /// Those that passed on the uplink.
+    PacketsUp,
+    /// Those that passed on the downlink.
+    PacketsDown,
+    /// The octets of those that passed on the uplink.
+    OctetsUp,
+    /// The octets of those that passed on the downlink.
+    OctetsDown,
+    /// The octets of those that passed, both ways.
+    Octets,
+    /// Those that didn't pass, for the gate of the rule is closed.
+    Gated,
+}
+
+/// How much a packet adds to a count.
+fn weight(count: Count, judged: &Judged) -> u64
+    ensures { result ≡ weight count judged.now }
+{
+    let octets = judged.packet.octets;
+    match (count, judged.bearer.is_some(), judged.packet.is_up) {
+        (Count::PacketsUp, true, true) | (Count::PacketsDown, true, false) => 1,
+        (Count::OctetsUp, true, true) | (Count::OctetsDown, true, false) => octets,
+        (Count::Octets, true, _) => octets,
+        (Count::Gated, _, _) if judged.verdict == Verdict::Gated => 1,
+        _ => 0,
+    }
+}
+
+/// The counts of each rule. Takes memory for the rules.
+pub fn sums_by_rule<'a>(
+    alloc: Global,
+    judged: &'a [Judged],
+    count: Count,
+) -> Result<Sums<'a>, AllocError>
+    ensures { IfOk result (λ sums. (rule : List ℕ)
+        → IsSum (counted count rule judged.now) (sum_in sums rule)) }
 {
     let mut sums = BTreeMap::new(alloc);
     for packet in judged {
-        if packet.bearer.is_some() {
-            add(&mut sums, packet.rule.as_str(), packet.packet.octets)?;
-        }
+        add(&mut sums, packet.rule.as_str(), weight(count, packet))?;
     }
     Ok(sums)
 }

@@ -1,34 +1,26 @@
-//! Charts as SVG.
+//! Charts as SVG, with their labels in HTML beside them, so that these keep their size on a narrow screen.
 
 ghost use Rattle.std.specs.Prelude.{◌≤◌};
 
+use crate::axis::Axis;
 use crate::sheet::Sheet;
+use crate::ticks::{MOST_TICKS, push_tick, tick_above, tick_distance};
 
-/// The width of a chart's field, in its own units.
-pub(crate) const WIDTH: u64 = 720;
+/// The width of a chart's field, in its own units: the number of its columns.
+pub(crate) const WIDTH: u64 = 360;
 
 /// The height of a chart's field.
 pub(crate) const HEIGHT: u64 = 160;
 
-/// The axes of the field, up to the most that goes up.
-const AXES: &str =
-    "<path d=\"M0 0V160H720\" class=\"axis\"/><text x=\"-6\" y=\"4\" text-anchor=\"end\">";
+/// The most series of a chart: more than that can't be told apart.
+pub(crate) const MOST_SERIES: usize = 8;
 
-/// The least that goes up, up to what goes along.
-const LEAST: &str =
-    "</text><text x=\"-6\" y=\"160\" text-anchor=\"end\">0</text><text x=\"720\" y=\"180\" text-anchor=\"end\">";
+/// The classes of series, which give them their colors.
+const SERIES: [&str; MOST_SERIES] = ["s0", "s1", "s2", "s3", "s4", "s5", "s6", "s7"];
 
-/// The colors of series, in turn: distinct also for those who see red and green alike.
-const COLORS: &[&str] = &[
-    "#0072b2", "#d55e00", "#009e73", "#cc79a7", "#56b4e9", "#e69f00", "#000000", "#999999",
-];
-
-/// The color of a series of this number.
-pub(crate) fn color(number: usize) -> &'static str {
-    match COLORS.get(number % 8) {
-        Some(color) => *color,
-        None => "#000000",
-    }
+/// The class of a series of this number.
+pub(crate) fn series(number: usize) -> &'static str {
+    SERIES[number % MOST_SERIES]
 }
 
 /// How far a value goes of so much room, where the most goes all of it.
@@ -43,107 +35,178 @@ pub(crate) fn scale(value: u64, most: u64, room: u64) -> u64
     part.min(room)
 }
 
-/// Begins a chart, whose axes are labeled with the most that goes up and along.
-pub(crate) fn begin(page: &mut Sheet, title: &str, most: u64, along: &str, last: u64) {
-    page.raw("<svg viewBox=\"-90 -16 830 210\" role=\"img\"><title>");
-    page.text(title);
-    page.raw("</title>");
-    page.raw(AXES);
-    page.number(most);
-    page.raw(LEAST);
-    page.text(along);
-    page.raw(" ");
-    page.number(last);
-    page.raw("</text>");
-}
-
-/// Ends a chart.
-pub(crate) fn end(page: &mut Sheet) {
-    page.raw("</svg>\n");
-}
-
-/// Adds a number to an element of SVG.
-fn attribute(page: &mut Sheet, name: &str, value: u64) {
-    page.raw(" ");
-    page.raw(name);
-    page.raw("=\"");
-    page.number(value);
-    page.raw("\"");
-}
-
-/// Adds a bar whose foot stands at the height `foot`.
-pub(crate) fn bar(page: &mut Sheet, x: u64, width: u64, foot: u64, height: u64, color: &str) {
-    page.raw("<rect");
-    attribute(page, "x", x);
-    attribute(
-        page,
-        "y",
-        HEIGHT.saturating_sub(foot).saturating_sub(height),
-    );
-    attribute(page, "width", width);
-    attribute(page, "height", height);
-    page.raw(" fill=\"");
-    page.raw(color);
-    page.raw("\"/>");
-}
-
-/// A line of steps: each value holds until the next.
+/// What a chart shows.
 #[derive(Clone, Copy)]
-pub(crate) struct Steps<'a> {
-    /// Its color.
-    pub color: &'a str,
-    /// Whether it is dashed.
-    pub is_dashed: bool,
+pub(crate) struct Chart<'a> {
+    /// Its title.
+    pub title: &'a str,
+    /// The unit of what goes up.
+    pub unit: &'a str,
     /// The most that goes up.
     pub most: u64,
-    /// The last place along.
-    pub last: u64,
+    /// What goes along.
+    pub axis: Axis<'a>,
 }
 
-/// Begins a line of steps, from 0 on.
-pub(crate) fn begin_steps(page: &mut Sheet, style: Steps<'_>) {
-    page.raw("<path fill=\"none\" stroke=\"");
-    page.raw(style.color);
-    page.raw("\" stroke-width=\"2\" stroke-dasharray=\"");
-    page.raw(if style.is_dashed { "6 4" } else { "none" });
-    page.raw("\" d=\"M0 ");
-    page.number(HEIGHT);
+impl<'a> Chart<'a> {
+    /// How high a value stands in the field.
+    pub(crate) fn height(&self, value: u64) -> u64
+        ensures { result ≤ 160 }
+    {
+        scale(value, tick_above(self.most), HEIGHT)
+    }
+
+    /// Writes the grid.
+    fn push_grid(&self, page: &mut Sheet) {
+        page.raw("<path class=\"grid\" d=\"");
+        self.axis.push_grid(page);
+        let distance = tick_distance(self.most);
+        for number in 1..=MOST_TICKS.saturating_add(1) {
+            let value = distance.saturating_mul(number);
+            if value <= tick_above(self.most) {
+                page.raw("M0 ");
+                page.number(HEIGHT - self.height(value));
+                page.raw("H360");
+            }
+        }
+        page.raw("\"/>");
+    }
+
+    /// Writes the labels of what goes up.
+    fn push_labels(&self, page: &mut Sheet) {
+        let distance = tick_distance(self.most);
+        for number in 0..=MOST_TICKS.saturating_add(1) {
+            let value = distance.saturating_mul(number);
+            if value <= tick_above(self.most) {
+                page.raw("<span class=\"y\" style=\"bottom:");
+                page.percent(scale(value, tick_above(self.most), 1000));
+                page.raw("\">");
+                push_tick(page, value, distance);
+                page.raw("</span>");
+            }
+        }
+    }
+
+    /// Begins the chart.
+    pub(crate) fn begin(&self, page: &mut Sheet) {
+        page.raw(
+            "<figure><div class=\"plot\"><svg viewBox=\"0 0 360 160\" preserveAspectRatio=\"none\" role=\"img\">",
+        );
+        page.raw("<title>");
+        page.text(self.title);
+        page.raw("</title>");
+        self.push_grid(page);
+    }
+
+    /// Ends the chart.
+    pub(crate) fn end(&self, page: &mut Sheet) {
+        page.raw("</svg><span class=\"unit\">");
+        page.text(self.unit);
+        page.raw("</span>");
+        self.push_labels(page);
+        self.axis.push_ticks(page);
+        page.raw("</div><p class=\"along\">");
+        page.raw(self.axis.name());
+        page.raw("</p></figure>\n");
+    }
+
+    /// The part of the field's height from the foot to the sum of the foot and a value.
+    pub(crate) fn bar(&self, page: &mut Sheet, x: u64, foot: u64, value: u64, class: &str) {
+        let below = self.height(foot);
+        let above = self.height(foot.saturating_add(value));
+        page.raw("<rect class=\"");
+        page.raw(class);
+        page.attribute("x", x);
+        page.attribute("y", HEIGHT - above);
+        page.raw("\" width=\"5");
+        page.attribute("height", above.saturating_sub(below));
+        page.raw("\"/>");
+    }
 }
 
-/// Adds a step to this value at this place along.
-pub(crate) fn step(page: &mut Sheet, place: u64, value: u64, style: Steps<'_>) {
-    page.raw("H");
-    page.number(scale(place, style.last, WIDTH));
-    page.raw("V");
-    page.number(HEIGHT - scale(value, style.most, HEIGHT));
+/// A line of steps that is being drawn: each value holds until the next. Of the values in one column of the field only
+/// the highest, the lowest and the last are drawn, so a line has at most four parts for each column.
+#[derive(Drop)]
+pub(crate) struct Trace {
+    /// The column.
+    column: u64,
+    /// How high the line stood before the column.
+    before: u64,
+    /// How high it stands at the lowest, at the highest and at the end of the column.
+    lowest: u64,
+    highest: u64,
+    last: u64,
 }
 
-/// Ends a line of steps.
-pub(crate) fn end_steps(page: &mut Sheet) {
-    page.raw("H");
-    page.number(WIDTH);
-    page.raw("\"/>");
+impl Trace {
+    /// Begins a line at 0. Its classes are those of the page's style.
+    pub(crate) fn begin(page: &mut Sheet, classes: &[&str]) -> Trace {
+        page.raw("<path class=\"");
+        for class in classes {
+            page.raw(*class);
+            page.raw(" ");
+        }
+        page.raw("\" d=\"M0 160");
+        Trace {
+            column: 0,
+            before: 0,
+            lowest: 0,
+            highest: 0,
+            last: 0,
+        }
+    }
+
+    /// Draws the line up or down to a height.
+    fn push_height(page: &mut Sheet, height: u64) {
+        page.raw("V");
+        page.number(HEIGHT.saturating_sub(height));
+    }
+
+    /// Draws the line in its column.
+    fn push_column(&self, page: &mut Sheet) {
+        if self.highest > self.before.max(self.last) {
+            Trace::push_height(page, self.highest);
+        }
+        if self.lowest < self.before.min(self.last) {
+            Trace::push_height(page, self.lowest);
+        }
+        if self.last != self.before || self.highest > self.lowest {
+            Trace::push_height(page, self.last);
+        }
+    }
+
+    /// From this line or generation on the line has this value.
+    pub(crate) fn step(&mut self, page: &mut Sheet, chart: &Chart<'_>, number: u64, value: u64) {
+        let column = chart.axis.part(number, WIDTH);
+        self.step_at(page, column, chart.height(value));
+    }
+
+    /// From this column on the line has this height.
+    pub(crate) fn step_at(&mut self, page: &mut Sheet, column: u64, height: u64) {
+        if column > self.column {
+            self.push_column(page);
+            page.raw("H");
+            page.number(column);
+            self.column = column;
+            self.before = self.last;
+            self.lowest = self.last;
+            self.highest = self.last;
+        }
+        self.lowest = self.lowest.min(height);
+        self.highest = self.highest.max(height);
+        self.last = height;
+    }
+
+    /// Ends the line at the end of the field.
+    pub(crate) fn end(&self, page: &mut Sheet) {
+        self.push_column(page);
+        page.raw("H360\"/>");
+    }
 }
 
-/// Begins a dot on the axis along; its title stands between this and its end.
-pub(crate) fn begin_dot(page: &mut Sheet, place: u64, style: Steps<'_>) {
-    page.raw("<circle");
-    attribute(page, "cx", scale(place, style.last, WIDTH));
-    attribute(page, "cy", HEIGHT);
-    attribute(page, "r", 5);
-    page.raw(" fill=\"");
-    page.raw(style.color);
-    page.raw("\"><title>");
-}
-
-/// Ends a dot.
-pub(crate) fn end_dot(page: &mut Sheet) {
-    page.raw("</title></circle>");
-}
-
-/// Begins an entry of a legend below a chart; its text stands behind.
-pub(crate) fn mark(page: &mut Sheet, color: &str) {
-    page.raw("<span class=\"key\" style=\"background:");
-    page.raw(color);
-    page.raw("\"></span>");
+/// Begins an entry of the legend of a series. Its text stands behind, and then `</span>`.
+pub(crate) fn mark(page: &mut Sheet, class: &str) {
+    page.raw("<span class=\"key\"><i class=\"");
+    page.raw(class);
+    page.raw("\"></i>");
 }

@@ -1,12 +1,13 @@
-//! OpenMetrics text (version 1.0.0).
+//! Metrics: OpenMetrics text (version 1.0.0), or the text format of Prometheus (version 0.0.4).
 
 ghost use Rattle.std.specs.Prelude.{◌≡◌, ◌++◌, OnOk, string_bytes};
 ghost use Rattle.pcef_report.specs.Labels.{label_of};
 
-use crate::keys::{Key, keys_of};
+use crate::keys::{Key, events_of, keys_of};
 use crate::names::ByName;
 use crate::sheet::Sheet;
-use pcef_figures::{Figures, Rates, Sums, Verdict, octets_by_key, octets_by_rule, sum_of};
+use crate::stamps::push_time;
+use pcef_figures::{Count, Figures, Rates, Sums, Verdict, octets_by_key, sum_of, sums_by_rule};
 use std::alloc::{AllocError, Global};
 
 /// Adds the value of a label: a quotation mark, a backslash and a line feed are escaped, and other characters stand as
@@ -25,42 +26,114 @@ pub(crate) fn push_label(text: &mut String, value: &str) -> Result<(), AllocErro
     Ok(())
 }
 
-/// Begins a family of metrics.
-fn family(text: &mut Sheet, name: &str, kind: &str, help: &str) {
-    text.raw("# TYPE ");
-    text.raw(name);
-    text.raw(" ");
-    text.raw(kind);
-    text.raw("\n# HELP ");
-    text.raw(name);
-    text.raw(" ");
-    text.raw(help);
-    text.raw("\n");
+/// Whose metrics are written, and in which form.
+#[derive(Clone, Copy)]
+pub(crate) struct Labeled<'a> {
+    /// The session's name, which is a label of each sample.
+    pub session: Option<&'a str>,
+    /// Whether it is OpenMetrics, and not the text format of Prometheus.
+    pub is_open: bool,
+    /// The time of the last packet, in nanoseconds since 1970, where it is known.
+    pub last_packet: Option<u64>,
 }
 
-/// Adds a sample of a number behind its labels.
-fn push_number(text: &mut Sheet, number: u64) {
-    text.raw("\"} ");
-    text.number(number);
-    text.raw("\n");
+/// Metrics that are being written.
+struct Metrics<'a> {
+    text: Sheet,
+    labeled: Labeled<'a>,
 }
 
-/// Adds a sample with one label.
-fn push_sample(text: &mut Sheet, name: &str, label: &str, value: &str, number: u64) {
-    text.raw(name);
-    text.raw("{");
-    text.raw(label);
-    text.raw("=\"");
-    text.label(value);
-    push_number(text, number);
-}
-
-/// Adds a sample for each of these values of a label.
-fn push_samples(text: &mut Sheet, name: &str, label: &str, samples: &[(&str, u64)]) {
-    for (value, number) in samples {
-        push_sample(text, name, label, value, *number);
+// Written out, so that an owner proves one call on each return path.
+impl Drop for Metrics<'_> {
+    fn drop(self) {
+        let Metrics {
+            text: _,
+            labeled: _,
+        } = self;
     }
 }
+
+/// What a metric is.
+#[derive(Clone, Copy, PartialEq, Eq)]
+enum Kind {
+    Counter,
+    Gauge,
+}
+
+impl Metrics<'_> {
+    /// Writes a line about a metric.
+    fn about(&mut self, word: &str, name: &str, text: &str) {
+        for piece in &["# ", word, " ", name, " ", text, "\n"] {
+            self.text.raw(*piece);
+        }
+    }
+
+    /// Begins a metric. A counter of OpenMetrics stays without a type: there its type and help would stand at its name
+    /// without `_total`, where promtool misses them.
+    fn begin(&mut self, name: &str, kind: Kind, help: &str) {
+        self.about("HELP", name, help);
+        match kind {
+            Kind::Gauge => self.about("TYPE", name, "gauge"),
+            Kind::Counter if !self.labeled.is_open => self.about("TYPE", name, "counter"),
+            Kind::Counter => {}
+        }
+    }
+
+    /// Writes a label; the first one stands behind a brace, and others behind a comma.
+    fn label(&mut self, is_first: bool, name: &str, value: &str) {
+        self.text.raw(if is_first { "{" } else { "," });
+        self.text.raw(name);
+        self.text.raw("=\"");
+        self.text.label(value);
+        self.text.raw("\"");
+    }
+
+    /// Writes the name of a sample, and its labels.
+    fn push_name(&mut self, name: &str, labels: &[(&str, &str)]) {
+        self.text.raw(name);
+        let mut is_first = true;
+        if let Some(session) = self.labeled.session {
+            self.label(true, "session", session);
+            is_first = false;
+        }
+        for (label, value) in labels {
+            self.label(is_first, label, value);
+            is_first = false;
+        }
+        self.text.raw(if is_first { " " } else { "} " });
+    }
+
+    /// Writes a sample.
+    fn sample(&mut self, name: &str, labels: &[(&str, &str)], number: u64) {
+        self.push_name(name, labels);
+        self.text.number(number);
+        self.text.raw("\n");
+    }
+
+    /// Writes a sample in octets a second, of bits a second.
+    fn rate(&mut self, name: &str, labels: &[(&str, &str)], bits: u64) {
+        self.push_name(name, labels);
+        self.text.number(bits / 8);
+        self.text.raw(EIGHTHS[(bits % 8) as usize]);
+        self.text.raw("\n");
+    }
+
+    /// The whole text. Fails when out of memory.
+    fn whole(self) -> Result<String, AllocError> {
+        let Metrics { text, labeled: _ } = self;
+        text.whole()
+    }
+
+    /// Writes a sample for each value of a label.
+    fn samples(&mut self, name: &str, label: &str, samples: &[(&str, u64)]) {
+        for (value, number) in samples {
+            self.sample(name, &[(label, *value)], *number);
+        }
+    }
+}
+
+/// Eighths, behind a whole number.
+const EIGHTHS: [&str; 8] = ["", ".125", ".25", ".375", ".5", ".625", ".75", ".875"];
 
 /// How many packets have which verdict.
 #[derive(Clone, Copy)]
@@ -100,7 +173,7 @@ impl Counts {
 }
 
 /// The rules that decided a packet, in the order in which they come, with the counts of their packets.
-fn rules<'a>(alloc: Global, figures: &'a Figures) -> Result<ByName<'a, Counts>, AllocError> {
+fn rules<'a>(alloc: Global, figures: &'a Figures) -> Result<ByName<&'a str, Counts>, AllocError> {
     let mut rules = ByName::new(alloc);
     for judged in &figures.judged {
         let rule = judged.rule.as_str();
@@ -121,47 +194,60 @@ const VERDICTS: &[Verdict] = &[
 ];
 
 /// Adds a sample for each verdict on packets of a rule.
-fn push_counts(text: &mut Sheet, rule: &str, counts: &Counts) {
+fn push_counts(metrics: &mut Metrics<'_>, rule: &str, counts: &Counts) {
     for verdict in VERDICTS {
         let count = counts.of(*verdict);
         if count > 0 {
-            text.raw("pcef_packets_total{rule=\"");
-            text.label(rule);
-            text.raw("\",verdict=\"");
-            text.raw(verdict.text());
-            push_number(text, count);
+            let labels = &[("rule", rule), ("verdict", verdict.text())];
+            metrics.sample("pcef_packets_total", labels, count);
         }
     }
 }
 
-/// Adds the packets of the rules, and the octets that passed by them.
-fn push_rules<'a>(text: &mut Sheet, rules: &[(&'a str, Counts)], octets: &Sums<'a>) {
-    family(
-        text,
-        "pcef_packets",
-        "counter",
+/// Adds the packets of the rules.
+fn push_packets(metrics: &mut Metrics<'_>, rules: &[(&str, Counts)]) {
+    metrics.begin(
+        "pcef_packets_total",
+        Kind::Counter,
         "Packets by their rule and verdict.",
     );
     for (rule, counts) in rules {
-        push_counts(text, rule, counts);
+        push_counts(metrics, rule, counts);
     }
-    family(
-        text,
-        "pcef_passed_octets",
-        "counter",
-        "Octets that passed by a rule.",
-    );
-    for (rule, _) in rules {
-        if let (false, Some(octets)) = (rule.is_empty(), sum_of(octets, *rule)) {
-            push_sample(text, "pcef_passed_octets_total", "rule", rule, octets);
+}
+
+/// Adds the octets that passed by the rules in a direction, but those of 2^64 or more.
+fn push_passed<'a>(
+    metrics: &mut Metrics<'_>,
+    rules: &[(&'a str, Counts)],
+    direction: &str,
+    octets: &Sums<'a>,
+) {
+    for (rule, counts) in rules {
+        if let (true, Some(octets)) = (counts.passed > 0, sum_of(octets, *rule)) {
+            let labels = &[("rule", *rule), ("direction", direction)];
+            metrics.sample("pcef_passed_bytes_total", labels, octets);
         }
     }
 }
 
-fn push_packets(alloc: Global, text: &mut Sheet, figures: &Figures) -> Result<(), AllocError> {
+fn push_rules(
+    alloc: Global,
+    metrics: &mut Metrics<'_>,
+    figures: &Figures,
+) -> Result<(), AllocError> {
+    let judged = figures.judged.as_slice();
     let rules = rules(alloc, figures)?;
-    let octets = octets_by_rule(alloc, figures.judged.as_slice())?;
-    push_rules(text, rules.entries(), &octets);
+    push_packets(metrics, rules.entries());
+    metrics.begin(
+        "pcef_passed_bytes_total",
+        Kind::Counter,
+        "Octets of packets that passed by a rule, each way.",
+    );
+    let up = sums_by_rule(alloc, judged, Count::OctetsUp)?;
+    push_passed(metrics, rules.entries(), "up", &up);
+    let down = sums_by_rule(alloc, judged, Count::OctetsDown)?;
+    push_passed(metrics, rules.entries(), "down", &down);
     Ok(())
 }
 
@@ -169,7 +255,7 @@ fn push_packets(alloc: Global, text: &mut Sheet, figures: &Figures) -> Result<()
 fn unreported_by_key<'a>(
     alloc: Global,
     figures: &'a Figures,
-) -> Result<ByName<'a, u64>, AllocError> {
+) -> Result<ByName<&'a str, u64>, AllocError> {
     let mut keys = ByName::new(alloc);
     for state in &figures.keys {
         keys.begin(state.key.as_str(), state.unreported)?;
@@ -178,41 +264,43 @@ fn unreported_by_key<'a>(
 }
 
 /// Adds the reported octets of each key, but those of 2^64 or more.
-fn push_reported<'a>(text: &mut Sheet, keys: &[(&'a str, Key<'a>)], octets: &Sums<'a>) {
-    family(
-        text,
-        "pcef_reported_octets",
-        "counter",
+fn push_reported<'a>(metrics: &mut Metrics<'_>, keys: &[(&'a str, Key<'a>)], octets: &Sums<'a>) {
+    metrics.begin(
+        "pcef_reported_bytes_total",
+        Kind::Counter,
         "Octets that usage reports have for a key.",
     );
     for (key, _) in keys {
         if let Some(octets) = sum_of(octets, *key) {
-            push_sample(text, "pcef_reported_octets_total", "key", key, octets);
+            metrics.sample("pcef_reported_bytes_total", &[("key", *key)], octets);
         }
     }
 }
 
-fn push_keys(alloc: Global, text: &mut Sheet, figures: &Figures) -> Result<(), AllocError> {
+fn push_keys(
+    alloc: Global,
+    metrics: &mut Metrics<'_>,
+    figures: &Figures,
+) -> Result<(), AllocError> {
     let octets = octets_by_key(alloc, figures.usage.as_slice())?;
-    let keys = keys_of(alloc, figures)?;
-    push_reported(text, keys.entries(), &octets);
-    Ok(())
-}
-
-fn push_unreported(alloc: Global, text: &mut Sheet, figures: &Figures) -> Result<(), AllocError> {
-    let keys = unreported_by_key(alloc, figures)?;
-    family(
-        text,
-        "pcef_unreported_octets",
-        "gauge",
+    let events = events_of(alloc, figures)?;
+    let keys = keys_of(alloc, figures, events.as_slice())?;
+    push_reported(metrics, keys.entries(), &octets);
+    let unreported = unreported_by_key(alloc, figures)?;
+    metrics.begin(
+        "pcef_unreported_bytes",
+        Kind::Gauge,
         "Octets of a key that no report has, by the last show.",
     );
-    push_samples(text, "pcef_unreported_octets", "key", keys.entries());
+    metrics.samples("pcef_unreported_bytes", "key", unreported.entries());
     Ok(())
 }
 
 /// The names of refusals and faults, in the order in which they come, with the counts of their lines.
-fn refused_by_name<'a>(alloc: Global, figures: &'a Figures) -> Result<ByName<'a, u64>, AllocError> {
+fn refused_by_name<'a>(
+    alloc: Global,
+    figures: &'a Figures,
+) -> Result<ByName<&'a str, u64>, AllocError> {
     let mut names = ByName::new(alloc);
     for refused in &figures.refused {
         let name = refused.name.as_str();
@@ -224,15 +312,18 @@ fn refused_by_name<'a>(alloc: Global, figures: &'a Figures) -> Result<ByName<'a,
     Ok(names)
 }
 
-fn push_refused(alloc: Global, text: &mut Sheet, figures: &Figures) -> Result<(), AllocError> {
+fn push_refused(
+    alloc: Global,
+    metrics: &mut Metrics<'_>,
+    figures: &Figures,
+) -> Result<(), AllocError> {
     let names = refused_by_name(alloc, figures)?;
-    family(
-        text,
-        "pcef_refused_lines",
-        "counter",
+    metrics.begin(
+        "pcef_refused_lines_total",
+        Kind::Counter,
         "Lines that were refused or at fault.",
     );
-    push_samples(text, "pcef_refused_lines_total", "name", names.entries());
+    metrics.samples("pcef_refused_lines_total", "name", names.entries());
     Ok(())
 }
 
@@ -246,46 +337,71 @@ fn last_rates(figures: &Figures, bearer: u64) -> Option<Rates> {
         .copied()
 }
 
-/// Adds the guaranteed rate of a bearer in a direction.
-fn push_rate(text: &mut Sheet, bearer: u64, direction: &str, rate: u64) {
-    text.raw("pcef_guaranteed_bits_per_second{bearer=\"");
-    text.number(bearer);
-    text.raw("\",direction=\"");
-    text.raw(direction);
-    push_number(text, rate);
-}
+/// The ids of bearers, as labels have them (TS 24.007, clause 11.2.3.1.5).
+const BEARERS: &[(u64, &str)] = &[
+    (5, "5"),
+    (6, "6"),
+    (7, "7"),
+    (8, "8"),
+    (9, "9"),
+    (10, "10"),
+    (11, "11"),
+    (12, "12"),
+    (13, "13"),
+    (14, "14"),
+    (15, "15"),
+];
 
-fn push_rates(text: &mut Sheet, figures: &Figures) {
-    family(
-        text,
-        "pcef_guaranteed_bits_per_second",
-        "gauge",
-        "Guaranteed rates of a bearer.",
-    );
-    for bearer in 5u64..16 {
-        if let Some(Rates { up, down, .. }) = last_rates(figures, bearer) {
-            push_rate(text, bearer, "up", up);
-            push_rate(text, bearer, "down", down);
+fn push_rates(metrics: &mut Metrics<'_>, figures: &Figures) {
+    let name = "pcef_guaranteed_bytes_per_second";
+    metrics.begin(name, Kind::Gauge, "Guaranteed rates of a bearer, each way.");
+    for (bearer, text) in BEARERS {
+        if let Some(Rates { up, down, .. }) = last_rates(figures, *bearer) {
+            metrics.rate(name, &[("bearer", *text), ("direction", "up")], up);
+            metrics.rate(name, &[("bearer", *text), ("direction", "down")], down);
         }
     }
 }
 
-fn push_metrics(alloc: Global, text: &mut Sheet, figures: &Figures) -> Result<(), AllocError> {
-    push_packets(alloc, text, figures)?;
-    push_keys(alloc, text, figures)?;
-    push_unreported(alloc, text, figures)?;
-    push_refused(alloc, text, figures)?;
-    push_rates(text, figures);
-    family(text, "pcef_generation", "gauge", "The newest generation.");
-    text.raw("pcef_generation ");
-    text.number(figures.generation);
-    text.raw("\n# EOF\n");
+/// Adds the time of the last packet, where it is known.
+fn push_last_packet(metrics: &mut Metrics<'_>) {
+    if let Some(nanoseconds) = metrics.labeled.last_packet {
+        let name = "pcef_last_packet_timestamp_seconds";
+        metrics.begin(name, Kind::Gauge, "When the last packet was recorded.");
+        metrics.push_name(name, &[]);
+        push_time(&mut metrics.text, nanoseconds);
+        metrics.text.raw("\n");
+    }
+}
+
+fn push_metrics(
+    alloc: Global,
+    metrics: &mut Metrics<'_>,
+    figures: &Figures,
+) -> Result<(), AllocError> {
+    push_rules(alloc, metrics, figures)?;
+    push_keys(alloc, metrics, figures)?;
+    push_refused(alloc, metrics, figures)?;
+    push_rates(metrics, figures);
+    metrics.begin("pcef_generation", Kind::Gauge, "The newest generation.");
+    metrics.sample("pcef_generation", &[], figures.generation);
+    push_last_packet(metrics);
+    if metrics.labeled.is_open {
+        metrics.text.raw("# EOF\n");
+    }
     Ok(())
 }
 
-/// The figures as OpenMetrics text. Takes memory for it.
-pub(crate) fn metrics_text(alloc: Global, figures: &Figures) -> Result<String, AllocError> {
-    let mut text = Sheet::new(alloc);
-    push_metrics(alloc, &mut text, figures)?;
-    text.whole()
+/// The figures as metrics. Takes memory for them.
+pub(crate) fn metrics_text(
+    alloc: Global,
+    figures: &Figures,
+    labeled: Labeled<'_>,
+) -> Result<String, AllocError> {
+    let mut metrics = Metrics {
+        text: Sheet::new(alloc),
+        labeled,
+    };
+    push_metrics(alloc, &mut metrics, figures)?;
+    metrics.whole()
 }

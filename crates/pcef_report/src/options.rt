@@ -12,6 +12,8 @@ pub(crate) enum Format {
     Csv,
     /// OpenMetrics text.
     OpenMetrics,
+    /// The text format of Prometheus.
+    Prometheus,
 }
 
 /// What the program is asked for.
@@ -19,6 +21,12 @@ pub(crate) enum Format {
 pub(crate) struct Options<'a> {
     /// What is written.
     pub format: Format,
+    /// The path of the packets' times, where they are read.
+    pub times: Option<&'a str>,
+    /// The path of the session's profile, where it is read.
+    pub profile: Option<&'a str>,
+    /// The name of the session, where the lines are those of many.
+    pub session: Option<&'a str>,
     /// The path of the script.
     pub lines: &'a str,
     /// The path of its answers.
@@ -30,6 +38,7 @@ fn format_of(text: &str) -> Option<Format> {
         "html" => Some(Format::Html),
         "csv" => Some(Format::Csv),
         "openmetrics" => Some(Format::OpenMetrics),
+        "prometheus" => Some(Format::Prometheus),
         _ => None,
     }
 }
@@ -40,7 +49,33 @@ fn format_argument<'a>(alloc: Global) -> Arg<'a> {
         .value_name("FORMAT")
         .action(ArgAction::Set)
         .default_value("html")
-        .help("html: a page with pictures; csv: a record for each packet; openmetrics: counters")
+        .help(
+            "html: a page with pictures; csv: a record for each packet; openmetrics, prometheus: counters",
+        )
+}
+
+/// An option that names something.
+fn named<'a>(alloc: Global, id: &'a str, value: &'a str, help: &'a str) -> Arg<'a> {
+    Arg::new(alloc, id)
+        .long(id)
+        .value_name(value)
+        .action(ArgAction::Set)
+        .help(help)
+}
+
+fn times_argument<'a>(alloc: Global) -> Arg<'a> {
+    let help = "The times of the packets, as pcef_capture --times writes them";
+    named(alloc, "times", "FILE", help)
+}
+
+fn profile_argument<'a>(alloc: Global) -> Arg<'a> {
+    let help = "The profile of the session: its address stands in the title of the page";
+    named(alloc, "profile", "FILE", help)
+}
+
+fn session_argument<'a>(alloc: Global) -> Arg<'a> {
+    let help = "Shows the last session of this name. LINES and ANSWERS are those of pcef_many";
+    named(alloc, "session", "NAME", help)
 }
 
 fn lines_argument<'a>(alloc: Global) -> Arg<'a> {
@@ -48,7 +83,7 @@ fn lines_argument<'a>(alloc: Global) -> Arg<'a> {
         .value_name("LINES")
         .required(true)
         .action(ArgAction::Set)
-        .help("The lines of a script of pcef")
+        .help("The lines of a script of pcef, or - for standard input")
 }
 
 fn answers_argument<'a>(alloc: Global) -> Arg<'a> {
@@ -56,14 +91,18 @@ fn answers_argument<'a>(alloc: Global) -> Arg<'a> {
         .value_name("ANSWERS")
         .required(true)
         .action(ArgAction::Set)
-        .help("The answers of pcef script to them")
+        .help("The answers of pcef script to them, or - for standard input")
 }
 
 /// The command line.
 fn command<'a>(alloc: Global) -> Result<Command<'a>, AllocError> {
     Command::new(alloc, "pcef_report")
+        .version("0.1")
         .about("Shows what a script of pcef and its answers say of a session")
         .arg(format_argument(alloc))?
+        .arg(times_argument(alloc))?
+        .arg(profile_argument(alloc))?
+        .arg(session_argument(alloc))?
         .arg(lines_argument(alloc))?
         .arg(answers_argument(alloc))
 }
@@ -72,6 +111,9 @@ fn command<'a>(alloc: Global) -> Result<Command<'a>, AllocError> {
 fn options_of<'a>(matches: &ArgMatches<'a>) -> Option<Options<'a>> {
     Some(Options {
         format: matches.get_str("format").and_then(format_of)?,
+        times: matches.get_str("times"),
+        profile: matches.get_str("profile"),
+        session: matches.get_str("session"),
         lines: matches.get_str("lines")?,
         answers: matches.get_str("answers")?,
     })

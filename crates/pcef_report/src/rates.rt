@@ -1,6 +1,8 @@
 //! The guaranteed rates of bearers in the page.
 
-use crate::chart::{self, Steps, begin_steps, color, end_steps, mark, step};
+use crate::axis::Axis;
+use crate::chart::{Chart, Trace, mark, series};
+use crate::rules::{MOST_ROWS, push_more};
 use crate::sheet::Sheet;
 use pcef_figures::{Figures, Rates};
 
@@ -26,9 +28,9 @@ fn highest(figures: &Figures) -> u64 {
     most
 }
 
-/// The color of a bearer: the ids of bearers begin at 5.
-fn bearer_color(bearer: u64) -> &'static str {
-    color(bearer.saturating_sub(5) as usize)
+/// The class of a bearer's lines: the ids of bearers begin at 5.
+fn bearer_class(bearer: u64) -> &'static str {
+    series(bearer.saturating_sub(5) as usize)
 }
 
 fn has_bearer(figures: &Figures, bearer: u64) -> bool {
@@ -36,58 +38,62 @@ fn has_bearer(figures: &Figures, bearer: u64) -> bool {
 }
 
 /// Adds the line of a bearer in a direction: a step from each generation on in which its rates change.
-fn push_line(page: &mut Sheet, figures: &Figures, bearer: u64, direction: Direction) {
-    let style = Steps {
-        color: bearer_color(bearer),
-        is_dashed: direction == Direction::Down,
-        most: highest(figures),
-        last: figures.generation.saturating_add(1),
+fn push_line(
+    page: &mut Sheet,
+    chart: &Chart<'_>,
+    figures: &Figures,
+    bearer: u64,
+    direction: Direction,
+) {
+    let style = if direction == Direction::Down {
+        "far"
+    } else {
+        ""
     };
-    begin_steps(page, style);
+    let mut trace = Trace::begin(page, &[bearer_class(bearer), style]);
     for rates in &figures.rates {
         if rates.bearer == bearer {
-            step(page, rates.generation, rate(rates, direction), style);
+            trace.step(page, chart, rates.generation, rate(rates, direction));
         }
     }
-    end_steps(page);
+    trace.end(page);
 }
 
 /// Adds the chart of the guaranteed rates.
 fn push_chart(page: &mut Sheet, figures: &Figures) {
-    let (most, last) = (highest(figures), figures.generation.max(1));
-    chart::begin(
-        page,
-        "Guaranteed rates of each bearer",
-        most,
-        "generation",
-        last,
-    );
+    let chart = Chart {
+        title: "Guaranteed rates of each bearer",
+        unit: "bit/s",
+        most: highest(figures),
+        axis: Axis::of_generations(figures),
+    };
+    chart.begin(page);
     for bearer in 5u64..16 {
         if has_bearer(figures, bearer) {
-            push_line(page, figures, bearer, Direction::Up);
-            push_line(page, figures, bearer, Direction::Down);
+            push_line(page, &chart, figures, bearer, Direction::Up);
+            push_line(page, &chart, figures, bearer, Direction::Down);
         }
     }
-    chart::end(page);
+    chart.end(page);
 }
 
 /// Adds what the lines of the chart stand for.
 fn push_legend(page: &mut Sheet, figures: &Figures) {
-    page.raw("<p>Uplink is a full line, downlink a dashed one.");
+    page.raw("<p>");
     for bearer in 5u64..16 {
         if has_bearer(figures, bearer) {
-            mark(page, bearer_color(bearer));
+            mark(page, bearer_class(bearer));
             page.raw("bearer ");
             page.number(bearer);
-            page.raw(" ");
+            page.raw("</span>");
         }
     }
-    page.raw("</p>\n");
+    page.raw("</p>\n<p class=\"note\">Uplink is a full line, downlink a dashed one.</p>\n");
 }
 
 /// Adds the guaranteed rates over the generations.
 pub(crate) fn push_rates(page: &mut Sheet, figures: &Figures) {
-    page.raw("<h2>Guaranteed rates over the generations, in bit/s</h2>\n");
+    page.raw("<h2>Guaranteed rates over the generations</h2>\n");
     if figures.rates.is_empty() {
         page.raw("<p>No rule asks for guaranteed rates.</p>\n");
         return;
@@ -97,19 +103,28 @@ pub(crate) fn push_rates(page: &mut Sheet, figures: &Figures) {
     push_table(page, figures);
 }
 
+/// Adds a row of the table of the rates.
+fn push_row(page: &mut Sheet, rates: &Rates) {
+    page.raw("<tr><td>");
+    page.count(rates.generation);
+    for number in &[rates.bearer, rates.up, rates.down] {
+        page.raw("</td><td>");
+        page.count(*number);
+    }
+    page.raw("</td></tr>\n");
+}
+
+/// The front of the table of the rates.
+const RATES: &str =
+    "<div class=\"wide\"><table><tr><th>Generation</th><th>Bearer</th><th>Up, bit/s</th>\
+<th>Down, bit/s</th></tr>\n";
+
 /// Adds the table of the rates.
 fn push_table(page: &mut Sheet, figures: &Figures) {
-    page.raw("<table><tr><th>Generation</th><th>Bearer</th><th>Up</th><th>Down</th></tr>\n");
-    for rates in &figures.rates {
-        page.raw("<tr><td>");
-        page.number(rates.generation);
-        page.raw("</td><td>");
-        page.number(rates.bearer);
-        page.raw("</td><td>");
-        page.number(rates.up);
-        page.raw("</td><td>");
-        page.number(rates.down);
-        page.raw("</td></tr>\n");
+    page.raw(RATES);
+    for rates in figures.rates.iter().take(MOST_ROWS) {
+        push_row(page, rates);
     }
-    page.raw("</table>\n");
+    page.raw("</table></div>\n");
+    push_more(page, figures.rates.len());
 }

@@ -2,6 +2,7 @@
 
 use crate::escape::push_text;
 use crate::metrics::push_label;
+use itoa::Buffer;
 use std::alloc::{AllocError, Global};
 
 /// A text that is written piece by piece. Once there is no memory for a piece, nothing more is written, and the whole
@@ -47,6 +48,41 @@ impl Sheet {
         if !self.is_refused {
             self.is_refused = write!(self.text, "{number}").is_err();
         }
+    }
+
+    /// Writes a number with a comma behind each thousand.
+    pub(crate) fn count(&mut self, number: u64) {
+        let mut buffer = Buffer::new();
+        let digits = buffer.format(number).as_bytes();
+        for place in 0..digits.len() {
+            if place > 0 && (digits.len() - place) % 3 == 0 {
+                self.raw(",");
+            }
+            self.digit(digits[place]);
+        }
+    }
+
+    /// Writes a digit by its octet.
+    fn digit(&mut self, digit: u8) {
+        if !self.is_refused {
+            self.is_refused = self.text.push(char::from(digit)).is_err();
+        }
+    }
+
+    /// Writes tenths of a percent as a percentage.
+    pub(crate) fn percent(&mut self, tenths: u64) {
+        self.number(tenths / 10);
+        self.raw(".");
+        self.number(tenths % 10);
+        self.raw("%");
+    }
+
+    /// Writes a number as an attribute of an element, whose quotation mark the next attribute or `raw` ends.
+    pub(crate) fn attribute(&mut self, name: &str, value: u64) {
+        self.raw("\" ");
+        self.raw(name);
+        self.raw("=\"");
+        self.number(value);
     }
 
     /// The whole text. Fails when out of memory.

@@ -1,8 +1,11 @@
 //! The verdicts as CSV (RFC 4180).
 
+use crate::sheet::Sheet;
+use crate::stamps::{push_time, stamp_at};
 use csv::{Error, Writer, WriterBuilder};
 use itoa::Buffer;
-use pcef_figures::{Figures, Judged};
+use pcef_figures::{Figures, Judged, Stamp};
+use std::alloc::Global;
 use std::io::Write;
 
 const COLUMNS: &[&str] = &[
@@ -17,6 +20,9 @@ const COLUMNS: &[&str] = &[
     "bearer",
 ];
 
+/// The columns behind these, where packets have times.
+const TIME_COLUMNS: &[&str] = &["time", "frame"];
+
 fn write_number<W: Write + Drop>(writer: &mut Writer<W>, number: u64) -> Result<(), Error> {
     writer.write_field(Buffer::new().format(number).as_bytes())
 }
@@ -29,14 +35,38 @@ fn write_numbers<W: Write + Drop>(writer: &mut Writer<W>, numbers: &[u64]) -> Re
 }
 
 /// The record with the names of the columns.
-fn write_names<W: Write + Drop>(writer: &mut Writer<W>) -> Result<(), Error> {
+fn write_names<W: Write + Drop>(writer: &mut Writer<W>, has_times: bool) -> Result<(), Error> {
     for column in COLUMNS {
         writer.write_field(column.as_bytes())?;
+    }
+    if has_times {
+        for column in TIME_COLUMNS {
+            writer.write_field(column.as_bytes())?;
+        }
     }
     writer.end_record()
 }
 
-/// A record of a packet with its verdict.
+/// The fields of a packet's time.
+fn write_stamp<W: Write + Drop>(
+    alloc: Global,
+    writer: &mut Writer<W>,
+    stamp: Option<&Stamp>,
+) -> Result<(), Error> {
+    let Some(stamp) = stamp else {
+        writer.write_field(b"")?;
+        return writer.write_field(b"");
+    };
+    let mut time = Sheet::new(alloc);
+    push_time(&mut time, stamp.nanoseconds);
+    let Ok(time) = time.whole() else {
+        return Err(Error::out_of_memory());
+    };
+    writer.write_field(time.as_bytes())?;
+    write_number(writer, stamp.frame)
+}
+
+/// The fields of a packet with its verdict.
 fn write_judged<W: Write + Drop>(writer: &mut Writer<W>, judged: &Judged) -> Result<(), Error> {
     let packet = judged.packet;
     let direction = if packet.is_up { "up" } else { "down" };
@@ -46,22 +76,35 @@ fn write_judged<W: Write + Drop>(writer: &mut Writer<W>, judged: &Judged) -> Res
     writer.write_field(judged.verdict.text().as_bytes())?;
     writer.write_field(judged.rule.as_bytes())?;
     match judged.bearer {
-        Some(bearer) => write_number(writer, bearer)?,
-        None => writer.write_field(b"")?,
+        Some(bearer) => write_number(writer, bearer),
+        None => writer.write_field(b""),
     }
-    writer.end_record()
 }
 
-fn write_records<W: Write + Drop>(writer: &mut Writer<W>, figures: &Figures) -> Result<(), Error> {
-    write_names(writer)?;
+fn write_records<W: Write + Drop>(
+    alloc: Global,
+    writer: &mut Writer<W>,
+    figures: &Figures,
+    stamps: Option<&[Stamp]>,
+) -> Result<(), Error> {
+    write_names(writer, stamps.is_some())?;
     for judged in &figures.judged {
         write_judged(writer, judged)?;
+        if let Some(stamps) = stamps {
+            write_stamp(alloc, writer, stamp_at(stamps, judged.packet.line))?;
+        }
+        writer.end_record()?;
     }
     writer.flush()
 }
 
-/// Writes a record for each packet with a verdict, behind one with the names of the columns.
-pub(crate) fn write_table<W: Write + Drop>(writer: W, figures: &Figures) -> Result<(), Error> {
+/// Writes a record for each packet with a verdict, behind one with the names of the columns. Takes memory for a time.
+pub(crate) fn write_table<W: Write + Drop>(
+    alloc: Global,
+    writer: W,
+    figures: &Figures,
+    stamps: Option<&[Stamp]>,
+) -> Result<(), Error> {
     let mut writer = WriterBuilder::new().from_writer(writer);
-    write_records(&mut writer, figures)
+    write_records(alloc, &mut writer, figures, stamps)
 }

@@ -1,6 +1,0 @@
-use Rattle.std.proofs.Common.{ℕ, List, take}
-use Rattle.pcef_figures.specs.Sums.{IsSum, judged_octets, sum_in}
-use Rattle.pcef_figures.proofs.sums.octets_by_rule.Given as goal
-
-abbrev pub invariant-loop-packet : goal.invariant-loop-packet
-invariant-loop-packet l = (rule : List ℕ) → IsSum (judged_octets rule (take l.packet-index l.judged)) (sum_in l.sums rule)
