@@ -1,11 +1,13 @@
 """Lines of many sessions for `pcef_many`, in one thread and in several."""
+import json
 import os
+import re
 import select
 import subprocess
 import time
 from collections import Counter
 
-from commands import ATTACH, DNS_ANSWER, FLUSH, SHOW, WEB, line, profile, take
+from commands import ATTACH, DNS, DNS_ANSWER, FLUSH, SHOW, WEB, install, line, profile, take
 from programs import PCEF, PCEF_MANY, ProgramTest, lines
 
 OPEN = line(do="open")
@@ -287,3 +289,110 @@ class Many(ProgramTest):
                 with open(os.path.join(self.room, "given"), "rb") as given:
                     process = self.start(threads, given=given)
                 self.assertTrue(self.comes_to_rest(process))
+
+    def test_a_reader_that_leaves_is_no_fault_to_report(self):
+        reader, writer = os.pipe()
+        os.close(reader)
+        for threads in 1, 4:
+            with self.subTest(threads=threads):
+                process = self.start(threads, output=writer)
+                _, said = process.communicate(f"a {OPEN}\n".encode(), 60)
+                self.assertEqual((process.returncode, said), (4, b""))
+        os.close(writer)
+
+
+def totals_of(answers, still_open):
+    """The samples that metrics have of answers, by what the answers say."""
+    came = [json.loads(answer.split(" ", 1)[1]) for answer in answers.splitlines()]
+    verdicts = Counter(verdict["verdict"] for answer in came for verdict in answer.get("verdicts", []))
+    refused = Counter(answer["name"] for answer in came if "refused" in answer or "fault" in answer)
+    octets = sum(report.get("octets", 0) for answer in came for report in answer.get("reports", []))
+    samples = {f'pcef_packets_total{{verdict="{verdict}"}}': verdicts[verdict] for verdict in VERDICTS}
+    samples.update({f'pcef_refused_lines_total{{name="{name}"}}': count for name, count in refused.items()})
+    samples["pcef_open_sessions"] = still_open
+    samples["pcef_lines_total"] = len(came)
+    samples["pcef_reported_bytes_total"] = octets
+    return samples
+
+
+VERDICTS = ["Passed", "Gated", "Unmatched", "Stray"]
+
+
+class Metrics(ProgramTest):
+    def setUp(self):
+        super().setUp()
+        self.write("profile.toml", profile())
+
+    def samples(self):
+        """The samples in the file of metrics, without that of the memory."""
+        with open(os.path.join(self.room, "metrics"), encoding="ascii") as file:
+            lines_of_file = [line.rsplit(" ", 1) for line in file.read().splitlines() if not line.startswith("#")]
+        samples = {name: int(number) for name, number in lines_of_file}
+        self.assertGreater(samples.pop("pcef_resident_memory_bytes"), 1000000)
+        return samples
+
+    def test_the_totals_are_those_of_the_answers(self):
+        names = [f"s{number}" for number in range(40)]
+        given = lines(*[f"{name} {rest}" for rest in [SHOW, OPEN, OPEN, *SCRIPT] for name in names])
+        given += lines(*[f"{name} {END}" for name in names[:7]], "nameless", f"s0 {SHOW}", f"s1 {OPEN}")
+        # Verdicts without a report, by a rule whose name looks like one.
+        odd = install('a","verdict":"Gated"}', filters=[DNS])
+        given += lines(*[f"odd {rest}" for rest in [OPEN, odd, ATTACH, *[take(DNS_ANSWER)] * 3, FLUSH]])
+        for threads in 1, 4:
+            with self.subTest(threads=threads):
+                words = ["--threads", str(threads), "--metrics", "metrics", "profile.toml"]
+                came = self.run_on(PCEF_MANY, words, given)
+                self.assertEqual((came.status, came.said), (1, b""))
+                totals = totals_of(came.wrote.decode(), still_open=40 - 7 + 1 + 1)
+                # Each of the forty has a packet that passed, one that is stray, and a report of 28 octets.
+                self.assertEqual(totals['pcef_packets_total{verdict="Passed"}'], 40 + 3)
+                self.assertEqual(totals["pcef_reported_bytes_total"], 40 * 28)
+                self.assertEqual(self.samples(), totals)
+                self.assertEqual(sorted(os.listdir(self.room)), ["metrics", "profile.toml"])
+
+    def start_keeping(self, threads):
+        words = [PCEF_MANY, "--threads", str(threads), "--metrics", "metrics", "--every", "1", "profile.toml"]
+        with open(os.path.join(self.room, "answers"), "wb") as answers:
+            process = subprocess.Popen(words, stdin=subprocess.PIPE, stdout=answers, cwd=self.room, bufsize=0)
+        self.addCleanup(process.wait)
+        self.addCleanup(process.kill)
+        return process
+
+    def comes(self, name, number):
+        """Whether a sample has this number in 20 seconds."""
+        for _ in range(200):
+            path = os.path.join(self.room, "metrics")
+            if os.path.exists(path) and self.samples()[name] == number:
+                return True
+            time.sleep(0.1)
+        return False
+
+    def test_the_file_is_kept_up_to_date_while_no_line_comes(self):
+        for threads in 1, 4:
+            with self.subTest(threads=threads):
+                process = self.start_keeping(threads)
+                self.assertTrue(self.comes("pcef_open_sessions", 0))
+                process.stdin.write(f"a {OPEN}\nb {OPEN}\n".encode())
+                self.assertTrue(self.comes("pcef_open_sessions", 2))
+                process.stdin.write(f"b {END}\n".encode())
+                self.assertTrue(self.comes("pcef_open_sessions", 1))
+                process.stdin.close()
+                self.assertEqual(process.wait(60), 0)
+
+    def test_a_file_that_cannot_be_written(self):
+        said = lines("write fault", "pcef_many: nowhere/metrics: No such file or directory (os error 2)")
+        self.ends(PCEF_MANY, ["--metrics", "nowhere/metrics", "profile.toml"], f"a {OPEN}", 4, said=said)
+
+    def test_the_seconds_between_two_writes(self):
+        for seconds in "0", "86401", "x", "-1", "1.5":
+            came = self.run_on(PCEF_MANY, ["--metrics", "metrics", f"--every={seconds}", "profile.toml"])
+            self.assertEqual((came.status, came.wrote), (2, b""))
+
+    def test_every_metric_is_told_with_its_kind(self):
+        self.run_on(PCEF_MANY, ["--metrics", "metrics", "profile.toml"], f"a {SHOW}")
+        with open(os.path.join(self.room, "metrics"), encoding="ascii") as file:
+            text = file.read()
+        kinds = dict(re.findall(r"^# TYPE (\S+) (\S+)$", text, re.M))
+        self.assertEqual(set(kinds), set(re.findall(r"^# HELP (\S+) .+\.$", text, re.M)))
+        for name, kind in kinds.items():
+            self.assertEqual(kind, "counter" if name.endswith("_total") else "gauge")

@@ -50,9 +50,12 @@ PLAYED = [(SCRIPT, SESSION, 0), (SCRIPT, AT_FAULT, 1), (SESSIONS, MANY, 1)]
 # What is said of streams that fail.
 UNREAD = {
     PCEF: lines("read fault", "Standard input fails; the whole lines of a script before that are answered."),
-    PCEF_MANY: lines("read fault", "Standard input failed."),
+    PCEF_MANY: lines("read fault", "pcef_many: standard input failed"),
 }
-UNWRITTEN = lines("write fault", "Standard output takes no more.")
+UNWRITTEN = {
+    PCEF: lines("write fault", "Standard output takes no more."),
+    PCEF_MANY: lines("write fault", "pcef_many: standard output takes no more"),
+}
 
 # How many octets of lines a program reads at once.
 BLOCK = 8192
@@ -103,7 +106,8 @@ class Streams(StreamTest):
                         limits = {"WRITE_ROOM": room, "WRITE_STEP": step, "WRITE_ERROR": error}
                         came, failed = self.run_failing(program, given, **limits)
                         # What a buffer still holds isn't offered again as the program ends.
-                        self.assertEqual((came, failed), (Ended(4, octets(answers[:room]), octets(UNWRITTEN)), "w"))
+                        due = Ended(4, octets(answers[:room]), octets(UNWRITTEN[program[0]]))
+                        self.assertEqual((came, failed), (due, "w"))
                 came, failed = self.run_failing(program, given, WRITE_ROOM=len(answers), WRITE_STEP=step)
                 self.assertEqual((came, failed), (Ended(status, answers.encode(), b""), ""))
 
@@ -113,7 +117,8 @@ class Streams(StreamTest):
             for once in {"FAILS_ONCE": 1}, {}:
                 with self.subTest(program=program[0], once=once):
                     came, failed = self.run_failing(program, given, WRITE_ROOM=20, WRITE_ERROR=errno.EINTR, **once)
-                    self.assertEqual((came, failed), (Ended(4, octets(answers[:20]), octets(UNWRITTEN)), "w"))
+                    due = Ended(4, octets(answers[:20]), octets(UNWRITTEN[program[0]]))
+                    self.assertEqual((came, failed), (due, "w"))
                     came, failed = self.run_failing(program, given, READ_ROOM=20, READ_ERROR=errno.EINTR, **once)
                     due = Ended(4, octets(answers_within(played, 20)), octets(UNREAD[program[0]]))
                     self.assertEqual((came, failed), (due, "r"))

@@ -25,6 +25,10 @@ pub(crate) enum End<'a> {
     Lines,
     /// Standard output takes no more.
     Write,
+    /// Nobody reads standard output any more.
+    Left,
+    /// The metrics can't be written to the file of this name.
+    Metrics(&'a str, io::Error),
 }
 
 impl End<'_> {
@@ -36,7 +40,7 @@ impl End<'_> {
             End::Clean => 0,
             End::Faults | End::Profile | End::Session(_) => 1,
             End::NoMemory => 3,
-            End::Read(..) | End::Lines | End::Write => 4,
+            End::Read(..) | End::Lines | End::Write | End::Left | End::Metrics(..) => 4,
         }
     }
 
@@ -45,21 +49,24 @@ impl End<'_> {
         ensures { result ≤ 4 }
     {
         match self {
-            End::Clean | End::Faults | End::Profile => {}
+            End::Clean | End::Faults | End::Profile | End::Left => {}
             End::Session(fault) => {
-                let _ = eprintln!(rt; "profile fault\n{fault}");
+                let _ = eprintln!(rt; "profile fault\npcef_many: {fault}");
             }
             End::NoMemory => {
                 let _ = report_no_memory(rt);
             }
             End::Read(file, error) => {
-                let _ = eprintln!(rt; "read fault\n{file}: {error}");
+                let _ = eprintln!(rt; "read fault\npcef_many: {file}: {error}");
             }
             End::Lines => {
-                let _ = eprintln!(rt; "read fault\nStandard input failed.");
+                let _ = eprintln!(rt; "read fault\npcef_many: standard input failed");
+            }
+            End::Metrics(file, error) => {
+                let _ = eprintln!(rt; "write fault\npcef_many: {file}: {error}");
             }
             End::Write => {
-                let _ = eprintln!(rt; "write fault\nStandard output takes no more.");
+                let _ = eprintln!(rt; "write fault\npcef_many: standard output takes no more");
             }
         }
         self.status()

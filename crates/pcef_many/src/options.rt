@@ -1,15 +1,79 @@
 //! What the program is asked for.
 
-use clap::{Arg, ArgAction, Command, Error, value_parser};
-use std::alloc::Global;
+use crate::keeping::Keeping;
+use clap::{Arg, ArgAction, ArgMatches, Command, Error, value_parser};
+use std::alloc::{AllocError, Global};
 
 /// What the program is asked for.
 #[derive(Clone, Copy)]
 pub(crate) struct Options<'a> {
     /// How many threads serve the sessions: 1 to 64.
     pub threads: u8,
+    /// Where totals are kept, if they are.
+    pub metrics: Option<Keeping<'a>>,
     /// The path of the profile.
     pub profile: &'a str,
+}
+
+fn threads_argument<'a>(alloc: Global) -> Arg<'a> {
+    Arg::new(alloc, "threads")
+        .long("threads")
+        .value_name("N")
+        .action(ArgAction::Set)
+        .value_parser(value_parser!(u8).range(1..=64))
+        .default_value("1")
+        .help("How many threads serve the sessions, 1 to 64. A session is one thread's")
+}
+
+fn metrics_argument<'a>(alloc: Global) -> Arg<'a> {
+    Arg::new(alloc, "metrics")
+        .long("metrics")
+        .value_name("FILE")
+        .action(ArgAction::Set)
+        .help("Keeps totals in FILE, in the text format of Prometheus")
+}
+
+fn every_argument<'a>(alloc: Global) -> Arg<'a> {
+    Arg::new(alloc, "every")
+        .long("every")
+        .value_name("SECONDS")
+        .action(ArgAction::Set)
+        .value_parser(value_parser!(u64).range(1..=86400))
+        .default_value("15")
+        .help("How often FILE is written, 1 to 86400; also at the end")
+}
+
+fn profile_argument<'a>(alloc: Global) -> Arg<'a> {
+    Arg::new(alloc, "profile")
+        .value_name("PROFILE")
+        .required(true)
+        .action(ArgAction::Set)
+        .help("The profile of each session, as of pcef script")
+}
+
+/// The command line.
+fn command<'a>(alloc: Global) -> Result<Command<'a>, AllocError> {
+    Command::new(alloc, "pcef_many")
+        .version("0.1")
+        .about(
+            "Answers lines of many sessions, each behind its session's name: opens one by {\"do\":\"open\"} and ends it by {\"do\":\"end\"}",
+        )
+        .arg(threads_argument(alloc))?
+        .arg(metrics_argument(alloc))?
+        .arg(every_argument(alloc))?
+        .arg(profile_argument(alloc))
+}
+
+/// What a command line that clap accepted asks for, or none where an option has no value.
+fn options_of<'a>(matches: &ArgMatches<'a>) -> Option<Options<'a>> {
+    let seconds = matches.get_one::<u64>("every")?;
+    Some(Options {
+        threads: matches.get_one::<u8>("threads")?,
+        metrics: matches
+            .get_str("metrics")
+            .map(|file| Keeping { file, seconds }),
+        profile: matches.get_str("profile")?,
+    })
 }
 
 /// What the words ask for; the first one is the program's name. Wrong words are clap's error, and so are the questions
@@ -18,30 +82,7 @@ pub(crate) fn parse_options<'a>(
     alloc: Global,
     words: &'a [String],
 ) -> Result<Option<Options<'a>>, Error> {
-    let threads = Arg::new(alloc, "threads")
-        .long("threads")
-        .value_name("N")
-        .action(ArgAction::Set)
-        .value_parser(value_parser!(u8).range(1..=64))
-        .default_value("1")
-        .help("How many threads serve the sessions, 1 to 64. A session is one thread's");
-    let profile = Arg::new(alloc, "profile")
-        .value_name("PROFILE")
-        .required(true)
-        .action(ArgAction::Set)
-        .help("The profile of each session, as of pcef script");
-    let command = Command::new(alloc, "pcef_many")
-        .about(
-            "Answers lines of many sessions, each behind its session's name: opens one by {\"do\":\"open\"} and ends it by {\"do\":\"end\"}",
-        )
-        .arg(threads)?
-        .arg(profile)?;
+    let command = command(alloc)?;
     let matches = command.try_get_matches_from(words)?;
-    let (Some(threads), Some(profile)) = (
-        matches.get_one::<u8>("threads"),
-        matches.get_str("profile"),
-    ) else {
-        return Ok(None);
-    };
-    Ok(Some(Options { threads, profile }))
+    Ok(options_of(&matches))
 }

@@ -1,6 +1,7 @@
 //! Lines from standard input, and their answers on standard output.
 
 use crate::end::End;
+use crate::watched::{Notes, Watched};
 use pcef_built_in::ShapedCatalog;
 use pcef_model::Profile;
 use pcef_output::Fused;
@@ -48,15 +49,18 @@ fn end_whole<'a>(is_any_at_fault: bool) -> End<'a> {
 }
 
 /// Serves lines in the calling thread.
-pub(crate) fn serve_lines<'a>(
+pub(crate) fn serve_lines<'a, T: Wait + Drop>(
+    waiting: T,
     rt: &HostRuntime,
     catalog: ShapedCatalog,
     profile: Profile,
     keys: RandomState,
+    notes: Arc<Mutex<Notes>>,
 ) -> End<'a> {
     let alloc = rt.alloc();
     let mut reader = rt.stdin();
-    let mut writer = match BufWriter::new(alloc, Fused::new(io::writer(rt))) {
+    let watched = Watched::new(waiting, alloc, Fused::new(io::writer(rt)), notes);
+    let mut writer = match BufWriter::new(alloc, watched) {
         Ok(writer) => writer,
         Err(_) => return End::NoMemory,
     };
@@ -72,15 +76,17 @@ pub(crate) fn serve_lines<'a>(
 }
 
 /// A way to standard output for each thread. Where it fails for one of them, it takes nothing more from any.
-type Way<T> = Outlet<T, Fused<Stdout>>;
+type Way<T> = Outlet<T, Watched<T, Fused<Stdout>>>;
 
 fn ways<T: Wait + Drop + Copy>(
     waiting: T,
     rt: &HostRuntime,
     threads: u8,
+    notes: Arc<Mutex<Notes>>,
 ) -> Result<Vec<Way<T>>, ScriptFault> {
     let alloc = rt.alloc();
-    let Ok(output) = Arc::new(alloc, Mutex::new(Fused::new(rt.stdout()))) else {
+    let watched = Watched::new(waiting, alloc, Fused::new(rt.stdout()), notes);
+    let Ok(output) = Arc::new(alloc, Mutex::new(watched)) else {
         return Err(ScriptFault::NoMemory);
     };
     let mut ways = Vec::new(alloc);
@@ -167,8 +173,9 @@ pub(crate) fn serve_in<'a, T: Threads + Wait + Drop + Send + Sync + Copy + 'stat
     threads: u8,
     profile: &Profile,
     keys: Keys,
+    notes: Arc<Mutex<Notes>>,
 ) -> End<'a> {
-    let end = match ways(starting, rt, threads) {
+    let end = match ways(starting, rt, threads, notes) {
         Ok(ways) => serve_all(starting, rt, ways, profile, keys),
         Err(fault) => Err(fault),
     };
