@@ -10,8 +10,8 @@ pub fn sessions_are_scripts()
     ensures whole { WholeSessionsAreScripts }
 {}
 
-/// What stands before the space of an answer is the name of its session, or a dash, which is no session's name: who reads
-/// the answers can always tell whose they are.
+/// What stands before the space of an answer is its session's name, or a dash, which is no session's name. So whoever
+/// reads the answers can tell whose they are.
 pub fn names_are_told_apart()
     ensures { NamesAreToldApart }
 {}
