@@ -59,8 +59,8 @@ pub(crate) fn serve_lines<'a, T: Wait + Drop>(
 ) -> End<'a> {
     let alloc = rt.alloc();
     let mut reader = rt.stdin();
-    let watched = Watched::new(waiting, alloc, Fused::new(io::writer(rt)), notes);
-    let mut writer = match BufWriter::new(alloc, watched) {
+    let watched = Watched::new(waiting, alloc, io::writer(rt), notes);
+    let mut writer = match BufWriter::new(alloc, Fused::new(watched)) {
         Ok(writer) => writer,
         Err(_) => return End::NoMemory,
     };
@@ -76,7 +76,7 @@ pub(crate) fn serve_lines<'a, T: Wait + Drop>(
 }
 
 /// A way to standard output for each thread. Where it fails for one of them, it takes nothing more from any.
-type Way<T> = Outlet<T, Watched<T, Fused<Stdout>>>;
+type Way<T> = Outlet<T, Fused<Watched<T, Stdout>>>;
 
 fn ways<T: Wait + Drop + Copy>(
     waiting: T,
@@ -85,8 +85,8 @@ fn ways<T: Wait + Drop + Copy>(
     notes: Arc<Mutex<Notes>>,
 ) -> Result<Vec<Way<T>>, ScriptFault> {
     let alloc = rt.alloc();
-    let watched = Watched::new(waiting, alloc, Fused::new(rt.stdout()), notes);
-    let Ok(output) = Arc::new(alloc, Mutex::new(watched)) else {
+    let watched = Watched::new(waiting, alloc, rt.stdout(), notes);
+    let Ok(output) = Arc::new(alloc, Mutex::new(Fused::new(watched))) else {
         return Err(ScriptFault::NoMemory);
     };
     let mut ways = Vec::new(alloc);

@@ -49,6 +49,9 @@ impl Notes {
 }
 
 /// A writer whose answers are counted. Waits for the lock of what is counted.
+///
+/// A write whose answers find no memory to be counted fails, though its octets are written: whoever holds this writer
+/// makes none again.
 #[derive(Drop)]
 pub(crate) struct Watched<T: Wait + Drop, W: Write + Drop> {
     rt: T,
