@@ -22,6 +22,28 @@ impl Sheet {
         }
     }
 
+    /// An empty one with room for so many octets. Takes memory for them.
+    pub(crate) fn with_room(alloc: Global, octets: usize) -> Result<Sheet, AllocError> {
+        Ok(Sheet {
+            text: String::with_capacity(alloc, octets)?,
+            is_refused: false,
+        })
+    }
+
+    /// Empties it. Its room stays.
+    pub(crate) fn clear(&mut self) {
+        self.text.clear();
+    }
+
+    /// The text so far. Fails when out of memory.
+    pub(crate) fn so_far(&self) -> Result<&str, AllocError> {
+        if self.is_refused {
+            Err(AllocError)
+        } else {
+            Ok(self.text.as_str())
+        }
+    }
+
     /// Writes a piece as it stands.
     pub(crate) fn raw(&mut self, piece: &str) {
         if !self.is_refused {

@@ -20,6 +20,9 @@ const COLUMNS: &[&str] = &[
     "bearer",
 ];
 
+/// The most octets of a time: ten digits or eleven, a point and nine digits.
+const MOST_TIME: usize = 21;
+
 /// The columns behind these, where packets have times.
 const TIME_COLUMNS: &[&str] = &["time", "frame"];
 
@@ -47,22 +50,22 @@ fn write_names<W: Write + Drop>(writer: &mut Writer<W>, has_times: bool) -> Resu
     writer.end_record()
 }
 
-/// The fields of a packet's time.
+/// The fields of a packet's time, of which `time` has the room.
 fn write_stamp<W: Write + Drop>(
-    alloc: Global,
     writer: &mut Writer<W>,
+    time: &mut Sheet,
     stamp: Option<&Stamp>,
 ) -> Result<(), Error> {
     let Some(stamp) = stamp else {
         writer.write_field(b"")?;
         return writer.write_field(b"");
     };
-    let mut time = Sheet::new(alloc);
-    push_time(&mut time, stamp.nanoseconds);
-    let Ok(time) = time.whole() else {
+    time.clear();
+    push_time(time, stamp.nanoseconds);
+    let Ok(text) = time.so_far() else {
         return Err(Error::out_of_memory());
     };
-    writer.write_field(time.as_bytes())?;
+    writer.write_field(text.as_bytes())?;
     write_number(writer, stamp.frame)
 }
 
@@ -87,18 +90,22 @@ fn write_records<W: Write + Drop>(
     figures: &Figures,
     stamps: Option<&[Stamp]>,
 ) -> Result<(), Error> {
+    let Ok(mut time) = Sheet::with_room(alloc, MOST_TIME) else {
+        return Err(Error::out_of_memory());
+    };
     write_names(writer, stamps.is_some())?;
     for judged in &figures.judged {
         write_judged(writer, judged)?;
         if let Some(stamps) = stamps {
-            write_stamp(alloc, writer, stamp_at(stamps, judged.packet.line))?;
+            write_stamp(writer, &mut time, stamp_at(stamps, judged.packet.line))?;
         }
         writer.end_record()?;
     }
     writer.flush()
 }
 
-/// Writes a record for each packet with a verdict, behind one with the names of the columns. Takes memory for a time.
+/// Writes a record for each packet with a verdict, behind one with the names of the columns. Takes memory for a time,
+/// before it writes.
 pub(crate) fn write_table<W: Write + Drop>(
     alloc: Global,
     writer: W,
