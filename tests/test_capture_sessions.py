@@ -15,7 +15,7 @@ ITSELF = DOWN[:12] + bytes([10, 0, 0, 2]) + DOWN[16:]
 # What is said of each fault of a map.
 FAULTS = {
     "BadLine": "a line is a session's name, one space, and its address",
-    "BadName": "a name has 1 to 64 octets from 0x21 to 0x7E",
+    "BadName": "a name has 1 to 64 octets from 0x21 to 0x7E, and isn't - alone",
     "BadAddress": "an address is expected, as 10.0.0.2 or 2001:db8::2",
     "NameTwice": "the name stands in an earlier line, too",
     "AddressTwice": "the address stands in an earlier line, too; in version 6 so does each one of its /64",
@@ -29,6 +29,7 @@ FAULTY = [
     (b"a", "BadLine", 1),
     (b"a 10.0.0.2\nb\n", "BadLine", 2),
     (b" 10.0.0.2", "BadName", 1),
+    (b"- 10.0.0.2", "BadName", 1),
     (b"a\x7f 10.0.0.2", "BadName", 1),
     (b"\xc3\xa4 10.0.0.2", "BadName", 1),
     (b"a" * 65 + b" 10.0.0.2", "BadName", 1),
@@ -72,9 +73,9 @@ class Sessions(CaptureTest):
 
     def test_sessions_of_both_versions(self):
         capture = header() + record(DOWN_6) + record(DOWN) + record(ITSELF[:16] + bytes(4) + ITSELF[20:])
-        wrote = of("-", taken(DOWN_6)) + of("~" * 64, taken(DOWN))
+        wrote = of("--", taken(DOWN_6)) + of("~" * 64, taken(DOWN))
         wrote += of("~" * 64, taken(ITSELF[:16] + bytes(4) + ITSELF[20:], direction="up"))
-        self.writes("- 2001:db8::2\r\n \r\n\n" + "~" * 64 + " 10.0.0.2", capture, wrote + flushes("-", "~" * 64), taken=3)
+        self.writes("-- 2001:db8::2\r\n \r\n\n" + "~" * 64 + " 10.0.0.2", capture, wrote + flushes("--", "~" * 64), taken=3)
 
     def test_no_packet_of_any_session(self):
         self.writes("a 10.9.9.9\n", header() + record(DOWN), "", neither=1)

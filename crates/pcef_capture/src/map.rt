@@ -14,7 +14,7 @@ const MAX_NAME: usize = 64;
 pub(crate) enum MapFault {
     /// A line has no space behind a name.
     BadLine,
-    /// A name has other octets than those from 0x21 to 0x7E, none, or more than 64.
+    /// A name has other octets than those from 0x21 to 0x7E, none, or more than 64, or is a dash alone.
     BadName,
     /// What stands behind the space is no address.
     BadAddress,
@@ -46,7 +46,7 @@ impl MapFault {
     pub(crate) fn message(self) -> &'static str {
         match self {
             MapFault::BadLine => "a line is a session's name, one space, and its address",
-            MapFault::BadName => "a name has 1 to 64 octets from 0x21 to 0x7E",
+            MapFault::BadName => "a name has 1 to 64 octets from 0x21 to 0x7E, and isn't - alone",
             MapFault::BadAddress => "an address is expected, as 10.0.0.2 or 2001:db8::2",
             MapFault::NameTwice => "the name stands in an earlier line, too",
             MapFault::AddressTwice => {
@@ -83,6 +83,7 @@ fn without_cr(line: &[u8]) -> &[u8] {
 fn is_name(octets: &[u8]) -> bool {
     1 <= octets.len()
         && octets.len() <= MAX_NAME
+        && octets != b"-".as_slice()
         && octets.iter().all(|octet| matches!(*octet, 0x21..=0x7e))
 }
 
