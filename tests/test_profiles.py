@@ -75,13 +75,13 @@ class Profiles(ProgramTest):
     def test_each_value_beyond_its_range(self):
         for parts, expected in BEYOND:
             with self.subTest(parts=parts):
-                said = f"profile fault 4\nBadValue: {expected} is expected\n"
+                said = f"profile fault 4\npcef: profile.toml: BadValue: {expected} is expected\n"
                 self.script(profile(**parts), "x", status=1, said=said)
 
     def test_other_faults(self):
         for text, number, message in OTHER_FAULTS:
             with self.subTest(message=message):
-                self.script(text, "x", status=1, said=f"profile fault {number}\n{message}\n")
+                self.script(text, "x", status=1, said=f"profile fault {number}\npcef: profile.toml: {message}\n")
 
     def test_a_declared_qci_is_known_and_no_other(self):
         given = lines(install("web", qci=77, level=2), install("other", qci=78, level=2))

@@ -53,7 +53,7 @@ UNREAD = {
     PCEF_MANY: lines("read fault", "pcef_many: standard input failed"),
 }
 UNWRITTEN = {
-    PCEF: lines("write fault", "Standard output takes no more."),
+    PCEF: lines("write fault"),
     PCEF_MANY: lines("write fault", "pcef_many: standard output takes no more"),
 }
 

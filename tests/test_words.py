@@ -58,21 +58,21 @@ class Words(ProgramTest):
                 self.is_usage(["pool", "1", rate, "profile.toml"])
 
     def test_a_file_that_is_not_there(self):
-        said = "read fault\nprofile.toml: No such file or directory (os error 2)\n"
+        said = "read fault\npcef: profile.toml: No such file or directory (os error 2)\n"
         self.ends(PCEF, ["script", "profile.toml"], status=4, said=said)
 
     def test_a_name_that_is_no_text(self):
-        said = "read fault\na\ufffd: the name isn't UTF-8\n"
+        said = "read fault\npcef: a\ufffd: the name isn't UTF-8\n"
         self.ends(PCEF, ["script", b"a\xff"], status=4, said=said)
         self.is_usage([b"scripts", b"a\xff"])
 
     def test_profiles_are_looked_at_in_their_order(self):
         self.write("cut.toml", "rows = 0\n")
-        missing = "b.toml: No such file or directory (os error 2)"
+        missing = "pcef: b.toml: No such file or directory (os error 2)"
         came = self.run_on(PCEF, ["pool", "9", "9", "cut.toml", "b.toml"], "x")
         self.assertEqual((came.status, came.wrote), (1, b""))
         self.assertEqual(came.said.decode().splitlines()[0], "profile fault 3")
-        self.assertTrue(came.said.decode().splitlines()[1].startswith("Missing: ue: "))
+        self.assertTrue(came.said.decode().splitlines()[1].startswith("pcef: cut.toml: Missing: ue: "))
         said = f"read fault\n{missing}\n"
         self.ends(PCEF, ["pool", "9", "9", "b.toml", "cut.toml"], "x", status=4, said=said)
 

@@ -130,10 +130,12 @@ fn report_end(rt: &HostRuntime, end: &End<'_>) -> u8
             let _ = report_no_memory(rt);
         }
         End::Read(file, error) => {
-            let _ = eprintln!(rt; "read fault\n{file}: {error}");
+            let _ = eprintln!(rt; "read fault\npcef_check: {file}: {error}");
         }
+        // Nobody reads what was found any more.
+        End::Write(error) if error.kind() == ErrorKind::BrokenPipe => {}
         End::Write(error) => {
-            let _ = eprintln!(rt; "write fault\nStandard output: {error}");
+            let _ = eprintln!(rt; "write fault\npcef_check: standard output: {error}");
         }
     }
     end.status()

@@ -106,13 +106,12 @@ impl End {
     /// What a person needs to know of it, where that is always the same: lines, or nothing.
     pub(crate) fn note(&self) -> &'static str {
         match self {
-            End::Done | End::LinesAtFault | End::Profile(_) | End::NoProfile => "",
+            End::Done | End::LinesAtFault | End::Profile(_) | End::NoProfile | End::Write => "",
             End::Usage => USAGE_NOTE,
             End::NoMemory => "The lines of a script or of a pool before that are answered.\n",
             End::Read =>
                 "Standard input fails; the whole lines of a script before that are answered.\n",
             End::TooMuch => TOO_MUCH_NOTE,
-            End::Write => "Standard output takes no more.\n",
             End::Line(_, _) => "Nothing was run.\n",
             End::Run(fault) => run_note(*fault),
         }

@@ -19,7 +19,8 @@ fn is_at_fault(alloc: Global, profile: &io::Result<String>) -> bool {
     }
 }
 
-/// What is said of a profile for which the program ends so: a line, or nothing of another end.
+/// What is said of a profile for which the program ends so: a line that names the program and the file, or nothing of
+/// another end.
 fn profile_line(
     alloc: Global,
     end: &End,
@@ -28,13 +29,13 @@ fn profile_line(
 ) -> Result<String, AllocError> {
     match (end, profile) {
         (End::Profile(fault), Ok(text)) => {
-            let mut line = explain(alloc, text.as_str(), *fault)?;
-            line.push('\n')?;
-            Ok(line)
+            let path = String::from_utf8_lossy(alloc, path)?;
+            let explanation = explain(alloc, text.as_str(), *fault)?;
+            format!(in alloc; "pcef: {path}: {explanation}\n")
         }
         (End::NoProfile, Err(error)) => {
             let path = String::from_utf8_lossy(alloc, path)?;
-            format!(in alloc; "{path}: {error}\n")
+            format!(in alloc; "pcef: {path}: {error}\n")
         }
         _ => Ok(String::new(alloc)),
     }
