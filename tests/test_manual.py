@@ -57,6 +57,7 @@ class Manual(ProgramTest):
             # A usage that is asked for by another word says so on its second line.
             if text.startswith("  "):
                 self.assertIn(text, page)
+        self.assertNotIn("There is no command", page)
 
     def test_each_option_is_completed(self):
         for name, program in PROGRAMS.items():
