@@ -30,6 +30,7 @@ pub(crate) fn parse_options<'a>(
             "The lines of a script, or - for standard input; without it only the profile is checked",
         );
     let command = Command::new(alloc, "pcef_check")
+        .version("0.1")
         .about(
             "Reports each line of a script of pcef that is answered by a fault or a refusal, and why",
         )
