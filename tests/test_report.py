@@ -521,6 +521,7 @@ class Times(ReportTest):
         came = self.timed("html", SCRIPT, ANSWERS, lines(*TIMES))
         page = came.wrote.decode()
         self.assertNotIn("line of the script", page)
+        self.assertIn(". The first packet came 1700000000.000000001 seconds after the beginning of 1970, UTC</p>", page)
         # The last packet by its time came 2 s behind the first one.
         ticks = ["0.0", "0.5", "1.0", "1.5", "2.0"]
         self.assertEqual(re.findall(r'<span class="x".*?>(.*?)</span>', page)[:5], ticks)

@@ -30,7 +30,7 @@ pub(crate) struct Axis<'a> {
 }
 
 /// The first and the last time.
-fn bounds(stamps: &[Stamp]) -> (u64, u64) {
+pub(crate) fn bounds(stamps: &[Stamp]) -> (u64, u64) {
     let mut begin = u64::MAX;
     let mut end = 0u64;
     for stamp in stamps {

@@ -1,11 +1,12 @@
 //! The page.
 
-use crate::axis::Axis;
+use crate::axis::{Axis, bounds};
 use crate::keys::push_keys;
 use crate::rates::push_rates;
 use crate::refusals::push_refused;
 use crate::rules::push_rules;
 use crate::sheet::Sheet;
+use crate::stamps::push_time;
 use crate::style::{FRONT, STYLE};
 use crate::verdicts::push_verdicts;
 use crate::volume::push_volume;
@@ -47,6 +48,17 @@ fn push_title(page: &mut Sheet, subject: Subject<'_>) {
     }
 }
 
+/// Writes when the first packet came, where packets have times.
+fn push_begin(page: &mut Sheet, stamps: &[Stamp]) {
+    if stamps.is_empty() {
+        return;
+    }
+    let (begin, _) = bounds(stamps);
+    page.raw(". The first packet came ");
+    push_time(page, begin);
+    page.raw(" seconds after the beginning of 1970, UTC");
+}
+
 /// Begins the page.
 fn push_head(page: &mut Sheet, subject: Subject<'_>) {
     page.raw(FRONT);
@@ -67,6 +79,7 @@ fn push_head(page: &mut Sheet, subject: Subject<'_>) {
         Some(subject.lines),
     );
     push_name(page, ", answers ", Some(subject.answers));
+    push_begin(page, subject.stamps);
     page.raw("</p>\n");
 }
 
