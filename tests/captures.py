@@ -57,12 +57,13 @@ def fault(number, hint=ANEW):
     return lines(f"capture fault {number}", said(f"Standard input: {FAULTS[number - 1]}"), said(hint))
 
 
-def counted(taken=0, not_ip=0, cut=0, neither=0, pads=False):
+def counted(taken=0, not_ip=0, cut=0, neither=0, pads=False, tunnels=False):
     """What is said of the frames that were read."""
     read = taken + not_ip + cut + neither
     counts = lines(f"read {read}, taken {taken}, not IP {not_ip}, cut {cut}, on neither side {neither}")
     if neither and not taken and not cut:
-        counts += lines(said("no packet has the session's address: is --ue right?"))
+        further = "" if tunnels else " --gtp takes those in GTP-U tunnels"
+        counts += lines(said(f"no packet has the session's address: is --ue right?{further}"))
     if cut and not pads:
         counts += lines(said(CUT))
     return counts

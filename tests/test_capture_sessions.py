@@ -63,7 +63,7 @@ class Sessions(CaptureTest):
         """Expects these lines for the sessions of a map."""
         self.write("map", sessions)
         came = self.run_on(PCEF_CAPTURE, ["--sessions", "map", *words, "-"], capture)
-        told = counted(**counts).replace("is --ue right", "is --sessions right")
+        told = counted(**counts).replace("the session's address: is --ue", "an address of the map: is --sessions")
         self.assertEqual(came, Ended(0, wrote.encode(), told.encode()))
 
     def test_a_packet_of_two_sessions(self):

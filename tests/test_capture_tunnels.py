@@ -2,7 +2,7 @@
 same TEIDs and inner addresses of `CARRIED` was seen when the test was written."""
 import os
 
-from captures import DOWN, DOWN_6, UE, UE_6, CaptureTest, changed, counted, flushed, header, record, taken
+from captures import DOWN, DOWN_6, UE, UE_6, CaptureTest, changed, counted, flushed, header, record, said, taken
 from programs import PCEF_CAPTURE, Ended, lines
 from tunnels import CONTAINER, CONTAINER_DOWN, CONTAINER_UP, FRAGMENT, RAN, RAN_CONTAINER
 from tunnels import datagram, message, optional, outer, outer_6
@@ -86,10 +86,12 @@ PASSED_OVER = [
 
 def told(taken=0, not_ip=0, cut=0, neither=0, pads=False, **reasons):
     """What is said of the frames that were read."""
-    first, *warnings = counted(taken, not_ip, cut, neither, pads).splitlines()
+    first, *warnings = counted(taken, not_ip, cut, neither, pads, tunnels=True).splitlines()
     read = taken + not_ip + cut + neither + sum(reasons.values())
     counts = [f"{reason} {reasons.get(named(reason), 0)}" for reason in REASONS]
     first = f"read {read}," + first.partition(",")[2]
+    if read and reasons.get("not_GTP_U") == read:
+        warnings.append(said("no frame has a packet of a tunnel: without --gtp the packets outside are taken"))
     return lines(first, ", ".join(counts), *warnings)
 
 

@@ -39,12 +39,30 @@ fn print_tunnels(rt: &HostRuntime, counts: &TunnelCounts) {
     );
 }
 
-/// Warns where no packet has an address of a session, or packets were cut.
+/// Warns that no packet has an address of a session.
+fn warn_of_addresses(rt: &HostRuntime, asked: &Asked<'_>) {
+    let whose = if asked.users == "--sessions" {
+        "an address of the map"
+    } else {
+        "the session's address"
+    };
+    let tunnels = if asked.is_gtp {
+        ""
+    } else {
+        " --gtp takes those in GTP-U tunnels"
+    };
+    let users = asked.users;
+    let _ = eprintln!(rt; "pcef_capture: no packet has {whose}: is {users} right?{tunnels}");
+}
+
+/// Warns where no packet has an address of a session, none is in a tunnel, or packets were cut.
 fn warn(rt: &HostRuntime, asked: &Asked<'_>, counts: &Counts) {
     if counts.taken == 0 && counts.cut == 0 && counts.neither > 0 {
+        warn_of_addresses(rt, asked);
+    }
+    if counts.read > 0 && counts.tunnels.not_gtp == counts.read {
         let _ = eprintln!(rt;
-            "pcef_capture: no packet has the session's address: is {} right?",
-            asked.users
+            "pcef_capture: no frame has a packet of a tunnel: without --gtp the packets outside are taken"
         );
     }
     if counts.cut > 0 && !asked.pads {
