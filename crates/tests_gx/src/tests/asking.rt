@@ -11,24 +11,37 @@ use super::refused_messages::{
     TWO_SESSION_IDS,
 };
 use pcef_diameter::{HEADER_LEN, read_message_header};
-use pcef_gx::{Order, Orders, RuleChange, Stop, group, read_cca, read_rar};
+use pcef_gx::{Order, Orders, Quality, RuleChange, Stop, group, read_cca, read_rar};
 use pcef_model::{Level, TriggerSet};
 use std::alloc::{AllocError, Global};
 use std::fmt::Write;
+
+fn write_quality(text: &mut String, quality: Quality) -> Result<(), AllocError> {
+    let qos = quality.qos;
+    let arp = qos.arp;
+    let qci = qos.qci;
+    let (level, capability, vulnerability) = (arp.level(), arp.capability(), arp.vulnerability());
+    write!(
+        text,
+        " qci {} level {level} {capability} {vulnerability}",
+        qci.0
+    )?;
+    let Some(rates) = quality.rates else {
+        return Ok(());
+    };
+    let (up, down) = (rates.up, rates.down);
+    write!(text, " up {up} down {down}")
+}
 
 fn write_change(text: &mut String, change: &RuleChange) -> Result<(), AllocError> {
     write!(text, "install {}", change.name)?;
     if let Some(precedence) = change.precedence {
         write!(text, " precedence {precedence}")?;
     }
-    write!(text, " filters {}", change.filters.as_slice().len())?;
+    let filters = change.filters.as_slice().len();
+    write!(text, " filters {filters}")?;
     if let Some(quality) = change.quality {
-        let arp = quality.qos.arp;
-        write!(text, " qci {} level {}", quality.qos.qci.0, arp.level())?;
-        write!(text, " {} {}", arp.capability(), arp.vulnerability())?;
-        if let Some(rates) = quality.rates {
-            write!(text, " up {} down {}", rates.up, rates.down)?;
-        }
+        write_quality(text, quality)?;
     }
     if let Some(gate) = change.gate {
         write!(text, " gate {gate:?}")?;
@@ -86,7 +99,10 @@ fn write_orders(text: &mut String, asked: &Orders) -> Result<(), AllocError> {
         write!(text, "other {other}; ")?;
     }
     if let Some(qos) = asked.default_qos {
-        write!(text, "default {} {}; ", qos.qci.0, qos.arp.level())?;
+        let arp = qos.arp;
+        let qci = qos.qci;
+        let level = arp.level();
+        write!(text, "default {} {level}; ", qci.0)?;
     }
     match asked.release {
         Some(cause) => write!(text, "release {cause}; "),

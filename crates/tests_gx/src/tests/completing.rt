@@ -25,8 +25,8 @@ fn definition_in(alloc: Global, message: &str, is_request: bool) -> Option<RuleC
         read_cca(alloc, &avps)
     };
     let mut asked = read.ok()?;
-    while let Some(order) = asked.orders.pop() {
-        if let Order::Install(change) = order {
+    for _ in 0..asked.orders.len() {
+        if let Some(Order::Install(change)) = asked.orders.pop() {
             return Some(change);
         }
     }

@@ -1,4 +1,6 @@
 //! Messages that are sent, as octets worked by another program and dissected by tshark (RFC 6733, clauses 3 and 4.1).
+ghost use Rattle.pcef_gx_messages.specs.Sent.{IsShortFault};
+
 use super::expect_equal;
 use pcef_diameter::{Avp, MessageHeader};
 use pcef_gx::{GxFault, Problem};
@@ -64,7 +66,9 @@ fn identity<'a>() -> Option<Identity<'a>> {
 }
 
 /// An answer in hexadecimal, with these octets behind its AVPs.
-fn answered(alloc: Global, outcome: &Outcome, others: &[u8]) -> Result<String, AllocError> {
+fn answered(alloc: Global, outcome: &Outcome, others: &[u8]) -> Result<String, AllocError>
+    requires { IsShortFault outcome.now }
+{
     let Some(identity) = identity() else {
         return Ok(String::new(alloc));
     };

@@ -1,4 +1,6 @@
 //! What is written, as octets worked by hand (RFC 6733, clause 4.1).
+ghost use Rattle.std.specs.Prelude.{◌≤◌, length};
+
 use super::expect_equal;
 use pcef_gx::{NameOf, RuleFailure, RuleReport, RuleStatus, put_rule_report, put_usage};
 use std::alloc::{AllocError, Global};
@@ -20,7 +22,9 @@ const USAGE: &str = "0000042b80000034000028af\
     0000042a8000000f000028af76696400\
     000001be40000018000001a540000010000000012a05f200";
 
-fn report(alloc: Global, report: &RuleReport) -> Result<String, AllocError> {
+fn report(alloc: Global, report: &RuleReport) -> Result<String, AllocError>
+    requires { length report.now.name.now ≤ 65536 }
+{
     let mut out = Vec::new(alloc);
     put_rule_report(alloc, &mut out, report)?;
     hex::encode(alloc, &out)
