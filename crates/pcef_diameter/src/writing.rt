@@ -1,6 +1,6 @@
 //! Writing AVPs and headers.
 
-ghost use Rattle.std.specs.Prelude.{◌≡◌, ◌<◌, ◌+◌, ◌≤◌, ◌^◌, ◌++◌, ◌∷◌, OnErr, OnOk, length};
+ghost use Rattle.std.specs.Prelude.{◌≡◌, ◌<◌, ◌+◌, ◌≤◌, ◌^◌, ◌++◌, ◌∷◌, OnErr, OnOk, length, ◌*◌, vec_capacity};
 ghost use Rattle.std.specs.List.{flat_map};
 ghost use Rattle.pcef_diameter.specs.Avps.{shown};
 ghost use Rattle.pcef_diameter.specs.Headers.{command_word, header_octets};
@@ -24,6 +24,9 @@ fn bit(is_set: bool, place: u32) -> u32
 fn put_words(out: &mut Vec<u8>, words: &[u32]) -> Result<(), AllocError>
     ensures written { OnOk result (out.new.items ≡ out.old.items ++ flat_map octets_of words.now) }
     ensures kept { OnErr result (out.new.items ≡ out.old.items) }
+    ensures room { OnOk result (length out.new.items ≡ length out.old.items + 4 * length words.now) }
+    ensures capacity { vec_capacity out.old ≤ vec_capacity out.new }
+    ensures full { OnErr result (vec_capacity out.old < length out.old.items + 4 * length words.now) }
 {
     let start = out.len();
     for word in words {
@@ -51,6 +54,9 @@ fn put_avp_header(out: &mut Vec<u8>, avp: &Avp) -> Result<(), AllocError>
     ensures written { OnOk result (out.new.items ≡ out.old.items
         ++ flat_map octets_of (avp.now.code ∷ flags_word (shown avp.now) ∷ vendor_word avp.now.vendor)) }
     ensures kept { OnErr result (out.new.items ≡ out.old.items) }
+    ensures room { OnOk result (length out.new.items ≤ length out.old.items + 12) }
+    ensures capacity { vec_capacity out.old ≤ vec_capacity out.new }
+    ensures full { OnErr result (vec_capacity out.old < length out.old.items + 12) }
 {
     match avp.vendor {
         Some(vendor) => put_words(out, &[avp.code, flags_word(avp), vendor]),
@@ -65,6 +71,8 @@ fn put_data(out: &mut Vec<u8>, avp: &Avp) -> Result<(), AllocError>
     ensures written { OnOk result (out.new.items ≡ out.old.items
         ++ (avp.now.octets.now ++ zero_padding (shown avp.now))) }
     ensures kept { OnErr result (out.new.items ≡ out.old.items) }
+    ensures capacity { vec_capacity out.old ≤ vec_capacity out.new }
+    ensures full { OnErr result (vec_capacity out.old < length out.old.items + length avp.now.octets.now + 3) }
 {
     let start = out.len();
     out.extend_from_slice(avp.octets)?;
@@ -76,11 +84,14 @@ fn put_data(out: &mut Vec<u8>, avp: &Avp) -> Result<(), AllocError>
 }
 
 /// Writes an AVP behind some octets, with zeros as its padding (RFC 6733, clause 4). Its `len` is at most 16,777,215.
-/// This takes memory; an `Err` is want of it, and leaves the octets as they were.
+/// This takes memory where there is no room for 15 octets beside the data; an `Err` is want of it, and leaves the octets
+/// as they were.
 pub fn put_avp(out: &mut Vec<u8>, avp: &Avp) -> Result<(), AllocError>
     requires { avp_len (shown avp.now) < 2 ^ 24 }
     ensures written { OnOk result (out.new.items ≡ out.old.items ++ avp_octets (shown avp.now)) }
     ensures kept { OnErr result (out.new.items ≡ out.old.items) }
+    ensures capacity { vec_capacity out.old ≤ vec_capacity out.new }
+    ensures full { OnErr result (vec_capacity out.old < length out.old.items + length avp.now.octets.now + 15) }
 {
     let front = out.len();
     put_avp_header(out, avp)?;
@@ -105,13 +116,15 @@ fn command_word(header: &MessageHeader) -> u32
 }
 
 /// Writes the header of a message behind some octets (RFC 6733, clause 3): 20 octets, the reserved bits unset. The
-/// caller counts the octets of the message for its `len`, and writes the AVPs behind it. This takes memory; an `Err` is
-/// want of it, and leaves the octets as they were.
+/// caller counts the octets of the message for its `len`, and writes the AVPs behind it. This takes memory where there is
+/// no room for them; an `Err` is want of it, and leaves the octets as they were.
 pub fn put_header(out: &mut Vec<u8>, header: &MessageHeader) -> Result<(), AllocError>
     requires len { header.now.len < 2 ^ 24 }
     requires command { header.now.command < 2 ^ 24 }
     ensures written { OnOk result (out.new.items ≡ out.old.items ++ header_octets header.now) }
     ensures kept { OnErr result (out.new.items ≡ out.old.items) }
+    ensures capacity { vec_capacity out.old ≤ vec_capacity out.new }
+    ensures full { OnErr result (vec_capacity out.old < length out.old.items + 20) }
 {
     let first = header.version as u32 * 0x100_0000 + header.len;
     let words = [

@@ -1,5 +1,5 @@
 -- The AVPs that say what came of a message (TS 29.212, clauses 5.3.18 and 5.3.60).
-use Rattle.std.specs.Prelude.{ℕ, ◌==◌, ◌&&◌, not, Bool, true, false, List, [], ◌∷◌, Option, Some, None, if◌then◌else◌}
+use Rattle.std.specs.Prelude.{ℕ, ◌+◌, ◌==◌, ◌&&◌, not, Bool, true, false, List, [], ◌∷◌, length, Option, Some, None, if◌then◌else◌}
 use Rattle.std.specs.Int.{w32, w64, to_be_bytes}
 use Rattle.pcef_diameter.specs.Avps.{Shown}
 use Rattle.pcef_diameter.specs.Spellings.{avps_octets}
@@ -43,10 +43,17 @@ name_code Rule = charging_rule_name
 name_code Base = charging_rule_base_name
 
 -- Charging-Rule-Report
+abbrev pub report_parts : RuleReport → List Shown
+report_parts r =
+    avp_of (name_code r.of) r.name.now ∷ number_avp pcc_rule_status (status_number r.status)
+    ∷ number_avp rule_failure_code (failure_code r.failure) ∷ []
+
 abbrev pub report_avp : RuleReport → Shown
-report_avp r =
-    group_avp charging_rule_report
-    (avp_of (name_code r.of) r.name.now ∷ number_avp pcc_rule_status (status_number r.status) ∷ number_avp rule_failure_code (failure_code r.failure) ∷ [])
+report_avp r = group_avp charging_rule_report (report_parts r)
+
+-- so many octets it takes at most: its header, a name with header and padding, and two numbers
+abbrev pub report_room : RuleReport → ℕ
+report_room r = length r.name.now + 68
 
 -- Usage-Monitoring-Information, with the octets of both directions together
 abbrev pub usage_avp : List ℕ → ℕ → Shown

@@ -40,4 +40,7 @@ pub use name::{name_of, octets_of};
 pub use order::{GivenName, NameOf, Order, Orders};
 pub use quality::Quality;
 pub use reading::{read_cca, read_rar};
-pub use writing::{RuleReport, RuleStatus, put_number, put_octets, put_rule_report, put_usage};
+pub use writing::{
+    RuleReport, RuleStatus, put_number, put_number_reserved, put_octets, put_octets_reserved,
+    put_rule_report, put_usage,
+};

@@ -1,5 +1,5 @@
 -- Octets of AVPs in parts.
-use Rattle.std.proofs.Common.{◌≡◌, ◌≤◌, ◌+◌, ◌++◌, ℕ, List, length, Result, Ok, Err, ap, arith, append_assoc, sym, ◌∙◌}
+use Rattle.std.proofs.Common.{◌≡◌, ◌≤◌, ◌+◌, ◌++◌, ℕ, List, [], length, Result, Ok, Err, ap, arith, append_assoc, refl, sym, ◌∙◌}
 use Rattle.std.specs.Prelude.{OnOk}
 use Rattle.std.specs.declared.alloc.AllocError.{AllocError}
 use Rattle.std.proofs.lemmas.List.{length-append}
@@ -7,15 +7,26 @@ use Rattle.std.proofs.lemmas.List.Concat.{flat_map-append}
 use Rattle.pcef_diameter.specs.Avps.{Shown}
 use Rattle.pcef_diameter.specs.Spellings.{avp_len, avp_octets, avps_octets}
 use Rattle.pcef_diameter.proofs.Again.{avp_octets_len}
+use Rattle.pcef_diameter.specs.Headers.{header_octets}
+use Rattle.pcef_diameter.specs.Numbers.{octets_of}
+use Rattle.pcef_diameter.specs.declared.header.MessageHeader.{MessageHeader}
 
 pub parts_octets : (front behind : List Shown) → avps_octets (front ++ behind) ≡ avps_octets front ++ avps_octets behind
 parts_octets front behind = flat_map-append avp_octets front behind
 
-pub part_room : (r : Result (Unit {0}) AllocError) (avp : Shown) (new old : List ℕ) → avp_len avp ≤ 65548 → OnOk r (new ≡ old ++ avp_octets avp) → OnOk r (length new ≤ length old + 65551)
-part_room (Ok u) avp new old short written = omega (arith, ap length written, length-append old (avp_octets avp), avp_octets_len avp, short)
-part_room (Err e) avp new old short written = tt
+twenty : (h : MessageHeader) → length (header_octets h) ≡ 20
+unfolding octets_of
+twenty h = refl
 
-pub both_written : (r : Result (Unit {0}) AllocError) (old mid new : List ℕ) (front behind : List Shown) → mid ≡ old ++ avps_octets front → OnOk r (new ≡ mid ++ avps_octets behind) → OnOk r (new ≡ old ++ avps_octets (front ++ behind))
-both_written (Ok u) old mid new front behind first written =
+pub both_written : (old mid new : List ℕ) (front behind : List Shown) → mid ≡ old ++ avps_octets front → new ≡ mid ++ avps_octets behind → new ≡ old ++ avps_octets (front ++ behind)
+both_written old mid new front behind first written =
     written ∙ ap (λ octets. octets ++ avps_octets behind) first ∙ append_assoc old (avps_octets front) (avps_octets behind) ∙ ap (λ octets. old ++ octets) (sym (parts_octets front behind))
-both_written (Err e) old mid new front behind first written = tt
+
+-- a header has 20 octets
+pub header_room : (h : MessageHeader) (new old : List ℕ) → new ≡ old ++ header_octets h → length new ≡ length old + 20
+header_room h new old written = omega (arith, ap length written, length-append old (header_octets h), twenty h)
+
+-- an AVP alone takes its length and up to three octets more
+pub failed_room_most : (avp : Shown) (new old : List ℕ) → old ≡ [] → new ≡ old ++ avp_octets avp → length new ≤ avp_len avp + 3
+failed_room_most avp new old empty written =
+    omega (arith, ap length written, length-append old (avp_octets avp), ap length empty, avp_octets_len avp)

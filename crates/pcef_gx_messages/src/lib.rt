@@ -11,6 +11,6 @@ mod identity;
 mod requesting;
 mod sending;
 
-pub use answering::{Outcome, answer};
+pub use answering::{Answer, AnswerRoom, Outcome, refuse};
 pub use identity::{Identity, MAX_OCTETS};
 pub use requesting::{CREDIT_CONTROL, GX, RequestKind, RequestMark, request};

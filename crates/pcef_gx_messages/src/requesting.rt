@@ -1,17 +1,17 @@
 //! Requests.
 
-ghost use Rattle.std.specs.Prelude.{◌≡◌, ◌<◌, ◌≤◌, ◌+◌, ◌++◌, ◌^◌, IfOk, OnOk, length};
+ghost use Rattle.std.specs.Prelude.{◌≡◌, ◌<◌, ◌≤◌, ◌+◌, ◌++◌, ◌^◌, IfOk, length, vec_capacity};
 ghost use Rattle.pcef_diameter.specs.Spellings.{avps_octets};
 ghost use Rattle.pcef_gx_messages.specs.Sent.{kind_avps, kind_number, request_avps, request_octets, speaker_avps};
 
 use crate::identity::Identity;
-use crate::sending::message;
+use crate::sending::put_message;
 use pcef_diameter::{HEADER_LEN, MessageHeader};
 use pcef_gx::code::{
     AUTH_APPLICATION_ID, CC_REQUEST_NUMBER, CC_REQUEST_TYPE, DESTINATION_REALM, ORIGIN_HOST,
     ORIGIN_REALM, SESSION_ID,
 };
-use pcef_gx::{put_number, put_octets};
+use pcef_gx::{put_number_reserved, put_octets_reserved};
 use std::alloc::{AllocError, Global};
 
 /// The Application-ID of Gx (TS 29.212, clause 5.1).
@@ -56,38 +56,39 @@ pub struct RequestMark {
 }
 
 /// Writes what a request is for.
-fn put_kind(out: &mut Vec<u8>, kind: RequestKind, number: u32) -> Result<(), AllocError>
-    ensures written { OnOk result (out.new.items ≡ out.old.items ++ avps_octets (kind_avps kind number)) }
-    ensures room { OnOk result (length out.new.items ≤ length out.old.items + 38) }
+fn put_kind(out: &mut Vec<u8>, kind: RequestKind, number: u32)
+    requires { length out.old.items + 38 ≤ vec_capacity out.old }
+    ensures written { out.new.items ≡ out.old.items ++ avps_octets (kind_avps kind number) }
+    ensures room { length out.new.items ≤ length out.old.items + 38 }
+    ensures capacity { vec_capacity out.old ≤ vec_capacity out.new }
 {
-    put_number(out, CC_REQUEST_TYPE, kind.number())?;
-    put_number(out, CC_REQUEST_NUMBER, number)
+    put_number_reserved(out, CC_REQUEST_TYPE, kind.number());
+    put_number_reserved(out, CC_REQUEST_NUMBER, number);
 }
 
 /// Writes who speaks to whom.
-fn put_speaker(out: &mut Vec<u8>, identity: &Identity) -> Result<(), AllocError>
-    ensures written { OnOk result (out.new.items ≡ out.old.items ++ avps_octets (speaker_avps identity.now)) }
-    ensures room { OnOk result (length out.new.items ≤ length out.old.items + 4180) }
+fn put_speaker(out: &mut Vec<u8>, identity: &Identity)
+    requires { length out.old.items + 4180 ≤ vec_capacity out.old }
+    ensures written { out.new.items ≡ out.old.items ++ avps_octets (speaker_avps identity.now) }
+    ensures room { length out.new.items ≤ length out.old.items + 4180 }
+    ensures capacity { vec_capacity out.old ≤ vec_capacity out.new }
 {
-    put_octets(out, SESSION_ID, identity.session_id())?;
-    put_number(out, AUTH_APPLICATION_ID, GX)?;
-    put_octets(out, ORIGIN_HOST, identity.origin_host())?;
-    put_octets(out, ORIGIN_REALM, identity.origin_realm())?;
-    put_octets(out, DESTINATION_REALM, identity.destination_realm())
+    put_octets_reserved(out, SESSION_ID, identity.session_id());
+    put_number_reserved(out, AUTH_APPLICATION_ID, GX);
+    put_octets_reserved(out, ORIGIN_HOST, identity.origin_host());
+    put_octets_reserved(out, ORIGIN_REALM, identity.origin_realm());
+    put_octets_reserved(out, DESTINATION_REALM, identity.destination_realm());
 }
 
 /// Writes the AVPs that each request has.
-fn put_avps(
-    out: &mut Vec<u8>,
-    identity: &Identity,
-    kind: RequestKind,
-    number: u32,
-) -> Result<(), AllocError>
-    ensures written { OnOk result (out.new.items ≡ out.old.items ++ avps_octets (request_avps identity.now kind number)) }
-    ensures room { OnOk result (length out.new.items ≤ length out.old.items + 5000) }
+fn put_avps(out: &mut Vec<u8>, identity: &Identity, kind: RequestKind, number: u32)
+    requires { length out.old.items + 4218 ≤ vec_capacity out.old }
+    ensures written { out.new.items ≡ out.old.items ++ avps_octets (request_avps identity.now kind number) }
+    ensures room { length out.new.items ≤ length out.old.items + 4218 }
+    ensures capacity { vec_capacity out.old ≤ vec_capacity out.new }
 {
-    put_speaker(out, identity)?;
-    put_kind(out, kind, number)
+    put_speaker(out, identity);
+    put_kind(out, kind, number);
 }
 
 /// A Credit-Control-Request with this CC-Request-Number, as octets: its own AVPs, and the octets of others behind them,
@@ -103,8 +104,8 @@ pub fn request(
     requires { length others.now < 2 ^ 23 }
     ensures { IfOk result (λ m. m.items ≡ request_octets identity.now mark kind number others.now) }
 {
-    let mut avps = Vec::new(alloc);
-    put_avps(&mut avps, identity, kind, number)?;
+    let mut avps = Vec::with_capacity(alloc, 4218)?;
+    put_avps(&mut avps, identity, kind, number);
     avps.extend_from_slice(others)?;
     let header = MessageHeader {
         version: 1,
@@ -118,5 +119,7 @@ pub fn request(
         hop_by_hop: mark.hop_by_hop,
         end_to_end: mark.end_to_end,
     };
-    message(alloc, &header, &avps)
+    let mut message = Vec::with_capacity(alloc, HEADER_LEN + avps.len())?;
+    put_message(&mut message, &header, &avps);
+    Ok(message)
 }

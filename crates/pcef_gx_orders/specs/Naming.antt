@@ -6,13 +6,17 @@ use Rattle.pcef_gx.specs.declared.order.NameOf.TheVariants.{Base, Rule}
 use Rattle.pcef_gx.specs.declared.order.Order.{Order}
 use Rattle.pcef_gx.specs.declared.order.Order.TheVariants as order
 
--- the name as it stood in the message; no octets where an order names no rule
+-- the name of a rule or of a monitoring key as it stood in the message; no octets where an order has none
 abbrev pub name_given : Order → List ℕ
 name_given (order.Remove name) = octets_of name
 name_given (order.Activate name) = octets_of name
 name_given (order.Install change) = octets_of change.name
 name_given (order.Unable name of failure) = name
-name_given _ = []
+name_given (order.Monitor key grant level) = octets_of key
+name_given (order.Stop key) = octets_of key
+name_given (order.ReportNow key) = octets_of key
+name_given order.ReportAll = []
+name_given (order.Triggers set) = []
 
 -- what it is the name of
 abbrev pub kind_given : Order → NameOf

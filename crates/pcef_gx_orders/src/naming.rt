@@ -1,4 +1,4 @@
-//! Orders with the names of their rules as they stood in the message.
+//! Orders with the names of their rules and keys as they stood in the message.
 
 ghost use Rattle.std.specs.Prelude.{◌≡◌, IfOk};
 ghost use Rattle.pcef_gx_orders.specs.Naming.{name_given};
@@ -7,7 +7,7 @@ use pcef_gx::{Order, octets_of};
 use std::alloc::{AllocError, Global};
 use std::marker::Model;
 
-/// An order, and the name of its rule as it stood in the message. Contracts see the order.
+/// An order, and the name of its rule or monitoring key as it stood in the message. Contracts see the order.
 #[derive(Drop)]
 pub struct NamedOrder<'m> {
     order: Order<'m>,
@@ -26,7 +26,7 @@ impl<'m> Model for NamedOrder<'m> {
     ghost invariant = { λ n. n.name.items ≡ name_given n.order };
 }
 
-/// The name of the rule in an order, as it stood; no octets where the order names none.
+/// The name of the rule or key in an order, as it stood; no octets where the order has none.
 fn name_given(alloc: Global, order: &Order) -> Result<Vec<u8>, AllocError>
     ensures { IfOk result (λ name. name.items ≡ name_given order.now) }
 {
@@ -35,7 +35,10 @@ fn name_given(alloc: Global, order: &Order) -> Result<Vec<u8>, AllocError>
         Order::Activate(name) => octets_of(alloc, name.as_str().as_bytes()),
         Order::Install(change) => octets_of(alloc, change.name.as_str().as_bytes()),
         Order::Unable { name, .. } => Vec::from_slice(alloc, name.octets()),
-        _ => Ok(Vec::new(alloc)),
+        Order::Monitor { key, .. } => octets_of(alloc, key.as_str().as_bytes()),
+        Order::Stop(key) => octets_of(alloc, key.as_str().as_bytes()),
+        Order::ReportNow(key) => octets_of(alloc, key.as_str().as_bytes()),
+        Order::Triggers(_) | Order::ReportAll => Ok(Vec::new(alloc)),
     }
 }
 
@@ -55,7 +58,7 @@ impl<'m> NamedOrder<'m> {
         &self.order
     }
 
-    /// The name of its rule, as it stood; no octets where it names none. Takes no memory.
+    /// The name of its rule or key, as it stood; no octets where it has none. Takes no memory.
     pub fn name(&self) -> &[u8]
         ensures { result.now ≡ name_given self.now }
     {
@@ -63,7 +66,7 @@ impl<'m> NamedOrder<'m> {
     }
 }
 
-/// The same orders, each with the name of its rule as it stood in the message. Takes memory for them.
+/// The same orders, each with the name of its rule or key as it stood in the message. Takes memory for them.
 pub fn with_names<'m>(
     alloc: Global,
     orders: Vec<Order<'m>>,

@@ -1,10 +1,11 @@
 //! Messages that are sent, as octets worked by another program and dissected by tshark (RFC 6733, clauses 3 and 4.1).
-ghost use Rattle.pcef_gx_messages.specs.Sent.{IsShortFault};
 
 use super::expect_equal;
 use pcef_diameter::{Avp, MessageHeader};
-use pcef_gx::{GxFault, Problem};
-use pcef_gx_messages::{GX, Identity, Outcome, RequestKind, RequestMark, answer, request};
+use pcef_gx::{GxFault, NameOf, Problem, RuleFailure, RuleReport, RuleStatus};
+use pcef_gx_messages::{
+    AnswerRoom, GX, Identity, Outcome, RequestKind, RequestMark, refuse, request,
+};
 use std::alloc::{AllocError, Global};
 
 /// The header of a RAR that may be proxied.
@@ -24,6 +25,11 @@ const RAR: MessageHeader = MessageHeader {
 /// A RAA with DIAMETER_SUCCESS.
 const DONE: &str = "\
     0100005c40000102010000160000000700000009000001074000001667772e6578616d706c653b313b3200000000010c\
+    4000000c000007d1000001084000001267772e6578616d706c650000000001284000000f6578616d706c6500";
+
+/// The same to a request that came again with another Hop-by-Hop Identifier.
+const DONE_AGAIN: &str = "\
+    0100005c40000102010000161234567800000009000001074000001667772e6578616d706c653b313b3200000000010c\
     4000000c000007d1000001084000001267772e6578616d706c650000000001284000000f6578616d706c6500";
 
 /// A RAA with DIAMETER_PCC_RULE_EVENT, and the report of a rule.
@@ -47,11 +53,15 @@ const UPDATE: &str = "\
     000028af000000210000042b80000034000028af0000042a8000000f000028af76696400000001be40000018000001a5\
     40000010000000012a05f200";
 
-/// The Charging-Rule-Report in the second message, and what the CCR-U reports.
-const REPORT: &str = "\
-    000003fac0000040000028af000003edc0000011000028af766f696365000000000003fbc0000010000028af00000001\
-    00000407c0000010000028af0000000b";
+/// The report in the second message.
+const REPORT: RuleReport = RuleReport {
+    name: b"voice",
+    of: NameOf::Rule,
+    status: RuleStatus::Inactive,
+    failure: RuleFailure::UnsuccessfulQosValidation,
+};
 
+/// What the CCR-U reports.
 const USAGE: &str = "\
     000003eec0000010000028af000000210000042b80000034000028af0000042a8000000f000028af76696400000001be\
     40000018000001a540000010000000012a05f200";
@@ -65,17 +75,22 @@ fn identity<'a>() -> Option<Identity<'a>> {
     )
 }
 
-/// An answer in hexadecimal, with these octets behind its AVPs.
-fn answered(alloc: Global, outcome: &Outcome, others: &[u8]) -> Result<String, AllocError>
-    requires { IsShortFault outcome.now }
-{
+/// An answer in hexadecimal, with the report of a rule.
+fn rules_failed(alloc: Global) -> Result<String, AllocError> {
     let Some(identity) = identity() else {
         return Ok(String::new(alloc));
     };
-    if others.len() > 1000 {
+    let room = AnswerRoom::new(alloc, 73)?;
+    let answer = room.answer(&identity, &RAR, &Outcome::RulesFailed, &[REPORT]);
+    hex::encode(alloc, answer.octets())
+}
+
+/// An answer without reports in hexadecimal.
+fn refused(alloc: Global, outcome: &Outcome) -> Result<String, AllocError> {
+    let Some(identity) = identity() else {
         return Ok(String::new(alloc));
-    }
-    hex::encode(alloc, &answer(alloc, &identity, &RAR, outcome, others)?)
+    };
+    hex::encode(alloc, refuse(alloc, &identity, &RAR, outcome)?.octets())
 }
 
 /// The fault of a reserved bit in a Destination-Realm.
@@ -97,6 +112,19 @@ fn is_text(text: Result<String, AllocError>, due: &str) -> bool {
     }
 }
 
+/// The answer with DIAMETER_SUCCESS to a RAR that came again with another Hop-by-Hop Identifier, in hexadecimal.
+fn repeated(alloc: Global) -> Result<String, AllocError> {
+    let Some(identity) = identity() else {
+        return Ok(String::new(alloc));
+    };
+    let mut answer = refuse(alloc, &identity, &RAR, &Outcome::Success)?;
+    answer.repeat(&MessageHeader {
+        hop_by_hop: 0x1234_5678,
+        ..RAR
+    });
+    hex::encode(alloc, answer.octets())
+}
+
 /// Octets from hexadecimal, none where it is none.
 fn octets(alloc: Global, text: &str) -> Vec<u8> {
     match hex::decode(alloc, text) {
@@ -108,16 +136,13 @@ fn octets(alloc: Global, text: &str) -> Vec<u8> {
 #[test]
 fn answers_are_written_as_octets(rt: HostRuntime) {
     let alloc = rt.alloc();
-    let report = octets(alloc, REPORT);
     let found = [
-        is_text(answered(alloc, &Outcome::Success, &[]), DONE),
-        is_text(
-            answered(alloc, &Outcome::RulesFailed, &report),
-            RULES_FAILED,
-        ),
-        is_text(answered(alloc, &BITS, &[]), AT_FAULT),
+        is_text(refused(alloc, &Outcome::Success), DONE),
+        is_text(rules_failed(alloc), RULES_FAILED),
+        is_text(refused(alloc, &BITS), AT_FAULT),
+        is_text(repeated(alloc), DONE_AGAIN),
     ];
-    expect_equal(&rt, &found, &[true, true, true]);
+    expect_equal(&rt, &found, &[true, true, true, true]);
 }
 
 /// A CCR-U that comes again, in hexadecimal.

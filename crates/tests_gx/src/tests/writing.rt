@@ -25,8 +25,10 @@ const USAGE: &str = "0000042b80000034000028af\
 fn report(alloc: Global, report: &RuleReport) -> Result<String, AllocError>
     requires { length report.now.name.now ≤ 65536 }
 {
-    let mut out = Vec::new(alloc);
-    put_rule_report(alloc, &mut out, report)?;
+    let room = report.name.len() + 68;
+    let mut parts = Vec::with_capacity(alloc, room)?;
+    let mut out = Vec::with_capacity(alloc, room)?;
+    put_rule_report(&mut parts, &mut out, report);
     hex::encode(alloc, &out)
 }
 
