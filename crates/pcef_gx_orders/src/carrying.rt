@@ -23,7 +23,7 @@ pub struct CarriedOut<'a, 'm> {
     /// The rules that couldn't be had, in the order of the message.
     pub reports: Vec<RuleReport<'a>>,
     /// The order that was refused and names no rule, where there is one: those behind it weren't done.
-    pub refused: Option<&'a Order<'m>>,
+    pub refused: Option<&'a NamedOrder<'m>>,
 }
 
 /// The rule that a definition makes of the active one of its name, or why it can't be had. Want of memory is a reason,
@@ -198,7 +198,7 @@ pub fn carry_out<'a, 'm, C: Detects>(
             Fate::Refused => {
                 return Ok(CarriedOut {
                     reports,
-                    refused: Some(named.order()),
+                    refused: Some(named),
                 });
             }
         }

@@ -1,0 +1,2 @@
+pub mod Rars
+pub mod Requests

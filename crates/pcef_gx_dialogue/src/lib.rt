@@ -1,0 +1,18 @@
+//! The dialogue of one session with its PCRF over Gx (TS 29.212, clauses 4.5.2 and 4.5.8): what is answered to a RAR,
+//! and what a CCR tells.
+//!
+//! Its contracts say: a RAR is refused as a whole, by the first fault, and changes nothing, or its orders are done and
+//! each rule that couldn't be had has its report; a RAR that comes again is answered again, and nothing is done.
+//!
+//! In the order of reading: `party`, `halt`, `asking`, `answering`.
+#![tactic(auto)]
+
+mod answering;
+mod asking;
+mod halt;
+mod party;
+
+pub use answering::{AnsweredRar, answer_rar};
+pub use asking::read_request;
+pub use halt::Halt;
+pub use party::Party;
