@@ -1,2 +1,3 @@
+pub mod Echoes
 pub mod Rooms
 pub mod Streams

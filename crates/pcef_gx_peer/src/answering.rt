@@ -52,3 +52,79 @@ pub fn success_answer(
     };
     message(alloc, &header, &avps)
 }
+
+/// Writes the first AVP of this code among some, where there is one.
+fn put_first(out: &mut Vec<u8>, avps: &[Avp], code: Code) -> Result<(), AllocError>
+    requires { length (avps_octets (map shown avps.now)) ≤ 65536 }
+    ensures written { OnOk result (out.new.items ≡ out.old.items
+        ++ avps_octets (where_found (find (has_code code) (map shown avps.now)))) }
+    ensures room { OnOk result (length out.new.items ≤ length out.old.items + 65536) }
+{
+    for avp in avps {
+        if is(avp, code) {
+            return put_avp(out, avp);
+        }
+    }
+    Ok(())
+}
+
+/// Writes each AVP of this code among some, in their order.
+fn put_each(out: &mut Vec<u8>, avps: &[Avp], code: Code) -> Result<(), AllocError>
+    requires { length (avps_octets (map shown avps.now)) ≤ 65536 }
+    ensures written { OnOk result (out.new.items ≡ out.old.items
+        ++ avps_octets (filter (has_code code) (map shown avps.now))) }
+    ensures room { OnOk result (length out.new.items ≤ length out.old.items + 65536) }
+{
+    for avp in avps {
+        if is(avp, code) {
+            put_avp(out, avp)?;
+        }
+    }
+    Ok(())
+}
+
+/// The AVPs of an error, as octets: the error, and what goes back of those of the request.
+fn error_avps(
+    alloc: Global,
+    node: &Node,
+    error: ProtocolError,
+    asked: &[Avp],
+) -> Result<Vec<u8>, AllocError>
+    requires { length (avps_octets (map shown asked.now)) ≤ 65536 }
+    ensures written { IfOk result (λ o. o.items ≡ avps_octets (error_avps node.now error (map shown asked.now))) }
+    ensures room { IfOk result (λ o. length o.items ≤ 140000) }
+{
+    let mut avps = Vec::new(alloc);
+    put_first(&mut avps, asked, SESSION_ID)?;
+    put_told(&mut avps, node, error.result_code())?;
+    put_each(&mut avps, asked, PROXY_INFO)?;
+    Ok(avps)
+}
+
+/// The answer to a request that is refused before its AVPs are looked at, as octets, by those behind its header, at most
+/// 65,536 (RFC 6733, clause 7.2). It has the E bit, and what `success_answer` has of the request's header; the request's
+/// first Session-Id, where it has one; and its Proxy-Infos (clause 6.2). Behind an AVP at fault no more are looked for.
+/// Takes memory; an `Err` is want of it.
+pub fn error_answer(
+    alloc: Global,
+    node: &Node,
+    request: &MessageHeader,
+    error: ProtocolError,
+    octets: &[u8],
+) -> Result<Vec<u8>, AllocError>
+    requires command { request.now.command < 2 ^ 24 }
+    requires octets { length octets.now ≤ 65536 }
+    ensures { IfOk result (λ m. Refuses node.now request.now error octets.now m.items) }
+{
+    let read = read_avps(alloc, octets)?;
+    let avps = error_avps(alloc, node, error, &read.avps)?;
+    let header = MessageHeader {
+        version: 1,
+        len: (HEADER_LEN + avps.len()) as u32,
+        request: false,
+        error: true,
+        retransmitted: false,
+        ..*request
+    };
+    message(alloc, &header, &avps)
+}

@@ -15,7 +15,7 @@ mod laws;
 mod node;
 mod sending;
 
-pub use answering::success_answer;
+pub use answering::{error_answer, success_answer};
 pub use exchange::{Exchange, Identifiers, capabilities_request, read_capabilities_answer};
 pub use front::{Front, MAX_LEN, front_of};
 pub use kind::{
