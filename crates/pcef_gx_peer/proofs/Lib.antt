@@ -1,3 +1,4 @@
+pub mod Commands
 pub mod Echoes
 pub mod Rooms
 pub mod Streams

@@ -35,7 +35,7 @@ address_octets (V6 bits) = 0 ∷ 2 ∷ to_be_bytes w128 bits
 abbrev pub product_name_avp : Shown
 product_name_avp = record { code = 269; vendor = None; mandatory = false; protected = false; octets = codes "Cipallta" }
 
--- Gx is an application of 3GPP (clause 6.11; TS 29.212, clause 5.1).
+-- Gx is an application of 3GPP (TS 29.212, clause 5.1; RFC 6733, clause 6.11).
 abbrev pub gx_avp : Shown
 gx_avp =
     group_avp vendor_specific_application_id (number_avp vendor_id 10415 ∷ number_avp auth_application_id 16777238 ∷ [])
@@ -72,7 +72,7 @@ result_code_in octets = do
   found ← only_of result_code avps
   Ok (option_and_then (λ (a : Shown). unsigned32_of a.octets) found)
 
--- With DIAMETER_SUCCESS the peers agree (clause 7.1.2). An answer at fault refuses (own choice).
+-- With DIAMETER_SUCCESS the peers agree (RFC 6733, clause 7.1.2). An answer at fault refuses (own choice).
 abbrev pub exchange_by : Result (Option ℕ) Fault → Exchange
 exchange_by (Ok (Some number)) = if number == 2001 then Agreed else Refused (Some number)
 exchange_by (Ok None) = Refused None

@@ -12,14 +12,14 @@ error_number error.CommandUnsupported = 3001
 error_number error.ApplicationUnsupported = 3007
 error_number error.InvalidHeaderBits = 3008
 
--- a request of the base protocol (RFC 6733, clauses 3.1 and 5): DWR and DPR are known
+-- a request of the base protocol (RFC 6733, clauses 3.1, 5.4 and 5.5): DWR and DPR are known
 abbrev pub base_request : ℕ → MessageKind
 base_request command =
     if command == 280 then kind.WatchdogRequest
     else if command == 282 then kind.DisconnectRequest
     else kind.Refused error.CommandUnsupported
 
--- a request of Gx (TS 29.212, clause 5.6): RAR is known
+-- a request of Gx (TS 29.212, clause 5.6.4): RAR is known
 abbrev pub gx_request : ℕ → MessageKind
 gx_request command = if command == 258 then kind.ReAuthRequest else kind.Refused error.CommandUnsupported
 
