@@ -29,7 +29,8 @@ request_kind application command =
     else if application == 16777238 then gx_request command
     else kind.Refused error.ApplicationUnsupported
 
--- The answers to what a PCEF asks: CEA and DWA of the base protocol, CCA of Gx. Another is dropped (RFC 6733, clause 6.2.1).
+-- The answers to what a PCEF asks: CEA and DWA of the base protocol, CCA of Gx. Another is dropped (RFC 6733, clause
+-- 6.2.1).
 abbrev pub base_answer : ℕ → MessageKind
 base_answer command =
     if command == 257 then kind.CapabilitiesAnswer

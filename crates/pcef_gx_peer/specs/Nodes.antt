@@ -62,16 +62,17 @@ where_found None = []
 -- Its Session-Id stands in front, where the request has one; its Proxy-Infos go back, in their order.
 abbrev pub error_avps : Origin → ProtocolError → List Shown → List Shown
 error_avps o error asked =
-    where_found (find (has_code session_id) asked) ++ (told_avps o (error_number error) ++ filter (has_code proxy_info) asked)
+    where_found (find (has_code session_id) asked)
+    ++ (told_avps o (error_number error) ++ filter (has_code proxy_info) asked)
 
 abbrev pub error_octets : Origin → MessageHeader → ProtocolError → List Shown → List ℕ
 error_octets o request error asked = message_octets (answer_header request true) (error_avps o error asked)
 
--- A message refuses a request with these octets behind its header. They are read up to the first AVP at fault: the error
--- that is told is that of the header.
-pub record Refuses (o : Origin) (request : MessageHeader) (error : ProtocolError) (octets message : List ℕ) : Type 0 where
+-- A message refuses a request with these octets behind its header. They are read up to the first AVP at fault: the
+-- error that is told is that of the header.
+pub record Refuses (o : Origin) (request : MessageHeader) (e : ProtocolError) (octets message : List ℕ) : Type 0 where
   pub asked : List Shown
   pub rest : List ℕ
   pub fault : Option AvpFault
   pub reads : Reads octets asked rest fault
-  pub told : message ≡ error_octets o request error asked
+  pub told : message ≡ error_octets o request e asked

@@ -23,7 +23,8 @@ const PROXY_INFO: Code = Code {
 
 /// Writes a result, and who tells it.
 fn put_told(out: &mut Vec<u8>, node: &Node, result_code: u32) -> Result<(), AllocError>
-    ensures written { OnOk result (out.new.items ≡ out.old.items ++ avps_octets (told_avps node.now result_code)) }
+    ensures written { OnOk result (out.new.items ≡ out.old.items
+        ++ avps_octets (told_avps node.now result_code)) }
     ensures room { OnOk result (length out.new.items ≤ length out.old.items + 2097) }
 {
     put_number(out, RESULT_CODE, result_code)?;
@@ -91,7 +92,8 @@ fn error_avps(
     asked: &[Avp],
 ) -> Result<Vec<u8>, AllocError>
     requires { length (avps_octets (map shown asked.now)) ≤ 65536 }
-    ensures written { IfOk result (λ o. o.items ≡ avps_octets (error_avps node.now error (map shown asked.now))) }
+    ensures written { IfOk result (λ o. o.items
+        ≡ avps_octets (error_avps node.now error (map shown asked.now))) }
     ensures room { IfOk result (λ o. length o.items ≤ 140000) }
 {
     let mut avps = Vec::new(alloc);
@@ -101,10 +103,10 @@ fn error_avps(
     Ok(avps)
 }
 
-/// The answer to a request that is refused before its AVPs are looked at, as octets, by those behind its header, at most
-/// 65,536 (RFC 6733, clause 7.2). It has the E bit, and what `success_answer` has of the request's header; the request's
-/// first Session-Id, where it has one; and its Proxy-Infos (clause 6.2). Behind an AVP at fault no more are looked for.
-/// Takes memory; an `Err` is want of it.
+/// The answer to a request that is refused before its AVPs are looked at, as octets, by those behind its header, at
+/// most 65,536 (RFC 6733, clause 7.2). It has the E bit, and what `success_answer` has of the request's header; the
+/// request's first Session-Id, where it has one; and its Proxy-Infos (clause 6.2). Behind an AVP at fault no more are
+/// looked for. Takes memory; an `Err` is want of it.
 pub fn error_answer(
     alloc: Global,
     node: &Node,

@@ -99,7 +99,8 @@ fn put_gx(alloc: Global, out: &mut Vec<u8>) -> Result<(), AllocError>
 
 /// Writes what the node can.
 fn put_capabilities(alloc: Global, out: &mut Vec<u8>, address: Addr) -> Result<(), AllocError>
-    ensures written { OnOk result (out.new.items ≡ out.old.items ++ avps_octets (capability_avps address)) }
+    ensures written { OnOk result (out.new.items ≡ out.old.items
+        ++ avps_octets (capability_avps address)) }
     ensures room { OnOk result (length out.new.items ≤ length out.old.items + 140) }
 {
     put_address(alloc, out, address)?;
@@ -111,7 +112,8 @@ fn put_capabilities(alloc: Global, out: &mut Vec<u8>, address: Addr) -> Result<(
 
 /// The AVPs of a CER, as octets.
 fn capabilities(alloc: Global, node: &Node, address: Addr) -> Result<Vec<u8>, AllocError>
-    ensures written { IfOk result (λ o. o.items ≡ avps_octets (origin_avps node.now ++ capability_avps address)) }
+    ensures written { IfOk result (λ o. o.items
+        ≡ avps_octets (origin_avps node.now ++ capability_avps address)) }
     ensures room { IfOk result (λ o. length o.items ≤ 2300) }
 {
     let mut avps = Vec::new(alloc);

@@ -19,9 +19,9 @@ pub enum Front {
     Lost,
 }
 
-/// What a stream begins with, of which these octets came so far (RFC 6733, clause 3). It is lost where the version isn't
-/// 1, which the first octet tells, or where the Message Length, in octets 1 to 3, is below 20, no multiple of four, or
-/// above 65,536. Takes no memory.
+/// What a stream begins with, of which these octets came so far (RFC 6733, clause 3). It is lost where the version
+/// isn't 1, which the first octet tells, or where the Message Length, in octets 1 to 3, is below 20, no multiple of
+/// four, or above 65,536. Takes no memory.
 #[tactic(auto, unfolding(crate::specs::Fronts::front_of))]
 pub fn front_of(octets: &[u8]) -> Front
     ensures exact { result ≡ front_of octets.now }

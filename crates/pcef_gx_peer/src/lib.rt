@@ -1,5 +1,5 @@
-//! What a Diameter node does for itself beside Gx (RFC 6733): it finds messages in a stream, exchanges capabilities, tells
-//! what kind of message came, and answers watchdogs, a disconnection, and what it doesn't support.
+//! What a Diameter node does for itself beside Gx (RFC 6733): it finds messages in a stream, exchanges capabilities,
+//! tells what kind of message came, and answers watchdogs, a disconnection, and what it doesn't support.
 //!
 //! Its contracts say: whether a whole message stands at the front of a stream; the octets of each message of the node;
 //! what a CEA says; the kind of each message.

@@ -63,7 +63,8 @@ impl<'a> Node<'a> {
 
 /// Writes the Origin-Host and the Origin-Realm of a node.
 pub(crate) fn put_origin(out: &mut Vec<u8>, node: &Node) -> Result<(), AllocError>
-    ensures written { OnOk result (out.new.items ≡ out.old.items ++ avps_octets (origin_avps node.now)) }
+    ensures written { OnOk result (out.new.items ≡ out.old.items
+        ++ avps_octets (origin_avps node.now)) }
     ensures room { OnOk result (length out.new.items ≤ length out.old.items + 2078) }
 {
     put_octets(out, ORIGIN_HOST, node.origin_host())?;

@@ -359,7 +359,8 @@ fn exchanged(alloc: Global, message: &str, more: &str) -> Result<Option<Exchange
     }
 }
 
-/// What CEAs say: one with DIAMETER_SUCCESS, one without, one with both, one without a result, one with an AVP at fault.
+/// What CEAs say: one with DIAMETER_SUCCESS, one with an error, one with both, one without a result, and one with an
+/// AVP at fault.
 fn all_exchanged(alloc: Global) -> Result<[Option<Exchange>; 5], AllocError> {
     Ok([
         exchanged(alloc, CEA, "")?,
