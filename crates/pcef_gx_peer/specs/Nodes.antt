@@ -1,5 +1,5 @@
 -- What a node answers for itself (RFC 6733, clauses 5.4.2, 5.5.2, 6.2 and 7.2).
-use Rattle.std.specs.Prelude.{◌≡◌, ℕ, ◌≤◌, ◌+◌, ◌++◌, Bool, true, false, List, [], ◌∷◌, length, filter, Option, Some, None}
+use Rattle.std.specs.Prelude.{◌≡◌, ℕ, ◌≤◌, ◌+◌, ◌++◌, true, false, List, [], ◌∷◌, length, filter, Option, Some, None}
 use Rattle.std.specs.List.{find}
 use Rattle.pcef_diameter.specs.Avps.{Reads, Shown}
 use Rattle.pcef_diameter.specs.Headers.{header_octets}
@@ -9,6 +9,8 @@ use Rattle.pcef_diameter.specs.declared.header.MessageHeader.{MessageHeader}
 use Rattle.pcef_gx.specs.Codes.{has_code, ietf, origin_host, origin_realm, result_code, session_id}
 use Rattle.pcef_gx.specs.Writing.{avp_of, number_avp}
 use Rattle.pcef_gx.specs.declared.code.Code.{Code}
+use Rattle.pcef_gx_messages.specs.Identities.{most_octets}
+use Rattle.pcef_gx_messages.specs.Sent.{answer_header}
 use Rattle.pcef_gx_peer.specs.Kinds.{error_number}
 use Rattle.pcef_gx_peer.specs.declared.kind.ProtocolError.{ProtocolError}
 
@@ -17,9 +19,8 @@ pub record Origin : Type 0 where
   pub host : List ℕ
   pub realm : List ℕ
 
--- own choice, that of an identity
 abbrev pub IsShort : Origin → Type 0
-IsShort o = (length o.host ≤ 1024) × (length o.realm ≤ 1024)
+IsShort o = (length o.host ≤ most_octets) × (length o.realm ≤ most_octets)
 
 abbrev pub origin_avps : Origin → List Shown
 origin_avps o = avp_of origin_host o.host ∷ avp_of origin_realm o.realm ∷ []
@@ -28,25 +29,10 @@ origin_avps o = avp_of origin_host o.host ∷ avp_of origin_realm o.realm ∷ []
 abbrev pub message_octets : (ℕ → MessageHeader) → List Shown → List ℕ
 message_octets header avps = header_octets (header (20 + length (avps_octets avps))) ++ avps_octets avps
 
--- An answer has the command, the application and both identifiers of its request, and its P bit (clauses 3 and 6.2).
-abbrev pub answer_header : MessageHeader → Bool → ℕ → MessageHeader
-answer_header request error len = record {
-  version = 1;
-  len = len;
-  request = false;
-  proxiable = request.proxiable;
-  error = error;
-  retransmitted = false;
-  command = request.command;
-  application = request.application;
-  hop_by_hop = request.hop_by_hop;
-  end_to_end = request.end_to_end;
-}
-
 abbrev pub told_avps : Origin → ℕ → List Shown
 told_avps o number = number_avp result_code number ∷ origin_avps o
 
--- ---- DWA and DPA: DIAMETER_SUCCESS (clause 7.1.2)
+-- ---- DWA and DPA: DIAMETER_SUCCESS (clause 7.1.2), with the identifiers of the request (clause 6.2)
 abbrev pub success_octets : Origin → MessageHeader → List ℕ
 success_octets o request = message_octets (answer_header request false) (told_avps o 2001)
 
