@@ -1,5 +1,6 @@
-//! Tests of Gx: messages that another program wrote, with what each asks of a session; rules that definitions make; what
-//! is written, as octets. They stand above the crate that they test, which is then proved once.
+//! Tests of Gx: messages that another program wrote, with what each asks of a session; rules that definitions make;
+//! what is written, as octets; what a node does for itself. They stand above the crates that they test, which are then
+//! proved once.
 #![tactic(auto)]
 
 #[cfg(test)]

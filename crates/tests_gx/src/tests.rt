@@ -1,9 +1,10 @@
-//! Messages with what they ask for, rules that definitions make, and AVPs as octets.
+//! Messages with what they ask for, rules that definitions make, AVPs as octets, and a node for itself.
 
 mod asking;
 mod completing;
 mod messages;
 mod names;
+mod peer;
 mod refused_messages;
 mod sending;
 mod writing;

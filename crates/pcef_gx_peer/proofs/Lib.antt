@@ -1,0 +1,4 @@
+pub mod Commands
+pub mod Echoes
+pub mod Rooms
+pub mod Streams
