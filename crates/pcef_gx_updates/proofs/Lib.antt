@@ -1,0 +1,3 @@
+pub mod AddsUp
+pub mod Joined
+pub mod Named
