@@ -1,2 +1,5 @@
+pub mod Ccrs
 pub mod Rars
+pub mod Repeats
 pub mod Requests
+pub mod private

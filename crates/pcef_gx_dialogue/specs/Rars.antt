@@ -102,10 +102,10 @@ left_due ended (Err told) = nothing_left
 left_due ended (Ok asked) = left_of ended asked
 
 -- a RAR is answered as is due
-abbrev pub AnswersRar : Speaker → MessageHeader → List ℕ → World → AnsweredRar → World → Type 0
-AnswersRar s h message before a after =
-    (due : Result Asked Told) × RequestDue s h message due × AnswersRequest s h due before a.answer after
-    × (left_by a ≡ left_due (is_ended before) due)
+abbrev pub AnswersRar : Speaker → MessageHeader → List ℕ → World → Answered → Left → World → Type 0
+AnswersRar s h message before answer left after =
+    (due : Result Asked Told) × RequestDue s h message due × AnswersRequest s h due before answer after
+    × (left ≡ left_due (is_ended before) due)
 
 -- ---- memory
 abbrev pub order_room : Order → ℕ

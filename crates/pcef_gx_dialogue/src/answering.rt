@@ -179,7 +179,7 @@ pub fn answer_rar<C: Detects>(
     requires offered { C.offers catalog.now ≡ world.old.session.setting.catalog }
     requires command { header.now.command < 2 ^ 24 }
     requires whole { 20 ≤ length message.now }
-    ensures answer { IfOk result (λ a. AnswersRar identity.now header.now message.now world.old a world.new) }
+    ensures answer { IfOk result (λ a. AnswersRar identity.now header.now message.now world.old a.answer (left_by a) world.new) }
     ensures lacks { IfErr result (λ _. world.new ≡ world.old) }
     ensures workers { world.new.workers ≡ world.old.workers }
     ensures setting { world.new.session.setting ≡ world.old.session.setting }

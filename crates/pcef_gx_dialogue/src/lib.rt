@@ -4,15 +4,20 @@
 //! Its contracts say: a RAR is refused as a whole, by the first fault, and changes nothing, or its orders are done and
 //! each rule that couldn't be had has its report; a RAR that comes again is answered again, and nothing is done.
 //!
-//! In the order of reading: `party`, `halt`, `asking`, `answering`.
+//! In the order of reading: `party`, `halt`, `asking`, `answering`, `responder`,
+//! `ccr`.
 #![tactic(auto)]
 
 mod answering;
 mod asking;
+mod ccr;
 mod halt;
 mod party;
+mod responder;
 
 pub use answering::{AnsweredRar, answer_rar};
 pub use asking::read_request;
+pub use ccr::{Ccrs, SendRefusal};
 pub use halt::Halt;
 pub use party::Party;
+pub use responder::{LeftToHost, RarDone, Responder};
