@@ -100,3 +100,8 @@ pub answer_fits : (p : Setting) (before after : Journal) (orders : List Order) (
     CarriesOut p before orders reports refused after → HaveRoom orders room → failed_room (told_of_orders reports refused) + sum_by report_room reports ≤ room
 answer_fits p before after orders reports refused room carries fits =
     omega (arith, told_fits reports refused, reports_fit p before after orders reports refused carries, fits.1)
+
+pub reports_have_room : (p : Setting) (before after : Journal) (orders : List Order) (reports : List RuleReport) (refused : Option Order) (room : ℕ) →
+    CarriesOut p before orders reports refused after → HaveRoom orders room → sum_by report_room reports ≤ room
+reports_have_room p before after orders reports refused room carries fits =
+    omega (arith, reports_fit p before after orders reports refused carries, fits.1)

@@ -1,4 +1,6 @@
+pub mod Ccas
 pub mod Ccrs
+pub mod Grants
 pub mod Rars
 pub mod Repeats
 pub mod Requests

@@ -3,7 +3,7 @@
 ghost use Rattle.std.specs.Prelude.{◌≡◌, ◌<◌, ◌≤◌, ◌^◌, [], IfErr, IfOk, length, option_map};
 ghost use Rattle.pcef_diameter.specs.Avps.{shown};
 ghost use Rattle.pcef_gx.specs.Messages as messages;
-ghost use Rattle.pcef_gx_messages.specs.Sent.{answered, told_of};
+ghost use Rattle.pcef_gx_messages.specs.Sent.{answered, most_room, told_of};
 ghost use Rattle.pcef_gx_dialogue.specs.Rars.{AnswersRar, DoesOrders, HaveRoom, Obeys, avp_refused, example_of, is_ended, left_by, left_of, nothing_left, told_of_orders};
 
 use crate::asking::read_request;
@@ -31,10 +31,11 @@ pub struct AnsweredRar {
     pub release: Option<u32>,
 }
 
-/// The room for reports of these orders. Takes memory; an `Err` is want of it, or a name of more than 65,536 octets, or
-/// reports of more than 8,388,608, which no message of at most 65,536 asks for.
-fn room_for(alloc: Global, orders: &[NamedOrder]) -> Result<AnswerRoom, AllocError>
-    ensures { IfOk result (λ room. HaveRoom orders.now room) }
+/// How many octets the reports of these orders take at most. An `Err` is a name of more than 65,536 octets, or reports
+/// of more than 4,000,000, which no message of at most 65,536 asks for.
+pub(crate) fn room_of(orders: &[NamedOrder]) -> Result<usize, AllocError>
+    ensures room { IfOk result (λ octets. HaveRoom orders.now octets) }
+    ensures most { IfOk result (λ octets. octets ≤ most_room) }
 {
     let mut octets: usize = 0;
     for named in orders {
@@ -44,7 +45,7 @@ fn room_for(alloc: Global, orders: &[NamedOrder]) -> Result<AnswerRoom, AllocErr
         }
         octets += len + 68;
     }
-    AnswerRoom::new(alloc, octets)
+    Ok(octets)
 }
 
 /// An AVP of 3GPP whose data are a word, with zeros.
@@ -108,7 +109,7 @@ fn do_orders<C: Detects>(
     ensures setting { world.new.session.setting ≡ world.old.session.setting }
     ensures forgotten { world.new.session.forgotten ≡ world.old.session.forgotten }
 {
-    let room = room_for(alloc, orders)?;
+    let room = AnswerRoom::new(alloc, room_of(orders)?)?;
     let done = carry_out(alloc, catalog, world, orders)?;
     Ok(room.answer(identity, header, &told(&done), &done.reports))
 }

@@ -5,19 +5,24 @@
 //! each rule that couldn't be had has its report; a RAR that comes again is answered again, and nothing is done.
 //!
 //! In the order of reading: `party`, `halt`, `asking`, `answering`, `responder`,
-//! `ccr`.
+//! `ccr`, `cca`,
+//! `granting`.
 #![tactic(auto)]
 
 mod answering;
 mod asking;
+mod cca;
 mod ccr;
+mod granting;
 mod halt;
 mod party;
 mod responder;
 
 pub use answering::{AnsweredRar, answer_rar};
 pub use asking::read_request;
+pub use cca::{CcaDrop, Says, read_answer};
 pub use ccr::{Ccrs, SendRefusal};
+pub use granting::{Granted, do_grant};
 pub use halt::Halt;
 pub use party::Party;
 pub use responder::{LeftToHost, RarDone, Responder};

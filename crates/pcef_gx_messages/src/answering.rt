@@ -145,8 +145,9 @@ fn put_avps(parts: &mut Vec<u8>, out: &mut Vec<u8>, identity: &Identity, outcome
     put_failed(parts, out, outcome);
 }
 
-/// Writes the reports of rules behind others.
-fn put_reports(parts: &mut Vec<u8>, out: &mut Vec<u8>, reports: &[RuleReport])
+/// Writes the Charging-Rule-Reports of rules behind others; what each has is put together in `parts`, in place of what
+/// was there. Both lists have room for 68 octets beside each name, of at most 65,536. Takes no memory.
+pub fn put_reports(parts: &mut Vec<u8>, out: &mut Vec<u8>, reports: &[RuleReport])
     requires names { All IsShortReport reports.now }
     requires parts { sum_by report_room reports.now ≤ vec_capacity parts.old }
     requires out { length out.old.items + sum_by report_room reports.now ≤ vec_capacity out.old }

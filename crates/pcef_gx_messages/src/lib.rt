@@ -11,6 +11,6 @@ mod identity;
 mod requesting;
 mod sending;
 
-pub use answering::{Answer, AnswerRoom, Outcome, refuse};
+pub use answering::{Answer, AnswerRoom, Outcome, put_reports, refuse};
 pub use identity::{Identity, MAX_OCTETS};
 pub use requesting::{CREDIT_CONTROL, GX, RequestKind, RequestMark, request};

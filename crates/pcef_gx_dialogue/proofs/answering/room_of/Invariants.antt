@@ -3,7 +3,7 @@ use Rattle.std.specs.Prelude.{All, sum_by}
 use Rattle.pcef_gx.specs.declared.order.Order.{Order}
 use Rattle.pcef_gx_orders.specs.Naming.{name_given}
 use Rattle.pcef_gx_dialogue.specs.Rars.{order_room}
-use Rattle.pcef_gx_dialogue.proofs.answering.room_for.Given as goal
+use Rattle.pcef_gx_dialogue.proofs.answering.room_of.Given as goal
 
 -- where the rest are short all are; the octets so far, and those of the rest, are those of all
 abbrev pub invariant-loop-named : goal.invariant-loop-named
