@@ -1,4 +1,4 @@
--- What an answer of the PCRF says to the CCR that is out (TS 29.212, clause 5.6.3; RFC 6733, clause 7). One at fault is
+-- What an answer of the PCRF says to the CCR that is out (TS 29.212, clause 5.6.3; RFC 6733, clause 7.1). One at fault is
 -- dropped, for nothing answers an answer.
 use Rattle.std.specs.Prelude.{ℕ, ◌≡◌, ◌==◌, ◌||◌, not, Bool, true, false, nat_lt, is_none, is_some, List, drop, length, Option, Some, None, option_map, unwrap_or, Result, Ok, Err, if◌then◌else◌}
 use Rattle.std.specs.Option.{option_and_then}

@@ -16,8 +16,8 @@ use Rattle.pcef_model.specs.declared.trigger.AccessKind.{AccessKind}
 use Rattle.pcef_model.specs.declared.trigger.AccessKind.TheVariants.{PlmnChange, RatChange, UeTimeZoneChange, UserLocationChange}
 
 -- ---- one report
--- The AVP of an access event has the notice's value, escaped as names are: RAT-Type (clause 5.3.31), 3GPP-SGSN-MCC-MNC,
--- 3GPP-User-Location-Info and 3GPP-MS-TimeZone (TS 29.061, clause 16.4.7).
+-- The AVP of an access event has the notice's value, escaped as names are: RAT-Type (clause 5.3.31), and three of TS
+-- 29.061, clause 16.4.7: 3GPP-SGSN-MCC-MNC, 3GPP-User-Location-Info and 3GPP-MS-TimeZone.
 abbrev pub access_number : AccessKind → ℕ
 access_number RatChange = 1032
 access_number PlmnChange = 18
@@ -27,7 +27,8 @@ access_number UeTimeZoneChange = 23
 abbrev pub access_code : AccessKind → Code
 access_code kind = record { vendor = 10415; number = access_number kind }
 
--- a rule that went with its bearer: INACTIVE, RESOURCE_ALLOCATION_FAILURE (clauses 5.3.19 and 5.3.38)
+-- a rule that went with its bearer: INACTIVE, RESOURCE_ALLOCATION_FAILURE (TS 29.212, clauses 5.3.19 and
+-- 5.3.38)
 abbrev pub gone_parts : List ℕ → List Shown
 gone_parts name = avp_of charging_rule_name name ∷ number_avp pcc_rule_status 1 ∷ number_avp rule_failure_code 10 ∷ []
 
@@ -43,7 +44,7 @@ told_avp (body.Inactive rule cause) = gone_avp (octets_of rule)
 abbrev pub report_told : Report → Shown
 report_told r = told_avp r.body
 
--- ---- event triggers (clause 5.3.7)
+-- ---- event triggers (TS 29.212, clause 5.3.7)
 abbrev pub is_end : Cause → Bool
 is_end Terminated = true
 is_end _ = false
