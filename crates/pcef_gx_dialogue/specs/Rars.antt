@@ -18,7 +18,7 @@ use Rattle.pcef_model.specs.Refusals.{was_closed, was_terminated}
 use Rattle.pcef_rule.specs.declared.quantity.Qos.{Qos}
 use Rattle.pcef_world.specs.Worlds.{World}
 use Rattle.pcef_gx_dialogue.specs.Requests.{RequestDue}
-use Rattle.pcef_gx_dialogue.specs.declared.answering.AnsweredRar.{AnsweredRar}
+use Rattle.pcef_gx_dialogue.specs.declared.answering.LeftToHost.{LeftToHost}
 
 -- ---- what the answer tells of orders
 -- The AVP that a refused order came from, the innermost alone: its Monitoring-Key, else an example of the one that asked
@@ -87,8 +87,8 @@ pub record Left : Type 0 where
 abbrev pub nothing_left : Left
 nothing_left = record { others = []; default_qos = None; release = None }
 
-abbrev pub left_by : AnsweredRar → Left
-left_by a = record { others = a.others.items; default_qos = a.default_qos; release = a.release }
+abbrev pub left_by : LeftToHost → Left
+left_by l = record { others = l.others.items; default_qos = l.default_qos; release = l.release }
 
 abbrev pub asked_beside : Asked → Left
 asked_beside asked = record { others = asked.others; default_qos = asked.default_qos; release = asked.release }

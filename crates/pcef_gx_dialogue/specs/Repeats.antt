@@ -9,7 +9,7 @@ use Rattle.pcef_gx_messages.specs.Identities.{Speaker}
 use Rattle.pcef_gx_messages.specs.Sent.{Answered, Told, answered_again}
 use Rattle.pcef_lists.specs.Readings.{◌>>=◌, under}
 use Rattle.pcef_world.specs.Worlds.{World}
-use Rattle.pcef_gx_dialogue.specs.Rars.{AnswersRar, Left, nothing_left}
+use Rattle.pcef_gx_dialogue.specs.Rars.{AnswersRar, Left, left_by, nothing_left}
 use Rattle.pcef_gx_dialogue.specs.Requests.{avps_in, told_fault}
 use Rattle.pcef_gx_dialogue.specs.declared.responder.RarDone.{RarDone}
 use Rattle.pcef_gx_dialogue.specs.declared.responder.RarDone.TheVariants as done
@@ -64,7 +64,7 @@ remembered h message answer before = record {
 -- what is left to the host: of a RAR that comes again nothing
 abbrev pub left_by_done : RarDone → Left
 left_by_done done.Repeated = nothing_left
-left_by_done (done.Done left) = record { others = left.others.items; default_qos = left.default_qos; release = left.release }
+left_by_done (done.Done left) = left_by left
 
 abbrev pub AnswersNew : MessageHeader → List ℕ → Answering → World → RarDone → Answering → World → Type 0
 AnswersNew h message before world result after world_after =

@@ -18,17 +18,24 @@ use pcef_rule::Qos;
 use pcef_world::WorldState;
 use std::alloc::{AllocError, Global};
 
-/// The answer to a RAR, and what it leaves to the host.
+/// What a RAR leaves to the host.
 #[derive(Drop)]
-pub struct AnsweredRar {
-    /// The answer.
-    pub answer: Answer,
+pub struct LeftToHost {
     /// The numbers of the event triggers beside those that a session has: the host watches for them.
     pub others: Vec<u32>,
     /// The QCI and the ARP that the default bearer is to have, where the PCRF says so.
     pub default_qos: Option<Qos>,
     /// Why the session is to end, where the PCRF ends it: the Session-Release-Cause.
     pub release: Option<u32>,
+}
+
+/// The answer to a RAR, and what it leaves to the host.
+#[derive(Drop)]
+pub struct AnsweredRar {
+    /// The answer.
+    pub answer: Answer,
+    /// What is left to the host.
+    pub left: LeftToHost,
 }
 
 /// How many octets the reports of these orders take at most. An `Err` is a name of more than 65,536 octets, or reports
@@ -123,13 +130,15 @@ fn refused(
 ) -> Result<AnsweredRar, AllocError>
     requires { header.now.command < 2 ^ 24 }
     ensures answer { IfOk result (λ a. a.answer ≡ answered identity.now header.now (told_of outcome.now) []) }
-    ensures left { IfOk result (λ a. left_by a ≡ nothing_left) }
+    ensures left { IfOk result (λ a. left_by a.left ≡ nothing_left) }
 {
     Ok(AnsweredRar {
         answer: refuse(alloc, identity, header, outcome)?,
-        others: Vec::new(alloc),
-        default_qos: None,
-        release: None,
+        left: LeftToHost {
+            others: Vec::new(alloc),
+            default_qos: None,
+            release: None,
+        },
     })
 }
 
@@ -145,7 +154,7 @@ fn obey<C: Detects>(
     requires offered { C.offers catalog.now ≡ world.old.session.setting.catalog }
     requires command { header.now.command < 2 ^ 24 }
     ensures answer { IfOk result (λ a. Obeys (is_ended world.old) identity.now header.now asked.entry.orders.items world.old a.answer world.new) }
-    ensures left { IfOk result (λ a. left_by a ≡ left_of (is_ended world.old) (messages.asked asked.entry)) }
+    ensures left { IfOk result (λ a. left_by a.left ≡ left_of (is_ended world.old) (messages.asked asked.entry)) }
     ensures lacks { IfErr result (λ _. world.new ≡ world.old) }
     ensures workers { world.new.workers ≡ world.old.workers }
     ensures setting { world.new.session.setting ≡ world.old.session.setting }
@@ -157,9 +166,11 @@ fn obey<C: Detects>(
     let named = with_names(alloc, asked.orders)?;
     Ok(AnsweredRar {
         answer: do_orders(alloc, catalog, world, identity, header, &named)?,
-        others: asked.others,
-        default_qos: asked.default_qos,
-        release: asked.release,
+        left: LeftToHost {
+            others: asked.others,
+            default_qos: asked.default_qos,
+            release: asked.release,
+        },
     })
 }
 
@@ -180,7 +191,7 @@ pub fn answer_rar<C: Detects>(
     requires offered { C.offers catalog.now ≡ world.old.session.setting.catalog }
     requires command { header.now.command < 2 ^ 24 }
     requires whole { 20 ≤ length message.now }
-    ensures answer { IfOk result (λ a. AnswersRar identity.now header.now message.now world.old a.answer (left_by a) world.new) }
+    ensures answer { IfOk result (λ a. AnswersRar identity.now header.now message.now world.old a.answer (left_by a.left) world.new) }
     ensures lacks { IfErr result (λ _. world.new ≡ world.old) }
     ensures workers { world.new.workers ≡ world.old.workers }
     ensures setting { world.new.session.setting ≡ world.old.session.setting }

@@ -18,11 +18,11 @@ mod halt;
 mod party;
 mod responder;
 
-pub use answering::{AnsweredRar, answer_rar};
+pub use answering::{AnsweredRar, LeftToHost, answer_rar};
 pub use asking::read_request;
 pub use cca::{CcaDrop, Says, read_answer};
 pub use ccr::{Ccrs, SendRefusal};
 pub use granting::{Granted, do_grant};
 pub use halt::Halt;
 pub use party::Party;
-pub use responder::{LeftToHost, RarDone, Responder};
+pub use responder::{RarDone, Responder};

@@ -4,28 +4,16 @@ ghost use Rattle.std.specs.Prelude.{◌≡◌, ◌<◌, ◌≤◌, ◌^◌, IfEr
 ghost use Rattle.pcef_gx_dialogue.specs.Repeats.{AnswersOnce, is_from, is_last, origin_of, repeated};
 ghost use Rattle.pcef_gx_dialogue.specs.private.Lasts.{last_of};
 
-use crate::answering::answer_rar;
+use crate::answering::{LeftToHost, answer_rar};
 use crate::party::Party;
 use pcef_catalog::Detects;
 use pcef_diameter::{HEADER_LEN, MessageHeader};
 use pcef_gx::code::ORIGIN_HOST;
 use pcef_gx::{Stop, group, only};
 use pcef_gx_messages::Answer;
-use pcef_rule::Qos;
 use pcef_world::WorldState;
 use std::alloc::{AllocError, Global};
 use std::marker::Model;
-
-/// What a RAR leaves to the host.
-#[derive(Drop)]
-pub struct LeftToHost {
-    /// The numbers of the event triggers beside those that a session has: the host watches for them.
-    pub others: Vec<u32>,
-    /// The QCI and the ARP that the default bearer is to have, where the PCRF says so.
-    pub default_qos: Option<Qos>,
-    /// Why the session is to end, where the PCRF ends it: the Session-Release-Cause.
-    pub release: Option<u32>,
-}
 
 /// What was done for a RAR.
 #[derive(Drop)]
@@ -190,10 +178,6 @@ impl Responder {
             message,
         )?;
         self.remember(header, origin, done.answer);
-        Ok(RarDone::Done(LeftToHost {
-            others: done.others,
-            default_qos: done.default_qos,
-            release: done.release,
-        }))
+        Ok(RarDone::Done(done.left))
     }
 }
