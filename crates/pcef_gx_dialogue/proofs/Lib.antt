@@ -1,3 +1,4 @@
 pub mod Heard
 pub mod Requested
 pub mod Rooms
+pub mod Told

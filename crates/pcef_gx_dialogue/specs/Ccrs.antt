@@ -1,5 +1,5 @@
 -- The CCRs of a session (TS 29.212, clauses 4.5.1, 4.5.3 and 4.5.7; RFC 8506, clause 8.2).
-use Rattle.std.specs.Prelude.{ℕ, ◌+◌, ◌==◌, ◌&&◌, Bool, true, false, bit_or, List, Option, Some, None, length, option_map, slice_index, slice_set, if◌then◌else◌}
+use Rattle.std.specs.Prelude.{ℕ, ◌+◌, ◌==◌, ◌&&◌, Bool, false, bit_or, List, Option, Some, None, option_map, slice_index, slice_set, if◌then◌else◌}
 use Rattle.pcef_gx_messages.specs.Identities.{Speaker}
 use Rattle.pcef_gx_messages.specs.Sent.{kind_number, request_octets}
 use Rattle.pcef_gx_messages.specs.declared.requesting.RequestKind.{RequestKind}

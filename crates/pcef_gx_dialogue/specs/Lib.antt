@@ -1,3 +1,4 @@
+pub mod Adding
 pub mod Ccas
 pub mod Ccrs
 pub mod Grants

@@ -6,7 +6,7 @@
 //!
 //! In the order of reading: `party`, `halt`, `asking`, `answering`, `responder`,
 //! `ccr`, `cca`,
-//! `granting`.
+//! `granting`, `laws`.
 #![tactic(auto)]
 
 mod answering;
@@ -15,6 +15,7 @@ mod cca;
 mod ccr;
 mod granting;
 mod halt;
+mod laws;
 mod party;
 mod responder;
 
@@ -24,5 +25,6 @@ pub use cca::{CcaDrop, Says, read_answer};
 pub use ccr::{Ccrs, SendRefusal};
 pub use granting::{Granted, do_grant};
 pub use halt::Halt;
+pub use laws::ccrs_add_up;
 pub use party::Party;
 pub use responder::{RarDone, Responder};
