@@ -296,6 +296,7 @@ fn pool_named<P: Pooling + Send + Sync, R: Threads + Wait + Sync>(
 ) -> Option<(Seen, (u32, u32), Sums)>
     requires there { P.is_there ≡ true }
     requires name { P.ledger ≡ name_at blanks }
+    requires capacity { P.capacity ≡ capacity }
 {
     let pool = Pool::<P>::new(capacity, blanks).ok()?;
     let side = new_side(alloc)?;
