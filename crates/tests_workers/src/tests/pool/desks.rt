@@ -207,6 +207,7 @@ fn end_of<N: Naming, W: Board<Cell<N>> + Drop, P: Pooling, R: Wait>(
         rows: _,
         abandoned: _,
         keys: _,
+        lists: _,
         rates,
     } = totals;
     Some(Left {
