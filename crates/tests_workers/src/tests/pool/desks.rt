@@ -313,8 +313,13 @@ fn pool_named<P: Pooling + Send + Sync, R: Threads + Wait + Sync>(
     let mut shares = Vec::with_capacity(alloc, 2).ok()?;
     shares.push(here.rates).ok()?;
     shares.push(there.rates).ok()?;
+    let found = (pool.granted(rt), pool.compare_all(rt, &mut shares));
     let granted = pool.gather(shares).ok()?;
-    Some((seen, generations, granted))
+    if found == (granted, Some(granted)) {
+        Some((seen, generations, granted))
+    } else {
+        None
+    }
 }
 
 /// What two desks on a pool of this capacity are answered, the number of each session's newest generation at the end,
