@@ -18,7 +18,7 @@ use Rattle.pcef_model.specs.Lawful.{Lawful}
 use Rattle.pcef_model.proofs.NewLanes.{lawful_numbered}
 use Rattle.pcef_session.specs.declared.batch.Item.{Item}
 use Rattle.pcef_session.specs.Following.{row_of}
-use Rattle.pcef_lock.specs.Gathering.{AddUpTo, HasLane, rows_abandoned}
+use Rattle.pcef_lock.specs.Gathering.{AddUpTo, AreGathered, HasLane, HaveLanes, rows_abandoned}
 use Rattle.pcef_lock.specs.HandedIn.{HandedIn, abandoned_by}
 use Rattle.pcef_lock.specs.declared.leaving.Leaving.TheVariants.{Finished}
 use Rattle.pcef_gateway.specs.Arriving.{headers_for}
@@ -91,7 +91,12 @@ runs_to p before arrivals given first listed workers dropped handed e add_up com
       attached = sym add_up.many ∙ hand_in.many;
       keys = add_up.keys_are;
       sums = add_up.sums;
-      gathered = record { handed = handed; many = add_up.many; lanes = agree.0; gathered = add_up.gathered; abandoned_are = add_up.abandoned_are };
+      gathered = record {
+        many = ap length add_up.lists_are ∙ add_up.many;
+        lanes = subst (λ (hs : List HandedIn). HaveLanes j hs) (sym add_up.lists_are) agree.0;
+        gathered = subst (λ (hs : List HandedIn). AreGathered e.totals.keys hs) (sym add_up.lists_are) add_up.gathered;
+        abandoned_are = add_up.abandoned_are ∙ ap rows_abandoned (sym add_up.lists_are);
+      };
       rows_are = add_up.rows_are;
       lanes = λ w within.
           let there : w < length handed = omega (arith, within, hand_in.many) in

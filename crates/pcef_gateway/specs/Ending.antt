@@ -6,7 +6,6 @@ use Rattle.pcef_model.specs.Setting.{Setting}
 use Rattle.pcef_model.specs.Entries.{Journal, rows}
 use Rattle.pcef_model.specs.Journals.{attach_count}
 use Rattle.pcef_lock.specs.Gathering.{AreGathered, HaveLanes, key_totals, rows_abandoned}
-use Rattle.pcef_lock.specs.HandedIn.{HandedIn}
 use Rattle.pcef_lock.specs.declared.gathering.Totals.{Totals}
 use Rattle.pcef_gateway.specs.Arriving.{headers_for}
 use Rattle.pcef_gateway.specs.Commanding.{FoundMemory, changing}
@@ -15,13 +14,12 @@ use Rattle.pcef_gateway.specs.declared.arrivals.Arrival.{Arrival}
 use Rattle.pcef_gateway.specs.declared.ended.Ended.{Ended}
 use Rattle.pcef_gateway.specs.declared.fault.RunFault.{RunFault}
 
--- from these hand-ins of the workers: each has its lane, and together they have what was counted for each key
-pub record AreGatheredFrom {l : Type 0} (t : Totals l) : Type 0 where
-  pub handed : List HandedIn
-  pub many : length handed ≡ attach_count t.session.journal
-  pub lanes : HaveLanes t.session.journal handed
-  pub gathered : AreGathered t.keys handed
-  pub abandoned_are : t.abandoned ≡ rows_abandoned handed
+-- what the workers handed in: each list is a lane, and together they have what was counted for each key
+pub record ListsFit {l : Type 0} (t : Totals l) : Type 0 where
+  pub many : length t.lists ≡ attach_count t.session.journal
+  pub lanes : HaveLanes t.session.journal t.lists
+  pub gathered : AreGathered t.keys t.lists
+  pub abandoned_are : t.abandoned ≡ rows_abandoned t.lists
 
 -- it failed for this reason
 abbrev pub FailsBy : {A : Type 0} → RunFault → Result A RunFault → Type 0
@@ -35,7 +33,7 @@ pub record RunsTo (p : Setting) (before : Journal) (arrivals : List Arrival) (gi
   pub attached : attach_count e.totals.session.journal ≡ workers
   pub keys : e.totals.keys ≡ key_totals p e.totals.session.journal
   pub sums : All (λ k. k.counted ≡ k.reported + k.unreported) e.totals.keys
-  pub gathered : AreGatheredFrom e.totals
+  pub gathered : ListsFit e.totals
   pub rows_are : e.totals.rows ≡ length (rows e.totals.session.journal)
   pub lanes : (w : ℕ) → w < workers → IsPrefix (lane_headers e.totals.session.journal w) (headers_for w arrivals)
   pub whole : e.totals.rows + e.totals.abandoned + e.dropped ≡ length arrivals

@@ -83,6 +83,7 @@ pub record AddUpTo {l : Type 0} (p : Setting) (is_there : Bool) (listed : List C
   pub archived : Archives t.session.journal t.archive
   pub all_reports : t.session.forgotten ≡ 0
   pub keys_are : t.keys ≡ key_totals p t.session.journal
+  pub lists_are : t.lists ≡ handed
   pub gathered : AreGathered t.keys handed
   pub sums : All (λ k. k.counted ≡ k.reported + k.unreported) t.keys
   pub rows_are : t.rows ≡ length (rows t.session.journal)

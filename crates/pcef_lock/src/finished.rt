@@ -7,6 +7,7 @@ ghost use Rattle.pcef_lock.specs.HandedIn.{abandoned_by};
 
 use crate::leaving::{Departure, Leaving};
 use crate::own_rows::OwnRows;
+use crate::worker_lists::WorkerList;
 use pcef_session::Item;
 use pcef_share::{Naming, Shares};
 use std::marker::Model;
@@ -111,15 +112,21 @@ impl<N: Naming> Finished<N> {
         }
     }
 
-    /// What its rows count.
-    pub(crate) fn into_shares(self) -> Shares<N>
-        ensures { result ≡ with_items zeros self.items }
+    /// Its list, and what that counts.
+    pub(crate) fn into_parts(self) -> (WorkerList, Shares<N>)
+        ensures list { result.0 ≡ self }
+        ensures shares { result.1 ≡ with_items zeros self.items }
     {
         let Finished {
-            departure: _,
-            rows: _,
+            departure,
+            rows,
             shares,
         } = self;
-        shares
+        let list = WorkerList {
+            worker: departure.worker(),
+            rows,
+            leaving: departure.leaving(),
+        };
+        (list, shares)
     }
 }

@@ -11,6 +11,7 @@ ghost use Rattle.pcef_lock.specs.Gathering.{AgreeWith, AreCompared, CanGather, H
 use crate::finished::Finished;
 use crate::key_totals::KeyTotals;
 use crate::sameness::{is_same_command, is_same_row};
+use crate::worker_lists::WorkerLists;
 use pcef_journaled::{Archive, Commands, JournaledState, Lane};
 use pcef_model::Command;
 use pcef_session::{Item, SessionState};
@@ -46,6 +47,8 @@ pub struct Totals<P: Pooling = NoPool> {
     pub abandoned: u64,
     /// The keys that have a slot, in slot order.
     pub keys: KeyTotals,
+    /// What the workers handed in, in the order in which it was gathered.
+    pub lists: WorkerLists,
     /// The session's share of a pool in bit/s, where there is one.
     pub rates: Option<RateShares<P>>,
 }

@@ -4,7 +4,7 @@
 //! Its contracts say: what each hold of the lock finds, what each call in it answers and changes, and what all adds up
 //! to at the end.
 //!
-//! In the order of reading: `own_rows`, `leaving`, `finished`, `key_totals`, `pool`, `seat`, `sameness`, `gathering`,
+//! In the order of reading: `own_rows`, `leaving`, `key_totals`, `worker_lists`, `finished`, `pool`, `seat`, `sameness`, `gathering`,
 //! `counting`, `lanes`, `pooled_share`, `publishing`, `state`, `shared`, `desk`, `opening`.
 #![tactic(auto)]
 
@@ -24,6 +24,7 @@ mod sameness;
 mod seat;
 mod shared;
 mod state;
+mod worker_lists;
 
 pub use desk::{Desk, commands_so_far};
 pub use finished::Finished;
@@ -36,3 +37,4 @@ pub use pool::Pool;
 pub use seat::Seat;
 pub use shared::{Shared, Ungathered};
 pub use state::{State, StateUngathered};
+pub use worker_lists::{WorkerList, WorkerLists};

@@ -1,14 +1,15 @@
 //! The lock of a pool.
 
-ghost use Rattle.std.specs.Prelude.{◌≡◌, ◌≤◌, ◌<◌, ◌↔◌, IfOk, IfErr, IsOk};
+ghost use Rattle.std.specs.Prelude.{◌≡◌, ◌≤◌, ◌<◌, ◌↔◌, IfOk, IfErr, IfSome, IsOk, length};
 ghost use Rattle.pcef_share.specs.Names.{name_at};
 ghost use Rattle.pcef_share.specs.Rates.{no_rates, sum_of_rates};
+ghost use Rattle.pcef_pool.specs.Pools.{GrantsExactly};
 ghost use Rattle.pcef_pool.specs.declared.pool_state.PoolFault.TheVariants.{OutOfRange};
 
 use pcef_pool::{PoolFault, PoolState};
 use pcef_rule::Sums;
 use pcef_share::{Pooling, RateBlanks, RateShares, SharesOut};
-use std::sync::Mutex;
+use std::sync::{Mutex, Wait};
 
 /// A pool of guaranteed rates that sessions of several threads share. Its lock is taken inside the hold of a session's
 /// lock, and no other lock inside it.
@@ -24,9 +25,10 @@ impl<P: Pooling> Drop for Pool<P> {
 }
 
 impl<P: Pooling> Pool<P> {
-    /// As [`PoolState::new`], behind a lock. Takes no memory.
+    /// As [`PoolState::new`], behind a lock: every hold finds a pool of this capacity. Takes no memory.
     pub fn new(capacity: Sums, blanks: RateBlanks) -> Result<Pool<P>, PoolFault>
-        requires { P.ledger ≡ name_at blanks }
+        requires name { P.ledger ≡ name_at blanks }
+        requires capacity { P.capacity ≡ capacity }
         ensures within { IsOk result
             ↔ ((capacity.up ≤ 1099511627775) × (capacity.down ≤ 1099511627775)) }
         ensures fault { IfErr result (λ f. f ≡ OutOfRange) }
@@ -37,6 +39,29 @@ impl<P: Pooling> Pool<P> {
             }),
             Err(fault) => Err(fault),
         }
+    }
+
+    /// What is granted, in bit/s. It is within the capacity whenever the lock is free. Takes no memory.
+    pub fn granted<R: Wait>(&self, rt: &R) -> Sums
+        ensures up { result.up ≤ P.capacity.up }
+        ensures down { result.down ≤ P.capacity.down }
+    {
+        self.state.lock(rt).granted()
+    }
+
+    /// As [`PoolState::compare_all`]: whenever the lock is free, what is granted is the exact sum over all the shares
+    /// that were issued, within the capacity. None where these are not all. Takes no memory.
+    pub fn compare_all<R: Wait>(&self, rt: &R, shares: &mut [RateShares<P>]) -> Option<Sums>
+        ensures exact { IfSome result (λ s. GrantsExactly (record {
+          capacity = P.capacity;
+          books = record { granted = s; issued = length shares.old };
+        }) shares.old) }
+        ensures same { shares.new ≡ shares.old }
+    {
+        let mut pool = self.state.lock(rt);
+        // For what it says of the capacity.
+        let _granted = pool.granted();
+        pool.compare_all(shares)
     }
 
     /// As [`PoolState::gather`], of the value behind the lock, which ends with it: what the pool has granted is the sum

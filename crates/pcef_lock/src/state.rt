@@ -10,7 +10,7 @@ ghost use Rattle.pcef_share.specs.Names.{name_at};
 ghost use Rattle.pcef_lock.specs.Outcomes.{AnswersSeat, with_share};
 ghost use Rattle.pcef_lock.specs.Counting.{books_with_command, with_command};
 ghost use Rattle.pcef_lock.specs.Desks.{desk_shares, first_books};
-ghost use Rattle.pcef_lock.specs.Kept.{Kept};
+ghost use Rattle.pcef_lock.specs.Kept.{HoldFinds, Kept};
 ghost use Rattle.pcef_pool.specs.Pools.{IsPart, pool_with, rates_due, room_beside};
 ghost use Rattle.pcef_lock.specs.Published.{ArePublished};
 ghost use Rattle.pcef_lock.specs.Seats.{ChangesOnlySubscriber, HasSeenAll, IsNewSeat};
@@ -19,6 +19,7 @@ ghost use mathlib.Core.List.{IsPrefix};
 use crate::pooled_share::{give_rates, held_in, room_in};
 use crate::publishing::{make_ready, next_subscriber, publish};
 use crate::seat::Seat;
+use pcef_core::{SessionParts, session_is_exact};
 use pcef_journaled::JournaledState;
 use pcef_model::{Accepted, AttachFault, Command, Refusal};
 use pcef_packet::Addr;
@@ -141,6 +142,15 @@ impl<N: Naming, W: Board<Cell<N>> + Drop, P: Pooling> State<N, W, P> {
             places,
         };
         (state, shares)
+    }
+
+    /// What the session keeps: all that a hold of the lock finds, in one statement. It is exact, its published tables
+    /// show its generations, and its books hold what its journal counts.
+    pub fn found(&self) -> SessionParts<'_>
+        ensures { HoldFinds N.setting N.first self.now result }
+    {
+        let session = self.session();
+        session_is_exact(session.session())
     }
 
     /// The session. Its journal is lawful, its published tables show its generations, and its books hold what its

@@ -1,10 +1,10 @@
 -- Pools of guaranteed rates that sessions share, in bit/s (own choice).
-use Rattle.std.specs.Prelude.{◌≤◌, ◌+◌, ◌-◌, Bool, true, false, [], ◌∷◌, Option, Some, None, nat_lt}
+use Rattle.std.specs.Prelude.{◌≡◌, ◌≤◌, ◌+◌, ◌-◌, Bool, true, false, List, [], ◌∷◌, Option, Some, None, length, nat_lt}
 use Rattle.pcef_rule.specs.declared.quantity.Sums.{Sums}
 use Rattle.pcef_model.specs.Setting.{Setting}
 use Rattle.pcef_model.specs.Entries.{Journal}
 use Rattle.pcef_model.specs.Refusals.{Conditions, total_now}
-use Rattle.pcef_share.specs.Rates.{RateAccount, granted_with, to_others}
+use Rattle.pcef_share.specs.Rates.{RateAccount, granted_with, no_rates, sum_of_rates, to_others}
 use Rattle.pcef_pool.specs.declared.pool_state.PoolFull.{PoolFull}
 use Rattle.pcef_pool.specs.declared.pool_state.PoolFull.TheVariants as full
 
@@ -19,6 +19,14 @@ pub record IsPool (v : PoolModel) : Type 0 where
   pub down : v.books.granted.down ≤ v.capacity.down
   pub most_up : v.capacity.up ≤ 1099511627775
   pub most_down : v.capacity.down ≤ 1099511627775
+
+-- The same with all the shares that were issued: what a pool has granted is the exact sum over them, within its capacity.
+-- The share of a session is what its own rules sum up to (`rates_due`).
+pub record GrantsExactly (v : PoolModel) (shares : List Sums) : Type 0 where
+  pub all : length shares ≡ v.books.issued
+  pub sum : v.books.granted ≡ sum_of_rates no_rates shares
+  pub within_up : v.books.granted.up ≤ v.capacity.up
+  pub within_down : v.books.granted.down ≤ v.capacity.down
 
 -- the room that a pool leaves for a share with these rates: its capacity less what the other shares have
 abbrev pub room_beside : PoolModel → Sums → Sums

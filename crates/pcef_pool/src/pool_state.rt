@@ -5,7 +5,7 @@ ghost use Rattle.std.specs.Result.{result_err};
 ghost use Rattle.pcef_model.specs.Refusals.{first_of};
 ghost use Rattle.pcef_share.specs.Names.{name_at};
 ghost use Rattle.pcef_share.specs.Rates.{no_rates, sum_of_rates};
-ghost use Rattle.pcef_pool.specs.Pools.{IsPart, IsPool, pool_faults, pool_with, room_beside, with_rate_share};
+ghost use Rattle.pcef_pool.specs.Pools.{GrantsExactly, IsPart, IsPool, pool_faults, pool_with, room_beside, with_rate_share};
 ghost use Rattle.pcef_pool.specs.declared.pool_state.PoolFault.TheVariants.{OutOfRange};
 
 use pcef_model::MAX_CAPACITY;
@@ -20,9 +20,6 @@ pub enum PoolFault {
     /// The capacity is above the limit of a session's.
     #[error("the capacity of a pool is at most 1,099,511,627,775 bit/s")]
     OutOfRange,
-    /// There is no memory left.
-    #[error("there is no memory left")]
-    NoMemory,
 }
 
 /// Why a share of a pool doesn't get other rates. `Up` is looked for first.
@@ -54,21 +51,24 @@ impl<P: Pooling> Drop for PoolState<P> {
 }
 
 impl<P: Pooling> Model for PoolState<P> {
+    ghost use Rattle.std.specs.Prelude.{◌≡◌};
     ghost use Rattle.pcef_pool.specs.Pools.{IsPool, PoolModel};
 
     ghost Value = { PoolModel };
 
     ghost view = { λ s. record { capacity = s.capacity; books = s.books } };
 
-    ghost invariant = { λ s. IsPool (record { capacity = s.capacity; books = s.books }) };
+    ghost invariant = { λ s. IsPool (record { capacity = s.capacity; books = s.books })
+        × (s.capacity ≡ P.capacity) };
 }
 
 impl<P: Pooling> PoolState<P> {
     /// A pool of this capacity, in bit/s, of which nothing is granted, or `OutOfRange` where it is above
-    /// 1,099,511,627,775 in a direction. The blanks are those that the name stands for. Takes no memory, so it never
-    /// answers out of memory.
+    /// 1,099,511,627,775 in a direction. The blanks and the capacity are those that the name stands for. Takes no
+    /// memory.
     pub fn new(capacity: Sums, blanks: RateBlanks) -> Result<PoolState<P>, PoolFault>
-        requires { P.ledger ≡ name_at blanks }
+        requires name { P.ledger ≡ name_at blanks }
+        requires capacity { P.capacity ≡ capacity }
         ensures made { IfOk result (λ s. s ≡ record {
           capacity = capacity;
           books = record { granted = no_rates; issued = 0 };
@@ -89,9 +89,10 @@ impl<P: Pooling> PoolState<P> {
         })
     }
 
-    /// The rates of all shares, in bit/s. They are within the capacity.
+    /// The rates of all shares, in bit/s. They are within the capacity, which is the one that the pool was made with.
     pub fn granted(&self) -> Sums
         ensures granted { result ≡ self.now.books.granted }
+        ensures capacity { self.now.capacity ≡ P.capacity }
         ensures up { result.up ≤ self.now.capacity.up }
         ensures down { result.down ≤ self.now.capacity.down }
     {
@@ -153,6 +154,21 @@ impl<P: Pooling> PoolState<P> {
         ensures kept { IsPool self.old }
     {
         self.books.compare(shares)
+    }
+
+    /// What is granted, in bit/s, where these are all the shares that were issued: the exact sum over them, within the
+    /// capacity. None where they are not all. Changes nothing, and takes no memory.
+    pub fn compare_all(&mut self, shares: &mut [RateShares<P>]) -> Option<Sums>
+        ensures all { is_none result ≡ false ↔ (length shares.old ≡ self.old.books.issued) }
+        ensures granted { IfSome result (λ s. s ≡ self.old.books.granted) }
+        ensures exact { IfSome result (λ _. GrantsExactly self.old shares.old) }
+        ensures same { (self.new ≡ self.old) × (shares.new ≡ shares.old) }
+    {
+        if shares.len() != usize::from(self.books.issued()) {
+            return None;
+        }
+        self.books.compare_all(shares);
+        Some(self.books.granted())
     }
 
     /// What is granted, where all issued shares are handed in: the sum over them. Else gives all back as it was, with

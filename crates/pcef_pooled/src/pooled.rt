@@ -47,7 +47,7 @@ impl<P: Pooling> Model for Pooled<P> {
 
 impl<P: Pooling> Pooled<P> {
     /// Opens a session for each profile and listing, in their order, on a pool of this capacity, in bit/s, of which
-    /// nothing is granted. The blanks are those that the name stands for. Or answers the first fault in the order of
+    /// nothing is granted. The blanks and the capacity are those that the name stands for. Or answers the first fault in the order of
     /// [`PooledFault`], and gives all up. Takes memory for the sessions and their list.
     pub fn open(
         alloc: Global,
@@ -55,7 +55,8 @@ impl<P: Pooling> Pooled<P> {
         profiles: Vec<(Profile, Listing)>,
         blanks: RateBlanks,
     ) -> Result<Pooled<P>, PooledFault>
-        requires { P.ledger ≡ name_at blanks }
+        requires name { P.ledger ≡ name_at blanks }
+        requires capacity { P.capacity ≡ capacity }
         ensures answer { OpensOn capacity profiles.items (result_err result) }
         ensures sessions { IfOk result (λ p. AreOpened profiles.items p.sessions) }
         ensures many { IfOk result (λ p. length p.sessions ≡ length profiles.items) }

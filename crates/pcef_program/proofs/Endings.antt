@@ -124,7 +124,6 @@ pool_status (pool.Open (pooled.Session n opening.UnknownQci)) is = not_zero 1 (o
 pool_status (pool.Open (pooled.Session n opening.DefaultIsGbr)) is = not_zero 1 (omega arith) is
 pool_status (pool.Open (pooled.Session n opening.NoMemory)) is = not_zero 3 (omega arith) is
 pool_status (pool.Open (pooled.Pool of_pool.OutOfRange)) is = not_zero 2 (omega arith) is
-pool_status (pool.Open (pooled.Pool of_pool.NoMemory)) is = not_zero 3 (omega arith) is
 pool_status (pool.Open pooled.NoMemory) is = not_zero 3 (omega arith) is
 pool_status pool.Write is = not_zero 4 (omega arith) is
 pool_status pool.NoMemory is = not_zero 3 (omega arith) is

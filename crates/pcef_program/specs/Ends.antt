@@ -106,7 +106,6 @@ abbrev pub pooled_end : PooledFault → End
 pooled_end pooled.Sessions = end.Usage
 pooled_end (pooled.Session number fault) = open_end fault
 pooled_end (pooled.Pool of_pool.OutOfRange) = end.Usage
-pooled_end (pooled.Pool of_pool.NoMemory) = end.NoMemory
 pooled_end pooled.NoMemory = end.NoMemory
 
 abbrev pub pool_end : Result (Unit {0}) PoolEnd → End

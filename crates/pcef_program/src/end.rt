@@ -256,7 +256,7 @@ fn pooled_end(fault: PooledFault) -> End
     match fault {
         PooledFault::Sessions | PooledFault::Pool(PoolFault::OutOfRange) => End::Usage,
         PooledFault::Session(_, fault) => open_end(fault),
-        PooledFault::Pool(PoolFault::NoMemory) | PooledFault::NoMemory => End::NoMemory,
+        PooledFault::NoMemory => End::NoMemory,
     }
 }
 

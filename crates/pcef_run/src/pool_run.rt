@@ -26,6 +26,7 @@ fn run_named<P: Pooling, W: Write>(
     writer: &mut W,
 ) -> Result<(), PoolEnd>
     requires name { P.ledger ≡ name_at blanks }
+    requires capacity { P.capacity ≡ capacity }
     requires known { AreFor (length profiles.items) orders.items }
     ensures { RunsPool capacity profiles.items orders.items result
         (W.contents writer.old) (W.contents writer.new) }

@@ -1,11 +1,12 @@
 //! What reporters take.
 
-ghost use Rattle.std.specs.Prelude.{reverse};
+ghost use Rattle.std.specs.Prelude.{◌≡◌, []};
 
 use pcef_history::History;
 use pcef_model::Report;
 use pcef_trigger::{Answer, ReportKind, Reporter};
 use std::alloc::Global;
+use std::marker::Model;
 use std::sync::Arc;
 use std::sync::atomic::{AtomicU64, Ordering};
 
@@ -60,7 +61,7 @@ impl Taken {
 }
 
 /// Keeps the reports of a kind that it takes, and counts them. It refuses one for which it finds no memory. Contracts
-/// alone read the list; `pcef` prints the counts.
+/// see its kind and its lists, which they alone read; `pcef` prints the counts.
 #[derive(Drop)]
 pub struct Storing {
     asked: History<Report>,
@@ -69,9 +70,24 @@ pub struct Storing {
     taken: Arc<Taken>,
 }
 
+impl Model for Storing {
+    ghost use Rattle.std.specs.Prelude.{reverse};
+    ghost use Rattle.pcef_run.specs.Reporters.{StoringModel};
+
+    ghost Value = { StoringModel };
+
+    ghost view = { λ s. record {
+      kind = s.kind;
+      asked = reverse s.asked.items;
+      taken = s.reports.items;
+    } };
+}
+
 impl Storing {
     /// A reporter of this kind that took none yet. Takes no memory.
-    pub fn new(alloc: Global, kind: ReportKind, taken: Arc<Taken>) -> Storing {
+    pub fn new(alloc: Global, kind: ReportKind, taken: Arc<Taken>) -> Storing
+        ensures { result ≡ record { kind = kind; asked = []; taken = [] } }
+    {
         Storing {
             asked: History::new(),
             reports: Vec::new(alloc),
@@ -82,9 +98,9 @@ impl Storing {
 }
 
 impl Reporter for Storing {
-    ghost asked = { λ s. reverse s.asked.items };
+    ghost asked = { λ s. s.asked };
 
-    ghost taken = { λ s. s.reports.items };
+    ghost taken = { λ s. s.taken };
 
     fn report(&mut self, report: &Report) -> Answer {
         self.asked = self.asked.then(report);

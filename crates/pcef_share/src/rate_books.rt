@@ -103,6 +103,16 @@ impl<P: Pooling> RateBooks<P> {
         self.tallies.compare(shares)
     }
 
+    /// Shows that the rates of the books are the sums over these shares, which are all that were issued, and changes
+    /// nothing.
+    pub fn compare_all(&mut self, shares: &mut [RateShares<P>])
+        requires { length shares.old ≡ self.old.issued }
+        ensures same { (self.new ≡ self.old) × (shares.new ≡ shares.old) }
+        ensures sums { self.old.granted ≡ sum_of_rates no_rates shares.old }
+    {
+        self.tallies.compare_all(shares)
+    }
+
     /// The rates of the books, where all issued shares are handed in; they are the sums over the shares. Else the
     /// books and all that was handed in come back as they were, with the number of shares that are missing. Takes no
     /// memory.

@@ -2,7 +2,7 @@
 
 ghost use Rattle.std.specs.Prelude.{◌≡◌, ◌+◌, ◌-◌, ◌<◌, ◌≤◌, ◌^◌, length};
 ghost use Rattle.pcef_share.specs.Names.{name_at};
-ghost use Rattle.pcef_share.specs.Rates.{granted_with, no_rates, with_rates};
+ghost use Rattle.pcef_share.specs.Rates.{granted_with, no_rates, sum_of_rates, with_rates};
 
 use crate::pooling::{OfPool, Pooling};
 use crate::rate_books::MAX_RATE_SHARES;
@@ -177,6 +177,31 @@ impl<P: Pooling> RateTallies<P> {
     {
         self.up.compare(&mut shares.up);
         self.down.compare(&mut shares.down);
+    }
+
+    /// Shows that the books have the rates that came back and those of these shares together, where no other share is
+    /// out, and changes nothing. Each share lends its part until the others were compared.
+    pub fn compare_all(&mut self, shares: &mut [RateShares<P>])
+        requires { self.old.parts + length shares.old ≡ 64 }
+        ensures same { (self.new ≡ self.old) × (shares.new ≡ shares.old) }
+        ensures sum { self.old.granted ≡ sum_of_rates self.old.amounts shares.old }
+    {
+        self.up.compare_kept();
+        self.down.compare_kept();
+        if let Some((first, rest)) = shares.split_first_mut() {
+            let held = first.held();
+            first.up.part.share.give(&mut self.up.kept, 1, held.up);
+            first
+                .down
+                .part
+                .share
+                .give(&mut self.down.kept, 1, held.down);
+            self.compare_all(rest);
+            self.up.kept.give(&mut first.up.part.share, 1, held.up);
+            self.down
+                .kept
+                .give(&mut first.down.part.share, 1, held.down);
+        }
     }
 
     /// The rates of all shares, where all parts are here: they are what came back with them.

@@ -10,7 +10,7 @@ use std::sync::ledger::{Blank, Book, Ledger, Share};
 /// runs.
 #[derive(Drop)]
 pub struct Part<L: Ledger> {
-    share: Share<L>,
+    pub(crate) share: Share<L>,
 }
 
 impl<L: Ledger> Model for Part<L> {
@@ -26,7 +26,7 @@ impl<L: Ledger> Model for Part<L> {
 pub struct Tally<L: Ledger> {
     total: u64,
     book: Book<L>,
-    kept: Share<L>,
+    pub(crate) kept: Share<L>,
 }
 
 impl<L: Ledger> Model for Tally<L> {
@@ -41,7 +41,7 @@ impl<L: Ledger> Model for Tally<L> {
 #[derive(Drop)]
 pub struct Portion<L: Ledger> {
     held: u64,
-    part: Part<L>,
+    pub(crate) part: Part<L>,
 }
 
 impl<L: Ledger> Model for Portion<L> {
@@ -162,6 +162,21 @@ impl<L: Ledger> Tally<L> {
         ensures bound { portion.old ≤ self.old.total }
     {
         self.book.audit(&mut portion.part.share);
+    }
+
+    /// Shows that nothing was added where no part is here, and that the total is what was added where all are, and
+    /// changes nothing.
+    pub fn compare_kept(&mut self)
+        ensures same { self.new ≡ self.old }
+        ensures none { self.old.parts ≡ 0 → self.old.amount ≡ 0 }
+        ensures all { self.old.parts ≡ L.parts → self.old.total ≡ self.old.amount }
+    {
+        let Tally {
+            total: _,
+            book,
+            kept,
+        } = self;
+        book.audit(kept);
     }
 
     /// A portion comes back, with its number.

@@ -38,6 +38,18 @@ fn take_packet<C: Detects + Drop, N: Naming>(
     }
 }
 
+// Attaches a worker. Where there was no memory, no place was taken, so that it is made once more.
+fn attached<C: Detects + Drop, N: Naming, W: Board<Cell<N>> + Drop, R: Wait>(
+    rt: &R,
+    alloc: Global,
+    shared: &Shared<C, N, W>,
+) -> Result<Worker<C, N, OpenGate>, AttachFault> {
+    match Worker::attach(rt, alloc, shared, OpenGate) {
+        Err(AttachFault::NoMemory) => Worker::attach(rt, alloc, shared, OpenGate),
+        came => came,
+    }
+}
+
 impl<C: Detects + Drop, N: Naming> Crew<C, N> {
     /// Nobody is attached yet. Takes memory for sixteen workers.
     pub fn new(alloc: Global, desk: Desk<N>) -> Result<Crew<C, N>, AllocError> {
@@ -70,7 +82,7 @@ impl<C: Detects + Drop, N: Naming> Crew<C, N> {
         alloc: Global,
         shared: &Shared<C, N, W>,
     ) -> Result<u8, AttachFault> {
-        let worker = Worker::attach(rt, alloc, shared, OpenGate)?;
+        let worker = attached(rt, alloc, shared)?;
         let number = worker.worker();
         keep(&mut self.attached, worker);
         Ok(number)

@@ -11,6 +11,7 @@ use crate::desk::Desk;
 use crate::finished::Finished;
 use crate::gathering::{GatherFault, Totals, abandoned_rows, are_compared, gather_fault};
 use crate::key_totals::{KeyTotal, KeyTotals};
+use crate::worker_lists::WorkerLists;
 use arrayvec::ArrayVec;
 use pcef_publish::{Board, Cell};
 use pcef_session::SessionState;
@@ -29,21 +30,25 @@ pub struct StateUngathered<N: Naming, W: Board<Cell<N>> + Drop, P: Pooling = NoP
     pub finished: Vec<Finished<N>>,
 }
 
-/// The shares of the desk and of the workers.
+/// The shares of the desk and of the workers, and the workers' lists.
 fn all_shares<N: Naming>(
     shares: Shares<N>,
     finished: Vec<Finished<N>>,
-) -> ArrayVec<Option<Shares<N>>, 17>
+) -> (ArrayVec<Option<Shares<N>>, 17>, WorkerLists)
     requires { length finished.items ≤ 16 }
-    ensures { result.items
+    ensures shares { result.0.items
         ≡ Some shares ∷ map (λ h. Some (with_items zeros h.items)) finished.items }
+    ensures lists { result.1 ≡ finished.items }
 {
     let mut all = ArrayVec::new();
+    let mut lists = WorkerLists::new();
     all.push(Some(shares));
     for f in finished {
-        all.push(Some(f.into_shares()));
+        let (list, shares) = f.into_parts();
+        all.push(Some(shares));
+        lists.push(list);
     }
-    all
+    (all, lists)
 }
 
 /// The totals of the keys of a session, whose books hold these amounts.
@@ -113,7 +118,7 @@ impl<N: Naming, W: Board<Cell<N>> + Drop, P: Pooling> State<N, W, P> {
             });
         }
         let abandoned = abandoned_rows(finished.as_slice());
-        let shares = all_shares(desk.into_shares(), finished);
+        let (shares, lists) = all_shares(desk.into_shares(), finished);
         let State {
             alloc: _,
             session,
@@ -135,6 +140,7 @@ impl<N: Naming, W: Board<Cell<N>> + Drop, P: Pooling> State<N, W, P> {
             rows: amounts[8],
             abandoned,
             keys,
+            lists,
             rates,
         })
     }

@@ -14,7 +14,7 @@ use pcef_model::{Accepted, Body, Command, Judged, Refusal, Report, Verdict, Verd
 use pcef_publish::{Board, Cell, Opened};
 use pcef_rule::KeyName;
 use pcef_share::{Blanks, Naming};
-use pcef_worker::{Gate, Point, Worker};
+use pcef_worker::{Gate, OpenGate, Point, Worker};
 use std::alloc::Global;
 use std::marker::Brand;
 use std::sync::atomic::{AtomicU64, Ordering};
@@ -131,10 +131,10 @@ fn found<C: Offers + Drop, N: Naming, W: Board<Cell<N>> + Drop, R: Wait>(
     found
 }
 
-/// What a worker leaves: what it hands in, its last verdicts, and the generation in which it met the session.
-type Left<N> = (Finished<N>, Verdicts, Option<u32>);
+/// What a worker leaves: what it hands in, and its last verdicts.
+type Left<N> = (Finished<N>, Verdicts);
 
-/// A worker attaches, meets the session, flushes a row of 28 octets, and finishes with rows of 600 and of 40.
+/// A worker attaches, flushes a row of 28 octets, and finishes with rows of 600 and of 40.
 fn works<C: Detects + Drop, N: Naming, W: Board<Cell<N>> + Drop, R: Wait>(
     rt: &R,
     alloc: Global,
@@ -143,10 +143,8 @@ fn works<C: Detects + Drop, N: Naming, W: Board<Cell<N>> + Drop, R: Wait>(
 ) -> Option<Left<N>> {
     match Worker::attach(rt, alloc, shared, halting) {
         Ok(mut worker) => {
-            let met = worker.meet(rt, shared).ok();
             flush_and_take(rt, shared, &mut worker);
-            let (finished, verdicts) = worker.finish(rt, shared).ok()?;
-            Some((finished, verdicts, met))
+            worker.finish(rt, shared).ok()
         }
         Err(_) => None,
     }
@@ -175,7 +173,7 @@ fn is_passed(row: &Judged) -> bool {
     }
 }
 
-/// What the desk finds, the generation that the worker met, how many rows its last flush lets pass, and what is gathered.
+/// What the desk finds, the generation that a worker met, how many rows the last flush lets pass, and what is gathered.
 #[derive(Clone, Copy, Debug, PartialEq, Eq)]
 struct Outcome {
     found: Found,
@@ -212,6 +210,27 @@ fn both<
     )
 }
 
+/// A worker attaches, the desk gives commands, and the worker meets the session and leaves: what it hands in, and the
+/// generation that it met.
+fn meets<C: Detects + Drop, N: Naming, W: Board<Cell<N>> + Drop, R: Wait>(
+    rt: &R,
+    alloc: Global,
+    shared: &Shared<C, N, W>,
+    desk: &mut Desk<N>,
+    commands: [Command; 2],
+) -> Option<(Finished<N>, Option<u32>)> {
+    match Worker::attach(rt, alloc, shared, OpenGate) {
+        Ok(mut worker) => {
+            for command in commands {
+                let _ = desk.command(rt, shared, command).ok();
+            }
+            let met = worker.meet(rt, shared).ok();
+            Some((worker.abandon(rt, shared), met))
+        }
+        Err(_) => None,
+    }
+}
+
 fn to_the_end<
     C: Detects + Drop + Send + Sync,
     N: Naming + Send + Sync,
@@ -225,13 +244,12 @@ fn to_the_end<
     commands: [Command; 2],
 ) -> Option<Outcome> {
     let mut desk = desk;
-    for command in commands {
-        desk.command(rt, &shared, command).ok()?;
-    }
+    let (early, met) = meets(rt, alloc, &shared, &mut desk, commands)?;
     let (found, worked) = both(rt, alloc, &shared, &mut desk);
-    let (finished, verdicts, met) = worked?;
+    let (finished, verdicts) = worked?;
     let passed = passed(&verdicts);
     let mut handed = Vec::new(alloc);
+    handed.push(early).ok()?;
     handed.push(finished).ok()?;
     let totals = shared.gather(rt, desk, handed).ok()?;
     let (rows, octets) = gathered(&totals);
@@ -263,7 +281,7 @@ fn behind_its_lock<
     requires fresh { session.session.journal ≡ [] }
     requires offers { C.offers (arc_value catalog) ≡ session.session.setting.catalog }
 {
-    match Shared::<C, N, _>::open(rt, alloc, catalog, session, opened, blanks, 1) {
+    match Shared::<C, N, _>::open(rt, alloc, catalog, session, opened, blanks, 2) {
         Ok((shared, desk)) => to_the_end(rt, alloc, shared, desk, commands),
         Err(_) => None,
     }
@@ -285,8 +303,9 @@ fn play<R: Threads + Wait + Sync>(rt: &R, alloc: Global) -> Result<Option<Outcom
     ))
 }
 
-// The row's octets reach the session between the beginning of the flush and its answer. Nobody is attached where the
-// last flush was answered, and its octets are reported as the session ends.
+// A worker that came before both commands meets the generation that they made. The row's octets reach the session
+// between the beginning of the flush and its answer. Nobody is attached where the last flush was answered, and its
+// octets are reported as the session ends.
 #[test]
 fn a_flush_is_done_where_it_was_answered_and_the_last_one_leaves(
     rt: HostRuntime,

@@ -207,6 +207,7 @@ fn end_of<N: Naming, W: Board<Cell<N>> + Drop, P: Pooling, R: Wait>(
         rows: _,
         abandoned: _,
         keys: _,
+        lists: _,
         rates,
     } = totals;
     Some(Left {
@@ -296,6 +297,7 @@ fn pool_named<P: Pooling + Send + Sync, R: Threads + Wait + Sync>(
 ) -> Option<(Seen, (u32, u32), Sums)>
     requires there { P.is_there ≡ true }
     requires name { P.ledger ≡ name_at blanks }
+    requires capacity { P.capacity ≡ capacity }
 {
     let pool = Pool::<P>::new(capacity, blanks).ok()?;
     let side = new_side(alloc)?;
@@ -311,8 +313,13 @@ fn pool_named<P: Pooling + Send + Sync, R: Threads + Wait + Sync>(
     let mut shares = Vec::with_capacity(alloc, 2).ok()?;
     shares.push(here.rates).ok()?;
     shares.push(there.rates).ok()?;
+    let found = (pool.granted(rt), pool.compare_all(rt, &mut shares));
     let granted = pool.gather(shares).ok()?;
-    Some((seen, generations, granted))
+    if found == (granted, Some(granted)) {
+        Some((seen, generations, granted))
+    } else {
+        None
+    }
 }
 
 /// What two desks on a pool of this capacity are answered, the number of each session's newest generation at the end,

@@ -18,8 +18,8 @@ use Rattle.pcef_lock.proofs.state.State.gather.Goals as goal
 pub unreachable-requires : goal.unreachable-requires
 unreachable-requires g c =
     let can = c.gather_fault.ensures.none (search rules) in
-    let here : count_by is_some c.all_shares-shares.result.items ≡ 1 + length c.args.finished.items =
-    ap (count_by is_some) c.all_shares-shares.ensures ∙ shares_there c.args.finished.items c.into_shares.result in
+    let here : count_by is_some c.all_shares-shares.result.0.items ≡ 1 + length c.args.finished.items =
+    ap (count_by is_some) c.all_shares-shares.ensures.shares ∙ shares_there c.args.finished.items c.into_shares.result in
     let out = c.in_default-gather.ensures in
     let came : attach_count c.self.inside.session.session.journal ≡ attach_count c.args.self.session.journal = ap (λ v. attach_count v.session.journal) c.self.view_is in
     omega (arith, here, can.0, came, c.self.invariant.0.issued_is, out.missing, out.some)
@@ -36,9 +36,9 @@ returns-clause-totals g c =
     let handed = c.args.finished.items in
     let told : c.into_parts-session.result.0.journal ≡ j = c.into_parts-session.ensures.journal in
     let setting : c.into_parts-session.result.0.setting ≡ p = c.into_parts-session.ensures.setting ∙ c.self.invariant.0.kept.setting_is in
-    let here : count_by is_some c.all_shares-shares.result.items ≡ 1 + length handed =
-    ap (count_by is_some) c.all_shares-shares.ensures ∙ shares_there handed c.into_shares.result in
-    let all : count_by is_some c.all_shares-shares.result.items ≡ c.self.inside.books.issued = c.in-Ok.ensures.all.0 (search rules) in
+    let here : count_by is_some c.all_shares-shares.result.0.items ≡ 1 + length handed =
+    ap (count_by is_some) c.all_shares-shares.ensures.shares ∙ shares_there handed c.into_shares.result in
+    let all : count_by is_some c.all_shares-shares.result.0.items ≡ c.self.inside.books.issued = c.in-Ok.ensures.all.0 (search rules) in
     let keys : c.totals_of-keys.result ≡ key_totals p j =
     c.totals_of-keys.ensures.keys ∙ rw (setting, told) refl in
     let few : length (slots p j) ≤ 8 = omega (arith, ap length keys, length-map (slots p j) (total_of p j), c.totals_of-keys.ensures.few) in
@@ -46,7 +46,7 @@ returns-clause-totals g c =
     λ n below. ap (λ (xs : List ℕ). slice_index xs n) c.in-Ok.ensures.totals ∙ c.self.invariant.0.kept.counted.slots_are n below in
     let shares : (n : ℕ) → n < 8 → slice_index c.in-Ok.amounts n ≡ gathered n handed =
     λ n below. ap (λ (xs : List ℕ). slice_index xs n)
-    (c.in-Ok.ensures.sums ∙ ap (sums zeros) (c.all_shares-shares.ensures ∙ ap (λ (s : List ℕ). Some s ∷ map share_of handed) c.into_shares.ensures))
+    (c.in-Ok.ensures.sums ∙ ap (sums zeros) (c.all_shares-shares.ensures.shares ∙ ap (λ (s : List ℕ). Some s ∷ map share_of handed) c.into_shares.ensures))
     ∙ gathered_all handed (length c.args.desk.commands) n below in
     let can : CanGather c.are_compared-compared.result j c.args.desk.commands handed = search rules in
     record {
@@ -57,6 +57,7 @@ returns-clause-totals g c =
       archived = subst (λ (k : Journal). Archives k c.into_parts-session.result.1) (sym told) c.into_parts-session.ensures.archives;
       all_reports = c.into_parts-session.ensures.kept;
       keys_are = keys ∙ ap (key_totals p) (sym told);
+      lists_are = c.all_shares-shares.ensures.lists;
       gathered = subst (λ (ks : List KeyTotal). AreGathered ks handed) (sym keys) (totals_gathered p j c.in-Ok.amounts handed few books shares);
       sums = subst (λ (ks : List KeyTotal). All (λ (k : KeyTotal). k.counted ≡ k.reported + k.unreported) ks) (sym keys)
           (totals_exact p j (subst (λ (q : Setting). Lawful q j) c.self.invariant.0.kept.setting_is c.gather_fault.ensures.lawful));
