@@ -1,0 +1,13 @@
+pub mod Accepted
+pub mod ActiveFacts
+pub mod Budget
+pub mod Fitting
+pub mod FreeBearers
+pub mod Getters
+pub mod Loops
+pub mod Noting
+pub mod Order
+pub mod Playing
+pub mod Quiet
+pub mod Returning
+pub mod Switching

@@ -1,0 +1,4 @@
+pub mod Accepting
+pub mod Noted
+pub mod Renewal
+pub mod private
