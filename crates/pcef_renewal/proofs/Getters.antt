@@ -1,12 +1,13 @@
 -- What a session's getters show is what the renewal names.
 use Rattle.std.proofs.Common.{◌≡◌, ◌∙◌, ◌+◌, ◌==◌, ℕ, Bool, List, [], ◌∷◌, ◌++◌, Some, None, drop, filter, length, map, nat_lt, take, refl, sym, ap, ap₂, arith, inl, inr}
-use Rattle.std.specs.Prelude.{Option, slice_get}
+use Rattle.std.specs.Prelude.{Option, if◌then◌else◌, slice_get}
 use Rattle.std.specs.List.{AllByRecursion, list_any}
 use Rattle.std.specs.Option.{option_map}
 use Rattle.std.proofs.lemmas.Bool.{cases_Bool}
-use Rattle.std.proofs.lemmas.List.{append_assoc, map-append}
+use Rattle.std.proofs.lemmas.List.{append_assoc, length-map, map-append}
 use Rattle.std.proofs.lemmas.List.Elements.{filter_agree}
 use Rattle.pcef_bearer.specs.declared.bearers.Bound.{Bound}
+use Rattle.pcef_bearer.specs.Bindings.{bound_at}
 use Rattle.pcef_bearer.specs.Standing.{bound_of}
 use Rattle.pcef_catalog.specs.declared.listing.Offer.{Offer}
 use Rattle.pcef_model.specs.declared.command.Command.{Command}
@@ -17,7 +18,7 @@ use Rattle.pcef_model.specs.Bearers.{default_id, other_ids}
 use Rattle.pcef_model.specs.Commands.{is_among}
 use Rattle.pcef_model.specs.Entries.{Journal}
 use Rattle.pcef_model.specs.Generations.{Generation}
-use Rattle.pcef_model.specs.Journals.{grant, level_of, now, unreported}
+use Rattle.pcef_model.specs.Journals.{grant, level_of, now, subscribed, unreported}
 use Rattle.pcef_model.specs.Refusals.{is_bearer}
 use Rattle.pcef_model.specs.Setting.{Setting}
 use Rattle.pcef_table.specs.declared.entry.Source.{Source}
@@ -25,9 +26,10 @@ use Rattle.pcef_table.specs.declared.entry.Source.TheVariants.{Dynamic, Predefin
 use Rattle.pcef_usage.specs.declared.usage.KeyState.{KeyState}
 use Rattle.pcef_session.specs.Agreement.{AreKept, KeyAgrees, KeysAgree}
 use Rattle.pcef_session.specs.Shown.{rule_of}
-use Rattle.pcef_renewal.specs.Renewal.{bearers_used, close_again, grant_after, keys_on, monitor_again, placed, placed_from, places, renewal, rule_again, rules_in_order, rules_on, rules_on_each, subscribe_again}
+use Rattle.pcef_renewal.specs.Renewal.{bearers_used, close_again, grant_after, is_any, keys_on, monitor_again, placed, placed_from, places, renewal, rule_again, rules_in_order, rules_on, rules_on_each, subscribe_again}
 use Rattle.pcef_renewal.specs.declared.noted.Noted.{Noted}
 use Rattle.pcef_renewal.specs.Noted.{noted_of}
+use Rattle.pcef_renewal.specs.Renewing.{commands_needed}
 use Rattle.pcef_renewal.specs.private.Again.{again_on, again_on_each, closing, is_used, kept_again, monitor_of, monitors_of, subscription}
 
 -- ---- keys
@@ -132,3 +134,14 @@ whole_list p j n states agree noted zero one two three four empty first second t
     let three_is : three ≡ (keys ++ subs) ++ rules = third ∙ ap (λ cs. cs ++ rules) two_is in
     fourth ∙ ap (λ cs. cs ++ closing n.closed) three_is ∙ ap (λ (m : Noted). ((keys ++ subs) ++ rules) ++ closing m.closed) noted
     ∙ append_assoc (keys ++ subs) rules (close_again j) ∙ append_assoc keys subs (rules ++ close_again j)
+
+-- ---- what it needs
+pub needed_is : (p : Setting) (j : Journal) (n : Noted) (states : List KeyState) (bound : List Bound) (keys subscriptions : ℕ) → KeysAgree p j states → n ≡ noted_of j →
+    bound ≡ bound_of (now p j) (now p j).rules → keys ≡ length (monitors_of states) → subscriptions ≡ (if is_any n.subscribed then 1 else 0) →
+    keys + subscriptions + length bound ≡ commands_needed p j
+needed_is p j n states bound keys subscriptions agree noted bound_is keys_are subs_are =
+    let on : length (monitors_of states) ≡ length (keys_on p j) = ap length (monitors_are p j states agree) ∙ length-map (keys_on p j) (monitor_again p j) in
+    let subs : subscriptions ≡ (if is_any (subscribed j) then 1 else 0) = subs_are ∙ ap (λ (m : Noted). if is_any m.subscribed then 1 else 0) noted in
+    let rules : length bound ≡ length (now p j).rules =
+    ap length bound_is ∙ length-map (now p j).rules (λ (r : Active). bound_at r.properties.name r.properties.qos r.properties.rates ((now p j).id_of r.properties.qos)) in
+    omega (arith, keys_are, on, subs, rules)

@@ -8,6 +8,8 @@ pub mod Loops
 pub mod Noting
 pub mod Order
 pub mod Playing
+pub mod Played
 pub mod Quiet
+pub mod Reaching
 pub mod Returning
 pub mod Switching

@@ -84,7 +84,7 @@ fn push_monitors(list: &mut Vec<Command>, states: &[KeyState]) -> Result<(), All
 }
 
 /// Whether a set has an event.
-fn is_any(set: TriggerSet) -> bool
+pub(crate) fn is_any(set: TriggerSet) -> bool
     ensures { result ≡ is_any set }
 {
     set.usage_report
@@ -191,7 +191,11 @@ fn push_close(list: &mut Vec<Command>, closed: bool) -> Result<(), AllocError>
 }
 
 /// The list of a session that isn't terminated.
-fn list_of(alloc: Global, session: &SessionState, noted: Noted) -> Result<Vec<Command>, AllocError>
+pub(crate) fn list_of(
+    alloc: Global,
+    session: &SessionState,
+    noted: Noted,
+) -> Result<Vec<Command>, AllocError>
     requires { noted ≡ noted_of session.now.journal }
     ensures { IfOk result (λ list. list.items
         ≡ renewal session.now.setting session.now.journal) }

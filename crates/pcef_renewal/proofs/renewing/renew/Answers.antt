@@ -1,0 +1,7 @@
+use Rattle.pcef_model.specs.declared.command.Command.TheVariants.{Terminate}
+use Rattle.pcef_renewal.proofs.Played.{not_done}
+use Rattle.pcef_renewal.proofs.renewing.renew.Goals as goal
+
+pub returns-in-Err-clause-unchanged : goal.returns-in-Err-clause-unchanged
+returns-in-Err-clause-unchanged c =
+    not_done c.args.session.now.setting Terminate c.args.session.now.journal c.command.new.self.journal c.in-Err.field-0 c.in-Err.ensures.answer
