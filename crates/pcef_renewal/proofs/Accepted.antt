@@ -11,7 +11,7 @@ use Rattle.pcef_model.specs.Commands.{is_among}
 use Rattle.pcef_model.specs.Entries.{Journal}
 use Rattle.pcef_model.specs.Generations.{made_by, slots_of}
 use Rattle.pcef_model.specs.Journals.{grant, now, slots, subscribed, tables}
-use Rattle.pcef_model.specs.Lawful.{Lawful, at_first}
+use Rattle.pcef_model.specs.Lawful.{Lawful, at_first, by_command}
 use Rattle.pcef_model.specs.Refusals.{limited_count, was_closed}
 use Rattle.pcef_model.specs.Setting.{Setting}
 use Rattle.pcef_model.proofs.Budget.{commands_are_within}
@@ -95,3 +95,9 @@ renewal_taken p j lawful =
           let one = take_triggers p j k (0 + length on) keys.playing lawful (omega (arith, more)) (subscribed j) in
           rw some (one.0, rules_and_end p j lawful (entry.Command (Triggers (subscribed j)) ∷ k) (suc (0 + length on)) one.1 keys.empty (omega (arith, more)))
     ])
+
+-- a journal stays lawful as commands are taken
+pub lawful_entered : (p : Setting) (cs : List Command) (k : Journal) → Lawful p k → AreTaken p k cs → Lawful p (entered cs k)
+lawful_entered p [] k lawful taken = lawful
+lawful_entered p (c ∷ cs) k lawful taken =
+    lawful_entered p cs (entry.Command c ∷ k) (subst (Lawful p) taken.0.quiet (by_command k c lawful taken.0.accepted taken.0.changing)) taken.1

@@ -4,12 +4,15 @@ pub mod Budget
 pub mod Fitting
 pub mod FreeBearers
 pub mod Getters
+pub mod Likeness
 pub mod Loops
 pub mod Noting
 pub mod Order
+pub mod PlacesAll
 pub mod Playing
 pub mod Played
 pub mod Quiet
 pub mod Reaching
 pub mod Returning
+pub mod Saying
 pub mod Switching

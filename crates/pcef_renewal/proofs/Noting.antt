@@ -37,10 +37,10 @@ ended_flushed p j [] = refl
 ended_flushed p j (r ∷ rs) = ended_told p (thresholds p (with_rows (r ∷ rs) j)) (with_rows (r ∷ rs) j) ∙ ended_rows (r ∷ rs) j
 
 -- ---- a command
-abbrev noting : TriggerSet → Bool → Bool → Noted
+abbrev pub noting : TriggerSet → Bool → Bool → Noted
 noting subscribed closed terminated = record { subscribed = subscribed; closed = closed; terminated = terminated }
 
-same_parts : (s t : TriggerSet) (a b c d : Bool) → s ≡ t → a ≡ b → c ≡ d → noting s a c ≡ noting t b d
+pub same_parts : (s t : TriggerSet) (a b c d : Bool) → s ≡ t → a ≡ b → c ≡ d → noting s a c ≡ noting t b d
 same_parts s t a b c d one two three = rw (one, two, three) refl
 
 entry_noted : (j : Journal) (c : Command) → noted_of (entry.Command c ∷ j) ≡ noted_after (noted_of j) c

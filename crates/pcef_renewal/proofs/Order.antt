@@ -62,7 +62,7 @@ of_first (suc n) (y ∷ xs) x there =
       | inr later ↦ later_there y xs x (of_first n xs x later)
     ]
 
-first_once : (n : ℕ) (ns : List ℕ) → NumbersOnce ns → NumbersOnce (take n ns)
+pub first_once : (n : ℕ) (ns : List ℕ) → NumbersOnce ns → NumbersOnce (take n ns)
 unfolding Once
 first_once zero [] once = tt
 first_once (suc n) [] once = tt
@@ -70,11 +70,11 @@ first_once zero (m ∷ ns) once = tt
 first_once (suc n) (m ∷ ns) once = (absent_number m (take n ns) (λ there. not_there m ns once.0 (of_first n ns m there)), first_once n ns once.1)
 
 -- numbers that go up by one
-unfoldable Ascends : ℕ → List ℕ → Type 0
+unfoldable pub Ascends : ℕ → List ℕ → Type 0
 Ascends k [] = Unit {0}
 Ascends k (x ∷ xs) = (x ≡ k) × Ascends (suc k) xs
 
-first_below : (k n : ℕ) (xs : List ℕ) (x : ℕ) → Ascends k xs → Contains (take n xs) x → x < k + n
+pub first_below : (k n : ℕ) (xs : List ℕ) (x : ℕ) → Ascends k xs → Contains (take n xs) x → x < k + n
 unfolding Ascends
 first_below k zero [] x up there = absurd (omega (arith, there.1))
 first_below k (suc n) [] x up there = absurd (omega (arith, there.1))
@@ -85,7 +85,7 @@ first_below k (suc n) (y ∷ xs) x up there =
       | inr later ↦ let rest = first_below (suc k) n xs x up.1 later in omega (arith, rest)
     ]
 
-ascends_from : (k : ℕ) (xs : List ℕ) (x : ℕ) → Ascends k xs → Contains xs x → k ≤ x
+pub ascends_from : (k : ℕ) (xs : List ℕ) (x : ℕ) → Ascends k xs → Contains xs x → k ≤ x
 unfolding Ascends
 ascends_from k [] x up there = absurd (omega (arith, there.1))
 ascends_from k (y ∷ xs) x up there =
@@ -120,7 +120,7 @@ ascends_all k (y ∷ xs) n up low high =
       | inr differ ↦ elim differ [ inl less ↦ absurd (omega (arith, less, low)) | inr more ↦ omega (arith, more) ]
     ]
 
-others_ascend : Ascends 6 other_ids
+pub others_ascend : Ascends 6 other_ids
 unfolding Ascends
 others_ascend = (refl, (refl, (refl, (refl, (refl, (refl, (refl, (refl, (refl, (refl, tt))))))))))
 

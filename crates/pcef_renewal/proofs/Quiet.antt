@@ -21,7 +21,7 @@ filter_none t (x ∷ xs) none = rw (none x) (filter_none t xs none)
 abbrev pub NoneReached : Journal → Type 0
 NoneReached k = (key : List ℕ) → is_reached_by (grant k key) 0 ≡ false
 
-nothing_counted : (p : Setting) (k : Journal) (key : List ℕ) → rows k ≡ [] → unreported p k key ≡ 0
+pub nothing_counted : (p : Setting) (k : Journal) (key : List ℕ) → rows k ≡ [] → unreported p k key ≡ 0
 unfolding octets_of
 nothing_counted p k key none = let counted_is = ap (octets_of (counts p k key)) none in omega (arith, counted_is)
 

@@ -22,7 +22,7 @@ use Rattle.pcef_model.specs.Bearers.{is_gbr, is_non_gbr, rate_down, rate_up, sum
 use Rattle.pcef_model.specs.Commands.{activated, at_session_level, is_among, key_named}
 use Rattle.pcef_model.specs.Entries.{Journal}
 use Rattle.pcef_model.specs.Generations.{add_if_some, rules_after, slots_of}
-use Rattle.pcef_model.specs.Journals.{grant, level_of, now, slots, tables}
+use Rattle.pcef_model.specs.Journals.{grant, level_of, now, slots, subscribed, tables}
 use Rattle.pcef_model.specs.Lawful.{Lawful, by_command}
 use Rattle.pcef_model.specs.Outcomes.{changes}
 use Rattle.pcef_model.specs.Refusals.{Conditions, becoming_active, becoming_active_if, bindings, clashes, common_refusals, finds_no_bearer, finds_no_slot, first_of, is_active, limited_count, refusals, total_down, total_up, was_closed, was_terminated}
@@ -48,7 +48,7 @@ use Rattle.pcef_renewal.proofs.Playing.{Playing, both_none, common_none, finds_s
 use Rattle.pcef_renewal.proofs.Quiet.{NoneReached, none_ends, quiet_by}
 
 -- ---- a rule that is new comes last
-put_last : (new : Active) (rules : List Active) → list_any (is_named new.properties.name) rules ≡ false → put new rules ≡ rules ++ new ∷ []
+pub put_last : (new : Active) (rules : List Active) → list_any (is_named new.properties.name) rules ≡ false → put new rules ≡ rules ++ new ∷ []
 put_last new [] none = refl
 put_last new (r ∷ rules) none =
     elim (cases_Bool (is_named new.properties.name r)) [
@@ -62,12 +62,12 @@ any_more t (x ∷ xs) ys some =
     elim (cases_Bool (t x)) [ inl is ↦ rw is refl | inr isnt ↦ rw isnt (any_more t xs ys (rw isnt at some)) ]
 
 -- ---- rates
-up_is : (rules : List Active) → total_up rules ≡ sum_of (λ (r : Active). rate_up r.properties.rates) rules
+pub up_is : (rules : List Active) → total_up rules ≡ sum_of (λ (r : Active). rate_up r.properties.rates) rules
 unfolding sum_of sum_up
 up_is [] = refl
 up_is (r ∷ rules) = ap (λ n. rate_up r.properties.rates + n) (up_is rules)
 
-down_is : (rules : List Active) → total_down rules ≡ sum_of (λ (r : Active). rate_down r.properties.rates) rules
+pub down_is : (rules : List Active) → total_down rules ≡ sum_of (λ (r : Active). rate_down r.properties.rates) rules
 unfolding sum_of sum_down
 down_is [] = refl
 down_is (r ∷ rules) = ap (λ n. rate_down r.properties.rates + n) (down_is rules)
@@ -78,20 +78,21 @@ sum_push w [] x = omega arith
 sum_push w (y ∷ xs) x = let rest = sum_push w xs x in omega (arith, rest)
 
 -- ---- a command that makes a rule active
-record Plain (p : Setting) (k : Journal) (c : Command) : Type 0 where
-  open_yet : was_closed (entry.Command c ∷ k) ≡ was_closed k
-  goes_on : was_terminated (entry.Command c ∷ k) ≡ was_terminated k
-  grants : (key : List ℕ) → grant (entry.Command c ∷ k) key ≡ grant k key
-  count : limited_count (entry.Command c ∷ k) ≡ suc (limited_count k)
-  session : (keys : List (List ℕ)) → at_session_level c keys ≡ keys
-  slots_are : slots p (entry.Command c ∷ k) ≡ add_if_some (key_named p c) (slots p k)
+pub record Plain (p : Setting) (k : Journal) (c : Command) : Type 0 where
+  pub open_yet : was_closed (entry.Command c ∷ k) ≡ was_closed k
+  pub goes_on : was_terminated (entry.Command c ∷ k) ≡ was_terminated k
+  pub grants : (key : List ℕ) → grant (entry.Command c ∷ k) key ≡ grant k key
+  pub events : subscribed (entry.Command c ∷ k) ≡ subscribed k
+  pub count : limited_count (entry.Command c ∷ k) ≡ suc (limited_count k)
+  pub session : (keys : List (List ℕ)) → at_session_level c keys ≡ keys
+  pub slots_are : slots p (entry.Command c ∷ k) ≡ add_if_some (key_named p c) (slots p k)
 
-makes_plain : (p : Setting) (k : Journal) (c : Command) (r : Active) → activated p c ≡ Some r → Plain p k c
-unfolding grant limited_count slots_of
+pub makes_plain : (p : Setting) (k : Journal) (c : Command) (r : Active) → activated p c ≡ Some r → Plain p k c
+unfolding grant limited_count slots_of subscribed
 makes_plain p k (Install rule) r is =
-    record { open_yet = refl; goes_on = refl; grants = λ key. refl; count = omega arith; session = λ keys. refl; slots_are = refl }
+    record { open_yet = refl; goes_on = refl; grants = λ key. refl; events = refl; count = omega arith; session = λ keys. refl; slots_are = refl }
 makes_plain p k (Activate name) r is =
-    record { open_yet = refl; goes_on = refl; grants = λ key. refl; count = omega arith; session = λ keys. refl; slots_are = refl }
+    record { open_yet = refl; goes_on = refl; grants = λ key. refl; events = refl; count = omega arith; session = λ keys. refl; slots_are = refl }
 makes_plain p k (Remove name) r is = absurd cc
 makes_plain p k (Monitor key amount level) r is = absurd cc
 makes_plain p k (Stop key) r is = absurd cc

@@ -125,7 +125,7 @@ take_close p j k n playing empty =
     record { accepted = accepted; changing = refl; quiet = quiet_by p k Close playing.no_rows playing.far planned }
 
 -- ---- all keys that are on
-absent_next : (key : List ℕ) (done rest : List (List ℕ)) → KeysOnce (done ++ key ∷ rest) → is_among key done ≡ false
+pub absent_next : (key : List ℕ) (done rest : List (List ℕ)) → KeysOnce (done ++ key ∷ rest) → is_among key done ≡ false
 absent_next key done rest once =
     false_from_ne_true (is_among key done) (λ there.
     contrary (same_name key key) (same_name_self key) (none_at (has_name (λ (x : List ℕ). x) key) done key (once_next (λ (x : List ℕ). x) done key rest once) (among_to key done there)))

@@ -1,6 +1,7 @@
 //! Laws of renewals, proved for whoever reads the definitions.
 
 ghost use Rattle.pcef_renewal.specs.Accepting.{RenewalsAreTaken};
+ghost use Rattle.pcef_renewal.specs.Likeness.{NotesGoOn, RenewalsAreLike, RenewalsNeedWhatTheySay};
 ghost use Rattle.pcef_renewal.specs.Noted.{CommandsAreNoted, RowsLeaveNotes, WorkersLeaveNotes};
 ghost use Rattle.pcef_renewal.specs.Reaching.{OutOfReachIsNotReached};
 
@@ -8,6 +9,16 @@ ghost use Rattle.pcef_renewal.specs.Reaching.{OutOfReachIsNotReached};
 /// report.
 pub fn renewals_are_taken()
     ensures { RenewalsAreTaken }
+{}
+
+/// A new session that took the renewal of an old one is like it: the same rules are active, the same keys on, with the
+/// same levels, and the same events subscribed; both are closed or neither; each key reaches its grant with the same
+/// octets, as far as some come; and the same pairs of QCI and ARP have bearers, with the same rates. The numbers of bearers
+/// may be others. The keys that have no slot any more are off, and no active rule has them.
+pub fn new_sessions_are_like_old_ones()
+    ensures like { RenewalsAreLike }
+    ensures need { RenewalsNeedWhatTheySay }
+    ensures noted { NotesGoOn }
 {}
 
 /// A key with the grant [`crate::OUT_OF_REACH`] makes no Threshold report, however many packets a session takes.

@@ -6,6 +6,7 @@ ghost use Rattle.pcef_model.specs.Refusals.{first_of};
 ghost use Rattle.pcef_session.specs.Answers.{DoesCommand, IsOpened};
 ghost use Rattle.pcef_session.specs.SessionModel.{HasAtLeast};
 ghost use Rattle.pcef_renewal.specs.Accepting.{AreTaken, entered};
+ghost use Rattle.pcef_renewal.specs.Likeness.{Like};
 ghost use Rattle.pcef_renewal.specs.Noted.{noted_of};
 ghost use Rattle.pcef_renewal.specs.Renewal.{is_any, renewal};
 ghost use Rattle.pcef_renewal.specs.Renewing.{IsRenewed, RefusesRenewal, Renews, commands_needed, renew_refusals};
@@ -161,8 +162,8 @@ fn refusal(session: &SessionState, noted: Noted) -> Option<RenewRefusal>
 
 /// Renews a session: ends it by a Terminate, which reports all its usage, and begins a new one in its place, with the same
 /// profile and catalog, which takes its renewal. Or answers the first refusal in the order of [`RenewRefusal`], which
-/// changes nothing and leaves no less room. The old session stays where it was, with its reports; `noted` is what was noted
-/// of its commands. But that it isn't terminated, this goes for the new one, too.
+/// changes nothing and leaves no less room. The old session stays where it was, with its reports. `noted` is what was noted
+/// of its commands, and goes for the new session.
 pub fn renew(
     alloc: Global,
     session: &mut SessionState,
@@ -176,6 +177,9 @@ pub fn renew(
     ensures ended { IfOk result
         (λ r. DoesCommand session.old of.Terminate r.ended session.new) }
     ensures renewed { IfOk result (λ r. IsRenewed session.old r.session) }
+    ensures like { IfOk result
+        (λ r. Like session.old.setting session.old.journal r.session.journal) }
+    ensures noted { IfOk result (λ r. noted_of r.session.journal ≡ noted) }
     ensures list { IfOk result
         (λ r. r.list.items ≡ renewal session.old.setting session.old.journal) }
     ensures setting { session.new.setting ≡ session.old.setting }
@@ -184,6 +188,8 @@ pub fn renew(
     if let Some(refusal) = refusal(session, noted) {
         return Err(refusal);
     }
+    // For its contract: the journal is lawful.
+    let _journal = session.journal();
     let Ok(list) = list_of(alloc, session, noted) else {
         return Err(RenewRefusal::NoMemory);
     };
