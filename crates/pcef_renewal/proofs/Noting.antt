@@ -1,5 +1,10 @@
 -- What is noted keeps up with the journal.
-use Rattle.std.proofs.Common.{◌≡◌, ◌∙◌, ℕ, Bool, List, [], ◌∷◌, refl}
+use Rattle.std.proofs.Common.{◌≡◌, ◌∙◌, ℕ, Bool, List, [], ◌∷◌, Ok, Some, None, refl, sym, ap, inl, inr, true, false}
+use Rattle.std.specs.Prelude.{Option}
+use Rattle.std.proofs.lemmas.Bool.{cases_Bool}
+use Rattle.pcef_model.specs.declared.answer.Accepted.{Accepted}
+use Rattle.pcef_model.specs.declared.answer.Refusal.{Refusal}
+use Rattle.pcef_model.specs.Outcomes.{CommandStep, Gives, changes, command_outcome, command_outcome_by}
 use Rattle.pcef_model.specs.declared.command.Command.{Command}
 use Rattle.pcef_model.specs.declared.command.Command.TheVariants.{Install, Activate, Remove, Monitor, Stop, ReportNow, Triggers, Notice, LoseBearer, Close, Terminate}
 use Rattle.pcef_model.specs.declared.entry.Entry.TheVariants as entry
@@ -8,7 +13,7 @@ use Rattle.pcef_model.specs.declared.row.Row.{Row}
 use Rattle.pcef_model.specs.declared.trigger.TriggerSet.{TriggerSet}
 use Rattle.pcef_model.specs.Entries.{Journal}
 use Rattle.pcef_model.specs.Journals.{report_count, subscribed}
-use Rattle.pcef_model.specs.Refusals.{was_terminated}
+use Rattle.pcef_model.specs.Refusals.{first_of, refusals, was_terminated}
 use Rattle.pcef_model.specs.Reports.{after_attach, after_command, after_flush, after_leave, body_of, plan, thresholds, with_reports, with_rows}
 use Rattle.pcef_model.specs.Setting.{Setting}
 use Rattle.pcef_renewal.specs.declared.noted.Noted.{Noted}
@@ -67,3 +72,30 @@ rows_leave p j rs = same_parts _ _ _ _ _ _ (subscribed_flushed p j rs) (closed_f
 pub workers_leave : (j : Journal) (worker : ℕ) → (noted_of (after_attach j) ≡ noted_of j) × (noted_of (after_leave worker j) ≡ noted_of j)
 unfolding subscribed
 workers_leave j worker = (refl, refl)
+
+-- ---- a command that is answered
+-- one that is accepted and changes nothing isn't noted
+unchanged_noted : (p : Setting) (j : Journal) (c : Command) → changes p j c ≡ false → noted_after (noted_of j) c ≡ noted_of j
+unchanged_noted p j (Activate name) isnt = refl
+unchanged_noted p j (Install rule) isnt = absurd cc
+unchanged_noted p j (Remove name) isnt = absurd cc
+unchanged_noted p j (Monitor key amount level) isnt = absurd cc
+unchanged_noted p j (Stop key) isnt = absurd cc
+unchanged_noted p j (ReportNow key) isnt = absurd cc
+unchanged_noted p j (Triggers set) isnt = absurd cc
+unchanged_noted p j (Notice kind value) isnt = absurd cc
+unchanged_noted p j (LoseBearer id) isnt = absurd cc
+unchanged_noted p j Close isnt = absurd cc
+unchanged_noted p j Terminate isnt = absurd cc
+
+pub done_noted : (p : Setting) (c : Command) (j k : Journal) (a : Accepted) → CommandStep p c j (Ok a) k → noted_of k ≡ noted_after (noted_of j) c
+unfolding command_outcome
+done_noted p c j k a step = elim step [ inl gives ↦ from (first_of (refusals p j c)) gives | inr lacks ↦ absurd (let e = lacks.1.0 in cc) ]
+  where
+    from : (o : Option Refusal) → Gives (command_outcome_by p j c o) (Ok a) k → noted_of k ≡ noted_after (noted_of j) c
+    from (Some f) gives = absurd (let e = gives.0 in cc)
+    from None gives =
+        elim (cases_Bool (changes p j c)) [
+          | inl changing ↦ let is : k ≡ after_command p j c = rw changing at gives.1 in ap noted_of is ∙ command_noted p j c
+          | inr same ↦ let is : k ≡ j = rw same at gives.1 in ap noted_of is ∙ sym (unchanged_noted p j c same)
+        ]

@@ -1,12 +1,16 @@
 //! What is noted of the commands of a session.
 
-ghost use Rattle.std.specs.Prelude.{◌≡◌, []};
+ghost use Rattle.std.specs.Prelude.{◌≡◌, [], OnErr};
+ghost use Rattle.pcef_session.specs.Answers.{AnswersCommand};
+ghost use Rattle.pcef_session.specs.SessionModel.{HasAtLeast};
 ghost use Rattle.pcef_renewal.specs.Noted.{noted_after, noted_of};
 
-use pcef_model::{Command, TriggerSet};
+use pcef_model::{Accepted, Command, Refusal, TriggerSet};
+use pcef_session::SessionState;
 
 /// What the getters of a session don't show, and a renewal takes up. Whoever hands commands to a session keeps it beside
-/// the session: [`Noted::at_first`] when it is opened, and [`Noted::after`] each command that it accepts.
+/// the session: [`Noted::at_first`] when it is opened, and [`Noted::command`] in place of the session's own, or
+/// [`Noted::after`] each command that it accepts.
 #[derive(Clone, Copy, Debug, PartialEq, Eq)]
 pub struct Noted {
     /// The event triggers that are subscribed (TS 29.212, clause 5.3.7).
@@ -55,6 +59,29 @@ impl Noted {
                 terminated: true,
             },
             _ => self,
+        }
+    }
+
+    /// Does a command on a session, as [`SessionState::command`] does, and notes it where it is accepted.
+    pub fn command(
+        &mut self,
+        session: &mut SessionState,
+        command: Command,
+    ) -> Result<Accepted, Refusal>
+        requires { self.old ≡ noted_of session.old.journal }
+        ensures noted { self.new ≡ noted_of session.new.journal }
+        ensures answer { AnswersCommand session.old command result session.new }
+        ensures setting { session.new.setting ≡ session.old.setting }
+        ensures forgotten { session.new.forgotten ≡ session.old.forgotten }
+        ensures room { OnErr result (HasAtLeast session.old.room session.new.room) }
+    {
+        let after = self.after(&command);
+        match session.command(command) {
+            Ok(accepted) => {
+                *self = after;
+                Ok(accepted)
+            }
+            Err(refusal) => Err(refusal),
         }
     }
 }
