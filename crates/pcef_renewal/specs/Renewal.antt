@@ -41,7 +41,7 @@ is_any set = set.usage_report || set.rat_change || set.plmn_change || set.user_l
 abbrev pub subscribe_again : Journal → List Command
 subscribe_again j = if is_any (subscribed j) then Triggers (subscribed j) ∷ [] else []
 
--- ---- rules (TS 23.203, clause 6.3)
+-- ---- rules (TS 23.203, clause 6.3.2)
 -- a dynamic rule is installed as it is, a predefined one activated by its name
 abbrev pub rule_again_by : Properties → Detection → Command
 rule_again_by properties (by_filters filters) = Install (record { properties = properties; filters = filters })
