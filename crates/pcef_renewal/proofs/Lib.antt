@@ -1,6 +1,7 @@
 pub mod Accepted
 pub mod ActiveFacts
 pub mod Budget
+pub mod Deciding
 pub mod Fitting
 pub mod FreeBearers
 pub mod Getters

@@ -1,5 +1,5 @@
 -- What is noted keeps up with the journal.
-use Rattle.std.proofs.Common.{◌≡◌, ◌∙◌, ℕ, Bool, List, [], ◌∷◌, Ok, Some, None, refl, sym, ap, inl, inr, true, false}
+use Rattle.std.proofs.Common.{◌≡◌, ◌∙◌, ℕ, Bool, List, [], ◌∷◌, Ok, Some, None, refl, sym, ap, inl, inr, false}
 use Rattle.std.specs.Prelude.{Option}
 use Rattle.std.proofs.lemmas.Bool.{cases_Bool}
 use Rattle.pcef_model.specs.declared.answer.Accepted.{Accepted}

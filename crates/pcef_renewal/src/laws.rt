@@ -1,7 +1,7 @@
 //! Laws of renewals, proved for whoever reads the definitions.
 
 ghost use Rattle.pcef_renewal.specs.Accepting.{RenewalsAreTaken};
-ghost use Rattle.pcef_renewal.specs.Likeness.{NotesGoOn, RenewalsAreLike, RenewalsNeedWhatTheySay};
+ghost use Rattle.pcef_renewal.specs.Likeness.{LikeSessionsCountAlike, LikeSessionsDecideAlike, NotesGoOn, OctetsAddUp, RenewalsAreLike, RenewalsNeedWhatTheySay};
 ghost use Rattle.pcef_renewal.specs.Noted.{CommandsAreNoted, RowsLeaveNotes, WorkersLeaveNotes};
 ghost use Rattle.pcef_renewal.specs.Reaching.{OutOfReachIsNotReached};
 
@@ -19,6 +19,15 @@ pub fn new_sessions_are_like_old_ones()
     ensures like { RenewalsAreLike }
     ensures need { RenewalsNeedWhatTheySay }
     ensures noted { NotesGoOn }
+{}
+
+/// In sessions that are alike each packet is decided by the same rule, or by none, and counts for the same keys. The octets
+/// that were counted for a key of an old session, which was ended, and of the new one are those that both reported, and
+/// what the new one hasn't reported yet.
+pub fn like_sessions_judge_alike()
+    ensures decide { LikeSessionsDecideAlike }
+    ensures count { LikeSessionsCountAlike }
+    ensures octets { OctetsAddUp }
 {}
 
 /// A key with the grant [`crate::OUT_OF_REACH`] makes no Threshold report, however many packets a session takes.

@@ -14,7 +14,8 @@ mod places;
 mod renewing;
 
 pub use laws::{
-    new_sessions_are_like_old_ones, notes_keep_up, out_of_reach_is_not_reached, renewals_are_taken,
+    like_sessions_judge_alike, new_sessions_are_like_old_ones, notes_keep_up,
+    out_of_reach_is_not_reached, renewals_are_taken,
 };
 pub use list::{ListFault, OUT_OF_REACH, renewal};
 pub use noted::Noted;
