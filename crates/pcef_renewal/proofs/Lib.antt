@@ -17,3 +17,4 @@ pub mod Reaching
 pub mod Returning
 pub mod Saying
 pub mod Switching
+pub mod Stepping

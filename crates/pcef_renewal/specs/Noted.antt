@@ -3,6 +3,8 @@ use Rattle.std.specs.Prelude.{◌≡◌, ℕ, true, List}
 use Rattle.pcef_model.specs.declared.command.Command.{Command}
 use Rattle.pcef_model.specs.declared.command.Command.TheVariants.{Close, Terminate, Triggers}
 use Rattle.pcef_model.specs.declared.row.Row.{Row}
+use Rattle.pcef_model.specs.declared.step.Step.{Step}
+use Rattle.pcef_model.specs.declared.step.Step.TheVariants as of
 use Rattle.pcef_model.specs.Entries.{Journal}
 use Rattle.pcef_model.specs.Journals.{subscribed}
 use Rattle.pcef_model.specs.Refusals.{was_closed, was_terminated}
@@ -19,6 +21,11 @@ noted_after n (Triggers set) = record { subscribed = set; closed = n.closed; ter
 noted_after n Close = record { subscribed = n.subscribed; closed = true; terminated = n.terminated }
 noted_after n Terminate = record { subscribed = n.subscribed; closed = n.closed; terminated = true }
 noted_after n _ = n
+
+-- what is noted after a step of a session and its workers
+abbrev pub noted_after_step : Noted → Step → Noted
+noted_after_step n (of.Command c) = noted_after n c
+noted_after_step n _ = n
 
 -- ---- laws
 -- each command is noted, and its reports change nothing

@@ -1,17 +1,19 @@
 //! The commands of worked sessions.
 
 use crate::tests::expect_equal;
-use crate::tests::worked::{install, opened, take_all, text_of};
+use crate::tests::worked::{install, make_all, opened_world, text_of};
+use pcef_built_in::ShapedCatalog;
 use pcef_renewal::{Noted, renewal};
 use std::alloc::Global;
 use std::test::Fail;
 
 /// The renewal of a session that took these lines, in few words.
 fn renewal_after(alloc: Global, lines: &[&str]) -> Result<String, Fail> {
-    let mut session = opened(alloc)?;
+    let catalog = ShapedCatalog::built_in(alloc)?;
+    let mut world = opened_world(alloc, &catalog)?;
     let mut noted = Noted::at_first();
-    take_all(alloc, &mut session, &mut noted, lines)?;
-    let list = renewal(alloc, &session, noted)?;
+    make_all(alloc, &mut world, &catalog, &mut noted, lines)?;
+    let list = renewal(alloc, world.session(), noted)?;
     text_of(alloc, &list)
 }
 
@@ -96,5 +98,53 @@ fn a_closed_session_is_closed_again(rt: HostRuntime) -> Result<(), Fail> {
     ];
     let text = renewal_after(rt.alloc(), &lines)?;
     expect_equal(&rt, &text.as_str(), &"monitor s 500 session; close; ");
+    Ok(())
+}
+
+/// The line with which worker 0 takes a packet of 28 octets.
+const TAKE: &str =
+    "{\"do\":\"take\",\"dir\":\"down\",\"packet\":\"4500001c00000000401100000a0000030a0000020035003500080000\",\"worker\":0}";
+
+/// Two packets of 28 octets count towards a grant of 84: 28 are left.
+#[test]
+fn a_key_gets_the_rest_of_its_grant(rt: HostRuntime) -> Result<(), Fail> {
+    let r = install(rt.alloc(), "r", 9, 8, "k")?;
+    let lines = [
+        r.as_str(),
+        "{\"do\":\"monitor\",\"key\":\"k\",\"grant\":84}",
+        "{\"do\":\"triggers\",\"events\":[\"USAGE_REPORT\"]}",
+        "{\"do\":\"attach\"}",
+        TAKE,
+        TAKE,
+        "{\"do\":\"flush\",\"worker\":0}",
+    ];
+    let text = renewal_after(rt.alloc(), &lines)?;
+    expect_equal(
+        &rt,
+        &text.as_str(),
+        &"monitor k 28 rule; triggers true; install r; ",
+    );
+    Ok(())
+}
+
+/// A grant of 28 octets is reached and reported: the key is on without one.
+#[test]
+fn a_grant_that_was_used_up_is_out_of_reach(rt: HostRuntime) -> Result<(), Fail> {
+    let web = install(rt.alloc(), "web", 9, 8, "k")?;
+    let lines = [
+        web.as_str(),
+        "{\"do\":\"monitor\",\"key\":\"k\",\"grant\":28}",
+        "{\"do\":\"triggers\",\"events\":[\"USAGE_REPORT\"]}",
+        "{\"do\":\"attach\"}",
+        TAKE,
+        "{\"do\":\"flush\",\"worker\":0}",
+        "{\"do\":\"finish\",\"worker\":0}",
+    ];
+    let text = renewal_after(rt.alloc(), &lines)?;
+    expect_equal(
+        &rt,
+        &text.as_str(),
+        &"monitor k 18446744073709551615 rule; triggers true; install web; ",
+    );
     Ok(())
 }

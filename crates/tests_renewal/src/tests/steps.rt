@@ -2,6 +2,7 @@
 
 use crate::tests::expect_equal;
 use crate::tests::worked::{install, opened, take_all};
+use pcef_built_in::ShapedCatalog;
 use pcef_renewal::{ListFault, Noted, RenewRefusal, renew, renewal};
 use pcef_session::SessionState;
 use std::alloc::Global;
@@ -27,7 +28,8 @@ fn bearers_of(session: &SessionState) -> [Option<u8>; 2] {
 }
 
 fn renewed_outcome(alloc: Global, lines: &[&str]) -> Result<Outcome, Fail> {
-    let mut session = opened(alloc)?;
+    let catalog = ShapedCatalog::built_in(alloc)?;
+    let mut session = opened(alloc, &catalog)?;
     let mut noted = Noted::at_first();
     take_all(alloc, &mut session, &mut noted, lines)?;
     let renewed = renew(alloc, &mut session, noted)?;
@@ -72,38 +74,23 @@ fn an_old_session_ends_and_a_new_one_goes_on(rt: HostRuntime) -> Result<(), Fail
     Ok(())
 }
 
-/// Why a session isn't renewed: with a worker, and after its end; and why it has no list then.
-fn refusals(
-    alloc: Global,
-) -> Result<
-    (
-        Option<RenewRefusal>,
-        Option<RenewRefusal>,
-        Option<ListFault>,
-    ),
-    Fail,
-> {
-    let mut session = opened(alloc)?;
+/// Why a session isn't renewed after its end, and why it has no list then.
+fn refusals(alloc: Global) -> Result<(Option<RenewRefusal>, Option<ListFault>), Fail> {
+    let catalog = ShapedCatalog::built_in(alloc)?;
+    let mut session = opened(alloc, &catalog)?;
     let mut noted = Noted::at_first();
-    let worker = session.attach()?;
-    let with_worker = renew(alloc, &mut session, noted).err();
-    session.detach(worker);
     take_all(alloc, &mut session, &mut noted, &["{\"do\":\"terminate\"}"])?;
-    let ended = renew(alloc, &mut session, noted).err();
-    Ok((with_worker, ended, renewal(alloc, &session, noted).err()))
+    let list = renewal(alloc, &session, noted).err();
+    Ok((renew(alloc, &mut session, noted).err(), list))
 }
 
 #[test]
-fn a_session_with_a_worker_or_behind_its_end_is_not_renewed(rt: HostRuntime) -> Result<(), Fail> {
+fn a_session_behind_its_end_is_not_renewed(rt: HostRuntime) -> Result<(), Fail> {
     let found = refusals(rt.alloc())?;
     expect_equal(
         &rt,
         &found,
-        &(
-            Some(RenewRefusal::WorkersAttached(1)),
-            Some(RenewRefusal::Terminated),
-            Some(ListFault::Terminated),
-        ),
+        &(Some(RenewRefusal::Terminated), Some(ListFault::Terminated)),
     );
     Ok(())
 }

@@ -1,6 +1,6 @@
 //! What the tests share: a session that takes lines, and a list of commands in few words.
 
-ghost use Rattle.std.specs.Prelude.{◌≡◌};
+ghost use Rattle.std.specs.Prelude.{◌≡◌, [], IfOk};
 ghost use Rattle.pcef_renewal.specs.Noted.{noted_of};
 
 use pcef_built_in::ShapedCatalog;
@@ -10,6 +10,7 @@ use pcef_model::{Command, Level, Step};
 use pcef_profile::read_profile;
 use pcef_renewal::Noted;
 use pcef_session::SessionState;
+use pcef_world::WorldState;
 use std::alloc::Global;
 use std::test::Fail;
 
@@ -17,11 +18,25 @@ use std::test::Fail;
 const PROFILE: &str =
     "ue = \"10.0.0.2\"\nrows = 1000\ncommands = 20\n\n[default]\nqci = 9\nlevel = 8\ncapability = false\nvulnerability = true\n\n[capacity]\nup = 1000000\ndown = 2000000\n";
 
-/// A session on the built-in catalog, before its first command.
-pub(crate) fn opened(alloc: Global) -> Result<SessionState, Fail> {
+/// A session and its workers on the built-in catalog, before the first step.
+pub(crate) fn opened_world(alloc: Global, catalog: &ShapedCatalog) -> Result<WorldState, Fail>
+    ensures journal { IfOk result (λ w. w.session.journal ≡ []) }
+    ensures catalog { IfOk result (λ w. w.session.setting.catalog ≡ catalog.now) }
+{
     let profile = read_profile(alloc, PROFILE)?;
-    let catalog = ShapedCatalog::built_in(alloc)?;
-    Ok(SessionState::open(alloc, profile, catalog.listing().share()?)?)
+    let listing = catalog.listing().share()?;
+    let world = WorldState::open(alloc, profile, listing)?;
+    Ok(world)
+}
+
+/// A session on the built-in catalog, before its first command.
+pub(crate) fn opened(alloc: Global, catalog: &ShapedCatalog) -> Result<SessionState, Fail>
+    ensures { IfOk result (λ s. s.journal ≡ []) }
+{
+    let profile = read_profile(alloc, PROFILE)?;
+    let listing = catalog.listing().share()?;
+    let session = SessionState::open(alloc, profile, listing)?;
+    Ok(session)
 }
 
 /// The line that installs a rule for all packets, with this QCI, this priority level and this key.
@@ -46,12 +61,61 @@ pub(crate) fn install(
     )?)
 }
 
+/// The step that a line asks for.
+fn step_of(alloc: Global, line: &str) -> Result<Step, Fail> {
+    match read_line(alloc, line)? {
+        Line::Step(step) => Ok(step),
+        Line::Show => Err(Fail::new("no step")),
+    }
+}
+
 /// The command that a line gives.
 fn command_of(alloc: Global, line: &str) -> Result<Command, Fail> {
-    match read_line(alloc, line)? {
-        Line::Step(Step::Command(command)) => Ok(command),
+    match step_of(alloc, line)? {
+        Step::Command(command) => Ok(command),
         _ => Err(Fail::new("no command")),
     }
+}
+
+/// Makes the step that a line asks for.
+fn make(
+    alloc: Global,
+    world: &mut WorldState,
+    catalog: &ShapedCatalog,
+    noted: &mut Noted,
+    line: &str,
+) -> Result<(), Fail>
+    requires catalog { world.old.session.setting.catalog ≡ catalog.now }
+    requires noted { noted.old ≡ noted_of world.old.session.journal }
+    ensures noted { noted.new ≡ noted_of world.new.session.journal }
+    ensures setting { world.new.session.setting ≡ world.old.session.setting }
+{
+    let step = match step_of(alloc, line) {
+        Ok(step) => step,
+        Err(fail) => return Err(fail),
+    };
+    match noted.step(world, catalog, step) {
+        Ok(_) => Ok(()),
+        Err(_) => Err(Fail::new("no memory")),
+    }
+}
+
+/// Makes the steps that lines ask for, one after another.
+pub(crate) fn make_all(
+    alloc: Global,
+    world: &mut WorldState,
+    catalog: &ShapedCatalog,
+    noted: &mut Noted,
+    lines: &[&str],
+) -> Result<(), Fail>
+    requires catalog { world.old.session.setting.catalog ≡ catalog.now }
+    requires noted { noted.old ≡ noted_of world.old.session.journal }
+    ensures { noted.new ≡ noted_of world.new.session.journal }
+{
+    for line in lines {
+        make(alloc, world, catalog, noted, *line)?;
+    }
+    Ok(())
 }
 
 /// Does what a line says.
