@@ -72,3 +72,7 @@ not_done p c j k r step = elim step [ inl gives ↦ from (first_of (refusals p j
 -- what is done is due
 pub due_by : (p : Setting) (c : Command) (j k : Journal) (a : Accepted) → CommandStep p c j (Ok a) k → Gives (command_outcome p j c) (Ok a) k
 due_by p c j k a step = elim step [ inl gives ↦ gives | inr lacks ↦ absurd (let e = lacks.1.0 in cc) ]
+
+-- a command that was answered as due
+pub by_answer : (p : Setting) (c : Command) (j k : Journal) (a : Accepted) → Gives (command_outcome p j c) (Ok a) k → CommandStep p c j (Ok a) k
+by_answer p c j k a gives = inl gives

@@ -14,11 +14,11 @@ use Rattle.pcef_model.specs.Reports.{after_flush}
 use Rattle.pcef_model.specs.Setting.{Setting}
 use Rattle.pcef_world.specs.declared.answer.StepAnswer.{StepAnswer}
 use Rattle.pcef_world.specs.declared.answer.StepAnswer.TheVariants as answer
-use Rattle.pcef_world.specs.Steps.{Plays, Standing, abandon_step, attach_step, finish_step, finished, flush_step, handed_over, most_waiting, refresh_step, step_outcome, take_step}
-use Rattle.pcef_world.specs.Worlds.{Waiting, worker_at}
+use Rattle.pcef_world.specs.Steps.{MakesStep, Plays, Standing, abandon_step, attach_step, finish_step, finished, flush_step, handed_over, most_waiting, refresh_step, step_outcome, take_step}
+use Rattle.pcef_world.specs.Worlds.{Waiting, World, worker_at}
 use Rattle.pcef_renewal.specs.declared.noted.Noted.{Noted}
 use Rattle.pcef_renewal.specs.Noted.{noted_after, noted_after_step, noted_of}
-use Rattle.pcef_renewal.specs.private.Noting.{is_refused}
+use Rattle.pcef_renewal.specs.private.Noting.{IsAnswered, accepted_of, is_refused}
 use Rattle.pcef_renewal.proofs.Noting.{done_noted, rows_leave, workers_leave}
 use Rattle.pcef_renewal.proofs.Played.{not_done}
 
@@ -108,3 +108,17 @@ pub chosen : (refused told : Bool) (before after old : Noted) (step : Step) (kep
 chosen refused told before after old step kept due told_is before_is after_is kept_is due_is =
     kept_is
     ∙ rw (told_is, after_is, before_is) (sym due_is)
+
+-- ---- a command as a step
+pub answered : (before after : World) (c : Command) (a : StepAnswer) → MakesStep before (of.Command c) a after → IsAnswered before c (accepted_of a) after
+unfolding step_outcome
+answered before after c (answer.Command (Ok accepted)) plays = (let e = plays.0 in cc, ap (λ (s : Standing). s.journal) plays.1)
+answered before after c (answer.Command (Err r)) plays =
+    not_done before.session.setting c before.session.journal after.session.journal r (inl (let e = plays.0 in cc, ap (λ (s : Standing). s.journal) plays.1))
+answered before after c (answer.Attach r) plays = absurd (let e = plays.0 in cc)
+answered before after c (answer.Refresh g) plays = absurd (let e = plays.0 in cc)
+answered before after c (answer.Take r) plays = absurd (let e = plays.0 in cc)
+answered before after c (answer.Flush r) plays = absurd (let e = plays.0 in cc)
+answered before after c (answer.Finish r) plays = absurd (let e = plays.0 in cc)
+answered before after c (answer.Abandon r) plays = absurd (let e = plays.0 in cc)
+answered before after c answer.NoWorker plays = absurd (let e = plays.0 in cc)

@@ -4,7 +4,7 @@
 //! catalog takes all of them, without a report; a session is ended and a new one begun with them in one step, or nothing
 //! changes.
 //!
-//! In the order of reading: `noted`, `places`, `list`, `renewing`, `laws`.
+//! In the order of reading: `noted`, `places`, `list`, `renewing`, `world`, `laws`.
 #![tactic(auto)]
 
 mod laws;
@@ -12,6 +12,7 @@ mod list;
 mod noted;
 mod places;
 mod renewing;
+mod world;
 
 pub use laws::{
     like_sessions_judge_alike, new_sessions_are_like_old_ones, notes_keep_up,
@@ -20,3 +21,4 @@ pub use laws::{
 pub use list::{ListFault, OUT_OF_REACH, renewal};
 pub use noted::Noted;
 pub use renewing::{RenewRefusal, Renewed, renew};
+pub use world::{RenewedWorld, renew_world};

@@ -49,7 +49,7 @@ pub struct Renewed {
 }
 
 /// A copy of a profile. Takes no memory.
-fn copy_profile(profile: &Profile) -> Profile
+pub(crate) fn copy_profile(profile: &Profile) -> Profile
     ensures { result ≡ profile.now }
 {
     Profile {
@@ -143,7 +143,7 @@ fn begin(
 }
 
 /// Why a session isn't renewed, out of memory aside.
-fn refusal(session: &SessionState, noted: Noted) -> Option<RenewRefusal>
+pub(crate) fn refusal(session: &SessionState, noted: Noted) -> Option<RenewRefusal>
     requires { noted ≡ noted_of session.now.journal }
     ensures { result ≡ first_of (renew_refusals session.now.setting session.now.journal) }
 {
