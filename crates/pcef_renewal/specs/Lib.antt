@@ -1,0 +1,7 @@
+pub mod Accepting
+pub mod Likeness
+pub mod Noted
+pub mod Reaching
+pub mod Renewal
+pub mod Renewing
+pub mod private

@@ -1,0 +1,44 @@
+//! Laws of renewals, proved for whoever reads the definitions.
+
+ghost use Rattle.pcef_renewal.specs.Accepting.{RenewalsAreTaken};
+ghost use Rattle.pcef_renewal.specs.Likeness.{LikeSessionsCountAlike, LikeSessionsDecideAlike, NotesGoOn, OctetsAddUp, RenewalsAreLike, RenewalsNeedWhatTheySay};
+ghost use Rattle.pcef_renewal.specs.Noted.{CommandsAreNoted, RowsLeaveNotes, WorkersLeaveNotes};
+ghost use Rattle.pcef_renewal.specs.Reaching.{OutOfReachIsNotReached};
+
+/// A new session with the same profile and catalog takes the whole renewal of an old one, command by command, without a
+/// report.
+pub fn renewals_are_taken()
+    ensures { RenewalsAreTaken }
+{}
+
+/// A new session that took the renewal of an old one is like it: the same rules are active, the same keys on, with the
+/// same levels, and the same events subscribed; both are closed or neither; each key reaches its grant with the same
+/// octets, as far as some come; and the same pairs of QCI and ARP have bearers, with the same rates. The numbers of bearers
+/// may be others. The keys that have no slot any more are off, and no active rule has them.
+pub fn new_sessions_are_like_old_ones()
+    ensures like { RenewalsAreLike }
+    ensures need { RenewalsNeedWhatTheySay }
+    ensures noted { NotesGoOn }
+{}
+
+/// In sessions that are alike each packet is decided by the same rule, or by none, and counts for the same keys. The octets
+/// that were counted for a key of an old session, which was ended, and of the new one are those that both reported, and
+/// what the new one hasn't reported yet.
+pub fn like_sessions_judge_alike()
+    ensures decide { LikeSessionsDecideAlike }
+    ensures count { LikeSessionsCountAlike }
+    ensures octets { OctetsAddUp }
+{}
+
+/// A key with the grant [`crate::OUT_OF_REACH`] makes no Threshold report, however many packets a session takes.
+pub fn out_of_reach_is_not_reached()
+    ensures { OutOfReachIsNotReached }
+{}
+
+/// What [`crate::Noted::after`] says of each accepted command is what the journal after it says. Neither its reports nor
+/// rows or workers change it.
+pub fn notes_keep_up()
+    ensures commands { CommandsAreNoted }
+    ensures rows { RowsLeaveNotes }
+    ensures workers { WorkersLeaveNotes }
+{}
