@@ -110,7 +110,8 @@ fn do_orders<C: Detects>(
 ) -> Result<Answer, AllocError>
     requires offered { C.offers catalog.now ≡ world.old.session.setting.catalog }
     requires command { header.now.command < 2 ^ 24 }
-    ensures answer { IfOk result (λ a. DoesOrders identity.now header.now orders.now world.old a world.new) }
+    ensures answer { IfOk result (λ a.
+        DoesOrders identity.now header.now orders.now world.old a world.new) }
     ensures lacks { IfErr result (λ _. world.new ≡ world.old) }
     ensures workers { world.new.workers ≡ world.old.workers }
     ensures setting { world.new.session.setting ≡ world.old.session.setting }
@@ -129,7 +130,8 @@ fn refused(
     outcome: &Outcome,
 ) -> Result<AnsweredRar, AllocError>
     requires { header.now.command < 2 ^ 24 }
-    ensures answer { IfOk result (λ a. a.answer ≡ answered identity.now header.now (told_of outcome.now) []) }
+    ensures answer { IfOk result (λ a.
+        a.answer ≡ answered identity.now header.now (told_of outcome.now) []) }
     ensures left { IfOk result (λ a. left_by a.left ≡ nothing_left) }
 {
     Ok(AnsweredRar {
@@ -153,8 +155,10 @@ fn obey<C: Detects>(
 ) -> Result<AnsweredRar, AllocError>
     requires offered { C.offers catalog.now ≡ world.old.session.setting.catalog }
     requires command { header.now.command < 2 ^ 24 }
-    ensures answer { IfOk result (λ a. Obeys (is_ended world.old) identity.now header.now asked.entry.orders.items world.old a.answer world.new) }
-    ensures left { IfOk result (λ a. left_by a.left ≡ left_of (is_ended world.old) (messages.asked asked.entry)) }
+    ensures answer { IfOk result (λ a.
+        Obeys (is_ended world.old) identity.now header.now asked.entry.orders.items world.old a.answer world.new) }
+    ensures left { IfOk result (λ a.
+        left_by a.left ≡ left_of (is_ended world.old) (messages.asked asked.entry)) }
     ensures lacks { IfErr result (λ _. world.new ≡ world.old) }
     ensures workers { world.new.workers ≡ world.old.workers }
     ensures setting { world.new.session.setting ≡ world.old.session.setting }
@@ -191,7 +195,8 @@ pub fn answer_rar<C: Detects>(
     requires offered { C.offers catalog.now ≡ world.old.session.setting.catalog }
     requires command { header.now.command < 2 ^ 24 }
     requires whole { 20 ≤ length message.now }
-    ensures answer { IfOk result (λ a. AnswersRar identity.now header.now message.now world.old a.answer (left_by a.left) world.new) }
+    ensures answer { IfOk result (λ a.
+        AnswersRar identity.now header.now message.now world.old a.answer (left_by a.left) world.new) }
     ensures lacks { IfErr result (λ _. world.new ≡ world.old) }
     ensures workers { world.new.workers ≡ world.old.workers }
     ensures setting { world.new.session.setting ≡ world.old.session.setting }

@@ -114,7 +114,8 @@ fn addressed_avps<'m>(
     message: &'m [u8],
 ) -> Result<Vec<Avp<'m>>, Halt<'m>>
     requires { 20 ≤ length message.now }
-    ensures { Tells (λ avps. map shown avps.items) result (addressed_avps identity.now header.now message.now) }
+    ensures { Tells (λ avps. map shown avps.items) result
+        (addressed_avps identity.now header.now message.now) }
 {
     if let Some(outcome) = refused_first(header, message.len()) {
         return Err(Halt::Refused(outcome));
@@ -126,7 +127,8 @@ fn addressed_avps<'m>(
 
 /// What a RAR with these AVPs asks of a session.
 fn rar_in<'m>(alloc: Global, avps: &[Avp<'m>]) -> Result<Orders<'m>, Halt<'m>>
-    ensures { (due : Result Asked Fault) × RarOf (map shown avps.now) due × Tells asked result (under told_fault due) }
+    ensures { (due : Result Asked Fault) × RarOf (map shown avps.now) due
+        × Tells asked result (under told_fault due) }
 {
     match read_rar(alloc, avps) {
         Ok(orders) => Ok(orders),
@@ -145,7 +147,8 @@ pub fn read_request<'m>(
     message: &'m [u8],
 ) -> Result<Orders<'m>, Halt<'m>>
     requires { 20 ≤ length message.now }
-    ensures { (due : Result Asked Told) × RequestDue identity.now header.now message.now due × Tells asked result due }
+    ensures { (due : Result Asked Told) × RequestDue identity.now header.now message.now due
+        × Tells asked result due }
 {
     match addressed_avps(alloc, identity, header, message) {
         Ok(avps) => rar_in(alloc, &avps),

@@ -106,7 +106,8 @@ fn answers_out<'m>(avps: &[Avp<'m>], identity: &Identity, ccrs: &Ccrs) -> Result
 /// The AVPs behind the header of a message.
 fn avps_in<'m>(alloc: Global, message: &'m [u8]) -> Result<Vec<Avp<'m>>, CcaDrop<'m>>
     requires { 20 ≤ length message.now }
-    ensures { Hears (λ avps. map shown avps.items) result (under at_fault (group_of (drop 20 message.now))) }
+    ensures { Hears (λ avps. map shown avps.items) result
+        (under at_fault (group_of (drop 20 message.now))) }
 {
     match group(alloc, message.split_at(HEADER_LEN).1) {
         Ok(avps) => Ok(avps),
@@ -124,7 +125,8 @@ fn heard_avps<'m>(
     message: &'m [u8],
 ) -> Result<Vec<Avp<'m>>, CcaDrop<'m>>
     requires { 20 ≤ length message.now }
-    ensures { Hears (λ avps. map shown avps.items) result (heard_avps identity.now ccrs.now.out header.now message.now) }
+    ensures { Hears (λ avps. map shown avps.items) result
+        (heard_avps identity.now ccrs.now.out header.now message.now) }
 {
     if !is_cca(header, message.len()) {
         return Err(CcaDrop::NotOurs);
@@ -157,7 +159,8 @@ fn is_success(code: Option<u32>) -> bool
 
 /// What a CCA with these AVPs asks of a session.
 fn granted_in<'m>(alloc: Global, avps: &[Avp<'m>]) -> Result<Orders<'m>, CcaDrop<'m>>
-    ensures { (due : Result Asked Fault) × CcaOf (map shown avps.now) due × Hears asked result (under at_fault due) }
+    ensures { (due : Result Asked Fault) × CcaOf (map shown avps.now) due
+        × Hears asked result (under at_fault due) }
 {
     match read_cca(alloc, avps) {
         Ok(orders) => Ok(orders),
@@ -167,7 +170,8 @@ fn granted_in<'m>(alloc: Global, avps: &[Avp<'m>]) -> Result<Orders<'m>, CcaDrop
 
 /// What the AVPs of a CCA with this Result-Code say.
 fn said<'m>(alloc: Global, code: Option<u32>, avps: &[Avp<'m>]) -> Result<Says<'m>, CcaDrop<'m>>
-    ensures { (due : Result Saying Dropped) × SaysSo code (map shown avps.now) due × Hears saying_of result due }
+    ensures { (due : Result Saying Dropped) × SaysSo code (map shown avps.now) due
+        × Hears saying_of result due }
 {
     if !is_success(code) {
         return Ok(Says::Failed(code));
@@ -188,7 +192,8 @@ fn heard<'m>(
     message: &'m [u8],
 ) -> Result<(Vec<Avp<'m>>, Option<u32>), CcaDrop<'m>>
     requires { 20 ≤ length message.now }
-    ensures { Hears (λ heard. (map shown heard.0.items, heard.1)) result (heard_due identity.now ccrs.now.out header.now message.now) }
+    ensures { Hears (λ heard. (map shown heard.0.items, heard.1)) result
+        (heard_due identity.now ccrs.now.out header.now message.now) }
 {
     let avps = heard_avps(alloc, identity, ccrs, header, message)?;
     let code = code_in(&avps)?;

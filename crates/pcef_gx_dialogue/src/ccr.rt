@@ -71,7 +71,8 @@ impl Ccrs {
 
     /// The CCR that is out, in octets. Takes no memory.
     pub fn out(&self) -> Option<&[u8]>
-        ensures { option_map (λ octets. octets.now) result ≡ option_map (λ o. o.message) self.now.out }
+        ensures { option_map (λ octets. octets.now) result
+            ≡ option_map (λ o. o.message) self.now.out }
     {
         match &self.out {
             Some(out) => Some(&out.message),

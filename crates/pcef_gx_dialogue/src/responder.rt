@@ -97,7 +97,8 @@ impl Responder {
 
     /// The answer to the last RAR, in octets. Takes no memory.
     pub fn reply(&self) -> Option<&[u8]>
-        ensures { option_map (λ octets. octets.now) result ≡ option_map (λ last. last.answer.message) self.now.last }
+        ensures { option_map (λ octets. octets.now) result
+            ≡ option_map (λ last. last.answer.message) self.now.last }
     {
         match &self.last {
             Some(last) => Some(last.answer.octets()),
@@ -157,7 +158,8 @@ impl Responder {
         requires offered { C.offers catalog.now ≡ world.old.session.setting.catalog }
         requires command { header.now.command < 2 ^ 24 }
         requires whole { 20 ≤ length message.now }
-        ensures answer { IfOk result (λ done. AnswersOnce header.now message.now self.old world.old done self.new world.new) }
+        ensures answer { IfOk result (λ done.
+            AnswersOnce header.now message.now self.old world.old done self.new world.new) }
         ensures lacks { IfErr result (λ _. self.new ≡ self.old) }
         ensures world { IfErr result (λ _. world.new ≡ world.old) }
         ensures workers { world.new.workers ≡ world.old.workers }

@@ -132,7 +132,8 @@ fn put_failed(parts: &mut Vec<u8>, out: &mut Vec<u8>, outcome: &Outcome)
 fn put_avps(parts: &mut Vec<u8>, out: &mut Vec<u8>, identity: &Identity, outcome: &Outcome)
     requires fault { IsShortFault (told_of outcome.now) }
     requires parts { failed_room (told_of outcome.now) + 53 ≤ vec_capacity parts.old }
-    requires out { length out.old.items + failed_room (told_of outcome.now) + 3200 ≤ vec_capacity out.old }
+    requires out { length out.old.items + failed_room (told_of outcome.now) + 3200
+        ≤ vec_capacity out.old }
     ensures written { out.new.items ≡ out.old.items ++ avps_octets (answer_avps identity.now (told_of outcome.now)) }
     ensures room { length out.new.items ≤ length out.old.items + failed_room (told_of outcome.now) + 3200 }
     ensures parts { vec_capacity parts.old ≤ vec_capacity parts.new }

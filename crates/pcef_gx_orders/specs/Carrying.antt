@@ -1,5 +1,5 @@
 -- What the orders of a message do to a session, one after the other (TS 29.212, clause 4.5.2).
-use Rattle.std.specs.Prelude.{ℕ, ◌≡◌, ◌⊎◌, List, [], ◌∷◌, Option, Some, None, Result, Ok, Err, if◌then◌else◌}
+use Rattle.std.specs.Prelude.{ℕ, ◌≡◌, ◌⊎◌, List, [], ◌∷◌, Option, Some, None, option_map, Result, Ok, Err, if◌then◌else◌}
 use Rattle.pcef_gx.specs.Completing.{completed}
 use Rattle.pcef_gx.specs.declared.definition.RuleChange.{RuleChange}
 use Rattle.pcef_gx.specs.declared.failure.RuleFailure.{RuleFailure}
@@ -23,12 +23,17 @@ use Rattle.pcef_world.specs.Worlds.{World}
 use Rattle.pcef_gx_orders.specs.Fates.{key_fate, rule_fate, setting_fate}
 use Rattle.pcef_gx_orders.specs.Naming.{kind_given, name_given, rule_named}
 use Rattle.pcef_gx_orders.specs.Standing.{active_definition, keys_on}
+use Rattle.pcef_gx_orders.specs.declared.carrying.CarriedOut.{CarriedOut}
 use Rattle.pcef_gx_orders.specs.declared.fate.Fate.{Fate}
 use Rattle.pcef_gx_orders.specs.declared.fate.Fate.TheVariants.{Done, NoRule, Refused}
 
 -- a command of a session is answered as due, or refused when out of memory
 abbrev pub Answers : World → Command → Result Accepted Refusal → World → Type 0
 Answers before c answer after = CommandStep before.session.setting c before.session.journal answer after.session.journal
+
+-- a relation of the journals before and after, in the session of a world
+abbrev pub Between : (Setting → Journal → Journal → Type 0) → World → World → Type 0
+Between relation before after = relation before.session.setting before.session.journal after.session.journal
 
 -- ---- one order
 -- a command is done, and what became of the order follows from its answer
@@ -104,3 +109,8 @@ abbrev pub CarriesOut : Setting → Journal → List Order → List RuleReport �
 CarriesOut p before [] reports refused after = (reports ≡ []) × (refused ≡ None) × (after ≡ before)
 CarriesOut p before (asked ∷ orders) reports refused after =
     (fate : Fate) × (mid : Journal) × Carries p before asked fate mid × Told p mid asked fate (CarriesOut p mid orders) reports refused after
+
+-- the same of the session of a world
+abbrev pub DoesOrders : World → List Order → CarriedOut → World → Type 0
+DoesOrders before orders c after =
+    Between (λ p j k. CarriesOut p j orders c.reports.items (option_map (λ o. o.now) c.refused) k) before after

@@ -1,8 +1,8 @@
 //! Orders, done one after the other.
 
-ghost use Rattle.std.specs.Prelude.{◌≡◌, ◌⊎◌, Err, IfErr, IfOk, option_map};
+ghost use Rattle.std.specs.Prelude.{◌≡◌, ◌⊎◌, Err, IfErr, IfOk};
 ghost use Rattle.pcef_gx.specs.declared.failure.RuleFailure.TheVariants.{GatewayMalfunction};
-ghost use Rattle.pcef_gx_orders.specs.Carrying.{Carries, CarriesOut, Installs, IsReport, ReportsAll, ReportsOn, completed_now, status_now};
+ghost use Rattle.pcef_gx_orders.specs.Carrying.{Between, Carries, DoesOrders, Installs, IsReport, ReportsAll, ReportsOn, completed_now, status_now};
 ghost use Rattle.pcef_gx_orders.specs.Naming.{kind_given, rule_named};
 
 use crate::commanding::{for_key, for_rule, for_setting};
@@ -51,7 +51,7 @@ fn install<C: Detects>(
     change: &RuleChange,
 ) -> Fate
     requires { C.offers catalog.now ≡ world.old.session.setting.catalog }
-    ensures fate { Installs world.old.session.setting world.old.session.journal change.now result world.new.session.journal }
+    ensures fate { Between (λ p j k. Installs p j change.now result k) world.old world.new }
     ensures workers { world.new.workers ≡ world.old.workers }
     ensures setting { world.new.session.setting ≡ world.old.session.setting }
     ensures forgotten { world.new.session.forgotten ≡ world.old.session.forgotten }
@@ -65,7 +65,7 @@ fn install<C: Detects>(
 /// Asks for a report of each of these keys, up to the first that is refused.
 fn report_all<C: Detects>(catalog: &C, world: &mut WorldState, keys: &[KeyName]) -> Fate
     requires { C.offers catalog.now ≡ world.old.session.setting.catalog }
-    ensures fate { ReportsAll world.old.session.setting world.old.session.journal keys.now result world.new.session.journal }
+    ensures fate { Between (λ p j k. ReportsAll p j keys.now result k) world.old world.new }
     ensures workers { world.new.workers ≡ world.old.workers }
     ensures setting { world.new.session.setting ≡ world.old.session.setting }
     ensures forgotten { world.new.session.forgotten ≡ world.old.session.forgotten }
@@ -82,7 +82,7 @@ fn report_all<C: Detects>(catalog: &C, world: &mut WorldState, keys: &[KeyName])
 /// Asks for a report of each key that is on. Want of memory is a refusal, too.
 fn report_on<C: Detects>(alloc: Global, catalog: &C, world: &mut WorldState) -> Fate
     requires { C.offers catalog.now ≡ world.old.session.setting.catalog }
-    ensures fate { ReportsOn world.old.session.setting world.old.session.journal result world.new.session.journal }
+    ensures fate { Between (λ p j k. ReportsOn p j result k) world.old world.new }
     ensures workers { world.new.workers ≡ world.old.workers }
     ensures setting { world.new.session.setting ≡ world.old.session.setting }
     ensures forgotten { world.new.session.forgotten ≡ world.old.session.forgotten }
@@ -96,7 +96,7 @@ fn report_on<C: Detects>(alloc: Global, catalog: &C, world: &mut WorldState) -> 
 /// Does an order.
 fn carry<C: Detects>(alloc: Global, catalog: &C, world: &mut WorldState, order: &Order) -> Fate
     requires { C.offers catalog.now ≡ world.old.session.setting.catalog }
-    ensures fate { Carries world.old.session.setting world.old.session.journal order.now result world.new.session.journal }
+    ensures fate { Between (λ p j k. Carries p j order.now result k) world.old world.new }
     ensures workers { world.new.workers ≡ world.old.workers }
     ensures setting { world.new.session.setting ≡ world.old.session.setting }
     ensures forgotten { world.new.session.forgotten ≡ world.old.session.forgotten }
@@ -182,7 +182,7 @@ pub fn carry_out<'a, 'm, C: Detects>(
     orders: &'a [NamedOrder<'m>],
 ) -> Result<CarriedOut<'a, 'm>, AllocError>
     requires { C.offers catalog.now ≡ world.old.session.setting.catalog }
-    ensures done { IfOk result (λ c. CarriesOut world.old.session.setting world.old.session.journal orders.now c.reports.items (option_map (λ o. o.now) c.refused) world.new.session.journal) }
+    ensures done { IfOk result (λ c. DoesOrders world.old orders.now c world.new) }
     ensures lacks { IfErr result (λ _. world.new ≡ world.old) }
     ensures workers { world.new.workers ≡ world.old.workers }
     ensures setting { world.new.session.setting ≡ world.old.session.setting }

@@ -1,7 +1,7 @@
 //! Commands of a session that stands with its workers.
 
 ghost use Rattle.std.specs.Prelude.{◌≡◌};
-ghost use Rattle.pcef_gx_orders.specs.Carrying.{Answers, FatedBy};
+ghost use Rattle.pcef_gx_orders.specs.Carrying.{Answers, Between, FatedBy};
 ghost use Rattle.pcef_gx_orders.specs.Fates.{command_answer, key_fate, rule_fate, setting_fate};
 
 use crate::fate::{Fate, key_fate, rule_fate, setting_fate};
@@ -38,7 +38,7 @@ fn command<C: Detects>(
 /// A command about a rule.
 pub(crate) fn for_rule<C: Detects>(catalog: &C, world: &mut WorldState, asked: Command) -> Fate
     requires { C.offers catalog.now ≡ world.old.session.setting.catalog }
-    ensures fate { FatedBy rule_fate world.old.session.setting world.old.session.journal asked result world.new.session.journal }
+    ensures fate { Between (λ p j k. FatedBy rule_fate p j asked result k) world.old world.new }
     ensures workers { world.new.workers ≡ world.old.workers }
     ensures setting { world.new.session.setting ≡ world.old.session.setting }
     ensures forgotten { world.new.session.forgotten ≡ world.old.session.forgotten }
@@ -49,7 +49,7 @@ pub(crate) fn for_rule<C: Detects>(catalog: &C, world: &mut WorldState, asked: C
 /// A subscription, or the switching on of a key.
 pub(crate) fn for_setting<C: Detects>(catalog: &C, world: &mut WorldState, asked: Command) -> Fate
     requires { C.offers catalog.now ≡ world.old.session.setting.catalog }
-    ensures fate { FatedBy setting_fate world.old.session.setting world.old.session.journal asked result world.new.session.journal }
+    ensures fate { Between (λ p j k. FatedBy setting_fate p j asked result k) world.old world.new }
     ensures workers { world.new.workers ≡ world.old.workers }
     ensures setting { world.new.session.setting ≡ world.old.session.setting }
     ensures forgotten { world.new.session.forgotten ≡ world.old.session.forgotten }
@@ -60,7 +60,7 @@ pub(crate) fn for_setting<C: Detects>(catalog: &C, world: &mut WorldState, asked
 /// The switching off of a key, or a report of one.
 pub(crate) fn for_key<C: Detects>(catalog: &C, world: &mut WorldState, asked: Command) -> Fate
     requires { C.offers catalog.now ≡ world.old.session.setting.catalog }
-    ensures fate { FatedBy key_fate world.old.session.setting world.old.session.journal asked result world.new.session.journal }
+    ensures fate { Between (λ p j k. FatedBy key_fate p j asked result k) world.old world.new }
     ensures workers { world.new.workers ≡ world.old.workers }
     ensures setting { world.new.session.setting ≡ world.old.session.setting }
     ensures forgotten { world.new.session.forgotten ≡ world.old.session.forgotten }

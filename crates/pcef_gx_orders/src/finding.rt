@@ -38,7 +38,8 @@ fn kept_definition<'a>(rules: &'a ActiveRules, name: &RuleName) -> Option<&'a Ru
 
 /// The definition of the active rule of this name, where it is a dynamic one.
 pub(crate) fn active_definition<'a>(session: &'a SessionState, name: &RuleName) -> Option<&'a Rule>
-    ensures { option_map (λ r. r.now) result ≡ active_definition session.now.setting session.now.journal name.now }
+    ensures { option_map (λ r. r.now) result
+        ≡ active_definition session.now.setting session.now.journal name.now }
 {
     kept_definition(session.active(), name)
 }

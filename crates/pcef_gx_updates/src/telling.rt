@@ -74,7 +74,8 @@ pub(crate) fn put_reports(
     out: &mut Vec<u8>,
     reports: &[Report],
 ) -> Result<(), AllocError>
-    ensures { OnOk result (out.new.items ≡ out.old.items ++ avps_octets (map report_told reports.now)) }
+    ensures { OnOk result (out.new.items
+        ≡ out.old.items ++ avps_octets (map report_told reports.now)) }
 {
     for report in reports {
         put_told(alloc, out, &report.body)?;

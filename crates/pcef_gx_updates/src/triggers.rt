@@ -105,7 +105,8 @@ fn put_trigger_if(out: &mut Vec<u8>, is: bool, number: u32) -> Result<(), AllocE
 /// Writes the Event-Triggers of access events.
 #[tactic(auto, using(crate::proofs::Joined::parts_octets))]
 pub(crate) fn put_access_triggers(out: &mut Vec<u8>, reports: &[Report]) -> Result<(), AllocError>
-    ensures { OnOk result (out.new.items ≡ out.old.items ++ avps_octets (access_triggers reports.now)) }
+    ensures { OnOk result (out.new.items
+        ≡ out.old.items ++ avps_octets (access_triggers reports.now)) }
 {
     put_trigger_if(out, any_access(AccessKind::RatChange, reports), 2)?;
     put_trigger_if(out, any_access(AccessKind::PlmnChange, reports), 4)?;
@@ -120,7 +121,8 @@ pub(crate) fn put_other_triggers(
     asks_for_loss: bool,
     reports: &[Report],
 ) -> Result<(), AllocError>
-    ensures { OnOk result (out.new.items ≡ out.old.items ++ avps_octets (other_triggers asks_for_loss reports.now)) }
+    ensures { OnOk result (out.new.items
+        ≡ out.old.items ++ avps_octets (other_triggers asks_for_loss reports.now)) }
 {
     put_trigger_if(out, any_usage(reports), 33)?;
     put_trigger_if(out, asks_for_loss && any_gone(reports), 5)

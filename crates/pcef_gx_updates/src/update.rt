@@ -35,7 +35,8 @@ fn first_of(reports: &[Report]) -> &[Report]
 /// The AVPs of these reports.
 #[tactic(auto, using(crate::proofs::Joined::parts_octets))]
 fn avps(alloc: Global, asks_for_loss: bool, reports: &[Report]) -> Result<Vec<u8>, AllocError>
-    ensures { IfOk result (λ avps. avps.items ≡ avps_octets (update_avps asks_for_loss reports.now)) }
+    ensures { IfOk result (λ avps.
+        avps.items ≡ avps_octets (update_avps asks_for_loss reports.now)) }
 {
     let mut avps = Vec::new(alloc);
     put_other_triggers(&mut avps, asks_for_loss, reports)?;
@@ -54,7 +55,8 @@ pub fn next_update(
     asks_for_loss: bool,
 ) -> Result<Update, AllocError>
     requires { journal.now.forgotten ≤ told }
-    ensures avps { IfOk result (λ u. u.avps.items ≡ avps_octets (update_avps asks_for_loss (untold journal.now.entries told))) }
+    ensures avps { IfOk result (λ u.
+        u.avps.items ≡ avps_octets (update_avps asks_for_loss (untold journal.now.entries told))) }
     ensures count { IfOk result (λ u. u.count ≡ length (untold journal.now.entries told)) }
 {
     let reports = journal.reports_from(told).to_vec(alloc)?;
