@@ -32,7 +32,8 @@ const DOING: usize = 3;
 struct Tally {
     /// How many messages were played.
     played: u32,
-    /// How many have an answer that is right, as [`is_sound`] says, or left the session as it was.
+    /// How many have an answer with the identifiers of its request and with its own length, and changed the session only
+    /// where its orders were done.
     sound: u32,
     /// How many changed the session.
     changed: u32,
@@ -153,9 +154,9 @@ fn change_lengths(alloc: Global, catalog: &ShapedCatalog, message: &[u8], tally:
     }
 }
 
-/// How many commands weren't supported, how many messages had the E bit, another version, and another length. The fields of
-/// the header are 0x000102, 0xc0, 1 and 0x000224: 15, 5, 5 and 15 values are set in them. Two of the command's, one of
-/// the version's and one of the length's stand there already, and one of the flags' has both the R bit and the E bit.
+/// How many answers tell of another command, of the E bit, of another version and of another length. In the header these
+/// are 0x000102, the bits 0xc0, 1 and 0x000224, where 15, 5, 5 and 15 values are set. Two of the command's, one of the
+/// version's and one of the length's stand there already; one of the bits' has both R and E.
 fn told_by_header(tally: &Tally) -> [u32; 4] {
     let [
         _,

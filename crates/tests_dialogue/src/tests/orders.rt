@@ -4,8 +4,8 @@ ghost use Rattle.std.specs.Prelude.{◌≡◌};
 
 use super::expect_equal;
 use super::messages::{
-    GATE_ALONE, GROUP_OF_RULES, GUARANTEED_RATES, INSTALL_TWO, NINE_KEYS, OVER_CAPACITY,
-    REMOVE_FIVE,
+    GATE_ALONE, GROUP_OF_RULES, GUARANTEED_RATES, INSTALL_TWO, NINE_KEYS, REMOVE_FIVE,
+    RULES_REFUSED,
 };
 use super::playing::{Exchange, is_answered, session, totals};
 use pcef_built_in::ShapedCatalog;
@@ -24,7 +24,7 @@ static STEPS: [(Exchange, [u64; 6], [u64; 6]); 5] = [
         [10, 2, 2, 6, 64_000, 48_000],
     ),
     (
-        OVER_CAPACITY,
+        RULES_REFUSED,
         [2, 2, 64_000, 48_000, 0, 0],
         [10, 2, 2, 6, 64_000, 48_000],
     ),

@@ -7,9 +7,9 @@ use super::messages::INSTALL_TWO;
 use super::playing::{Exchange, is_answered, session, totals};
 use super::refused_messages::{
     ANOTHER_APPLICATION, ANOTHER_AUTH_APPLICATION, ANOTHER_COMMAND, ANOTHER_SESSION,
-    ANOTHER_VERSION, AVP_BEYOND, ERROR_BIT, GRANT_OF_TIME, LATE_RULE, LENGTH_BEYOND,
-    LENGTH_OF_NO_WORDS, NO_ORIGIN_HOST, OUT_OF_RANGE, RESERVED_BIT, SIX_OCTETS, TWO_SESSION_IDS,
-    UNKNOWN_MANDATORY,
+    ANOTHER_VERSION, AVP_BEYOND, ERROR_BIT, FAULT_BEHIND_A_RULE, GRANT_OF_TIME, LATE_RULE,
+    LENGTH_BEYOND, LENGTH_OF_NO_WORDS, NO_ORIGIN_HOST, OUT_OF_RANGE, RESERVED_BIT, SIX_OCTETS,
+    TWO_SESSION_IDS, UNKNOWN_MANDATORY,
 };
 use pcef_built_in::ShapedCatalog;
 use pcef_model::{Command, Step};
@@ -18,7 +18,7 @@ use std::alloc::Global;
 use std::test::Fail;
 
 /// Messages that are refused as a whole by a session that was opened.
-static REFUSED: [Exchange; 16] = [
+static REFUSED: [Exchange; 17] = [
     ANOTHER_SESSION,
     ANOTHER_APPLICATION,
     ANOTHER_AUTH_APPLICATION,
@@ -29,6 +29,7 @@ static REFUSED: [Exchange; 16] = [
     ERROR_BIT,
     NO_ORIGIN_HOST,
     UNKNOWN_MANDATORY,
+    FAULT_BEHIND_A_RULE,
     AVP_BEYOND,
     RESERVED_BIT,
     TWO_SESSION_IDS,
@@ -61,27 +62,23 @@ fn first_wrong(
     None
 }
 
-/// What is wrong on a session with two rules, and on the same one once it is closed.
+/// Whether a session has two rules and is closed then, and what is wrong on it before it is closed and after.
 fn wrong_before_and_after(
     alloc: Global,
     catalog: &ShapedCatalog,
     world: &mut WorldState,
-) -> [Option<Wrong>; 2]
+) -> (bool, [Option<Wrong>; 2])
     requires { catalog.now ≡ world.old.session.setting.catalog }
 {
-    let is_due = is_answered(alloc, catalog, world, &INSTALL_TWO);
+    let has_rules = is_answered(alloc, catalog, world, &INSTALL_TWO);
     let before = first_wrong(alloc, catalog, world, &REFUSED);
     let is_closed = world.step(catalog, Step::Command(Command::Close)).is_ok();
     let after = first_wrong(alloc, catalog, world, &[LATE_RULE]);
-    if is_due && is_closed {
-        [before, after]
-    } else {
-        [after, None]
-    }
+    (has_rules && is_closed, [before, after])
 }
 
-/// The same on a new session; none where there is none.
-fn wrong_on_one(alloc: Global, catalog: &ShapedCatalog) -> Option<[Option<Wrong>; 2]> {
+/// The same of a new session; none where there is none.
+fn wrong_on_one(alloc: Global, catalog: &ShapedCatalog) -> Option<(bool, [Option<Wrong>; 2])> {
     let mut world = session(alloc, catalog)?;
     Some(wrong_before_and_after(alloc, catalog, &mut world))
 }
@@ -90,6 +87,6 @@ fn wrong_on_one(alloc: Global, catalog: &ShapedCatalog) -> Option<[Option<Wrong>
 fn a_message_that_is_refused_changes_nothing(rt: HostRuntime) -> Result<(), Fail> {
     let catalog = ShapedCatalog::built_in(rt.alloc())?;
     let wrong = wrong_on_one(rt.alloc(), &catalog);
-    expect_equal(&rt, &wrong, &Some([None, None]));
+    expect_equal(&rt, &wrong, &Some((true, [None, None])));
     Ok(())
 }
