@@ -241,7 +241,7 @@ pub(super) const RESERVED_BIT: Exchange = Exchange {
         2e6e657400000128400000136578616d706c652e6e65740000000117400000100000011b40000008",
 };
 
-/// By freeDiameter: two Session-Ids: DIAMETER_AVP_OCCURS_TOO_MANY_TIMES, the second.
+/// By freeDiameter, changed: two Session-Ids: DIAMETER_AVP_OCCURS_TOO_MANY_TIMES, the second.
 pub(super) const TWO_SESSION_IDS: Exchange = Exchange {
     session_id: b"pcef.example.net;3360300728;13",
     message: "\
@@ -258,7 +258,7 @@ pub(super) const TWO_SESSION_IDS: Exchange = Exchange {
         78616d706c652e6e65743b333336303330303732383b31330000",
 };
 
-/// By freeDiameter: a Pre-emption-Vulnerability of 17: DIAMETER_INVALID_AVP_VALUE, that AVP.
+/// By freeDiameter, changed: a Pre-emption-Vulnerability of 17: DIAMETER_INVALID_AVP_VALUE, that AVP.
 pub(super) const OUT_OF_RANGE: Exchange = Exchange {
     session_id: b"pcef.example.net;3122458132;20",
     message: "\
