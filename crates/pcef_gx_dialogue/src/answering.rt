@@ -1,6 +1,6 @@
 //! The answer to a RAR.
 
-ghost use Rattle.std.specs.Prelude.{◌≡◌, ◌<◌, ◌≤◌, ◌^◌, [], IfErr, IfOk, length, option_map};
+ghost use Rattle.std.specs.Prelude.{◌≡◌, ◌<◌, ◌≤◌, ◌^◌, [], IfErr, IfOk, length, option_map, true};
 ghost use Rattle.pcef_diameter.specs.Avps.{shown};
 ghost use Rattle.pcef_gx.specs.Messages as messages;
 ghost use Rattle.pcef_gx_messages.specs.Sent.{answered, most_room, told_of};
@@ -178,7 +178,8 @@ fn obey<C: Detects>(
     })
 }
 
-/// Answers a RAR with this header (TS 29.212, clauses 4.5.2 and 4.5.12). It is refused as a whole, by the first reason
+/// Answers a RAR with this header (TS 29.212, clauses 4.5.2 and 4.5.12): the caller sees by its R bit that it is a
+/// request, for nothing answers an answer. It is refused as a whole, by the first reason
 /// of [`read_request`], or where the session was closed or terminated, and then nothing changes. Else its orders are
 /// done, as [`pcef_gx_orders::carry_out`] does them, and the answer has a Charging-Rule-Report for each rule that
 /// couldn't be had; an order that names no rule and is refused is DIAMETER_UNABLE_TO_COMPLY, with its AVP. The answer
@@ -193,6 +194,7 @@ pub fn answer_rar<C: Detects>(
     message: &[u8],
 ) -> Result<AnsweredRar, AllocError>
     requires offered { C.offers catalog.now ≡ world.old.session.setting.catalog }
+    requires request { header.now.request ≡ true }
     requires command { header.now.command < 2 ^ 24 }
     requires whole { 20 ≤ length message.now }
     ensures answer { IfOk result (λ a.

@@ -146,7 +146,8 @@ pub fn read_request<'m>(
     header: &MessageHeader,
     message: &'m [u8],
 ) -> Result<Orders<'m>, Halt<'m>>
-    requires { 20 ≤ length message.now }
+    requires request { header.now.request ≡ true }
+    requires whole { 20 ≤ length message.now }
     ensures { (due : Result Asked Told) × RequestDue identity.now header.now message.now due
         × Tells asked result due }
 {

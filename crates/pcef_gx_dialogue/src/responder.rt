@@ -1,6 +1,6 @@
 //! The answers to the RARs of one session, of which the last one is remembered.
 
-ghost use Rattle.std.specs.Prelude.{◌≡◌, ◌<◌, ◌≤◌, ◌^◌, IfErr, IfOk, None, Some, length, option_map};
+ghost use Rattle.std.specs.Prelude.{◌≡◌, ◌<◌, ◌≤◌, ◌^◌, IfErr, IfOk, None, Some, length, option_map, true};
 ghost use Rattle.pcef_gx_dialogue.specs.Repeats.{AnswersOnce, is_from, is_last, origin_of, repeated};
 ghost use Rattle.pcef_gx_dialogue.specs.private.Lasts.{last_of};
 
@@ -156,6 +156,7 @@ impl Responder {
         message: &[u8],
     ) -> Result<RarDone, AllocError>
         requires offered { C.offers catalog.now ≡ world.old.session.setting.catalog }
+        requires request { header.now.request ≡ true }
         requires command { header.now.command < 2 ^ 24 }
         requires whole { 20 ≤ length message.now }
         ensures answer { IfOk result (λ done.
