@@ -1,3 +1,5 @@
 pub mod Again
+pub mod Parts
 pub mod Readings
+pub mod Rooms
 pub mod Spelled

@@ -1,6 +1,6 @@
 //! The header of a message.
 
-ghost use Rattle.std.specs.Prelude.{◌≡◌, ◌≤◌, IfSome, length};
+ghost use Rattle.std.specs.Prelude.{◌≡◌, ◌<◌, ◌≤◌, ◌^◌, IfSome, length};
 ghost use Rattle.pcef_diameter.specs.Headers.{header_fault, header_of};
 
 use crate::fault::MessageFault;
@@ -40,6 +40,7 @@ pub struct MessageHeader {
 pub fn read_message_header(octets: &[u8]) -> Option<MessageHeader>
     ensures header { result ≡ header_of octets.now }
     ensures len { IfSome result (λ header. 20 ≤ length octets.now) }
+    ensures command { IfSome result (λ header. header.command < 2 ^ 24) }
 {
     if octets.len() < HEADER_LEN {
         return None;

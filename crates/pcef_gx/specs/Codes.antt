@@ -17,6 +17,12 @@ abbrev pub three_gpp : ℕ → Code
 three_gpp number = record { vendor = 10415; number = number }
 
 -- RFC 6733, clause 4.5, and RFC 8506, clause 8
+abbrev pub framed_ip_address : Code
+framed_ip_address = ietf 8
+
+abbrev pub framed_ipv6_prefix : Code
+framed_ipv6_prefix = ietf 97
+
 abbrev pub session_id : Code
 session_id = ietf 263
 
@@ -52,6 +58,9 @@ vendor_id = ietf 266
 
 abbrev pub failed_avp : Code
 failed_avp = ietf 279
+
+abbrev pub proxy_info : Code
+proxy_info = ietf 284
 
 abbrev pub origin_state_id : Code
 origin_state_id = ietf 278
@@ -128,6 +137,9 @@ guaranteed_bitrate_dl = three_gpp 1025
 
 abbrev pub guaranteed_bitrate_ul : Code
 guaranteed_bitrate_ul = three_gpp 1026
+
+abbrev pub ip_can_type : Code
+ip_can_type = three_gpp 1027
 
 abbrev pub qos_class_identifier : Code
 qos_class_identifier = three_gpp 1028

@@ -55,6 +55,12 @@ macro_rules! three_gpp {
     };
 }
 
+/// Framed-IP-Address.
+pub const FRAMED_IP_ADDRESS: Code = ietf!(8);
+
+/// Framed-IPv6-Prefix.
+pub const FRAMED_IPV6_PREFIX: Code = ietf!(97);
+
 /// Session-Id.
 pub const SESSION_ID: Code = ietf!(263);
 
@@ -90,6 +96,9 @@ pub const VENDOR_ID: Code = ietf!(266);
 
 /// Failed-AVP.
 pub const FAILED_AVP: Code = ietf!(279);
+
+/// Proxy-Info.
+pub const PROXY_INFO: Code = ietf!(284);
 
 /// Origin-State-Id.
 pub const ORIGIN_STATE_ID: Code = ietf!(278);
@@ -165,6 +174,9 @@ pub const GUARANTEED_BITRATE_DL: Code = three_gpp!(1025);
 
 /// Guaranteed-Bitrate-UL.
 pub const GUARANTEED_BITRATE_UL: Code = three_gpp!(1026);
+
+/// IP-CAN-Type.
+pub const IP_CAN_TYPE: Code = three_gpp!(1027);
 
 /// QoS-Class-Identifier.
 pub const QOS_CLASS_IDENTIFIER: Code = three_gpp!(1028);

@@ -107,8 +107,9 @@ fn has_word(code: Code) -> bool
     }
 }
 
-/// An AVP of this code, with data of zeros: what a Failed-AVP shows of one that is missing.
-pub(crate) fn example<'a>(code: Code) -> Avp<'a>
+/// An AVP of this code, with data of zeros: what a Failed-AVP shows of one that is missing (RFC 6733, clause 7.5). Takes
+/// no memory.
+pub fn example<'a>(code: Code) -> Avp<'a>
     ensures { shown result ≡ blank_of code }
 {
     Avp {

@@ -31,7 +31,7 @@ pub use code::{Code, THREE_GPP, code_of, is};
 pub use completing::complete;
 pub use definition::RuleChange;
 pub use failure::{RuleFailure, failure_of};
-pub use fault::{GxFault, Problem, Stop};
+pub use fault::{GxFault, Problem, Stop, example};
 pub use filters::FilterList;
 pub use known::is_known;
 pub use laws::{names_go_back, one_message};

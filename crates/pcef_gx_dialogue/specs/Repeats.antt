@@ -9,7 +9,7 @@ use Rattle.pcef_gx_messages.specs.Identities.{Speaker}
 use Rattle.pcef_gx_messages.specs.Sent.{Answered, Told, answered_again}
 use Rattle.pcef_lists.specs.Readings.{◌>>=◌, under}
 use Rattle.pcef_world.specs.Worlds.{World}
-use Rattle.pcef_gx_dialogue.specs.Rars.{AnswersRar, Left, left_by, nothing_left}
+use Rattle.pcef_gx_dialogue.specs.Rars.{AnswersRar, Left, RefusesUnknown, left_by, nothing_left}
 use Rattle.pcef_gx_dialogue.specs.Requests.{avps_in, told_fault}
 use Rattle.pcef_gx_dialogue.specs.declared.responder.RarDone.{RarDone}
 use Rattle.pcef_gx_dialogue.specs.declared.responder.RarDone.TheVariants as done
@@ -83,3 +83,12 @@ AnswersBy false h message before world result after world_after = AnswersNew h m
 abbrev pub AnswersOnce : MessageHeader → List ℕ → Answering → World → RarDone → Answering → World → Type 0
 AnswersOnce h message before world result after world_after =
     AnswersBy (comes_again before.last h message) h message before world result after world_after
+
+-- ---- where there is no session
+abbrev pub UnknownBy : Bool → MessageHeader → List ℕ → Answering → Answering → Type 0
+UnknownBy true h message before after = after ≡ record before { last = option_map (repeated h) before.last }
+UnknownBy false h message before after =
+    (answer : Answered) × RefusesUnknown before.speaker h message answer × (after ≡ remembered h message answer before)
+
+abbrev pub AnswersUnknown : MessageHeader → List ℕ → Answering → Answering → Type 0
+AnswersUnknown h message before after = UnknownBy (comes_again before.last h message) h message before after

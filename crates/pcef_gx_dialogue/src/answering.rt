@@ -1,18 +1,20 @@
 //! The answer to a RAR.
 
-ghost use Rattle.std.specs.Prelude.{◌≡◌, ◌<◌, ◌≤◌, ◌^◌, [], IfErr, IfOk, length, option_map, true};
+ghost use Rattle.std.specs.Prelude.{◌≡◌, ◌<◌, ◌≤◌, ◌+◌, ◌^◌, [], IfErr, IfOk, length, option_map, true};
+ghost use Rattle.std.specs.List.{list_any};
 ghost use Rattle.pcef_diameter.specs.Avps.{shown};
 ghost use Rattle.pcef_gx.specs.Messages as messages;
 ghost use Rattle.pcef_gx_messages.specs.Sent.{answered, most_room, told_of};
-ghost use Rattle.pcef_gx_dialogue.specs.Rars.{AnswersRar, DoesOrders, HaveRoom, Obeys, avp_refused, example_of, is_ended, left_by, left_of, nothing_left, told_of_orders};
+ghost use Rattle.pcef_gx_dialogue.specs.private.Askers.{asker_of};
+ghost use Rattle.pcef_gx_dialogue.specs.Rars.{AnswersRar, DoesOrders, GoesBackOf, HaveRoom, Obeys, RefusesUnknown, asked_beside, avp_refused, is_ended, is_triggers, left_by, left_of, nothing_left, told_of_orders};
 
-use crate::asking::read_request;
+use crate::asking::{MAX_MESSAGE, read_request};
 use crate::halt::Halt;
 use pcef_catalog::Detects;
-use pcef_diameter::{Avp, MessageHeader};
-use pcef_gx::code::{Code, EVENT_TRIGGER, MONITORING_KEY, USAGE_MONITORING_REPORT};
-use pcef_gx::{GxFault, Order, Orders, Problem, THREE_GPP};
-use pcef_gx_messages::{Answer, AnswerRoom, Identity, Outcome, refuse};
+use pcef_diameter::{Avp, HEADER_LEN, MessageHeader};
+use pcef_gx::code::{EVENT_TRIGGER, MONITORING_KEY, USAGE_MONITORING_REPORT};
+use pcef_gx::{GxFault, Order, Orders, Problem, THREE_GPP, example};
+use pcef_gx_messages::{Answer, AnswerRoom, Identity, Outcome, proxies_in, refuse};
 use pcef_gx_orders::{CarriedOut, NamedOrder, carry_out, with_names};
 use pcef_rule::Qos;
 use pcef_world::WorldState;
@@ -21,8 +23,9 @@ use std::alloc::{AllocError, Global};
 /// What a RAR leaves to the host.
 #[derive(Drop)]
 pub struct LeftToHost {
-    /// The numbers of the event triggers beside those that a session has: the host watches for them.
-    pub others: Vec<u32>,
+    /// Where the message names event triggers, the numbers of those that a session doesn't have: the host watches for
+    /// them, and for no other, from then on.
+    pub others: Option<Vec<u32>>,
     /// The QCI and the ARP that the default bearer is to have, where the PCRF says so.
     pub default_qos: Option<Qos>,
     /// Why the session is to end, where the PCRF ends it: the Session-Release-Cause.
@@ -42,7 +45,7 @@ pub struct AnsweredRar {
 /// of more than 4,000,000, which no message of at most 65,536 asks for.
 pub(crate) fn room_of(orders: &[NamedOrder]) -> Result<usize, AllocError>
     ensures room { IfOk result (λ octets. HaveRoom orders.now octets) }
-    ensures most { IfOk result (λ octets. octets ≤ most_room) }
+    ensures most { IfOk result (λ octets. octets + 65536 ≤ most_room) }
 {
     let mut octets: usize = 0;
     for named in orders {
@@ -53,19 +56,6 @@ pub(crate) fn room_of(orders: &[NamedOrder]) -> Result<usize, AllocError>
         octets += len + 68;
     }
     Ok(octets)
-}
-
-/// An AVP of 3GPP whose data are a word, with zeros.
-fn example(code: Code) -> Avp<'static>
-    ensures { shown result ≡ example_of code }
-{
-    Avp {
-        code: code.number,
-        vendor: Some(THREE_GPP),
-        mandatory: true,
-        protected: false,
-        octets: &[0, 0, 0, 0],
-    }
 }
 
 /// The AVP that a refused order came from.
@@ -99,45 +89,110 @@ fn told<'a>(done: &CarriedOut<'a, '_>) -> Outcome<'a>
     }
 }
 
+/// Whether an order is a subscription to events.
+fn is_triggers(order: &Order) -> bool
+    ensures { result ≡ is_triggers order.now }
+{
+    matches!(order, Order::Triggers(_))
+}
+
+/// Whether a message names event triggers.
+fn names_triggers(orders: &[Order]) -> bool
+    ensures { result ≡ list_any is_triggers orders.now }
+{
+    for order in orders {
+        if is_triggers(order) {
+            return true;
+        }
+    }
+    false
+}
+
+/// The orders of a message, and what it leaves to the host. Takes no memory.
+pub fn apart(asked: Orders<'_>) -> (Vec<Order<'_>>, LeftToHost)
+    ensures orders { result.0.items ≡ asked.entry.orders.items }
+    ensures left { left_by result.1 ≡ asked_beside (messages.asked asked.entry) }
+{
+    let Orders {
+        orders,
+        others,
+        default_qos,
+        release,
+    } = asked;
+    let others = if names_triggers(&orders) {
+        Some(others)
+    } else {
+        None
+    };
+    let left = LeftToHost {
+        others,
+        default_qos,
+        release,
+    };
+    (orders, left)
+}
+
+/// What an answer needs of its request.
+#[derive(Clone, Copy)]
+struct Asker<'a> {
+    identity: &'a Identity<'a>,
+    header: &'a MessageHeader,
+    back: &'a [u8],
+}
+
+/// What goes back of a request.
+fn back_of(alloc: Global, message: &[u8]) -> Result<Vec<u8>, AllocError>
+    requires { 20 ≤ length message.now }
+    ensures back { IfOk result (λ back. GoesBackOf message.now back.items) }
+    ensures room { IfOk result (λ back. length back.items ≤ 65536) }
+{
+    if message.len() > MAX_MESSAGE {
+        return Ok(Vec::new(alloc));
+    }
+    proxies_in(alloc, message.split_at(HEADER_LEN).1)
+}
+
 /// Does orders, and answers.
 fn do_orders<C: Detects>(
     alloc: Global,
     catalog: &C,
     world: &mut WorldState,
-    identity: &Identity,
-    header: &MessageHeader,
+    asker: &Asker,
     orders: &[NamedOrder],
 ) -> Result<Answer, AllocError>
     requires offered { C.offers catalog.now ≡ world.old.session.setting.catalog }
-    requires command { header.now.command < 2 ^ 24 }
-    ensures answer { IfOk result (λ a.
-        DoesOrders identity.now header.now orders.now world.old a world.new) }
+    requires command { asker.now.header.now.command < 2 ^ 24 }
+    requires back { length asker.now.back.now ≤ 65536 }
+    ensures answer { IfOk result (λ a. DoesOrders (asker_of asker.now) orders.now world.old a world.new) }
     ensures lacks { IfErr result (λ _. world.new ≡ world.old) }
     ensures workers { world.new.workers ≡ world.old.workers }
     ensures setting { world.new.session.setting ≡ world.old.session.setting }
     ensures forgotten { world.new.session.forgotten ≡ world.old.session.forgotten }
 {
-    let room = AnswerRoom::new(alloc, room_of(orders)?)?;
+    let octets = room_of(orders)?;
+    let room = AnswerRoom::new(alloc, octets + asker.back.len())?;
     let done = carry_out(alloc, catalog, world, orders)?;
-    Ok(room.answer(identity, header, &told(&done), &done.reports))
+    Ok(room.answer(
+        asker.identity,
+        asker.header,
+        &told(&done),
+        &done.reports,
+        asker.back,
+    ))
 }
 
 /// An answer that leaves nothing to the host.
-fn refused(
-    alloc: Global,
-    identity: &Identity,
-    header: &MessageHeader,
-    outcome: &Outcome,
-) -> Result<AnsweredRar, AllocError>
-    requires { header.now.command < 2 ^ 24 }
-    ensures answer { IfOk result (λ a.
-        a.answer ≡ answered identity.now header.now (told_of outcome.now) []) }
+fn refused(alloc: Global, asker: &Asker, outcome: &Outcome) -> Result<AnsweredRar, AllocError>
+    requires command { asker.now.header.now.command < 2 ^ 24 }
+    requires back { length asker.now.back.now ≤ 65536 }
+    ensures answer { IfOk result (λ a. a.answer
+        ≡ answered asker.now.identity.now asker.now.header.now (told_of outcome.now) [] asker.now.back.now) }
     ensures left { IfOk result (λ a. left_by a.left ≡ nothing_left) }
 {
     Ok(AnsweredRar {
-        answer: refuse(alloc, identity, header, outcome)?,
+        answer: refuse(alloc, asker.identity, asker.header, outcome, asker.back)?,
         left: LeftToHost {
-            others: Vec::new(alloc),
+            others: None,
             default_qos: None,
             release: None,
         },
@@ -149,14 +204,14 @@ fn obey<C: Detects>(
     alloc: Global,
     catalog: &C,
     world: &mut WorldState,
-    identity: &Identity,
-    header: &MessageHeader,
+    asker: &Asker,
     asked: Orders,
 ) -> Result<AnsweredRar, AllocError>
     requires offered { C.offers catalog.now ≡ world.old.session.setting.catalog }
-    requires command { header.now.command < 2 ^ 24 }
+    requires command { asker.now.header.now.command < 2 ^ 24 }
+    requires back { length asker.now.back.now ≤ 65536 }
     ensures answer { IfOk result (λ a.
-        Obeys (is_ended world.old) identity.now header.now asked.entry.orders.items world.old a.answer world.new) }
+        Obeys (is_ended world.old) (asker_of asker.now) asked.entry.orders.items world.old a.answer world.new) }
     ensures left { IfOk result (λ a.
         left_by a.left ≡ left_of (is_ended world.old) (messages.asked asked.entry)) }
     ensures lacks { IfErr result (λ _. world.new ≡ world.old) }
@@ -165,16 +220,13 @@ fn obey<C: Detects>(
     ensures forgotten { world.new.session.forgotten ≡ world.old.session.forgotten }
 {
     if world.session().is_ended() {
-        return refused(alloc, identity, header, &Outcome::UnknownSession);
+        return refused(alloc, asker, &Outcome::UnknownSession);
     }
-    let named = with_names(alloc, asked.orders)?;
+    let (orders, left) = apart(asked);
+    let named = with_names(alloc, orders)?;
     Ok(AnsweredRar {
-        answer: do_orders(alloc, catalog, world, identity, header, &named)?,
-        left: LeftToHost {
-            others: asked.others,
-            default_qos: asked.default_qos,
-            release: asked.release,
-        },
+        answer: do_orders(alloc, catalog, world, asker, &named)?,
+        left,
     })
 }
 
@@ -183,8 +235,9 @@ fn obey<C: Detects>(
 /// of [`read_request`], or where the session was closed or terminated, and then nothing changes. Else its orders are
 /// done, as [`pcef_gx_orders::carry_out`] does them, and the answer has a Charging-Rule-Report for each rule that
 /// couldn't be had; an order that names no rule and is refused is DIAMETER_UNABLE_TO_COMPLY, with its AVP. The answer
-/// has the identifiers of the request. Takes memory before anything is done: an `Err` is its want, and nothing has
-/// changed. Where memory is wanting for a rule, the rule couldn't be had.
+/// has the identifiers of the request, and its Proxy-Infos. Takes memory before anything is done: an `Err` is its want,
+/// and nothing has changed. Where memory is wanting for a rule, the rule couldn't be had.
+#[tactic(auto, unfolding(crate::specs::Rars::AnswersRar))]
 pub fn answer_rar<C: Detects>(
     alloc: Global,
     catalog: &C,
@@ -204,9 +257,36 @@ pub fn answer_rar<C: Detects>(
     ensures setting { world.new.session.setting ≡ world.old.session.setting }
     ensures forgotten { world.new.session.forgotten ≡ world.old.session.forgotten }
 {
+    let back = back_of(alloc, message)?;
+    let asker = Asker {
+        identity,
+        header,
+        back: &back,
+    };
     match read_request(alloc, identity, header, message) {
-        Ok(asked) => obey(alloc, catalog, world, identity, header, asked),
-        Err(Halt::Refused(outcome)) => refused(alloc, identity, header, &outcome),
+        Ok(asked) => obey(alloc, catalog, world, &asker, asked),
+        Err(Halt::Refused(outcome)) => refused(alloc, &asker, &outcome),
+        Err(Halt::NoMemory) => Err(AllocError),
+    }
+}
+
+/// Answers a request where there is no session: by the first reason of [`read_request`], or by
+/// DIAMETER_UNKNOWN_SESSION_ID. Takes memory; an `Err` is want of it.
+pub(crate) fn answer_unknown(
+    alloc: Global,
+    identity: &Identity,
+    header: &MessageHeader,
+    message: &[u8],
+) -> Result<Answer, AllocError>
+    requires request { header.now.request ≡ true }
+    requires command { header.now.command < 2 ^ 24 }
+    requires whole { 20 ≤ length message.now }
+    ensures { IfOk result (λ a. RefusesUnknown identity.now header.now message.now a) }
+{
+    let back = back_of(alloc, message)?;
+    match read_request(alloc, identity, header, message) {
+        Ok(_) => refuse(alloc, identity, header, &Outcome::UnknownSession, &back),
+        Err(Halt::Refused(outcome)) => refuse(alloc, identity, header, &outcome, &back),
         Err(Halt::NoMemory) => Err(AllocError),
     }
 }

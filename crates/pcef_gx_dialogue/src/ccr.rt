@@ -80,6 +80,16 @@ impl Ccrs {
         }
     }
 
+    /// What the CCR that is out is for. Takes no memory.
+    pub fn kind(&self) -> Option<RequestKind>
+        ensures { result ≡ option_map (λ o. o.kind) self.now.out }
+    {
+        match &self.out {
+            Some(out) => Some(out.kind),
+            None => None,
+        }
+    }
+
     /// Sends a CCR with these AVPs, where none is out (TS 29.212, clause 5.6.2). Its CC-Request-Number is the next one,
     /// from 0 on, and what it tells isn't told before it was answered. A refusal changes nothing. Takes memory.
     pub fn send(

@@ -19,11 +19,11 @@ mod laws;
 mod party;
 mod responder;
 
-pub use answering::{AnsweredRar, LeftToHost, answer_rar};
+pub use answering::{AnsweredRar, LeftToHost, answer_rar, apart};
 pub use asking::read_request;
 pub use cca::{CcaDrop, Says, read_answer};
 pub use ccr::{Ccrs, SendRefusal};
-pub use granting::{Granted, do_grant};
+pub use granting::{Grant, do_grant};
 pub use halt::Halt;
 pub use laws::ccrs_add_up;
 pub use party::Party;

@@ -1,10 +1,10 @@
 //! The answers to the RARs of one session, of which the last one is remembered.
 
 ghost use Rattle.std.specs.Prelude.{◌≡◌, ◌<◌, ◌≤◌, ◌^◌, IfErr, IfOk, None, Some, length, option_map, true};
-ghost use Rattle.pcef_gx_dialogue.specs.Repeats.{AnswersOnce, is_from, is_last, origin_of, repeated};
+ghost use Rattle.pcef_gx_dialogue.specs.Repeats.{AnswersOnce, AnswersUnknown, is_from, is_last, origin_of, repeated};
 ghost use Rattle.pcef_gx_dialogue.specs.private.Lasts.{last_of};
 
-use crate::answering::{LeftToHost, answer_rar};
+use crate::answering::{LeftToHost, answer_rar, answer_unknown};
 use crate::party::Party;
 use pcef_catalog::Detects;
 use pcef_diameter::{HEADER_LEN, MessageHeader};
@@ -182,5 +182,30 @@ impl Responder {
         )?;
         self.remember(header, origin, done.answer);
         Ok(RarDone::Done(done.left))
+    }
+    /// Answers a RAR with this header where there is no session: it is refused by the first reason of
+    /// [`crate::read_request`], or by DIAMETER_UNKNOWN_SESSION_ID. The answer stays for [`Responder::reply`], and one that
+    /// comes again is answered again, as by [`Responder::rar`]. Takes memory; an `Err` is its want, and nothing has
+    /// changed.
+    pub fn unknown(
+        &mut self,
+        alloc: Global,
+        header: &MessageHeader,
+        message: &[u8],
+    ) -> Result<(), AllocError>
+        requires request { header.now.request ≡ true }
+        requires command { header.now.command < 2 ^ 24 }
+        requires whole { 20 ≤ length message.now }
+        ensures answer { IfOk result (λ _. AnswersUnknown header.now message.now self.old self.new) }
+        ensures lacks { IfErr result (λ _. self.new ≡ self.old) }
+    {
+        let origin = origin_of(alloc, message)?;
+        if self.is_last(header, &origin) {
+            self.repeat(header);
+            return Ok(());
+        }
+        let answer = answer_unknown(alloc, &self.party.identity(), header, message)?;
+        self.remember(header, origin, answer);
+        Ok(())
     }
 }

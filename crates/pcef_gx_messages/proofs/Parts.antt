@@ -3,16 +3,13 @@ use Rattle.std.proofs.Common.{◌≡◌, ◌≤◌, ◌+◌, ◌++◌, ℕ, List
 use Rattle.std.specs.Prelude.{OnOk}
 use Rattle.std.specs.declared.alloc.AllocError.{AllocError}
 use Rattle.std.proofs.lemmas.List.{length-append}
-use Rattle.std.proofs.lemmas.List.Concat.{flat_map-append}
 use Rattle.pcef_diameter.specs.Avps.{Shown}
 use Rattle.pcef_diameter.specs.Spellings.{avp_len, avp_octets, avps_octets}
 use Rattle.pcef_diameter.proofs.Again.{avp_octets_len}
+use Rattle.pcef_diameter.proofs.Parts.{parts_octets}
 use Rattle.pcef_diameter.specs.Headers.{header_octets}
 use Rattle.pcef_diameter.specs.Numbers.{octets_of}
 use Rattle.pcef_diameter.specs.declared.header.MessageHeader.{MessageHeader}
-
-pub parts_octets : (front behind : List Shown) → avps_octets (front ++ behind) ≡ avps_octets front ++ avps_octets behind
-parts_octets front behind = flat_map-append avp_octets front behind
 
 twenty : (h : MessageHeader) → length (header_octets h) ≡ 20
 unfolding octets_of

@@ -1,2 +1,3 @@
 pub mod Identities
+pub mod Proxies
 pub mod Sent

@@ -1,12 +1,12 @@
 -- The messages of Gx that a PCEF sends (TS 29.212, clauses 5.6.2 and 5.6.5).
-use Rattle.std.specs.Prelude.{ℕ, ◌≤◌, ◌+◌, ◌++◌, Bool, true, false, List, [], ◌∷◌, length}
+use Rattle.std.specs.Prelude.{ℕ, ◌≤◌, ◌+◌, ◌++◌, Bool, true, false, List, [], ◌∷◌, length, map}
 use Rattle.pcef_diameter.specs.Avps.{Shown, shown}
 use Rattle.pcef_diameter.specs.Headers.{header_octets}
 use Rattle.pcef_diameter.specs.Spellings.{avp_len, avps_octets}
 use Rattle.pcef_diameter.specs.declared.header.MessageHeader.{MessageHeader}
 use Rattle.pcef_gx.specs.Codes.{auth_application_id, cc_request_number, cc_request_type, destination_realm, experimental_result, experimental_result_code, failed_avp, origin_host, origin_realm, result_code, session_id, vendor_id}
 use Rattle.pcef_gx.specs.Failures as failures
-use Rattle.pcef_gx.specs.Writing.{avp_of, group_avp, number_avp}
+use Rattle.pcef_gx.specs.Writing.{avp_of, group_avp, number_avp, report_avp}
 use Rattle.pcef_gx.specs.declared.fault.Problem.{Problem}
 use Rattle.pcef_gx.specs.declared.writing.RuleReport.{RuleReport}
 use Rattle.pcef_gx.specs.declared.fault.Problem.TheVariants as problem
@@ -127,10 +127,12 @@ answer_with request is_error avps = record {
   message = header_octets (answer_header request is_error (20 + length avps)) ++ avps;
 }
 
--- the answer to a request, with these AVPs behind its own
-abbrev pub answered : Speaker → MessageHeader → Told → List Shown → Answered
-answered s request told others =
-    answer_with request (is_protocol_error told) (avps_octets (answer_avps s told) ++ avps_octets others)
+-- the answer to a request: its own AVPs, the Charging-Rule-Reports of rules that couldn't be had, and what goes back of
+-- the request, as octets
+abbrev pub answered : Speaker → MessageHeader → Told → List RuleReport → List ℕ → Answered
+answered s request told reports back =
+    answer_with request (is_protocol_error told)
+    (avps_octets (answer_avps s told) ++ (avps_octets (map report_avp reports) ++ back))
 
 -- the same answer to the request that came again, whose identifiers may be others
 abbrev pub answered_again : MessageHeader → Answered → Answered

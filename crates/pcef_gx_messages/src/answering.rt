@@ -161,6 +161,18 @@ pub fn put_reports(parts: &mut Vec<u8>, out: &mut Vec<u8>, reports: &[RuleReport
     }
 }
 
+/// Writes what goes back of a request behind AVPs, where there is room for it.
+fn put_back(out: &mut Vec<u8>, back: &[u8])
+    requires { length out.old.items + length back.now ≤ vec_capacity out.old }
+    ensures written { out.new.items ≡ out.old.items ++ back.now }
+    ensures capacity { vec_capacity out.old ≤ vec_capacity out.new }
+{
+    match out.extend_from_slice(back) {
+        Ok(()) => {}
+        Err(_) => unreachable!(),
+    }
+}
+
 /// Memory for an answer, which is taken before that is done of which the answer tells. Contracts see for how many octets
 /// beside its own it is enough.
 #[derive(Drop)]
@@ -186,7 +198,7 @@ impl Model for AnswerRoom {
 
 impl AnswerRoom {
     /// Memory for an answer with so many octets beside its own, at most 8,388,608: those of its reports (68 for each,
-    /// beside its name) and of an AVP at fault (18 beside it). An `Err` is want of it.
+    /// beside its name), of an AVP at fault (18 beside it), and of what goes back. An `Err` is want of it.
     pub fn new(alloc: Global, octets: usize) -> Result<AnswerRoom, AllocError>
         requires { octets ≤ most_room }
         ensures { IfOk result (λ room. room ≡ octets) }
@@ -200,21 +212,22 @@ impl AnswerRoom {
         })
     }
 
-    /// The answer to a request: its own AVPs, and a Charging-Rule-Report for each of these behind them (RFC 6733, clause
-    /// 6.2; TS 29.212, clause 5.6.5). The AVP of a fault has at most 65,548 octets, the name of a rule at most 65,536.
-    /// Takes no memory.
+    /// The answer to a request: its own AVPs, a Charging-Rule-Report for each of these, and what goes back, as
+    /// [`crate::proxies_in`] has it (RFC 6733, clause 6.2; TS 29.212, clause 5.6.5). The AVP of a fault has at most
+    /// 65,548 octets, the name of a rule at most 65,536. Takes no memory.
     pub fn answer(
         self,
         identity: &Identity,
         request: &MessageHeader,
         outcome: &Outcome,
         reports: &[RuleReport],
+        back: &[u8],
     ) -> Answer
         requires command { request.now.command < 2 ^ 24 }
         requires fault { IsShortFault (told_of outcome.now) }
         requires names { All IsShortReport reports.now }
-        requires room { failed_room (told_of outcome.now) + sum_by report_room reports.now ≤ self }
-        ensures { result ≡ answered identity.now request.now (told_of outcome.now) (map report_avp reports.now) }
+        requires room { failed_room (told_of outcome.now) + (sum_by report_room reports.now + length back.now) ≤ self }
+        ensures { result ≡ answered identity.now request.now (told_of outcome.now) reports.now back.now }
     {
         let AnswerRoom {
             octets: _,
@@ -225,6 +238,7 @@ impl AnswerRoom {
         avps.clear();
         put_avps(&mut parts, &mut avps, identity, outcome);
         put_reports(&mut parts, &mut avps, reports);
+        put_back(&mut avps, back);
         let is_error = outcome.is_protocol_error();
         message.clear();
         put_message(
@@ -300,7 +314,7 @@ fn answer_header(request: &MessageHeader, is_error: bool, len: usize) -> Message
 fn failed_room(outcome: &Outcome) -> Option<usize>
     ensures short { IfSome result (λ room. IsShortFault (told_of outcome.now)) }
     ensures room { IfSome result (λ room. room ≡ failed_room (told_of outcome.now)) }
-    ensures most { IfSome result (λ room. room ≤ most_room) }
+    ensures most { IfSome result (λ room. room ≤ 65566) }
 {
     let Outcome::Fault(fault) = outcome else {
         return Some(0);
@@ -312,20 +326,23 @@ fn failed_room(outcome: &Outcome) -> Option<usize>
     Some(len + 18)
 }
 
-/// The answer that refuses a request as a whole, as [`AnswerRoom::answer`] without reports. Takes memory; an `Err` is
-/// want of it, or a fault of an AVP of more than 65,548 octets, which no message of at most 65,536 has.
+/// The answer that refuses a request as a whole, as [`AnswerRoom::answer`] without reports; at most 65,536 octets go
+/// back. Takes memory; an `Err` is want of it, or a fault of an AVP of more than 65,548 octets, which no message of at
+/// most 65,536 has.
 pub fn refuse(
     alloc: Global,
     identity: &Identity,
     request: &MessageHeader,
     outcome: &Outcome,
+    back: &[u8],
 ) -> Result<Answer, AllocError>
-    requires { request.now.command < 2 ^ 24 }
-    ensures { IfOk result (λ a. a ≡ answered identity.now request.now (told_of outcome.now) []) }
+    requires command { request.now.command < 2 ^ 24 }
+    requires back { length back.now ≤ 65536 }
+    ensures { IfOk result (λ a. a ≡ answered identity.now request.now (told_of outcome.now) [] back.now) }
 {
     let Some(octets) = failed_room(outcome) else {
         return Err(AllocError);
     };
-    let room = AnswerRoom::new(alloc, octets)?;
-    Ok(room.answer(identity, request, outcome, &[]))
+    let room = AnswerRoom::new(alloc, octets + back.len())?;
+    Ok(room.answer(identity, request, outcome, &[], back))
 }

@@ -20,8 +20,9 @@ fn command_answer(answer: Result<StepAnswer, AllocError>) -> Result<Accepted, Re
     }
 }
 
-/// Does a command.
-fn command<C: Detects>(
+/// Does a command of a session that stands with its workers, and answers it, as [`WorldState::step`]; want of memory is
+/// [`Refusal::NoMemory`]. Takes memory.
+pub fn command<C: Detects>(
     catalog: &C,
     world: &mut WorldState,
     asked: Command,

@@ -14,5 +14,6 @@ mod finding;
 mod naming;
 
 pub use carrying::{CarriedOut, carry_out};
+pub use commanding::command;
 pub use fate::Fate;
 pub use naming::{NamedOrder, with_names};

@@ -1,4 +1,3 @@
 pub mod Commands
-pub mod Echoes
 pub mod Rooms
 pub mod Streams

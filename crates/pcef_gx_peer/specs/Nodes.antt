@@ -1,15 +1,16 @@
 -- What a node answers for itself (RFC 6733, clauses 5.4.2, 5.5.2, 6.2 and 7.2).
-use Rattle.std.specs.Prelude.{◌≡◌, ℕ, ◌≤◌, ◌+◌, ◌++◌, true, false, List, [], ◌∷◌, length, filter, Option, Some, None}
+use Rattle.std.specs.Prelude.{◌≡◌, ℕ, ◌≤◌, ◌+◌, ◌++◌, true, false, List, [], ◌∷◌, length, Option, Some, None}
 use Rattle.std.specs.List.{find}
 use Rattle.pcef_diameter.specs.Avps.{Reads, Shown}
 use Rattle.pcef_diameter.specs.Headers.{header_octets}
 use Rattle.pcef_diameter.specs.Spellings.{avps_octets}
 use Rattle.pcef_diameter.specs.declared.fault.AvpFault.{AvpFault}
 use Rattle.pcef_diameter.specs.declared.header.MessageHeader.{MessageHeader}
-use Rattle.pcef_gx.specs.Codes.{has_code, ietf, origin_host, origin_realm, result_code, session_id}
+use Rattle.pcef_gx.specs.Codes.{has_code, origin_host, origin_realm, result_code, session_id}
 use Rattle.pcef_gx.specs.Writing.{avp_of, number_avp}
 use Rattle.pcef_gx.specs.declared.code.Code.{Code}
 use Rattle.pcef_gx_messages.specs.Identities.{most_octets}
+use Rattle.pcef_gx_messages.specs.Proxies.{proxies}
 use Rattle.pcef_gx_messages.specs.Sent.{answer_header}
 use Rattle.pcef_gx_peer.specs.Kinds.{error_number}
 use Rattle.pcef_gx_peer.specs.declared.kind.ProtocolError.{ProtocolError}
@@ -37,10 +38,6 @@ abbrev pub success_octets : Origin → MessageHeader → List ℕ
 success_octets o request = message_octets (answer_header request false) (told_avps o 2001)
 
 -- ---- errors
--- Proxy-Info (clause 6.7.2)
-abbrev pub proxy_info : Code
-proxy_info = ietf 284
-
 abbrev pub where_found : Option Shown → List Shown
 where_found (Some a) = a ∷ []
 where_found None = []
@@ -49,7 +46,7 @@ where_found None = []
 abbrev pub error_avps : Origin → ProtocolError → List Shown → List Shown
 error_avps o error asked =
     where_found (find (has_code session_id) asked)
-    ++ (told_avps o (error_number error) ++ filter (has_code proxy_info) asked)
+    ++ (told_avps o (error_number error) ++ proxies asked)
 
 abbrev pub error_octets : Origin → MessageHeader → ProtocolError → List Shown → List ℕ
 error_octets o request error asked = message_octets (answer_header request true) (error_avps o error asked)

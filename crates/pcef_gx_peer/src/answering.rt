@@ -1,11 +1,11 @@
 //! The answers of a node itself.
 
-ghost use Rattle.std.specs.Prelude.{◌≡◌, ◌<◌, ◌≤◌, ◌+◌, ◌++◌, ◌^◌, IfOk, OnOk, filter, length, map};
+ghost use Rattle.std.specs.Prelude.{◌≡◌, ◌<◌, ◌≤◌, ◌+◌, ◌++◌, ◌^◌, IfOk, OnOk, length, map};
 ghost use Rattle.std.specs.List.{find};
 ghost use Rattle.pcef_diameter.specs.Avps.{shown};
 ghost use Rattle.pcef_diameter.specs.Spellings.{avps_octets};
 ghost use Rattle.pcef_gx.specs.Codes.{has_code};
-ghost use Rattle.pcef_gx_peer.specs.Nodes.{Refuses, error_avps, proxy_info, success_octets, told_avps, where_found};
+ghost use Rattle.pcef_gx_peer.specs.Nodes.{Refuses, error_avps, success_octets, told_avps, where_found};
 
 use crate::kind::ProtocolError;
 use crate::node::{Node, put_origin};
@@ -13,13 +13,8 @@ use crate::sending::message;
 use pcef_diameter::{Avp, HEADER_LEN, MessageHeader, put_avp, read_avps};
 use pcef_gx::code::{RESULT_CODE, SESSION_ID};
 use pcef_gx::{Code, is, put_number};
+use pcef_gx_messages::put_proxies;
 use std::alloc::{AllocError, Global};
-
-/// Proxy-Info.
-const PROXY_INFO: Code = Code {
-    vendor: 0,
-    number: 284,
-};
 
 /// Writes a result, and who tells it.
 fn put_told(out: &mut Vec<u8>, node: &Node, result_code: u32) -> Result<(), AllocError>
@@ -69,21 +64,6 @@ fn put_first(out: &mut Vec<u8>, avps: &[Avp], code: Code) -> Result<(), AllocErr
     Ok(())
 }
 
-/// Writes each AVP of this code among some, in their order.
-fn put_each(out: &mut Vec<u8>, avps: &[Avp], code: Code) -> Result<(), AllocError>
-    requires { length (avps_octets (map shown avps.now)) ≤ 65536 }
-    ensures written { OnOk result (out.new.items ≡ out.old.items
-        ++ avps_octets (filter (has_code code) (map shown avps.now))) }
-    ensures room { OnOk result (length out.new.items ≤ length out.old.items + 65536) }
-{
-    for avp in avps {
-        if is(avp, code) {
-            put_avp(out, avp)?;
-        }
-    }
-    Ok(())
-}
-
 /// The AVPs of an error, as octets: the error, and what goes back of those of the request.
 fn error_avps(
     alloc: Global,
@@ -99,7 +79,7 @@ fn error_avps(
     let mut avps = Vec::new(alloc);
     put_first(&mut avps, asked, SESSION_ID)?;
     put_told(&mut avps, node, error.result_code())?;
-    put_each(&mut avps, asked, PROXY_INFO)?;
+    put_proxies(&mut avps, asked)?;
     Ok(avps)
 }
 

@@ -1,3 +1,2 @@
 pub mod AddsUp
-pub mod Joined
 pub mod Named

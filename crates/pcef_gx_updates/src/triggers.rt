@@ -103,7 +103,7 @@ fn put_trigger_if(out: &mut Vec<u8>, is: bool, number: u32) -> Result<(), AllocE
 }
 
 /// Writes the Event-Triggers of access events.
-#[tactic(auto, using(crate::proofs::Joined::parts_octets))]
+#[tactic(auto, using(pcef_diameter::proofs::Parts::parts_octets))]
 pub(crate) fn put_access_triggers(out: &mut Vec<u8>, reports: &[Report]) -> Result<(), AllocError>
     ensures { OnOk result (out.new.items
         ≡ out.old.items ++ avps_octets (access_triggers reports.now)) }
@@ -115,7 +115,7 @@ pub(crate) fn put_access_triggers(out: &mut Vec<u8>, reports: &[Report]) -> Resu
 }
 
 /// Writes the Event-Triggers of usage, and of a lost bearer where the PCRF asked for it.
-#[tactic(auto, using(crate::proofs::Joined::parts_octets))]
+#[tactic(auto, using(pcef_diameter::proofs::Parts::parts_octets))]
 pub(crate) fn put_other_triggers(
     out: &mut Vec<u8>,
     asks_for_loss: bool,

@@ -33,7 +33,7 @@ fn first_of(reports: &[Report]) -> &[Report]
 }
 
 /// The AVPs of these reports.
-#[tactic(auto, using(crate::proofs::Joined::parts_octets))]
+#[tactic(auto, using(pcef_diameter::proofs::Parts::parts_octets))]
 fn avps(alloc: Global, asks_for_loss: bool, reports: &[Report]) -> Result<Vec<u8>, AllocError>
     ensures { IfOk result (λ avps.
         avps.items ≡ avps_octets (update_avps asks_for_loss reports.now)) }

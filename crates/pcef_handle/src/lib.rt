@@ -26,5 +26,5 @@ pub use held::{Handle, OpenSession};
 pub use judging::{JudgeRefusal, Judgement};
 pub use line::CallRefusal;
 pub use naming::NameRefusal;
-pub use opening::OpenRefusal;
+pub use opening::{OpenRefusal, profile_of};
 pub use worker::{WorkerHandle, handles_are_send};

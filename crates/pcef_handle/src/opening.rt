@@ -36,8 +36,9 @@ pub enum OpenRefusal {
     NoMemory,
 }
 
-/// The profile of a text in octets.
-fn profile_of(alloc: Global, text: &[u8]) -> Result<Profile, OpenRefusal>
+/// The profile of a text in octets, or why it is none: [`OpenRefusal::NotUtf8`] or [`OpenRefusal::Profile`]. Takes
+/// memory while it reads.
+pub fn profile_of(alloc: Global, text: &[u8]) -> Result<Profile, OpenRefusal>
     ensures { ReadsProfile text.now result }
 {
     match str::from_utf8(text) {
@@ -66,28 +67,32 @@ fn world_of(
     }
 }
 
-/// The session of a profile, over the built-in rules.
-fn session_of(alloc: Global, number: u64, profile: Profile) -> Result<OpenSession, OpenRefusal>
-    ensures starts { StartsSession (setting_of profile built_in_offers) result }
-    ensures number { IfOk result (λ s. s.number ≡ number) }
-{
-    let Ok(catalog) = ShapedCatalog::built_in(alloc) else {
-        return Err(OpenRefusal::NoMemory);
-    };
-    let world = world_of(alloc, profile, &catalog)?;
-    Ok(OpenSession {
-        catalog,
-        world,
-        lines: LineReader::new(alloc),
-        number,
-    })
+impl OpenSession {
+    /// The session of a profile with this number, over the built-in predefined rules: its journal is empty, and no
+    /// worker is attached. Else why there is none: [`OpenRefusal::Session`] or [`OpenRefusal::NoMemory`]. Takes memory
+    /// for the session.
+    pub fn open(alloc: Global, number: u64, profile: Profile) -> Result<OpenSession, OpenRefusal>
+        ensures starts { StartsSession (setting_of profile built_in_offers) result }
+        ensures number { IfOk result (λ s. s.number ≡ number) }
+    {
+        let Ok(catalog) = ShapedCatalog::built_in(alloc) else {
+            return Err(OpenRefusal::NoMemory);
+        };
+        let world = world_of(alloc, profile, &catalog)?;
+        Ok(OpenSession {
+            catalog,
+            world,
+            lines: LineReader::new(alloc),
+            number,
+        })
+    }
 }
 
 fn open_session(alloc: Global, number: u64, text: &[u8]) -> Result<OpenSession, OpenRefusal>
     ensures opens { OpensText text.now result }
     ensures number { IfOk result (λ s. s.number ≡ number) }
 {
-    session_of(alloc, number, profile_of(alloc, text)?)
+    OpenSession::open(alloc, number, profile_of(alloc, text)?)
 }
 
 impl Handle {

@@ -81,7 +81,7 @@ fn rules_failed(alloc: Global) -> Result<String, AllocError> {
         return Ok(String::new(alloc));
     };
     let room = AnswerRoom::new(alloc, 73)?;
-    let answer = room.answer(&identity, &RAR, &Outcome::RulesFailed, &[REPORT]);
+    let answer = room.answer(&identity, &RAR, &Outcome::RulesFailed, &[REPORT], &[]);
     hex::encode(alloc, answer.octets())
 }
 
@@ -90,7 +90,10 @@ fn refused(alloc: Global, outcome: &Outcome) -> Result<String, AllocError> {
     let Some(identity) = identity() else {
         return Ok(String::new(alloc));
     };
-    hex::encode(alloc, refuse(alloc, &identity, &RAR, outcome)?.octets())
+    hex::encode(
+        alloc,
+        refuse(alloc, &identity, &RAR, outcome, &[])?.octets(),
+    )
 }
 
 /// The fault of a reserved bit in a Destination-Realm.
@@ -117,7 +120,7 @@ fn repeated(alloc: Global) -> Result<String, AllocError> {
     let Some(identity) = identity() else {
         return Ok(String::new(alloc));
     };
-    let mut answer = refuse(alloc, &identity, &RAR, &Outcome::Success)?;
+    let mut answer = refuse(alloc, &identity, &RAR, &Outcome::Success, &[])?;
     answer.repeat(&MessageHeader {
         hop_by_hop: 0x1234_5678,
         ..RAR

@@ -20,10 +20,10 @@ put_reports-requires-clause-parts g c =
 
 pub put_reports-requires-clause-out : goal.put_reports-requires-clause-out
 put_reports-requires-clause-out g c =
-    rw (c.deref.ensures.value, c.in_ok-reports.ensures.items)
+    rw c.deref.ensures.value
     (omega (
       arith,
-      c.in_ok-reports.ensures.capacity,
+      c.in_ok-reserve.ensures.ok,
       reports_have_room c.args.world.now.session.setting c.args.world.now.session.journal c.carry_out.new.world.session.journal
           c.args.orders.now c.in_ok-done.done.reports.items _ c.in_ok-octets.octets c.in_ok-done.ensures.done c.in_ok-octets.ensures.room,
     ))

@@ -1,7 +1,7 @@
 use Rattle.std.proofs.Common.{◌≤◌, arith, length, map}
 use Rattle.pcef_diameter.specs.Avps.{shown}
 use Rattle.pcef_diameter.specs.Spellings.{avps_octets}
-use Rattle.pcef_gx_peer.proofs.Echoes.{reads_len}
+use Rattle.pcef_diameter.proofs.Rooms.{reads_len}
 use Rattle.pcef_gx_peer.proofs.answering.error_answer.Goals as goal
 
 pub error_avps-requires : goal.error_avps-requires

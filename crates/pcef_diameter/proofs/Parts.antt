@@ -1,4 +1,4 @@
--- Octets of AVPs, joined.
+-- Octets of AVPs in parts.
 use Rattle.std.proofs.Common.{◌≡◌, ◌++◌, List}
 use Rattle.std.proofs.lemmas.List.Concat.{flat_map-append}
 use Rattle.pcef_diameter.specs.Avps.{Shown}
