@@ -1,5 +1,7 @@
 -- The CCRs of a session (TS 29.212, clauses 4.5.1, 4.5.3 and 4.5.7; RFC 8506, clause 8.2).
-use Rattle.std.specs.Prelude.{ℕ, ◌+◌, ◌==◌, ◌&&◌, Bool, false, bit_or, List, Option, Some, None, option_map, slice_index, slice_set, if◌then◌else◌}
+use Rattle.std.specs.Prelude.{ℕ, ◌≡◌, ◌+◌, ◌==◌, ◌&&◌, Bool, true, false, bit_or, List, Option, Some, None, is_some, option_map, slice_index, slice_set, if◌then◌else◌}
+use Rattle.pcef_gx_dialogue.specs.declared.ccr.SendRefusal.{SendRefusal}
+use Rattle.pcef_gx_dialogue.specs.declared.ccr.SendRefusal.TheVariants.{IsOut}
 use Rattle.pcef_gx_messages.specs.Identities.{Speaker}
 use Rattle.pcef_gx_messages.specs.Sent.{kind_number, request_octets}
 use Rattle.pcef_gx_messages.specs.declared.requesting.RequestKind.{RequestKind}
@@ -22,18 +24,22 @@ pub record Ccrs : Type 0 where
 abbrev pub at_first : Ccrs
 at_first = record { next = 0; told = 0; out = None }
 
--- a CCR goes out: numbers count from 0, and what it tells isn't told before it was answered
-abbrev pub sent : Speaker → RequestMark → RequestKind → Update → Ccrs → Ccrs
-sent s mark kind update c = record {
+-- a CCR goes out, with the octets of AVPs that tell so many reports: numbers count from 0, and what it tells isn't told
+-- before it was answered
+abbrev pub sent_with : Speaker → RequestMark → RequestKind → List ℕ → ℕ → Ccrs → Ccrs
+sent_with s mark kind avps count c = record {
   next = c.next + 1;
   told = c.told;
   out = Some (record {
     kind = kind;
     number = c.next;
-    past = c.told + update.count;
-    message = request_octets s mark kind c.next update.avps.items;
+    past = c.told + count;
+    message = request_octets s mark kind c.next avps;
   });
 }
+
+abbrev pub sent : Speaker → RequestMark → RequestKind → Update → Ccrs → Ccrs
+sent s mark kind update c = sent_with s mark kind update.avps.items update.count c
 
 -- The same octets with the T bit, 16 in the fifth octet: it may have been sent before (RFC 6733, clause 3).
 abbrev pub with_t_bit : List ℕ → List ℕ
@@ -61,3 +67,8 @@ past_of c (Some o) = o.past
 -- it was answered: with success, all that it tells is told; else it stays due
 abbrev pub answered_so : Bool → Ccrs → Ccrs
 answered_so success c = record { next = c.next; told = if success then past_of c c.out else c.told; out = None }
+
+-- why none goes out: one is out
+abbrev pub RefusesSend : SendRefusal → Ccrs → Type 0
+RefusesSend IsOut c = is_some c.out ≡ true
+RefusesSend _ c = c.out ≡ None

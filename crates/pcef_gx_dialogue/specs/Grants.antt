@@ -16,7 +16,7 @@ grant_by (Some asked) = CutShort
 
 -- They are done; nothing answers a CCA, so the reports of the rules that couldn't be had are for the next CCR, behind what
 -- is due already.
-abbrev pub DoesGrant : List Order → World → List ℕ → Grant → World → List ℕ → Type 0
+unfoldable pub DoesGrant : List Order → World → List ℕ → Grant → World → List ℕ → Type 0
 DoesGrant orders before due result after due_after =
     (reports : List RuleReport) × (refused : Option Order)
     × CarriesOut before.session.setting before.session.journal orders reports refused after.session.journal

@@ -80,7 +80,7 @@ abbrev pub AnswersBy : Bool → MessageHeader → List ℕ → Answering → Wor
 AnswersBy true h message before world result after world_after = AnswersAgain h before world result after world_after
 AnswersBy false h message before world result after world_after = AnswersNew h message before world result after world_after
 
-abbrev pub AnswersOnce : MessageHeader → List ℕ → Answering → World → RarDone → Answering → World → Type 0
+unfoldable pub AnswersOnce : MessageHeader → List ℕ → Answering → World → RarDone → Answering → World → Type 0
 AnswersOnce h message before world result after world_after =
     AnswersBy (comes_again before.last h message) h message before world result after world_after
 
@@ -90,5 +90,5 @@ UnknownBy true h message before after = after ≡ record before { last = option_
 UnknownBy false h message before after =
     (answer : Answered) × RefusesUnknown before.speaker h message answer × (after ≡ remembered h message answer before)
 
-abbrev pub AnswersUnknown : MessageHeader → List ℕ → Answering → Answering → Type 0
+unfoldable pub AnswersUnknown : MessageHeader → List ℕ → Answering → Answering → Type 0
 AnswersUnknown h message before after = UnknownBy (comes_again before.last h message) h message before after

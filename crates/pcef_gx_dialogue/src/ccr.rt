@@ -1,7 +1,7 @@
 //! The CCRs of a session: one is out at a time.
 
 ghost use Rattle.std.specs.Prelude.{◌≡◌, ◌≤◌, ◌+◌, IfErr, IfOk, OnErr, OnOk, None, false, length, option_map, true};
-ghost use Rattle.pcef_gx_dialogue.specs.Ccrs.{answered_so, at_first, given_up, is_answer, sent, sent_again, with_t_bit};
+ghost use Rattle.pcef_gx_dialogue.specs.Ccrs.{RefusesSend, answered_so, at_first, given_up, is_answer, sent, sent_again, with_t_bit};
 
 use pcef_gx_messages::{Identity, RequestKind, RequestMark, request};
 use pcef_gx_updates::Update;
@@ -102,6 +102,7 @@ impl Ccrs {
     ) -> Result<(), SendRefusal>
         ensures sent { OnOk result (self.new ≡ sent identity.now mark kind update.now self.old) }
         ensures alone { OnOk result (self.old.out ≡ None) }
+        ensures refusal { IfErr result (λ e. RefusesSend e self.old) }
         ensures unchanged { OnErr result (self.new ≡ self.old) }
     {
         if self.out.is_some() {

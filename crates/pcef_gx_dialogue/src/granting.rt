@@ -20,6 +20,7 @@ pub enum Grant {
     CutShort,
 }
 
+#[tactic(auto, unfolding(crate::specs::Grants::DoesGrant))]
 fn do_named<C: Detects>(
     alloc: Global,
     catalog: &C,

@@ -147,6 +147,7 @@ impl Responder {
     /// answered last, by its End-to-End Identifier and its Origin-Host, is answered again, with the identifiers that it
     /// has now, and nothing is done (RFC 6733, clause 5.5.4). Takes memory before anything is done: an `Err` is its
     /// want, and nothing has changed.
+    #[tactic(auto, unfolding(crate::specs::Repeats::AnswersOnce))]
     pub fn rar<C: Detects>(
         &mut self,
         alloc: Global,
@@ -187,6 +188,7 @@ impl Responder {
     /// [`crate::read_request`], or by DIAMETER_UNKNOWN_SESSION_ID. The answer stays for [`Responder::reply`], and one that
     /// comes again is answered again, as by [`Responder::rar`]. Takes memory; an `Err` is its want, and nothing has
     /// changed.
+    #[tactic(auto, unfolding(crate::specs::Repeats::AnswersUnknown))]
     pub fn unknown(
         &mut self,
         alloc: Global,

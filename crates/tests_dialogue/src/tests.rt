@@ -2,7 +2,9 @@
 
 mod changed;
 mod everything;
+mod handled;
 mod messages;
+mod one_session;
 mod orders;
 mod playing;
 mod refused;
