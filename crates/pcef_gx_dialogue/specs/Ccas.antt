@@ -1,6 +1,6 @@
 -- What an answer of the PCRF says to the CCR that is out (TS 29.212, clause 5.6.3; RFC 6733, clause 7.1). One at fault is
 -- dropped, for nothing answers an answer.
-use Rattle.std.specs.Prelude.{ℕ, ◌≡◌, ◌==◌, ◌||◌, not, Bool, true, false, nat_lt, is_none, is_some, List, drop, length, Option, Some, None, option_map, unwrap_or, Result, Ok, Err, if◌then◌else◌}
+use Rattle.std.specs.Prelude.{ℕ, ◌≡◌, ◌==◌, ◌&&◌, ◌||◌, not, Bool, true, false, nat_lt, is_none, is_some, List, drop, length, Option, Some, None, option_map, unwrap_or, Result, Ok, Err, if◌then◌else◌}
 use Rattle.std.specs.Option.{option_and_then}
 use Rattle.pcef_diameter.specs.Avps.{Shown, shown}
 use Rattle.pcef_diameter.specs.Headers.{header_fault}
@@ -115,5 +115,31 @@ cca_due reads s out h message = heard_due s out h message >>= λ heard. said rea
 abbrev pub SaysSo : Option ℕ → List Shown → Result Saying Dropped → Type 0
 SaysSo code avps due = (reads : FilterReading) × IsExact reads × (due ≡ said reads code avps)
 
+abbrev pub AvpsDue : Speaker → Option Out → MessageHeader → List ℕ → Result Saying Dropped → Type 0
+AvpsDue s out h message due = (reads : FilterReading) × IsExact reads × (due ≡ cca_due reads s out h message)
+
+-- ---- a failure: a node on the way refuses a CCR by an answer that has its identifiers, and may have neither its
+-- CC-Request-Type nor its CC-Request-Number (RFC 6733, clauses 6.2 and 7.2)
+abbrev pub has_identifiers : Option Out → MessageHeader → Bool
+has_identifiers None h = false
+has_identifiers (Some o) h = (o.hop_by_hop == h.hop_by_hop) && (o.end_to_end == h.end_to_end)
+
+unfoldable pub code_told : List ℕ → Result (Option ℕ) Dropped
+code_told message = under at_fault (group_of (drop 20 message)) >>= code_due
+
+-- Where its Result-Code can't be read, the E bit tells a failure.
+abbrev pub failure_by : Bool → Result (Option ℕ) Dropped → Option (Option ℕ)
+failure_by error (Ok code) = if is_success code then None else Some code
+failure_by error (Err dropped) = if error then Some None else None
+
+abbrev pub failure_of : Option Out → MessageHeader → List ℕ → Option (Option ℕ)
+failure_of out h message =
+    if is_cca h (length message) && has_identifiers out h then failure_by h.error (code_told message) else None
+
+-- what is due: the failure of the CCR that is out, else what the answer's AVPs say
+abbrev pub SaidBy : Option (Option ℕ) → Speaker → Option Out → MessageHeader → List ℕ → Result Saying Dropped → Type 0
+SaidBy (Some code) s out h message due = due ≡ Ok (failed code)
+SaidBy None s out h message due = AvpsDue s out h message due
+
 abbrev pub CcaDue : Speaker → Option Out → MessageHeader → List ℕ → Result Saying Dropped → Type 0
-CcaDue s out h message due = (reads : FilterReading) × IsExact reads × (due ≡ cca_due reads s out h message)
+CcaDue s out h message due = SaidBy (failure_of out h message) s out h message due

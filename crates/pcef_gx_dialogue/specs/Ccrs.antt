@@ -8,10 +8,13 @@ use Rattle.pcef_gx_messages.specs.declared.requesting.RequestKind.{RequestKind}
 use Rattle.pcef_gx_messages.specs.declared.requesting.RequestMark.{RequestMark}
 use Rattle.pcef_gx_updates.specs.declared.update.Update.{Update}
 
--- a CCR that is out: how many reports of the session are told once it was answered, and its octets
+-- a CCR that is out: what it is for, its CC-Request-Number, its identifiers, how many reports of the session are told once
+-- it was answered, and its octets
 pub record Out : Type 0 where
   pub kind : RequestKind
   pub number : ℕ
+  pub hop_by_hop : ℕ
+  pub end_to_end : ℕ
   pub past : ℕ
   pub message : List ℕ
 
@@ -33,6 +36,8 @@ sent_with s mark kind avps count c = record {
   out = Some (record {
     kind = kind;
     number = c.next;
+    hop_by_hop = mark.hop_by_hop;
+    end_to_end = mark.end_to_end;
     past = c.told + count;
     message = request_octets s mark kind c.next avps;
   });

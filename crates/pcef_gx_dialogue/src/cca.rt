@@ -1,11 +1,11 @@
 //! What an answer of the PCRF says.
 
-ghost use Rattle.std.specs.Prelude.{◌≡◌, ◌≤◌, Ok, Result, drop, length, map, true};
+ghost use Rattle.std.specs.Prelude.{◌≡◌, ◌≤◌, IfOk, Ok, Result, drop, length, map, true};
 ghost use Rattle.pcef_diameter.specs.Avps.{shown};
 ghost use Rattle.pcef_gx.specs.Messages.{Asked, CcaOf, asked};
 ghost use Rattle.pcef_gx.specs.Readings.{Fault, group_of, required_of};
 ghost use Rattle.pcef_lists.specs.Readings.{under};
-ghost use Rattle.pcef_gx_dialogue.specs.Ccas.{CcaDue, Dropped, DropsStop, Hears, Saying, answers_out, at_fault, SaysSo, code_due, heard_avps, heard_due, is_cca, is_success, number_in, saying_of};
+ghost use Rattle.pcef_gx_dialogue.specs.Ccas.{AvpsDue, CcaDue, Dropped, DropsStop, Hears, Saying, answers_out, at_fault, SaysSo, code_due, code_told, failure_by, failure_of, heard_avps, heard_due, is_cca, is_success, number_in, saying_of};
 ghost use Rattle.pcef_gx_dialogue.specs.declared.cca.CcaDrop.TheVariants.{NoMemory};
 
 use crate::asking::MAX_MESSAGE;
@@ -200,10 +200,72 @@ fn heard<'m>(
     Ok((avps, code))
 }
 
-/// What an answer with this header says to the CCR that is out (TS 29.212, clause 5.6.3): what the PCRF asks of the
-/// session, or that the CCR failed, where its Result-Code isn't DIAMETER_SUCCESS. It is dropped where it is no answer to
-/// that CCR (by its header, its Session-Id, its CC-Request-Type and its CC-Request-Number), or at fault: nothing answers
-/// an answer. Takes memory; its want may be answered in place of anything.
+/// What the AVPs of an answer with this header say.
+fn read_avps<'m>(
+    alloc: Global,
+    identity: &Identity,
+    ccrs: &Ccrs,
+    header: &MessageHeader,
+    message: &'m [u8],
+) -> Result<Says<'m>, CcaDrop<'m>>
+    requires { 20 ≤ length message.now }
+    ensures { (due : Result Saying Dropped) × AvpsDue identity.now ccrs.now.out header.now message.now due × Hears saying_of result due }
+{
+    match heard(alloc, identity, ccrs, header, message) {
+        Ok((avps, code)) => said(alloc, code, &avps),
+        Err(dropped) => Err(dropped),
+    }
+}
+
+/// The Result-Code of a message, where there is one.
+#[tactic(auto, unfolding(crate::specs::Ccas::code_told))]
+fn code_told<'m>(alloc: Global, message: &'m [u8]) -> Result<Option<u32>, CcaDrop<'m>>
+    requires { 20 ≤ length message.now }
+    ensures { Hears (λ code. code) result (code_told message.now) }
+{
+    let avps = avps_in(alloc, message)?;
+    code_in(&avps)
+}
+
+/// Whether an answer to the CCR that is out tells its failure, with its Result-Code where it can be read.
+fn failure_by(
+    alloc: Global,
+    header: &MessageHeader,
+    message: &[u8],
+) -> Result<Option<Option<u32>>, AllocError>
+    requires { 20 ≤ length message.now }
+    ensures { IfOk result (λ failure. failure ≡ failure_by header.now.error (code_told message.now)) }
+{
+    match code_told(alloc, message) {
+        Ok(code) if is_success(code) => Ok(None),
+        Ok(code) => Ok(Some(code)),
+        Err(CcaDrop::NoMemory) => Err(AllocError),
+        Err(_) if header.error => Ok(Some(None)),
+        Err(_) => Ok(None),
+    }
+}
+
+/// Whether a message tells the failure of the CCR that is out, by its identifiers.
+fn failure_of(
+    alloc: Global,
+    ccrs: &Ccrs,
+    header: &MessageHeader,
+    message: &[u8],
+) -> Result<Option<Option<u32>>, AllocError>
+    requires { 20 ≤ length message.now }
+    ensures { IfOk result (λ failure. failure ≡ failure_of ccrs.now.out header.now message.now) }
+{
+    if is_cca(header, message.len()) && ccrs.has_identifiers(header) {
+        return failure_by(alloc, header, message);
+    }
+    Ok(None)
+}
+
+/// What an answer with this header says to the CCR that is out (TS 29.212, clause 5.6.3). One with the identifiers of
+/// that CCR, and without DIAMETER_SUCCESS, is its failure, whatever else it has: a node on the way may have made it. Else
+/// its AVPs say what the PCRF asks of the session, or that the CCR failed. It is dropped where it is no answer to that
+/// CCR (by its header, its Session-Id, its CC-Request-Type and its CC-Request-Number), or at fault: nothing answers an
+/// answer. Takes memory; its want may be answered in place of anything.
 pub fn read_answer<'m>(
     alloc: Global,
     identity: &Identity,
@@ -214,8 +276,9 @@ pub fn read_answer<'m>(
     requires { 20 ≤ length message.now }
     ensures { (due : Result Saying Dropped) × CcaDue identity.now ccrs.now.out header.now message.now due × Hears saying_of result due }
 {
-    match heard(alloc, identity, ccrs, header, message) {
-        Ok((avps, code)) => said(alloc, code, &avps),
-        Err(dropped) => Err(dropped),
+    match failure_of(alloc, ccrs, header, message) {
+        Ok(Some(code)) => Ok(Says::Failed(code)),
+        Ok(None) => read_avps(alloc, identity, ccrs, header, message),
+        Err(_) => Err(CcaDrop::NoMemory),
     }
 }

@@ -1,8 +1,10 @@
 //! The CCRs of a session: one is out at a time.
 
 ghost use Rattle.std.specs.Prelude.{◌≡◌, ◌≤◌, ◌+◌, IfErr, IfOk, OnErr, OnOk, None, false, length, option_map, true};
+ghost use Rattle.pcef_gx_dialogue.specs.Ccas.{has_identifiers};
 ghost use Rattle.pcef_gx_dialogue.specs.Ccrs.{RefusesSend, answered_so, at_first, given_up, is_answer, sent, sent_again, with_t_bit};
 
+use pcef_diameter::MessageHeader;
 use pcef_gx_messages::{Identity, RequestKind, RequestMark, request};
 use pcef_gx_updates::Update;
 use std::alloc::Global;
@@ -28,6 +30,8 @@ pub enum SendRefusal {
 struct Out {
     kind: RequestKind,
     number: u32,
+    hop_by_hop: u32,
+    end_to_end: u32,
     past: u64,
     message: Vec<u8>,
 }
@@ -123,6 +127,8 @@ impl Ccrs {
         self.out = Some(Out {
             kind,
             number: self.next,
+            hop_by_hop: mark.hop_by_hop,
+            end_to_end: mark.end_to_end,
             past,
             message,
         });
@@ -153,6 +159,19 @@ impl Ccrs {
     {
         match &self.out {
             Some(out) => out.kind.number() == kind && out.number == number,
+            None => false,
+        }
+    }
+
+    /// Whether a header has the Hop-by-Hop Identifier and the End-to-End Identifier of the CCR that is out. Takes no
+    /// memory.
+    pub fn has_identifiers(&self, header: &MessageHeader) -> bool
+        ensures { result ≡ has_identifiers self.now.out header.now }
+    {
+        match &self.out {
+            Some(out) => {
+                out.hop_by_hop == header.hop_by_hop && out.end_to_end == header.end_to_end
+            }
             None => false,
         }
     }
