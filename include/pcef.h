@@ -279,6 +279,138 @@ size_t pcef_worker_rule(pcef_worker *worker, uint8_t place, uint8_t *name, size_
 /* Drops a worker whose session is closed, and frees its memory. Returns 1, or 0 where there was none. */
 uint8_t pcef_drop_worker(pcef_worker *worker);
 
+/* ---- Gx: a session's dialogue with its PCRF (TS 29.212)
+ *
+ * The dialogue lies at a handle of its own, beside that of the session, which opens when the PCRF has granted it. The
+ * host owns the connection, its peers and identifiers: it hands over whole messages, and sends those that it gets. In
+ * order: pcef_gx_set for each part; pcef_gx_open; pcef_gx_next, and the CCR-I is sent; pcef_gx_message for each message
+ * of the PCRF with this Session-Id, whose reply is sent; behind each message, line, flush and notice pcef_gx_next until
+ * it returns 0, and each CCR is sent; pcef_gx_end where the user leaves or the PCRF wants it; pcef_gx_close. Calls that
+ * name the session are under its lock. pcef_forget is for when pcef_gx_next has returned 0 and no CCR is out: a report
+ * that is forgotten before it was told is lost to the PCRF. */
+
+/* A handle over Gx. Only its address is known. */
+typedef struct pcef_gx pcef_gx;
+
+/* How many octets of memory a handle over Gx needs. */
+size_t pcef_gx_size(void);
+
+/* Makes memory a handle without a dialogue. What the memory held is forgotten, and not freed. Takes no memory. */
+void pcef_gx_room(pcef_gx *gx);
+
+/* Says a part of what the host knows of the session, before pcef_gx_open. It stays until it is said anew, or till
+ * pcef_gx_close. The first four have at most 1,024 octets. Takes memory. PCEF_OK, PCEF_GX_NO_PART,
+ * PCEF_OPEN_NO_MEMORY. */
+uint8_t pcef_gx_set(pcef_gx *gx, uint8_t part, const uint8_t *octets, size_t length);
+
+#define PCEF_GX_SESSION_ID 0
+#define PCEF_GX_ORIGIN_HOST 1
+#define PCEF_GX_ORIGIN_REALM 2
+#define PCEF_GX_DESTINATION_REALM 3
+#define PCEF_GX_AVPS 4 /* whole AVPs for the CCR-I: subscriber, APN, access; at most 65,536 octets */
+
+/* Begins a dialogue of a session that is to have the profile of a text: a CCR-I is due, which proposes its address and
+ * the QoS of its default bearer. Where the PCRF grants another QoS, the session gets that. Takes memory. PCEF_OK, or
+ * why none begins: the numbers of pcef_open, PCEF_ALREADY_OPEN where there is a dialogue, and the two below. */
+uint8_t pcef_gx_open(pcef_gx *gx, const uint8_t *profile, size_t profile_length);
+
+#define PCEF_GX_NOT_AVPS 10  /* the AVPs of the host aren't whole, or too many */
+#define PCEF_GX_NO_PART 11   /* of pcef_gx_set: no part has the number */
+#define PCEF_GX_LONG_PART 12 /* a part has more than 1,024 octets */
+
+/* Hears a message of the PCRF, whole as it came, in the session. A request has a reply then; the answer to the first
+ * CCR opens the session at its handle, which has none before. Returns what the message said, or why it isn't heard,
+ * and then nothing changes. Takes memory. */
+uint8_t pcef_gx_message(pcef_session *at, pcef_gx *gx, const uint8_t *octets, size_t length);
+
+#define PCEF_GX_ANSWERED 0       /* a request: send the reply */
+#define PCEF_GX_ANSWERED_AGAIN 1 /* a request that came again: send the reply; nothing was done */
+#define PCEF_GX_REFUSED 2        /* a request without a session: send the reply */
+#define PCEF_GX_TOLD 3           /* the CCR that was out succeeded, and what its answer asks for is done */
+#define PCEF_GX_CUT_SHORT 4      /* the same, but a key or an event couldn't be had: what stood behind it isn't done */
+#define PCEF_GX_ENDED 5          /* the CCR that was out succeeded; the session has ended */
+#define PCEF_GX_NOT_OPENED 6     /* no session can have the QoS that the PCRF wants: a CCR-T is due */
+#define PCEF_GX_FAILED 7         /* the CCR that was out failed: what it told stays due. A CCR-I isn't sent again */
+#define PCEF_GX_NO_DIALOGUE 32   /* from here on nothing has changed. The handle has no dialogue */
+#define PCEF_GX_NO_MESSAGE 33    /* fewer than 20 octets */
+#define PCEF_GX_NOT_OURS 34      /* no answer to the CCR that is out: drop it */
+#define PCEF_GX_AT_FAULT 35      /* an answer at fault: drop it */
+#define PCEF_GX_OTHER_SESSION 36 /* the handle has another session, or none */
+#define PCEF_GX_HAS_SESSION 37   /* the handle has a session before the dialogue has opened one */
+#define PCEF_GX_NO_MEMORY 38     /* hand the message over again */
+#define PCEF_GX_FORGOTTEN 39     /* of pcef_gx_next: a report that is to be told is forgotten */
+#define PCEF_GX_NO_NUMBER 40     /* of pcef_gx_next: no CC-Request-Number is left */
+#define PCEF_GX_WORKERS 41       /* of pcef_gx_end: workers are attached; each finishes first */
+#define PCEF_GX_NO_VALUE 42      /* of pcef_gx_notice: no octets, or too many */
+#define PCEF_GX_SESSION_REFUSES 43 /* of pcef_gx_notice: the session has ended, or takes no more commands */
+#define PCEF_GX_NO_EVENT 44      /* of pcef_gx_notice: no event has the number */
+
+/* What the last message left to the host. Which event triggers it has, and what charging and maximum rates it sets,
+ * stands in the message. */
+typedef struct {
+    uint32_t release;        /* where the PCRF ends the session: the Session-Release-Cause */
+    uint32_t result_code;    /* of PCEF_GX_FAILED: the Result-Code, where the answer has one */
+    uint8_t has_release;     /* 1: let each worker finish, and call pcef_gx_end */
+    uint8_t has_result_code; /* 1 where there is one */
+    uint8_t has_triggers;    /* 1: the events in the message are those to watch for from now on, and no others */
+} pcef_gx_rest;
+
+/* Writes what the last message that was heard left. Returns 1, or 0 where there is no dialogue, and nothing is written.
+ * Takes no memory. */
+uint8_t pcef_gx_left(pcef_gx *gx, pcef_gx_rest *rest);
+
+/* Writes the answer to the last request, as much as fits, and returns its length; 0 where there is none. It stays until
+ * the next request. Takes no memory. */
+size_t pcef_gx_reply(pcef_gx *gx, uint8_t *octets, size_t room);
+
+/* Sends the CCR that is due, where none is out: pcef_gx_request has its octets, with these identifiers. Its answer
+ * comes with the same two. Returns what the CCR is for, or 0 where none is due; else PCEF_GX_NO_DIALOGUE,
+ * _OTHER_SESSION, _FORGOTTEN, _NO_NUMBER, _NO_MEMORY. What it tells is told once it was answered with success. Takes
+ * memory. */
+uint8_t pcef_gx_next(pcef_session *at, pcef_gx *gx, uint32_t hop_by_hop, uint32_t end_to_end);
+
+#define PCEF_GX_INITIAL 1
+#define PCEF_GX_UPDATE 2
+#define PCEF_GX_TERMINATION 3
+
+/* Writes the CCR that is out, as much as fits, and returns its length; 0 where none is out. Takes no memory. */
+size_t pcef_gx_request(pcef_gx *gx, uint8_t *octets, size_t room);
+
+/* Marks the CCR that is out as one that may have been sent before, for a host that sends it once more. Returns 1, or 0
+ * where none is out. Takes no memory. */
+uint8_t pcef_gx_again(pcef_gx *gx);
+
+/* Gives the CCR that is out up: what it tells stays due, and a late answer is dropped. Returns 1, or 0 where none was
+ * out. Takes no memory. */
+uint8_t pcef_gx_give_up(pcef_gx *gx);
+
+/* Notices that the access of the session changed, by the data of the AVP that tells so: RAT-Type,
+ * 3GPP-SGSN-MCC-MNC, 3GPP-User-Location-Info or 3GPP-MS-TimeZone. Where the PCRF subscribed to the event, a CCR-U is
+ * due. Takes memory. PCEF_OK, PCEF_GX_OTHER_SESSION where there is none, PCEF_GX_NO_MEMORY, _NO_VALUE,
+ * _SESSION_REFUSES, _NO_EVENT. */
+uint8_t pcef_gx_notice(pcef_session *at, uint8_t event, const uint8_t *octets, size_t length);
+
+#define PCEF_GX_RAT_CHANGE 2
+#define PCEF_GX_PLMN_CHANGE 4
+#define PCEF_GX_USER_LOCATION_CHANGE 13
+#define PCEF_GX_UE_TIME_ZONE_CHANGE 25
+
+/* Ends the session: the user left, or the PCRF wants it. A CCR-T with the last usage is due then, before the session is
+ * closed by pcef_close. PCEF_OK, PCEF_GX_NO_DIALOGUE, _OTHER_SESSION, _WORKERS, _NO_MEMORY. Takes memory. */
+uint8_t pcef_gx_end(pcef_session *at, pcef_gx *gx);
+
+/* Where the dialogue stands, 0 where there is none. Takes no memory. */
+uint8_t pcef_gx_stage(pcef_gx *gx);
+
+#define PCEF_GX_OPENING 1 /* the PCRF hasn't granted the session yet */
+#define PCEF_GX_OPEN 2
+#define PCEF_GX_ENDING 3  /* the last usage is to be told */
+#define PCEF_GX_OVER 4
+
+/* Drops the dialogue, if there is one, and what the host said, and frees all their memory but the handle's own; the
+ * session stays. What isn't told then is lost to the PCRF. Returns 1, or 0 where there was no dialogue. */
+uint8_t pcef_gx_close(pcef_gx *gx);
+
 #ifdef __cplusplus
 }
 #endif

@@ -1,9 +1,13 @@
 pub mod Bearers
 pub mod Calls
 pub mod Counts
+pub mod GxCalls
+pub mod GxNumbers
+pub mod GxPorts
 pub mod Handles
 pub mod Judging
 pub mod Meeting
+pub mod Named
 pub mod Names
 pub mod Numbers
 pub mod Taking

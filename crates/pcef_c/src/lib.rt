@@ -5,7 +5,7 @@
 //! Its contracts say: those of `pcef_handle`, as C sees them, under the caller's obligations.
 //!
 //! In the order of reading: `numbers`, `judging`, `calls`, `taking`, `meeting`, `working`, `counts`, `bearers`, `names`,
-//! `exports`, `worker_exports`, `count_exports`.
+//! `exports`, `worker_exports`, `count_exports`, `gx_port`, `gx_numbers`, `gx_calls`, `gx_exports`.
 #![tactic(auto)]
 
 mod bearers;
@@ -13,6 +13,10 @@ mod calls;
 mod count_exports;
 mod counts;
 mod exports;
+mod gx_calls;
+mod gx_exports;
+mod gx_numbers;
+mod gx_port;
 mod judging;
 mod meeting;
 mod names;

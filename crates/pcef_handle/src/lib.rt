@@ -27,4 +27,5 @@ pub use judging::{JudgeRefusal, Judgement};
 pub use line::CallRefusal;
 pub use naming::NameRefusal;
 pub use opening::{OpenRefusal, profile_of};
+pub use text::copy_front;
 pub use worker::{WorkerHandle, handles_are_send};
