@@ -1,10 +1,11 @@
 //! Rules that definitions make, alone and of active rules.
-use super::expect_equal;
-use super::messages::{
+use super::hexadecimal::octets;
+use super::worked_messages::{
     A_LONG_NAME, A_REQUEST_THAT_REMOVES_RULES_AND_REPORTS_ALL, AN_ANSWER_WITH_A_DEFAULT_QOS,
 };
+use super::{Case, expect_equal, first_wrong};
 use pcef_diameter::HEADER_LEN;
-use pcef_gx::{Order, RuleChange, RuleFailure, complete, group, read_cca, read_rar};
+use pcef_gx::{Order, Orders, RuleChange, RuleFailure, complete, group, read_cca, read_rar};
 use pcef_packet::Addr;
 use pcef_rule::{Gate, Rule};
 use std::alloc::Global;
@@ -15,102 +16,138 @@ const V4: Addr = Addr::V4(0x0a00_0001);
 /// An address of version 6: 2001:db8::1.
 const V6: Addr = Addr::V6(0x2001_0db8_0000_0000_0000_0000_0000_0001);
 
-/// The last rule that a message defines, where it can be had.
-fn definition_in(alloc: Global, message: &str, is_request: bool) -> Option<RuleChange> {
-    let octets = hex::decode(alloc, message).ok()?;
-    let avps = group(alloc, octets.get(HEADER_LEN..)?).ok()?;
-    let read = if is_request {
-        read_rar(alloc, &avps)
+/// The precedence of a rule, its QCI, its gate, and how many filters.
+type Properties = (u32, u8, Gate, usize);
+
+/// A definition that makes a rule, or doesn't.
+struct Definition {
+    /// The address of the session.
+    ue: Addr,
+    /// The message that has it, as the last one.
+    message: &'static str,
+    is_request: bool,
+    /// Whether the rule of the first definition is active.
+    is_active: bool,
+    due: Result<Properties, RuleFailure>,
+}
+
+static DEFINITIONS: [Definition; 5] = [
+    Definition {
+        ue: V4,
+        message: A_LONG_NAME,
+        is_request: true,
+        is_active: false,
+        due: Ok((677_745_747, 7, Gate::Disabled, 1)),
+    },
+    // What a definition leaves out of an active rule stays.
+    Definition {
+        ue: V4,
+        message: AN_ANSWER_WITH_A_DEFAULT_QOS,
+        is_request: false,
+        is_active: true,
+        due: Ok((677_745_747, 5, Gate::EnabledUplink, 1)),
+    },
+    Definition {
+        ue: V4,
+        message: AN_ANSWER_WITH_A_DEFAULT_QOS,
+        is_request: false,
+        is_active: false,
+        due: Err(RuleFailure::MissingFlowInformation),
+    },
+    Definition {
+        ue: V4,
+        message: A_REQUEST_THAT_REMOVES_RULES_AND_REPORTS_ALL,
+        is_request: true,
+        is_active: false,
+        due: Err(RuleFailure::MissingFlowInformation),
+    },
+    // Its filter is of the other version.
+    Definition {
+        ue: V6,
+        message: A_LONG_NAME,
+        is_request: true,
+        is_active: false,
+        due: Err(RuleFailure::IncorrectFlowInformation),
+    },
+];
+
+/// What the AVPs of a message ask for.
+fn asked_in<'m>(alloc: Global, message: &'m [u8], is_request: bool) -> Option<Orders<'m>> {
+    let avps = group(alloc, message.get(HEADER_LEN..)?).ok()?;
+    if is_request {
+        read_rar(alloc, &avps).ok()
     } else {
-        read_cca(alloc, &avps)
-    };
-    let mut asked = read.ok()?;
-    for _ in 0..asked.orders.len() {
-        if let Some(Order::Install(change)) = asked.orders.pop() {
-            return Some(change);
+        read_cca(alloc, &avps).ok()
+    }
+}
+
+/// The last definition of a rule that can be had.
+fn last_definition<'a>(orders: &'a [Order]) -> Option<&'a RuleChange> {
+    let mut last = None;
+    for order in orders {
+        if let Order::Install(change) = order {
+            last = Some(change);
         }
     }
-    None
+    last
 }
 
-/// Why a definition makes no rule.
-fn failure_of(
+fn properties(rule: &Rule) -> Properties {
+    let has = rule.properties();
+    (
+        has.precedence,
+        has.qos.qci.0,
+        has.gate,
+        rule.filters().len(),
+    )
+}
+
+/// The rule that the last of these definitions makes.
+fn rule_of(
     alloc: Global,
     ue: Addr,
-    change: &RuleChange,
+    orders: &[Order],
     active: Option<&Rule>,
-) -> Option<RuleFailure> {
-    complete(alloc, ue, change, active).ok()?.err()
+) -> Option<Result<Rule, RuleFailure>> {
+    complete(alloc, ue, last_definition(orders)?, active).ok()
 }
 
-/// The rule of a definition that has all.
+/// The rule of the first message, which defines all of it.
 fn whole_rule(alloc: Global) -> Option<Rule> {
-    let change = definition_in(alloc, A_LONG_NAME, true)?;
-    complete(alloc, V4, &change, None).ok()?.ok()
+    let octets = octets(alloc, A_LONG_NAME);
+    let asked = asked_in(alloc, &octets, true)?;
+    rule_of(alloc, V4, &asked.orders, None)?.ok()
 }
 
-#[test]
-fn a_definition_that_has_all_is_a_rule(rt: HostRuntime) {
-    let found = match whole_rule(rt.alloc()) {
-        Some(rule) => {
-            let has = rule.properties();
-            Some((
-                has.precedence,
-                has.qos.qci.0,
-                has.gate,
-                rule.filters().len(),
-            ))
-        }
-        None => None,
-    };
-    expect_equal(&rt, &found, &Some((677_745_747, 7, Gate::Disabled, 1)));
+/// What becomes of the last definition in a message.
+fn made(
+    alloc: Global,
+    ue: Addr,
+    message: &[u8],
+    is_request: bool,
+    active: Option<&Rule>,
+) -> Option<Result<Properties, RuleFailure>> {
+    let asked = asked_in(alloc, message, is_request)?;
+    match rule_of(alloc, ue, &asked.orders, active)? {
+        Ok(rule) => Some(Ok(properties(&rule))),
+        Err(failure) => Some(Err(failure)),
+    }
+}
+
+impl Case for Definition {
+    fn is_due(&self, alloc: Global) -> bool {
+        let active = if self.is_active {
+            whole_rule(alloc)
+        } else {
+            None
+        };
+        let message = octets(alloc, self.message);
+        let found = made(alloc, self.ue, &message, self.is_request, active.as_ref());
+        found == Some(self.due)
+    }
 }
 
 #[test]
 fn what_a_definition_leaves_out_of_an_active_rule_stays(rt: HostRuntime) {
-    let alloc = rt.alloc();
-    let found = match (
-        whole_rule(alloc),
-        definition_in(alloc, AN_ANSWER_WITH_A_DEFAULT_QOS, false),
-    ) {
-        (Some(active), Some(change)) => match complete(alloc, V4, &change, Some(&active)) {
-            Ok(Ok(rule)) => {
-                let has = rule.properties();
-                Some((
-                    has.precedence,
-                    has.qos.qci.0,
-                    has.gate,
-                    rule.filters().len(),
-                ))
-            }
-            _ => None,
-        },
-        _ => None,
-    };
-    expect_equal(&rt, &found, &Some((677_745_747, 5, Gate::EnabledUplink, 1)));
-}
-
-#[test]
-fn a_definition_that_makes_no_rule_says_why(rt: HostRuntime) {
-    let alloc = rt.alloc();
-    let found = match (
-        definition_in(alloc, AN_ANSWER_WITH_A_DEFAULT_QOS, false),
-        definition_in(alloc, A_REQUEST_THAT_REMOVES_RULES_AND_REPORTS_ALL, true),
-        definition_in(alloc, A_LONG_NAME, true),
-    ) {
-        (Some(no_filters), Some(neither), Some(of_version_4)) => [
-            failure_of(alloc, V4, &no_filters, None),
-            failure_of(alloc, V4, &neither, None),
-            failure_of(alloc, V6, &of_version_4, None),
-            failure_of(alloc, V4, &of_version_4, None),
-        ],
-        _ => [None; 4],
-    };
-    let due = [
-        Some(RuleFailure::MissingFlowInformation),
-        Some(RuleFailure::MissingFlowInformation),
-        Some(RuleFailure::IncorrectFlowInformation),
-        None,
-    ];
-    expect_equal(&rt, &found, &due);
+    expect_equal(&rt, &first_wrong(rt.alloc(), &DEFINITIONS), &None);
 }

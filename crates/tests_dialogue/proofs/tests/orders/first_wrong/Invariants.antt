@@ -1,6 +1,0 @@
-use Rattle.std.proofs.Common.{◌≡◌}
-use Rattle.tests_dialogue.proofs.tests.orders.first_wrong.Given as goal
-
--- the session stays on its catalog
-abbrev pub invariant-loop-place : goal.invariant-loop-place
-invariant-loop-place l = l.world.session.setting ≡ l.initial.world.session.setting
