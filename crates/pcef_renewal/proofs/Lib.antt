@@ -1,5 +1,6 @@
 pub mod Accepted
 pub mod ActiveFacts
+pub mod Answering
 pub mod Budget
 pub mod Deciding
 pub mod Fitting
@@ -7,7 +8,6 @@ pub mod FreeBearers
 pub mod Getters
 pub mod Likeness
 pub mod Loops
-pub mod Noting
 pub mod Order
 pub mod PlacesAll
 pub mod Playing
@@ -17,4 +17,3 @@ pub mod Reaching
 pub mod Returning
 pub mod Saying
 pub mod Switching
-pub mod Stepping

@@ -17,9 +17,9 @@ use Rattle.pcef_model.specs.Bearers.{rate_down, rate_up}
 use Rattle.pcef_model.specs.Commands.{is_among, key_named, switched}
 use Rattle.pcef_model.specs.Entries.{Journal, rows}
 use Rattle.pcef_model.specs.Generations.{Generation, add_if_some, has_bearer, made_by, rules_after, slots_of}
-use Rattle.pcef_model.specs.Journals.{attached, grant, level_of, no_triggers, now, slots, subscribed, tables, unreported}
+use Rattle.pcef_model.specs.Journals.{grant, level_of, no_triggers, now, slots, subscribed, tables, unreported}
 use Rattle.pcef_model.specs.Lawful.{Lawful, at_first}
-use Rattle.pcef_model.specs.Refusals.{Conditions, limited_count, total_down, total_up, was_closed, was_terminated}
+use Rattle.pcef_model.specs.Refusals.{limited_count, total_down, total_up, was_closed}
 use Rattle.pcef_model.specs.Reports.{is_reached_by}
 use Rattle.pcef_model.specs.Setting.{Setting, same_name, same_qos}
 use Rattle.pcef_model.proofs.BearerIds.{lawful_bound}
@@ -32,13 +32,7 @@ use Rattle.pcef_renewal.specs.Likeness.{Like, ReachesAlike, is_kept}
 use Rattle.pcef_renewal.specs.Renewal.{close_again, grant_after, is_any, keys_on, monitor_again, out_of_reach, renewal, rule_again, rule_again_by, rules_in_order, subscribe_again}
 use Rattle.pcef_model.proofs.Ending.{among_kept}
 use Rattle.pcef_session.specs.SessionModel.{SessionModel}
-use Rattle.pcef_model.proofs.Acceptance.{condition_none}
-use Rattle.pcef_renewal.specs.Noted.{noted_of}
-use Rattle.pcef_renewal.specs.declared.noted.Noted.{Noted}
-use Rattle.pcef_renewal.specs.declared.renewing.RenewRefusal.{RenewRefusal}
-use Rattle.pcef_renewal.specs.declared.renewing.RenewRefusal.TheVariants as refusal
-use Rattle.pcef_renewal.specs.Renewing.{IsRenewed, Renews, commands_needed}
-use Rattle.pcef_renewal.proofs.Noting.{same_parts}
+use Rattle.pcef_renewal.specs.Renewing.{IsRenewed, commands_needed}
 use Rattle.pcef_renewal.proofs.Accepted.{lawful_entered, renewal_taken}
 use Rattle.pcef_renewal.proofs.ActiveFacts.{closed_empty, may_return}
 use Rattle.pcef_renewal.proofs.Fitting.{among_to, fits, no_longer}
@@ -311,19 +305,6 @@ needs_what_it_says p j lawful =
     ap limited_count whole
     ∙ omega (arith, close_limited j d, rules_limited (rules_in_order p j) b, subscription_limited j a, monitors_limited p j (keys_on p j) [], nothing_limited, less, more)
 
--- ---- what was noted
-pub notes_go_on : (p : Setting) (j : Journal) → Lawful p j → was_terminated j ≡ false → noted_of (entered (renewal p j) []) ≡ noted_of j
-notes_go_on p j lawful going =
-    let says = says_all p j lawful in
-    same_parts _ _ _ _ _ _ says.events_are says.closed_is (says.goes_on ∙ sym going)
-
 -- ---- the step
-abbrev later : Setting → Journal → Conditions RenewRefusal
-later p j = (nat_lt 0 (length (attached j)), refusal.WorkersAttached (length (attached j))) ∷ (nat_le p.commands (commands_needed p j), refusal.NoCommandLeft) ∷ []
-
 pub new_is_like : (old next : SessionModel) → Lawful old.setting old.journal → IsRenewed old next → Like old.setting old.journal next.journal
 new_is_like old next lawful renewed = subst (Like old.setting old.journal) (sym renewed.journal) (renewal_like old.setting old.journal lawful)
-
-pub new_is_noted : (old next : SessionModel) (n : Noted) → Lawful old.setting old.journal → Renews old → IsRenewed old next → n ≡ noted_of old.journal → noted_of next.journal ≡ n
-new_is_noted old next n lawful renews renewed noted =
-    ap noted_of renewed.journal ∙ notes_go_on old.setting old.journal lawful (condition_none (was_terminated old.journal) refusal.Terminated (later old.setting old.journal) renews).0 ∙ sym noted

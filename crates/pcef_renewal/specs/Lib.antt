@@ -1,6 +1,5 @@
 pub mod Accepting
 pub mod Likeness
-pub mod Noted
 pub mod Reaching
 pub mod Renewal
 pub mod Renewing

@@ -1,5 +1,5 @@
 -- When a new session is like an old one (own choice): what it does from then on is the same, up to the numbers of bearers.
-use Rattle.std.specs.Prelude.{ℕ, ◌≡◌, ◌≤◌, ◌<◌, ◌+◌, ◌↔◌, Bool, true, false, ◌||◌, List, [], None, Contains}
+use Rattle.std.specs.Prelude.{ℕ, ◌≡◌, ◌≤◌, ◌<◌, ◌+◌, ◌↔◌, Bool, true, ◌||◌, List, [], None, Contains}
 use Rattle.pcef_packet.specs.declared.header.Header.{Header}
 use Rattle.pcef_rule.specs.declared.quantity.Qos.{Qos}
 use Rattle.pcef_model.specs.declared.command.Command.TheVariants.{Terminate}
@@ -9,11 +9,10 @@ use Rattle.pcef_model.specs.Entries.{Journal}
 use Rattle.pcef_model.specs.Generations.{has_bearer}
 use Rattle.pcef_model.specs.Journals.{counted, counts_in, decision, grant, level_of, now, reported, slots, subscribed, unreported}
 use Rattle.pcef_model.specs.Lawful.{Lawful}
-use Rattle.pcef_model.specs.Refusals.{first_of, limited_count, refusals, total_now, was_closed, was_terminated}
+use Rattle.pcef_model.specs.Refusals.{first_of, limited_count, refusals, total_now, was_closed}
 use Rattle.pcef_model.specs.Reports.{after_command, is_reached_by}
 use Rattle.pcef_model.specs.Setting.{Setting}
 use Rattle.pcef_renewal.specs.Accepting.{entered}
-use Rattle.pcef_renewal.specs.Noted.{noted_of}
 use Rattle.pcef_renewal.specs.Renewal.{out_of_reach, renewal}
 use Rattle.pcef_renewal.specs.Renewing.{commands_needed}
 
@@ -54,10 +53,6 @@ RenewalsNeedWhatTheySay = (p : Setting) (j : Journal) → Lawful p j → limited
 -- the new session is like the old one once it took the renewal
 abbrev pub RenewalsAreLike : Type 0
 RenewalsAreLike = (p : Setting) (j : Journal) → Lawful p j → Like p j (entered (renewal p j) [])
-
--- what was noted of the commands of the one goes for the other
-abbrev pub NotesGoOn : Type 0
-NotesGoOn = (p : Setting) (j : Journal) → Lawful p j → was_terminated j ≡ false → noted_of (entered (renewal p j) []) ≡ noted_of j
 
 -- ---- what follows
 -- each packet is decided by the same rule, or by none

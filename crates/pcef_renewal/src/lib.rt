@@ -4,21 +4,19 @@
 //! catalog takes all of them, without a report; a session is ended and a new one begun with them in one step, or nothing
 //! changes.
 //!
-//! In the order of reading: `noted`, `places`, `list`, `renewing`, `world`, `laws`.
+//! In the order of reading: `places`, `list`, `renewing`, `world`, `laws`.
 #![tactic(auto)]
 
 mod laws;
 mod list;
-mod noted;
 mod places;
 mod renewing;
 mod world;
 
 pub use laws::{
-    like_sessions_judge_alike, new_sessions_are_like_old_ones, notes_keep_up,
-    out_of_reach_is_not_reached, renewals_are_taken,
+    like_sessions_judge_alike, new_sessions_are_like_old_ones, out_of_reach_is_not_reached,
+    renewals_are_taken,
 };
 pub use list::{ListFault, OUT_OF_REACH, renewal};
-pub use noted::Noted;
 pub use renewing::{RenewRefusal, Renewed, renew};
 pub use world::{RenewedWorld, renew_world};

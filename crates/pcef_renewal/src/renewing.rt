@@ -7,13 +7,11 @@ ghost use Rattle.pcef_session.specs.Answers.{DoesCommand, IsOpened};
 ghost use Rattle.pcef_session.specs.SessionModel.{HasAtLeast};
 ghost use Rattle.pcef_renewal.specs.Accepting.{AreTaken, entered};
 ghost use Rattle.pcef_renewal.specs.Likeness.{Like};
-ghost use Rattle.pcef_renewal.specs.Noted.{noted_of};
 ghost use Rattle.pcef_renewal.specs.Renewal.{is_any, renewal};
 ghost use Rattle.pcef_renewal.specs.Renewing.{IsRenewed, RefusesRenewal, Renews, commands_needed, renew_refusals};
 ghost use Rattle.pcef_renewal.specs.private.Again.{monitors_of};
 
 use crate::list::{is_any, list_of};
-use crate::noted::Noted;
 use pcef_model::{Accepted, Command, Profile, TriggerSet};
 use pcef_session::SessionState;
 use pcef_usage::KeyState;
@@ -84,12 +82,11 @@ fn count_subscriptions(subscribed: TriggerSet) -> usize
 }
 
 /// How many commands of its budget the new session needs for the renewal.
-fn commands_needed(session: &SessionState, noted: Noted) -> usize
-    requires { noted ≡ noted_of session.now.journal }
+fn commands_needed(session: &SessionState) -> usize
     ensures { result ≡ commands_needed session.now.setting session.now.journal }
 {
     let keys = count_on(session.usage().states());
-    let subscriptions = count_subscriptions(noted.subscribed);
+    let subscriptions = count_subscriptions(session.subscribed());
     let bound = session.bearers().bound();
     keys + subscriptions + bound.len()
 }
@@ -143,18 +140,17 @@ fn begin(
 }
 
 /// Why a session isn't renewed, out of memory aside.
-pub(crate) fn refusal(session: &SessionState, noted: Noted) -> Option<RenewRefusal>
-    requires { noted ≡ noted_of session.now.journal }
+pub(crate) fn refusal(session: &SessionState) -> Option<RenewRefusal>
     ensures { result ≡ first_of (renew_refusals session.now.setting session.now.journal) }
 {
-    if noted.terminated {
+    if session.is_terminated() {
         return Some(RenewRefusal::Terminated);
     }
     let attached = session.attached_count() as u8;
     if attached > 0 {
         return Some(RenewRefusal::WorkersAttached(attached));
     }
-    if session.profile().commands as usize <= commands_needed(session, noted) {
+    if session.profile().commands as usize <= commands_needed(session) {
         return Some(RenewRefusal::NoCommandLeft);
     }
     None
@@ -162,14 +158,8 @@ pub(crate) fn refusal(session: &SessionState, noted: Noted) -> Option<RenewRefus
 
 /// Renews a session: ends it by a Terminate, which reports all its usage, and begins a new one in its place, with the same
 /// profile and catalog, which takes its renewal. Or answers the first refusal in the order of [`RenewRefusal`], which
-/// changes nothing and leaves no less room. The old session stays where it was, with its reports. `noted` is what was noted
-/// of its commands, and goes for the new session.
-pub fn renew(
-    alloc: Global,
-    session: &mut SessionState,
-    noted: Noted,
-) -> Result<Renewed, RenewRefusal>
-    requires { noted ≡ noted_of session.old.journal }
+/// changes nothing and leaves no less room. The old session stays where it was, with its reports.
+pub fn renew(alloc: Global, session: &mut SessionState) -> Result<Renewed, RenewRefusal>
     ensures refused { IfErr result (RefusesRenewal session.old) }
     ensures accepted { OnOk result (Renews session.old) }
     ensures unchanged { OnErr result (session.new.journal ≡ session.old.journal) }
@@ -179,18 +169,17 @@ pub fn renew(
     ensures renewed { IfOk result (λ r. IsRenewed session.old r.session) }
     ensures like { IfOk result
         (λ r. Like session.old.setting session.old.journal r.session.journal) }
-    ensures noted { IfOk result (λ r. noted_of r.session.journal ≡ noted) }
     ensures list { IfOk result
         (λ r. r.list.items ≡ renewal session.old.setting session.old.journal) }
     ensures setting { session.new.setting ≡ session.old.setting }
     ensures forgotten { session.new.forgotten ≡ session.old.forgotten }
 {
-    if let Some(refusal) = refusal(session, noted) {
+    if let Some(refusal) = refusal(session) {
         return Err(refusal);
     }
     // For its contract: the journal is lawful.
     let _journal = session.journal();
-    let Ok(list) = list_of(alloc, session, noted) else {
+    let Ok(list) = list_of(alloc, session) else {
         return Err(RenewRefusal::NoMemory);
     };
     let Ok(new) = begin(alloc, session, &list) else {

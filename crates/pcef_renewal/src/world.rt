@@ -7,13 +7,11 @@ ghost use Rattle.pcef_session.specs.Answers.{DoesCommand};
 ghost use Rattle.pcef_world.specs.Worlds.{IsOpenedWorld};
 ghost use Rattle.pcef_renewal.specs.Accepting.{AreTaken, entered};
 ghost use Rattle.pcef_renewal.specs.Likeness.{Like};
-ghost use Rattle.pcef_renewal.specs.Noted.{noted_of};
 ghost use Rattle.pcef_renewal.specs.Renewal.{renewal};
 ghost use Rattle.pcef_renewal.specs.Renewing.{IsRenewed, RefusesRenewal, Renews};
-ghost use Rattle.pcef_renewal.specs.private.Noting.{IsAnswered, accepted_of};
+ghost use Rattle.pcef_renewal.specs.private.Answering.{IsAnswered, accepted_of};
 
 use crate::list::list_of;
-use crate::noted::Noted;
 use crate::renewing::{RenewRefusal, copy_profile, refusal};
 use pcef_catalog::Detects;
 use pcef_model::{Accepted, Command, Step};
@@ -111,8 +109,7 @@ fn begin<C: Detects>(
 }
 
 /// The renewal, or why the session isn't renewed.
-fn list_for(alloc: Global, world: &WorldState, noted: Noted) -> Result<Vec<Command>, RenewRefusal>
-    requires { noted ≡ noted_of world.now.session.journal }
+fn list_for(alloc: Global, world: &WorldState) -> Result<Vec<Command>, RenewRefusal>
     ensures refused { IfErr result (RefusesRenewal world.now.session) }
     ensures accepted { OnOk result (Renews world.now.session) }
     ensures lawful { OnOk result
@@ -121,12 +118,12 @@ fn list_for(alloc: Global, world: &WorldState, noted: Noted) -> Result<Vec<Comma
         ≡ renewal world.now.session.setting world.now.session.journal) }
 {
     let session = world.session();
-    if let Some(refusal) = refusal(session, noted) {
+    if let Some(refusal) = refusal(session) {
         return Err(refusal);
     }
     // For its contract: it is lawful.
     let _journal = session.journal();
-    match list_of(alloc, session, noted) {
+    match list_of(alloc, session) {
         Ok(list) => Ok(list),
         Err(_) => Err(RenewRefusal::NoMemory),
     }
@@ -137,10 +134,8 @@ pub fn renew_world<C: Detects>(
     alloc: Global,
     world: &mut WorldState,
     catalog: &C,
-    noted: Noted,
 ) -> Result<RenewedWorld, RenewRefusal>
-    requires noted { noted ≡ noted_of world.old.session.journal }
-    requires catalog { C.offers catalog.now ≡ world.old.session.setting.catalog }
+    requires { C.offers catalog.now ≡ world.old.session.setting.catalog }
     ensures refused { IfErr result (RefusesRenewal world.old.session) }
     ensures accepted { OnOk result (Renews world.old.session) }
     ensures unchanged { OnErr result (world.new.session.journal ≡ world.old.session.journal) }
@@ -149,11 +144,10 @@ pub fn renew_world<C: Detects>(
     ensures renewed { IfOk result (λ r. IsRenewed world.old.session r.world.session) }
     ensures like { IfOk result
         (λ r. Like world.old.session.setting world.old.session.journal r.world.session.journal) }
-    ensures noted { IfOk result (λ r. noted_of r.world.session.journal ≡ noted) }
     ensures setting { world.new.session.setting ≡ world.old.session.setting }
     ensures forgotten { world.new.session.forgotten ≡ world.old.session.forgotten }
 {
-    let list = match list_for(alloc, world, noted) {
+    let list = match list_for(alloc, world) {
         Ok(list) => list,
         Err(refusal) => return Err(refusal),
     };

@@ -3,7 +3,7 @@
 use crate::tests::expect_equal;
 use crate::tests::worked::{install, opened, take_all};
 use pcef_built_in::ShapedCatalog;
-use pcef_renewal::{ListFault, Noted, RenewRefusal, renew, renewal};
+use pcef_renewal::{ListFault, RenewRefusal, renew, renewal};
 use pcef_session::SessionState;
 use std::alloc::Global;
 use std::test::Fail;
@@ -30,9 +30,8 @@ fn bearers_of(session: &SessionState) -> [Option<u8>; 2] {
 fn renewed_outcome(alloc: Global, lines: &[&str]) -> Result<Outcome, Fail> {
     let catalog = ShapedCatalog::built_in(alloc)?;
     let mut session = opened(alloc, &catalog)?;
-    let mut noted = Noted::at_first();
-    take_all(alloc, &mut session, &mut noted, lines)?;
-    let renewed = renew(alloc, &mut session, noted)?;
+    take_all(alloc, &mut session, lines)?;
+    let renewed = renew(alloc, &mut session)?;
     Ok(Outcome {
         commands: (
             session.journal().commands_len(),
@@ -78,10 +77,9 @@ fn an_old_session_ends_and_a_new_one_goes_on(rt: HostRuntime) -> Result<(), Fail
 fn refusals(alloc: Global) -> Result<(Option<RenewRefusal>, Option<ListFault>), Fail> {
     let catalog = ShapedCatalog::built_in(alloc)?;
     let mut session = opened(alloc, &catalog)?;
-    let mut noted = Noted::at_first();
-    take_all(alloc, &mut session, &mut noted, &["{\"do\":\"terminate\"}"])?;
-    let list = renewal(alloc, &session, noted).err();
-    Ok((renew(alloc, &mut session, noted).err(), list))
+    take_all(alloc, &mut session, &["{\"do\":\"terminate\"}"])?;
+    let list = renewal(alloc, &session).err();
+    Ok((renew(alloc, &mut session).err(), list))
 }
 
 #[test]

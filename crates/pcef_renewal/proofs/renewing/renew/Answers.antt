@@ -1,6 +1,5 @@
-use Rattle.std.proofs.Common.{◌∙◌, sym}
 use Rattle.pcef_model.specs.declared.command.Command.TheVariants.{Terminate}
-use Rattle.pcef_renewal.proofs.Likeness.{new_is_like, new_is_noted}
+use Rattle.pcef_renewal.proofs.Likeness.{new_is_like}
 use Rattle.pcef_renewal.proofs.Played.{not_done}
 use Rattle.pcef_renewal.proofs.renewing.renew.Goals as goal
 
@@ -10,7 +9,3 @@ returns-in-Err-clause-unchanged c =
 
 pub returns-in-Ok-command-clause-like : goal.returns-in-Ok-command-clause-like
 returns-in-Ok-command-clause-like c = new_is_like c.args.session.now c.in-Ok-begin.new c.journal-journal.ensures.lawful c.in-Ok-begin.ensures
-
-pub returns-in-Ok-command-clause-noted : goal.returns-in-Ok-command-clause-noted
-returns-in-Ok-command-clause-noted c =
-    new_is_noted c.args.session.now c.in-Ok-begin.new c.args.noted c.journal-journal.ensures.lawful (sym c.refusal.ensures ∙ c.in_default.is) c.in-Ok-begin.ensures c.requires

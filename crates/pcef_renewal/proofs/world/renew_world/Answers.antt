@@ -1,5 +1,5 @@
 use Rattle.std.proofs.Common.{◌∙◌}
-use Rattle.pcef_renewal.proofs.Likeness.{new_is_like, new_is_noted}
+use Rattle.pcef_renewal.proofs.Likeness.{new_is_like}
 use Rattle.pcef_renewal.proofs.world.renew_world.Goals as goal
 
 pub begin-requires-clause-list : goal.begin-requires-clause-list
@@ -7,7 +7,3 @@ begin-requires-clause-list g c = c.deref.ensures.value ∙ c.in-Ok.ensures.list
 
 pub returns-in-Ok-command-clause-like : goal.returns-in-Ok-command-clause-like
 returns-in-Ok-command-clause-like g c = new_is_like c.args.world.now.session c.in-Ok-begin.new.session c.in-Ok.ensures.lawful c.in-Ok-begin.ensures
-
-pub returns-in-Ok-command-clause-noted : goal.returns-in-Ok-command-clause-noted
-returns-in-Ok-command-clause-noted g c =
-    new_is_noted c.args.world.now.session c.in-Ok-begin.new.session c.args.noted c.in-Ok.ensures.lawful c.in-Ok.ensures.accepted c.in-Ok-begin.ensures c.requires.noted

@@ -1,5 +1,5 @@
 -- What is asked of the answer to a step.
-use Rattle.std.specs.Prelude.{◌≡◌, Bool, true, false, Result, Ok, Err, alloc_error}
+use Rattle.std.specs.Prelude.{◌≡◌, Result, Ok, Err, alloc_error}
 use Rattle.std.specs.declared.alloc.AllocError.{AllocError}
 use Rattle.pcef_model.specs.declared.answer.Accepted.{Accepted}
 use Rattle.pcef_model.specs.declared.command.Command.{Command}
@@ -7,11 +7,6 @@ use Rattle.pcef_model.specs.Outcomes.{Gives, command_outcome}
 use Rattle.pcef_world.specs.Worlds.{World}
 use Rattle.pcef_world.specs.declared.answer.StepAnswer.{StepAnswer}
 use Rattle.pcef_world.specs.declared.answer.StepAnswer.TheVariants as answer
-
--- a command was refused
-abbrev pub is_refused : StepAnswer → Bool
-is_refused (answer.Command (Err r)) = true
-is_refused _ = false
 
 -- what was answered to a command that was accepted
 abbrev pub accepted_of : StepAnswer → Result Accepted AllocError
