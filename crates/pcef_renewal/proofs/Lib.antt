@@ -14,6 +14,9 @@ pub mod Playing
 pub mod Played
 pub mod Quiet
 pub mod Reaching
+pub mod Rebound
+pub mod Regrouping
+pub mod Renumbered
 pub mod Returning
 pub mod Saying
 pub mod Switching

@@ -44,7 +44,7 @@ use Rattle.pcef_renewal.proofs.Returning.{down_is, up_is}
 use Rattle.pcef_renewal.proofs.Saying.{Says, says_close, says_monitors, says_nothing, says_rules, says_triggers}
 
 -- ---- a key that is on has a slot
-add_more : (key : List ℕ) (named : Option (List ℕ)) (keys : List (List ℕ)) → is_among key keys ≡ true → is_among key (add_if_some named keys) ≡ true
+pub add_more : (key : List ℕ) (named : Option (List ℕ)) (keys : List (List ℕ)) → is_among key keys ≡ true → is_among key (add_if_some named keys) ≡ true
 add_more key None keys there = there
 add_more key (Some l) keys there = among_add key l keys ∙ rw there refl
 
@@ -76,7 +76,7 @@ on_has_slot p (c ∷ cs) key there =
     among_switched p c g.on (slots_of p cs) key (on_has_slot p cs key)
     (filter_any (same_name key) (λ k. not (has_key k g.rules) || has_key k (rules_after p g c)) (switched c g.on) there)
 
-on_again : (p : Setting) (j : Journal) (key : List ℕ) → is_among key (keys_on p j) ≡ is_among key (now p j).on
+pub on_again : (p : Setting) (j : Journal) (key : List ℕ) → is_among key (keys_on p j) ≡ is_among key (now p j).on
 on_again p j key =
     let test : List ℕ → Bool = λ k. is_among k (now p j).on in
     elim (cases_Bool (is_among key (now p j).on)) [
@@ -86,7 +86,7 @@ on_again p j key =
     ]
 
 -- ---- the whole list
-entered_append : (cs ds : List Command) (k : Journal) → entered (cs ++ ds) k ≡ entered ds (entered cs k)
+pub entered_append : (cs ds : List Command) (k : Journal) → entered (cs ++ ds) k ≡ entered ds (entered cs k)
 entered_append [] ds k = refl
 entered_append (c ∷ cs) ds k = entered_append cs ds (entry.Command c ∷ k)
 
@@ -114,7 +114,7 @@ module _ (p : Setting) (j : Journal) (lawful : Lawful p j) where
       says_monitors p j (keys_on p j) [] [] no_triggers false (says_nothing p j)
       (filter_once (λ (x : List ℕ). x) (λ key. is_among key (now p j).on) (slots p j) (made_slots_once p (tables j)))
 
-  says_subscriptions : Says p j (entered (subscribe_again j) (entered keys [])) (keys_on p j) [] (subscribed j) false
+  pub says_subscriptions : Says p j (entered (subscribe_again j) (entered keys [])) (keys_on p j) [] (subscribed j) false
   says_subscriptions =
       elim (cases_Bool (is_any (subscribed j))) [
         | inl some ↦ rw some (says_triggers p j (entered keys []) (keys_on p j) [] no_triggers false (subscribed j) says_keys)
@@ -176,7 +176,7 @@ reached_alike (Some amount) octets more some far =
           | inr reached ↦ le-leb (amount - octets) more reached ∙ sym (le-leb amount (octets + more) (omega (arith, reached, less)))
         ]
 
-no_rows_entered : (cs : List Command) (k : Journal) → rows (entered cs k) ≡ rows k
+pub no_rows_entered : (cs : List Command) (k : Journal) → rows (entered cs k) ≡ rows k
 no_rows_entered [] k = refl
 no_rows_entered (c ∷ cs) k = no_rows_entered cs (entry.Command c ∷ k)
 

@@ -1,5 +1,6 @@
 pub mod Accepting
 pub mod Likeness
+pub mod Maps
 pub mod Reaching
 pub mod Renewal
 pub mod Renewing
