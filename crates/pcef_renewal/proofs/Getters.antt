@@ -103,7 +103,7 @@ placed_agree s t same (n ∷ ns) beyond =
       | inr isnt ↦ rw (same n ∙ isnt, isnt) (ap (λ xs. take 1 beyond ++ xs) (placed_agree s t same ns (drop 1 beyond)))
     ]
 
-places_are : (p : Setting) (j : Journal) (bound : List Bound) → bound ≡ bound_of (now p j) (now p j).rules → placed_from (is_used bound) (filter (is_used bound) other_ids) ≡ places p j
+pub places_are : (p : Setting) (j : Journal) (bound : List Bound) → bound ≡ bound_of (now p j) (now p j).rules → placed_from (is_used bound) (filter (is_used bound) other_ids) ≡ places p j
 places_are p j bound is =
     let same : (id : ℕ) → is_used bound id ≡ is_bearer p j id = (λ id. ap (λ bs. is_used bs id) is ∙ used_is p j id) in
     let used : filter (is_used bound) other_ids ≡ bearers_used p j = filter_agree (is_used bound) (λ id. is_bearer p j id) same other_ids in

@@ -1,5 +1,6 @@
 pub mod Accepted
 pub mod ActiveFacts
+pub mod Anew
 pub mod Answering
 pub mod Budget
 pub mod Deciding

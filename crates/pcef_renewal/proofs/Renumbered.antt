@@ -26,8 +26,9 @@ use Rattle.pcef_model.proofs.Names.{filter_once}
 use Rattle.pcef_model.proofs.RulesAfter.{makes_active}
 use Rattle.pcef_model.proofs.Sameness.{same_qos_is}
 use Rattle.pcef_renewal.specs.Accepting.{entered}
-use Rattle.pcef_renewal.specs.Maps.{bearer_again, slots_again, with_keys}
+use Rattle.pcef_renewal.specs.Maps.{bearer_again, bearers_again, pair_again, slots_again, with_keys}
 use Rattle.pcef_renewal.specs.Renewal.{bearers_used, close_again, grant_after, is_any, keys_on, monitor_again, places, renewal, rest_of, rule_again, rules_in_order, rules_on, rules_on_each, subscribe_again}
+use Rattle.pcef_renewal.specs.private.Again.{paired}
 use Rattle.pcef_renewal.proofs.Accepted.{lawful_entered, renewal_taken}
 use Rattle.pcef_renewal.proofs.ActiveFacts.{closed_empty, may_return}
 use Rattle.pcef_renewal.proofs.Fitting.{KeysOnce, among_from, no_longer}
@@ -113,6 +114,18 @@ module _ (p : Setting) (j : Journal) (lawful : Lawful p j) where
       let five : number 5 ≡ 5 = refl in
       omega (arith, is, five, x.2))
       (steps_groups 5 (places p j) ascend.1 (λ n there. there)))
+
+  pairs_by : (k : ℕ) (ids ns : List ℕ) → Ascends k (map number ids) → Ascends k ns → length ids ≤ length ns → paired ids ns ≡ map (pair_again p j) ids
+  unfolding Ascends
+  pairs_by k [] ns one other few = refl
+  pairs_by k (n ∷ ids) [] one other few = absurd (omega (arith, few))
+  pairs_by k (n ∷ ids) (m ∷ ns) one other few =
+      let same : m ≡ number n = other.0 ∙ sym one.0 in
+      ap₂ (λ x xs. record { old = record { 0 = n }; new = record { 0 = x } } ∷ xs) same (pairs_by (suc k) ids ns one.1 other.1 (omega (arith, few)))
+
+  pub pairs_are : paired (places p j) other_ids ≡ bearers_again p j
+  unfolding Ascends
+  pairs_are = pairs_by 6 (places p j) other_ids ascend.1 others_ascend few_places
 
   -- ---- the new session
   abbrev new : Journal

@@ -2,7 +2,7 @@
 
 ghost use Rattle.pcef_renewal.specs.Accepting.{RenewalsAreTaken};
 ghost use Rattle.pcef_renewal.specs.Likeness.{LikeSessionsCountAlike, LikeSessionsDecideAlike, OctetsAddUp, RenewalsAreLike, RenewalsNeedWhatTheySay};
-ghost use Rattle.pcef_renewal.specs.Maps.{BearersAreRenumbered, RenewalsComeAgain, SlotsAreRenumbered};
+ghost use Rattle.pcef_renewal.specs.Maps.{BearersAreRenumbered, CountsBeginAnew, RenewalsComeAgain, SlotsAreRenumbered};
 ghost use Rattle.pcef_renewal.specs.Reaching.{OutOfReachIsNotReached};
 
 /// A new session with the same profile and catalog takes the whole renewal of an old one, command by command, without a
@@ -34,9 +34,11 @@ pub fn out_of_reach_is_not_reached()
     ensures { OutOfReachIsNotReached }
 {}
 
-/// Bearers and slots get the numbers of their places in the new session. Its own renewal is the same list.
+/// In the new session bearers and slots get the numbers of their places, and generations, reports, rows and workers are
+/// counted anew. Its own renewal is the same list.
 pub fn renewals_number_anew()
     ensures bearers { BearersAreRenumbered }
     ensures slots { SlotsAreRenumbered }
+    ensures counts { CountsBeginAnew }
     ensures again { RenewalsComeAgain }
 {}

@@ -18,5 +18,6 @@ pub use laws::{
     renewals_are_taken, renewals_number_anew,
 };
 pub use list::{ListFault, OUT_OF_REACH, renewal};
+pub use places::BearerNumbers;
 pub use renewing::{RenewRefusal, Renewed, renew};
 pub use world::{RenewedWorld, renew_world};

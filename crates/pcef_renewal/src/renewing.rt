@@ -2,16 +2,19 @@
 
 ghost use Rattle.std.specs.Prelude.{◌≡◌, ◌≤◌, IfErr, IfOk, OnErr, OnOk, if◌then◌else◌, length};
 ghost use Rattle.pcef_model.specs.declared.command.Command.TheVariants as of;
+ghost use Rattle.pcef_model.specs.Lawful.{Lawful};
 ghost use Rattle.pcef_model.specs.Refusals.{first_of};
 ghost use Rattle.pcef_session.specs.Answers.{DoesCommand, IsOpened};
 ghost use Rattle.pcef_session.specs.SessionModel.{HasAtLeast};
 ghost use Rattle.pcef_renewal.specs.Accepting.{AreTaken, entered};
 ghost use Rattle.pcef_renewal.specs.Likeness.{Like};
+ghost use Rattle.pcef_renewal.specs.Maps.{bearers_again};
 ghost use Rattle.pcef_renewal.specs.Renewal.{is_any, renewal};
 ghost use Rattle.pcef_renewal.specs.Renewing.{IsRenewed, RefusesRenewal, Renews, commands_needed, renew_refusals};
 ghost use Rattle.pcef_renewal.specs.private.Again.{monitors_of};
 
 use crate::list::{is_any, list_of};
+use crate::places::{BearerNumbers, bearers_again};
 use pcef_model::{Accepted, Command, Profile, TriggerSet};
 use pcef_session::SessionState;
 use pcef_usage::KeyState;
@@ -42,6 +45,9 @@ pub struct Renewed {
     pub session: SessionState,
     /// The commands that it took: the renewal.
     pub list: Vec<Command>,
+    /// The bearers beside the default one, by their numbers in the old session and in the new one, in the order of the new
+    /// ones: 6, 7 .. The default bearer has 5 in both.
+    pub bearers: Vec<BearerNumbers>,
     /// What the old session answered to its Terminate: which of its reports this made.
     pub ended: Accepted,
 }
@@ -140,7 +146,7 @@ fn begin(
 }
 
 /// Why a session isn't renewed, out of memory aside.
-pub(crate) fn refusal(session: &SessionState) -> Option<RenewRefusal>
+fn refusal(session: &SessionState) -> Option<RenewRefusal>
     ensures { result ≡ first_of (renew_refusals session.now.setting session.now.journal) }
 {
     if session.is_terminated() {
@@ -154,6 +160,39 @@ pub(crate) fn refusal(session: &SessionState) -> Option<RenewRefusal>
         return Some(RenewRefusal::NoCommandLeft);
     }
     None
+}
+
+/// What a session is renewed by.
+#[derive(Drop)]
+pub(crate) struct Plan {
+    /// The renewal.
+    pub(crate) list: Vec<Command>,
+    /// The bearers beside the default one.
+    pub(crate) bearers: Vec<BearerNumbers>,
+}
+
+/// What a session is renewed by, or why it isn't.
+pub(crate) fn plan_for(alloc: Global, session: &SessionState) -> Result<Plan, RenewRefusal>
+    ensures refused { IfErr result (RefusesRenewal session.now) }
+    ensures accepted { OnOk result (Renews session.now) }
+    ensures lawful { OnOk result (Lawful session.now.setting session.now.journal) }
+    ensures list { IfOk result (λ plan. plan.list.items
+        ≡ renewal session.now.setting session.now.journal) }
+    ensures bearers { IfOk result (λ plan. plan.bearers.items
+        ≡ bearers_again session.now.setting session.now.journal) }
+{
+    if let Some(refusal) = refusal(session) {
+        return Err(refusal);
+    }
+    // For its contract: it is lawful.
+    let _journal = session.journal();
+    let Ok(list) = list_of(alloc, session) else {
+        return Err(RenewRefusal::NoMemory);
+    };
+    match bearers_again(alloc, session) {
+        Ok(bearers) => Ok(Plan { list, bearers }),
+        Err(_) => Err(RenewRefusal::NoMemory),
+    }
 }
 
 /// Renews a session: ends it by a Terminate, which reports all its usage, and begins a new one in its place, with the same
@@ -171,16 +210,14 @@ pub fn renew(alloc: Global, session: &mut SessionState) -> Result<Renewed, Renew
         (λ r. Like session.old.setting session.old.journal r.session.journal) }
     ensures list { IfOk result
         (λ r. r.list.items ≡ renewal session.old.setting session.old.journal) }
+    ensures bearers { IfOk result
+        (λ r. r.bearers.items ≡ bearers_again session.old.setting session.old.journal) }
     ensures setting { session.new.setting ≡ session.old.setting }
     ensures forgotten { session.new.forgotten ≡ session.old.forgotten }
 {
-    if let Some(refusal) = refusal(session) {
-        return Err(refusal);
-    }
-    // For its contract: the journal is lawful.
-    let _journal = session.journal();
-    let Ok(list) = list_of(alloc, session) else {
-        return Err(RenewRefusal::NoMemory);
+    let Plan { list, bearers } = match plan_for(alloc, session) {
+        Ok(plan) => plan,
+        Err(refusal) => return Err(refusal),
     };
     let Ok(new) = begin(alloc, session, &list) else {
         return Err(RenewRefusal::NoMemory);
@@ -189,6 +226,7 @@ pub fn renew(alloc: Global, session: &mut SessionState) -> Result<Renewed, Renew
         Ok(ended) => Ok(Renewed {
             session: new,
             list,
+            bearers,
             ended,
         }),
         Err(_) => Err(RenewRefusal::NoMemory),

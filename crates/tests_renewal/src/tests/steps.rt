@@ -3,19 +3,20 @@
 use crate::tests::expect_equal;
 use crate::tests::worked::{install, opened, take_all};
 use pcef_built_in::ShapedCatalog;
-use pcef_renewal::{ListFault, RenewRefusal, renew, renewal};
+use pcef_renewal::{BearerNumbers, ListFault, RenewRefusal, renew, renewal};
 use pcef_session::SessionState;
 use std::alloc::Global;
 use std::test::Fail;
 
 /// Of a renewed session: how many commands the old and the new one took, how many reports each made, how many rules are
-/// active in the new one, and its bearers' numbers.
+/// active in the new one, the numbers of their bearers, and the old and the new numbers that are answered.
 #[derive(Debug, PartialEq, Eq, Drop)]
 struct Outcome {
     commands: (u64, u64),
     reports: (u64, u64),
     rules: usize,
     bearers: [Option<u8>; 2],
+    renumbered: [Option<(u8, u8)>; 3],
 }
 
 /// The numbers of the bearers of the first two rules.
@@ -24,6 +25,20 @@ fn bearers_of(session: &SessionState) -> [Option<u8>; 2] {
     [
         bound.get(0).map(|rule| rule.bearer.0),
         bound.get(1).map(|rule| rule.bearer.0),
+    ]
+}
+
+/// The old and the new number of the bearer at a place.
+fn numbers_at(bearers: &[BearerNumbers], place: usize) -> Option<(u8, u8)> {
+    bearers.get(place).map(|pair| (pair.old.0, pair.new.0))
+}
+
+/// Those of the first three bearers.
+fn numbers_of(bearers: &[BearerNumbers]) -> [Option<(u8, u8)>; 3] {
+    [
+        numbers_at(bearers, 0),
+        numbers_at(bearers, 1),
+        numbers_at(bearers, 2),
     ]
 }
 
@@ -43,6 +58,7 @@ fn renewed_outcome(alloc: Global, lines: &[&str]) -> Result<Outcome, Fail> {
         ),
         rules: renewed.session.active().len(),
         bearers: bearers_of(&renewed.session),
+        renumbered: numbers_of(&renewed.bearers),
     })
 }
 
@@ -68,6 +84,7 @@ fn an_old_session_ends_and_a_new_one_goes_on(rt: HostRuntime) -> Result<(), Fail
             reports: (1, 0),
             rules: 2,
             bearers: [Some(6), Some(7)],
+            renumbered: [Some((8, 6)), Some((7, 7)), None],
         },
     );
     Ok(())
