@@ -20,4 +20,5 @@ pub mod Regrouping
 pub mod Renumbered
 pub mod Returning
 pub mod Saying
+pub mod Staying
 pub mod Switching

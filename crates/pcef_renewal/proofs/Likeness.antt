@@ -68,7 +68,7 @@ among_switched p (Notice kind value) on keys key had there = had there
 among_switched p (LoseBearer id) on keys key had there = had there
 among_switched p Close on keys key had there = had there
 
-on_has_slot : (p : Setting) (cs : List Command) (key : List ℕ) → is_among key (made_by p cs).on ≡ true → is_among key (slots_of p cs) ≡ true
+pub on_has_slot : (p : Setting) (cs : List Command) (key : List ℕ) → is_among key (made_by p cs).on ≡ true → is_among key (slots_of p cs) ≡ true
 unfolding made_by slots_of
 on_has_slot p [] key there = absurd cc
 on_has_slot p (c ∷ cs) key there =
@@ -150,7 +150,7 @@ module _ (p : Setting) (j : Journal) (lawful : Lawful p j) where
       says_end
 
 -- ---- lists with the same elements
-same_any : {X : Type 0} (test : X → Bool) (xs ys : List X) → ((x : X) → Contains xs x → Contains ys x) → ((x : X) → Contains ys x → Contains xs x) → list_any test xs ≡ list_any test ys
+pub same_any : {X : Type 0} (test : X → Bool) (xs ys : List X) → ((x : X) → Contains xs x → Contains ys x) → ((x : X) → Contains ys x → Contains xs x) → list_any test xs ≡ list_any test ys
 same_any test xs ys to back =
     elim (cases_Bool (list_any test ys)) [
       | inl some ↦ let w = some_there test ys some in any_from test xs w.0 (back w.0 w.1) w.2 ∙ sym some

@@ -87,9 +87,9 @@ place_below id (n ∷ ns) there =
       ]
     ]
 
-pub place_alone : (a b : ℕ) (ids : List ℕ) → Contains ids a → Contains ids b → place_among a ids ≡ place_among b ids → a ≡ b
-place_alone a b [] one other same = absurd (omega (arith, one.1))
-place_alone a b (n ∷ ns) one other same =
+pub place_alone : (a b : ℕ) (ids : List ℕ) → Contains ids a → place_among a ids ≡ place_among b ids → a ≡ b
+place_alone a b [] there same = absurd (omega (arith, there.1))
+place_alone a b (n ∷ ns) there same =
     elim (cases_Bool (a == n)) [
       | inl a_here ↦ elim (cases_Bool (b == n)) [
         | inl b_here ↦ eqb-true a n a_here ∙ sym (eqb-true b n b_here)
@@ -99,12 +99,9 @@ place_alone a b (n ∷ ns) one other same =
         | inl b_here ↦ let e : suc (place_among a ns) ≡ 0 = rw (a_other, b_here) at same in absurd (omega (arith, e))
         | inr b_other ↦
             let e : suc (place_among a ns) ≡ suc (place_among b ns) = rw (a_other, b_other) at same in
-            place_alone a b ns (behind a n ns one a_other) (behind b n ns other b_other) (omega (arith, e))
+            place_alone a b ns (elim (there_cases n ns a there) [ inl is ↦ absurd (eqb-false a n a_other (sym is)) | inr later ↦ later ]) (omega (arith, e))
       ]
     ]
-  where
-    behind : (a n : ℕ) (ns : List ℕ) → Contains (n ∷ ns) a → (a == n) ≡ false → Contains ns a
-    behind a n ns there differs = elim (there_cases n ns a there) [ inl same ↦ absurd (eqb-false a n differs (sym same)) | inr later ↦ later ]
 
 -- places go up by one
 pub places_ascend : (k : ℕ) (ids : List ℕ) → NumbersOnce ids → Ascends k (map (λ id. k + place_among id ids) ids)

@@ -73,7 +73,7 @@ module _ (p : Setting) (j : Journal) (lawful : Lawful p j) where
         let below = place_below (id r) (default_id ∷ places p j) (id_placed p j lawful r there) in
         (past (id r) range.0, omega (arith, below, few_places));
     alone = λ r s there also same.
-        place_alone (id r) (id s) (default_id ∷ places p j) (id_placed p j lawful r there) (id_placed p j lawful s also) (omega (arith, same));
+        place_alone (id r) (id s) (default_id ∷ places p j) (id_placed p j lawful r there) (omega (arith, same));
   }
     where
       own : (r : Active) → Contains (now p j).rules r → has_bearer p (now p j).rules r.properties.qos ≡ true
@@ -188,6 +188,28 @@ module _ (p : Setting) (j : Journal) (lawful : Lawful p j) where
             let same : q ≡ w.0.properties.qos = same_qos_is q w.0.properties.qos w.2 in
             ap (now p new).id_of same ∙ number_is w.0 w.1 ∙ ap (λ (x : Qos). number ((now p j).id_of x)) (sym same)
       ]
+
+  -- a number that was no bearer's is none's
+  pub numbers_apart : (q : Qos) → has_bearer p (now p j).rules q ≡ true → (n : ℕ) → ((now p new).id_of q == number n) ≡ ((now p j).id_of q == n)
+  numbers_apart q has n =
+      elim (cases_Bool ((now p j).id_of q == n)) [
+        | inl same ↦ eq-eqb ((now p new).id_of q) (number n) (renumbered q has ∙ ap number (eqb-true ((now p j).id_of q) n same)) ∙ sym same
+        | inr differs ↦
+            false_from_ne_true ((now p new).id_of q == number n) (λ is.
+            let one = sym (renumbered q has) ∙ eqb-true ((now p new).id_of q) (number n) is in
+            let alone = place_alone ((now p j).id_of q) n (default_id ∷ places p j) (pair_placed q has) (omega (arith, one)) in
+            contrary ((now p j).id_of q == n) (eq-eqb ((now p j).id_of q) n alone) differs)
+            ∙ sym differs
+      ]
+    where
+      pair_placed : (q : Qos) → has_bearer p (now p j).rules q ≡ true → Contains (default_id ∷ places p j) ((now p j).id_of q)
+      pair_placed q has =
+          elim (or_cases (same_qos q p.default_qos) (list_any (λ (r : Active). same_qos q r.properties.qos) (now p j).rules) has) [
+            | inl is ↦ subst (λ (m : ℕ). Contains (default_id ∷ places p j) m) (sym ((lawful_bound p j lawful).five q is)) (first_there default_id (places p j))
+            | inr some ↦
+                let w = some_there (λ (r : Active). same_qos q r.properties.qos) (now p j).rules some in
+                subst (λ (x : Qos). Contains (default_id ∷ places p j) ((now p j).id_of x)) (sym (same_qos_is q w.0.properties.qos w.2)) (id_placed p j lawful w.0 w.1)
+          ]
 
   -- ---- the places of bearers in the new session
   abbrev front : List ℕ

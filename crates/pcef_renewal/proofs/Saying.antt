@@ -203,7 +203,7 @@ any_push t (y ∷ xs) x = ap (λ b. t y || b) (any_push t xs x) ∙ from (t y) (
     from true b d = refl
     from false b d = refl
 
-among_named : (key : List ℕ) (named : Option (List ℕ)) (keys : List (List ℕ)) → is_among key (add_if_some named keys) ≡ (is_among key keys || is_key key named)
+pub among_named : (key : List ℕ) (named : Option (List ℕ)) (keys : List (List ℕ)) → is_among key (add_if_some named keys) ≡ (is_among key keys || is_key key named)
 among_named key None keys = from (is_among key keys)
   where
     from : (b : Bool) → b ≡ (b || false)

@@ -1,4 +1,5 @@
 pub mod Accepting
+pub mod Alike
 pub mod Likeness
 pub mod Maps
 pub mod Reaching

@@ -1,6 +1,7 @@
 //! Laws of renewals, proved for whoever reads the definitions.
 
 ghost use Rattle.pcef_renewal.specs.Accepting.{RenewalsAreTaken};
+ghost use Rattle.pcef_renewal.specs.Alike.{CommandsKeepAlike, NewSessionsAreAlike, PlacesRenumber, RowsKeepAlike, WorkersKeepAlike};
 ghost use Rattle.pcef_renewal.specs.Likeness.{LikeSessionsCountAlike, LikeSessionsDecideAlike, OctetsAddUp, RenewalsAreLike, RenewalsNeedWhatTheySay};
 ghost use Rattle.pcef_renewal.specs.Maps.{BearersAreRenumbered, CountsBeginAnew, RenewalsComeAgain, SlotsAreRenumbered};
 ghost use Rattle.pcef_renewal.specs.Reaching.{OutOfReachIsNotReached};
@@ -20,9 +21,9 @@ pub fn new_sessions_are_like_old_ones()
     ensures need { RenewalsNeedWhatTheySay }
 {}
 
-/// In sessions that are alike each packet is decided by the same rule, or by none, and counts for the same keys. The octets
-/// that were counted for a key of an old session, which was ended, and of the new one are those that both reported, and
-/// what the new one hasn't reported yet.
+/// In sessions that are alike each packet is decided by the same rule, or by none, and counts for the same keys. However
+/// often there was a renewal, the octets that were counted for a key are those that all its sessions reported, and what the
+/// last one hasn't reported yet.
 pub fn like_sessions_judge_alike()
     ensures decide { LikeSessionsDecideAlike }
     ensures count { LikeSessionsCountAlike }
@@ -41,4 +42,14 @@ pub fn renewals_number_anew()
     ensures slots { SlotsAreRenumbered }
     ensures counts { CountsBeginAnew }
     ensures again { RenewalsComeAgain }
+{}
+
+/// A new session that is like the old one stays alike, octets and grants aside, whatever both accept: each command, of which
+/// the loss of a bearer names it by its new number, rows, and workers that come and leave.
+pub fn alike_sessions_stay_alike()
+    ensures begin { NewSessionsAreAlike }
+    ensures bearers { PlacesRenumber }
+    ensures commands { CommandsKeepAlike }
+    ensures rows { RowsKeepAlike }
+    ensures workers { WorkersKeepAlike }
 {}

@@ -1,0 +1,62 @@
+-- Two sessions that what comes next meets alike (own choice), and that stay so.
+use Rattle.std.specs.Prelude.{ℕ, ◌≡◌, ◌==◌, ◌↔◌, true, List, [], None, Contains}
+use Rattle.pcef_rule.specs.declared.quantity.Qos.{Qos}
+use Rattle.pcef_model.specs.declared.command.Command.{Command}
+use Rattle.pcef_model.specs.declared.command.Command.TheVariants.{LoseBearer}
+use Rattle.pcef_model.specs.declared.row.Row.{Row}
+use Rattle.pcef_model.specs.ActiveRules.{Active}
+use Rattle.pcef_model.specs.Commands.{is_among}
+use Rattle.pcef_model.specs.Entries.{Journal}
+use Rattle.pcef_model.specs.Generations.{has_bearer}
+use Rattle.pcef_model.specs.Journals.{level_of, now, slots, subscribed}
+use Rattle.pcef_model.specs.Lawful.{Lawful}
+use Rattle.pcef_model.specs.Outcomes.{changes}
+use Rattle.pcef_model.specs.Refusals.{first_of, refusals, was_closed}
+use Rattle.pcef_model.specs.Reports.{after_attach, after_command, after_flush, after_leave}
+use Rattle.pcef_model.specs.Setting.{Setting}
+use Rattle.pcef_renewal.specs.Accepting.{entered}
+use Rattle.pcef_renewal.specs.Likeness.{Like}
+use Rattle.pcef_renewal.specs.Maps.{bearer_again}
+use Rattle.pcef_renewal.specs.Renewal.{renewal}
+
+-- j is the journal of a session, and k that of one that goes on for it
+pub record Alike (p : Setting) (j k : Journal) : Type 0 where
+  -- the same rules are active, the same keys on, and the same events subscribed; both are closed or neither
+  pub rules : (r : Active) → Contains (now p j).rules r ↔ Contains (now p k).rules r
+  pub on : (key : List ℕ) → is_among key (now p k).on ≡ is_among key (now p j).on
+  pub events : subscribed k ≡ subscribed j
+  pub closed : was_closed k ≡ was_closed j
+  -- a key with a slot in k has one in j, and the same level; one that k has forgotten has a slot in j alone
+  pub slots_had : (key : List ℕ) → is_among key (slots p k) ≡ true → is_among key (slots p j) ≡ true
+  pub levels : (key : List ℕ) → is_among key (slots p k) ≡ true → level_of (now p k) key ≡ level_of (now p j) key
+
+-- ---- bearers
+-- what bearers in j are called in k: a number that is no bearer's in j goes to one that is none's in k
+abbrev pub Renumbers : Setting → Journal → Journal → (ℕ → ℕ) → Type 0
+Renumbers p j k number = (q : Qos) → has_bearer p (now p j).rules q ≡ true → (id : ℕ) → ((now p k).id_of q == number id) ≡ ((now p j).id_of q == id)
+
+-- a command as it is given to k: the loss of a bearer names that bearer
+abbrev pub image : (ℕ → ℕ) → Command → Command
+image number (LoseBearer id) = LoseBearer (record { 0 = number id.0 })
+image number c = c
+
+-- ---- laws
+-- a new session that took a renewal is such a session, and its bearers have the numbers of their places
+abbrev pub NewSessionsAreAlike : Type 0
+NewSessionsAreAlike = (p : Setting) (j k : Journal) → Like p j k → Alike p j k
+
+abbrev pub PlacesRenumber : Type 0
+PlacesRenumber = (p : Setting) (j : Journal) → Lawful p j → Renumbers p j (entered (renewal p j) []) (bearer_again p j)
+
+-- a command that both accept leaves them so
+abbrev pub CommandsKeepAlike : Type 0
+CommandsKeepAlike = (p : Setting) (j k : Journal) → Lawful p j → Lawful p k → Alike p j k → (number : ℕ → ℕ) → Renumbers p j k number → (c : Command) →
+    first_of (refusals p j c) ≡ None → changes p j c ≡ true → first_of (refusals p k (image number c)) ≡ None →
+    Alike p (after_command p j c) (after_command p k (image number c))
+
+-- and so do rows, and workers that come and leave, whichever they are
+abbrev pub RowsKeepAlike : Type 0
+RowsKeepAlike = (p : Setting) (j k : Journal) → Alike p j k → (rs ss : List Row) → Alike p (after_flush p j rs) (after_flush p k ss)
+
+abbrev pub WorkersKeepAlike : Type 0
+WorkersKeepAlike = (p : Setting) (j k : Journal) → Alike p j k → Alike p (after_attach j) (after_attach k) × ((v w : ℕ) → Alike p (after_leave v j) (after_leave w k))
