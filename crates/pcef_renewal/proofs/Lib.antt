@@ -16,6 +16,7 @@ pub mod Played
 pub mod Quiet
 pub mod Reaching
 pub mod Rebound
+pub mod Refusing
 pub mod Regrouping
 pub mod Renumbered
 pub mod Returning

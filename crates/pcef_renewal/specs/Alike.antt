@@ -1,17 +1,17 @@
 -- Two sessions that what comes next meets alike (own choice), and that stay so.
-use Rattle.std.specs.Prelude.{ℕ, ◌≡◌, ◌==◌, ◌↔◌, true, List, [], None, Contains}
+use Rattle.std.specs.Prelude.{ℕ, ◌≡◌, ◌<◌, ◌==◌, ◌↔◌, false, true, List, [], Option, Some, None, Contains, length}
 use Rattle.pcef_rule.specs.declared.quantity.Qos.{Qos}
 use Rattle.pcef_model.specs.declared.command.Command.{Command}
-use Rattle.pcef_model.specs.declared.command.Command.TheVariants.{LoseBearer}
+use Rattle.pcef_model.specs.declared.command.Command.TheVariants.{LoseBearer, ReportNow}
 use Rattle.pcef_model.specs.declared.row.Row.{Row}
 use Rattle.pcef_model.specs.ActiveRules.{Active}
-use Rattle.pcef_model.specs.Commands.{is_among}
+use Rattle.pcef_model.specs.Commands.{is_among, key_named}
 use Rattle.pcef_model.specs.Entries.{Journal}
 use Rattle.pcef_model.specs.Generations.{has_bearer}
-use Rattle.pcef_model.specs.Journals.{level_of, now, slots, subscribed}
+use Rattle.pcef_model.specs.Journals.{attached, level_of, now, slots, subscribed}
 use Rattle.pcef_model.specs.Lawful.{Lawful}
 use Rattle.pcef_model.specs.Outcomes.{changes}
-use Rattle.pcef_model.specs.Refusals.{first_of, refusals, was_closed}
+use Rattle.pcef_model.specs.Refusals.{finds_no_slot, first_of, limited_count, refusals, was_closed, was_terminated}
 use Rattle.pcef_model.specs.Reports.{after_attach, after_command, after_flush, after_leave}
 use Rattle.pcef_model.specs.Setting.{Setting}
 use Rattle.pcef_renewal.specs.Accepting.{entered}
@@ -60,3 +60,19 @@ RowsKeepAlike = (p : Setting) (j k : Journal) → Alike p j k → (rs ss : List 
 
 abbrev pub WorkersKeepAlike : Type 0
 WorkersKeepAlike = (p : Setting) (j k : Journal) → Alike p j k → Alike p (after_attach j) (after_attach k) × ((v w : ℕ) → Alike p (after_leave v j) (after_leave w k))
+
+-- ---- refusals
+-- the key that a command names or asks for
+abbrev pub key_asked : Setting → Command → Option (List ℕ)
+key_asked p (ReportNow key) = Some key
+key_asked p c = key_named p c
+
+-- k hasn't forgotten this key, or j has no slot for it either; and j has a slot for it, or another free one
+abbrev pub KnowsAlike : Setting → Journal → Journal → Option (List ℕ) → Type 0
+KnowsAlike p j k named = (key : List ℕ) → named ≡ Some key → (is_among key (slots p k) ≡ is_among key (slots p j)) × (finds_no_slot p j (Some key) ≡ false)
+
+-- while both have commands left, and as many workers, the same conditions refuse a command in both, in the same order
+abbrev pub CommandsAreRefusedAlike : Type 0
+CommandsAreRefusedAlike = (p : Setting) (j k : Journal) → Lawful p j → Lawful p k → Alike p j k → (number : ℕ → ℕ) → Renumbers p j k number →
+    was_terminated k ≡ was_terminated j → length (attached k) ≡ length (attached j) → limited_count j < p.commands → limited_count k < p.commands →
+    (c : Command) → KnowsAlike p j k (key_asked p c) → refusals p k (image number c) ≡ refusals p j c

@@ -1,7 +1,7 @@
 //! Laws of renewals, proved for whoever reads the definitions.
 
 ghost use Rattle.pcef_renewal.specs.Accepting.{RenewalsAreTaken};
-ghost use Rattle.pcef_renewal.specs.Alike.{CommandsKeepAlike, NewSessionsAreAlike, PlacesRenumber, RowsKeepAlike, WorkersKeepAlike};
+ghost use Rattle.pcef_renewal.specs.Alike.{CommandsAreRefusedAlike, CommandsKeepAlike, NewSessionsAreAlike, PlacesRenumber, RowsKeepAlike, WorkersKeepAlike};
 ghost use Rattle.pcef_renewal.specs.Likeness.{LikeSessionsCountAlike, LikeSessionsDecideAlike, OctetsAddUp, RenewalsAreLike, RenewalsNeedWhatTheySay};
 ghost use Rattle.pcef_renewal.specs.Maps.{BearersAreRenumbered, CountsBeginAnew, RenewalsComeAgain, SlotsAreRenumbered};
 ghost use Rattle.pcef_renewal.specs.Reaching.{OutOfReachIsNotReached};
@@ -45,11 +45,13 @@ pub fn renewals_number_anew()
 {}
 
 /// A new session that is like the old one stays alike, octets and grants aside, whatever both accept: each command, of which
-/// the loss of a bearer names it by its new number, rows, and workers that come and leave.
+/// the loss of a bearer names it by its new number, rows, and workers that come and leave. They refuse the same commands, but
+/// for a key that the new one has forgotten, and where only one of them is full.
 pub fn alike_sessions_stay_alike()
     ensures begin { NewSessionsAreAlike }
     ensures bearers { PlacesRenumber }
     ensures commands { CommandsKeepAlike }
+    ensures refused { CommandsAreRefusedAlike }
     ensures rows { RowsKeepAlike }
     ensures workers { WorkersKeepAlike }
 {}

@@ -1,3 +1,4 @@
+use Rattle.pcef_renewal.proofs.Refusing.{refuse_alike}
 use Rattle.pcef_renewal.proofs.Renumbered.{numbers_apart}
 use Rattle.pcef_renewal.proofs.Staying.{command_alike, like_is_alike, rows_alike, workers_alike}
 use Rattle.pcef_renewal.proofs.laws.alike_sessions_stay_alike.Goals as goal
@@ -10,6 +11,9 @@ returns-clause-bearers c = numbers_apart
 
 pub returns-clause-commands : goal.returns-clause-commands
 returns-clause-commands c = command_alike
+
+pub returns-clause-refused : goal.returns-clause-refused
+returns-clause-refused c = refuse_alike
 
 pub returns-clause-rows : goal.returns-clause-rows
 returns-clause-rows c = rows_alike
