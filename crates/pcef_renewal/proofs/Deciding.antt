@@ -29,7 +29,8 @@ use Rattle.pcef_model.proofs.Reports.{tell_counted}
 use Rattle.pcef_model.specs.declared.entry.Entry.TheVariants as entry
 use Rattle.pcef_model.proofs.SlotPlaces.{more_among}
 use Rattle.pcef_model.proofs.SlotsGrow.{oldest_grow}
-use Rattle.pcef_renewal.specs.Likeness.{AreEnded, Like, counted_in_all, is_kept, reported_in_all}
+use Rattle.pcef_renewal.specs.Alike.{Alike}
+use Rattle.pcef_renewal.specs.Likeness.{AreEnded, counted_in_all, reported_in_all}
 use Rattle.pcef_renewal.proofs.Fitting.{none_at}
 use Rattle.pcef_renewal.proofs.Likeness.{on_has_slot}
 use Rattle.pcef_renewal.proofs.Order.{some_there}
@@ -62,10 +63,10 @@ module _ (xs ys : List Active) (ue : Addr) (header : Header) (once_xs : NamesOnc
             ∙ sym (find_none (is_decisive ys ue header) ys (λ r there. sym (same_decisive r) ∙ misses r (back r there)))
       ]
 
-pub decided_alike : (p : Setting) (j k : Journal) → Like p j k → (header : Header) → decision p (now p k) header ≡ decision p (now p j) header
-decided_alike p j k like header =
+pub decided_alike : (p : Setting) (j k : Journal) → Alike p j k → (header : Header) → decision p (now p k) header ≡ decision p (now p j) header
+decided_alike p j k alike header =
     ap (λ o. if is_assigned (ue_side header) p.ue then decided_by header o else stray)
-    (decides_alike (now p k).rules (now p j).rules p.ue header (made_once p (tables k)) (made_once p (tables j)) (λ r. (like.rules r).1) (λ r. (like.rules r).0))
+    (decides_alike (now p k).rules (now p j).rules p.ue header (made_once p (tables k)) (made_once p (tables j)) (λ r. (alike.rules r).1) (λ r. (alike.rules r).0))
 
 -- ---- for which keys a packet counts
 same_level : (a b : Bool) → (if a then Session else Rule) ≡ (if b then Session else Rule) → a ≡ b
@@ -80,17 +81,17 @@ passed_alike g h key same unmatched = refl
 passed_alike g h key same (gated r) = refl
 passed_alike g h key same (passed r) = ap (λ b. is_key key r.properties.key || b) same
 
-pub counted_alike : (p : Setting) (j k : Journal) → Like p j k → (key : List ℕ) (header : Header) → counts_in p (now p k) key header ≡ counts_in p (now p j) key header
-counted_alike p j k like key header =
+pub counted_alike : (p : Setting) (j k : Journal) → Alike p j k → (key : List ℕ) (header : Header) → counts_in p (now p k) key header ≡ counts_in p (now p j) key header
+counted_alike p j k alike key header =
     elim (cases_Bool (is_among key (now p j).on)) [
       | inr off ↦
-          and_right (passed_for (now p k) key (decision p (now p k) header)) (is_among key (now p k).on) (like.on key ∙ off)
+          and_right (passed_for (now p k) key (decision p (now p k) header)) (is_among key (now p k).on) (alike.on key ∙ off)
           ∙ sym (and_right (passed_for (now p j) key (decision p (now p j) header)) (is_among key (now p j).on) off)
       | inl on ↦
-          let kept : is_kept p j key ≡ true = rw on refl in
-          let session = same_level (is_among key (now p k).session) (is_among key (now p j).session) (like.levels key kept) in
+          let there : is_among key (slots p k) ≡ true = on_has_slot p (tables k) key (alike.on key ∙ on) in
+          let session = same_level (is_among key (now p k).session) (is_among key (now p j).session) (alike.levels key there) in
           ap₂ (λ a b. a && b)
-          (ap (passed_for (now p k) key) (decided_alike p j k like header) ∙ passed_alike (now p k) (now p j) key session (decision p (now p j) header)) (like.on key)
+          (ap (passed_for (now p k) key) (decided_alike p j k alike header) ∙ passed_alike (now p k) (now p j) key session (decision p (now p j) header)) (alike.on key)
     ]
 
 -- ---- octets

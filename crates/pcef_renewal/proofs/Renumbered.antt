@@ -344,7 +344,7 @@ keys_new p j lawful =
     ∙ filter_kept (λ key. is_among key (keys_on p j)) (keys_on p j) (λ key there. among_from key (keys_on p j) there)
 
 -- ---- the same grants
-some_left : (g : Option ℕ) (octets : ℕ) → 1 ≤ grant_after g octets
+pub some_left : (g : Option ℕ) (octets : ℕ) → 1 ≤ grant_after g octets
 some_left None octets = omega arith
 some_left (Some amount) octets =
     elim (cases_Bool (nat_lt octets amount)) [

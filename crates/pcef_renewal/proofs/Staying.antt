@@ -85,7 +85,7 @@ moved p g h c d once to same stay r there =
     ]
 
 -- ---- keys that are on
-among_filter : (test : List ℕ → Bool) (key : List ℕ) (keys : List (List ℕ)) → is_among key (filter test keys) ≡ (is_among key keys && test key)
+pub among_filter : (test : List ℕ → Bool) (key : List ℕ) (keys : List (List ℕ)) → is_among key (filter test keys) ≡ (is_among key keys && test key)
 among_filter test key [] = refl
 among_filter test key (x ∷ keys) =
     elim (cases_Bool (same_name key x)) [

@@ -1,5 +1,6 @@
 -- Two sessions that what comes next meets alike (own choice), and that stay so.
 use Rattle.std.specs.Prelude.{ℕ, ◌≡◌, ◌<◌, ◌==◌, ◌↔◌, false, true, List, [], Option, Some, None, Contains, length}
+use Rattle.pcef_packet.specs.declared.header.Header.{Header}
 use Rattle.pcef_rule.specs.declared.quantity.Qos.{Qos}
 use Rattle.pcef_model.specs.declared.command.Command.{Command}
 use Rattle.pcef_model.specs.declared.command.Command.TheVariants.{LoseBearer, ReportNow}
@@ -8,7 +9,7 @@ use Rattle.pcef_model.specs.ActiveRules.{Active}
 use Rattle.pcef_model.specs.Commands.{is_among, key_named}
 use Rattle.pcef_model.specs.Entries.{Journal}
 use Rattle.pcef_model.specs.Generations.{has_bearer}
-use Rattle.pcef_model.specs.Journals.{attached, level_of, now, slots, subscribed}
+use Rattle.pcef_model.specs.Journals.{attached, counts_in, decision, level_of, now, slots, subscribed}
 use Rattle.pcef_model.specs.Lawful.{Lawful}
 use Rattle.pcef_model.specs.Outcomes.{changes}
 use Rattle.pcef_model.specs.Refusals.{finds_no_slot, first_of, limited_count, refusals, was_closed, was_terminated}
@@ -60,6 +61,15 @@ RowsKeepAlike = (p : Setting) (j k : Journal) → Alike p j k → (rs ss : List 
 
 abbrev pub WorkersKeepAlike : Type 0
 WorkersKeepAlike = (p : Setting) (j k : Journal) → Alike p j k → Alike p (after_attach j) (after_attach k) × ((v w : ℕ) → Alike p (after_leave v j) (after_leave w k))
+
+-- ---- packets
+-- each packet is decided by the same rule, or by none
+abbrev pub AlikeSessionsDecideAlike : Type 0
+AlikeSessionsDecideAlike = (p : Setting) (j k : Journal) → Alike p j k → (header : Header) → decision p (now p k) header ≡ decision p (now p j) header
+
+-- and counts for the same keys
+abbrev pub AlikeSessionsCountAlike : Type 0
+AlikeSessionsCountAlike = (p : Setting) (j k : Journal) → Alike p j k → (key : List ℕ) (header : Header) → counts_in p (now p k) key header ≡ counts_in p (now p j) key header
 
 -- ---- refusals
 -- the key that a command names or asks for

@@ -1,5 +1,6 @@
 pub mod Accepting
 pub mod Alike
+pub mod Counting
 pub mod Likeness
 pub mod Maps
 pub mod Reaching

@@ -1,13 +1,12 @@
 -- When a new session is like an old one (own choice): what it does from then on is the same, up to the numbers of bearers.
 use Rattle.std.specs.Prelude.{ℕ, ◌≡◌, ◌≤◌, ◌<◌, ◌+◌, ◌↔◌, Bool, true, ◌||◌, List, [], ◌∷◌, None, Contains}
-use Rattle.pcef_packet.specs.declared.header.Header.{Header}
 use Rattle.pcef_rule.specs.declared.quantity.Qos.{Qos}
 use Rattle.pcef_model.specs.declared.command.Command.TheVariants.{Terminate}
 use Rattle.pcef_model.specs.ActiveRules.{Active, has_key}
 use Rattle.pcef_model.specs.Commands.{is_among}
 use Rattle.pcef_model.specs.Entries.{Journal}
 use Rattle.pcef_model.specs.Generations.{has_bearer}
-use Rattle.pcef_model.specs.Journals.{counted, counts_in, decision, grant, level_of, now, reported, slots, subscribed, unreported}
+use Rattle.pcef_model.specs.Journals.{counted, grant, level_of, now, reported, slots, subscribed, unreported}
 use Rattle.pcef_model.specs.Lawful.{Lawful}
 use Rattle.pcef_model.specs.Refusals.{first_of, limited_count, refusals, total_now, was_closed}
 use Rattle.pcef_model.specs.Reports.{after_command, is_reached_by}
@@ -53,15 +52,6 @@ RenewalsNeedWhatTheySay = (p : Setting) (j : Journal) → Lawful p j → limited
 -- the new session is like the old one once it took the renewal
 abbrev pub RenewalsAreLike : Type 0
 RenewalsAreLike = (p : Setting) (j : Journal) → Lawful p j → Like p j (entered (renewal p j) [])
-
--- ---- what follows
--- each packet is decided by the same rule, or by none
-abbrev pub LikeSessionsDecideAlike : Type 0
-LikeSessionsDecideAlike = (p : Setting) (j k : Journal) → Like p j k → (header : Header) → decision p (now p k) header ≡ decision p (now p j) header
-
--- and counts for the same keys
-abbrev pub LikeSessionsCountAlike : Type 0
-LikeSessionsCountAlike = (p : Setting) (j k : Journal) → Like p j k → (key : List ℕ) (header : Header) → counts_in p (now p k) key header ≡ counts_in p (now p j) key header
 
 -- ---- octets over any number of renewals
 -- each of these sessions was lawful, and accepts a Terminate

@@ -1,8 +1,9 @@
 //! Laws of renewals, proved for whoever reads the definitions.
 
 ghost use Rattle.pcef_renewal.specs.Accepting.{RenewalsAreTaken};
-ghost use Rattle.pcef_renewal.specs.Alike.{CommandsAreRefusedAlike, CommandsKeepAlike, NewSessionsAreAlike, PlacesRenumber, RowsKeepAlike, WorkersKeepAlike};
-ghost use Rattle.pcef_renewal.specs.Likeness.{LikeSessionsCountAlike, LikeSessionsDecideAlike, OctetsAddUp, RenewalsAreLike, RenewalsNeedWhatTheySay};
+ghost use Rattle.pcef_renewal.specs.Alike.{AlikeSessionsCountAlike, AlikeSessionsDecideAlike, CommandsAreRefusedAlike, CommandsKeepAlike, NewSessionsAreAlike, PlacesRenumber, RowsKeepAlike, WorkersKeepAlike};
+ghost use Rattle.pcef_renewal.specs.Counting.{NewSessionsReachAlike, PacketsReachAlike};
+ghost use Rattle.pcef_renewal.specs.Likeness.{OctetsAddUp, RenewalsAreLike, RenewalsNeedWhatTheySay};
 ghost use Rattle.pcef_renewal.specs.Maps.{BearersAreRenumbered, CountsBeginAnew, RenewalsComeAgain, SlotsAreRenumbered};
 ghost use Rattle.pcef_renewal.specs.Reaching.{OutOfReachIsNotReached};
 
@@ -25,8 +26,8 @@ pub fn new_sessions_are_like_old_ones()
 /// often there was a renewal, the octets that were counted for a key are those that all its sessions reported, and what the
 /// last one hasn't reported yet.
 pub fn like_sessions_judge_alike()
-    ensures decide { LikeSessionsDecideAlike }
-    ensures count { LikeSessionsCountAlike }
+    ensures decide { AlikeSessionsDecideAlike }
+    ensures count { AlikeSessionsCountAlike }
     ensures octets { OctetsAddUp }
 {}
 
@@ -54,4 +55,11 @@ pub fn alike_sessions_stay_alike()
     ensures refused { CommandsAreRefusedAlike }
     ensures rows { RowsKeepAlike }
     ensures workers { WorkersKeepAlike }
+{}
+
+/// While a session has no command, rows of the same packets reach the same grants in it and in the new one, as far as none
+/// was reached at the renewal: each threshold is that of one session.
+pub fn alike_sessions_reach_alike()
+    ensures begin { NewSessionsReachAlike }
+    ensures packets { PacketsReachAlike }
 {}

@@ -1,0 +1,51 @@
+-- A grant is reached in both of two sessions that are alike by the same packets.
+use Rattle.std.specs.Prelude.{ℕ, ◌≡◌, ◌<◌, ◌+◌, false, true, All, List, [], ◌∷◌, map, if◌then◌else◌}
+use Rattle.pcef_packet.specs.declared.header.Header.{Header}
+use Rattle.pcef_model.specs.declared.row.Row.{Row}
+use Rattle.pcef_model.specs.Commands.{is_among}
+use Rattle.pcef_model.specs.Entries.{Journal}
+use Rattle.pcef_model.specs.Generations.{Generation}
+use Rattle.pcef_model.specs.Journals.{counts_in, gen, now, unreported}
+use Rattle.pcef_model.specs.Lawful.{Lawful}
+use Rattle.pcef_model.specs.Reports.{after_flush, is_reached, with_rows}
+use Rattle.pcef_model.specs.Setting.{Setting}
+use Rattle.pcef_renewal.specs.Accepting.{entered}
+use Rattle.pcef_renewal.specs.Alike.{Alike}
+use Rattle.pcef_renewal.specs.Likeness.{ReachesAlike}
+use Rattle.pcef_renewal.specs.Renewal.{out_of_reach, renewal}
+
+-- the same grants are reached now, and each key that is on reaches its own with the same octets from here on
+pub record ReachAlike (p : Setting) (j k : Journal) : Type 0 where
+  pub reached : (key : List ℕ) → is_reached p k key ≡ is_reached p j key
+  pub later : (key : List ℕ) → is_among key (now p j).on ≡ true → ReachesAlike p j k key
+
+-- ---- the same packets
+abbrev pub headers : List Row → List Header
+headers rows = map (λ r. r.header) rows
+
+-- the octets of those packets that count for a key in this generation
+abbrev pub octets_in : Setting → Generation → List ℕ → List Header → ℕ
+octets_in p g key [] = 0
+octets_in p g key (header ∷ headers) = (if counts_in p g key header then header.octets else 0) + octets_in p g key headers
+
+-- rows that the newest generation judged
+abbrev pub AreNewest : Journal → List Row → Type 0
+AreNewest j rows = All (λ (r : Row). r.generation ≡ gen j) rows
+
+-- both take over rows of the same packets, which their newest generations judged, and a key has fewer than 2^64 - 1 octets
+-- unreported with them
+pub record SamePackets (p : Setting) (j k : Journal) (rs ss : List Row) : Type 0 where
+  pub newest : AreNewest j rs
+  pub newest_too : AreNewest k ss
+  pub same : headers ss ≡ headers rs
+  pub few : (key : List ℕ) → unreported p k key + octets_in p (now p k) key (headers ss) < out_of_reach
+
+-- ---- laws
+-- it is so at a renewal, where no grant of the old session is reached: while usage reports are subscribed none ever stays so
+abbrev pub NewSessionsReachAlike : Type 0
+NewSessionsReachAlike = (p : Setting) (j : Journal) → Lawful p j → ((key : List ℕ) → is_reached p j key ≡ false) → ReachAlike p j (entered (renewal p j) [])
+
+-- rows of the same packets reach the same grants, and so it stays once they are reported
+abbrev pub PacketsReachAlike : Type 0
+PacketsReachAlike = (p : Setting) (j k : Journal) → Lawful p j → Lawful p k → Alike p j k → ReachAlike p j k → (rs ss : List Row) → SamePackets p j k rs ss →
+    ((key : List ℕ) → is_reached p (with_rows ss k) key ≡ is_reached p (with_rows rs j) key) × ReachAlike p (after_flush p j rs) (after_flush p k ss)
