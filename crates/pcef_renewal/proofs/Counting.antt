@@ -117,7 +117,7 @@ record Settled (p : Setting) (j j2 : Journal) (key : List ℕ) : Type 0 where
   gone : is_reached p j key ≡ true → grant j2 key ≡ None
   same : is_reached p j key ≡ false → (grant j2 key ≡ grant j key) × (unreported p j2 key ≡ unreported p j key)
 
-on_and : (a b : Bool) → (a && b) ≡ true → a ≡ true
+pub on_and : (a b : Bool) → (a && b) ≡ true → a ≡ true
 on_and true b is = refl
 on_and false b is = absurd cc
 
@@ -165,7 +165,7 @@ module _ (p : Setting) (j k : Journal) (events : subscribed k ≡ subscribed j) 
       less : (a b m : ℕ) → a ≡ b → a + m < out_of_reach → b + m < out_of_reach
       less a b m same far = omega (arith, same, far)
 
-  thresholds_alike : ReachAlike p (with_thresholds p j) (with_thresholds p k)
+  pub thresholds_alike : ReachAlike p (with_thresholds p j) (with_thresholds p k)
   unfolding thresholds with_reports
   thresholds_alike =
       elim (cases_Bool (subscribed j).usage_report) [

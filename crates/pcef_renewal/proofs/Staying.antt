@@ -114,10 +114,10 @@ other_switches (LoseBearer id) on isnt = absurd cc
 other_switches Close on isnt = absurd cc
 other_switches Terminate on isnt = absurd cc
 
-abbrev still : Generation → List Active → List ℕ → Bool
+abbrev pub still : Generation → List Active → List ℕ → Bool
 still g after key = not (has_key key g.rules) || has_key key after
 
-on_is : (p : Setting) (j : Journal) (c : Command) (key : List ℕ) →
+pub on_is : (p : Setting) (j : Journal) (c : Command) (key : List ℕ) →
     is_among key (now p (entry.Command c ∷ j)).on ≡ (is_among key (switched c (now p j).on) && still (now p j) (rules_after p (now p j) c) key)
 on_is p j c key =
     elim (cases_Bool (is_table c)) [
@@ -339,7 +339,7 @@ module _ (p : Setting) (j k : Journal) (lawful_j : Lawful p j) (lawful_k : Lawfu
             ∙ sym (ap (is_among key) (session_now p j c) ∙ named_level p j c key accepted_j changing (ap (is_key key) (sym names_same) ∙ named)))
       ]
 
-  entry_alike : Alike p j2 k2
+  pub entry_alike : Alike p j2 k2
   unfolding subscribed
   entry_alike = record {
     rules = λ r. (

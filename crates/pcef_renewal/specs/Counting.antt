@@ -1,16 +1,20 @@
 -- A grant is reached in both of two sessions that are alike by the same packets.
-use Rattle.std.specs.Prelude.{ℕ, ◌≡◌, ◌<◌, ◌+◌, false, true, All, List, [], ◌∷◌, map, if◌then◌else◌}
+use Rattle.std.specs.Prelude.{ℕ, ◌≡◌, ◌<◌, ◌+◌, false, true, All, List, [], ◌∷◌, Option, Some, None, map, if◌then◌else◌}
 use Rattle.pcef_packet.specs.declared.header.Header.{Header}
+use Rattle.pcef_model.specs.declared.command.Command.{Command}
+use Rattle.pcef_model.specs.declared.command.Command.TheVariants.{Monitor, ReportNow}
 use Rattle.pcef_model.specs.declared.row.Row.{Row}
 use Rattle.pcef_model.specs.Commands.{is_among}
 use Rattle.pcef_model.specs.Entries.{Journal}
 use Rattle.pcef_model.specs.Generations.{Generation}
-use Rattle.pcef_model.specs.Journals.{counts_in, gen, now, unreported}
+use Rattle.pcef_model.specs.Journals.{counts_in, gen, grant, now, unreported}
 use Rattle.pcef_model.specs.Lawful.{Lawful}
-use Rattle.pcef_model.specs.Reports.{after_flush, is_reached, with_rows}
+use Rattle.pcef_model.specs.Outcomes.{changes}
+use Rattle.pcef_model.specs.Refusals.{first_of, refusals}
+use Rattle.pcef_model.specs.Reports.{after_command, after_flush, is_reached, is_reached_by, with_rows}
 use Rattle.pcef_model.specs.Setting.{Setting}
 use Rattle.pcef_renewal.specs.Accepting.{entered}
-use Rattle.pcef_renewal.specs.Alike.{Alike}
+use Rattle.pcef_renewal.specs.Alike.{Alike, Renumbers, image}
 use Rattle.pcef_renewal.specs.Likeness.{ReachesAlike}
 use Rattle.pcef_renewal.specs.Renewal.{out_of_reach, renewal}
 
@@ -40,6 +44,20 @@ pub record SamePackets (p : Setting) (j k : Journal) (rs ss : List Row) : Type 0
   pub same : headers ss ≡ headers rs
   pub few : (key : List ℕ) → unreported p k key + octets_in p (now p k) key (headers ss) < out_of_reach
 
+-- ---- commands
+-- the key that a Monitor gives a grant, or whose octets are asked for
+abbrev pub key_granted : Command → Option (List ℕ)
+key_granted (Monitor key amount level) = Some key
+key_granted (ReportNow key) = Some key
+key_granted c = None
+
+-- a new grant of a key is counted from the same octets in both, fewer than 2^64 - 1; and where its octets are asked for, so
+-- that its grant goes on from none, both reach it with the same
+abbrev pub EvenFor : Setting → Journal → Journal → Command → Type 0
+EvenFor p j k (Monitor key amount level) = (unreported p k key ≡ unreported p j key) × (unreported p k key < out_of_reach)
+EvenFor p j k (ReportNow key) = is_among key (now p j).on ≡ true → (n : ℕ) → n < out_of_reach → is_reached_by (grant k key) n ≡ is_reached_by (grant j key) n
+EvenFor p j k c = Unit {0}
+
 -- ---- laws
 -- it is so at a renewal, where no grant of the old session is reached: while usage reports are subscribed none ever stays so
 abbrev pub NewSessionsReachAlike : Type 0
@@ -49,3 +67,9 @@ NewSessionsReachAlike = (p : Setting) (j : Journal) → Lawful p j → ((key : L
 abbrev pub PacketsReachAlike : Type 0
 PacketsReachAlike = (p : Setting) (j k : Journal) → Lawful p j → Lawful p k → Alike p j k → ReachAlike p j k → (rs ss : List Row) → SamePackets p j k rs ss →
     ((key : List ℕ) → is_reached p (with_rows ss k) key ≡ is_reached p (with_rows rs j) key) × ReachAlike p (after_flush p j rs) (after_flush p k ss)
+
+-- a command that both accept leaves it so
+abbrev pub CommandsReachAlike : Type 0
+CommandsReachAlike = (p : Setting) (j k : Journal) → Lawful p j → Lawful p k → Alike p j k → ReachAlike p j k → (number : ℕ → ℕ) → Renumbers p j k number → (c : Command) →
+    first_of (refusals p j c) ≡ None → changes p j c ≡ true → first_of (refusals p k (image number c)) ≡ None → EvenFor p j k c →
+    ReachAlike p (after_command p j c) (after_command p k (image number c))

@@ -2,7 +2,7 @@
 
 ghost use Rattle.pcef_renewal.specs.Accepting.{RenewalsAreTaken};
 ghost use Rattle.pcef_renewal.specs.Alike.{AlikeSessionsCountAlike, AlikeSessionsDecideAlike, CommandsAreRefusedAlike, CommandsKeepAlike, NewSessionsAreAlike, PlacesRenumber, RowsKeepAlike, WorkersKeepAlike};
-ghost use Rattle.pcef_renewal.specs.Counting.{NewSessionsReachAlike, PacketsReachAlike};
+ghost use Rattle.pcef_renewal.specs.Counting.{CommandsReachAlike, NewSessionsReachAlike, PacketsReachAlike};
 ghost use Rattle.pcef_renewal.specs.Likeness.{OctetsAddUp, RenewalsAreLike, RenewalsNeedWhatTheySay};
 ghost use Rattle.pcef_renewal.specs.Maps.{BearersAreRenumbered, CountsBeginAnew, RenewalsComeAgain, SlotsAreRenumbered};
 ghost use Rattle.pcef_renewal.specs.Reaching.{OutOfReachIsNotReached};
@@ -57,9 +57,11 @@ pub fn alike_sessions_stay_alike()
     ensures workers { WorkersKeepAlike }
 {}
 
-/// While a session has no command, rows of the same packets reach the same grants in it and in the new one, as far as none
-/// was reached at the renewal: each threshold is that of one session.
+/// Rows of the same packets reach the same grants in a session and in the new one, as far as none was reached at the
+/// renewal: each threshold is that of one session. Commands that both accept leave it so. A Monitor or a report of a key
+/// does where both count it evenly, as where the old session had no octets of it unreported at the renewal.
 pub fn alike_sessions_reach_alike()
     ensures begin { NewSessionsReachAlike }
     ensures packets { PacketsReachAlike }
+    ensures commands { CommandsReachAlike }
 {}

@@ -1,4 +1,5 @@
 use Rattle.pcef_renewal.proofs.Counting.{new_reach_alike, packets_reach_alike}
+use Rattle.pcef_renewal.proofs.Granting.{command_reach_alike}
 use Rattle.pcef_renewal.proofs.laws.alike_sessions_reach_alike.Goals as goal
 
 pub returns-clause-begin : goal.returns-clause-begin
@@ -6,3 +7,6 @@ returns-clause-begin c = new_reach_alike
 
 pub returns-clause-packets : goal.returns-clause-packets
 returns-clause-packets c = packets_reach_alike
+
+pub returns-clause-commands : goal.returns-clause-commands
+returns-clause-commands c = command_reach_alike
