@@ -8,6 +8,7 @@ pub mod Deciding
 pub mod Fitting
 pub mod FreeBearers
 pub mod Getters
+pub mod GoingOn
 pub mod Granting
 pub mod Likeness
 pub mod Loops

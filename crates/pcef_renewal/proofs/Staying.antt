@@ -310,7 +310,7 @@ module _ (p : Setting) (j k : Journal) (lawful_j : Lawful p j) (lawful_k : Lawfu
       from false true n had some = refl
       from false false n had some = some
 
-  changing_k : changes p k d ≡ true
+  pub changing_k : changes p k d ≡ true
   changing_k = changes_alike c changing
     where
       changes_alike : (c : Command) → changes p j c ≡ true → changes p k (image number c) ≡ true

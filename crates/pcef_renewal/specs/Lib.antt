@@ -1,6 +1,7 @@
 pub mod Accepting
 pub mod Alike
 pub mod Counting
+pub mod GoingOn
 pub mod Likeness
 pub mod Maps
 pub mod Reaching

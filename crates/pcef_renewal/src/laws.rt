@@ -3,6 +3,7 @@
 ghost use Rattle.pcef_renewal.specs.Accepting.{RenewalsAreTaken};
 ghost use Rattle.pcef_renewal.specs.Alike.{AlikeSessionsCountAlike, AlikeSessionsDecideAlike, CommandsAreRefusedAlike, CommandsKeepAlike, NewSessionsAreAlike, PlacesRenumber, RowsKeepAlike, WorkersKeepAlike};
 ghost use Rattle.pcef_renewal.specs.Counting.{CommandsReachAlike, NewSessionsReachAlike, PacketsReachAlike};
+ghost use Rattle.pcef_renewal.specs.GoingOn.{SessionsGoOnAlike};
 ghost use Rattle.pcef_renewal.specs.Likeness.{OctetsAddUp, RenewalsAreLike, RenewalsNeedWhatTheySay};
 ghost use Rattle.pcef_renewal.specs.Maps.{BearersAreRenumbered, CountsBeginAnew, RenewalsComeAgain, SlotsAreRenumbered};
 ghost use Rattle.pcef_renewal.specs.Reaching.{OutOfReachIsNotReached};
@@ -64,4 +65,10 @@ pub fn alike_sessions_reach_alike()
     ensures begin { NewSessionsReachAlike }
     ensures packets { PacketsReachAlike }
     ensures commands { CommandsReachAlike }
+{}
+
+/// Whatever a session and the new one that goes on for it both accept from the renewal on, they stay alike: so each packet is
+/// decided by the same rule and counts for the same keys, the same commands are refused, and the same grants are reached.
+pub fn sessions_go_on_alike()
+    ensures { SessionsGoOnAlike }
 {}

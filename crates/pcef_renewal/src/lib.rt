@@ -16,7 +16,7 @@ mod world;
 pub use laws::{
     alike_sessions_reach_alike, alike_sessions_stay_alike, like_sessions_judge_alike,
     new_sessions_are_like_old_ones, out_of_reach_is_not_reached, renewals_are_taken,
-    renewals_number_anew,
+    renewals_number_anew, sessions_go_on_alike,
 };
 pub use list::{ListFault, OUT_OF_REACH, renewal};
 pub use places::BearerNumbers;
