@@ -272,7 +272,7 @@ asked_for p j lawful l on =
 abbrev Even : Setting → Journal → Journal → List ℕ → Type 0
 Even p j k key = (is_reached_by (grant k key) (unreported p k key) ≡ is_reached_by (grant j key) (unreported p j key)) × ReachesAlike p j k key
 
-abbrev behind : Setting → Journal → Command → Journal
+abbrev pub behind : Setting → Journal → Command → Journal
 behind p j c = with_reports p (plan p j c) (entry.Command c ∷ j)
 
 -- by what both grants and octets are now
@@ -357,7 +357,7 @@ module _ (p : Setting) (j k : Journal) (lawful_j : Lawful p j) (lawful_k : Lawfu
   on_both : (key : List ℕ) → is_among key (now p (behind p k d)).on ≡ is_among key (now p (behind p j c)).on
   on_both key = ap (λ (g : Generation). is_among key g.on) (tell_now p (plan p k d) (entry.Command d ∷ k)) ∙ alike_then.on key ∙ sym (on_j key)
 
-  behind_alike : ReachAlike p (behind p j c) (behind p k d)
+  pub behind_alike : ReachAlike p (behind p j c) (behind p k d)
   behind_alike = record {
     reached = λ key. elim (cases_Bool (is_among key (now p (entry.Command c ∷ j)).on)) [
       | inl on ↦ ap₂ (λ a b. a && b) (on_both key) (all_even key on).0

@@ -22,6 +22,7 @@ pub mod Rebound
 pub mod Refusing
 pub mod Regrouping
 pub mod Renumbered
+pub mod Reporting
 pub mod Returning
 pub mod Saying
 pub mod Staying

@@ -133,7 +133,7 @@ on_is p j c key =
     from true false = refl
     from false b = refl
 
-switched_alike : (c : Command) (ks js : List (List ℕ)) → ((key : List ℕ) → is_among key ks ≡ is_among key js) → (key : List ℕ) → is_among key (switched c ks) ≡ is_among key (switched c js)
+pub switched_alike : (c : Command) (ks js : List (List ℕ)) → ((key : List ℕ) → is_among key ks ≡ is_among key js) → (key : List ℕ) → is_among key (switched c ks) ≡ is_among key (switched c js)
 switched_alike (Monitor l amount level) ks js same key = among_add key l ks ∙ ap (λ b. b || same_name key l) (same key) ∙ sym (among_add key l js)
 switched_alike (Stop l) ks js same key =
     among_filter (λ k. not (same_name l k)) key ks ∙ ap (λ b. b && not (same_name l key)) (same key) ∙ sym (among_filter (λ k. not (same_name l k)) key js)
@@ -277,10 +277,10 @@ module _ (p : Setting) (j k : Journal) (lawful_j : Lawful p j) (lawful_k : Lawfu
   rules_back =
       moved p (now p k) (now p j) d c (made_once p (tables k)) (λ r. (alike.rules r).1) (sym makes_same) (λ r there. sym (stays_alike r ((alike.rules r).1 there)))
 
-  keyed_before : (key : List ℕ) → has_key key (now p k).rules ≡ has_key key (now p j).rules
+  pub keyed_before : (key : List ℕ) → has_key key (now p k).rules ≡ has_key key (now p j).rules
   keyed_before key = same_any (λ (r : Active). is_key key r.properties.key) (now p k).rules (now p j).rules (λ r. (alike.rules r).1) (λ r. (alike.rules r).0)
 
-  keyed_after : (key : List ℕ) → has_key key (rules_after p (now p k) d) ≡ has_key key (rules_after p (now p j) c)
+  pub keyed_after : (key : List ℕ) → has_key key (rules_after p (now p k) d) ≡ has_key key (rules_after p (now p j) c)
   keyed_after key = same_any (λ (r : Active). is_key key r.properties.key) (rules_after p (now p k) d) (rules_after p (now p j) c) rules_back rules_to
 
   abbrev j2 : Journal
@@ -376,7 +376,7 @@ has_slot_of : (keys : List (List ℕ)) (key : List ℕ) (named : Option (List �
 has_slot_of keys key None has is = absurd cc
 has_slot_of keys key (Some l) has is = ap (λ k. is_among k keys) (same_name_is key l is) ∙ has
 
-kept_has_slot : (p : Setting) (j : Journal) (key : List ℕ) → is_kept p j key ≡ true → is_among key (slots p j) ≡ true
+pub kept_has_slot : (p : Setting) (j : Journal) (key : List ℕ) → is_kept p j key ≡ true → is_among key (slots p j) ≡ true
 kept_has_slot p j key kept =
     elim (or_cases (is_among key (now p j).on) (has_key key (now p j).rules) kept) [
       | inl on ↦ on_has_slot p (tables j) key on

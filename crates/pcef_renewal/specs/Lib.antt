@@ -7,4 +7,5 @@ pub mod Maps
 pub mod Reaching
 pub mod Renewal
 pub mod Renewing
+pub mod Reporting
 pub mod private

@@ -6,6 +6,7 @@ ghost use Rattle.pcef_renewal.specs.Counting.{CommandsReachAlike, NewSessionsRea
 ghost use Rattle.pcef_renewal.specs.GoingOn.{SessionsGoOnAlike};
 ghost use Rattle.pcef_renewal.specs.Likeness.{OctetsAddUp, RenewalsAreLike, RenewalsNeedWhatTheySay};
 ghost use Rattle.pcef_renewal.specs.Maps.{BearersAreRenumbered, CountsBeginAnew, RenewalsComeAgain, SlotsAreRenumbered};
+ghost use Rattle.pcef_renewal.specs.Reporting.{CommandsReportAlike, PacketsReportAlike};
 ghost use Rattle.pcef_renewal.specs.Reaching.{OutOfReachIsNotReached};
 
 /// A new session with the same profile and catalog takes the whole renewal of an old one, command by command, without a
@@ -60,11 +61,14 @@ pub fn alike_sessions_stay_alike()
 
 /// Rows of the same packets reach the same grants in a session and in the new one, as far as none was reached at the
 /// renewal: each threshold is that of one session. Commands that both accept leave it so. A Monitor or a report of a key
-/// does where both count it evenly, as where the old session had no octets of it unreported at the renewal.
+/// does where both count it evenly, as where the old session had no octets of it unreported at the renewal. Rows and
+/// commands report the same in both, octets and the order in one answer aside; a Terminate may report more keys in one.
 pub fn alike_sessions_reach_alike()
     ensures begin { NewSessionsReachAlike }
     ensures packets { PacketsReachAlike }
     ensures commands { CommandsReachAlike }
+    ensures packet_reports { PacketsReportAlike }
+    ensures command_reports { CommandsReportAlike }
 {}
 
 /// Whatever a session and the new one that goes on for it both accept from the renewal on, they stay alike: so each packet is

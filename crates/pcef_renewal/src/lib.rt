@@ -2,7 +2,7 @@
 //!
 //! Its contracts say: which commands these are, read off the old session's journal; a new session with the same profile and
 //! catalog takes all of them, without a report; a session is ended and a new one begun with them in one step, or nothing
-//! changes.
+//! changes; and whatever both accept from there on, they stay alike.
 //!
 //! In the order of reading: `places`, `list`, `renewing`, `world`, `laws`.
 #![tactic(auto)]
