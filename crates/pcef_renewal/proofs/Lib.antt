@@ -3,6 +3,7 @@ pub mod ActiveFacts
 pub mod Anew
 pub mod Answering
 pub mod Budget
+pub mod Calling
 pub mod Counting
 pub mod Deciding
 pub mod Fitting

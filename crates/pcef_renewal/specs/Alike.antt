@@ -1,14 +1,15 @@
 -- Two sessions that what comes next meets alike (own choice), and that stay so.
-use Rattle.std.specs.Prelude.{ℕ, ◌≡◌, ◌<◌, ◌==◌, ◌↔◌, false, true, List, [], Option, Some, None, Contains, length}
+use Rattle.std.specs.Prelude.{ℕ, ◌≡◌, ◌<◌, ◌==◌, ◌↔◌, false, true, List, [], Option, Some, None, Contains, find, length, if◌then◌else◌}
 use Rattle.pcef_packet.specs.declared.header.Header.{Header}
 use Rattle.pcef_rule.specs.declared.quantity.Qos.{Qos}
 use Rattle.pcef_model.specs.declared.command.Command.{Command}
 use Rattle.pcef_model.specs.declared.command.Command.TheVariants.{LoseBearer, ReportNow}
 use Rattle.pcef_model.specs.declared.row.Row.{Row}
 use Rattle.pcef_model.specs.ActiveRules.{Active}
+use Rattle.pcef_model.specs.Bearers.{default_id}
 use Rattle.pcef_model.specs.Commands.{is_among, key_named}
 use Rattle.pcef_model.specs.Entries.{Journal}
-use Rattle.pcef_model.specs.Generations.{has_bearer}
+use Rattle.pcef_model.specs.Generations.{Generation, has_bearer}
 use Rattle.pcef_model.specs.Journals.{attached, counts_in, decision, level_of, now, slots, subscribed}
 use Rattle.pcef_model.specs.Lawful.{Lawful}
 use Rattle.pcef_model.specs.Outcomes.{changes}
@@ -36,6 +37,14 @@ pub record Alike (p : Setting) (j k : Journal) : Type 0 where
 abbrev pub Renumbers : Setting → Journal → Journal → (ℕ → ℕ) → Type 0
 Renumbers p j k number = (q : Qos) → has_bearer p (now p j).rules q ≡ true → (id : ℕ) → ((now p k).id_of q == number id) ≡ ((now p j).id_of q == id)
 
+-- the number in k of the bearer that has this one in j, and 0, which no bearer has, where there is none
+abbrev pub number_of : Generation → Option Active → ℕ
+number_of g None = 0
+number_of g (Some r) = g.id_of r.properties.qos
+
+abbrev pub number_in : Setting → Journal → Journal → ℕ → ℕ
+number_in p j k id = if id == default_id then default_id else number_of (now p k) (find (λ r. (now p j).id_of r.properties.qos == id) (now p j).rules)
+
 -- a command as it is given to k: the loss of a bearer names that bearer
 abbrev pub image : (ℕ → ℕ) → Command → Command
 image number (LoseBearer id) = LoseBearer (record { 0 = number id.0 })
@@ -48,6 +57,10 @@ NewSessionsAreAlike = (p : Setting) (j k : Journal) → Like p j k → Alike p j
 
 abbrev pub PlacesRenumber : Type 0
 PlacesRenumber = (p : Setting) (j : Journal) → Lawful p j → Renumbers p j (entered (renewal p j) []) (bearer_again p j)
+
+-- there are such numbers as long as they are alike
+abbrev pub BearersAreCalled : Type 0
+BearersAreCalled = (p : Setting) (j k : Journal) → Lawful p j → Lawful p k → Alike p j k → Renumbers p j k (number_in p j k)
 
 -- a command that both accept leaves them so
 abbrev pub CommandsKeepAlike : Type 0

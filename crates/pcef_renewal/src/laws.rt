@@ -1,7 +1,7 @@
 //! Laws of renewals, proved for whoever reads the definitions.
 
 ghost use Rattle.pcef_renewal.specs.Accepting.{RenewalsAreTaken};
-ghost use Rattle.pcef_renewal.specs.Alike.{AlikeSessionsCountAlike, AlikeSessionsDecideAlike, CommandsAreRefusedAlike, CommandsKeepAlike, NewSessionsAreAlike, PlacesRenumber, RowsKeepAlike, WorkersKeepAlike};
+ghost use Rattle.pcef_renewal.specs.Alike.{AlikeSessionsCountAlike, AlikeSessionsDecideAlike, BearersAreCalled, CommandsAreRefusedAlike, CommandsKeepAlike, NewSessionsAreAlike, PlacesRenumber, RowsKeepAlike, WorkersKeepAlike};
 ghost use Rattle.pcef_renewal.specs.Counting.{CommandsReachAlike, NewSessionsReachAlike, PacketsReachAlike};
 ghost use Rattle.pcef_renewal.specs.GoingOn.{SessionsGoOnAlike};
 ghost use Rattle.pcef_renewal.specs.Likeness.{OctetsAddUp, RenewalsAreLike, RenewalsNeedWhatTheySay};
@@ -53,6 +53,7 @@ pub fn renewals_number_anew()
 pub fn alike_sessions_stay_alike()
     ensures begin { NewSessionsAreAlike }
     ensures bearers { PlacesRenumber }
+    ensures called { BearersAreCalled }
     ensures commands { CommandsKeepAlike }
     ensures refused { CommandsAreRefusedAlike }
     ensures rows { RowsKeepAlike }

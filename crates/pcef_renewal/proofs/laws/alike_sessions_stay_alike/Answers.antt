@@ -1,3 +1,4 @@
+use Rattle.pcef_renewal.proofs.Calling.{numbers_called}
 use Rattle.pcef_renewal.proofs.Refusing.{refuse_alike}
 use Rattle.pcef_renewal.proofs.Renumbered.{numbers_apart}
 use Rattle.pcef_renewal.proofs.Staying.{command_alike, like_is_alike, rows_alike, workers_alike}
@@ -20,3 +21,6 @@ returns-clause-rows c = rows_alike
 
 pub returns-clause-workers : goal.returns-clause-workers
 returns-clause-workers c = workers_alike
+
+pub returns-clause-called : goal.returns-clause-called
+returns-clause-called c = numbers_called
