@@ -4,7 +4,9 @@ use Rattle.std.specs.Prelude.{if◌then◌else◌}
 use Rattle.std.proofs.lemmas.Bool.{and_right, cases_Bool, cases_lt, lt-leb}
 use Rattle.std.proofs.lemmas.List.Elements.{All-head, All-tail}
 use Rattle.pcef_packet.specs.declared.header.Header.{Header}
+use Rattle.pcef_model.specs.declared.command.Command.TheVariants.{Monitor, ReportNow}
 use Rattle.pcef_model.specs.declared.entry.Entry.TheVariants as entry
+use Rattle.pcef_model.specs.declared.level.Level.{Level}
 use Rattle.pcef_model.specs.declared.pending_report.PendingReport.{PendingReport}
 use Rattle.pcef_model.specs.declared.pending_report.PendingReport.TheVariants.{Usage}
 use Rattle.pcef_model.specs.declared.report.Cause.TheVariants.{Threshold}
@@ -24,7 +26,7 @@ use Rattle.pcef_model.proofs.Growth.{at_newest, counted_after_row}
 use Rattle.pcef_model.proofs.Reports.{tell_counted, tell_now}
 use Rattle.pcef_renewal.specs.Accepting.{entered}
 use Rattle.pcef_renewal.specs.Alike.{Alike}
-use Rattle.pcef_renewal.specs.Counting.{AreNewest, ReachAlike, SamePackets, headers, octets_in}
+use Rattle.pcef_renewal.specs.Counting.{AreNewest, EvenFor, ReachAlike, SamePackets, headers, octets_in}
 use Rattle.pcef_renewal.specs.Likeness.{ReachesAlike}
 use Rattle.pcef_renewal.specs.Renewal.{grant_after, out_of_reach, renewal}
 use Rattle.pcef_renewal.proofs.Budget.{subscribed_rows}
@@ -264,3 +266,26 @@ new_reach_alike p j lawful none = record {
   reached = λ key. new_unreached p j lawful key ∙ sym (none key);
   later = λ key on. (renewal_like p j lawful).grants key on;
 }
+
+-- a key without unreported octets counts evenly in both
+pub new_even : (p : Setting) (j : Journal) → Lawful p j → ((key : List ℕ) → is_reached p j key ≡ false) → (key : List ℕ) → unreported p j key ≡ 0 →
+    EvenFor p j (entered (renewal p j) []) (ReportNow key) × ((amount : ℕ) (level : Level) → EvenFor p j (entered (renewal p j) []) (Monitor key amount level))
+new_even p j lawful none key nothing =
+    let k : Journal = entered (renewal p j) [] in
+    let like = renewal_like p j lawful in
+    let new : unreported p k key ≡ 0 = nothing_counted p k key (no_rows_entered (renewal p j) []) in (
+      λ on n far. elim (cases_lt 0 n) [
+        | inl some ↦
+            let at_k : unreported p k key + n ≡ n = omega (arith, new) in
+            let at_j : unreported p j key + n ≡ n = omega (arith, nothing) in
+            sym (ap (is_reached_by (grant k key)) at_k) ∙ like.grants key on n (omega (arith, some)) (omega (arith, at_k, far)) ∙ ap (is_reached_by (grant j key)) at_j
+        | inr less ↦
+            let at_k : unreported p k key ≡ n = omega (arith, new, less) in
+            let at_j : unreported p j key ≡ n = omega (arith, nothing, less) in
+            let on_k : is_among key (now p k).on ≡ true = like.on key ∙ on in
+            let none_k : is_reached_by (grant k key) (unreported p k key) ≡ false = rw on_k at (new_unreached p j lawful key) in
+            let none_j : is_reached_by (grant j key) (unreported p j key) ≡ false = rw on at (none key) in
+            sym (ap (is_reached_by (grant k key)) at_k) ∙ none_k ∙ sym none_j ∙ ap (is_reached_by (grant j key)) at_j
+      ],
+      λ amount level. (new ∙ sym nothing, omega (arith, new)),
+    )

@@ -3,6 +3,7 @@ use Rattle.std.specs.Prelude.{ℕ, ◌≡◌, ◌<◌, ◌+◌, false, true, All
 use Rattle.pcef_packet.specs.declared.header.Header.{Header}
 use Rattle.pcef_model.specs.declared.command.Command.{Command}
 use Rattle.pcef_model.specs.declared.command.Command.TheVariants.{Monitor, ReportNow}
+use Rattle.pcef_model.specs.declared.level.Level.{Level}
 use Rattle.pcef_model.specs.declared.row.Row.{Row}
 use Rattle.pcef_model.specs.Commands.{is_among}
 use Rattle.pcef_model.specs.Entries.{Journal}
@@ -62,6 +63,11 @@ EvenFor p j k c = Unit {0}
 -- it is so at a renewal, where no grant of the old session is reached: while usage reports are subscribed none ever stays so
 abbrev pub NewSessionsReachAlike : Type 0
 NewSessionsReachAlike = (p : Setting) (j : Journal) → Lawful p j → ((key : List ℕ) → is_reached p j key ≡ false) → ReachAlike p j (entered (renewal p j) [])
+
+-- and a key of which it has no octets unreported then is even for each of these commands
+abbrev pub NewSessionsAreEven : Type 0
+NewSessionsAreEven = (p : Setting) (j : Journal) → Lawful p j → ((key : List ℕ) → is_reached p j key ≡ false) → (key : List ℕ) → unreported p j key ≡ 0 →
+    EvenFor p j (entered (renewal p j) []) (ReportNow key) × ((amount : ℕ) (level : Level) → EvenFor p j (entered (renewal p j) []) (Monitor key amount level))
 
 -- rows of the same packets reach the same grants, and so it stays once they are reported
 abbrev pub PacketsReachAlike : Type 0

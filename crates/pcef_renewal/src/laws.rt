@@ -2,7 +2,7 @@
 
 ghost use Rattle.pcef_renewal.specs.Accepting.{RenewalsAreTaken};
 ghost use Rattle.pcef_renewal.specs.Alike.{AlikeSessionsCountAlike, AlikeSessionsDecideAlike, BearersAreCalled, CommandsAreRefusedAlike, CommandsKeepAlike, NewSessionsAreAlike, PlacesRenumber, RowsKeepAlike, WorkersKeepAlike};
-ghost use Rattle.pcef_renewal.specs.Counting.{CommandsReachAlike, NewSessionsReachAlike, PacketsReachAlike};
+ghost use Rattle.pcef_renewal.specs.Counting.{CommandsReachAlike, NewSessionsAreEven, NewSessionsReachAlike, PacketsReachAlike};
 ghost use Rattle.pcef_renewal.specs.GoingOn.{SessionsGoOnAlike};
 ghost use Rattle.pcef_renewal.specs.Likeness.{OctetsAddUp, RenewalsAreLike, RenewalsNeedWhatTheySay};
 ghost use Rattle.pcef_renewal.specs.Maps.{BearersAreRenumbered, CountsBeginAnew, RenewalsComeAgain, SlotsAreRenumbered};
@@ -61,11 +61,12 @@ pub fn alike_sessions_stay_alike()
 {}
 
 /// Rows of the same packets reach the same grants in a session and in the new one, as far as none was reached at the
-/// renewal: each threshold is that of one session. Commands that both accept leave it so. A Monitor or a report of a key
-/// does where both count it evenly, as where the old session had no octets of it unreported at the renewal. Rows and
+/// renewal: each threshold is that of one session. Commands that both accept leave it so; of a Monitor or a report of a key
+/// it is said where both count the key evenly, as at a renewal where the old session has no octets of it unreported. Rows and
 /// commands report the same in both, octets and the order in one answer aside; a Terminate may report more keys in one.
 pub fn alike_sessions_reach_alike()
     ensures begin { NewSessionsReachAlike }
+    ensures even { NewSessionsAreEven }
     ensures packets { PacketsReachAlike }
     ensures commands { CommandsReachAlike }
     ensures packet_reports { PacketsReportAlike }
